@@ -1,10 +1,16 @@
-//! What every other crate of `sail-run` stands on: places in a text and small plain types.
+//! What every other crate of `sail-run` stands on: places in a text, texts, lists and boxes, and small plain types.
 #![tactic(auto)]
 
+mod boxed;
 mod elf_refusal;
+mod items;
 mod place;
 mod print;
+mod text;
 
+pub use boxed::Boxed;
 pub use elf_refusal::ElfRefusal;
+pub use items::Items;
 pub use place::Place;
 pub use print::{dec_text, hex_text};
+pub use text::Text;
