@@ -1,4 +1,5 @@
-//! What every other crate of `sail-run` stands on: places in a text, texts, lists and boxes, and small plain types.
+//! What every other crate of `sail-run` stands on: places in a text, texts, lists and boxes, words
+//! of bits, and small plain types.
 #![tactic(auto)]
 
 mod boxed;
@@ -7,6 +8,7 @@ mod items;
 mod place;
 mod print;
 mod text;
+mod word;
 
 pub use boxed::Boxed;
 pub use elf_refusal::ElfRefusal;
@@ -14,3 +16,4 @@ pub use items::Items;
 pub use place::Place;
 pub use print::{dec_text, hex_text};
 pub use text::Text;
+pub use word::Word;
