@@ -1,0 +1,2 @@
+-- lemmas on reading and writing piece by piece
+pub mod Pieces

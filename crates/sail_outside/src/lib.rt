@@ -1,0 +1,16 @@
+//! The outside of the program: where named bytes are read from, and where bytes are written to.
+//!
+//! A [`Shelf`] gives the bytes of named files, a [`Sink`] takes bytes. [`read_file`] reads one
+//! file whole within a limit, [`write_all`] writes one piece whole. Their contracts speak of every
+//! shelf and every sink, through what each of these tells of its own bytes and faults.
+#![tactic(auto)]
+
+mod edge;
+mod errors;
+mod reading;
+mod writing;
+
+pub use edge::{BeginError, Failed, PutError, Shelf, Sink};
+pub use errors::{ReadError, WriteError};
+pub use reading::read_file;
+pub use writing::write_all;
