@@ -7,6 +7,7 @@ mod elf_refusal;
 mod items;
 mod place;
 mod print;
+mod refusal;
 mod text;
 mod word;
 
@@ -15,5 +16,6 @@ pub use elf_refusal::ElfRefusal;
 pub use items::Items;
 pub use place::Place;
 pub use print::{dec_text, hex_text};
+pub use refusal::Refusal;
 pub use text::Text;
 pub use word::Word;
