@@ -37,7 +37,7 @@ unfolding bits_of value_of
 value_of-bits_of zero n = omega arith
 value_of-bits_of (suc w) n = omega (arith, mod-pow-suc w n, bit_value-is_odd n, value_of-bits_of w (n / 2))
 
-bit_value-lt : (b : Bool) → bit_value b < 2
+pub bit_value-lt : (b : Bool) → bit_value b < 2
 bit_value-lt true = omega arith
 bit_value-lt false = omega arith
 
@@ -79,7 +79,7 @@ drop-bits_of (suc n) (suc w) x h =
     let d : w - n ≡ suc w - suc n = omega arith in
     drop-bits_of n w (x / 2) (omega arith) ∙ (λ i. bits_of (d i) (e i))
 
-double : (v n : ℕ) → v * 2 ^ suc n ≡ 2 * (v * 2 ^ n)
+pub double : (v n : ℕ) → v * 2 ^ suc n ≡ 2 * (v * 2 ^ n)
 double v n = rw (pow-suc 2 n) (omega arith)
 
 -- the number of two lists, one behind the other

@@ -8,6 +8,7 @@ mod items;
 mod place;
 mod print;
 mod refusal;
+mod sums;
 mod text;
 mod word;
 
@@ -17,5 +18,6 @@ pub use items::Items;
 pub use place::Place;
 pub use print::{dec_text, hex_text};
 pub use refusal::Refusal;
+pub use sums::{gcd, sum};
 pub use text::Text;
 pub use word::Word;

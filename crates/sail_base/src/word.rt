@@ -1,12 +1,20 @@
 //! Words of bits: a width from 0 to 128 and a number below 2 to the width.
-ghost use Rattle.std.specs.Prelude.{◌≡◌, ℕ, ◌+◌, ◌-◌, ◌*◌, ◌%◌, ◌^◌, ◌<◌, ◌≤◌, List, Bool, length};
+//!
+//! A contract sees a word as the list of its bits, the least significant first; `specs/Bits.antt`
+//! has the meaning of each operation on such lists.
+ghost use Rattle.std.specs.Prelude.{◌≡◌, ℕ, ◌%◌, ◌^◌, ◌<◌, ◌≤◌, Bool, true, false, length, replicate, List, [], ◌∷◌};
 ghost use Rattle.std.specs.Cmp.{partial_equiv_from_equiv};
-ghost use Rattle.sail_base.specs.Bits.{bits_of, value_of, eq_bits, add_bits};
+ghost use Rattle.sail_base.specs.Bits.{bits_of, value_of, eq_bits};
 ghost use Rattle.sail_base.specs.BitLaws.{eq_bits-equiv};
+
+mod arithmetic;
+mod bitwise;
+mod parts;
+mod reading;
 
 use std::marker::Model;
 
-/// A word of bits. A contract sees it as the list of its bits, the least significant first.
+/// A word of bits, from 0 to 128 of them. Two words are equal where they are as wide and each bit is equal.
 #[derive(Clone, Copy, Debug)]
 pub struct Word {
     width: u8,
@@ -14,7 +22,7 @@ pub struct Word {
 }
 
 impl Model for Word {
-    ghost use Rattle.std.specs.Prelude.{◌≡◌, ◌^◌, ◌<◌, ◌≤◌, List, Bool, length};
+    ghost use Rattle.std.specs.Prelude.{◌^◌, ◌<◌, ◌≤◌, List, Bool, length};
     ghost use Rattle.sail_base.specs.Bits.{bits_of, value_of};
     ghost use Rattle.sail_base.specs.BitLaws.{length-bits_of, value_of-bits_of_fits};
 
@@ -53,6 +61,40 @@ impl Word {
         Word { width, bits }
     }
 
+    /// The lowest bits of a number, as many as `width`, from 0 to 128: what does not fit is let go.
+    pub fn low(width: u8, number: u128) -> Word
+        requires { width ≤ 128 }
+        ensures { result ≡ bits_of width number }
+    {
+        Word {
+            width,
+            bits: low_bits(width, number),
+        }
+    }
+
+    /// A word of zeros, of a width from 0 to 128.
+    pub fn zeros(width: u8) -> Word
+        requires { width ≤ 128 }
+        ensures { result ≡ replicate width false }
+    {
+        Word { width, bits: 0 }
+    }
+
+    /// A word of ones, of a width from 0 to 128.
+    pub fn ones(width: u8) -> Word
+        requires { width ≤ 128 }
+        ensures { result ≡ replicate width true }
+    {
+        Word::zeros(width).not()
+    }
+
+    /// The word of one bit.
+    pub fn of_bool(bit: bool) -> Word
+        ensures { result ≡ bit ∷ [] }
+    {
+        if bit { Word::ones(1) } else { Word::zeros(1) }
+    }
+
     /// How many bits the word has, from 0 to 128.
     pub fn width(&self) -> u8
         ensures value { result ≡ length self.now }
@@ -68,27 +110,16 @@ impl Word {
     {
         self.bits
     }
-
-    /// The low bits of the sum of two words of one width.
-    pub fn add(self, other: Word) -> Word
-        requires { length self ≡ length other }
-        ensures { result ≡ add_bits self other }
-    {
-        Word {
-            width: self.width,
-            bits: low_bits(self.width, self.bits.wrapping_add(other.bits)),
-        }
-    }
 }
 
 /// The low bits of a number, as many as `width`, from 0 to 128.
-fn low_bits(width: u8, n: u128) -> u128
+fn low_bits(width: u8, number: u128) -> u128
     requires { width ≤ 128 }
-    ensures { result ≡ n % 2 ^ width }
+    ensures { result ≡ number % 2 ^ width }
 {
     if width == 128 {
-        n
+        number
     } else {
-        n % (1u128 << width)
+        number % (1u128 << width)
     }
 }

@@ -1,0 +1,9 @@
+use Rattle.std.proofs.Common.{◌∙◌}
+use Rattle.sail_base.specs.Bits.{mul_bits}
+use Rattle.sail_base.specs.BitNumbers.{mul_bits-numbers}
+use Rattle.sail_base.proofs.word.Word.mul.Goals as goal
+
+pub returns : goal.returns
+returns c =
+    mul_bits-numbers 128 _ _ _ _ _ c.self.invariant.small c.self.invariant.below c.other.invariant.below c.low_bits.ensures
+    ∙ (λ i. mul_bits (c.self.view_is i) (c.other.view_is i))
