@@ -120,6 +120,6 @@ fn low_bits(width: u8, number: u128) -> u128
     if width == 128 {
         number
     } else {
-        number % (1u128 << width)
+        number & ((1u128 << width) - 1)
     }
 }
