@@ -1,6 +1,7 @@
 -- A finite map from names to bytes, and what an optional one says.
-use Rattle.std.specs.Prelude.{◌≡◌, ℕ, List, [], ◌∷◌, Option, Some, None, if◌then◌else◌}
+use Rattle.std.specs.Prelude.{◌≡◌, ℕ, List, [], ◌∷◌, Option, Some, None, if◌then◌else◌, drop, map, Vec, String, string_bytes}
 use Rattle.std.specs.Str.{bytes_eq}
+use Rattle.std.specs.declared.alloc.Global.{Global}
 
 -- a finite map from names to bytes, as the list of its pairs
 abbrev pub Files : Type 0
@@ -15,3 +16,21 @@ lookup (file ∷ files) name = if bytes_eq file.0 name then Some file.1 else loo
 abbrev pub Lacks : Option Files → List ℕ → Type 0
 Lacks None name = Unit {0}
 Lacks (Some files) name = lookup files name ≡ None
+
+-- the map that files in memory are
+abbrev pub files_of : List (String Global × Vec ℕ Global) → Files
+files_of stored = map (λ file. (string_bytes file.0, file.1.items)) stored
+
+-- the bytes of the first file, none where there is no file
+abbrev pub first_bytes : Files → List ℕ
+first_bytes [] = []
+first_bytes (file ∷ files) = file.1
+
+-- the bytes of the file at an index, none past the end
+abbrev pub bytes_at : Files → ℕ → List ℕ
+bytes_at files index = first_bytes (drop index files)
+
+-- files of which one may be begun, and the bytes that are left of it
+pub record Reading : Type 0 where
+  pub files : Files
+  pub left : List ℕ

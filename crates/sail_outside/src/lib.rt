@@ -7,10 +7,20 @@
 
 mod edge;
 mod errors;
+mod held;
+mod mem;
+mod plan;
 mod reading;
+mod real;
+mod sure;
+#[cfg(test)]
+mod tests;
 mod writing;
 
 pub use edge::{BeginError, Failed, PutError, Shelf, Sink};
 pub use errors::{ReadError, WriteError};
+pub use mem::{MemShelf, MemSink};
 pub use reading::read_file;
+pub use real::{StdShelf, StdSink};
+pub use sure::{SureShelf, SureSink};
 pub use writing::write_all;

@@ -1,0 +1,122 @@
+//! The real files and the real output, of whose content no contract tells: the trusted edge.
+ghost use Rattle.std.specs.Prelude.{◌≡◌};
+
+use crate::edge::{BeginError, Failed, PutError, Shelf, Sink};
+use std::fs;
+use std::io::{ErrorKind, Read};
+use std::rt::Files;
+
+/// The files of the system, read in its own pieces.
+#[derive(Drop)]
+pub struct StdShelf<'a, R: Files> {
+    files: &'a R,
+    begun: Option<R::File>,
+    faults: u64,
+}
+
+impl<'a, R: Files> StdShelf<'a, R> {
+    /// The files that this runtime reaches; none is begun, and no fault is counted.
+    pub fn new(files: &'a R) -> StdShelf<'a, R>
+        ensures { ⟦<StdShelf<'a, R> as Shelf>⟧.faults result ≡ 0 }
+    {
+        StdShelf {
+            files,
+            begun: None,
+            faults: 0,
+        }
+    }
+
+    /// How many calls failed; the count stands still at its end.
+    pub fn faults(&self) -> u64
+        ensures { result ≡ ⟦<StdShelf<'a, R> as Shelf>⟧.faults self.now }
+    {
+        self.faults
+    }
+}
+
+impl<'a, R: Files> Shelf for StdShelf<'a, R> {
+    ghost use Rattle.std.specs.Prelude.{None};
+
+    ghost holds = { λ s. None };
+
+    ghost left = { λ s. None };
+
+    ghost faults = { λ s. s.faults };
+
+    ghost left_told = { λ s h. h };
+
+    fn begin(&mut self, name: &str) -> Result<(), BeginError> {
+        self.begun = None;
+        match fs::open(self.files, name) {
+            Ok(file) => {
+                self.begun = Some(file);
+                Ok(())
+            }
+            Err(error) => match error.kind() {
+                ErrorKind::NotFound => Err(BeginError::Missing),
+                ErrorKind::OutOfMemory => Err(BeginError::OutOfMemory),
+                _ => {
+                    self.faults = self.faults.saturating_add(1);
+                    Err(BeginError::Failed)
+                }
+            },
+        }
+    }
+
+    fn take(&mut self, buf: &mut [u8]) -> Result<usize, Failed> {
+        let Some(file) = &mut self.begun else {
+            return Ok(0);
+        };
+        match file.read(buf) {
+            Ok(count) => Ok(count),
+            Err(_) => {
+                self.faults = self.faults.saturating_add(1);
+                Err(Failed)
+            }
+        }
+    }
+}
+
+/// The standard output.
+#[derive(Drop)]
+pub struct StdSink<'a, R: Print> {
+    output: &'a R,
+    faults: u64,
+}
+
+impl<'a, R: Print> StdSink<'a, R> {
+    /// The output of this runtime; no fault is counted.
+    pub fn new(output: &'a R) -> StdSink<'a, R>
+        ensures { ⟦<StdSink<'a, R> as Sink>⟧.faults result ≡ 0 }
+    {
+        StdSink { output, faults: 0 }
+    }
+
+    /// How many calls failed; the count stands still at its end.
+    pub fn faults(&self) -> u64
+        ensures { result ≡ ⟦<StdSink<'a, R> as Sink>⟧.faults self.now }
+    {
+        self.faults
+    }
+}
+
+impl<'a, R: Print> Sink for StdSink<'a, R> {
+    ghost use Rattle.std.specs.Prelude.{None};
+
+    ghost given = { λ s. None };
+
+    ghost faults = { λ s. s.faults };
+
+    fn put(&mut self, piece: &[u8]) -> Result<usize, PutError> {
+        if piece.is_empty() {
+            return Ok(0);
+        }
+        match self.output.write_some(piece) {
+            Ok(count) if count > 0 => Ok(count),
+            _ => {
+                self.faults = self.faults.saturating_add(1);
+                Err(PutError::Failed)
+            }
+        }
+    }
+}

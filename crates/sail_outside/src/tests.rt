@@ -1,0 +1,208 @@
+use crate::{
+    BeginError, MemShelf, MemSink, ReadError, Shelf, Sink, StdShelf, StdSink, SureShelf, SureSink,
+    WriteError, read_file, write_all,
+};
+use std::alloc::{AllocError, Global};
+use std::fmt::Display;
+use std::fs::File;
+use std::io::Write;
+use std::test::Fail;
+use std::{fs, io};
+
+// Bytes of which no two neighbours are equal.
+fn sample(alloc: Global, count: usize) -> Result<Vec<u8>, AllocError> {
+    let mut bytes = Vec::new(alloc);
+    for index in 0..count {
+        bytes.push((index % 251) as u8)?;
+    }
+    Ok(bytes)
+}
+
+// A file `a` of so many bytes, and an empty file `b`.
+fn files(alloc: Global, count: usize) -> Result<Vec<(String, Vec<u8>)>, AllocError> {
+    let a = (String::from_str(alloc, "a")?, sample(alloc, count)?);
+    let b = (String::from_str(alloc, "b")?, Vec::new(alloc));
+    Ok(Vec::from_array(alloc, [a, b])?)
+}
+
+#[test]
+fn files_are_read_whole_up_to_the_limit(rt: HostRuntime) -> Result<(), Fail> {
+    let alloc = rt.alloc();
+    // bytes, limit, whether they are read
+    let rows: [(usize, u64, bool); 12] = [
+        (0, 0, true),
+        (1, 0, false),
+        (3, 3, true),
+        (3, 2, false),
+        (3, 4, true),
+        (4095, 4095, true),
+        (4096, 4095, false),
+        (4096, 4096, true),
+        (4097, 4096, false),
+        (4097, 4097, true),
+        (9000, 8999, false),
+        (9000, u64::MAX, true),
+    ];
+    for (count, limit, read) in rows {
+        for piece in [1, 7, usize::MAX] {
+            let mut shelf = MemShelf::new(files(alloc, count)?, Vec::new(alloc), piece);
+            let answer = read_file(alloc, &mut shelf, "a", limit);
+            if read {
+                assert_eq!(rt;
+                    answer?.as_slice(),
+                    sample(alloc, count)?.as_slice(),
+                    "{count} {limit}"
+                );
+            } else {
+                assert_eq!(rt;
+                    answer.err(),
+                    Some(ReadError::TooLong { limit }),
+                    "{count} {limit}"
+                );
+            }
+            assert_eq!(rt; shelf.faults(), 0, "{count} {limit}");
+        }
+    }
+    Ok(())
+}
+
+#[test]
+fn a_shelf_that_fails_at_each_call_in_turn_is_at_fault(rt: HostRuntime) -> Result<(), Fail> {
+    let alloc = rt.alloc();
+    for (piece, calls) in [(1, 7), (2, 5), (9, 3)] {
+        let mut shelf = MemShelf::new(files(alloc, 5)?, Vec::new(alloc), piece);
+        assert_eq!(rt; read_file(alloc, &mut shelf, "a", 5)?.len(), 5);
+        assert_eq!(rt; shelf.calls(), calls);
+        for call in 0..calls {
+            let mut shelf = MemShelf::new(files(alloc, 5)?, vec![in alloc; call]?, piece);
+            let answer = read_file(alloc, &mut shelf, "a", 5);
+            assert_eq!(rt; answer.err(), Some(ReadError::Fault), "{call}");
+            assert_eq!(rt; shelf.faults(), 1, "{call}");
+            // The next file is read as if nothing had been.
+            assert_eq!(rt; read_file(alloc, &mut shelf, "b", 0)?.len(), 0, "{call}");
+        }
+    }
+    let mut shelf = MemShelf::new(files(alloc, 5)?, Vec::new(alloc), 1);
+    assert_eq!(rt;
+        read_file(alloc, &mut shelf, "c", 5).err(),
+        Some(ReadError::Missing)
+    );
+    assert_eq!(rt; shelf.faults(), 0);
+    let mut buffer = [0u8; 2];
+    assert_eq!(rt; shelf.take(&mut buffer), Ok(0));
+    Ok(())
+}
+
+#[test]
+fn pieces_are_written_whole_or_up_to_the_failing_call(rt: HostRuntime) -> Result<(), Fail> {
+    let alloc = rt.alloc();
+    let all = sample(alloc, 12)?;
+    // the size of the pieces, the call that fails, the bytes that are then there
+    for (piece, call, there) in [
+        (1, 0, 0),
+        (1, 11, 11),
+        (5, 2, 10),
+        (10, 1, 10),
+        (12, 0, 0),
+        (0, 3, 3),
+    ] {
+        let mut sink = MemSink::new(alloc, vec![in alloc; call]?, piece);
+        assert_eq!(rt;
+            write_all(&mut sink, all.as_slice()),
+            Err(WriteError::Fault),
+            "{piece}"
+        );
+        assert_eq!(rt; sink.bytes(), sample(alloc, there)?.as_slice(), "{piece}");
+        assert_eq!(rt; sink.faults(), 1, "{piece}");
+        let mut sink = MemSink::new(alloc, vec![in alloc; 99]?, piece);
+        assert_eq!(rt; write_all(&mut sink, b""), Ok(()), "{piece}");
+        assert_eq!(rt; sink.calls(), 0, "{piece}");
+        assert_eq!(rt; write_all(&mut sink, all.as_slice()), Ok(()), "{piece}");
+        assert_eq!(rt; sink.bytes(), all.as_slice(), "{piece}");
+    }
+    Ok(())
+}
+
+#[test]
+fn a_sure_shelf_and_a_sure_sink_carry_the_bytes(rt: HostRuntime) -> Result<(), Fail> {
+    let alloc = rt.alloc();
+    let mut shelf = SureShelf::new(files(alloc, 5000)?);
+    let bytes = read_file(alloc, &mut shelf, "a", 5000)?;
+    assert_eq!(rt; shelf.begin("c"), Err(BeginError::Missing));
+    let mut sink = SureSink::new(alloc);
+    assert_eq!(rt; write_all(&mut sink, b"="), Ok(()));
+    assert_eq!(rt; write_all(&mut sink, bytes.as_slice()), Ok(()));
+    assert_eq!(rt; &sink.bytes()[..1], b"=".as_slice());
+    assert_eq!(rt; &sink.bytes()[1..], sample(alloc, 5000)?.as_slice());
+    Ok(())
+}
+
+// A real file in the place of the standard output, which takes at most `most` bytes at once.
+#[derive(Drop)]
+struct Output {
+    file: File,
+    most: usize,
+}
+
+impl Print for Output {
+    fn print<D: Display + Drop>(&self, value: D) -> io::Result<()> {
+        drop(value);
+        Err(io::Error::other("only bytes are written"))
+    }
+
+    fn println<D: Display + Drop>(&self, value: D) -> io::Result<()> {
+        self.print(value)
+    }
+
+    fn write_all(&self, bytes: &[u8]) -> io::Result<()> {
+        (&self.file).write_all(bytes)
+    }
+
+    fn write_some(&self, bytes: &[u8]) -> io::Result<usize> {
+        (&self.file).write(&bytes[..bytes.len().min(self.most)])
+    }
+}
+
+#[test]
+fn real_files_and_output_carry_the_bytes(rt: HostRuntime) -> Result<(), Fail> {
+    let alloc = rt.alloc();
+    let name = "sail_outside_bytes.tmp";
+    let all = sample(alloc, 5000)?;
+    let output = Output {
+        file: fs::create(&rt, name)?,
+        most: 1700,
+    };
+    let mut sink = StdSink::new(&output);
+    assert_eq!(rt; sink.put(b""), Ok(0));
+    assert_eq!(rt; write_all(&mut sink, all.as_slice()), Ok(()));
+    assert_eq!(rt; sink.faults(), 0);
+    drop(sink);
+    let Output { file, most: _ } = output;
+    let stuck = Output { file, most: 0 };
+    let mut sink = StdSink::new(&stuck);
+    assert_eq!(rt; write_all(&mut sink, b"x"), Err(WriteError::Fault));
+    assert_eq!(rt; sink.faults(), 1);
+
+    let mut shelf = StdShelf::new(&rt);
+    let mut buffer = [0u8; 2];
+    assert_eq!(rt; shelf.take(&mut buffer), Ok(0));
+    assert_eq!(rt;
+        read_file(alloc, &mut shelf, name, 5000)?.as_slice(),
+        all.as_slice()
+    );
+    let long = read_file(alloc, &mut shelf, name, 4999);
+    assert_eq!(rt; long.err(), Some(ReadError::TooLong { limit: 4999 }));
+    fs::remove_file(&rt, name)?;
+    let gone = read_file(alloc, &mut shelf, name, 5000);
+    assert_eq!(rt; gone.err(), Some(ReadError::Missing));
+    assert_eq!(rt; shelf.faults(), 0);
+    // A directory is opened, and its read is at fault.
+    let folder = read_file(alloc, &mut shelf, ".", 5000);
+    assert_eq!(rt; folder.err(), Some(ReadError::Fault));
+    assert_eq!(rt; shelf.faults(), 1);
+
+    let mut sink = StdSink::new(&rt);
+    assert_eq!(rt; write_all(&mut sink, b"standard output\n"), Ok(()));
+    assert_eq!(rt; sink.faults(), 0);
+    Ok(())
+}
