@@ -1,5 +1,6 @@
 -- The bytes that are left of a begun file, and those that a sink was given, each where it is told.
-use Rattle.std.specs.Prelude.{◌≡◌, ℕ, ◌+◌, ◌<◌, ◌≤◌, List, [], ◌++◌, Option, Some, None, length, take, drop}
+use Rattle.std.specs.Prelude.{◌≡◌, ℕ, ◌+◌, ◌<◌, ◌≤◌, Option, Some, None}
+use Rattle.std.specs.Prelude.{List, [], ◌++◌, length, take, drop}
 use Rattle.sail_outside.specs.Files.{Files, lookup}
 
 -- nothing is left, where it is told

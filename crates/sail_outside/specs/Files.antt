@@ -1,5 +1,6 @@
 -- A finite map from names to bytes, and what an optional one says.
-use Rattle.std.specs.Prelude.{◌≡◌, ℕ, List, [], ◌∷◌, Option, Some, None, if◌then◌else◌, drop, map, Vec, String, string_bytes}
+use Rattle.std.specs.Prelude.{◌≡◌, ℕ, List, [], ◌∷◌, drop, map, Option, Some, None, if◌then◌else◌}
+use Rattle.std.specs.Prelude.{Vec, String, string_bytes}
 use Rattle.std.specs.Str.{bytes_eq}
 use Rattle.std.specs.declared.alloc.Global.{Global}
 
@@ -17,8 +18,12 @@ abbrev pub Lacks : Option Files → List ℕ → Type 0
 Lacks None name = Unit {0}
 Lacks (Some files) name = lookup files name ≡ None
 
+-- files in memory, each a name and its bytes
+abbrev pub Stored : Type 0
+Stored = String Global × Vec ℕ Global
+
 -- the map that files in memory are
-abbrev pub files_of : List (String Global × Vec ℕ Global) → Files
+abbrev pub files_of : List Stored → Files
 files_of stored = map (λ file. (string_bytes file.0, file.1.items)) stored
 
 -- the bytes of the first file, none where there is no file

@@ -3,3 +3,4 @@ pub mod Files
 pub mod Faults
 pub mod Bytes
 pub mod Errors
+pub mod Memory

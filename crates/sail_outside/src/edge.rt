@@ -1,21 +1,6 @@
 //! The two traits of the outside, and the refusals of their calls.
-ghost use Rattle.std.specs.Prelude.{
-  ◌≡◌,
-  ◌≤◌,
-  ◌<◌,
-  ℕ,
-  List,
-  Option,
-  Some,
-  length,
-  take,
-  IfOk,
-  OnOk,
-  OnErr,
-  Ok,
-  Err,
-  IsSome,
-};
+ghost use Rattle.std.specs.Prelude.{◌≡◌, ◌≤◌, ◌<◌, ℕ, List, Option, Some, length, take, IfOk};
+ghost use Rattle.std.specs.Prelude.{OnOk, OnErr, Ok, Err, IsSome};
 ghost use Rattle.sail_outside.specs.Files.{Files, Lacks};
 ghost use Rattle.sail_outside.specs.Faults.{Rose};
 ghost use Rattle.sail_outside.specs.Bytes.{Begins, Takes, IsUsedUp, Sent};

@@ -1,24 +1,6 @@
 //! Files in memory, and what is left of the one that was begun.
-ghost use Rattle.std.specs.Prelude.{
-  ◌≡◌,
-  ◌≤◌,
-  ◌<◌,
-  ◌+◌,
-  ◌^◌,
-  ℕ,
-  List,
-  [],
-  Some,
-  None,
-  length,
-  take,
-  drop,
-  IsTrue,
-  IsSome,
-  IfSome,
-  IfNone,
-  false,
-};
+ghost use Rattle.std.specs.Prelude.{◌≡◌, ◌≤◌, ◌<◌, ◌+◌, ◌^◌, ℕ, List, [], Some, None, length};
+ghost use Rattle.std.specs.Prelude.{take, drop, min, IsTrue, IsSome, IfSome, IfNone, false};
 ghost use Rattle.sail_outside.specs.Files.{lookup, files_of, bytes_at};
 ghost use Rattle.sail_outside.specs.Bytes.{Takes};
 
@@ -95,7 +77,7 @@ impl Held {
     pub(crate) fn take(&mut self, buf: &mut [u8], most: usize) -> usize
         requires { 0 < most }
         ensures files { self.new.files ≡ self.old.files }
-        ensures bound { result ≤ length buf.new }
+        ensures count { result ≡ min (min (length self.old.left) (length buf.new)) most }
         ensures bytes { Takes (Some self.old.left) (Some self.new.left) result buf.new }
     {
         let rest = rest_of(self.files.as_slice(), self.begun, self.taken);
@@ -107,7 +89,8 @@ impl Held {
 
 // The index of the first file of this name.
 fn index_of(files: &[(String, Vec<u8>)], name: &str) -> Option<usize>
-    ensures found { IfSome result (λ i. lookup (files_of files.now) name.now ≡ Some (bytes_at (files_of files.now) i)) }
+    ensures found { IfSome result (λ i.
+        lookup (files_of files.now) name.now ≡ Some (bytes_at (files_of files.now) i)) }
     ensures missing { IfNone result (lookup (files_of files.now) name.now ≡ None) }
 {
     for (index, file) in files.iter().enumerate() {
@@ -141,8 +124,7 @@ fn rest_of(files: &[(String, Vec<u8>)], index: usize, taken: usize) -> &[u8]
 // Copies the front of `from` to the front of `to`, at most `most` bytes, and answers how many.
 fn copy_front(from: &[u8], to: &mut [u8], most: usize) -> usize
     requires { 0 < most }
-    ensures bound { result ≤ length to.new }
-    ensures within { result ≤ length from.now }
+    ensures count { result ≡ min (min (length from.now) (length to.new)) most }
     ensures front { take result to.new ≡ take result from.now }
     ensures some { result ≡ 0 → 0 < length to.new → from.now ≡ [] }
 {
