@@ -1,5 +1,5 @@
 -- What several takes, and several puts, make of a whole file and a whole piece.
-use Rattle.std.proofs.Common.{◌≡◌, ℕ, ◌+◌, ◌-◌, ◌<◌, ◌≤◌, Option, Some, None}
+use Rattle.std.proofs.Common.{◌≡◌, ℕ, ◌+◌, ◌-◌, ◌<◌, Option, Some, None}
 use Rattle.std.proofs.Common.{List, [], ◌++◌, length, take, drop, append_assoc}
 use Rattle.std.proofs.Common.{arith, sym, ◌∙◌, ap, subst, refl}
 use Rattle.std.proofs.lemmas.List.{take-append-drop, length-append, take_rest, append-nil}

@@ -1,11 +1,11 @@
 -- The map that files in memory are, at an index.
-use Rattle.std.proofs.Common.{◌≡◌, ℕ, ◌+◌, ◌<◌, ◌≤◌, zero, suc, Bool, true, false, if◌then◌else◌}
+use Rattle.std.proofs.Common.{◌≡◌, ℕ, ◌+◌, ◌<◌, ◌≤◌, zero, suc, true, false, if◌then◌else◌}
 use Rattle.std.proofs.Common.{List, [], ◌∷◌, length, drop, get_or, Some, string_bytes}
 use Rattle.std.proofs.Common.{arith, sym, ◌∙◌, ap, refl}
 use Rattle.std.proofs.lemmas.List.{length-map}
 use Rattle.std.proofs.Math.ListN.{drop_of_length-le}
 use Rattle.std.specs.Str.{bytes_eq}
-use Rattle.sail_outside.specs.Files.{Files, Stored, lookup, files_of, first_bytes, bytes_at}
+use Rattle.sail_outside.specs.Files.{Stored, lookup, files_of, first_bytes, bytes_at}
 
 -- what a file in memory is in the map
 abbrev pub entry_of : Stored → List ℕ × List ℕ

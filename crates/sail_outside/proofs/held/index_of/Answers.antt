@@ -1,5 +1,5 @@
 -- A file whose name differs is passed over, and the first of the same name is found.
-use Rattle.std.proofs.Common.{◌≡◌, ◌<◌, Bool, true, false, length, get_or, string_bytes, arith, ◌∙◌, ap, sym}
+use Rattle.std.proofs.Common.{◌<◌, length, string_bytes, arith, ◌∙◌, ap, sym}
 use Rattle.std.specs.Str.{bytes_eq}
 use Rattle.sail_outside.proofs.Stored.{stored_here, stored_next}
 use Rattle.sail_outside.proofs.held.index_of.Goals as goal
