@@ -1,10 +1,10 @@
 -- What several takes, and several puts, make of a whole file and a whole piece.
-use Rattle.std.proofs.Common.{◌≡◌, ℕ, ◌+◌, ◌-◌, ◌<◌, Option, Some, None}
-use Rattle.std.proofs.Common.{List, [], ◌++◌, length, take, drop, append_assoc}
-use Rattle.std.proofs.Common.{arith, sym, ◌∙◌, ap, subst, refl}
-use Rattle.std.proofs.lemmas.List.{take-append-drop, length-append, take_rest, append-nil}
+use Rattle.std.proofs.Common.{◌≡◌, ℕ, ◌+◌, ◌-◌, Option, Some, None}
+use Rattle.std.proofs.Common.{List, ◌++◌, length, take, drop, append_assoc}
+use Rattle.std.proofs.Common.{arith, sym, ◌∙◌, ap, subst}
+use Rattle.std.proofs.lemmas.List.{length-append, take_rest}
 use Rattle.std.proofs.Math.Seq.{take-add, drop-append-add}
-use Rattle.sail_outside.specs.Bytes.{Takes, TookAll, TookPast, Sent, SentPart}
+use Rattle.sail_outside.specs.Bytes.{Takes, TookPast, Sent}
 
 -- the bytes so far and those that are left are those at the start, if told
 abbrev pub Going : Option (List ℕ) → List ℕ → Option (List ℕ) → Type 0
@@ -17,30 +17,6 @@ takes_from :
     → mid ≡ Some rest → Takes mid now n buffer → Takes (Some rest) now n buffer
 takes_from rest mid now n buffer e t =
     subst (λ (m : Option (List ℕ)). Takes m now n buffer) e t
-
--- one more take
-pub going_on :
-    (start mid now : Option (List ℕ)) (bytes buffer : List ℕ) (n : ℕ)
-    → Going start bytes mid → Takes mid now n buffer → Going start (bytes ++ take n buffer) now
-going_on None mid now bytes buffer n g t = tt
-going_on (Some xs) mid now bytes buffer n g t =
-    let u : Takes (Some g.0) now n buffer = takes_from g.0 mid now n buffer g.1 t in
-    let front : take n buffer ++ drop n g.0 ≡ g.0 =
-    ap (λ zs. zs ++ drop n g.0) u.1 ∙ take-append-drop n g.0 in
-    let whole : xs ≡ (bytes ++ take n buffer) ++ drop n g.0 =
-    g.2 ∙ (ap (λ zs. bytes ++ zs) (sym front)
-    ∙ sym (append_assoc bytes (take n buffer) (drop n g.0))) in
-    (drop n g.0, u.2, whole)
-
--- the take that met the end
-pub going_end :
-    (start mid now : Option (List ℕ)) (bytes buffer : List ℕ) → 0 < length buffer
-    → Going start bytes mid → Takes mid now 0 buffer → TookAll start bytes now
-going_end None mid now bytes buffer some g t = tt
-going_end (Some xs) mid now bytes buffer some g t =
-    let u : Takes (Some g.0) now 0 buffer = takes_from g.0 mid now 0 buffer g.1 t in
-    let none : g.0 ≡ [] = u.3 refl some in
-    (g.2 ∙ (ap (λ zs. bytes ++ zs) none ∙ append-nil bytes), u.2 ∙ ap Some (ap (λ zs. drop 0 zs) none))
 
 -- the take that passed the limit by one byte
 pub going_past :
@@ -70,10 +46,3 @@ sent_on (Some xs) mid now piece s n a b =
     let behind : take s piece ++ put ≡ take (s + n) piece =
     ap (λ zs. take s piece ++ take n zs) (take_rest piece s) ∙ sym (take-add s n piece) in
     u ∙ ap Some (append_assoc xs (take s piece) put ∙ ap (λ zs. xs ++ zs) behind)
-
--- a put that failed leaves a front sent
-pub sent_part :
-    (start mid now : Option (List ℕ)) (piece : List ℕ) (s : ℕ)
-    → Sent start (take s piece) mid → now ≡ mid → SentPart start piece now
-sent_part None mid now piece s a e = tt
-sent_part (Some xs) mid now piece s a e = (s, e ∙ a)

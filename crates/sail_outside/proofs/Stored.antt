@@ -1,9 +1,7 @@
 -- The map that files in memory are, at an index.
-use Rattle.std.proofs.Common.{◌≡◌, ℕ, ◌+◌, ◌<◌, ◌≤◌, zero, suc, true, false, if◌then◌else◌}
+use Rattle.std.proofs.Common.{◌≡◌, ℕ, ◌+◌, ◌<◌, zero, suc, true, false, if◌then◌else◌}
 use Rattle.std.proofs.Common.{List, [], ◌∷◌, length, drop, get_or, Some, string_bytes}
 use Rattle.std.proofs.Common.{arith, sym, ◌∙◌, ap, refl}
-use Rattle.std.proofs.lemmas.List.{length-map}
-use Rattle.std.proofs.Math.ListN.{drop_of_length-le}
 use Rattle.std.specs.Str.{bytes_eq}
 use Rattle.sail_outside.specs.Files.{Stored, lookup, files_of, first_bytes, bytes_at}
 
@@ -26,13 +24,6 @@ pub bytes_at_index :
     (stored : List Stored) (i : ℕ) (d : Stored) → i < length stored
     → bytes_at (files_of stored) i ≡ (get_or stored i d).1.items
 bytes_at_index stored i d h = ap first_bytes (drop-files_of stored i d h)
-
--- no bytes past the end
-pub bytes_at_end :
-    (stored : List Stored) (i : ℕ) → length stored ≤ i → bytes_at (files_of stored) i ≡ []
-bytes_at_end stored i h =
-    let past : length (files_of stored) ≤ i = omega (arith, length-map stored entry_of) in
-    ap first_bytes (drop_of_length-le (files_of stored) past)
 
 -- the first file from an index on that has the name is the one there
 pub stored_here :

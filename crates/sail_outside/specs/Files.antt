@@ -1,4 +1,4 @@
--- A finite map from names to bytes, and what an optional one says.
+-- A finite map from names to bytes, where it is told, and the map that files in memory are.
 use Rattle.std.specs.Prelude.{◌≡◌, ℕ, List, [], ◌∷◌, drop, map, Option, Some, None, if◌then◌else◌}
 use Rattle.std.specs.Prelude.{Vec, String, string_bytes}
 use Rattle.std.specs.Str.{bytes_eq}

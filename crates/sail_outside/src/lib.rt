@@ -3,6 +3,10 @@
 //! A [`Shelf`] gives the bytes of named files, a [`Sink`] takes bytes. [`read_file`] reads one
 //! file whole within a limit, [`write_all`] writes one piece whole. Their contracts speak of every
 //! shelf and every sink, through what each of these tells of its own bytes and faults.
+//!
+//! [`MemShelf`] and [`MemSink`] are in memory and fail at chosen calls, [`SureShelf`] and
+//! [`SureSink`] are in memory and are never at fault, [`StdShelf`] and [`StdSink`] are the real
+//! files and the real output.
 #![tactic(auto)]
 
 mod edge;

@@ -6,7 +6,7 @@ use std::fs;
 use std::io::{ErrorKind, Read};
 use std::rt::Files;
 
-/// The files of the system, read in its own pieces.
+/// The files of the system, read in its own pieces; no failed call is tried again.
 #[derive(Drop)]
 pub struct StdShelf<'a, R: Files> {
     files: &'a R,
@@ -45,6 +45,8 @@ impl<'a, R: Files> Shelf for StdShelf<'a, R> {
 
     ghost left_told = { λ s h. h };
 
+    /// Opens the file: std's `NotFound` is `Missing`, its `OutOfMemory` is that, and every other
+    /// error is a fault.
     fn begin(&mut self, name: &str) -> Result<(), BeginError> {
         self.begun = None;
         match fs::open(self.files, name) {
@@ -63,6 +65,8 @@ impl<'a, R: Files> Shelf for StdShelf<'a, R> {
         }
     }
 
+    /// Reads once: a read of 0 bytes is the end, as it is where no file is begun, and every error is
+    /// a fault.
     fn take(&mut self, buf: &mut [u8]) -> Result<usize, Failed> {
         let Some(file) = &mut self.begun else {
             return Ok(0);
@@ -77,7 +81,7 @@ impl<'a, R: Files> Shelf for StdShelf<'a, R> {
     }
 }
 
-/// The standard output.
+/// The standard output, written in its own pieces; no failed call is tried again.
 #[derive(Drop)]
 pub struct StdSink<'a, R: Print> {
     output: &'a R,
@@ -107,6 +111,7 @@ impl<'a, R: Print> Sink for StdSink<'a, R> {
 
     ghost faults = { λ s. s.faults };
 
+    /// Writes once: every error is a fault, and so is a write of 0 bytes of a piece that has some.
     fn put(&mut self, piece: &[u8]) -> Result<usize, PutError> {
         if piece.is_empty() {
             return Ok(0);
