@@ -1,5 +1,5 @@
 -- What the operations on words compute of their numbers, as the lists that contracts see.
-use Rattle.std.proofs.Common.{◌≡◌, ℕ, zero, suc, ◌+◌, ◌-◌, ◌*◌, ◌/◌, ◌%◌, ◌^◌, ◌<◌, ◌≤◌, Bool, true, false, List, [], length, take, refl, sym, ap, ◌∙◌, subst, arith, pow-add, pow_mono, bit_and, bit_or, bit_xor, lt_of_lt_of_le, le_trans, get_or, mul_comm, pow-suc, SFits, ℤ, pos, negsuc, ◌-ℤ◌, ◌*ℤ◌, to_z, of_z, unsigned_abs, lit<, length-append, add-one, mul-le-mul_right, suc-mul}
+use Rattle.std.proofs.Common.{◌≡◌, ℕ, zero, suc, ◌+◌, ◌-◌, ◌*◌, ◌/◌, ◌%◌, ◌^◌, ◌<◌, ◌≤◌, Bool, true, false, List, [], length, take, refl, sym, ap, ◌∙◌, subst, arith, pow-add, pow_mono, bit_and, bit_or, bit_xor, lt_of_lt_of_le, le_trans, get_or, mul_comm, pow-suc, SFits, ℤ, pos, negsuc, ◌-ℤ◌, ◌*ℤ◌, to_z, of_z, unsigned_abs, lit<, add-one, mul-le-mul_right, suc-mul}
 use Rattle.std.proofs.lemmas.Nat.{mul-lt, mul-add-lt}
 use Rattle.std.proofs.lemmas.List.{nil_from_length}
 use Rattle.std.specs.Int.{w128}
@@ -8,6 +8,7 @@ use Rattle.sail_base.specs.Bits.{bits_of, value_of, is_odd, top_bit, not_bits, a
 use Rattle.sail_base.specs.BitLaws.{length-bits_of, value_of-bits_of_fits, bits_of-mod, mod-pow_twice, value_of-lt, take-bits_of}
 use Rattle.sail_base.specs.BitNumbers.{bits_of-and, bits_of-or, bits_of-xor, bits_of-complement, pow_multiple}
 use Rattle.sail_base.specs.BitShapes.{get_or-bits_of, append_bits-numbers, zext_bits-numbers, slice_bits-numbers, shl_bits-numbers, shr_bits-numbers, shl-past, shr-past}
+use Rattle.sail_base.specs.WordParts.{length-copies}
 use Rattle.sail_base.specs.BitSigns.{top_bit-none, top_bit-true, top_bit-false, value_of-not_bits, length-not_bits, signed_of-negative, signed_of-positive, signed_of-bound}
 
 -- the width of a word is the length of its list
@@ -205,11 +206,6 @@ mixed_product_of a b s u w e k n l h f g =
     λ i. bits_of_int (2 * n i) (product_is s u (signed_of a) (pos (value_of b)) (2 ^ 63) (2 ^ 64 - 1) f g e k (short_abs a s e h) (short_value b u k (omega arith)) (lit< tt) i)
 
 -- ---- copies
-
-pub length-copies : (n : ℕ) (a : List Bool) → length (copies n a) ≡ n * length a
-unfolding copies
-length-copies zero a = omega arith
-length-copies (suc n) a = length-append a (copies n a) ∙ omega (arith, length-copies n a)
 
 pub copies-zero : (a : List Bool) → copies 0 a ≡ []
 unfolding copies

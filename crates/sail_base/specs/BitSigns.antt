@@ -73,7 +73,7 @@ signed_of-negative bs h =
 pub signed_of-positive : (bs : List Bool) → top_bit bs ≡ false → signed_of bs ≡ pos (value_of bs)
 signed_of-positive bs h = ap (λ t. cond t (pos (value_of bs) -ℤ pos (2 ^ length bs)) (pos (value_of bs))) h
 
-by_top : (b : Bool) → (b ≡ true) ⊎ (b ≡ false)
+pub by_top : (b : Bool) → (b ≡ true) ⊎ (b ≡ false)
 by_top true = inl refl
 by_top false = inr refl
 
