@@ -1,11 +1,12 @@
 -- What the operations on words compute of their numbers, as the lists that contracts see.
-use Rattle.std.proofs.Common.{◌≡◌, ℕ, zero, suc, ◌+◌, ◌-◌, ◌*◌, ◌/◌, ◌%◌, ◌^◌, ◌<◌, ◌≤◌, Bool, true, false, List, [], length, take, refl, sym, ap, ◌∙◌, subst, arith, pow-add, pow_mono, bit_and, bit_or, bit_xor, lt_of_lt_of_le, le_trans, get_or, mul_comm, pow-suc, SFits, ℤ, pos, negsuc, ◌-ℤ◌, ◌*ℤ◌, to_z, of_z, unsigned_abs, lit<, add-one, mul-le-mul_right, suc-mul}
+use Rattle.std.proofs.Common.{◌≡◌, ℕ, zero, suc, ◌+◌, ◌-◌, ◌*◌, ◌/◌, ◌%◌, ◌^◌, ◌<◌, ◌≤◌, Bool, true, false, List, [], length, take, refl, sym, ap, ◌∙◌, subst, arith, pow-add, pow_mono, pow_pos, bit_and, bit_or, bit_xor, lt_of_lt_of_le, le_trans, get_or, mul_comm, pow-suc, SFits, ℤ, pos, negsuc, ◌-ℤ◌, ◌*ℤ◌, to_z, of_z, unsigned_abs, lit<, add-one, mul-le-mul_right, suc-mul}
 use Rattle.std.proofs.lemmas.Nat.{mul-lt, mul-add-lt}
 use Rattle.std.proofs.lemmas.List.{nil_from_length}
+use Rattle.std.proofs.Math.Nat.{div-eq_of_lt}
 use Rattle.std.specs.Int.{w128}
 use Rattle.std.proofs.lemmas.Int.{ints, to_z_pos, to_z-of_z, fits_signed_mul}
 use Rattle.sail_base.specs.Bits.{bits_of, value_of, is_odd, top_bit, not_bits, and_bits, or_bits, xor_bits, mul_wide_unsigned, append_bits, zext_bits, slice_bits, shl_bits, shr_bits, copies, signed_of, bits_of_int, mul_wide_signed, mul_wide_mixed}
-use Rattle.sail_base.specs.BitLaws.{length-bits_of, value_of-bits_of_fits, bits_of-mod, mod-pow_twice, value_of-lt, take-bits_of}
+use Rattle.sail_base.specs.BitLaws.{length-bits_of, value_of-bits_of, value_of-bits_of_fits, bits_of-mod, mod-pow_twice, value_of-lt, take-bits_of}
 use Rattle.sail_base.specs.BitNumbers.{bits_of-and, bits_of-or, bits_of-xor, bits_of-complement, pow_multiple}
 use Rattle.sail_base.specs.BitShapes.{get_or-bits_of, append_bits-numbers, zext_bits-numbers, slice_bits-numbers, shl_bits-numbers, shr_bits-numbers, shl-past, shr-past}
 use Rattle.sail_base.specs.WordParts.{length-copies}
@@ -105,11 +106,17 @@ pub shl_of : (t w x by r : ℕ) (a : List Bool) → bits_of w x ≡ a → w ≤ 
 shl_of t w x by r a e h k =
     ap (bits_of w) (k ∙ mod-pow_twice t w (x * 2 ^ by) h) ∙ bits_of-mod w (x * 2 ^ by) ∙ shl_bits-numbers w x by ∙ ap (λ b. shl_bits b by) e
 
-pub shl_past_of : (w x by : ℕ) (a : List Bool) → bits_of w x ≡ a → w ≤ 128 → 128 ≤ by → bits_of w 0 ≡ shl_bits a by
-shl_past_of w x by a e h p = shl-past w x by (le_trans h p) ∙ shl_bits-numbers w x by ∙ ap (λ b. shl_bits b by) e
+pub shr_of : (w x by r : ℕ) (a : List Bool) → bits_of w x ≡ a → x < 2 ^ w → r ≡ x / 2 ^ by → bits_of w r ≡ shr_bits a by
+shr_of w x by r a e h k = ap (bits_of w) k ∙ shr_bits-numbers w x by h ∙ ap (λ b. shr_bits b by) e
 
-pub shr_past_of : (w x by : ℕ) (a : List Bool) → bits_of w x ≡ a → x < 2 ^ w → w ≤ 128 → 128 ≤ by → bits_of w 0 ≡ shr_bits a by
-shr_past_of w x by a e q h p = shr-past w x by q (le_trans h p) ∙ shr_bits-numbers w x by q ∙ ap (λ b. shr_bits b by) e
+-- what is moved past all bits is nothing
+pub moved_up_past : (t x n : ℕ) → t ≤ n → 0 ≡ x * 2 ^ n % 2 ^ t
+moved_up_past t x n h =
+    let z : bits_of t 0 ≡ bits_of t (x * 2 ^ n) = shl-past t x n h in
+    sym (value_of-bits_of_fits t 0 (pow_pos t)) ∙ ap value_of z ∙ value_of-bits_of t (x * 2 ^ n)
+
+pub moved_down_past : (t x n : ℕ) → x < 2 ^ t → t ≤ n → 0 ≡ x / 2 ^ n
+moved_down_past t x n h p = sym (div-eq_of_lt (below_pow n t x p h))
 
 copies-nil : (n : ℕ) → copies n [] ≡ []
 unfolding copies

@@ -11,6 +11,8 @@ mod arithmetic;
 mod bitwise;
 mod parts;
 mod reading;
+#[cfg(test)]
+mod tests;
 
 use std::marker::Model;
 

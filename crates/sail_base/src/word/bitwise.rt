@@ -1,5 +1,5 @@
 //! Operations bit by bit, and shifts, which keep the width.
-ghost use Rattle.std.specs.Prelude.{◌≡◌, length};
+ghost use Rattle.std.specs.Prelude.{◌≡◌, ◌*◌, ◌/◌, ◌%◌, ◌^◌, length};
 ghost use Rattle.sail_base.specs.Bits.{and_bits, or_bits, xor_bits, not_bits, shl_bits, shr_bits, sar_bits};
 
 use super::{Word, low_bits};
@@ -52,16 +52,9 @@ impl Word {
     pub fn shl(self, by: u128) -> Word
         ensures { result ≡ shl_bits self by }
     {
-        if by < 128 {
-            Word {
-                width: self.width,
-                bits: low_bits(self.width, self.bits << by),
-            }
-        } else {
-            Word {
-                width: self.width,
-                bits: 0,
-            }
+        Word {
+            width: self.width,
+            bits: low_bits(self.width, moved_up(self.bits, by)),
         }
     }
 
@@ -69,16 +62,9 @@ impl Word {
     pub fn shr(self, by: u128) -> Word
         ensures { result ≡ shr_bits self by }
     {
-        if by < 128 {
-            Word {
-                width: self.width,
-                bits: self.bits >> by,
-            }
-        } else {
-            Word {
-                width: self.width,
-                bits: 0,
-            }
+        Word {
+            width: self.width,
+            bits: moved_down(self.bits, by),
         }
     }
 
@@ -92,4 +78,18 @@ impl Word {
             self.shr(by)
         }
     }
+}
+
+/// A number times 2 to any amount, the low 128 bits kept.
+fn moved_up(number: u128, by: u128) -> u128
+    ensures { result ≡ number * 2 ^ by % 2 ^ 128 }
+{
+    if by < 128 { number << by } else { 0 }
+}
+
+/// A number over 2 to any amount, rounded down.
+fn moved_down(number: u128, by: u128) -> u128
+    ensures { result ≡ number / 2 ^ by }
+{
+    if by < 128 { number >> by } else { 0 }
 }
