@@ -1,11 +1,15 @@
 //! Words and sums against values from outside, at the widths where a `u128` is short, full or none.
 ghost use Rattle.std.specs.Prelude.{◌≡◌, ◌≤◌, length};
 
-mod table;
+mod arithmetic;
+mod moves;
+mod parts;
 
 use super::Word;
 use crate::{gcd, sum};
-use table::{APPENDED, COPIES, LOWEST, ONE, SHIFTS, SIGNED, SLICES, SUMS, TWO, WIDE, WIDTHS};
+use arithmetic::{TWO, WIDE};
+use moves::{ONE, SHIFTS, WIDTHS};
+use parts::{APPENDED, COPIES, LOWEST, SIGNED, SLICES, SUMS};
 
 /// An operation on two words of one width.
 #[derive(Clone, Copy)]

@@ -1,0 +1,303 @@
+// Values from outside: Python computed each with its own integers.
+
+/// A word high and a word low: width and number of each, and the number of the result.
+pub const APPENDED: [(u8, u128, u8, u128, u128); 11] = [
+    (0, 0x0, 0, 0x0, 0x0),
+    (
+        0,
+        0x0,
+        128,
+        0x693821825715340d17bcd5de07000e6c,
+        0x693821825715340d17bcd5de07000e6c,
+    ),
+    (
+        128,
+        0x5184eb894efb67d46fa6eb6affb3614a,
+        0,
+        0x0,
+        0x5184eb894efb67d46fa6eb6affb3614a,
+    ),
+    (1, 0x0, 1, 0x0, 0x0),
+    (
+        1,
+        0x1,
+        127,
+        0x215badd1f40fef17c0766774e9914e03,
+        0xa15badd1f40fef17c0766774e9914e03,
+    ),
+    (
+        127,
+        0x4a5645d65f1a2fbbf0e53d7d66db6861,
+        1,
+        0x1,
+        0x94ac8bacbe345f77e1ca7afacdb6d0c3,
+    ),
+    (
+        64,
+        0x8ad2e67a41c233ff,
+        64,
+        0xee21f5fbb5891d9a,
+        0x8ad2e67a41c233ffee21f5fbb5891d9a,
+    ),
+    (
+        63,
+        0x6467ce70bd87348,
+        65,
+        0x1f8a34fca3dd0dac4,
+        0xc8cf9ce17b0e691f8a34fca3dd0dac4,
+    ),
+    (0, 0x0, 7, 0x6c, 0x6c),
+    (7, 0x21, 0, 0x0, 0x21),
+    (8, 0x58, 16, 0x7b38, 0x587b38),
+];
+
+/// Slices: the width and the number, the highest and the lowest bit, and the number of the slice.
+pub const SLICES: [(u8, u128, u8, u8, u128); 26] = [
+    (1, 0x0, 0, 0, 0x0),
+    (63, 0x3cb24e32e522857, 0, 0, 0x1),
+    (63, 0x72e1b995a94604d9, 31, 21, 0x54a),
+    (63, 0x7f1fbdbf9bbc7e0e, 61, 1, 0x1f8fdedfcdde3f07),
+    (63, 0x3b77c7647b0b4d2a, 62, 0, 0x3b77c7647b0b4d2a),
+    (63, 0x7759b67628a2a49c, 62, 62, 0x1),
+    (64, 0x73528aa3fe43fc0e, 0, 0, 0x0),
+    (64, 0x164d3a3be56c20fe, 32, 21, 0xf2b),
+    (64, 0xcb953995b3cef2f6, 62, 1, 0x25ca9ccad9e7797b),
+    (64, 0xff3201cbd3cd6ab0, 63, 0, 0xff3201cbd3cd6ab0),
+    (64, 0x77471a32c6baa05c, 63, 63, 0x0),
+    (65, 0x15765a514398ffb44, 0, 0, 0x0),
+    (65, 0xc1f32586bdaf773a, 32, 21, 0x5ed),
+    (65, 0x1476a4cb97bf574fb, 63, 1, 0x23b5265cbdfaba7d),
+    (65, 0xeb52c2264daeda89, 64, 0, 0xeb52c2264daeda89),
+    (65, 0x9dd4b9fb41eac6ab, 64, 64, 0x0),
+    (127, 0x2729d2dcc81e2ca4cc2371dca692b692, 0, 0, 0x0),
+    (127, 0xaea5d589747621433dd5d83dbfffe79, 63, 42, 0xcf757),
+    (
+        127,
+        0x374749cc81370a21b5661cc7547ba6e,
+        125,
+        1,
+        0x1ba3a4e6409b8510dab30e63aa3dd37,
+    ),
+    (
+        127,
+        0x19787bf12cef865e2bf23a152674e4b7,
+        126,
+        0,
+        0x19787bf12cef865e2bf23a152674e4b7,
+    ),
+    (127, 0x36e7c5d018bdcf8dc2f17547dab1b1b3, 126, 126, 0x0),
+    (128, 0xec8e2df3484b7cf1f9241565ea9409d6, 0, 0, 0x0),
+    (128, 0xab3ff3dddd04a22f53015441b3054f63, 64, 42, 0x54c055),
+    (
+        128,
+        0x3c1d9c1aef219605e49031a582057cba,
+        126,
+        1,
+        0x1e0ece0d7790cb02f24818d2c102be5d,
+    ),
+    (
+        128,
+        0x6e75072175009efc532d7aa2fe66b36a,
+        127,
+        0,
+        0x6e75072175009efc532d7aa2fe66b36a,
+    ),
+    (128, 0xb3eb9eae49c0f182ff9dd4b546eb2c24, 127, 127, 0x1),
+];
+
+/// A word again and again: the width and the number, how often, and the width and number of the result.
+pub const COPIES: [(u8, u128, u128, u8, u128); 11] = [
+    (0, 0x0, 0x0, 0, 0x0),
+    (0, 0x0, 0x10000000000000000000000000, 0, 0x0),
+    (1, 0x1, 0x0, 0, 0x0),
+    (1, 0x1, 0x1, 1, 0x1),
+    (1, 0x1, 0x80, 128, 0xffffffffffffffffffffffffffffffff),
+    (3, 0x3, 0x2a, 126, 0x1b6db6db6db6db6db6db6db6db6db6db),
+    (32, 0x86ebaed9, 0x4, 128, 0x86ebaed986ebaed986ebaed986ebaed9),
+    (
+        64,
+        0x53a1dab086847d4c,
+        0x2,
+        128,
+        0x53a1dab086847d4c53a1dab086847d4c,
+    ),
+    (
+        63,
+        0x1808adce3742c424,
+        0x2,
+        126,
+        0xc0456e71ba162121808adce3742c424,
+    ),
+    (
+        128,
+        0x2005e52dd6a1b166eb06f734c97b2569,
+        0x1,
+        128,
+        0x2005e52dd6a1b166eb06f734c97b2569,
+    ),
+    (128, 0xa6603dd4675e3aae0a52403412a1abb6, 0x0, 0, 0x0),
+];
+
+/// Signed readings: the width, the number of the word, and the signed number.
+pub const SIGNED: [(u8, u128, i128); 23] = [
+    (0, 0x0, 0),
+    (1, 0x0, 0),
+    (1, 0x1, -1),
+    (63, 0x200fb6b2d800fa95, 2310266013108730517),
+    (63, 0x3fffffffffffffff, 4611686018427387903),
+    (63, 0x4000000000000000, -4611686018427387904),
+    (63, 0x7fffffffffffffff, -1),
+    (64, 0x67d389db483961f3, 7481474980895089139),
+    (64, 0x7fffffffffffffff, 9223372036854775807),
+    (64, 0x8000000000000000, -9223372036854775808),
+    (64, 0xffffffffffffffff, -1),
+    (65, 0xffffffffffffffff, 18446744073709551615),
+    (65, 0x10000000000000000, -18446744073709551616),
+    (65, 0x10b46a65e888bd56b, -17634224365974596245),
+    (65, 0x1ffffffffffffffff, -1),
+    (
+        127,
+        0x3dab44dc3f37b84ca294d816970b0f5e,
+        81972187159303042091278212215301934942,
+    ),
+    (
+        127,
+        0x3fffffffffffffffffffffffffffffff,
+        85070591730234615865843651857942052863,
+    ),
+    (
+        127,
+        0x40000000000000000000000000000000,
+        -85070591730234615865843651857942052864,
+    ),
+    (127, 0x7fffffffffffffffffffffffffffffff, -1),
+    (
+        128,
+        0x101476aa53c09088b2ff527b7914efca,
+        21373900688770260956045434876381687754,
+    ),
+    (
+        128,
+        0x7fffffffffffffffffffffffffffffff,
+        170141183460469231731687303715884105727,
+    ),
+    (128, 0x80000000000000000000000000000000, i128::MIN),
+    (128, 0xffffffffffffffffffffffffffffffff, -1),
+];
+
+/// The low bits of integers: the width, the integer, and the number of the word.
+pub const LOWEST: [(u8, i128, u128); 21] = [
+    (0, -85070591730234615865855997536843287431, 0x0),
+    (0, 85070591730234615964609083967818596074, 0x0),
+    (0, -2, 0x0),
+    (1, -85070591730234615865855997536843287431, 0x1),
+    (1, 85070591730234615964609083967818596074, 0x0),
+    (1, -2, 0x0),
+    (
+        63,
+        -85070591730234615865855997536843287431,
+        0x7fd423aba294b479,
+    ),
+    (
+        63,
+        85070591730234615964609083967818596074,
+        0x5aa54d38e5267eea,
+    ),
+    (63, -2, 0x7ffffffffffffffe),
+    (
+        64,
+        -85070591730234615865855997536843287431,
+        0xffd423aba294b479,
+    ),
+    (
+        64,
+        85070591730234615964609083967818596074,
+        0x5aa54d38e5267eea,
+    ),
+    (64, -2, 0xfffffffffffffffe),
+    (
+        65,
+        -85070591730234615865855997536843287431,
+        0x1ffd423aba294b479,
+    ),
+    (
+        65,
+        85070591730234615964609083967818596074,
+        0x15aa54d38e5267eea,
+    ),
+    (65, -2, 0x1fffffffffffffffe),
+    (
+        127,
+        -85070591730234615865855997536843287431,
+        0x3fffffffffffffffffd423aba294b479,
+    ),
+    (
+        127,
+        85070591730234615964609083967818596074,
+        0x40000000000000055aa54d38e5267eea,
+    ),
+    (127, -2, 0x7ffffffffffffffffffffffffffffffe),
+    (
+        128,
+        -85070591730234615865855997536843287431,
+        0xbfffffffffffffffffd423aba294b479,
+    ),
+    (
+        128,
+        85070591730234615964609083967818596074,
+        0x40000000000000055aa54d38e5267eea,
+    ),
+    (128, -2, 0xfffffffffffffffffffffffffffffffe),
+];
+
+/// Two integers, their sum, and their greatest common divisor, where they fit.
+pub const SUMS: [(i128, i128, Option<i128>, Option<i128>); 18] = [
+    (i128::MAX, 1, None, Some(1)),
+    (i128::MAX, 0, Some(i128::MAX), Some(i128::MAX)),
+    (
+        i128::MAX,
+        -1,
+        Some(170141183460469231731687303715884105726),
+        Some(1),
+    ),
+    (i128::MIN, -1, None, Some(1)),
+    (i128::MIN, 0, Some(i128::MIN), None),
+    (
+        i128::MIN,
+        1,
+        Some(-170141183460469231731687303715884105727),
+        Some(1),
+    ),
+    (i128::MIN, i128::MAX, Some(-1), Some(1)),
+    (i128::MIN, i128::MIN, None, None),
+    (i128::MAX, i128::MAX, None, Some(i128::MAX)),
+    (12, -18, Some(-6), Some(6)),
+    (-12, -18, Some(-30), Some(6)),
+    (0, 0, Some(0), Some(0)),
+    (0, -5, Some(-5), Some(5)),
+    (
+        85070591730234615865843651857942052864,
+        85070591730234615865843651857942052864,
+        None,
+        Some(85070591730234615865843651857942052864),
+    ),
+    (
+        -85070591730234615865843651857942052864,
+        -85070591730234615865843651857942052864,
+        Some(i128::MIN),
+        Some(85070591730234615865843651857942052864),
+    ),
+    (
+        618970019642690137449562111,
+        2158215009176795564935679092915430511,
+        Some(2158215009795765584578369230364992622),
+        Some(618970019642690137449562111),
+    ),
+    (600, -45, Some(555), Some(15)),
+    (
+        -1000000000000000000000000000000,
+        10000000000000000000000000,
+        Some(-999990000000000000000000000000),
+        Some(10000000000000000000000000),
+    ),
+];
