@@ -1,9 +1,10 @@
 -- The sign of a word, its signed number, and how many zeros stand at its top.
-use Rattle.std.proofs.Common.{◌≡◌, ℕ, zero, suc, ◌+◌, ◌-◌, ◌*◌, ◌/◌, ◌%◌, ◌^◌, ◌<◌, ◌≤◌, Bool, true, false, cond, not, List, [], ◌∷◌, ◌++◌, length, drop, replicate, reverse, refl, sym, ap, ◌∙◌, subst, arith, pow-suc, pow_mono, get_or, ⊎_elim, pos, negsuc, ◌-ℤ◌, unsigned_abs, eqb-true, ◌⊎◌, inl, inr, add-one, true≢false, take_while}
+use Rattle.std.proofs.Common.{◌≡◌, ℕ, zero, suc, ◌+◌, ◌-◌, ◌*◌, ◌/◌, ◌%◌, ◌^◌, ◌<◌, ◌≤◌, Bool, true, false, cond, not, List, [], ◌∷◌, ◌++◌, length, drop, replicate, reverse, refl, sym, ap, ◌∙◌, subst, arith, pow-suc, pow_mono, get_or, ⊎_elim, pos, negsuc, ◌-ℤ◌, unsigned_abs, eqb-true, ◌⊎◌, inl, inr, add-one, true≢false, take_while, neg_ℤ, ◌≤ℤ◌, ◌<ℤ◌, length-take, ℤ}
 use Rattle.std.proofs.lemmas.Int.{ints}
 use Rattle.std.proofs.lemmas.Bool.{cases_lt}
-use Rattle.std.proofs.lemmas.List.{length-map, reverse-append, replicate_more}
+use Rattle.std.proofs.lemmas.List.{length-map, length-reverse, reverse-append, replicate_more}
 use Rattle.std.proofs.lemmas.List.Sums.{take_while-cons}
+use Rattle.std.specs.List.{prefix_len}
 use Rattle.std.proofs.Math.Nat.{div-eq_of_lt-le, mul-le-mul_right, div-mul-le_self}
 use Rattle.std.specs.Int.Count.{count_leading_zeros, leading_of_zero}
 use Rattle.std.proofs.lemmas.Nat.{leading_top}
@@ -86,6 +87,22 @@ signed_of-bound bs =
     subst (λ z. 2 * unsigned_abs z ≤ 2 ^ length bs) (sym (signed_of-positive bs h)) (omega (arith, top_bit-false bs h)))
     (by_top (top_bit bs))
 
+-- the signed numbers of a width lie from minus half of 2 to the width to below half of it
+pub signed_of-range : (v : ℕ) (bs : List Bool) → length bs ≡ suc v → (neg_ℤ (pos (2 ^ v)) ≤ℤ signed_of bs) × (signed_of bs <ℤ pos (2 ^ v))
+signed_of-range v bs e =
+    let w : 2 ^ length bs ≡ 2 ^ suc v = ap (λ k. 2 ^ k) e in
+    let P : ℤ → Type 0 = λ z. (neg_ℤ (pos (2 ^ v)) ≤ℤ z) × (z <ℤ pos (2 ^ v)) in
+    ⊎_elim (λ (h : top_bit bs ≡ true).
+    let t = top_bit-true bs h in
+    let n = value_of-not_bits bs in
+    let p = pow-suc 2 v in
+    subst P (sym (signed_of-negative bs h)) (omega (arith, ints), omega (arith, ints)))
+    (λ (h : top_bit bs ≡ false).
+    let t = top_bit-false bs h in
+    let p = pow-suc 2 v in
+    subst P (sym (signed_of-positive bs h)) (omega (arith, ints), omega (arith, ints)))
+    (by_top (top_bit bs))
+
 -- ---- the sign that comes in
 
 pub sar_bits-negative : (bs : List Bool) (n : ℕ) → top_bit bs ≡ true → not_bits (shr_bits (not_bits bs) n) ≡ sar_bits bs n
@@ -165,3 +182,7 @@ count_leading_zeros-ge t w (suc x) h p =
     let m : 2 ^ w ≤ 2 ^ t = pow_mono h in
     let top = leading_top t (suc x) (omega arith) (omega arith) in
     omega (arith, top.1, place_below top.0 w (suc x) top.2 p)
+
+-- no more zeros than bits
+pub leading_zeros-le : (bs : List Bool) → leading_zeros bs ≤ length bs
+leading_zeros-le bs = omega (arith, length-take (prefix_len not (reverse bs)) (reverse bs), length-reverse bs)

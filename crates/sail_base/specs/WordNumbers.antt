@@ -1,11 +1,12 @@
 -- Laws of words as numbers: what each result stands for, read as unsigned and as signed.
-use Rattle.std.proofs.Common.{◌≡◌, ℕ, zero, suc, ◌+◌, ◌-◌, ◌*◌, ◌/◌, ◌%◌, ◌^◌, ◌<◌, ◌≤◌, Bool, true, false, List, [], ◌∷◌, ◌++◌, length, take, drop, replicate, get_or, refl, sym, ap, ◌∙◌, subst, arith, ⊎_elim, pow-suc, pow-add, div-le_self, ℤ, pos, negsuc, neg_ℤ, ◌-ℤ◌, ◌≤ℤ◌, ◌<ℤ◌, unsigned_abs, length-append, length-drop, get_or-drop, append-nil}
+use Rattle.std.proofs.Common.{◌≡◌, ℕ, zero, suc, ◌+◌, ◌-◌, ◌*◌, ◌/◌, ◌%◌, ◌^◌, ◌<◌, ◌≤◌, Bool, true, false, List, [], ◌∷◌, ◌++◌, length, take, drop, replicate, get_or, refl, sym, ap, ◌∙◌, subst, arith, ⊎_elim, pow-suc, pow-add, div-le_self, ℤ, pos, negsuc, neg_ℤ, ◌+ℤ◌, ◌-ℤ◌, ◌≤ℤ◌, mul-le-mul_left, pow_pos, add-mul, suc-mul, div-add-mod', ◌<ℤ◌, unsigned_abs, length-append, length-drop, get_or-drop, append-nil}
 use Rattle.std.proofs.lemmas.Int.{ints}
 use Rattle.std.proofs.lemmas.Nat.{shr_below, mul-lt}
 use Rattle.std.proofs.lemmas.List.{length-replicate, get_or-append-add, get_or-replicate}
 use Rattle.std.specs.Int.{int_div_euclid, int_rem_euclid}
 use Rattle.sail_base.specs.Bits.{bits_of, value_of, top_bit, not_bits, signed_of, bits_of_int, add_bits, sub_bits, mul_bits, mul_wide_unsigned, shl_bits, shr_bits, sar_bits, slice_bits, zext_bits, sext_bits}
 use Rattle.sail_base.specs.BitLaws.{length-bits_of, value_of-bits_of, value_of-bits_of_fits, value_of-lt, bits_of-value_of, take-bits_of, drop-bits_of, value_of-append}
+use Rattle.sail_base.specs.BitNumbers.{bits_of-add-multiple, bits_of-complement}
 use Rattle.sail_base.specs.BitShapes.{shl_bits-numbers, shr_bits-numbers, not_bits-twice}
 use Rattle.sail_base.specs.BitSigns.{length-not_bits, value_of-not_bits, top_bit-true, top_bit-false, signed_of-negative, signed_of-positive, by_top, sar_bits-negative, sext_bits-negative}
 use Rattle.sail_base.specs.WordParts.{length-sar_bits, sar_bits-past}
@@ -28,6 +29,51 @@ value_of-bits_of_int w (negsuc n) =
 
 pub value_of-sub_bits : (a b : List Bool) → value_of (sub_bits a b) ≡ unsigned_abs (int_rem_euclid (pos (value_of a) -ℤ pos (value_of b)) (pos (2 ^ length a)))
 value_of-sub_bits a b = value_of-bits_of_int (length a) (pos (value_of a) -ℤ pos (value_of b))
+
+-- an integer has the low bits of each number that lies a multiple of 2 to the width above it
+pub bits_of_int-above : (w m k : ℕ) (z : ℤ) → z +ℤ pos (k * 2 ^ w) ≡ pos m → bits_of_int w z ≡ bits_of w m
+bits_of_int-above w m k (pos n) e =
+    let s : n + k * 2 ^ w ≡ m = omega (arith, ints) in
+    sym (bits_of-add-multiple w n k) ∙ ap (bits_of w) s
+bits_of_int-above w m k (negsuc n) e =
+    let s : n + m + 1 ≡ k * 2 ^ w = omega (arith, ints) in
+    sym (bits_of-complement w n m k s)
+
+-- integers that differ by a multiple of 2 to the width have the same low bits
+pub bits_of_int-same : (w k : ℕ) (x y : ℤ) → x +ℤ pos (k * 2 ^ w) ≡ y → bits_of_int w x ≡ bits_of_int w y
+bits_of_int-same w k x (pos n) e = bits_of_int-above w n k x e
+bits_of_int-same w k x (negsuc n) e =
+    let p : suc n * 1 ≤ suc n * 2 ^ w = mul-le-mul_left (suc n) (pow_pos w) in
+    let d : (k + suc n) * 2 ^ w ≡ k * 2 ^ w + suc n * 2 ^ w = add-mul k (suc n) (2 ^ w) in
+    bits_of_int-above w (suc n * 2 ^ w - suc n) (k + suc n) x (omega (arith, ints))
+    ∙ sym (bits_of_int-above w (suc n * 2 ^ w - suc n) (suc n) (negsuc n) (omega (arith, ints)))
+
+-- the word of an integer stands for a number that differs from it by a multiple of 2 to the width
+residue_low : (w n : ℕ) → value_of (bits_of_int w (pos n)) + n / 2 ^ w * 2 ^ w ≡ n
+residue_low w n = omega (arith, value_of-bits_of w n, div-add-mod' n (2 ^ w))
+
+residue_high : (w n : ℕ) → value_of (bits_of_int w (negsuc n)) + n + 1 ≡ suc (n / 2 ^ w) * 2 ^ w
+residue_high w n =
+    let t : value_of (not_bits (bits_of w n)) + value_of (bits_of w n) + 1 ≡ 2 ^ w =
+    value_of-not_bits (bits_of w n) ∙ ap (λ k. 2 ^ k) (length-bits_of w n) in
+    omega (arith, value_of-bits_of w n, t, div-add-mod' n (2 ^ w), suc-mul (n / 2 ^ w) (2 ^ w))
+
+-- to add or take away an integer is to add or take away its word
+pub add_bits-int : (a : List Bool) (z : ℤ) → add_bits a (bits_of_int (length a) z) ≡ bits_of_int (length a) (pos (value_of a) +ℤ z)
+add_bits-int a (pos n) =
+    let r = residue_low (length a) n in
+    bits_of_int-same (length a) (n / 2 ^ length a) (pos (value_of a + value_of (bits_of_int (length a) (pos n)))) (pos (value_of a) +ℤ pos n) (omega (arith, ints, r))
+add_bits-int a (negsuc n) =
+    let r = residue_high (length a) n in
+    sym (bits_of_int-same (length a) (suc (n / 2 ^ length a)) (pos (value_of a) +ℤ negsuc n) (pos (value_of a + value_of (bits_of_int (length a) (negsuc n)))) (omega (arith, ints, r)))
+
+pub sub_bits-int : (a : List Bool) (z : ℤ) → sub_bits a (bits_of_int (length a) z) ≡ bits_of_int (length a) (pos (value_of a) -ℤ z)
+sub_bits-int a (pos n) =
+    let r = residue_low (length a) n in
+    sym (bits_of_int-same (length a) (n / 2 ^ length a) (pos (value_of a) -ℤ pos n) (pos (value_of a) -ℤ pos (value_of (bits_of_int (length a) (pos n)))) (omega (arith, ints, r)))
+sub_bits-int a (negsuc n) =
+    let r = residue_high (length a) n in
+    bits_of_int-same (length a) (suc (n / 2 ^ length a)) (pos (value_of a) -ℤ pos (value_of (bits_of_int (length a) (negsuc n)))) (pos (value_of a) -ℤ negsuc n) (omega (arith, ints, r))
 
 -- twice the width holds the whole product
 pub value_of-mul_wide_unsigned : (a b : List Bool) → length a ≡ length b → value_of (mul_wide_unsigned a b) ≡ value_of a * value_of b
