@@ -1,5 +1,5 @@
 -- Laws of words as lists: how wide each result is, single bits, parts of parts, and shifts past the width.
-use Rattle.std.proofs.Common.{◌≡◌, ℕ, zero, suc, ◌+◌, ◌-◌, ◌*◌, ◌<◌, ◌≤◌, Bool, false, not, List, [], ◌∷◌, ◌++◌, length, take, drop, replicate, get_or, refl, sym, ap, ◌∙◌, arith, ℤ, pos, negsuc, ◌-ℤ◌, ◌*ℤ◌, length-append, length-take, length-drop, take-take, drop-drop, take_at, drop_at, take_all, append_assoc, take-add}
+use Rattle.std.proofs.Common.{◌≡◌, ℕ, zero, suc, ◌+◌, ◌-◌, ◌*◌, ◌<◌, ◌≤◌, Bool, false, not, List, [], ◌∷◌, ◌++◌, length, take, drop, replicate, get_or, refl, sym, ap, ◌∙◌, arith, ℤ, pos, negsuc, ◌-ℤ◌, ◌*ℤ◌, length-append, length-take, length-drop, take-take, drop-drop, take_at, drop_at, take_all, append_assoc, take-add, min}
 use Rattle.std.proofs.lemmas.List.{length-replicate, take-append-le, drop-replicate, take-replicate, drop-take}
 use Rattle.sail_base.specs.Bits.{bits_of, value_of, top_bit, not_bits, signed_of, bits_of_int, add_bits, sub_bits, mul_bits, mul_wide_unsigned, mul_wide_signed, mul_wide_mixed, bitwise, shl_bits, shr_bits, sar_bits, append_bits, slice_bits, zext_bits, sext_bits, copies}
 use Rattle.sail_base.specs.BitLaws.{length-bits_of}
@@ -137,5 +137,18 @@ shr_bits-past bs n h = shift_down-past bs n false h
 pub sar_bits-past : (bs : List Bool) (n : ℕ) → length bs ≤ n → sar_bits bs n ≡ replicate (length bs) (top_bit bs)
 sar_bits-past bs n h = shift_down-past bs n (top_bit bs) h
 
+-- of a front, of what is behind it, and of two words together
+pub width-take : (n : ℕ) (bs : List Bool) → length (take n bs) ≡ min n (length bs)
+width-take n bs = length-take n bs
+
+pub width-drop : (n : ℕ) (bs : List Bool) → length (drop n bs) ≡ length bs - n
+width-drop n bs = length-drop n bs
+
+pub width-append : (a b : List Bool) → length (a ++ b) ≡ length a + length b
+width-append a b = length-append a b
+
+pub width-replicate : (n : ℕ) (b : Bool) → length (replicate n b) ≡ n
+width-replicate n b = length-replicate n b
+
 -- for a caller that needs the width of a result: `#[tactic(auto, using(sail_base::specs::WordParts::word_widths))]`
-pub ruleset word_widths = (length-bits_of, length-bits_of_int, length-not_bits, length-bitwise, length-shl_bits, length-shr_bits, length-sar_bits, length-append_bits, length-slice_bits, length-zext_bits, length-sext_bits, length-copies)
+pub ruleset word_widths = (length-bits_of, length-bits_of_int, length-not_bits, length-bitwise, width-take, width-drop, width-append, width-replicate, length-copies)
