@@ -1,0 +1,25 @@
+//! The tree of a model's text: definitions, expressions, patterns and types, as they are written,
+//! each with its place.
+#![tactic(auto)]
+
+mod definitions;
+mod expressions;
+mod name;
+mod patterns;
+mod same;
+mod types;
+mod words;
+
+pub use definitions::{Def, MappingClause, Member, Overloaded, Param, Quantifier, Side, Sides};
+pub use expressions::{Case, Exp, FieldValue, Index, LExp, Range, Stmt, Suffix, Target};
+pub use name::{Literal, Name};
+pub use patterns::{Joined, Pat};
+pub use same::expressions::{same_exp, same_lexp, same_stmt};
+pub use same::patterns::same_pat;
+pub use same::small::{same_literal, same_name, same_names};
+pub use same::types::same_type;
+pub use types::TyExp;
+pub use words::{
+    Arrow, Asking, Brackets, Choosing, Direction, Extent, Kind, Leaving, Looping, Operator, Prefix,
+    Record, Scattered, TypeOperator, TypePrefix,
+};
