@@ -2,10 +2,12 @@
 //! each with its place.
 #![tactic(auto)]
 
+pub mod build;
 mod definitions;
 mod expressions;
 mod name;
 mod patterns;
+mod readers;
 mod same;
 mod types;
 mod words;
@@ -14,6 +16,9 @@ pub use definitions::{Def, MappingClause, Member, Overloaded, Param, Quantifier,
 pub use expressions::{Case, Exp, FieldValue, Index, LExp, Range, Stmt, Suffix, Target};
 pub use name::{Literal, Name};
 pub use patterns::{Joined, Pat};
+pub use readers::{
+    is_plain, names_of, place_of, place_of_pattern, place_of_target, place_of_type, push_names,
+};
 pub use same::expressions::{same_exp, same_lexp, same_stmt};
 pub use same::patterns::same_pat;
 pub use same::small::{same_literal, same_name, same_names};

@@ -1,4 +1,7 @@
-use sail_base::{Place, Text};
+ghost use Rattle.std.specs.Prelude.{◌≡◌, IfOk};
+
+use sail_base::{Place, Text, Word};
+use std::alloc::{AllocError, Global};
 
 /// An identifier where it is written, or a type variable with its `'`.
 #[derive(Debug)]
@@ -15,13 +18,35 @@ impl Drop for Name {
     }
 }
 
+impl Name {
+    /// A name with this spelling at this place. It fails where memory is wanting.
+    pub fn new(alloc: Global, place: Place, spelling: &str) -> Result<Name, AllocError>
+        ensures { IfOk result (λ name. name ≡ record { place = place; text = spelling.now }) }
+    {
+        let text = Text::new(alloc, spelling)?;
+        Ok(Name { place, text })
+    }
+
+    /// The same name once more, over the same memory. It fails where the count of its sharers would
+    /// not fit.
+    pub fn copy(&self) -> Result<Name, AllocError>
+        ensures { IfOk result (λ name. name ≡ self.now) }
+    {
+        let text = self.text.copy()?;
+        Ok(Name {
+            place: self.place,
+            text,
+        })
+    }
+}
+
 /// What a literal stands for.
 #[derive(Debug)]
 pub enum Literal {
     /// A decimal, from 0 to 2^126; in a pattern also with a `-`, down to -2^126.
     Number(i128),
-    /// `0x..` or `0b..`: the width, 1 to 128, and the unsigned number, below 2 to the width.
-    Bits(u8, u128),
+    /// `0x..` or `0b..`, four bits or one a digit: 1 to 128 of them.
+    Bits(Word),
     /// `"..."`: the bytes after escapes.
     String(Text),
     /// `true` or `false`
@@ -34,7 +59,7 @@ impl Drop for Literal {
     fn drop(self) {
         match self {
             Literal::Number(_) => {}
-            Literal::Bits(_, _) => {}
+            Literal::Bits(_) => {}
             Literal::String(_) => {}
             Literal::Bool(_) => {}
             Literal::Bit(_) => {}

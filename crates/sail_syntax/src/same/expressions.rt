@@ -2,7 +2,7 @@ ghost use Rattle.std.specs.Prelude.{◌≡◌, ◌↔◌, IsTrue};
 
 use super::patterns::same_pat;
 use super::small::{
-    same_asking, same_brackets, same_choosing, same_direction, same_leaving, same_literal,
+    both, same_asking, same_brackets, same_choosing, same_direction, same_leaving, same_literal,
     same_looping, same_name, same_operator, same_optional_name, same_optional_text, same_place,
     same_prefix,
 };
@@ -17,12 +17,7 @@ pub fn same_exp(a: &Exp, b: &Exp) -> bool
 {
     match a {
         Exp::Constant(x0, x1) => match b {
-            Exp::Constant(y0, y1) => {
-                if !same_place(x0, y0) {
-                    return false;
-                }
-                same_literal(x1, y1)
-            }
+            Exp::Constant(y0, y1) => { both(same_place(x0, y0), same_literal(x1, y1)) }
             _ => false,
         },
         Exp::Variable(x0) => match b {
@@ -31,271 +26,211 @@ pub fn same_exp(a: &Exp, b: &Exp) -> bool
         },
         Exp::Call(x0, x1) => match b {
             Exp::Call(y0, y1) => {
-                if !same_name(x0, y0) {
-                    return false;
-                }
-                same_exps(x1.as_slice(), y1.as_slice())
+                both(same_name(x0, y0), same_exps(x1.as_slice(), y1.as_slice()))
             }
             _ => false,
         },
         Exp::Prefixed(x0, x1, x2) => match b {
             Exp::Prefixed(y0, y1, y2) => {
-                if !same_place(x0, y0) {
-                    return false;
-                }
-                if !same_prefix(x1, y1) {
-                    return false;
-                }
-                same_exp(x2.get(), y2.get())
+                both(
+                    both(same_place(x0, y0), same_prefix(x1, y1)),
+                    same_exp(x2.get(), y2.get()),
+                )
             }
             _ => false,
         },
         Exp::Infix(x0, x1, x2, x3) => match b {
             Exp::Infix(y0, y1, y2, y3) => {
-                if !same_place(x0, y0) {
-                    return false;
-                }
-                if !same_operator(x1, y1) {
-                    return false;
-                }
-                if !same_exp(x2.get(), y2.get()) {
-                    return false;
-                }
-                same_exp(x3.get(), y3.get())
+                both(
+                    both(
+                        both(same_place(x0, y0), same_operator(x1, y1)),
+                        same_exp(x2.get(), y2.get()),
+                    ),
+                    same_exp(x3.get(), y3.get()),
+                )
             }
             _ => false,
         },
         Exp::Leave(x0, x1, x2) => match b {
             Exp::Leave(y0, y1, y2) => {
-                if !same_place(x0, y0) {
-                    return false;
-                }
-                if !same_leaving(x1, y1) {
-                    return false;
-                }
-                same_exp(x2.get(), y2.get())
+                both(
+                    both(same_place(x0, y0), same_leaving(x1, y1)),
+                    same_exp(x2.get(), y2.get()),
+                )
             }
             _ => false,
         },
         Exp::Group(x0, x1, x2) => match b {
             Exp::Group(y0, y1, y2) => {
-                if !same_place(x0, y0) {
-                    return false;
-                }
-                if !same_brackets(x1, y1) {
-                    return false;
-                }
-                same_exps(x2.as_slice(), y2.as_slice())
+                both(
+                    both(same_place(x0, y0), same_brackets(x1, y1)),
+                    same_exps(x2.as_slice(), y2.as_slice()),
+                )
             }
             _ => false,
         },
         Exp::Part(x0, x1, x2) => match b {
             Exp::Part(y0, y1, y2) => {
-                if !same_place(x0, y0) {
-                    return false;
-                }
-                if !same_exp(x1.get(), y1.get()) {
-                    return false;
-                }
-                same_suffixes(x2.as_slice(), y2.as_slice())
+                both(
+                    both(same_place(x0, y0), same_exp(x1.get(), y1.get())),
+                    same_suffixes(x2.as_slice(), y2.as_slice()),
+                )
             }
             _ => false,
         },
         Exp::Typed(x0, x1, x2) => match b {
             Exp::Typed(y0, y1, y2) => {
-                if !same_place(x0, y0) {
-                    return false;
-                }
-                if !same_exp(x1.get(), y1.get()) {
-                    return false;
-                }
-                same_type(x2, y2)
+                both(
+                    both(same_place(x0, y0), same_exp(x1.get(), y1.get())),
+                    same_type(x2, y2),
+                )
             }
             _ => false,
         },
         Exp::Assign(x0, x1, x2, x3) => match b {
             Exp::Assign(y0, y1, y2, y3) => {
-                if !same_place(x0, y0) {
-                    return false;
-                }
-                if !same_lexp(x1.get(), y1.get()) {
-                    return false;
-                }
-                if !same_targets(x2.as_slice(), y2.as_slice()) {
-                    return false;
-                }
-                same_exp(x3.get(), y3.get())
+                both(
+                    both(
+                        both(same_place(x0, y0), same_lexp(x1.get(), y1.get())),
+                        same_targets(x2.as_slice(), y2.as_slice()),
+                    ),
+                    same_exp(x3.get(), y3.get()),
+                )
             }
             _ => false,
         },
         Exp::Block(x0, x1, x2) => match b {
             Exp::Block(y0, y1, y2) => {
-                if !same_place(x0, y0) {
-                    return false;
-                }
-                if !same_stmts(x1.as_slice(), y1.as_slice()) {
-                    return false;
-                }
-                same_optional_exp(x2, y2)
+                both(
+                    both(same_place(x0, y0), same_stmts(x1.as_slice(), y1.as_slice())),
+                    same_optional_exp(x2, y2),
+                )
             }
             _ => false,
         },
         Exp::Let(x0, x1, x2, x3) => match b {
             Exp::Let(y0, y1, y2, y3) => {
-                if !same_place(x0, y0) {
-                    return false;
-                }
-                if !same_pat(x1, y1) {
-                    return false;
-                }
-                if !same_exp(x2.get(), y2.get()) {
-                    return false;
-                }
-                same_exp(x3.get(), y3.get())
+                both(
+                    both(
+                        both(same_place(x0, y0), same_pat(x1, y1)),
+                        same_exp(x2.get(), y2.get()),
+                    ),
+                    same_exp(x3.get(), y3.get()),
+                )
             }
             _ => false,
         },
         Exp::Var(x0, x1, x2, x3, x4) => match b {
             Exp::Var(y0, y1, y2, y3, y4) => {
-                if !same_place(x0, y0) {
-                    return false;
-                }
-                if !same_name(x1, y1) {
-                    return false;
-                }
-                if !same_optional_type(x2, y2) {
-                    return false;
-                }
-                if !same_exp(x3.get(), y3.get()) {
-                    return false;
-                }
-                same_exp(x4.get(), y4.get())
+                both(
+                    both(
+                        both(
+                            both(same_place(x0, y0), same_name(x1, y1)),
+                            same_optional_type(x2, y2),
+                        ),
+                        same_exp(x3.get(), y3.get()),
+                    ),
+                    same_exp(x4.get(), y4.get()),
+                )
             }
             _ => false,
         },
         Exp::If(x0, x1, x2, x3) => match b {
             Exp::If(y0, y1, y2, y3) => {
-                if !same_place(x0, y0) {
-                    return false;
-                }
-                if !same_exp(x1.get(), y1.get()) {
-                    return false;
-                }
-                if !same_exp(x2.get(), y2.get()) {
-                    return false;
-                }
-                same_optional_exp(x3, y3)
+                both(
+                    both(
+                        both(same_place(x0, y0), same_exp(x1.get(), y1.get())),
+                        same_exp(x2.get(), y2.get()),
+                    ),
+                    same_optional_exp(x3, y3),
+                )
             }
             _ => false,
         },
         Exp::Choose(x0, x1, x2, x3) => match b {
             Exp::Choose(y0, y1, y2, y3) => {
-                if !same_place(x0, y0) {
-                    return false;
-                }
-                if !same_choosing(x1, y1) {
-                    return false;
-                }
-                if !same_exp(x2.get(), y2.get()) {
-                    return false;
-                }
-                same_cases(x3.as_slice(), y3.as_slice())
+                both(
+                    both(
+                        both(same_place(x0, y0), same_choosing(x1, y1)),
+                        same_exp(x2.get(), y2.get()),
+                    ),
+                    same_cases(x3.as_slice(), y3.as_slice()),
+                )
             }
             _ => false,
         },
         Exp::Foreach(x0, x1, x2, x3) => match b {
             Exp::Foreach(y0, y1, y2, y3) => {
-                if !same_place(x0, y0) {
-                    return false;
-                }
-                if !same_name(x1, y1) {
-                    return false;
-                }
-                if !same_range(x2.get(), y2.get()) {
-                    return false;
-                }
-                same_exp(x3.get(), y3.get())
+                both(
+                    both(
+                        both(same_place(x0, y0), same_name(x1, y1)),
+                        same_range(x2.get(), y2.get()),
+                    ),
+                    same_exp(x3.get(), y3.get()),
+                )
             }
             _ => false,
         },
         Exp::Loop(x0, x1, x2, x3, x4) => match b {
             Exp::Loop(y0, y1, y2, y3, y4) => {
-                if !same_place(x0, y0) {
-                    return false;
-                }
-                if !same_looping(x1, y1) {
-                    return false;
-                }
-                if !same_optional_exp(x2, y2) {
-                    return false;
-                }
-                if !same_exp(x3.get(), y3.get()) {
-                    return false;
-                }
-                same_exp(x4.get(), y4.get())
+                both(
+                    both(
+                        both(
+                            both(same_place(x0, y0), same_looping(x1, y1)),
+                            same_optional_exp(x2, y2),
+                        ),
+                        same_exp(x3.get(), y3.get()),
+                    ),
+                    same_exp(x4.get(), y4.get()),
+                )
             }
             _ => false,
         },
         Exp::Update(x0, x1, x2, x3) => match b {
             Exp::Update(y0, y1, y2, y3) => {
-                if !same_place(x0, y0) {
-                    return false;
-                }
-                if !same_exp(x1.get(), y1.get()) {
-                    return false;
-                }
-                if !same_index(x2.get(), y2.get()) {
-                    return false;
-                }
-                same_exp(x3.get(), y3.get())
+                both(
+                    both(
+                        both(same_place(x0, y0), same_exp(x1.get(), y1.get())),
+                        same_index(x2.get(), y2.get()),
+                    ),
+                    same_exp(x3.get(), y3.get()),
+                )
             }
             _ => false,
         },
         Exp::Struct(x0, x1, x2) => match b {
             Exp::Struct(y0, y1, y2) => {
-                if !same_place(x0, y0) {
-                    return false;
-                }
-                if !same_optional_name(x1, y1) {
-                    return false;
-                }
-                same_fields(x2.as_slice(), y2.as_slice())
+                both(
+                    both(same_place(x0, y0), same_optional_name(x1, y1)),
+                    same_fields(x2.as_slice(), y2.as_slice()),
+                )
             }
             _ => false,
         },
         Exp::With(x0, x1, x2) => match b {
             Exp::With(y0, y1, y2) => {
-                if !same_place(x0, y0) {
-                    return false;
-                }
-                if !same_exp(x1.get(), y1.get()) {
-                    return false;
-                }
-                same_fields(x2.as_slice(), y2.as_slice())
+                both(
+                    both(same_place(x0, y0), same_exp(x1.get(), y1.get())),
+                    same_fields(x2.as_slice(), y2.as_slice()),
+                )
             }
             _ => false,
         },
         Exp::OfType(x0, x1, x2) => match b {
             Exp::OfType(y0, y1, y2) => {
-                if !same_place(x0, y0) {
-                    return false;
-                }
-                if !same_asking(x1, y1) {
-                    return false;
-                }
-                same_type(x2, y2)
+                both(
+                    both(same_place(x0, y0), same_asking(x1, y1)),
+                    same_type(x2, y2),
+                )
             }
             _ => false,
         },
         Exp::Assert(x0, x1, x2) => match b {
             Exp::Assert(y0, y1, y2) => {
-                if !same_place(x0, y0) {
-                    return false;
-                }
-                if !same_exp(x1.get(), y1.get()) {
-                    return false;
-                }
-                same_optional_text(x2, y2)
+                both(
+                    both(same_place(x0, y0), same_exp(x1.get(), y1.get())),
+                    same_optional_text(x2, y2),
+                )
             }
             _ => false,
         },
@@ -456,12 +391,7 @@ pub fn same_suffix(a: &Suffix, b: &Suffix) -> bool
             _ => false,
         },
         Suffix::At(x0, x1) => match b {
-            Suffix::At(y0, y1) => {
-                if !same_place(x0, y0) {
-                    return false;
-                }
-                same_index(x1, y1)
-            }
+            Suffix::At(y0, y1) => { both(same_place(x0, y0), same_index(x1, y1)) }
             _ => false,
         },
     }
@@ -472,10 +402,10 @@ pub fn same_suffix(a: &Suffix, b: &Suffix) -> bool
 pub fn same_index(a: &Index, b: &Index) -> bool
     ensures { IsTrue result ↔ (a.now ≡ b.now) }
 {
-    if !same_exp(a.first.get(), b.first.get()) {
-        return false;
-    }
-    same_optional_exp(&a.last, &b.last)
+    both(
+        same_exp(a.first.get(), b.first.get()),
+        same_optional_exp(&a.last, &b.last),
+    )
 }
 
 /// Whether two of them are the same tree.
@@ -483,16 +413,16 @@ pub fn same_index(a: &Index, b: &Index) -> bool
 pub fn same_range(a: &Range, b: &Range) -> bool
     ensures { IsTrue result ↔ (a.now ≡ b.now) }
 {
-    if !same_exp(a.from.get(), b.from.get()) {
-        return false;
-    }
-    if !same_exp(a.to.get(), b.to.get()) {
-        return false;
-    }
-    if !same_optional_exp(&a.by, &b.by) {
-        return false;
-    }
-    same_direction(&a.direction, &b.direction)
+    both(
+        both(
+            both(
+                same_exp(a.from.get(), b.from.get()),
+                same_exp(a.to.get(), b.to.get()),
+            ),
+            same_optional_exp(&a.by, &b.by),
+        ),
+        same_direction(&a.direction, &b.direction),
+    )
 }
 
 /// Whether two of them are the same tree.
@@ -500,13 +430,13 @@ pub fn same_range(a: &Range, b: &Range) -> bool
 pub fn same_case(a: &Case, b: &Case) -> bool
     ensures { IsTrue result ↔ (a.now ≡ b.now) }
 {
-    if !same_pat(&a.pattern, &b.pattern) {
-        return false;
-    }
-    if !same_optional_exp(&a.guard, &b.guard) {
-        return false;
-    }
-    same_exp(a.body.get(), b.body.get())
+    both(
+        both(
+            same_pat(&a.pattern, &b.pattern),
+            same_optional_exp(&a.guard, &b.guard),
+        ),
+        same_exp(a.body.get(), b.body.get()),
+    )
 }
 
 /// Whether two of them are the same tree.
@@ -514,10 +444,10 @@ pub fn same_case(a: &Case, b: &Case) -> bool
 pub fn same_field(a: &FieldValue, b: &FieldValue) -> bool
     ensures { IsTrue result ↔ (a.now ≡ b.now) }
 {
-    if !same_name(&a.name, &b.name) {
-        return false;
-    }
-    same_exp(a.value.get(), b.value.get())
+    both(
+        same_name(&a.name, &b.name),
+        same_exp(a.value.get(), b.value.get()),
+    )
 }
 
 /// Whether two of them are the same tree.
@@ -532,28 +462,22 @@ pub fn same_stmt(a: &Stmt, b: &Stmt) -> bool
         },
         Stmt::Define(x0, x1, x2) => match b {
             Stmt::Define(y0, y1, y2) => {
-                if !same_place(x0, y0) {
-                    return false;
-                }
-                if !same_pat(x1, y1) {
-                    return false;
-                }
-                same_exp(x2.get(), y2.get())
+                both(
+                    both(same_place(x0, y0), same_pat(x1, y1)),
+                    same_exp(x2.get(), y2.get()),
+                )
             }
             _ => false,
         },
         Stmt::Declare(x0, x1, x2, x3) => match b {
             Stmt::Declare(y0, y1, y2, y3) => {
-                if !same_place(x0, y0) {
-                    return false;
-                }
-                if !same_name(x1, y1) {
-                    return false;
-                }
-                if !same_optional_type(x2, y2) {
-                    return false;
-                }
-                same_exp(x3.get(), y3.get())
+                both(
+                    both(
+                        both(same_place(x0, y0), same_name(x1, y1)),
+                        same_optional_type(x2, y2),
+                    ),
+                    same_exp(x3.get(), y3.get()),
+                )
             }
             _ => false,
         },
@@ -572,31 +496,22 @@ pub fn same_lexp(a: &LExp, b: &LExp) -> bool
         },
         LExp::ToCall(x0, x1) => match b {
             LExp::ToCall(y0, y1) => {
-                if !same_name(x0, y0) {
-                    return false;
-                }
-                same_exps(x1.as_slice(), y1.as_slice())
+                both(same_name(x0, y0), same_exps(x1.as_slice(), y1.as_slice()))
             }
             _ => false,
         },
         LExp::ToTuple(x0, x1) => match b {
             LExp::ToTuple(y0, y1) => {
-                if !same_place(x0, y0) {
-                    return false;
-                }
-                same_lexps(x1.as_slice(), y1.as_slice())
+                both(same_place(x0, y0), same_lexps(x1.as_slice(), y1.as_slice()))
             }
             _ => false,
         },
         LExp::ToPart(x0, x1, x2) => match b {
             LExp::ToPart(y0, y1, y2) => {
-                if !same_place(x0, y0) {
-                    return false;
-                }
-                if !same_lexp(x1.get(), y1.get()) {
-                    return false;
-                }
-                same_suffixes(x2.as_slice(), y2.as_slice())
+                both(
+                    both(same_place(x0, y0), same_lexp(x1.get(), y1.get())),
+                    same_suffixes(x2.as_slice(), y2.as_slice()),
+                )
             }
             _ => false,
         },
@@ -608,8 +523,8 @@ pub fn same_lexp(a: &LExp, b: &LExp) -> bool
 pub fn same_target(a: &Target, b: &Target) -> bool
     ensures { IsTrue result ↔ (a.now ≡ b.now) }
 {
-    if !same_place(&a.place, &b.place) {
-        return false;
-    }
-    same_lexp(a.to.get(), b.to.get())
+    both(
+        same_place(&a.place, &b.place),
+        same_lexp(a.to.get(), b.to.get()),
+    )
 }

@@ -1,6 +1,6 @@
 ghost use Rattle.std.specs.Prelude.{◌≡◌, ◌↔◌, IsTrue};
 
-use super::small::{same_brackets, same_literal, same_name, same_place};
+use super::small::{both, same_brackets, same_literal, same_name, same_place};
 use super::types::same_type;
 use crate::patterns::{Joined, Pat};
 
@@ -15,12 +15,7 @@ pub fn same_pat(a: &Pat, b: &Pat) -> bool
             _ => false,
         },
         Pat::Constant(x0, x1) => match b {
-            Pat::Constant(y0, y1) => {
-                if !same_place(x0, y0) {
-                    return false;
-                }
-                same_literal(x1, y1)
-            }
+            Pat::Constant(y0, y1) => { both(same_place(x0, y0), same_literal(x1, y1)) }
             _ => false,
         },
         Pat::Bind(x0) => match b {
@@ -29,73 +24,55 @@ pub fn same_pat(a: &Pat, b: &Pat) -> bool
         },
         Pat::Construct(x0, x1) => match b {
             Pat::Construct(y0, y1) => {
-                if !same_name(x0, y0) {
-                    return false;
-                }
-                same_pats(x1.as_slice(), y1.as_slice())
+                both(same_name(x0, y0), same_pats(x1.as_slice(), y1.as_slice()))
             }
             _ => false,
         },
         Pat::Group(x0, x1, x2) => match b {
             Pat::Group(y0, y1, y2) => {
-                if !same_place(x0, y0) {
-                    return false;
-                }
-                if !same_brackets(x1, y1) {
-                    return false;
-                }
-                same_pats(x2.as_slice(), y2.as_slice())
+                both(
+                    both(same_place(x0, y0), same_brackets(x1, y1)),
+                    same_pats(x2.as_slice(), y2.as_slice()),
+                )
             }
             _ => false,
         },
         Pat::Concat(x0, x1, x2, x3) => match b {
             Pat::Concat(y0, y1, y2, y3) => {
-                if !same_place(x0, y0) {
-                    return false;
-                }
-                if !same_pat(x1.get(), y1.get()) {
-                    return false;
-                }
-                if !same_pat(x2.get(), y2.get()) {
-                    return false;
-                }
-                same_joins(x3.as_slice(), y3.as_slice())
+                both(
+                    both(
+                        both(same_place(x0, y0), same_pat(x1.get(), y1.get())),
+                        same_pat(x2.get(), y2.get()),
+                    ),
+                    same_joins(x3.as_slice(), y3.as_slice()),
+                )
             }
             _ => false,
         },
         Pat::Cons(x0, x1, x2) => match b {
             Pat::Cons(y0, y1, y2) => {
-                if !same_place(x0, y0) {
-                    return false;
-                }
-                if !same_pat(x1.get(), y1.get()) {
-                    return false;
-                }
-                same_pat(x2.get(), y2.get())
+                both(
+                    both(same_place(x0, y0), same_pat(x1.get(), y1.get())),
+                    same_pat(x2.get(), y2.get()),
+                )
             }
             _ => false,
         },
         Pat::As(x0, x1, x2) => match b {
             Pat::As(y0, y1, y2) => {
-                if !same_place(x0, y0) {
-                    return false;
-                }
-                if !same_pat(x1.get(), y1.get()) {
-                    return false;
-                }
-                same_name(x2, y2)
+                both(
+                    both(same_place(x0, y0), same_pat(x1.get(), y1.get())),
+                    same_name(x2, y2),
+                )
             }
             _ => false,
         },
         Pat::Typed(x0, x1, x2) => match b {
             Pat::Typed(y0, y1, y2) => {
-                if !same_place(x0, y0) {
-                    return false;
-                }
-                if !same_pat(x1.get(), y1.get()) {
-                    return false;
-                }
-                same_type(x2, y2)
+                both(
+                    both(same_place(x0, y0), same_pat(x1.get(), y1.get())),
+                    same_type(x2, y2),
+                )
             }
             _ => false,
         },
@@ -143,8 +120,5 @@ pub fn same_joins(a: &[Joined], b: &[Joined]) -> bool
 pub fn same_joined(a: &Joined, b: &Joined) -> bool
     ensures { IsTrue result ↔ (a.now ≡ b.now) }
 {
-    if !same_place(&a.place, &b.place) {
-        return false;
-    }
-    same_pat(&a.part, &b.part)
+    both(same_place(&a.place, &b.place), same_pat(&a.part, &b.part))
 }

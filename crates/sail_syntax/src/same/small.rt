@@ -2,101 +2,82 @@ ghost use Rattle.std.specs.Prelude.{◌≡◌, ◌↔◌, IsTrue};
 
 use crate::name::{Literal, Name};
 use crate::words::{
-    Arrow, Asking, Brackets, Choosing, Direction, Extent, Kind, Leaving, Looping, Operator, Prefix,
-    Record, Scattered, TypeOperator, TypePrefix,
+    Asking, Brackets, Choosing, Direction, Leaving, Looping, Operator, Prefix, TypeOperator,
+    TypePrefix,
 };
-use sail_base::{Place, Text};
+use sail_base::{Place, Text, Word};
 
+/// Whether two of them are the same.
 pub fn same_operator(a: &Operator, b: &Operator) -> bool
     ensures { IsTrue result ↔ (a.now ≡ b.now) }
 {
     a == b
 }
 
+/// Whether two of them are the same.
 pub fn same_prefix(a: &Prefix, b: &Prefix) -> bool
     ensures { IsTrue result ↔ (a.now ≡ b.now) }
 {
     a == b
 }
 
+/// Whether two of them are the same.
 pub fn same_leaving(a: &Leaving, b: &Leaving) -> bool
     ensures { IsTrue result ↔ (a.now ≡ b.now) }
 {
     a == b
 }
 
+/// Whether two of them are the same.
 pub fn same_brackets(a: &Brackets, b: &Brackets) -> bool
     ensures { IsTrue result ↔ (a.now ≡ b.now) }
 {
     a == b
 }
 
+/// Whether two of them are the same.
 pub fn same_choosing(a: &Choosing, b: &Choosing) -> bool
     ensures { IsTrue result ↔ (a.now ≡ b.now) }
 {
     a == b
 }
 
+/// Whether two of them are the same.
 pub fn same_looping(a: &Looping, b: &Looping) -> bool
     ensures { IsTrue result ↔ (a.now ≡ b.now) }
 {
     a == b
 }
 
+/// Whether two of them are the same.
 pub fn same_direction(a: &Direction, b: &Direction) -> bool
     ensures { IsTrue result ↔ (a.now ≡ b.now) }
 {
     a == b
 }
 
+/// Whether two of them are the same.
 pub fn same_asking(a: &Asking, b: &Asking) -> bool
     ensures { IsTrue result ↔ (a.now ≡ b.now) }
 {
     a == b
 }
 
+/// Whether two of them are the same.
 pub fn same_type_operator(a: &TypeOperator, b: &TypeOperator) -> bool
     ensures { IsTrue result ↔ (a.now ≡ b.now) }
 {
     a == b
 }
 
+/// Whether two of them are the same.
 pub fn same_type_prefix(a: &TypePrefix, b: &TypePrefix) -> bool
     ensures { IsTrue result ↔ (a.now ≡ b.now) }
 {
     a == b
 }
 
-pub fn same_kind(a: &Kind, b: &Kind) -> bool
-    ensures { IsTrue result ↔ (a.now ≡ b.now) }
-{
-    a == b
-}
-
-pub fn same_record(a: &Record, b: &Record) -> bool
-    ensures { IsTrue result ↔ (a.now ≡ b.now) }
-{
-    a == b
-}
-
-pub fn same_arrow(a: &Arrow, b: &Arrow) -> bool
-    ensures { IsTrue result ↔ (a.now ≡ b.now) }
-{
-    a == b
-}
-
-pub fn same_extent(a: &Extent, b: &Extent) -> bool
-    ensures { IsTrue result ↔ (a.now ≡ b.now) }
-{
-    a == b
-}
-
-pub fn same_scattered(a: &Scattered, b: &Scattered) -> bool
-    ensures { IsTrue result ↔ (a.now ≡ b.now) }
-{
-    a == b
-}
-
+/// Whether two of them are the same.
 pub fn same_place(a: &Place, b: &Place) -> bool
     ensures { IsTrue result ↔ (a.now ≡ b.now) }
 {
@@ -107,10 +88,7 @@ pub fn same_place(a: &Place, b: &Place) -> bool
 pub fn same_name(a: &Name, b: &Name) -> bool
     ensures { IsTrue result ↔ (a.now ≡ b.now) }
 {
-    if !same_place(&a.place, &b.place) {
-        return false;
-    }
-    a.text.same(&b.text)
+    both(same_place(&a.place, &b.place), a.text.same(&b.text))
 }
 
 /// Whether two of them are the same tree.
@@ -119,16 +97,11 @@ pub fn same_literal(a: &Literal, b: &Literal) -> bool
 {
     match a {
         Literal::Number(x0) => match b {
-            Literal::Number(y0) => { *x0 == *y0 }
+            Literal::Number(y0) => { same_number(x0, y0) }
             _ => false,
         },
-        Literal::Bits(x0, x1) => match b {
-            Literal::Bits(y0, y1) => {
-                if *x0 != *y0 {
-                    return false;
-                }
-                *x1 == *y1
-            }
+        Literal::Bits(x0) => match b {
+            Literal::Bits(y0) => { same_word(x0, y0) }
             _ => false,
         },
         Literal::String(x0) => match b {
@@ -136,11 +109,11 @@ pub fn same_literal(a: &Literal, b: &Literal) -> bool
             _ => false,
         },
         Literal::Bool(x0) => match b {
-            Literal::Bool(y0) => { *x0 == *y0 }
+            Literal::Bool(y0) => { same_truth(x0, y0) }
             _ => false,
         },
         Literal::Bit(x0) => match b {
-            Literal::Bit(y0) => { *x0 == *y0 }
+            Literal::Bit(y0) => { same_truth(x0, y0) }
             _ => false,
         },
     }
@@ -193,6 +166,34 @@ pub fn same_optional_text(a: &Option<Text>, b: &Option<Text>) -> bool
             Some(y) => x.same(y),
         },
     }
+}
+
+/// Whether both are true.
+pub fn both(a: bool, b: bool) -> bool
+    ensures { IsTrue result ↔ (IsTrue a × IsTrue b) }
+{
+    a && b
+}
+
+/// Whether two truth values are the same.
+pub fn same_truth(a: &bool, b: &bool) -> bool
+    ensures { IsTrue result ↔ (a.now ≡ b.now) }
+{
+    *a == *b
+}
+
+/// Whether two numbers are the same.
+pub fn same_number(a: &i128, b: &i128) -> bool
+    ensures { IsTrue result ↔ (a.now ≡ b.now) }
+{
+    *a == *b
+}
+
+/// Whether two words are as wide and have the same bits.
+pub fn same_word(a: &Word, b: &Word) -> bool
+    ensures { IsTrue result ↔ (a.now ≡ b.now) }
+{
+    *a == *b
 }
 
 /// Whether two lists hold the same numbers in the same order.

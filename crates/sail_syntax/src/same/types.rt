@@ -1,7 +1,8 @@
 ghost use Rattle.std.specs.Prelude.{◌≡◌, ◌↔◌, IsTrue};
 
 use super::small::{
-    same_name, same_names, same_numbers, same_place, same_type_operator, same_type_prefix,
+    both, same_name, same_names, same_number, same_numbers, same_place, same_truth,
+    same_type_operator, same_type_prefix,
 };
 use crate::types::TyExp;
 use sail_base::Boxed;
@@ -14,10 +15,7 @@ pub fn same_type(a: &TyExp, b: &TyExp) -> bool
     match a {
         TyExp::Named(x0, x1) => match b {
             TyExp::Named(y0, y1) => {
-                if !same_name(x0, y0) {
-                    return false;
-                }
-                same_types(x1.as_slice(), y1.as_slice())
+                both(same_name(x0, y0), same_types(x1.as_slice(), y1.as_slice()))
             }
             _ => false,
         },
@@ -26,83 +24,58 @@ pub fn same_type(a: &TyExp, b: &TyExp) -> bool
             _ => false,
         },
         TyExp::Number(x0, x1) => match b {
-            TyExp::Number(y0, y1) => {
-                if !same_place(x0, y0) {
-                    return false;
-                }
-                *x1 == *y1
-            }
+            TyExp::Number(y0, y1) => { both(same_place(x0, y0), same_number(x1, y1)) }
             _ => false,
         },
         TyExp::Truth(x0, x1) => match b {
-            TyExp::Truth(y0, y1) => {
-                if !same_place(x0, y0) {
-                    return false;
-                }
-                *x1 == *y1
-            }
+            TyExp::Truth(y0, y1) => { both(same_place(x0, y0), same_truth(x1, y1)) }
             _ => false,
         },
         TyExp::Prefix(x0, x1, x2) => match b {
             TyExp::Prefix(y0, y1, y2) => {
-                if !same_place(x0, y0) {
-                    return false;
-                }
-                if !same_type_prefix(x1, y1) {
-                    return false;
-                }
-                same_type(x2.get(), y2.get())
+                both(
+                    both(same_place(x0, y0), same_type_prefix(x1, y1)),
+                    same_type(x2.get(), y2.get()),
+                )
             }
             _ => false,
         },
         TyExp::Infix(x0, x1, x2, x3) => match b {
             TyExp::Infix(y0, y1, y2, y3) => {
-                if !same_place(x0, y0) {
-                    return false;
-                }
-                if !same_type_operator(x1, y1) {
-                    return false;
-                }
-                if !same_type(x2.get(), y2.get()) {
-                    return false;
-                }
-                same_type(x3.get(), y3.get())
+                both(
+                    both(
+                        both(same_place(x0, y0), same_type_operator(x1, y1)),
+                        same_type(x2.get(), y2.get()),
+                    ),
+                    same_type(x3.get(), y3.get()),
+                )
             }
             _ => false,
         },
         TyExp::OneOf(x0, x1, x2) => match b {
             TyExp::OneOf(y0, y1, y2) => {
-                if !same_place(x0, y0) {
-                    return false;
-                }
-                if !same_type(x1.get(), y1.get()) {
-                    return false;
-                }
-                same_numbers(x2.as_slice(), y2.as_slice())
+                both(
+                    both(same_place(x0, y0), same_type(x1.get(), y1.get())),
+                    same_numbers(x2.as_slice(), y2.as_slice()),
+                )
             }
             _ => false,
         },
         TyExp::Tuple(x0, x1) => match b {
             TyExp::Tuple(y0, y1) => {
-                if !same_place(x0, y0) {
-                    return false;
-                }
-                same_types(x1.as_slice(), y1.as_slice())
+                both(same_place(x0, y0), same_types(x1.as_slice(), y1.as_slice()))
             }
             _ => false,
         },
         TyExp::Exists(x0, x1, x2, x3) => match b {
             TyExp::Exists(y0, y1, y2, y3) => {
-                if !same_place(x0, y0) {
-                    return false;
-                }
-                if !same_names(x1.as_slice(), y1.as_slice()) {
-                    return false;
-                }
-                if !same_optional_boxed(x2, y2) {
-                    return false;
-                }
-                same_type(x3.get(), y3.get())
+                both(
+                    both(
+                        both(same_place(x0, y0), same_names(x1.as_slice(), y1.as_slice())),
+                        same_optional_boxed(x2, y2),
+                    ),
+                    same_type(x3.get(), y3.get()),
+                )
             }
             _ => false,
         },
