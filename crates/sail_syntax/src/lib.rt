@@ -8,7 +8,8 @@ mod expressions;
 mod name;
 mod patterns;
 mod readers;
-mod same;
+#[cfg(test)]
+mod tests;
 mod types;
 mod words;
 
@@ -19,10 +20,6 @@ pub use patterns::{Joined, Pat};
 pub use readers::{
     is_plain, names_of, place_of, place_of_pattern, place_of_target, place_of_type, push_names,
 };
-pub use same::expressions::{same_exp, same_lexp, same_stmt};
-pub use same::patterns::same_pat;
-pub use same::small::{same_literal, same_name, same_names};
-pub use same::types::same_type;
 pub use types::TyExp;
 pub use words::{
     Arrow, Asking, Brackets, Choosing, Direction, Extent, Kind, Leaving, Looping, Operator, Prefix,
