@@ -1,0 +1,48 @@
+use Rattle.std.proofs.Common.{◌≡◌, ℕ, ◌+◌, ◌<◌, ◌≤◌, List, [], ◌∷◌, ◌++◌, length, sym, ap, ◌∙◌, subst, arith}
+use Rattle.std.proofs.lemmas.List.{length_push}
+use Rattle.sail_base.specs.declared.place.Place.{Place}
+use Rattle.sail_lex.specs.declared.token.Token.{Token}
+use Rattle.sail_lex.specs.Piece.{IsPiece}
+use Rattle.sail_lex.specs.Position.{place_at}
+use Rattle.sail_lex.specs.Tokens.{token_at}
+use Rattle.sail_lex.proofs.Going.{Continues, continues_skip, continues_token, continues_end}
+use Rattle.sail_lex.proofs.lexer.lex.Goals as goal
+use Rattle.sail_lex.proofs.lexer.lex.Goals.{in-Skipped, in-Next+in_ok-keep-in-Next}
+
+pub loop-at-preserved : goal.loop-at-preserved
+loop-at-preserved c =
+    let source = c.args.source.now in
+    let at = c.loop-at.at in
+    let tokens = c.loop-at.tokens.items in
+    let file : c.loop-at.place.file ≡ c.args.file = ap (λ (p : Place). p.file) c.loop-at.invariant.place in
+    let placed = c.advance-place.ensures ∙ ap (λ f. place_at f source (at + c.match-branch-2.length)) file in
+    elim c.match-branch-2.branch [
+      | in-Skipped w ↦
+          let piece = subst (IsPiece source at (c.args.before + c.len.result)) w.in-Skipped.is c.in_ok-n.ensures.piece in
+          let same : c.match-branch-2.tokens.items ≡ tokens = ap (λ v. v.items) w.tokens-is in
+          record {
+            within = omega (arith, w.length-is, piece.2);
+            place = placed;
+            count = subst (λ (ts : List Token). c.args.before + length ts ≤ 1000000) (sym same) c.loop-at.invariant.count;
+            going =
+                subst (λ (ts : List Token). Continues c.args.file source c.args.before (at + c.match-branch-2.length) ts) (sym same)
+                (subst (λ (n : ℕ). Continues c.args.file source c.args.before (at + n) tokens) (sym w.length-is)
+                (continues_skip c.args.file source c.args.before at tokens w.in-Skipped.n c.loop-at-test.true piece.0 c.loop-at.invariant.going));
+          }
+      | in-Next+in_ok-keep-in-Next w ↦
+          let piece = subst (IsPiece source at (c.args.before + c.len.result)) w.in-Next.is c.in_ok-n.ensures.piece in
+          let few : c.args.before + length tokens < 1000000 = omega (arith, piece.1, c.len.ensures, c.loop-at.tokens.ok.0) in
+          let kept = w.in_ok-keep-in-Next.ensures.kept ∙ ap (λ (p : Place). tokens ++ record { kind = w.in-Next.kind; place = p; start = at; end = at + w.in-Next.n } ∷ []) c.loop-at.invariant.place in
+          let same : c.match-branch-2.tokens.items ≡ tokens ++ token_at c.args.file source at w.in-Next.kind w.in-Next.n ∷ [] = ap (λ v. v.items) w.tokens-is ∙ kept in
+          record {
+            within = omega (arith, w.length-is, piece.3);
+            place = placed;
+            count = subst (λ (ts : List Token). c.args.before + length ts ≤ 1000000) (sym same) (omega (arith, length_push tokens (token_at c.args.file source at w.in-Next.kind w.in-Next.n)));
+            going =
+                subst (λ (n : ℕ). Continues c.args.file source c.args.before (at + n) c.match-branch-2.tokens.items) (sym w.length-is)
+                (continues_token c.args.file source c.args.before at tokens w.in-Next.kind w.in-Next.n c.match-branch-2.tokens.items c.loop-at-test.true piece.0 few piece.2 same c.loop-at.invariant.going);
+          }
+    ]
+
+pub returns-clause-tokens : goal.returns-clause-tokens
+returns-clause-tokens c = continues_end c.args.file c.args.source.now c.args.before c.loop-at.at c.loop-at.tokens.items c.loop-at-test.false c.loop-at.invariant.going

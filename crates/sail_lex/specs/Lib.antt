@@ -1,0 +1,11 @@
+pub mod Advance
+pub mod Bytes
+pub mod Comment
+pub mod Entries
+pub mod Front
+pub mod Literal
+pub mod Piece
+pub mod Position
+pub mod Spelling
+pub mod Tables
+pub mod Tokens

@@ -1,0 +1,117 @@
+ghost use Rattle.std.specs.Prelude.{◌≡◌, ◌+◌, ◌<◌, ◌≤◌, ◌∷◌, ◌++◌, [], ℕ, List, length, drop, IfOk, IfErr, OnOk};
+ghost use Rattle.sail_lex.specs.Position.{place_at};
+ghost use Rattle.sail_lex.specs.Tokens.{Lexes, Refuses, IsRefusal, AreInOrder, HavePlaces, error_at};
+ghost use Rattle.sail_lex.specs.Piece.{IsPiece};
+
+use crate::bytes::rest_of;
+use crate::comment::comment_length;
+use crate::front::{Fault, Front, front_of};
+use crate::kind::Kind;
+use crate::position::{advance, beginning_of};
+use crate::token::{LexError, Token};
+use sail_base::Place;
+use std::alloc::Global;
+
+/// All files together have at most so many tokens.
+const MOST_TOKENS: usize = 1_000_000;
+
+/// What a source goes on with.
+#[derive(Clone, Copy, Debug)]
+pub enum Piece {
+    /// So many bytes that are no token.
+    Skipped(usize),
+    /// A token of this kind and so many bytes.
+    Next(Kind, usize),
+}
+
+/// The tokens of a source, in order.
+///
+/// `file` is the number of the file for places, from 1, and `before` how many tokens the earlier
+/// files have, at most 1,000,000. The source has at most 4,194,304 bytes.
+///
+/// The tokens are the longest spellings, one behind the other, with blanks, comments and
+/// `$include` lines between. Where the source has no such list, the error is the first cause in
+/// text order: see [`LexError`]. `OutOfMemory` says nothing of the source.
+pub fn lex(alloc: Global, source: &[u8], file: u32, before: u32) -> Result<Vec<Token>, LexError>
+    requires earlier { before ≤ 1000000 }
+    requires short { length source.now ≤ 4194304 }
+    ensures tokens { IfOk result (λ tokens. Lexes file source.now 0 before tokens.items) }
+    ensures count { IfOk result (λ tokens. before + length tokens.items ≤ 1000000) }
+    ensures spans { IfOk result (λ tokens. AreInOrder 0 (length source.now) tokens.items) }
+    ensures places { IfOk result (λ tokens. HavePlaces file source.now tokens.items) }
+    ensures refused { IfErr result (λ e. IsRefusal file source.now 0 before e) }
+{
+    let mut tokens = Vec::new(alloc);
+    let mut at = 0;
+    let mut place = beginning_of(file);
+    let earlier = before as usize;
+    while at < source.len() {
+        let length = match piece_at(source, place, at, earlier + tokens.len())? {
+            Piece::Skipped(n) => n,
+            Piece::Next(kind, n) => {
+                keep(
+                    &mut tokens,
+                    Token {
+                        kind,
+                        place,
+                        start: at,
+                        end: at + n,
+                    },
+                )?;
+                n
+            }
+        };
+        place = advance(source, place, at, at + length);
+        at += length;
+    }
+    Ok(tokens)
+}
+
+/// What the source goes on with at a byte, where so many tokens have come.
+fn piece_at(source: &[u8], place: Place, at: usize, count: usize) -> Result<Piece, LexError>
+    requires within { at < length source.now }
+    requires short { length source.now ≤ 4194304 }
+    requires place { place ≡ place_at place.file source.now at }
+    ensures piece { IfOk result (λ piece. IsPiece source.now at count piece) }
+    ensures refused { IfErr result (λ e. Refuses place.file source.now at count e) }
+{
+    let text = rest_of(source, at);
+    match front_of(text) {
+        Front::Skip(n) => Ok(Piece::Skipped(n)),
+        Front::Comment => match comment_length(text) {
+            Some(n) => Ok(Piece::Skipped(n)),
+            None => Err(LexError::Unclosed(place)),
+        },
+        Front::Token(kind, n) => {
+            if count < MOST_TOKENS {
+                Ok(Piece::Next(kind, n))
+            } else {
+                Err(LexError::TokenLimit(place))
+            }
+        }
+        Front::Refused(fault, n) => Err(error_of(fault, advance(source, place, at, at + n))),
+    }
+}
+
+/// The error of a fault at a place.
+fn error_of(fault: Fault, place: Place) -> LexError
+    ensures { result ≡ error_at fault place }
+{
+    match fault {
+        Fault::BadByte(byte) => LexError::BadByte(place, byte),
+        Fault::BadLiteral => LexError::BadLiteral(place),
+        Fault::Unclosed => LexError::Unclosed(place),
+        Fault::NumberTooLarge => LexError::NumberTooLarge(place),
+    }
+}
+
+/// Adds a token.
+fn keep(tokens: &mut Vec<Token>, token: Token) -> Result<(), LexError>
+    ensures kept { OnOk result (tokens.new.items ≡ tokens.old.items ++ token ∷ []) }
+    ensures full { IfErr result (λ e. e ≡ LexError.OutOfMemory) }
+{
+    match tokens.push(token) {
+        Ok(()) => Ok(()),
+        Err(_) => Err(LexError::OutOfMemory),
+    }
+}

@@ -1,0 +1,22 @@
+//! The tokens of a model's text.
+#![tactic(auto)]
+
+mod bytes;
+mod comment;
+mod directive;
+mod front;
+mod kind;
+mod laws;
+mod lexer;
+mod literal;
+mod name;
+mod position;
+mod tables;
+mod text;
+mod token;
+mod value;
+
+pub use kind::Kind;
+pub use laws::one_answer;
+pub use lexer::lex;
+pub use token::{LexError, Token};
