@@ -3,8 +3,10 @@ use Rattle.std.proofs.Common.{◌≡◌, ℕ, ◌+◌, ◌<◌, ◌≤◌, Bool,
 use Rattle.std.proofs.lemmas.List.{drop_more, drop_all}
 use Rattle.std.specs.Prelude.{◌&&◌, not}
 use Rattle.std.specs.List.{list_all}
+use Rattle.std.proofs.Common.{map, ◌||◌}
+use Rattle.std.proofs.lemmas.Bool.{or_cases}
 use Rattle.sail_lex.specs.Bytes.{is_printable}
-use Rattle.sail_lex.specs.Literal.{Escape, Byte, parts, inside, is_good, size_of}
+use Rattle.sail_lex.specs.Literal.{Escape, Byte, parts, inside, is_good, size_of, byte_of}
 
 -- a byte that is no `\` is a part
 parts_byte : (b : ℕ) (text : List ℕ) → eqb b 92 ≡ false → parts (b ∷ text) ≡ Byte b ∷ parts text
@@ -54,3 +56,20 @@ module _ (text : List ℕ) (i : ℕ) where
   pub size_byte : i < length text → eqb (get_or text i 0) 92 ≡ false → eqb (get_or text i 0) 34 ≡ false → eqb (get_or text i 0) 10 ≡ false → size_of (inside (parts (drop i text))) ≡ 1 + size_of (inside (parts (drop (i + 1) text)))
   unfolding size_of
   size_byte h backslash quote feed = ap size_of (inside_byte h backslash quote feed)
+
+  -- what a part stands for comes before what the parts behind it stand for
+  pub value_escape : i + 1 < length text → get_or text i 0 ≡ 92 → map byte_of (inside (parts (drop i text))) ≡ byte_of (Escape (get_or text (i + 1) 0)) ∷ map byte_of (inside (parts (drop (i + 2) text)))
+  value_escape h e = ap (map byte_of) (inside_escape h e)
+
+  pub value_byte : i < length text → eqb (get_or text i 0) 92 ≡ false → eqb (get_or text i 0) 34 ≡ false → eqb (get_or text i 0) 10 ≡ false → map byte_of (inside (parts (drop i text))) ≡ get_or text i 0 ∷ map byte_of (inside (parts (drop (i + 1) text)))
+  value_byte h backslash quote feed = ap (map byte_of) (inside_byte h backslash quote feed)
+
+  pub value_stop : i < length text → (eqb (get_or text i 0) 34 || eqb (get_or text i 0) 10) ≡ true → map byte_of (inside (parts (drop i text))) ≡ []
+  value_stop h e = ap (map byte_of) (inside_stop h (or_cases (eqb (get_or text i 0) 34) (eqb (get_or text i 0) 10) e))
+
+  pub value_none : length text ≤ i → map byte_of (inside (parts (drop i text))) ≡ []
+  value_none h = ap (map byte_of) (inside_none h)
+
+-- a `\` at the end stands for itself
+pub value_lone : (text : List ℕ) (i : ℕ) → i + 1 ≡ length text → get_or text i 0 ≡ 92 → map byte_of (inside (parts (drop i text))) ≡ 92 ∷ map byte_of (inside (parts (drop (i + 1) text)))
+value_lone text i h e = ap (map byte_of) (inside_lone text i h e) ∙ ap (λ t. 92 ∷ t) (sym (value_none text (i + 1) (omega arith)))

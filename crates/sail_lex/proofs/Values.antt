@@ -1,5 +1,10 @@
 -- The value of a number as its digits are read.
 use Rattle.std.proofs.Common.{◌≡◌, ℕ, ◌+◌, ◌*◌, ◌<◌, ◌≤◌, Bool, true, false, List, [], ◌∷◌, length, get_or, drop, refl, ap, ◌∙◌, arith, le-ltb, lt-ltb, ◌-◌, leb, leb-true}
+use Rattle.std.proofs.Common.{sym, subst, ◌^◌, eqb, eqb-true, lit<, inl, inr, ◌⊎◌}
+use Rattle.std.proofs.Math.Nat.{mul_comm}
+use Rattle.std.proofs.lemmas.Nat.{mul-add-lt, pow-add}
+use Rattle.std.proofs.lemmas.Bool.{or_cases}
+use Rattle.sail_lex.specs.Bytes.{is_binary_digit}
 use Rattle.std.proofs.lemmas.List.{drop_more, drop_all}
 use Rattle.std.proofs.lemmas.Bool.{and_parts}
 use Rattle.std.specs.Char.{digit_value, is_ascii_digit}
@@ -60,3 +65,24 @@ decimal_digit value text i h digit =
 pub decimal_passes : (largest value : ℕ) (text : List ℕ) (i : ℕ) → i < length text → is_ascii_digit (get_or text i 0) ≡ true → largest < value * 10 + (get_or text i 0 - 48) → largest < value_from is_ascii_digit 10 value (drop i text)
 decimal_passes largest value text i h digit large =
     rw (decimal_digit value text i h digit) (omega (arith, value_grows is_ascii_digit 10 (value * 10 + (get_or text i 0 - 48)) (drop (i + 1) text) (omega arith)))
+
+-- a digit of k bits more has k bits more
+pub grow : (k base value width digit : ℕ) → base ≡ 2 ^ k → value < 2 ^ width → digit < base → value * base + digit < 2 ^ (width + k)
+grow k base value width digit e small below =
+    let place = mul-add-lt value base digit (2 ^ width) small below in
+    let wide = pow-add 2 width k in
+    let swapped : base * 2 ^ width ≡ 2 ^ width * 2 ^ k = mul_comm base (2 ^ width) ∙ ap (λ n. 2 ^ width * n) e in
+    subst (λ n. value * base + digit < n) (swapped ∙ sym wide) place
+
+pub binary_small : (b : ℕ) → is_binary_digit b ≡ true → digit_value b < 2
+binary_small b h = by_case (or_cases (eqb b 48) (eqb b 49) h) where
+  by_case : (eqb b 48 ≡ true) ⊎ (eqb b 49 ≡ true) → digit_value b < 2
+  by_case (inl e) = subst (λ n. digit_value n < 2) (sym (eqb-true b 48 e)) (lit< tt)
+  by_case (inr e) = subst (λ n. digit_value n < 2) (sym (eqb-true b 49 e)) (lit< tt)
+
+-- a digit more among more digits
+pub wider : (size n m : ℕ) → n + 1 ≤ m → size * n + size ≤ size * m
+wider size n m h = grind arith
+
+pub one_more : (size n : ℕ) → size * n + size ≡ size * (n + 1)
+one_more size n = grind arith

@@ -20,3 +20,4 @@ pub use kind::Kind;
 pub use laws::one_answer;
 pub use lexer::lex;
 pub use token::{LexError, Token};
+pub use value::{decimal_value, literal_word, string_value};

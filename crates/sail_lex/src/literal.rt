@@ -108,9 +108,9 @@ fn bits_kind(radix: Radix) -> Kind
 }
 
 /// How many bits a digit of the base has.
-pub fn digit_size(radix: Radix) -> usize
+pub fn digit_size(radix: Radix) -> u8
     ensures size { result ≡ digit_size radix }
-    ensures some { 0 < result }
+    ensures small { result ≤ 4 }
 {
     match radix {
         Radix::Base2 => 1,
