@@ -104,7 +104,7 @@ other_front text =
 -- what a text that isn't empty begins with, by its first byte
 unfoldable pub front : List ℕ → Front
 front text =
-    if is_blank (first text) then Skip 1
+    if is_blank (first text) then Skip (prefix_len is_blank text)
     else (if begins_name (first text) then name_front text
     else (if is_ascii_digit (first text) then number_front text
     else (if first text == 39 then type_variable_front text

@@ -46,7 +46,7 @@ pub fn front_of(text: &[u8]) -> Front
 {
     let byte = first(text);
     if is_blank(byte) {
-        return Front::Skip(1);
+        return Front::Skip(run_length(Class::Blank, text));
     }
     if begins_name(byte) {
         return name_front(text);

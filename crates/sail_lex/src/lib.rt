@@ -21,3 +21,6 @@ pub use laws::one_answer;
 pub use lexer::lex;
 pub use token::{LexError, Token};
 pub use value::{decimal_value, literal_word, string_value};
+
+#[cfg(test)]
+mod tests;
