@@ -8,6 +8,8 @@ use Rattle.sail_lex.specs.declared.token.LexError.{LexError}
 use Rattle.sail_lex.specs.Front.{front}
 use Rattle.sail_lex.specs.Position.{place_at}
 use Rattle.sail_lex.specs.Tokens.{Lexes, ended, skipped, token, Refuses, after_skip, after_token, Skips, token_at, most_tokens, AreInOrder, HavePlaces}
+use Rattle.std.proofs.Common.{take}
+use Rattle.sail_lex.specs.Valued.{IsValued, AreValued, text_of}
 
 -- what the source says from a place on, after these tokens, it says from its beginning
 pub record Continues (file : ℕ) (source : List ℕ) (before at : ℕ) (tokens : List TokenType) : Type 0 where
@@ -15,6 +17,7 @@ pub record Continues (file : ℕ) (source : List ℕ) (before at : ℕ) (tokens 
   pub refuses : (e : LexError) → Refuses file source at (before + length tokens) e → Refuses file source 0 before e
   pub spans : AreInOrder 0 at tokens
   pub places : HavePlaces file source tokens
+  pub values : AreValued source tokens
 
 -- the span of one token more
 spans_push : (from at n : ℕ) (tokens : List TokenType) (t : TokenType) → AreInOrder from at tokens → t.start ≡ at → t.end ≡ at + n → 0 < n → AreInOrder from (at + n) (tokens ++ t ∷ [])
@@ -29,6 +32,10 @@ places_push : (file : ℕ) (source : List ℕ) (tokens : List TokenType) (t : To
 places_push file source [] t h e = (e, tt)
 places_push file source (x ∷ tokens) t h e = (h.0, places_push file source tokens t h.1 e)
 
+values_push : (source : List ℕ) (tokens : List TokenType) (t : TokenType) → AreValued source tokens → IsValued t.kind (text_of source t) → AreValued source (tokens ++ t ∷ [])
+values_push source [] t h v = (v, tt)
+values_push source (x ∷ tokens) t h v = (h.0, values_push source tokens t h.1 v)
+
 module _ (file : ℕ) (source : List ℕ) (before at : ℕ) (tokens : List TokenType) where
   pub continues_skip : (n : ℕ) → at < length source → Skips (drop at source) n → Continues file source before at tokens → Continues file source before (at + n) tokens
   continues_skip n h skips c = record {
@@ -36,19 +43,21 @@ module _ (file : ℕ) (source : List ℕ) (before at : ℕ) (tokens : List Token
     refuses = λ e rest. c.refuses e (after_skip n h skips rest);
     spans = spans_wider 0 at n tokens c.spans;
     places = c.places;
+    values = c.values;
   }
 
   count_push : (t : TokenType) → before + length (tokens ++ t ∷ []) ≡ before + length tokens + 1
   count_push t = omega (arith, length_push tokens t)
 
-  pub continues_token : (kind : Kind) (n : ℕ) (grown : List TokenType) → at < length source → front (drop at source) ≡ Token kind n → before + length tokens < most_tokens → 0 < n → grown ≡ tokens ++ token_at file source at kind n ∷ [] → Continues file source before at tokens → Continues file source before (at + n) grown
-  continues_token kind n grown h f few some e c =
+  pub continues_token : (kind : Kind) (n : ℕ) (grown : List TokenType) → at < length source → front (drop at source) ≡ Token kind n → before + length tokens < most_tokens → 0 < n → IsValued kind (take n (drop at source)) → grown ≡ tokens ++ token_at file source at kind n ∷ [] → Continues file source before at tokens → Continues file source before (at + n) grown
+  continues_token kind n grown h f few some valued e c =
       let t = token_at file source at kind n in
       subst (Continues file source before (at + n)) (sym e) (record {
         lexes = λ more rest. subst (Lexes file source 0 before) (sym (append_assoc tokens (t ∷ []) more)) (c.lexes (t ∷ more) (token kind n h f few (subst (λ k. Lexes file source (at + n) k more) (count_push t) rest)));
         refuses = λ e rest. c.refuses e (after_token kind n h f few (subst (λ k. Refuses file source (at + n) k e) (count_push t) rest));
         spans = spans_push 0 at n tokens t c.spans refl refl some;
         places = places_push file source tokens t c.places refl;
+        values = values_push source tokens t c.values (subst (λ (k : ℕ). IsValued kind (take k (drop at source))) (omega arith) valued);
       })
 
   -- at the source's end the tokens so far are all
@@ -61,4 +70,5 @@ continues_begin file source before tokens e = subst (Continues file source befor
   refuses = λ r rest. subst (λ k. Refuses file source 0 k r) (omega arith) rest;
   spans = omega arith;
   places = tt;
+  values = tt;
 })

@@ -3,5 +3,7 @@ pub mod Marks
 pub mod OneAnswer
 pub mod Parts
 pub mod Places
+pub mod Plain
+pub mod Prefixes
 pub mod Symbols
 pub mod Values

@@ -10,7 +10,7 @@ use Rattle.sail_lex.specs.Tables.{symbols}
 use Rattle.sail_lex.specs.Spelling.{longest_in, longer_of, if_begins}
 
 -- a fact of both is one of the longer
-longer_keeps : (Q : List ℕ × Kind → Type 0) (a b : Option (List ℕ × Kind)) → IfSome a Q → IfSome b Q → IfSome (longer_of a b) Q
+pub longer_keeps : (Q : List ℕ × Kind → Type 0) (a b : Option (List ℕ × Kind)) → IfSome a Q → IfSome b Q → IfSome (longer_of a b) Q
 longer_keeps Q None b h k = k
 longer_keeps Q (Some a) None h k = h
 longer_keeps Q (Some a) (Some b) h k =

@@ -9,3 +9,4 @@ pub mod Position
 pub mod Spelling
 pub mod Tables
 pub mod Tokens
+pub mod Valued

@@ -9,7 +9,7 @@ use crate::front::{Fault, Front};
 use crate::kind::Kind;
 
 /// The directive that begins a text, from its `$` to the end of the line.
-#[tactic(auto, unfolding(crate::specs::Front::directive_front))]
+#[tactic(auto, unfolding(crate::specs::Front::directive_front, crate::specs::Valued::IsValued))]
 pub fn directive_front(text: &[u8]) -> Front
     requires some { 0 < length text.now }
     requires dollar { first text.now ≡ 36 }

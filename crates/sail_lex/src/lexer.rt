@@ -2,6 +2,7 @@ ghost use Rattle.std.specs.Prelude.{◌≡◌, ◌+◌, ◌<◌, ◌≤◌, ◌�
 ghost use Rattle.sail_lex.specs.Position.{place_at};
 ghost use Rattle.sail_lex.specs.Tokens.{Lexes, Refuses, IsRefusal, AreInOrder, HavePlaces, error_at};
 ghost use Rattle.sail_lex.specs.Piece.{IsPiece};
+ghost use Rattle.sail_lex.specs.Valued.{AreValued};
 
 use crate::bytes::rest_of;
 use crate::comment::comment_length;
@@ -39,6 +40,7 @@ pub fn lex(alloc: Global, source: &[u8], file: u32, before: u32) -> Result<Vec<T
     ensures count { IfOk result (λ tokens. before + length tokens.items ≤ 1000000) }
     ensures spans { IfOk result (λ tokens. AreInOrder 0 (length source.now) tokens.items) }
     ensures places { IfOk result (λ tokens. HavePlaces file source.now tokens.items) }
+    ensures values { IfOk result (λ tokens. AreValued source.now tokens.items) }
     ensures refused { IfErr result (λ e. IsRefusal file source.now 0 before e) }
 {
     let mut tokens = Vec::new(alloc);

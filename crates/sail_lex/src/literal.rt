@@ -4,7 +4,7 @@ ghost use Rattle.std.specs.List.{starts_with};
 ghost use Rattle.sail_lex.specs.Advance.{Reaches};
 ghost use Rattle.sail_lex.specs.Bytes.{first, belongs};
 ghost use Rattle.sail_lex.specs.Front.{number_front, decimal_front, bits_front, kind_of_bits};
-ghost use Rattle.sail_lex.specs.Literal.{is_digit_of, in_digits_of, digit_size};
+ghost use Rattle.sail_lex.specs.Literal.{is_digit_of, in_digits_of, digit_size, radix_of};
 
 use crate::bytes::{Class, first, is_binary_digit, leading, rest_of, run_length};
 use crate::front::{Fault, Front};
@@ -24,7 +24,7 @@ pub enum Radix {
 const WIDEST: usize = 128;
 
 /// The number that begins a text.
-#[tactic(auto, unfolding(crate::specs::Front::number_front))]
+#[tactic(auto, using(crate::proofs::Prefixes::hexadecimal_prefix, crate::proofs::Prefixes::binary_prefix), unfolding(crate::specs::Front::number_front))]
 pub fn number_front(text: &[u8]) -> Front
     requires some { 0 < length text.now }
     requires digit { is_ascii_digit (first text.now) ≡ true }
@@ -41,7 +41,7 @@ pub fn number_front(text: &[u8]) -> Front
 }
 
 /// The decimal that begins a text.
-#[tactic(auto, unfolding(crate::specs::Front::decimal_front))]
+#[tactic(auto, unfolding(crate::specs::Front::decimal_front, crate::specs::Valued::IsValued))]
 fn decimal_front(text: &[u8]) -> Front
     requires some { 0 < length text.now }
     requires digit { is_ascii_digit (first text.now) ≡ true }
@@ -61,7 +61,8 @@ fn decimal_front(text: &[u8]) -> Front
 /// The literal of bits that begins a text, after its prefix of two bytes.
 #[tactic(auto, unfolding(crate::specs::Front::bits_front))]
 fn bits_front(radix: Radix, text: &[u8]) -> Front
-    requires { 2 ≤ length text.now }
+    requires long { 2 ≤ length text.now }
+    requires prefix { radix_of text.now ≡ radix }
     ensures front { result ≡ bits_front radix text.now }
     ensures reaches { Reaches result text.now }
 {

@@ -27,7 +27,7 @@ pub fn name_front(text: &[u8]) -> Front
 }
 
 /// The type variable that begins a text, after its `'`.
-#[tactic(auto, unfolding(crate::specs::Front::type_variable_front))]
+#[tactic(auto, unfolding(crate::specs::Front::type_variable_front, crate::specs::Valued::IsValued))]
 pub fn type_variable_front(text: &[u8]) -> Front
     requires { 0 < length text.now }
     ensures front { result ≡ type_variable_front text.now }

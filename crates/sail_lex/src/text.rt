@@ -13,7 +13,7 @@ use crate::kind::Kind;
 const LONGEST_STRING: usize = 4096;
 
 /// The string that begins a text.
-#[tactic(auto, unfolding(crate::specs::Front::string_front))]
+#[tactic(auto, unfolding(crate::specs::Front::string_front, crate::specs::Valued::IsValued))]
 pub fn string_front(text: &[u8]) -> Front
     requires some { 0 < length text.now }
     requires quote { first text.now ≡ 34 }

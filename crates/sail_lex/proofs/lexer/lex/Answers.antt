@@ -40,7 +40,7 @@ loop-at-preserved c =
             count = subst (λ (ts : List Token). c.args.before + length ts ≤ 1000000) (sym same) (omega (arith, length_push tokens (token_at c.args.file source at w.in-Next.kind w.in-Next.n)));
             going =
                 subst (λ (n : ℕ). Continues c.args.file source c.args.before (at + n) c.match-branch-2.tokens.items) (sym w.length-is)
-                (continues_token c.args.file source c.args.before at tokens w.in-Next.kind w.in-Next.n c.match-branch-2.tokens.items c.loop-at-test.true piece.0 few piece.2 same c.loop-at.invariant.going);
+                (continues_token c.args.file source c.args.before at tokens w.in-Next.kind w.in-Next.n c.match-branch-2.tokens.items c.loop-at-test.true piece.0 few piece.2 piece.4 same c.loop-at.invariant.going);
           }
     ]
 
