@@ -1,9 +1,11 @@
 pub mod Going
+pub mod Longest
 pub mod Marks
 pub mod OneAnswer
 pub mod Parts
 pub mod Places
 pub mod Plain
 pub mod Prefixes
+pub mod Spelled
 pub mod Symbols
 pub mod Values

@@ -7,6 +7,7 @@ pub mod Literal
 pub mod Piece
 pub mod Position
 pub mod Spelling
+pub mod Spellings
 pub mod Tables
 pub mod Tokens
 pub mod Valued

@@ -1,4 +1,6 @@
-use crate::{LexError, Token, decimal_value, lex, literal_word, one_answer, string_value};
+use crate::{
+    LexError, Token, decimal_value, lex, literal_word, longest_spelling, one_answer, string_value,
+};
 use sail_base::Place;
 use std::alloc::{AllocError, Global};
 use std::test::Fail;
@@ -212,6 +214,7 @@ fn answers_by_the_tables(rt: HostRuntime) -> Result<(), Fail> {
         assert_eq!(rt; found.as_str(), *answer);
     }
     one_answer();
+    longest_spelling();
     Ok(())
 }
 
