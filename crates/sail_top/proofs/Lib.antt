@@ -1,0 +1,10 @@
+pub mod EndingLemmas
+pub mod Numbers
+pub mod ParseLemmas
+pub mod ReadingLemmas
+pub mod ReportLemmas
+pub mod RunLemmas
+pub mod SpellingLemmas
+pub mod StepCounts
+pub mod StepLemmas
+pub mod Unique

@@ -1,0 +1,46 @@
+-- What the clauses of the top call say of its status and of the bytes written.
+use Rattle.std.specs.Prelude.{◌≡◌, ℕ, List, Option, Some, None}
+use Rattle.sail_outside.specs.Files.{Files}
+use Rattle.sail_outside.specs.Faults.{Rose}
+use Rattle.sail_outside.specs.Bytes.{Sent, SentPart}
+use Rattle.sail_top.specs.Answer.{IsAnswer, contents_of}
+use Rattle.sail_top.specs.Command.{line}
+use Rattle.sail_top.specs.Reading.{IsLeft}
+use Rattle.sail_top.specs.declared.status.Answer.{Answer}
+use Rattle.sail_top.specs.declared.status.Status.{Status}
+use Rattle.sail_top.specs.declared.status.Status.TheVariants as status
+
+-- the status is that of the answer, and all the answer's bytes were written
+abbrev pub Answered : List (List ℕ) → Option Files → Status → Option (List ℕ) → Option (List ℕ) → Type 0
+Answered words held ended given now =
+    (bytes : List ℕ) × IsAnswer words held (record { status = ended; bytes = bytes }) × Sent given bytes now
+
+-- a front of the answer's bytes was written
+abbrev pub AnsweredPart : List (List ℕ) → Option Files → Option (List ℕ) → Option (List ℕ) → Type 0
+AnsweredPart words held given now = (answer : Answer) × IsAnswer words held answer × SentPart given answer.bytes now
+
+-- the ending against the answer: it is the answer's status with all its bytes written, but at a fault or
+-- want of memory, where a front of them is written, or nothing where it is a fault of reading
+abbrev pub Completes : Answer → Status → Option (List ℕ) → Option (List ℕ) → Type 0
+Completes answer status.OutOfMemory given now = SentPart given answer.bytes now
+Completes answer status.WriteFault given now = SentPart given answer.bytes now
+Completes answer status.ReadFault given now = now ≡ given
+Completes answer ended given now = (ended ≡ answer.status) × Sent given answer.bytes now
+
+-- what is left of the files, where they are told
+abbrev pub Leaves : List (List ℕ) → Option Files → Status → Option (List ℕ) → Type 0
+Leaves words None ended left = Unit {0}
+Leaves words (Some files) ended left = IsLeft (contents_of files (line words)) ended left
+
+-- the end of writing an answer: all was written and the status is the answer's, or a front was
+pub data Finished (answer : Answer) : Status → Option (List ℕ) → Option (List ℕ) → ℕ → ℕ → Type 0 where
+  all : {given now : Option (List ℕ)} {before after : ℕ} → Sent given answer.bytes now → Finished answer answer.status given now before after
+  fault : {given now : Option (List ℕ)} {before after : ℕ} → SentPart given answer.bytes now → Rose before after → Finished answer status.WriteFault given now before after
+  wanting : {given now : Option (List ℕ)} {before after : ℕ} → SentPart given answer.bytes now → Finished answer status.OutOfMemory given now before after
+
+-- a status that is answered: not one of a fault or of want of memory
+abbrev pub IsPlain : Status → Type 0
+IsPlain status.ReadFault = ⊥
+IsPlain status.WriteFault = ⊥
+IsPlain status.OutOfMemory = ⊥
+IsPlain _ = Unit {0}

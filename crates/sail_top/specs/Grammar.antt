@@ -1,0 +1,114 @@
+-- The grammar of a model's text.
+use Rattle.std.specs.Prelude.{◌≡◌, ℕ, ◌*◌, Bool, true, false, not, ◌&&◌, ◌||◌, ◌==◌, nat_le, if◌then◌else◌, List, [], ◌∷◌, ◌++◌, length, codes, Option, Some, None, IsTrue}
+use Rattle.std.specs.Str.{bytes_eq}
+use Rattle.std.specs.List.{list_all, list_any}
+use Rattle.sail_base.specs.Bits.{bits_of}
+use Rattle.sail_top.specs.Digits.{number, are_digits}
+use Rattle.sail_top.specs.Spelling.{tokens, is_upper, is_digit}
+use Rattle.sail_top.specs.declared.model.Register.{Register}
+use Rattle.sail_top.specs.declared.model.Assignment.{Assignment}
+use Rattle.sail_top.specs.declared.model.Model.{Model}
+
+-- a name: an upper-case letter, then at most 254 upper-case letters and digits
+abbrev pub is_name : List ℕ → Bool
+is_name [] = false
+is_name (letter ∷ rest) = is_upper letter && (list_all (λ b. is_upper b || is_digit b) rest && nat_le (length rest) 254)
+
+-- a width: one to three decimal digits that spell a number from 1 to 128
+abbrev pub width_of : List ℕ → Option ℕ
+width_of token =
+    if are_digits 10 token && nat_le (length token) 3 && nat_le 1 (number 10 token) && nat_le (number 10 token) 128
+    then Some (number 10 token)
+    else None
+
+-- the bits of one to 32 hexadecimal digits, four each
+abbrev pub hexadecimal_bits : List ℕ → Option (List Bool)
+hexadecimal_bits digits =
+    if are_digits 16 digits && nat_le (length digits) 32 then Some (bits_of (4 * length digits) (number 16 digits)) else None
+
+-- the bits of one to 128 binary digits
+abbrev pub binary_bits : List ℕ → Option (List Bool)
+binary_bits digits =
+    if are_digits 2 digits && nat_le (length digits) 128 then Some (bits_of (length digits) (number 2 digits)) else None
+
+-- the bits of a literal: `0x` and hexadecimal digits, or `0b` and binary ones
+abbrev pub literal_bits : List ℕ → Option (List Bool)
+literal_bits (zero_digit ∷ mark ∷ digits) =
+    if zero_digit == 48 && mark == 120 then hexadecimal_bits digits
+    else if zero_digit == 48 && mark == 98 then binary_bits digits
+    else None
+literal_bits _ = None
+
+-- `register NAME : bits ( WIDTH )`, and then the rest
+abbrev pub ReadsRegister : List (List ℕ) → Register → List (List ℕ) → Type 0
+ReadsRegister text register rest =
+    (width : List ℕ)
+    × (text ≡ codes "register" ∷ register.name ∷ codes ":" ∷ codes "bits" ∷ codes "(" ∷ width ∷ codes ")" ∷ rest)
+    × IsTrue (is_name register.name) × (width_of width ≡ Some register.width)
+
+-- `TARGET = SOURCE + LITERAL ;`, and then the rest
+abbrev pub ReadsAssignment : List (List ℕ) → Assignment → List (List ℕ) → Type 0
+ReadsAssignment text assignment rest =
+    (literal : List ℕ)
+    × (text ≡ assignment.target ∷ codes "=" ∷ assignment.source ∷ codes "+" ∷ literal ∷ codes ";" ∷ rest)
+    × IsTrue (is_name assignment.target) × IsTrue (is_name assignment.source)
+    × (literal_bits literal ≡ Some assignment.literal)
+
+-- registers one after another, and then the rest
+abbrev pub ReadsRegisters : List (List ℕ) → List Register → List (List ℕ) → Type 0
+ReadsRegisters text [] rest = text ≡ rest
+ReadsRegisters text (register ∷ registers) rest =
+    (behind : List (List ℕ)) × ReadsRegister text register behind × ReadsRegisters behind registers rest
+
+-- assignments one after another, and then the rest
+abbrev pub ReadsAssignments : List (List ℕ) → List Assignment → List (List ℕ) → Type 0
+ReadsAssignments text [] rest = text ≡ rest
+ReadsAssignments text (assignment ∷ assignments) rest =
+    (behind : List (List ℕ)) × ReadsAssignment text assignment behind × ReadsAssignments behind assignments rest
+
+-- what stands between the registers and the assignments
+abbrev pub opening : List (List ℕ)
+opening =
+    tokens
+    (codes "val reset : (range(0, 7), bits(64)) -> unit function reset(h, e) = () val step : unit -> bool function step() = {")
+
+-- what stands behind the assignments
+abbrev pub closing : List (List ℕ)
+closing = tokens (codes "true }")
+
+-- whether there is a register of this name and width
+abbrev pub has_register : List Register → List ℕ → ℕ → Bool
+has_register registers name width = list_any (λ register. bytes_eq register.name name && register.width == width) registers
+
+-- whether no two registers have one name
+abbrev pub are_distinct : List Register → Bool
+are_distinct [] = true
+are_distinct (register ∷ registers) =
+    not (list_any (λ other. bytes_eq other.name register.name) registers) && are_distinct registers
+
+-- whether both registers of an assignment are there, of the literal's width
+abbrev pub is_typed : List Register → Assignment → Bool
+is_typed registers assignment =
+    has_register registers assignment.target (length assignment.literal)
+    && has_register registers assignment.source (length assignment.literal)
+
+-- at most 64 registers of different names, and at most 64 assignments of one width each
+abbrev pub is_well_formed : Model → Bool
+is_well_formed model =
+    nat_le (length model.registers) 64 && nat_le (length model.assignments) 64
+    && are_distinct model.registers && list_all (is_typed model.registers) model.assignments
+
+-- the text spells the model
+pub record IsModel (text : List ℕ) (model : Model) : Type 0 where
+  pub body : List (List ℕ)
+  pub registers : ReadsRegisters (tokens text) model.registers (opening ++ body)
+  pub assignments : ReadsAssignments body model.assignments closing
+  pub well_formed : IsTrue (is_well_formed model)
+
+-- the text spells no other model
+abbrev pub IsOnlyModel : List ℕ → Model → Type 0
+IsOnlyModel text model = (other : Model) → IsModel text other → other ≡ model
+
+-- the text spells no model
+abbrev pub HasNoModel : List ℕ → Type 0
+HasNoModel text = (model : Model) → IsModel text model → ⊥

@@ -1,0 +1,16 @@
+pub mod Answer
+pub mod Command
+pub mod Digits
+pub mod Ending
+pub mod Exit
+pub mod Grammar
+pub mod Image
+pub mod Laws
+pub mod Lines
+pub mod Reading
+pub mod Report
+pub mod Rows
+pub mod Run
+pub mod Spelling
+pub mod Steps
+pub mod Words

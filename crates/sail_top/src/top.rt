@@ -1,0 +1,95 @@
+ghost use Rattle.std.specs.Prelude.{◌≡◌, ℕ, Some, IfOk, Err, map};
+ghost use Rattle.std.specs.String.{string_bytes};
+ghost use Rattle.sail_outside.specs.Files.{Files};
+ghost use Rattle.sail_outside.specs.Faults.{Rose};
+ghost use Rattle.sail_base.specs.declared.refusal.Refusal.{Refusal};
+ghost use Rattle.sail_base.specs.declared.elf_refusal.ElfRefusal.{ElfRefusal};
+ghost use Rattle.sail_top.specs.declared.status.Answer.{Answer};
+ghost use Rattle.sail_top.specs.Answer as spec;
+ghost use Rattle.sail_top.specs.Answer.{IsAnswer};
+ghost use Rattle.sail_top.specs.Ending.{Answered, AnsweredPart, Completes, Leaves, Finished};
+
+use crate::command::read_command;
+use crate::reading::{Unanswered, answer_command};
+use crate::status::{Answer, Status};
+use sail_base::Items;
+use sail_outside::{Shelf, Sink, WriteError, write_all};
+use std::alloc::{AllocError, Global};
+
+/// Does what the program does: answers its words, with its files on a shelf and its output to a sink.
+///
+/// The words are those behind the program's name. The one command is
+/// `run --elf FILE [--steps N] MODEL`; every other list of words is `Usage`. The statuses and when they
+/// come stand at [`Status`]; each but `ReadFault`, `WriteFault` and `OutOfMemory` is answered only where
+/// all that it has to say was written.
+pub fn run_words<S: Shelf, K: Sink>(
+    alloc: Global,
+    words: &[String],
+    files: &mut S,
+    out: &mut K,
+) -> Status
+    // Where the files are told, the ending is that of the answer.
+    ensures complete { (held : Files) (answer : Answer) → S.holds files.old ≡ Some held → IsAnswer (map string_bytes words.now) (Some held) answer → Completes answer result (K.given out.old) (K.given out.new) }
+
+    // The cause of each status, also where nothing is told.
+    ensures done { result ≡ Status.Done → Answered (map string_bytes words.now) (S.holds files.old) Status.Done (K.given out.old) (K.given out.new) }
+    ensures model_refused { (refusal : Refusal) → result ≡ Status.ModelRefused refusal → Answered (map string_bytes words.now) (S.holds files.old) (Status.ModelRefused refusal) (K.given out.old) (K.given out.new) }
+    ensures usage { result ≡ Status.Usage → Answered (map string_bytes words.now) (S.holds files.old) Status.Usage (K.given out.old) (K.given out.new) }
+    ensures elf_refused { (refusal : ElfRefusal) → result ≡ Status.ElfRefused refusal → Answered (map string_bytes words.now) (S.holds files.old) (Status.ElfRefused refusal) (K.given out.old) (K.given out.new) }
+    ensures too_long { (file limit : ℕ) → result ≡ Status.FileTooLong file limit → Answered (map string_bytes words.now) (S.holds files.old) (Status.FileTooLong file limit) (K.given out.old) (K.given out.new) }
+    ensures no_file { (file : ℕ) → result ≡ Status.NoFile file → Answered (map string_bytes words.now) (S.holds files.old) (Status.NoFile file) (K.given out.old) (K.given out.new) }
+    ensures read_fault { result ≡ Status.ReadFault → Rose (S.faults files.old) (S.faults files.new) }
+    ensures nothing_written { result ≡ Status.ReadFault → K.given out.new ≡ K.given out.old }
+    ensures write_fault { result ≡ Status.WriteFault → Rose (K.faults out.old) (K.faults out.new) }
+    ensures front_written { result ≡ Status.WriteFault → AnsweredPart (map string_bytes words.now) (S.holds files.old) (K.given out.old) (K.given out.new) }
+
+    // How far the files were read.
+    ensures left { Leaves (map string_bytes words.now) (S.holds files.old) result (S.left files.new) }
+{
+    match answer_words(alloc, words, files) {
+        Ok(answer) => finish(answer, out),
+        Err(Unanswered::Fault) => Status::ReadFault,
+        Err(Unanswered::OutOfMemory) => Status::OutOfMemory,
+    }
+}
+
+/// What is answered to the words.
+fn answer_words<S: Shelf>(
+    alloc: Global,
+    words: &[String],
+    files: &mut S,
+) -> Result<Answer, Unanswered>
+    ensures answer { IfOk result (IsAnswer (map string_bytes words.now) (S.holds files.old)) }
+    ensures left { IfOk result (λ answer. Leaves (map string_bytes words.now) (S.holds files.old) answer.status (S.left files.new)) }
+    ensures fault { result ≡ Err Unanswered.Fault → Rose (S.faults files.old) (S.faults files.new) }
+{
+    match read_command(words) {
+        Some(command) => answer_command(alloc, &command, files),
+        None => {
+            let answer = refuse_words(alloc)?;
+            Ok(answer)
+        }
+    }
+}
+
+/// The answer where the words are no command.
+fn refuse_words(alloc: Global) -> Result<Answer, AllocError>
+    ensures { IfOk result (λ answer. answer ≡ spec.usage) }
+{
+    let line = Vec::from_slice(alloc, b"sail-run: usage\n")?;
+    Ok(Answer {
+        status: Status::Usage,
+        bytes: Items::from_vec(line),
+    })
+}
+
+/// Writes what is answered, and ends with its status where that is done.
+fn finish<K: Sink>(answer: Answer, out: &mut K) -> Status
+    ensures { Finished answer result (K.given out.old) (K.given out.new) (K.faults out.old) (K.faults out.new) }
+{
+    match write_all(out, answer.bytes.as_slice()) {
+        Ok(()) => answer.into_status(),
+        Err(WriteError::Fault) => Status::WriteFault,
+        Err(WriteError::OutOfMemory) => Status::OutOfMemory,
+    }
+}
