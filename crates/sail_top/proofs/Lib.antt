@@ -1,3 +1,4 @@
+pub mod Decided
 pub mod EndingLemmas
 pub mod Numbers
 pub mod ParseLemmas

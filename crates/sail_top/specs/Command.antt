@@ -14,14 +14,14 @@ abbrev pub step_count : List ℕ → Option ℕ
 step_count word = if are_digits 10 word && nat_lt (number 10 word) (2 ^ 32) then Some (number 10 word) else None
 
 -- a file's name doesn't begin with `-`
-abbrev pub is_name : List ℕ → Bool
-is_name word = not (slice_index word 0 == 45)
+abbrev pub is_file_name : List ℕ → Bool
+is_file_name word = not (slice_index word 0 == 45)
 
 -- the command of two names, for this number of events if it is one
 abbrev pub command_of : List ℕ → Option ℕ → List ℕ → Option Command
 command_of elf None model = None
 command_of elf (Some steps) model =
-    if is_name elf && is_name model then Some (record { elf = elf; steps = steps; model = model }) else None
+    if is_file_name elf && is_file_name model then Some (record { elf = elf; steps = steps; model = model }) else None
 
 -- what the words say: `run --elf FILE [--steps N] MODEL`, in this order, is a command, and nothing else is
 abbrev pub line : List (List ℕ) → Option Command

@@ -10,8 +10,12 @@ use Rattle.sail_top.specs.declared.status.Answer.{Answer}
 abbrev pub SpellsOneModel : Type 0
 SpellsOneModel = (text : List ℕ) (model other : Model) → IsModel text model → IsModel text other → model ≡ other
 
--- words have at most one answer over files that are told
-abbrev pub HasOneAnswer : Type 0
-HasOneAnswer =
+-- words have an answer over files that are told
+abbrev pub HasAnswer : Type 0
+HasAnswer = (words : List (List ℕ)) (files : Files) → (answer : Answer) × IsAnswer words (Some files) answer
+
+-- and no other
+abbrev pub HasNoOtherAnswer : Type 0
+HasNoOtherAnswer =
     (words : List (List ℕ)) (files : Files) (answer other : Answer)
     → IsAnswer words (Some files) answer → IsAnswer words (Some files) other → answer ≡ other

@@ -1,7 +1,8 @@
 ghost use Rattle.std.specs.Prelude.{◌≡◌, MatchOption, map, None, Some};
 ghost use Rattle.std.specs.String.{string_bytes};
 ghost use Rattle.std.specs.Option.{option_map};
-ghost use Rattle.sail_top.specs.Command.{line, step_count, command_of, is_name};
+ghost use Rattle.sail_top.specs.Command as spec;
+ghost use Rattle.sail_top.specs.Command.{line, step_count, command_of};
 ghost use Rattle.sail_top.specs.Words.{as_command};
 
 use crate::digits::is_spelled_in;
@@ -69,7 +70,7 @@ fn named<'a>(elf: &'a str, steps: Option<u32>, model: &'a str) -> Option<Command
 
 /// Whether a word may name a file: it doesn't begin with `-`.
 fn is_file_name(word: &str) -> bool
-    ensures { result ≡ is_name word.now }
+    ensures { result ≡ spec.is_file_name word.now }
 {
     word.as_bytes().first().copied() != Some(b'-')
 }

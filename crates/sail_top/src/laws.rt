@@ -1,11 +1,12 @@
-ghost use Rattle.sail_top.specs.Laws.{SpellsOneModel, HasOneAnswer};
+ghost use Rattle.sail_top.specs.Laws.{SpellsOneModel, HasAnswer, HasNoOtherAnswer};
 
-/// A text spells at most one model.
+/// A law: a text spells at most one model.
 pub fn text_spells_one_model()
     ensures { SpellsOneModel }
 {}
 
-/// Words have at most one answer over files that are told.
+/// A law: words have exactly one answer over files that are told.
 pub fn words_have_one_answer()
-    ensures { HasOneAnswer }
+    ensures some { HasAnswer }
+    ensures no_other { HasNoOtherAnswer }
 {}

@@ -28,5 +28,6 @@ mod tests;
 mod top;
 
 pub use laws::{text_spells_one_model, words_have_one_answer};
+pub use sail_base::{ElfRefusal, Refusal};
 pub use status::Status;
 pub use top::run_words;

@@ -294,8 +294,13 @@ fn a_failing_call_is_a_fault(rt: HostRuntime) -> Result<(), Fail> {
 }
 
 #[test]
-fn statuses_have_their_codes(rt: HostRuntime) {
+fn want_of_memory_ends_with_five(rt: HostRuntime) {
     assert_eq!(rt; Status::OutOfMemory.code(), 5);
+}
+
+// The laws have no result: their contracts are what they say.
+#[test]
+fn laws_are_called() {
     text_spells_one_model();
     words_have_one_answer();
 }

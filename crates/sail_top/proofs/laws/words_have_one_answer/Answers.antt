@@ -1,5 +1,9 @@
+use Rattle.sail_top.proofs.Decided.{some_answer}
 use Rattle.sail_top.proofs.EndingLemmas.{one_answer}
 use Rattle.sail_top.proofs.laws.words_have_one_answer.Goals as goal
 
-pub returns : goal.returns
-returns c = one_answer
+pub returns-clause-some : goal.returns-clause-some
+returns-clause-some c = some_answer
+
+pub returns-clause-no_other : goal.returns-clause-no_other
+returns-clause-no_other c = one_answer
