@@ -19,6 +19,8 @@ use Rattle.sail_syntax.specs.declared.expressions.FieldValue.{FieldValue}
 use Rattle.sail_syntax.specs.declared.expressions.Index.{Index}
 use Rattle.sail_syntax.specs.declared.expressions.Range.{Range}
 use Rattle.sail_syntax.specs.declared.expressions.Target.{Target}
+use Rattle.sail_syntax.specs.declared.definitions.Def.{Def}
+use Rattle.sail_syntax.specs.declared.definitions.Def.TheVariants as D
 
 -- a type's place, by its form
 abbrev pub type_form_place : TyExp-F TyExp → Place
@@ -105,3 +107,31 @@ target_form_place (E.ToPart first base suffixes) = part_place first suffixes
 -- a target's place
 abbrev pub target_place : LExp → Place
 target_place l = target_form_place (out-LExp l)
+
+-- a statement's place, by its form
+abbrev pub statement_form_place : Stmt-F Exp LExp Stmt Suffix Case FieldValue Index Range Target → Place
+statement_form_place (E.Evaluate e) = expression_place e
+statement_form_place (E.Define place p e) = place
+statement_form_place (E.Declare place name t e) = place
+
+-- a statement's place
+abbrev pub statement_place : Stmt → Place
+statement_place s = statement_form_place (out-Stmt s)
+
+-- a definition's place, its first word
+abbrev pub definition_place : Def → Place
+definition_place (D.Order place) = place
+definition_place (D.Alias place name params kind t) = place
+definition_place (D.Enum place name members) = place
+definition_place (D.Record place word name params members) = place
+definition_place (D.Val place name quantifier t arrow u) = place
+definition_place (D.Function place extent name params t e) = place
+definition_place (D.Measure place name params e) = place
+definition_place (D.Mapping place name sides clauses) = place
+definition_place (D.Let place p e) = place
+definition_place (D.Register place name t e) = place
+definition_place (D.Overload place overloaded members) = place
+definition_place (D.Scatter place scattered name params) = place
+definition_place (D.UnionClause place name member) = place
+definition_place (D.MappingClause place name clause) = place
+definition_place (D.End place name) = place

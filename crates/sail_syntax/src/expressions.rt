@@ -5,6 +5,9 @@ use crate::words::{Asking, Brackets, Choosing, Direction, Leaving, Looping, Oper
 use sail_base::{Boxed, Items, Place, Text};
 
 /// An expression, as written. An expression in brackets of its own is that expression.
+///
+/// Where a call can fail, keep expressions in their `Boxed` or `Items`: letting go of a box is one
+/// call there, and of a bare expression a case for each form.
 #[cycle(exp)]
 #[derive(Drop)]
 pub enum Exp {

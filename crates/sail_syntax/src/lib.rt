@@ -18,7 +18,8 @@ pub use expressions::{Case, Exp, FieldValue, Index, LExp, Range, Stmt, Suffix, T
 pub use name::{Literal, Name};
 pub use patterns::{Joined, Pat};
 pub use readers::{
-    is_plain, names_of, place_of, place_of_pattern, place_of_target, place_of_type, push_names,
+    is_plain, names_of, place_of, place_of_definition, place_of_pattern, place_of_statement,
+    place_of_target, place_of_type, push_names,
 };
 pub use types::TyExp;
 pub use words::{

@@ -1,9 +1,10 @@
 ghost use Rattle.std.specs.Prelude.{◌≡◌, ◌++◌, map, IfOk, OnOk};
-ghost use Rattle.sail_syntax.specs.Places.{type_place, pattern_place, expression_place, target_place, part_place};
+ghost use Rattle.sail_syntax.specs.Places.{type_place, pattern_place, expression_place, target_place, part_place, statement_place, definition_place};
 ghost use Rattle.sail_syntax.specs.Bound.{names, names_of_joined, in_order};
 ghost use Rattle.sail_syntax.specs.Plain.{plain};
 
-use crate::expressions::{Exp, LExp, Suffix};
+use crate::definitions::Def;
+use crate::expressions::{Exp, LExp, Stmt, Suffix};
 use crate::name::Name;
 use crate::patterns::{Joined, Pat};
 use crate::types::TyExp;
@@ -95,6 +96,40 @@ pub fn place_of_target(target: &LExp) -> Place
         LExp::ToCall(name, _) => name.place,
         LExp::ToTuple(place, _) => *place,
         LExp::ToPart(first, _, suffixes) => place_of_part(first, suffixes.as_slice()),
+    }
+}
+
+/// The place of a statement: of its expression, or of its first word.
+pub fn place_of_statement(statement: &Stmt) -> Place
+    ensures { result ≡ statement_place statement.now }
+{
+    match statement {
+        Stmt::Evaluate(value) => place_of(value.get()),
+        Stmt::Define(place, _, _) => *place,
+        Stmt::Declare(place, _, _, _) => *place,
+    }
+}
+
+/// The place of a definition: its first word.
+pub fn place_of_definition(definition: &Def) -> Place
+    ensures { result ≡ definition_place definition.now }
+{
+    match definition {
+        Def::Order(place) => *place,
+        Def::Alias(place, _, _, _, _) => *place,
+        Def::Enum(place, _, _) => *place,
+        Def::Record(place, _, _, _, _) => *place,
+        Def::Val(place, _, _, _, _, _) => *place,
+        Def::Function(place, _, _, _, _, _) => *place,
+        Def::Measure(place, _, _, _) => *place,
+        Def::Mapping(place, _, _, _) => *place,
+        Def::Let(place, _, _) => *place,
+        Def::Register(place, _, _, _) => *place,
+        Def::Overload(place, _, _) => *place,
+        Def::Scatter(place, _, _, _) => *place,
+        Def::UnionClause(place, _, _) => *place,
+        Def::MappingClause(place, _, _) => *place,
+        Def::End(place, _) => *place,
     }
 }
 
