@@ -1,8 +1,10 @@
+mod definitions;
+
 use crate::{
     Asking, Brackets, Case, Choosing, Direction, Exp, FieldValue, Index, Joined, LExp, Leaving,
     Literal, Looping, Name, Operator, Pat, Prefix, Range, Stmt, Suffix, Target, TyExp,
     TypeOperator, TypePrefix, build, is_plain, names_of, place_of, place_of_pattern,
-    place_of_target, place_of_type,
+    place_of_statement, place_of_target, place_of_type,
 };
 use sail_base::{Boxed, Items, Place, Word};
 use std::alloc::{AllocError, Global};
@@ -202,6 +204,7 @@ fn forms_with_brackets_and_targets_stand_at_their_places(rt: HostRuntime) -> Res
             suffixes(alloc)?
         )) == at(4)
     );
+    assert!(rt; place_of_target(&LExp::ToName(word(alloc, 7, "a")?)) == at(7));
     assert!(rt; place_of_target(&LExp::ToCall(word(alloc, 8, "f")?, Items::new(alloc))) == at(8));
     assert!(rt; place_of_target(&LExp::ToTuple(at(9), Items::new(alloc))) == at(9));
     Ok(())
@@ -284,15 +287,23 @@ fn the_names_of_a_pattern_come_in_text_order(rt: HostRuntime) -> Result<(), Fail
 #[test]
 fn patterns_and_types_stand_at_their_places(rt: HostRuntime) -> Result<(), Fail> {
     let alloc = rt.alloc();
+    assert!(rt; place_of_pattern(&Pat::Wildcard(at(2))) == at(2));
     assert!(rt; place_of_pattern(&Pat::Constant(at(3), Literal::Number(-1))) == at(3));
     assert!(rt; place_of_pattern(&binder(alloc, 4, "x")?) == at(4));
+    assert!(rt;
+        place_of_pattern(&Pat::Construct(word(alloc, 5, "C")?, Items::new(alloc))) == at(5)
+    );
     assert!(rt; place_of_pattern(&long_pattern(alloc)?) == at(1));
+    assert!(rt; place_of_pattern(&joined(alloc)?) == at(3));
+    assert!(rt; place_of_pattern(&list(alloc)?) == at(4));
+    assert!(rt; place_of_pattern(&renamed(alloc)?) == at(1));
     assert!(rt;
         place_of_pattern(&build::annotated(alloc, at(2), binder(alloc, 2, "x")?, typ(6))?) == at(2)
     );
     assert!(rt; place_of_type(&TyExp::Named(word(alloc, 5, "bits")?, Items::new(alloc))) == at(5));
     assert!(rt; place_of_type(&TyExp::Variable(word(alloc, 6, "'n")?)) == at(6));
     assert!(rt; place_of_type(&TyExp::Number(at(7), 32)) == at(7));
+    assert!(rt; place_of_type(&typ(2)) == at(2));
     assert!(rt;
         place_of_type(&build::type_prefix(alloc, at(8), TypePrefix::Power, typ(10))?) == at(8)
     );
@@ -306,6 +317,49 @@ fn patterns_and_types_stand_at_their_places(rt: HostRuntime) -> Result<(), Fail>
         place_of_type(&build::exists(alloc, at(1), Items::new(alloc), None, typ(9))?) == at(1)
     );
     Ok(())
+}
+
+// `x @ y`, the operator at 3
+fn joined(alloc: Global) -> Result<Pat, AllocError> {
+    build::concat(
+        alloc,
+        at(3),
+        binder(alloc, 1, "x")?,
+        binder(alloc, 5, "y")?,
+        Items::new(alloc),
+    )
+}
+
+// `x :: y`, the operator at 4
+fn list(alloc: Global) -> Result<Pat, AllocError> {
+    build::cons(alloc, at(4), binder(alloc, 1, "x")?, binder(alloc, 7, "y")?)
+}
+
+// `x as y`, at its first token
+fn renamed(alloc: Global) -> Result<Pat, AllocError> {
+    build::named(alloc, at(1), binder(alloc, 1, "x")?, word(alloc, 6, "y")?)
+}
+
+#[test]
+fn statements_stand_at_their_words(rt: HostRuntime) -> Result<(), Fail> {
+    let alloc = rt.alloc();
+    assert!(rt; place_of_statement(&Stmt::Evaluate(variable(alloc, 4)?)) == at(4));
+    assert!(rt; place_of_statement(&define(alloc)?) == at(2));
+    assert!(rt; place_of_statement(&declare(alloc)?) == at(3));
+    Ok(())
+}
+
+// `let y = x`
+fn define(alloc: Global) -> Result<Stmt, AllocError> {
+    let value = variable(alloc, 10)?;
+    Ok(Stmt::Define(at(2), binder(alloc, 6, "y")?, value))
+}
+
+// `var y : true = x`
+fn declare(alloc: Global) -> Result<Stmt, AllocError> {
+    let initial = variable(alloc, 18)?;
+    let name = word(alloc, 7, "y")?;
+    Ok(Stmt::Declare(at(3), name, Some(typ(11)), initial))
 }
 
 #[test]
