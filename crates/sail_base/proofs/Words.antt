@@ -6,11 +6,11 @@ use Rattle.std.proofs.Math.Nat.{div-eq_of_lt}
 use Rattle.std.specs.Int.{w128}
 use Rattle.std.proofs.lemmas.Int.{ints, to_z_pos, to_z-of_z, fits_signed_mul}
 use Rattle.sail_base.specs.Bits.{bits_of, value_of, is_odd, top_bit, not_bits, and_bits, or_bits, xor_bits, mul_wide_unsigned, append_bits, zext_bits, slice_bits, shl_bits, shr_bits, copies, signed_of, bits_of_int, mul_wide_signed, mul_wide_mixed}
-use Rattle.sail_base.specs.BitLaws.{length-bits_of, value_of-bits_of, value_of-bits_of_fits, bits_of-mod, mod-pow_twice, value_of-lt, take-bits_of}
-use Rattle.sail_base.specs.BitNumbers.{bits_of-and, bits_of-or, bits_of-xor, bits_of-complement, pow_multiple}
-use Rattle.sail_base.specs.BitShapes.{get_or-bits_of, append_bits-numbers, zext_bits-numbers, slice_bits-numbers, shl_bits-numbers, shr_bits-numbers, shl-past}
-use Rattle.sail_base.specs.WordParts.{length-copies}
-use Rattle.sail_base.specs.BitSigns.{top_bit-none, top_bit-true, top_bit-false, value_of-not_bits, length-not_bits, signed_of-negative, signed_of-positive, signed_of-bound}
+use Rattle.sail_base.specs.laws.BitLaws.{length-bits_of, value_of-bits_of, value_of-bits_of_fits, bits_of-mod, mod-pow_twice, value_of-lt, take-bits_of}
+use Rattle.sail_base.specs.laws.BitNumbers.{bits_of-and, bits_of-or, bits_of-xor, bits_of-complement, pow_multiple}
+use Rattle.sail_base.specs.laws.BitShapes.{get_or-bits_of, append_bits-numbers, zext_bits-numbers, slice_bits-numbers, shl_bits-numbers, shr_bits-numbers, shl-past}
+use Rattle.sail_base.specs.laws.WordParts.{length-copies}
+use Rattle.sail_base.specs.laws.BitSigns.{top_bit-none, top_bit-true, top_bit-false, value_of-not_bits, length-not_bits, signed_of-negative, signed_of-positive, signed_of-bound}
 
 -- the width of a word is the length of its list
 pub width_is : (w x : ℕ) (a : List Bool) → bits_of w x ≡ a → w ≡ length a

@@ -5,6 +5,8 @@
 mod boxed;
 mod elf_refusal;
 mod items;
+mod kind;
+mod operators;
 mod place;
 mod print;
 mod refusal;
@@ -15,6 +17,8 @@ mod word;
 pub use boxed::Boxed;
 pub use elf_refusal::ElfRefusal;
 pub use items::Items;
+pub use kind::Kind;
+pub use operators::{Operator, Prefix};
 pub use place::Place;
 pub use print::{dec_text, hex_text};
 pub use refusal::Refusal;

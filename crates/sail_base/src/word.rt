@@ -5,7 +5,7 @@
 ghost use Rattle.std.specs.Prelude.{◌≡◌, ℕ, ◌%◌, ◌^◌, ◌<◌, ◌≤◌, Bool, true, false, length, replicate, List, [], ◌∷◌};
 ghost use Rattle.std.specs.Cmp.{partial_equiv_from_equiv};
 ghost use Rattle.sail_base.specs.Bits.{bits_of, value_of, eq_bits};
-ghost use Rattle.sail_base.specs.BitLaws.{eq_bits-equiv};
+ghost use Rattle.sail_base.specs.laws.BitLaws.{eq_bits-equiv};
 
 mod arithmetic;
 mod bitwise;
@@ -26,7 +26,7 @@ pub struct Word {
 impl Model for Word {
     ghost use Rattle.std.specs.Prelude.{◌^◌, ◌<◌, ◌≤◌, List, Bool, length};
     ghost use Rattle.sail_base.specs.Bits.{bits_of, value_of};
-    ghost use Rattle.sail_base.specs.BitLaws.{length-bits_of, value_of-bits_of_fits};
+    ghost use Rattle.sail_base.specs.laws.BitLaws.{length-bits_of, value_of-bits_of_fits};
 
     ghost Value = { List Bool };
 

@@ -2,8 +2,8 @@ use crate::expressions::Exp;
 use crate::name::Name;
 use crate::patterns::Pat;
 use crate::types::TyExp;
-use crate::words::{Arrow, Extent, Kind, Operator, Record, Scattered};
-use sail_base::{Boxed, Items, Place};
+use crate::words::{Arrow, Extent, Record, Scattered};
+use sail_base::{Boxed, Items, Kind, Operator, Place};
 
 /// A definition, as written, at its first word.
 #[derive(Drop)]

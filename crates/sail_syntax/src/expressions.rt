@@ -1,8 +1,8 @@
 use crate::name::{Literal, Name};
 use crate::patterns::Pat;
 use crate::types::TyExp;
-use crate::words::{Asking, Brackets, Choosing, Direction, Leaving, Looping, Operator, Prefix};
-use sail_base::{Boxed, Items, Place, Text};
+use crate::words::{Asking, Brackets, Choosing, Direction, Leaving, Looping};
+use sail_base::{Boxed, Items, Operator, Place, Prefix, Text};
 
 /// An expression, as written. An expression in brackets of its own is that expression.
 ///

@@ -23,6 +23,6 @@ pub use readers::{
 };
 pub use types::TyExp;
 pub use words::{
-    Arrow, Asking, Brackets, Choosing, Direction, Extent, Kind, Leaving, Looping, Operator, Prefix,
-    Record, Scattered, TypeOperator, TypePrefix,
+    Arrow, Asking, Brackets, Choosing, Direction, Extent, Leaving, Looping, Record, Scattered,
+    TypeOperator, TypePrefix,
 };

@@ -2,11 +2,11 @@ mod definitions;
 
 use crate::{
     Asking, Brackets, Case, Choosing, Direction, Exp, FieldValue, Index, Joined, LExp, Leaving,
-    Literal, Looping, Name, Operator, Pat, Prefix, Range, Stmt, Suffix, Target, TyExp,
-    TypeOperator, TypePrefix, build, is_plain, names_of, place_of, place_of_pattern,
-    place_of_statement, place_of_target, place_of_type,
+    Literal, Looping, Name, Pat, Range, Stmt, Suffix, Target, TyExp, TypeOperator, TypePrefix,
+    build, is_plain, names_of, place_of, place_of_pattern, place_of_statement, place_of_target,
+    place_of_type,
 };
-use sail_base::{Boxed, Items, Place, Word};
+use sail_base::{Boxed, Items, Operator, Place, Prefix, Word};
 use std::alloc::{AllocError, Global};
 use std::test::Fail;
 

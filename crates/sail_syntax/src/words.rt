@@ -1,69 +1,3 @@
-/// An infix operator of expressions, in the order of the manual's table of levels, highest first.
-#[derive(Clone, Copy, PartialEq, Eq, Debug)]
-pub enum Operator {
-    /// `^`
-    Caret,
-    /// `*`
-    Star,
-    /// `<<`
-    ShiftLeft,
-    /// `>>`
-    ShiftRight,
-    /// `+`
-    Plus,
-    /// `-`
-    Minus,
-    /// `@`
-    Append,
-    /// `::`
-    Cons,
-    /// `==`
-    Equal,
-    /// `!=`
-    NotEqual,
-    /// `<`
-    Less,
-    /// `<=`
-    LessEqual,
-    /// `>`
-    Greater,
-    /// `>=`
-    GreaterEqual,
-    /// `<_u`
-    LessUnsigned,
-    /// `<=_u`
-    LessEqualUnsigned,
-    /// `>_u`
-    GreaterUnsigned,
-    /// `>=_u`
-    GreaterEqualUnsigned,
-    /// `<_s`
-    LessSigned,
-    /// `<=_s`
-    LessEqualSigned,
-    /// `>_s`
-    GreaterSigned,
-    /// `>=_s`
-    GreaterEqualSigned,
-    /// `&`
-    And,
-    /// `|`
-    Or,
-}
-
-/// What stands before an operand of an expression.
-#[derive(Clone, Copy, PartialEq, Eq, Debug)]
-pub enum Prefix {
-    /// `- e`
-    Negate,
-    /// `2 ^ e`
-    Power,
-    /// `~(e)`
-    Tilde,
-    /// `not(e)`
-    Not,
-}
-
 /// How an expression ends what is around it.
 #[derive(Clone, Copy, PartialEq, Eq, Debug)]
 pub enum Leaving {
@@ -158,17 +92,6 @@ pub enum TypePrefix {
     Power,
     /// `not(t)`
     Not,
-}
-
-/// The kind of a type variable or of a type definition.
-#[derive(Clone, Copy, PartialEq, Eq, Debug)]
-pub enum Kind {
-    /// `Int`, also of a variable with which no kind is written.
-    Int,
-    /// `Bool`
-    Bool,
-    /// `Type`
-    Type,
 }
 
 /// The word of a definition of a type with members.

@@ -6,7 +6,7 @@ use Rattle.std.proofs.Math.Seq.{map-set_same}
 use Rattle.std.proofs.lemmas.List.{get_or_default, get_or-map, length-map}
 use Rattle.std.proofs.lemmas.List.Sums.{fold_more}
 use Rattle.sail_base.specs.Bits.{add_bits}
-use Rattle.sail_base.specs.BitLaws.{length-bits_of}
+use Rattle.sail_base.specs.laws.BitLaws.{length-bits_of}
 use Rattle.sail_top.specs.Steps.{done, IsSteady}
 use Rattle.sail_top.specs.declared.evaluate.Step.{Step}
 

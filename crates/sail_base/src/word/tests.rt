@@ -101,7 +101,7 @@ fn of_copies(a: Word, count: u128) -> Option<Word> {
 }
 
 #[test]
-#[tactic(auto, using(crate::specs::WordParts::word_widths))]
+#[tactic(auto, using(crate::specs::laws::WordParts::word_widths))]
 fn two_words(rt: HostRuntime) {
     for (op, width, a, b, want_width, want) in TWO {
         assert!(rt; width <= 128 && want_width <= 128);
@@ -115,7 +115,7 @@ fn two_words(rt: HostRuntime) {
 }
 
 #[test]
-#[tactic(auto, using(crate::specs::WordParts::word_widths))]
+#[tactic(auto, using(crate::specs::laws::WordParts::word_widths))]
 fn wide_products(rt: HostRuntime) {
     for (op, width, a, b, want) in WIDE {
         assert!(rt; width <= 64);
@@ -165,7 +165,7 @@ fn other_widths(rt: HostRuntime) {
 }
 
 #[test]
-#[tactic(auto, using(crate::specs::WordParts::word_widths))]
+#[tactic(auto, using(crate::specs::laws::WordParts::word_widths))]
 fn appended(rt: HostRuntime) {
     for (width, a, low, b, want) in APPENDED {
         assert!(rt; width <= 128 && low <= 128 - width);
@@ -179,7 +179,7 @@ fn appended(rt: HostRuntime) {
 }
 
 #[test]
-#[tactic(auto, using(crate::specs::WordParts::word_widths))]
+#[tactic(auto, using(crate::specs::laws::WordParts::word_widths))]
 fn slices(rt: HostRuntime) {
     for (width, a, hi, lo, want) in SLICES {
         assert!(rt; width <= 128 && hi < width && lo <= hi);

@@ -5,8 +5,8 @@ use crate::expressions::{Case, Exp, FieldValue, Index, LExp, Range, Stmt, Suffix
 use crate::name::{Literal, Name};
 use crate::patterns::Pat;
 use crate::types::TyExp;
-use crate::words::{Asking, Brackets, Choosing, Leaving, Looping, Operator, Prefix};
-use sail_base::{Boxed, Items, Place, Text};
+use crate::words::{Asking, Brackets, Choosing, Leaving, Looping};
+use sail_base::{Boxed, Items, Operator, Place, Prefix, Text};
 use std::alloc::{AllocError, Global};
 
 /// A literal. It fails where memory is wanting.

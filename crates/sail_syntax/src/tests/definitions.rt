@@ -1,9 +1,9 @@
 use super::{at, binder, typ, variable, word};
 use crate::{
-    Arrow, Def, Extent, Kind, MappingClause, Member, Operator, Overloaded, Param, Quantifier,
-    Record, Scattered, Side, Sides, place_of_definition,
+    Arrow, Def, Extent, MappingClause, Member, Overloaded, Param, Quantifier, Record, Scattered,
+    Side, Sides, place_of_definition,
 };
-use sail_base::Items;
+use sail_base::{Items, Kind, Operator};
 use std::alloc::{AllocError, Global};
 use std::test::Fail;
 

@@ -1,6 +1,6 @@
 use Rattle.std.proofs.Common.{◌∙◌}
 use Rattle.sail_base.specs.Bits.{add_bits}
-use Rattle.sail_base.specs.BitLaws.{add_bits-numbers}
+use Rattle.sail_base.specs.laws.BitLaws.{add_bits-numbers}
 use Rattle.sail_base.proofs.word.Word.add.Goals as goal
 
 pub returns : goal.returns

@@ -1,6 +1,6 @@
 use Rattle.std.proofs.Common.{sym, ap, ◌∙◌}
 use Rattle.sail_base.specs.Bits.{value_of}
-use Rattle.sail_base.specs.BitLaws.{value_of-bits_of_fits, value_of-lt}
+use Rattle.sail_base.specs.laws.BitLaws.{value_of-bits_of_fits, value_of-lt}
 use Rattle.sail_base.proofs.word.Word.bits.Goals as goal
 
 pub returns-clause-value : goal.returns-clause-value

@@ -1,6 +1,6 @@
 use Rattle.std.proofs.Common.{sym, ap, ◌∙◌}
 use Rattle.sail_base.specs.Bits.{leading_zeros}
-use Rattle.sail_base.specs.BitSigns.{count_leading_zeros-ge, leading_zeros-count}
+use Rattle.sail_base.specs.laws.BitSigns.{count_leading_zeros-ge, leading_zeros-count}
 use Rattle.sail_base.proofs.word.Word.count_leading_zeros.Goals as goal
 
 pub overflow_sub-result-2 : goal.overflow_sub-result-2

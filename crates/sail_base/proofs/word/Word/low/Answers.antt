@@ -1,6 +1,6 @@
 use Rattle.std.proofs.Common.{ap, ◌∙◌}
 use Rattle.sail_base.specs.Bits.{bits_of}
-use Rattle.sail_base.specs.BitLaws.{bits_of-mod}
+use Rattle.sail_base.specs.laws.BitLaws.{bits_of-mod}
 use Rattle.sail_base.proofs.word.Word.low.Goals as goal
 
 pub returns : goal.returns

@@ -1,6 +1,6 @@
 use Rattle.std.proofs.Common.{◌∙◌}
 use Rattle.sail_base.specs.Bits.{mul_bits}
-use Rattle.sail_base.specs.BitNumbers.{mul_bits-numbers}
+use Rattle.sail_base.specs.laws.BitNumbers.{mul_bits-numbers}
 use Rattle.sail_base.proofs.word.Word.mul.Goals as goal
 
 pub returns : goal.returns

@@ -1,6 +1,6 @@
 use Rattle.std.proofs.Common.{false, ap, ◌∙◌}
 use Rattle.sail_base.specs.Bits.{not_bits}
-use Rattle.sail_base.specs.BitShapes.{not_bits-replicate}
+use Rattle.sail_base.specs.laws.BitShapes.{not_bits-replicate}
 use Rattle.sail_base.proofs.word.Word.ones.Goals as goal
 
 pub returns : goal.returns

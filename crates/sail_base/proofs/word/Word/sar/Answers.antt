@@ -1,6 +1,6 @@
 use Rattle.std.proofs.Common.{sym, ap, ◌∙◌}
 use Rattle.sail_base.specs.Bits.{not_bits, shr_bits}
-use Rattle.sail_base.specs.BitSigns.{sar_bits-negative}
+use Rattle.sail_base.specs.laws.BitSigns.{sar_bits-negative}
 use Rattle.sail_base.proofs.word.Word.sar.Goals as goal
 
 pub returns-then-top : goal.returns-then-top

@@ -1,6 +1,6 @@
 use Rattle.std.proofs.Common.{sym, ap, ◌∙◌}
 use Rattle.sail_base.specs.Bits.{not_bits, zext_bits}
-use Rattle.sail_base.specs.BitSigns.{sext_bits-negative}
+use Rattle.sail_base.specs.laws.BitSigns.{sext_bits-negative}
 use Rattle.sail_base.proofs.word.Word.sext.Goals as goal
 
 pub returns-then-top : goal.returns-then-top

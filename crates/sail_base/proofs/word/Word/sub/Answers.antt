@@ -1,6 +1,6 @@
 use Rattle.std.proofs.Common.{◌∙◌}
 use Rattle.sail_base.specs.Bits.{sub_bits}
-use Rattle.sail_base.specs.BitNumbers.{sub_bits-numbers}
+use Rattle.sail_base.specs.laws.BitNumbers.{sub_bits-numbers}
 use Rattle.sail_base.proofs.Words.{below_pow}
 use Rattle.sail_base.proofs.word.Word.sub.Goals as goal
 

@@ -1,6 +1,6 @@
 use Rattle.std.proofs.Common.{◌∙◌, sym, ap, nat_eq, ◌&&◌, eq-eqb, ne_eqb}
 use Rattle.sail_base.specs.Bits.{eq_bits}
-use Rattle.sail_base.specs.BitLaws.{eq_bits-numbers}
+use Rattle.sail_base.specs.laws.BitLaws.{eq_bits-numbers}
 use Rattle.sail_base.proofs.word.WordPartialEq.eq.Goals as goal
 
 pub returns-then-self-other : goal.returns-then-self-other

@@ -109,7 +109,7 @@ mod-pow_twice t w n h =
 pub Decides-eq_bits : (a b : List Bool) → Decides (eq_bits a b) (a ≡ b)
 Decides-eq_bits = pointwise_decides booleans_Decides
 
--- for a caller that compares words: `#[tactic(auto, using(sail_base::specs::BitLaws::word_equality))]`
+-- for a caller that compares words: `#[tactic(auto, using(sail_base::specs::laws::BitLaws::word_equality))]`
 pub ruleset word_equality = (Decides-eq_bits)
 
 pub eq_bits-equiv : IsEquivalence eq_bits

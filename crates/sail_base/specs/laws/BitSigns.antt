@@ -9,9 +9,9 @@ use Rattle.std.proofs.Math.Nat.{div-eq_of_lt-le, mul-le-mul_right, div-mul-le_se
 use Rattle.std.specs.Int.Count.{count_leading_zeros, leading_of_zero}
 use Rattle.std.proofs.lemmas.Nat.{leading_top}
 use Rattle.sail_base.specs.Bits.{is_odd, bit_value, bits_of, value_of, top_bit, not_bits, signed_of, leading_zeros, shr_bits, sar_bits, zext_bits, sext_bits}
-use Rattle.sail_base.specs.BitLaws.{length-bits_of, value_of-lt, bits_of-value_of, bits_of-append}
-use Rattle.sail_base.specs.BitNumbers.{bits_of-add-multiple}
-use Rattle.sail_base.specs.BitShapes.{bits_of-zero, get_or-bits_of, bits_of-wider, not_bits-append, not_bits-drop}
+use Rattle.sail_base.specs.laws.BitLaws.{length-bits_of, value_of-lt, bits_of-value_of, bits_of-append}
+use Rattle.sail_base.specs.laws.BitNumbers.{bits_of-add-multiple}
+use Rattle.sail_base.specs.laws.BitShapes.{bits_of-zero, get_or-bits_of, bits_of-wider, not_bits-append, not_bits-drop}
 
 pub length-not_bits : (bs : List Bool) → length (not_bits bs) ≡ length bs
 length-not_bits bs = length-map bs not

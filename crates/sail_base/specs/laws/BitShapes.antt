@@ -4,8 +4,8 @@ use Rattle.std.proofs.lemmas.List.{map-append}
 use Rattle.std.proofs.lemmas.Nat.{shr-shr}
 use Rattle.std.proofs.Math.Nat.{div-eq_of_lt}
 use Rattle.sail_base.specs.Bits.{is_odd, bits_of, not_bits, shl_bits, shr_bits, append_bits, slice_bits, zext_bits}
-use Rattle.sail_base.specs.BitLaws.{length-bits_of, bits_of-mod, take-bits_of, drop-bits_of, bits_of-append}
-use Rattle.sail_base.specs.BitNumbers.{pow_multiple, bits_of-add-multiple}
+use Rattle.sail_base.specs.laws.BitLaws.{length-bits_of, bits_of-mod, take-bits_of, drop-bits_of, bits_of-append}
+use Rattle.sail_base.specs.laws.BitNumbers.{pow_multiple, bits_of-add-multiple}
 
 -- the bits of zero
 pub bits_of-zero : (w : ℕ) → bits_of w 0 ≡ replicate w false

@@ -5,11 +5,11 @@ use Rattle.std.proofs.lemmas.Nat.{shr_below, mul-lt}
 use Rattle.std.proofs.lemmas.List.{length-replicate, get_or-append-add, get_or-replicate}
 use Rattle.std.specs.Int.{int_div_euclid, int_rem_euclid}
 use Rattle.sail_base.specs.Bits.{bits_of, value_of, top_bit, not_bits, signed_of, bits_of_int, add_bits, sub_bits, mul_bits, mul_wide_unsigned, shl_bits, shr_bits, sar_bits, slice_bits, zext_bits, sext_bits}
-use Rattle.sail_base.specs.BitLaws.{length-bits_of, value_of-bits_of, value_of-bits_of_fits, value_of-lt, bits_of-value_of, take-bits_of, drop-bits_of, value_of-append}
-use Rattle.sail_base.specs.BitNumbers.{bits_of-add-multiple, bits_of-complement}
-use Rattle.sail_base.specs.BitShapes.{shl_bits-numbers, shr_bits-numbers, not_bits-twice}
-use Rattle.sail_base.specs.BitSigns.{length-not_bits, value_of-not_bits, top_bit-true, top_bit-false, signed_of-negative, signed_of-positive, by_top, sar_bits-negative, sext_bits-negative}
-use Rattle.sail_base.specs.WordParts.{length-sar_bits, sar_bits-past}
+use Rattle.sail_base.specs.laws.BitLaws.{length-bits_of, value_of-bits_of, value_of-bits_of_fits, value_of-lt, bits_of-value_of, take-bits_of, drop-bits_of, value_of-append}
+use Rattle.sail_base.specs.laws.BitNumbers.{bits_of-add-multiple, bits_of-complement}
+use Rattle.sail_base.specs.laws.BitShapes.{shl_bits-numbers, shr_bits-numbers, not_bits-twice}
+use Rattle.sail_base.specs.laws.BitSigns.{length-not_bits, value_of-not_bits, top_bit-true, top_bit-false, signed_of-negative, signed_of-positive, by_top, sar_bits-negative, sext_bits-negative}
+use Rattle.sail_base.specs.laws.WordParts.{length-sar_bits, sar_bits-past}
 
 -- ---- sums, differences and products, modulo 2 to the width
 

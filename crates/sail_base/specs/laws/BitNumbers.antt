@@ -5,7 +5,7 @@ use Rattle.std.proofs.Math.Nat.{add-mul-mod_self_right}
 use Rattle.std.proofs.lemmas.Int.{ints}
 use Rattle.std.proofs.lemmas.Nat.{and_shr, or_shr, xor_shr, and_mod, or_mod, xor_mod}
 use Rattle.sail_base.specs.Bits.{is_odd, bits_of, not_bits, bits_of_int, sub_bits, mul_bits, and_bits, or_bits, xor_bits, differ}
-use Rattle.sail_base.specs.BitLaws.{length-bits_of, value_of-bits_of_fits, bits_of-mod, mod-pow_twice, double}
+use Rattle.sail_base.specs.laws.BitLaws.{length-bits_of, value_of-bits_of_fits, bits_of-mod, mod-pow_twice, double}
 
 -- a multiple of 2 to the width more or less leaves the low bits as they are
 pub bits_of-add-multiple : (w n k : ℕ) → bits_of w (n + k * 2 ^ w) ≡ bits_of w n

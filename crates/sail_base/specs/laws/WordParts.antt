@@ -2,8 +2,8 @@
 use Rattle.std.proofs.Common.{◌≡◌, ℕ, zero, suc, ◌+◌, ◌-◌, ◌*◌, ◌<◌, ◌≤◌, Bool, false, not, List, [], ◌∷◌, ◌++◌, length, take, drop, replicate, get_or, refl, sym, ap, ◌∙◌, arith, ℤ, pos, negsuc, ◌-ℤ◌, ◌*ℤ◌, length-append, length-take, length-drop, take-take, drop-drop, take_at, drop_at, take_all, append_assoc, take-add, min}
 use Rattle.std.proofs.lemmas.List.{length-replicate, take-append-le, drop-replicate, take-replicate, drop-take}
 use Rattle.sail_base.specs.Bits.{bits_of, value_of, top_bit, not_bits, signed_of, bits_of_int, add_bits, sub_bits, mul_bits, mul_wide_unsigned, mul_wide_signed, mul_wide_mixed, bitwise, shl_bits, shr_bits, sar_bits, append_bits, slice_bits, zext_bits, sext_bits, copies}
-use Rattle.sail_base.specs.BitLaws.{length-bits_of}
-use Rattle.sail_base.specs.BitSigns.{length-not_bits}
+use Rattle.sail_base.specs.laws.BitLaws.{length-bits_of}
+use Rattle.sail_base.specs.laws.BitSigns.{length-not_bits}
 
 -- ---- how wide the results are
 
@@ -150,5 +150,5 @@ width-append a b = length-append a b
 pub width-replicate : (n : ℕ) (b : Bool) → length (replicate n b) ≡ n
 width-replicate n b = length-replicate n b
 
--- for a caller that needs the width of a result: `#[tactic(auto, using(sail_base::specs::WordParts::word_widths))]`
+-- for a caller that needs the width of a result: `#[tactic(auto, using(sail_base::specs::laws::WordParts::word_widths))]`
 pub ruleset word_widths = (length-bits_of, length-bits_of_int, length-not_bits, length-bitwise, width-take, width-drop, width-append, width-replicate, length-copies)
