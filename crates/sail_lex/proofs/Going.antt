@@ -1,7 +1,7 @@
 -- The tokens so far, and what the rest of the source says.
-use Rattle.std.proofs.Common.{◌≡◌, ℕ, ◌+◌, ◌<◌, ◌≤◌, List, [], ◌∷◌, ◌++◌, length, drop, sym, refl, subst, arith, append_assoc, append-nil}
+use Rattle.std.proofs.Common.{◌≡◌, ℕ, ◌+◌, ◌<◌, ◌≤◌, List, [], ◌∷◌, ◌++◌, length, drop, sym, refl, subst, arith, append_assoc, append-nil, length-drop, IsAscii}
 use Rattle.std.proofs.lemmas.List.{length_push}
-use Rattle.sail_lex.specs.declared.kind.Kind.{Kind}
+use Rattle.sail_lex.specs.declared.kind.TokenKind.{TokenKind}
 use Rattle.sail_lex.specs.declared.front.Front.TheVariants.{Token}
 use Rattle.sail_lex.specs.declared.token.Token.{Token as TokenType}
 use Rattle.sail_lex.specs.declared.token.LexError.{LexError}
@@ -9,7 +9,8 @@ use Rattle.sail_lex.specs.Front.{front}
 use Rattle.sail_lex.specs.Position.{place_at}
 use Rattle.sail_lex.specs.Tokens.{Lexes, ended, skipped, token, Refuses, after_skip, after_token, Skips, token_at, most_tokens, AreInOrder, HavePlaces}
 use Rattle.std.proofs.Common.{take}
-use Rattle.sail_lex.specs.Valued.{IsValued, AreValued, text_of}
+use Rattle.sail_lex.specs.Valued.{IsValued, AreValued, AreAscii, text_of}
+use Rattle.sail_lex.proofs.Ascii.{token_ascii}
 
 -- what the source says from a place on, after these tokens, it says from its beginning
 pub record Continues (file : ℕ) (source : List ℕ) (before at : ℕ) (tokens : List TokenType) : Type 0 where
@@ -18,6 +19,7 @@ pub record Continues (file : ℕ) (source : List ℕ) (before at : ℕ) (tokens 
   pub spans : AreInOrder 0 at tokens
   pub places : HavePlaces file source tokens
   pub values : AreValued source tokens
+  pub ascii : AreAscii source tokens
 
 -- the span of one token more
 spans_push : (from at n : ℕ) (tokens : List TokenType) (t : TokenType) → AreInOrder from at tokens → t.start ≡ at → t.end ≡ at + n → 0 < n → AreInOrder from (at + n) (tokens ++ t ∷ [])
@@ -36,6 +38,10 @@ values_push : (source : List ℕ) (tokens : List TokenType) (t : TokenType) → 
 values_push source [] t h v = (v, tt)
 values_push source (x ∷ tokens) t h v = (h.0, values_push source tokens t h.1 v)
 
+ascii_push : (source : List ℕ) (tokens : List TokenType) (t : TokenType) → AreAscii source tokens → IsAscii (text_of source t) → AreAscii source (tokens ++ t ∷ [])
+ascii_push source [] t h v = (v, tt)
+ascii_push source (x ∷ tokens) t h v = (h.0, ascii_push source tokens t h.1 v)
+
 module _ (file : ℕ) (source : List ℕ) (before at : ℕ) (tokens : List TokenType) where
   pub continues_skip : (n : ℕ) → at < length source → Skips (drop at source) n → Continues file source before at tokens → Continues file source before (at + n) tokens
   continues_skip n h skips c = record {
@@ -44,12 +50,13 @@ module _ (file : ℕ) (source : List ℕ) (before at : ℕ) (tokens : List Token
     spans = spans_wider 0 at n tokens c.spans;
     places = c.places;
     values = c.values;
+    ascii = c.ascii;
   }
 
   count_push : (t : TokenType) → before + length (tokens ++ t ∷ []) ≡ before + length tokens + 1
   count_push t = omega (arith, length_push tokens t)
 
-  pub continues_token : (kind : Kind) (n : ℕ) (grown : List TokenType) → at < length source → front (drop at source) ≡ Token kind n → before + length tokens < most_tokens → 0 < n → IsValued kind (take n (drop at source)) → grown ≡ tokens ++ token_at file source at kind n ∷ [] → Continues file source before at tokens → Continues file source before (at + n) grown
+  pub continues_token : (kind : TokenKind) (n : ℕ) (grown : List TokenType) → at < length source → front (drop at source) ≡ Token kind n → before + length tokens < most_tokens → 0 < n → IsValued kind (take n (drop at source)) → grown ≡ tokens ++ token_at file source at kind n ∷ [] → Continues file source before at tokens → Continues file source before (at + n) grown
   continues_token kind n grown h f few some valued e c =
       let t = token_at file source at kind n in
       subst (Continues file source before (at + n)) (sym e) (record {
@@ -58,6 +65,7 @@ module _ (file : ℕ) (source : List ℕ) (before at : ℕ) (tokens : List Token
         spans = spans_push 0 at n tokens t c.spans refl refl some;
         places = places_push file source tokens t c.places refl;
         values = values_push source tokens t c.values (subst (λ (k : ℕ). IsValued kind (take k (drop at source))) (omega arith) valued);
+        ascii = ascii_push source tokens t c.ascii (subst (λ (k : ℕ). IsAscii (take k (drop at source))) (omega arith) (token_ascii (drop at source) kind n (omega (arith, length-drop at source)) f));
       })
 
   -- at the source's end the tokens so far are all
@@ -71,4 +79,5 @@ continues_begin file source before tokens e = subst (Continues file source befor
   spans = omega arith;
   places = tt;
   values = tt;
+  ascii = tt;
 })

@@ -1,3 +1,4 @@
+pub mod Ascii
 pub mod Going
 pub mod Longest
 pub mod Marks

@@ -6,14 +6,14 @@ use Rattle.std.specs.Char.{is_ascii_digit}
 use Rattle.std.specs.Cmp.Lexicographic.{pointwise}
 use Rattle.std.proofs.lemmas.Bool.{and_parts, and_from, not-true}
 use Rattle.std.proofs.lemmas.Bool.Decides.{nat_tests}
-use Rattle.sail_lex.specs.declared.kind.Kind.{Kind}
+use Rattle.sail_lex.specs.declared.kind.TokenKind.{TokenKind}
 use Rattle.sail_lex.specs.declared.literal.Radix.{Radix}
 use Rattle.sail_lex.specs.declared.literal.Radix.TheVariants.{Base2, Base16}
 use Rattle.sail_lex.specs.declared.front.Fault.{Fault}
 use Rattle.sail_lex.specs.declared.front.Front.{Front}
 use Rattle.sail_lex.specs.declared.front.Front.TheVariants.{Skip, Comment, Token, Refused}
 use Rattle.sail_lex.specs.declared.front.Fault.TheVariants.{BadByte, BadLiteral, Unclosed, NumberTooLarge}
-use Rattle.sail_lex.specs.declared.kind.Kind.TheVariants.{TypeVariable, Decimal, StringLiteral, LeftOut}
+use Rattle.sail_lex.specs.declared.kind.TokenKind.TheVariants.{TypeVariable, Decimal, StringLiteral, LeftOut}
 use Rattle.sail_lex.specs.Bytes.{is_blank, begins_name, in_name, in_decimal, in_hexadecimal, in_binary, in_line, in_directive, first}
 use Rattle.sail_lex.specs.Front.{front, name_front, number_front, type_variable_front, string_front, directive_front, other_front, symbol_front, decimal_front, bits_front, front_of_symbol, kind_of_bits}
 use Rattle.sail_lex.specs.Literal.{Part, Escape, Byte, string_parts, size_of, parts, inside, in_digits_of, is_good, is_end}
@@ -34,7 +34,7 @@ choose : {A : Type 0} → Bool → Bool → Bool → Bool → Bool → Bool → 
 choose blank letter digit tick quote dollar a b c d e f g =
     cond blank a (cond letter b (cond digit c (cond tick d (cond quote e (cond dollar f g)))))
 
-length_of : Option (List ℕ × Kind) → ℕ
+length_of : Option (List ℕ × TokenKind) → ℕ
 length_of None = 0
 length_of (Some e) = length e.0
 
@@ -268,7 +268,7 @@ bound_string (suc m) (b ∷ text) le h =
 
 -- ---- symbols
 
-longer_left : (a b : Option (List ℕ × Kind)) → length_of a ≤ length_of (longer_of a b)
+longer_left : (a b : Option (List ℕ × TokenKind)) → length_of a ≤ length_of (longer_of a b)
 unfolding length_of
 longer_left None b = omega arith
 longer_left (Some a) None = omega arith
@@ -277,7 +277,7 @@ longer_left (Some a) (Some b) = by_length (nat_lt (length a.0) (length b.0)) ref
   by_length true e = omega (arith, ltb-true (length a.0) (length b.0) e)
   by_length false e = omega arith
 
-longer_right : (a b : Option (List ℕ × Kind)) → length_of b ≤ length_of (longer_of a b)
+longer_right : (a b : Option (List ℕ × TokenKind)) → length_of b ≤ length_of (longer_of a b)
 unfolding length_of
 longer_right None b = omega arith
 longer_right (Some a) None = omega arith
@@ -290,16 +290,16 @@ same_bytes : (xs : List ℕ) → pointwise nat_eq xs xs ≡ true
 same_bytes [] = refl
 same_bytes (x ∷ xs) = and_from (nat_eq x x) (pointwise nat_eq xs xs) (eq-eqb x x refl) (same_bytes xs)
 
-begins_with : (e : List ℕ × Kind) (text : List ℕ) (m : ℕ) → m ≤ length text → e.0 ≡ take m text → starts_with nat_eq text e.0 ≡ true
+begins_with : (e : List ℕ × TokenKind) (text : List ℕ) (m : ℕ) → m ≤ length text → e.0 ≡ take m text → starts_with nat_eq text e.0 ≡ true
 begins_with e text m le h =
     let size : length e.0 ≡ m = ap length h ∙ length-take-le m text le in
     subst (λ (t : List ℕ). pointwise nat_eq e.0 t ≡ true) (h ∙ ap (λ k. take k text) (sym size)) (same_bytes e.0)
 
-length_some : (e : List ℕ × Kind) → length_of (Some e) ≡ length e.0
+length_some : (e : List ℕ × TokenKind) → length_of (Some e) ≡ length e.0
 unfolding length_of
 length_some e = refl
 
-stands_bound : (table : List (List ℕ × Kind)) (text word : List ℕ) (kind : Kind) (m : ℕ) → m ≤ length text → word ≡ take m text → StandsIn table word kind → m ≤ length_of (longest_in table text)
+stands_bound : (table : List (List ℕ × TokenKind)) (text word : List ℕ) (kind : TokenKind) (m : ℕ) → m ≤ length text → word ≡ take m text → StandsIn table word kind → m ≤ length_of (longest_in table text)
 unfolding StandsIn
 stands_bound [] text word kind m le h s = absurd s
 stands_bound (e ∷ table) text word kind m le h (inl both) =
@@ -307,7 +307,7 @@ stands_bound (e ∷ table) text word kind m le h (inl both) =
     let found : if_begins e text ≡ Some e = ap (λ (t : Bool). cond t (Some e) None) (begins_with e text m le same) in
     let size : length e.0 ≡ m = ap length same ∙ length-take-le m text le in
     let left : length_of (Some e) ≤ length_of (longer_of (Some e) (longest_in table text)) = longer_left (Some e) (longest_in table text) in
-    subst (λ (o : Option (List ℕ × Kind)). m ≤ length_of (longer_of o (longest_in table text))) (sym found) (omega (arith, length_some e, size, left))
+    subst (λ (o : Option (List ℕ × TokenKind)). m ≤ length_of (longer_of o (longest_in table text))) (sym found) (omega (arith, length_some e, size, left))
 stands_bound (e ∷ table) text word kind m le h (inr s) =
     omega (arith, stands_bound table text word kind m le h s, longer_right (if_begins e text) (longest_in table text))
 
@@ -315,13 +315,13 @@ stands_bound (e ∷ table) text word kind m le h (inr s) =
 begins_symbol : ℕ → Bool
 begins_symbol b = not (is_blank b) && (not (begins_name b) && (not (is_ascii_digit b) && (not (eqb b 39) && (not (eqb b 34) && not (eqb b 36)))))
 
-stands_passes : (p : List ℕ × Kind → Bool) (table : List (List ℕ × Kind)) (word : List ℕ) (kind : Kind) → list_all p table ≡ true → StandsIn table word kind → (e : List ℕ × Kind) × (e.0 ≡ word) × (p e ≡ true)
+pub stands_passes : (p : List ℕ × TokenKind → Bool) (table : List (List ℕ × TokenKind)) (word : List ℕ) (kind : TokenKind) → list_all p table ≡ true → StandsIn table word kind → (e : List ℕ × TokenKind) × (e.0 ≡ word) × (p e ≡ true)
 unfolding StandsIn
 stands_passes p [] word kind h s = absurd s
 stands_passes p (e ∷ table) word kind h (inl both) = (e, both.0, (and_parts (p e) (list_all p table) h).0)
 stands_passes p (e ∷ table) word kind h (inr s) = stands_passes p table word kind (and_parts (p e) (list_all p table) h).1 s
 
-symbol_begins : (word : List ℕ) (kind : Kind) → StandsIn symbols word kind → begins_symbol (first word) ≡ true
+symbol_begins : (word : List ℕ) (kind : TokenKind) → StandsIn symbols word kind → begins_symbol (first word) ≡ true
 unfolding symbols begins_symbol
 symbol_begins word kind s =
     let found = stands_passes (λ e. begins_symbol (first e.0)) symbols word kind refl s in
@@ -338,14 +338,14 @@ limit_symbol b text h =
     choose_other (is_blank b) (begins_name b) (is_ascii_digit b) (eqb b 39) (eqb b 34) (eqb b 36) 0 (prefix_len in_name text) (number_limit text) (prefix_len in_name (drop 1 text) + 1) (size_of (string_parts text) + 2) (prefix_len in_line text) (length_of (longest_in symbols text))
     (not-true (is_blank b) a1.0) (not-true (begins_name b) a2.0) (not-true (is_ascii_digit b) a3.0) (not-true (eqb b 39) a4.0) (not-true (eqb b 34) a5.0) (not-true (eqb b 36) a5.1)
 
-bound_symbol : (m : ℕ) (text : List ℕ) (kind : Kind) → m ≤ length text → StandsIn symbols (take m text) kind → m ≤ limit_at (first text) text
+bound_symbol : (m : ℕ) (text : List ℕ) (kind : TokenKind) → m ≤ length text → StandsIn symbols (take m text) kind → m ≤ limit_at (first text) text
 bound_symbol zero text kind le s = omega arith
 bound_symbol (suc m) [] kind le s = absurd (omega arith)
 bound_symbol (suc m) (b ∷ text) kind le s =
     subst (λ (k : ℕ). suc m ≤ k) (sym (limit_symbol b (b ∷ text) (symbol_begins (take (suc m) (b ∷ text)) kind s))) (stands_bound symbols (b ∷ text) (take (suc m) (b ∷ text)) kind (suc m) le refl s)
 
 -- any spelling that begins the text is within the limit
-bound : (text word : List ℕ) (kind : Kind) (m : ℕ) → m ≤ length text → word ≡ take m text → IsSpelling kind word → m ≤ limit_at (first text) text
+bound : (text word : List ℕ) (kind : TokenKind) (m : ℕ) → m ≤ length text → word ≡ take m text → IsSpelling kind word → m ≤ limit_at (first text) text
 bound text word kind m le e (named h) = bound_name m text le (subst (λ (t : List ℕ). is_name t ≡ true) e h)
 bound text word kind m le e (type_variable {text = rest} h) = bound_variable m text rest le h e
 bound text word kind m le e (decimal d h) = bound_decimal m text le (subst (λ (t : List ℕ). is_ascii_digit (first t) ≡ true) e d) (subst (λ (t : List ℕ). list_all in_decimal t ≡ true) e h)
@@ -369,19 +369,19 @@ unfolding name_front Fits
 fits_name text =
     elim (nat_lt 255 (prefix_len in_name text)) as (λ t. Fits (prefix_len in_name text) (cond t (Refused BadLiteral 0) (Token (kind_of_name (take (prefix_len in_name text) text)) (prefix_len in_name text)))) [ true ↦ tt | false ↦ refl ]
 
-two_tests : (s t : Bool) (f g : Fault) (kind : Kind) (n : ℕ) → Fits n (cond s (Refused f 0) (cond t (Refused g 0) (Token kind n)))
+two_tests : (s t : Bool) (f g : Fault) (kind : TokenKind) (n : ℕ) → Fits n (cond s (Refused f 0) (cond t (Refused g 0) (Token kind n)))
 unfolding Fits
 two_tests true t f g kind n = tt
 two_tests false true f g kind n = tt
 two_tests false false f g kind n = refl
 
-string_tests : (s t : Bool) (f g : Fault) (kind : Kind) (n : ℕ) → Fits n (cond s (Refused f 0) (cond t (Token kind n) (Refused g 0)))
+string_tests : (s t : Bool) (f g : Fault) (kind : TokenKind) (n : ℕ) → Fits n (cond s (Refused f 0) (cond t (Token kind n) (Refused g 0)))
 unfolding Fits
 string_tests true t f g kind n = tt
 string_tests false true f g kind n = refl
 string_tests false false f g kind n = tt
 
-directive_tests : (s t : Bool) (f : Fault) (i : ℕ) (kind : Kind) (n : ℕ) → Fits n (cond s (Refused f i) (cond t (Skip n) (Token kind n)))
+directive_tests : (s t : Bool) (f : Fault) (i : ℕ) (kind : TokenKind) (n : ℕ) → Fits n (cond s (Refused f i) (cond t (Skip n) (Token kind n)))
 unfolding Fits
 directive_tests true t f i kind n = tt
 directive_tests false true f i kind n = tt
@@ -415,7 +415,7 @@ fits_directive : (text : List ℕ) → Fits (prefix_len in_line text) (directive
 unfolding directive_front
 fits_directive text = directive_tests _ _ _ _ LeftOut (prefix_len in_line text)
 
-fits_found : (text : List ℕ) (found : Option (List ℕ × Kind)) → Fits (length_of found) (front_of_symbol text found)
+fits_found : (text : List ℕ) (found : Option (List ℕ × TokenKind)) → Fits (length_of found) (front_of_symbol text found)
 unfolding length_of Fits
 fits_found text None = tt
 fits_found text (Some e) = refl
@@ -442,7 +442,7 @@ fits text = by_byte (is_blank (first text)) (begins_name (first text)) (is_ascii
   by_byte false false false false false false = fits_other text
 
 -- no more bytes than those of the token are a spelling
-pub longest_of : (text : List ℕ) (kind : Kind) (n : ℕ) → front text ≡ Token kind n → (other : Kind) (m : ℕ) → m ≤ length text → IsSpelling other (take m text) → m ≤ n
+pub longest_of : (text : List ℕ) (kind : TokenKind) (n : ℕ) → front text ≡ Token kind n → (other : TokenKind) (m : ℕ) → m ≤ length text → IsSpelling other (take m text) → m ≤ n
 unfolding Fits
 longest_of text kind n h other m le s =
     let same : limit_at (first text) text ≡ n = subst (Fits (limit_at (first text) text)) h (fits text) in

@@ -1,7 +1,7 @@
 -- A source has at most one answer.
 use Rattle.std.proofs.Common.{◌≡◌, ℕ, ◌+◌, ◌<◌, List, ◌∷◌, take, drop, sym, refl, ap, ◌∙◌, subst, arith, inl, inr, ◌⊎◌}
 use Rattle.std.proofs.lemmas.Bool.{cases_order}
-use Rattle.sail_lex.specs.declared.kind.Kind.{Kind}
+use Rattle.sail_lex.specs.declared.kind.TokenKind.{TokenKind}
 use Rattle.sail_lex.specs.declared.front.Fault.{Fault}
 use Rattle.sail_lex.specs.declared.front.Front.TheVariants.{Comment, Token, Refused}
 use Rattle.sail_lex.specs.declared.token.Token.{Token as TokenType}
@@ -29,7 +29,7 @@ skips_once text n m (blank e) (comment f k) = cc
 skips_once text n m (comment e h) (blank f) = cc
 skips_once text n m (comment e h) (comment f k) = comment_once text n m h k
 
-skips_no_token : (text : List ℕ) (n m : ℕ) (kind : Kind) → Skips text n → front text ≡ Token kind m → ⊥
+skips_no_token : (text : List ℕ) (n m : ℕ) (kind : TokenKind) → Skips text n → front text ≡ Token kind m → ⊥
 skips_no_token text n m kind (blank e) f = cc
 skips_no_token text n m kind (comment e h) f = cc
 
@@ -41,10 +41,10 @@ skips_ends : (text : List ℕ) (n : ℕ) → Skips text n → front text ≡ Com
 skips_ends text n (blank e) f never = cc
 skips_ends text n (comment e h) f never = never_comment text n h never
 
-same_kind : (text : List ℕ) (k l : Kind) (n m : ℕ) → front text ≡ Token k n → front text ≡ Token l m → k ≡ l
+same_kind : (text : List ℕ) (k l : TokenKind) (n m : ℕ) → front text ≡ Token k n → front text ≡ Token l m → k ≡ l
 same_kind text k l n m e f = cc
 
-same_length : (text : List ℕ) (k l : Kind) (n m : ℕ) → front text ≡ Token k n → front text ≡ Token l m → n ≡ m
+same_length : (text : List ℕ) (k l : TokenKind) (n m : ℕ) → front text ≡ Token k n → front text ≡ Token l m → n ≡ m
 same_length text k l n m e f = cc
 
 same_fault : (text : List ℕ) (a b : Fault) (n m : ℕ) → front text ≡ Refused a n → front text ≡ Refused b m → a ≡ b

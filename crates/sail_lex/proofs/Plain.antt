@@ -4,15 +4,15 @@ use Rattle.std.specs.Prelude.{IfSome, not, unwrap_or, codes, nat_eq}
 use Rattle.std.specs.List.{list_all, starts_with}
 use Rattle.std.specs.Str.{bytes_eq}
 use Rattle.std.proofs.lemmas.Bool.{true≢false, and_parts, not-true}
-use Rattle.sail_lex.specs.declared.kind.Kind.{Kind}
-use Rattle.sail_lex.specs.declared.kind.Kind.TheVariants.{Identifier, Wildcard, Decimal, Hexadecimal, Binary, StringLiteral}
+use Rattle.sail_lex.specs.declared.kind.TokenKind.{TokenKind}
+use Rattle.sail_lex.specs.declared.kind.TokenKind.TheVariants.{Identifier, Wildcard, Decimal, Hexadecimal, Binary, StringLiteral}
 use Rattle.sail_lex.specs.Spelling.{kind_in, kind_of_name, longest_in, if_begins}
 use Rattle.sail_lex.specs.Tables.{words, symbols}
 use Rattle.sail_lex.specs.Valued.{has_value, IsValued}
 use Rattle.sail_lex.proofs.Symbols.{longer_keeps}
 
 -- a kind without value asks nothing
-plain_kind : (kind : Kind) (text : List ℕ) → has_value kind ≡ false → IsValued kind text
+plain_kind : (kind : TokenKind) (text : List ℕ) → has_value kind ≡ false → IsValued kind text
 unfolding IsValued
 plain_kind Decimal text h = absurd (true≢false h)
 plain_kind Hexadecimal text h = absurd (true≢false h)
@@ -20,13 +20,13 @@ plain_kind Binary text h = absurd (true≢false h)
 plain_kind StringLiteral text h = absurd (true≢false h)
 plain_kind _ text h = tt
 
-plain_word : (table : List (List ℕ × Kind)) (word : List ℕ) → list_all (λ e. not (has_value e.1)) table ≡ true → IfSome (kind_in table word) (λ k. has_value k ≡ false)
+plain_word : (table : List (List ℕ × TokenKind)) (word : List ℕ) → list_all (λ e. not (has_value e.1)) table ≡ true → IfSome (kind_in table word) (λ k. has_value k ≡ false)
 plain_word [] word h = tt
 plain_word (e ∷ table) word h =
     let parts = and_parts (not (has_value e.1)) (list_all (λ e. not (has_value e.1)) table) h in
     elim (bytes_eq e.0 word) as (λ t. IfSome (cond t (Some e.1) (kind_in table word)) (λ k. has_value k ≡ false)) [ true ↦ not-true (has_value e.1) parts.0 | false ↦ plain_word table word parts.1 ]
 
-plain_option : (o : Option Kind) → IfSome o (λ k. has_value k ≡ false) → has_value (unwrap_or o Identifier) ≡ false
+plain_option : (o : Option TokenKind) → IfSome o (λ k. has_value k ≡ false) → has_value (unwrap_or o Identifier) ≡ false
 plain_option None h = refl
 plain_option (Some k) h = h
 
@@ -39,7 +39,7 @@ plain_name name text =
       | false ↦ plain_kind (unwrap_or (kind_in words name) Identifier) text (plain_option (kind_in words name) (plain_word words name refl))
     ]
 
-plain_longest : (table : List (List ℕ × Kind)) (text : List ℕ) → list_all (λ e. not (has_value e.1)) table ≡ true → IfSome (longest_in table text) (λ f. has_value f.1 ≡ false)
+plain_longest : (table : List (List ℕ × TokenKind)) (text : List ℕ) → list_all (λ e. not (has_value e.1)) table ≡ true → IfSome (longest_in table text) (λ f. has_value f.1 ≡ false)
 plain_longest [] text h = tt
 plain_longest (e ∷ table) text h =
     let parts = and_parts (not (has_value e.1)) (list_all (λ e. not (has_value e.1)) table) h in
@@ -48,7 +48,7 @@ plain_longest (e ∷ table) text h =
     (plain_longest table text parts.1)
 
 -- nor has a symbol
-pub plain_symbol : (text spelled : List ℕ) (found : Option (List ℕ × Kind)) → found ≡ longest_in symbols text → IfSome found (λ f. IsValued f.1 spelled)
+pub plain_symbol : (text spelled : List ℕ) (found : Option (List ℕ × TokenKind)) → found ≡ longest_in symbols text → IfSome found (λ f. IsValued f.1 spelled)
 unfolding symbols
 plain_symbol text spelled None e = tt
 plain_symbol text spelled (Some f) e = plain_kind f.1 spelled (subst (λ o. IfSome o (λ f. has_value f.1 ≡ false)) (sym e) (plain_longest symbols text refl))

@@ -6,8 +6,8 @@ use Rattle.std.specs.Char.{is_ascii_digit, is_ascii_alphabetic, is_ascii_hexdigi
 use Rattle.std.proofs.lemmas.Bool.{false≢true, true≢false, and_parts, and_from}
 use Rattle.std.proofs.lemmas.List.{take_all}
 use Rattle.std.proofs.lemmas.Slice.Eq.{bytes_eq-Decides}
-use Rattle.sail_lex.specs.declared.kind.Kind.{Kind}
-use Rattle.sail_lex.specs.declared.kind.Kind.TheVariants.{TypeVariable, Decimal, Hexadecimal, Binary, StringLiteral, LeftOut}
+use Rattle.sail_lex.specs.declared.kind.TokenKind.{TokenKind}
+use Rattle.sail_lex.specs.declared.kind.TokenKind.TheVariants.{TypeVariable, Decimal, Hexadecimal, Binary, StringLiteral, LeftOut}
 use Rattle.sail_lex.specs.declared.literal.Radix.TheVariants.{Base2, Base16}
 use Rattle.sail_lex.specs.declared.front.Fault.TheVariants.{BadByte, BadLiteral, Unclosed, NumberTooLarge}
 use Rattle.sail_lex.specs.declared.front.Front.{Front}
@@ -202,24 +202,24 @@ spelled_directive text h = by_tests (nat_lt (prefix_len in_directive (take (pref
       let whole : take (prefix_len in_directive line) line ≡ line = take_all (prefix_len in_directive line) line (omega (arith, length-take (prefix_len in_line text) text, ltb-false (prefix_len in_directive line) (prefix_len in_line text) e)) in
       directive (first_take in_line text (subst (λ (b : ℕ). in_line b ≡ true) (sym h) refl) ∙ h) (subst (λ (t : List ℕ). list_all in_directive t ≡ true) whole (run_all in_directive line)) f
 
-weaken : (e : List ℕ × Kind) (table : List (List ℕ × Kind)) (text : List ℕ) (found : Option (List ℕ × Kind)) → IfSome found (λ f. StandsIn table (take (length f.0) text) f.1) → IfSome found (λ f. StandsIn (e ∷ table) (take (length f.0) text) f.1)
+weaken : (e : List ℕ × TokenKind) (table : List (List ℕ × TokenKind)) (text : List ℕ) (found : Option (List ℕ × TokenKind)) → IfSome found (λ f. StandsIn table (take (length f.0) text) f.1) → IfSome found (λ f. StandsIn (e ∷ table) (take (length f.0) text) f.1)
 unfolding StandsIn
 weaken e table text None h = tt
 weaken e table text (Some f) h = inr h
 
-first_stands : (e : List ℕ × Kind) (table : List (List ℕ × Kind)) (text : List ℕ) (t : Bool) → starts_with nat_eq text e.0 ≡ t → IfSome (cond t (Some e) None) (λ f. StandsIn (e ∷ table) (take (length f.0) text) f.1)
+first_stands : (e : List ℕ × TokenKind) (table : List (List ℕ × TokenKind)) (text : List ℕ) (t : Bool) → starts_with nat_eq text e.0 ≡ t → IfSome (cond t (Some e) None) (λ f. StandsIn (e ∷ table) (take (length f.0) text) f.1)
 unfolding StandsIn
 first_stands e table text true h = inl ((bytes_eq-Decides e.0 (take (length e.0) text)).0 h, refl)
 first_stands e table text false h = tt
 
-found_stands : (table : List (List ℕ × Kind)) (text : List ℕ) → IfSome (longest_in table text) (λ f. StandsIn table (take (length f.0) text) f.1)
+found_stands : (table : List (List ℕ × TokenKind)) (text : List ℕ) → IfSome (longest_in table text) (λ f. StandsIn table (take (length f.0) text) f.1)
 found_stands [] text = tt
 found_stands (e ∷ table) text =
     longer_keeps (λ f. StandsIn (e ∷ table) (take (length f.0) text) f.1) (if_begins e text) (longest_in table text)
     (first_stands e table text (starts_with nat_eq text e.0) refl)
     (weaken e table text (longest_in table text) (found_stands table text))
 
-spelled_found : (text : List ℕ) (found : Option (List ℕ × Kind)) → IfSome found (λ f. StandsIn symbols (take (length f.0) text) f.1) → Spelled text (front_of_symbol text found)
+spelled_found : (text : List ℕ) (found : Option (List ℕ × TokenKind)) → IfSome found (λ f. StandsIn symbols (take (length f.0) text) f.1) → Spelled text (front_of_symbol text found)
 unfolding Spelled
 spelled_found text None h = tt
 spelled_found text (Some e) h = symbol h
@@ -250,6 +250,9 @@ spelled text some = by_byte (is_blank (first text)) (begins_name (first text)) r
   by_byte false false eu false ev false ew false ex true ey = spelled_directive text (eqb-true (first text) 36 ey)
   by_byte false false eu false ev false ew false ex false ey = spelled_other text
 
-pub law : (text : List ℕ) (kind : Kind) (n : ℕ) → 0 < length text → front text ≡ Token kind n → IsLongest text kind n
+pub spelling_of : (text : List ℕ) (kind : TokenKind) (n : ℕ) → 0 < length text → front text ≡ Token kind n → IsSpelling kind (take n text)
 unfolding Spelled
-law text kind n some h = record { spelled = subst (Spelled text) h (spelled text some); longest = longest_of text kind n h }
+spelling_of text kind n some h = subst (Spelled text) h (spelled text some)
+
+pub law : (text : List ℕ) (kind : TokenKind) (n : ℕ) → 0 < length text → front text ≡ Token kind n → IsLongest text kind n
+law text kind n some h = record { spelled = spelling_of text kind n some h; longest = longest_of text kind n h }

@@ -1,12 +1,12 @@
 -- A table of the program as contracts see it.
 use Rattle.std.specs.Prelude.{ℕ, List, map}
-use Rattle.sail_lex.specs.declared.kind.Kind.{Kind}
+use Rattle.sail_lex.specs.declared.kind.TokenKind.{TokenKind}
 use Rattle.sail_lex.specs.declared.tables.Spelling.{Spelling}
 
 -- a spelling and its kind
-abbrev pub entry : Spelling → List ℕ × Kind
+abbrev pub entry : Spelling → List ℕ × TokenKind
 entry s = (s.text.now, s.kind)
 
 -- the table's spellings and kinds
-abbrev pub entries : List Spelling → List (List ℕ × Kind)
+abbrev pub entries : List Spelling → List (List ℕ × TokenKind)
 entries table = map entry table

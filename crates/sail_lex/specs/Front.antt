@@ -2,8 +2,8 @@
 use Rattle.std.specs.Prelude.{ℕ, ◌+◌, ◌*◌, ◌^◌, Bool, ◌||◌, ◌&&◌, ◌==◌, not, nat_eq, nat_lt, List, length, take, drop, count_by, Option, Some, None, codes, if◌then◌else◌}
 use Rattle.std.specs.List.{prefix_len, list_all, starts_with}
 use Rattle.std.specs.Char.{is_ascii_alphabetic, is_ascii_digit}
-use Rattle.sail_lex.specs.declared.kind.Kind.{Kind}
-use Rattle.sail_lex.specs.declared.kind.Kind.TheVariants.{TypeVariable, Decimal, Hexadecimal, Binary, StringLiteral, LeftOut}
+use Rattle.sail_lex.specs.declared.kind.TokenKind.{TokenKind}
+use Rattle.sail_lex.specs.declared.kind.TokenKind.TheVariants.{TypeVariable, Decimal, Hexadecimal, Binary, StringLiteral, LeftOut}
 use Rattle.sail_lex.specs.declared.literal.Radix.{Radix}
 use Rattle.sail_lex.specs.declared.literal.Radix.TheVariants.{Base2, Base16}
 use Rattle.sail_lex.specs.declared.front.Fault.TheVariants.{BadByte, BadLiteral, Unclosed, NumberTooLarge}
@@ -37,7 +37,7 @@ decimal_front text =
     else Token Decimal n)
 
 -- the kind of a literal of bits
-abbrev pub kind_of_bits : Radix → Kind
+abbrev pub kind_of_bits : Radix → TokenKind
 kind_of_bits Base2 = Binary
 kind_of_bits Base16 = Hexadecimal
 
@@ -87,7 +87,7 @@ directive_front text =
     else Token LeftOut n)
 
 -- a symbol: the longest of the table that begins the text
-abbrev pub front_of_symbol : List ℕ → Option (List ℕ × Kind) → Front
+abbrev pub front_of_symbol : List ℕ → Option (List ℕ × TokenKind) → Front
 front_of_symbol text None = Refused (BadByte (first text)) 0
 front_of_symbol text (Some symbol) = Token symbol.1 (length symbol.0)
 

@@ -1,10 +1,10 @@
 -- The words and the symbols of the language, each with its kind.
 use Rattle.std.specs.Prelude.{ℕ, List, [], ◌∷◌, codes}
-use Rattle.sail_lex.specs.declared.kind.Kind.{Kind}
-use Rattle.sail_lex.specs.declared.kind.Kind.TheVariants.{As, Assert, Bitone, Bitzero, By, Catch, Clause, Constraint, Dec, Default, Do, Else, End, Enum, Exit, False, Forall, Foreach, From, Function, If, In, Inc, Let, Mapping, Match, Not, Operator, Overload, Register, Repeat, Return, Scattered, Sizeof, Struct, TerminationMeasure, Then, Throw, To, True, Try, TypeWord, Union, Until, Val, Var, While, With, LeftOut, Order, OpenParenthesis, CloseParenthesis, OpenBracket, CloseBracket, OpenBrace, CloseBrace, OpenVector, CloseVector, Comma, Semicolon, Colon, DoubleColon, Dot, DoubleDot, Equal, DoubleEqual, NotEqual, Less, LessEqual, Greater, GreaterEqual, LessUnsigned, LessEqualUnsigned, GreaterUnsigned, GreaterEqualUnsigned, LessSigned, LessEqualSigned, GreaterSigned, GreaterEqualSigned, Plus, Minus, Star, Caret, At, Ampersand, Bar, Tilde, ShiftLeft, ShiftRight, Arrow, DoubleArrow, FatArrow}
+use Rattle.sail_lex.specs.declared.kind.TokenKind.{TokenKind}
+use Rattle.sail_lex.specs.declared.kind.TokenKind.TheVariants.{As, Assert, Bitone, Bitzero, By, Catch, Clause, Constraint, Dec, Default, Do, Else, End, Enum, Exit, False, Forall, Foreach, From, Function, If, In, Inc, Let, Mapping, Match, Not, Operator, Overload, Register, Repeat, Return, Scattered, Sizeof, Struct, TerminationMeasure, Then, Throw, To, True, Try, TypeWord, Union, Until, Val, Var, While, With, LeftOut, Order, OpenParenthesis, CloseParenthesis, OpenBracket, CloseBracket, OpenBrace, CloseBrace, OpenVector, CloseVector, Comma, Semicolon, Colon, DoubleColon, Dot, DoubleDot, Equal, DoubleEqual, NotEqual, Less, LessEqual, Greater, GreaterEqual, LessUnsigned, LessEqualUnsigned, GreaterUnsigned, GreaterEqualUnsigned, LessSigned, LessEqualSigned, GreaterSigned, GreaterEqualSigned, Plus, Minus, Star, Caret, At, Ampersand, Bar, Tilde, ShiftLeft, ShiftRight, Arrow, DoubleArrow, FatArrow}
 
 -- the words; those of Sail that models may not use are left out
-unfoldable pub words : List (List ℕ × Kind)
+unfoldable pub words : List (List ℕ × TokenKind)
 words =
     (codes "as", As) ∷
     (codes "assert", Assert) ∷
@@ -76,7 +76,7 @@ words =
     []
 
 -- the symbols
-unfoldable pub symbols : List (List ℕ × Kind)
+unfoldable pub symbols : List (List ℕ × TokenKind)
 symbols =
     (codes "(", OpenParenthesis) ∷
     (codes ")", CloseParenthesis) ∷

@@ -1,7 +1,7 @@
 -- The tokens of a file, and why it has none.
 use Rattle.std.specs.Prelude.{◌≡◌, ℕ, ◌+◌, ◌<◌, ◌≤◌, List, [], ◌∷◌, length, drop}
 use Rattle.sail_base.specs.declared.place.Place.{Place}
-use Rattle.sail_lex.specs.declared.kind.Kind.{Kind}
+use Rattle.sail_lex.specs.declared.kind.TokenKind.{TokenKind}
 use Rattle.sail_lex.specs.declared.front.Fault.{Fault}
 use Rattle.sail_lex.specs.declared.front.Front.TheVariants.{Skip, Comment, Token, Refused}
 use Rattle.sail_lex.specs.declared.front.Fault.TheVariants as fault
@@ -22,7 +22,7 @@ pub data Skips (text : List ℕ) : ℕ → Type 0 where
   comment : {n : ℕ} → front text ≡ Comment → IsComment text n → Skips text n
 
 -- the token of n bytes at a place
-abbrev pub token_at : ℕ → List ℕ → ℕ → Kind → ℕ → TokenType
+abbrev pub token_at : ℕ → List ℕ → ℕ → TokenKind → ℕ → TokenType
 token_at file source at kind n = record { kind = kind; place = place_at file source at; start = at; end = at + n }
 
 -- the error of a fault at a place
@@ -38,7 +38,7 @@ pub data Lexes (file : ℕ) (source : List ℕ) : ℕ → ℕ → List TokenType
   ended : {at count : ℕ} → length source ≤ at → Lexes file source at count []
   skipped : {at count : ℕ} {tokens : List TokenType} (n : ℕ) → at < length source → Skips (drop at source) n →
       Lexes file source (at + n) count tokens → Lexes file source at count tokens
-  token : {at count : ℕ} {tokens : List TokenType} (kind : Kind) (n : ℕ) → at < length source → front (drop at source) ≡ Token kind n →
+  token : {at count : ℕ} {tokens : List TokenType} (kind : TokenKind) (n : ℕ) → at < length source → front (drop at source) ≡ Token kind n →
       count < most_tokens → Lexes file source (at + n) (count + 1) tokens → Lexes file source at count (token_at file source at kind n ∷ tokens)
 
 -- from a place on, where so many tokens have come, the source is refused: at the first place that no token begins at,
@@ -46,13 +46,13 @@ pub data Lexes (file : ℕ) (source : List ℕ) : ℕ → ℕ → List TokenType
 pub data Refuses (file : ℕ) (source : List ℕ) : ℕ → ℕ → LexError → Type 0 where
   after_skip : {at count : ℕ} {e : LexError} (n : ℕ) → at < length source → Skips (drop at source) n →
       Refuses file source (at + n) count e → Refuses file source at count e
-  after_token : {at count : ℕ} {e : LexError} (kind : Kind) (n : ℕ) → at < length source → front (drop at source) ≡ Token kind n →
+  after_token : {at count : ℕ} {e : LexError} (kind : TokenKind) (n : ℕ) → at < length source → front (drop at source) ≡ Token kind n →
       count < most_tokens → Refuses file source (at + n) (count + 1) e → Refuses file source at count e
   unclosed : {at count : ℕ} → at < length source → front (drop at source) ≡ Comment → NeverEnds (drop at source) →
       Refuses file source at count (error.Unclosed (place_at file source at))
   faulty : {at count : ℕ} (f : Fault) (n : ℕ) → at < length source → front (drop at source) ≡ Refused f n →
       Refuses file source at count (error_at f (place_at file source (at + n)))
-  too_many : {at count : ℕ} (kind : Kind) (n : ℕ) → at < length source → front (drop at source) ≡ Token kind n →
+  too_many : {at count : ℕ} (kind : TokenKind) (n : ℕ) → at < length source → front (drop at source) ≡ Token kind n →
       most_tokens ≤ count → Refuses file source at count (error.TokenLimit (place_at file source at))
 
 -- an error is the refusal from a place on, where so many tokens have come; want of memory says nothing of the source

@@ -6,7 +6,7 @@ ghost use Rattle.sail_lex.specs.Front.{directive_front, is_include, past};
 
 use crate::bytes::{Class, first, is_blank, leading, rest_of, run_length};
 use crate::front::{Fault, Front};
-use crate::kind::Kind;
+use crate::kind::TokenKind;
 
 /// The directive that begins a text, from its `$` to the end of the line.
 #[tactic(auto, unfolding(crate::specs::Front::directive_front, crate::specs::Valued::IsValued))]
@@ -25,7 +25,7 @@ pub fn directive_front(text: &[u8]) -> Front
     if is_include(line) {
         Front::Skip(length)
     } else {
-        Front::Token(Kind::LeftOut, length)
+        Front::Token(TokenKind::LeftOut, length)
     }
 }
 

@@ -5,7 +5,7 @@ ghost use Rattle.sail_lex.specs.Front.{front, other_front, symbol_front};
 
 use crate::bytes::{Class, begins_name, first, is_blank, run_length};
 use crate::directive::directive_front;
-use crate::kind::Kind;
+use crate::kind::TokenKind;
 use crate::literal::number_front;
 use crate::name::{name_front, type_variable_front};
 use crate::tables::longest_symbol;
@@ -32,7 +32,7 @@ pub enum Front {
     /// A comment that nests.
     Comment,
     /// A token of this kind and so many bytes.
-    Token(Kind, usize),
+    Token(TokenKind, usize),
     /// A fault, and how many bytes stand before it.
     Refused(Fault, usize),
 }

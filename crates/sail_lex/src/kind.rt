@@ -1,6 +1,6 @@
 /// The kind of a token: what the grammar sees of it.
 #[derive(Clone, Copy, PartialEq, Eq, Debug)]
-pub enum Kind {
+pub enum TokenKind {
     /// A name: a letter or `_`, then letters, digits and `_`.
     Identifier,
     /// `'` and a name.

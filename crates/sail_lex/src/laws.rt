@@ -1,6 +1,6 @@
 ghost use Rattle.std.specs.Prelude.{◌≡◌, ◌<◌, ℕ, List, length};
 ghost use Rattle.sail_lex.specs.declared.token.Token.{Token as TokenType};
-ghost use Rattle.sail_lex.specs.declared.kind.Kind.{Kind};
+ghost use Rattle.sail_lex.specs.declared.kind.TokenKind.{TokenKind};
 ghost use Rattle.sail_lex.specs.declared.front.Front.TheVariants.{Token};
 ghost use Rattle.sail_lex.specs.Front.{front};
 ghost use Rattle.sail_lex.specs.Spellings.{IsLongest};
@@ -17,5 +17,5 @@ pub fn one_answer()
 /// A law: the token that a text begins with is spelled by its first bytes, and no more of them are
 /// a spelling of any kind.
 pub fn longest_spelling()
-    ensures { (text : List ℕ) (kind : Kind) (n : ℕ) → 0 < length text → front text ≡ Token kind n → IsLongest text kind n }
+    ensures { (text : List ℕ) (kind : TokenKind) (n : ℕ) → 0 < length text → front text ≡ Token kind n → IsLongest text kind n }
 {}

@@ -1,16 +1,16 @@
 ghost use Rattle.std.specs.Prelude.{◌≡◌, ◌+◌, ◌<◌, ◌≤◌, ◌∷◌, ◌++◌, [], ℕ, List, length, drop, IfOk, IfErr, OnOk};
-ghost use Rattle.sail_lex.specs.Position.{place_at};
+ghost use Rattle.sail_lex.specs.Position.{place_at, end_of};
 ghost use Rattle.sail_lex.specs.Tokens.{Lexes, Refuses, IsRefusal, AreInOrder, HavePlaces, error_at};
 ghost use Rattle.sail_lex.specs.Piece.{IsPiece};
-ghost use Rattle.sail_lex.specs.Valued.{AreValued};
+ghost use Rattle.sail_lex.specs.Valued.{AreValued, AreAscii};
 
 use crate::bytes::rest_of;
 use crate::comment::comment_length;
 use crate::front::{Fault, Front, front_of};
-use crate::kind::Kind;
+use crate::kind::TokenKind;
 use crate::position::{advance, beginning_of};
-use crate::token::{LexError, Token};
-use sail_base::Place;
+use crate::token::{LexError, Token, Tokens};
+use sail_base::{Items, Place};
 use std::alloc::Global;
 
 /// All files together have at most so many tokens.
@@ -22,28 +22,37 @@ pub enum Piece {
     /// So many bytes that are no token.
     Skipped(usize),
     /// A token of this kind and so many bytes.
-    Next(Kind, usize),
+    Next(TokenKind, usize),
 }
 
-/// The tokens of a source, in order.
+/// The tokens of a source, in order, with the source and the place of its end.
 ///
 /// `file` is the number of the file for places, from 1, and `before` how many tokens the earlier
 /// files have, at most 1,000,000. The source has at most 4,194,304 bytes.
 ///
 /// The tokens are the longest spellings, one behind the other, with blanks, comments and
-/// `$include` lines between. Where the source has no such list, the error is the first cause in
-/// text order: see [`LexError`]. `OutOfMemory` says nothing of the source.
-pub fn lex(alloc: Global, source: &[u8], file: u32, before: u32) -> Result<Vec<Token>, LexError>
+/// `$include` lines between; the text of each is ASCII. Where the source has no such list, the
+/// error is the first cause in text order: see [`LexError`]. `OutOfMemory` says nothing of the
+/// source.
+pub fn lex<'a>(
+    alloc: Global,
+    source: &'a [u8],
+    file: u32,
+    before: u32,
+) -> Result<Tokens<'a>, LexError>
     requires earlier { before ≤ 1000000 }
     requires short { length source.now ≤ 4194304 }
-    ensures tokens { IfOk result (λ tokens. Lexes file source.now 0 before tokens.items) }
-    ensures count { IfOk result (λ tokens. before + length tokens.items ≤ 1000000) }
-    ensures spans { IfOk result (λ tokens. AreInOrder 0 (length source.now) tokens.items) }
-    ensures places { IfOk result (λ tokens. HavePlaces file source.now tokens.items) }
-    ensures values { IfOk result (λ tokens. AreValued source.now tokens.items) }
+    ensures tokens { IfOk result (λ found. Lexes file source.now 0 before found.tokens) }
+    ensures source { IfOk result (λ found. found.source.now ≡ source.now) }
+    ensures end { IfOk result (λ found. found.end ≡ end_of file source.now) }
+    ensures count { IfOk result (λ found. before + length found.tokens ≤ 1000000) }
+    ensures spans { IfOk result (λ found. AreInOrder 0 (length source.now) found.tokens) }
+    ensures places { IfOk result (λ found. HavePlaces file source.now found.tokens) }
+    ensures values { IfOk result (λ found. AreValued source.now found.tokens) }
+    ensures ascii { IfOk result (λ found. AreAscii source.now found.tokens) }
     ensures refused { IfErr result (λ e. IsRefusal file source.now 0 before e) }
 {
-    let mut tokens = Vec::new(alloc);
+    let mut tokens = Items::new(alloc);
     let mut at = 0;
     let mut place = beginning_of(file);
     let earlier = before as usize;
@@ -51,22 +60,24 @@ pub fn lex(alloc: Global, source: &[u8], file: u32, before: u32) -> Result<Vec<T
         let length = match piece_at(source, place, at, earlier + tokens.len())? {
             Piece::Skipped(n) => n,
             Piece::Next(kind, n) => {
-                keep(
-                    &mut tokens,
-                    Token {
-                        kind,
-                        place,
-                        start: at,
-                        end: at + n,
-                    },
-                )?;
+                let end = at + n;
+                tokens.push(Token {
+                    kind,
+                    place,
+                    start: at,
+                    end,
+                })?;
                 n
             }
         };
         place = advance(source, place, at, at + length);
         at += length;
     }
-    Ok(tokens)
+    Ok(Tokens {
+        tokens,
+        source,
+        end: place,
+    })
 }
 
 /// What the source goes on with at a byte, where so many tokens have come.
@@ -104,16 +115,5 @@ fn error_of(fault: Fault, place: Place) -> LexError
         Fault::BadLiteral => LexError::BadLiteral(place),
         Fault::Unclosed => LexError::Unclosed(place),
         Fault::NumberTooLarge => LexError::NumberTooLarge(place),
-    }
-}
-
-/// Adds a token.
-fn keep(tokens: &mut Vec<Token>, token: Token) -> Result<(), LexError>
-    ensures kept { OnOk result (tokens.new.items ≡ tokens.old.items ++ token ∷ []) }
-    ensures full { IfErr result (λ e. e ≡ LexError.OutOfMemory) }
-{
-    match tokens.push(token) {
-        Ok(()) => Ok(()),
-        Err(_) => Err(LexError::OutOfMemory),
     }
 }

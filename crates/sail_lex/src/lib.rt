@@ -16,10 +16,10 @@ mod text;
 mod token;
 mod value;
 
-pub use kind::Kind;
+pub use kind::TokenKind;
 pub use laws::{longest_spelling, one_answer};
 pub use lexer::lex;
-pub use token::{LexError, Token};
+pub use token::{LexError, Token, Tokens};
 pub use value::{decimal_value, literal_word, string_value};
 
 #[cfg(test)]

@@ -8,7 +8,7 @@ ghost use Rattle.sail_lex.specs.Literal.{is_digit_of, in_digits_of, digit_size, 
 
 use crate::bytes::{Class, first, is_binary_digit, leading, rest_of, run_length};
 use crate::front::{Fault, Front};
-use crate::kind::Kind;
+use crate::kind::TokenKind;
 use crate::value::decimal_value;
 
 /// The base of a literal of bits.
@@ -53,7 +53,7 @@ fn decimal_front(text: &[u8]) -> Front
         return Front::Refused(Fault::BadLiteral, 0);
     }
     match decimal_value(leading(text, length)) {
-        Some(_) => Front::Token(Kind::Decimal, length),
+        Some(_) => Front::Token(TokenKind::Decimal, length),
         None => Front::Refused(Fault::NumberTooLarge, 0),
     }
 }
@@ -99,12 +99,12 @@ fn digits_class(radix: Radix) -> Class
 }
 
 /// The kind of a literal in the base.
-fn bits_kind(radix: Radix) -> Kind
+fn bits_kind(radix: Radix) -> TokenKind
     ensures { result ≡ kind_of_bits radix }
 {
     match radix {
-        Radix::Base2 => Kind::Binary,
-        Radix::Base16 => Kind::Hexadecimal,
+        Radix::Base2 => TokenKind::Binary,
+        Radix::Base16 => TokenKind::Hexadecimal,
     }
 }
 

@@ -5,7 +5,7 @@ ghost use Rattle.sail_lex.specs.Front.{name_front, type_variable_front};
 
 use crate::bytes::{Class, begins_name, first, leading, rest_of, run_length};
 use crate::front::{Fault, Front};
-use crate::kind::Kind;
+use crate::kind::TokenKind;
 use crate::tables::name_kind;
 
 /// The longest name, which has at most this many bytes.
@@ -41,5 +41,5 @@ pub fn type_variable_front(text: &[u8]) -> Front
     if length > LONGEST_NAME {
         return Front::Refused(Fault::BadLiteral, 0);
     }
-    Front::Token(Kind::TypeVariable, length + 1)
+    Front::Token(TokenKind::TypeVariable, length + 1)
 }

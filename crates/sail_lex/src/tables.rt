@@ -4,17 +4,17 @@ ghost use Rattle.sail_lex.specs.Entries.{entry, entries};
 ghost use Rattle.sail_lex.specs.Spelling.{kind_in, kind_of_name, longest_in, longer_of};
 ghost use Rattle.sail_lex.specs.Tables.{words, symbols};
 
-use crate::kind::Kind;
+use crate::kind::TokenKind;
 
 /// A spelling and its kind.
 #[derive(Clone, Copy, Debug)]
 pub struct Spelling {
     pub text: &'static [u8],
-    pub kind: Kind,
+    pub kind: TokenKind,
 }
 
 /// The kind of a word, if it stands in the table.
-fn find(table: &[Spelling], word: &[u8]) -> Option<Kind>
+fn find(table: &[Spelling], word: &[u8]) -> Option<TokenKind>
     ensures { result ≡ kind_in (entries table.now) word.now }
 {
     for spelling in table {
@@ -26,18 +26,18 @@ fn find(table: &[Spelling], word: &[u8]) -> Option<Kind>
 }
 
 /// The kind of a name: the wildcard, a word's, or an identifier.
-pub fn name_kind(name: &[u8]) -> Kind
+pub fn name_kind(name: &[u8]) -> TokenKind
     ensures { result ≡ kind_of_name name.now }
 {
     if name == b"_".as_slice() {
-        return Kind::Wildcard;
+        return TokenKind::Wildcard;
     }
-    find_word(name).unwrap_or(Kind::Identifier)
+    find_word(name).unwrap_or(TokenKind::Identifier)
 }
 
 /// The kind of a word of the language.
 #[tactic(auto, unfolding(crate::specs::Tables::words))]
-fn find_word(name: &[u8]) -> Option<Kind>
+fn find_word(name: &[u8]) -> Option<TokenKind>
     ensures { result ≡ kind_in words name.now }
 {
     find(&WORDS, name)
@@ -84,271 +84,271 @@ fn longer(best: Option<Spelling>, other: Spelling) -> Option<Spelling>
 pub static WORDS: [Spelling; 67] = [
     Spelling {
         text: b"as",
-        kind: Kind::As,
+        kind: TokenKind::As,
     },
     Spelling {
         text: b"assert",
-        kind: Kind::Assert,
+        kind: TokenKind::Assert,
     },
     Spelling {
         text: b"bitone",
-        kind: Kind::Bitone,
+        kind: TokenKind::Bitone,
     },
     Spelling {
         text: b"bitzero",
-        kind: Kind::Bitzero,
+        kind: TokenKind::Bitzero,
     },
     Spelling {
         text: b"by",
-        kind: Kind::By,
+        kind: TokenKind::By,
     },
     Spelling {
         text: b"catch",
-        kind: Kind::Catch,
+        kind: TokenKind::Catch,
     },
     Spelling {
         text: b"clause",
-        kind: Kind::Clause,
+        kind: TokenKind::Clause,
     },
     Spelling {
         text: b"constraint",
-        kind: Kind::Constraint,
+        kind: TokenKind::Constraint,
     },
     Spelling {
         text: b"dec",
-        kind: Kind::Dec,
+        kind: TokenKind::Dec,
     },
     Spelling {
         text: b"default",
-        kind: Kind::Default,
+        kind: TokenKind::Default,
     },
     Spelling {
         text: b"do",
-        kind: Kind::Do,
+        kind: TokenKind::Do,
     },
     Spelling {
         text: b"else",
-        kind: Kind::Else,
+        kind: TokenKind::Else,
     },
     Spelling {
         text: b"end",
-        kind: Kind::End,
+        kind: TokenKind::End,
     },
     Spelling {
         text: b"enum",
-        kind: Kind::Enum,
+        kind: TokenKind::Enum,
     },
     Spelling {
         text: b"exit",
-        kind: Kind::Exit,
+        kind: TokenKind::Exit,
     },
     Spelling {
         text: b"false",
-        kind: Kind::False,
+        kind: TokenKind::False,
     },
     Spelling {
         text: b"forall",
-        kind: Kind::Forall,
+        kind: TokenKind::Forall,
     },
     Spelling {
         text: b"foreach",
-        kind: Kind::Foreach,
+        kind: TokenKind::Foreach,
     },
     Spelling {
         text: b"from",
-        kind: Kind::From,
+        kind: TokenKind::From,
     },
     Spelling {
         text: b"function",
-        kind: Kind::Function,
+        kind: TokenKind::Function,
     },
     Spelling {
         text: b"if",
-        kind: Kind::If,
+        kind: TokenKind::If,
     },
     Spelling {
         text: b"in",
-        kind: Kind::In,
+        kind: TokenKind::In,
     },
     Spelling {
         text: b"inc",
-        kind: Kind::Inc,
+        kind: TokenKind::Inc,
     },
     Spelling {
         text: b"let",
-        kind: Kind::Let,
+        kind: TokenKind::Let,
     },
     Spelling {
         text: b"mapping",
-        kind: Kind::Mapping,
+        kind: TokenKind::Mapping,
     },
     Spelling {
         text: b"match",
-        kind: Kind::Match,
+        kind: TokenKind::Match,
     },
     Spelling {
         text: b"not",
-        kind: Kind::Not,
+        kind: TokenKind::Not,
     },
     Spelling {
         text: b"operator",
-        kind: Kind::Operator,
+        kind: TokenKind::Operator,
     },
     Spelling {
         text: b"overload",
-        kind: Kind::Overload,
+        kind: TokenKind::Overload,
     },
     Spelling {
         text: b"register",
-        kind: Kind::Register,
+        kind: TokenKind::Register,
     },
     Spelling {
         text: b"repeat",
-        kind: Kind::Repeat,
+        kind: TokenKind::Repeat,
     },
     Spelling {
         text: b"return",
-        kind: Kind::Return,
+        kind: TokenKind::Return,
     },
     Spelling {
         text: b"scattered",
-        kind: Kind::Scattered,
+        kind: TokenKind::Scattered,
     },
     Spelling {
         text: b"sizeof",
-        kind: Kind::Sizeof,
+        kind: TokenKind::Sizeof,
     },
     Spelling {
         text: b"struct",
-        kind: Kind::Struct,
+        kind: TokenKind::Struct,
     },
     Spelling {
         text: b"termination_measure",
-        kind: Kind::TerminationMeasure,
+        kind: TokenKind::TerminationMeasure,
     },
     Spelling {
         text: b"then",
-        kind: Kind::Then,
+        kind: TokenKind::Then,
     },
     Spelling {
         text: b"throw",
-        kind: Kind::Throw,
+        kind: TokenKind::Throw,
     },
     Spelling {
         text: b"to",
-        kind: Kind::To,
+        kind: TokenKind::To,
     },
     Spelling {
         text: b"true",
-        kind: Kind::True,
+        kind: TokenKind::True,
     },
     Spelling {
         text: b"try",
-        kind: Kind::Try,
+        kind: TokenKind::Try,
     },
     Spelling {
         text: b"type",
-        kind: Kind::TypeWord,
+        kind: TokenKind::TypeWord,
     },
     Spelling {
         text: b"union",
-        kind: Kind::Union,
+        kind: TokenKind::Union,
     },
     Spelling {
         text: b"until",
-        kind: Kind::Until,
+        kind: TokenKind::Until,
     },
     Spelling {
         text: b"val",
-        kind: Kind::Val,
+        kind: TokenKind::Val,
     },
     Spelling {
         text: b"var",
-        kind: Kind::Var,
+        kind: TokenKind::Var,
     },
     Spelling {
         text: b"while",
-        kind: Kind::While,
+        kind: TokenKind::While,
     },
     Spelling {
         text: b"with",
-        kind: Kind::With,
+        kind: TokenKind::With,
     },
     Spelling {
         text: b"undefined",
-        kind: Kind::LeftOut,
+        kind: TokenKind::LeftOut,
     },
     Spelling {
         text: b"ref",
-        kind: Kind::LeftOut,
+        kind: TokenKind::LeftOut,
     },
     Spelling {
         text: b"real",
-        kind: Kind::LeftOut,
+        kind: TokenKind::LeftOut,
     },
     Spelling {
         text: b"effect",
-        kind: Kind::LeftOut,
+        kind: TokenKind::LeftOut,
     },
     Spelling {
         text: b"outcome",
-        kind: Kind::LeftOut,
+        kind: TokenKind::LeftOut,
     },
     Spelling {
         text: b"instantiation",
-        kind: Kind::LeftOut,
+        kind: TokenKind::LeftOut,
     },
     Spelling {
         text: b"newtype",
-        kind: Kind::LeftOut,
+        kind: TokenKind::LeftOut,
     },
     Spelling {
         text: b"private",
-        kind: Kind::LeftOut,
+        kind: TokenKind::LeftOut,
     },
     Spelling {
         text: b"mutual",
-        kind: Kind::LeftOut,
+        kind: TokenKind::LeftOut,
     },
     Spelling {
         text: b"infix",
-        kind: Kind::LeftOut,
+        kind: TokenKind::LeftOut,
     },
     Spelling {
         text: b"infixl",
-        kind: Kind::LeftOut,
+        kind: TokenKind::LeftOut,
     },
     Spelling {
         text: b"infixr",
-        kind: Kind::LeftOut,
+        kind: TokenKind::LeftOut,
     },
     Spelling {
         text: b"cast",
-        kind: Kind::LeftOut,
+        kind: TokenKind::LeftOut,
     },
     Spelling {
         text: b"forwards",
-        kind: Kind::LeftOut,
+        kind: TokenKind::LeftOut,
     },
     Spelling {
         text: b"backwards",
-        kind: Kind::LeftOut,
+        kind: TokenKind::LeftOut,
     },
     Spelling {
         text: b"config",
-        kind: Kind::LeftOut,
+        kind: TokenKind::LeftOut,
     },
     Spelling {
         text: b"bitfield",
-        kind: Kind::LeftOut,
+        kind: TokenKind::LeftOut,
     },
     Spelling {
         text: b"implicit",
-        kind: Kind::LeftOut,
+        kind: TokenKind::LeftOut,
     },
     Spelling {
         text: b"Order",
-        kind: Kind::Order,
+        kind: TokenKind::Order,
     },
 ];
 
@@ -356,170 +356,170 @@ pub static WORDS: [Spelling; 67] = [
 pub static SYMBOLS: [Spelling; 42] = [
     Spelling {
         text: b"(",
-        kind: Kind::OpenParenthesis,
+        kind: TokenKind::OpenParenthesis,
     },
     Spelling {
         text: b")",
-        kind: Kind::CloseParenthesis,
+        kind: TokenKind::CloseParenthesis,
     },
     Spelling {
         text: b"[",
-        kind: Kind::OpenBracket,
+        kind: TokenKind::OpenBracket,
     },
     Spelling {
         text: b"]",
-        kind: Kind::CloseBracket,
+        kind: TokenKind::CloseBracket,
     },
     Spelling {
         text: b"{",
-        kind: Kind::OpenBrace,
+        kind: TokenKind::OpenBrace,
     },
     Spelling {
         text: b"}",
-        kind: Kind::CloseBrace,
+        kind: TokenKind::CloseBrace,
     },
     Spelling {
         text: b"[|",
-        kind: Kind::OpenVector,
+        kind: TokenKind::OpenVector,
     },
     Spelling {
         text: b"|]",
-        kind: Kind::CloseVector,
+        kind: TokenKind::CloseVector,
     },
     Spelling {
         text: b",",
-        kind: Kind::Comma,
+        kind: TokenKind::Comma,
     },
     Spelling {
         text: b";",
-        kind: Kind::Semicolon,
+        kind: TokenKind::Semicolon,
     },
     Spelling {
         text: b":",
-        kind: Kind::Colon,
+        kind: TokenKind::Colon,
     },
     Spelling {
         text: b"::",
-        kind: Kind::DoubleColon,
+        kind: TokenKind::DoubleColon,
     },
     Spelling {
         text: b".",
-        kind: Kind::Dot,
+        kind: TokenKind::Dot,
     },
     Spelling {
         text: b"..",
-        kind: Kind::DoubleDot,
+        kind: TokenKind::DoubleDot,
     },
     Spelling {
         text: b"=",
-        kind: Kind::Equal,
+        kind: TokenKind::Equal,
     },
     Spelling {
         text: b"==",
-        kind: Kind::DoubleEqual,
+        kind: TokenKind::DoubleEqual,
     },
     Spelling {
         text: b"!=",
-        kind: Kind::NotEqual,
+        kind: TokenKind::NotEqual,
     },
     Spelling {
         text: b"<",
-        kind: Kind::Less,
+        kind: TokenKind::Less,
     },
     Spelling {
         text: b"<=",
-        kind: Kind::LessEqual,
+        kind: TokenKind::LessEqual,
     },
     Spelling {
         text: b">",
-        kind: Kind::Greater,
+        kind: TokenKind::Greater,
     },
     Spelling {
         text: b">=",
-        kind: Kind::GreaterEqual,
+        kind: TokenKind::GreaterEqual,
     },
     Spelling {
         text: b"<_u",
-        kind: Kind::LessUnsigned,
+        kind: TokenKind::LessUnsigned,
     },
     Spelling {
         text: b"<=_u",
-        kind: Kind::LessEqualUnsigned,
+        kind: TokenKind::LessEqualUnsigned,
     },
     Spelling {
         text: b">_u",
-        kind: Kind::GreaterUnsigned,
+        kind: TokenKind::GreaterUnsigned,
     },
     Spelling {
         text: b">=_u",
-        kind: Kind::GreaterEqualUnsigned,
+        kind: TokenKind::GreaterEqualUnsigned,
     },
     Spelling {
         text: b"<_s",
-        kind: Kind::LessSigned,
+        kind: TokenKind::LessSigned,
     },
     Spelling {
         text: b"<=_s",
-        kind: Kind::LessEqualSigned,
+        kind: TokenKind::LessEqualSigned,
     },
     Spelling {
         text: b">_s",
-        kind: Kind::GreaterSigned,
+        kind: TokenKind::GreaterSigned,
     },
     Spelling {
         text: b">=_s",
-        kind: Kind::GreaterEqualSigned,
+        kind: TokenKind::GreaterEqualSigned,
     },
     Spelling {
         text: b"+",
-        kind: Kind::Plus,
+        kind: TokenKind::Plus,
     },
     Spelling {
         text: b"-",
-        kind: Kind::Minus,
+        kind: TokenKind::Minus,
     },
     Spelling {
         text: b"*",
-        kind: Kind::Star,
+        kind: TokenKind::Star,
     },
     Spelling {
         text: b"^",
-        kind: Kind::Caret,
+        kind: TokenKind::Caret,
     },
     Spelling {
         text: b"@",
-        kind: Kind::At,
+        kind: TokenKind::At,
     },
     Spelling {
         text: b"&",
-        kind: Kind::Ampersand,
+        kind: TokenKind::Ampersand,
     },
     Spelling {
         text: b"|",
-        kind: Kind::Bar,
+        kind: TokenKind::Bar,
     },
     Spelling {
         text: b"~",
-        kind: Kind::Tilde,
+        kind: TokenKind::Tilde,
     },
     Spelling {
         text: b"<<",
-        kind: Kind::ShiftLeft,
+        kind: TokenKind::ShiftLeft,
     },
     Spelling {
         text: b">>",
-        kind: Kind::ShiftRight,
+        kind: TokenKind::ShiftRight,
     },
     Spelling {
         text: b"->",
-        kind: Kind::Arrow,
+        kind: TokenKind::Arrow,
     },
     Spelling {
         text: b"<->",
-        kind: Kind::DoubleArrow,
+        kind: TokenKind::DoubleArrow,
     },
     Spelling {
         text: b"=>",
-        kind: Kind::FatArrow,
+        kind: TokenKind::FatArrow,
     },
 ];

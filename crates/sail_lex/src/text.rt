@@ -7,7 +7,7 @@ ghost use Rattle.sail_lex.specs.Literal.{parts, inside, is_good, size_of, Escape
 
 use crate::bytes::{is_printable, rest_of};
 use crate::front::{Fault, Front};
-use crate::kind::Kind;
+use crate::kind::TokenKind;
 
 /// The longest string, which has at most this many bytes between its quotes.
 const LONGEST_STRING: usize = 4096;
@@ -25,7 +25,7 @@ pub fn string_front(text: &[u8]) -> Front
             if length > LONGEST_STRING {
                 Front::Refused(Fault::BadLiteral, 0)
             } else if length + 1 < text.len() && text[length + 1] == b'"' {
-                Front::Token(Kind::StringLiteral, length + 2)
+                Front::Token(TokenKind::StringLiteral, length + 2)
             } else {
                 Front::Refused(Fault::Unclosed, 0)
             }

@@ -7,19 +7,19 @@ use Rattle.sail_lex.specs.Position.{place_at}
 use Rattle.sail_lex.specs.Tokens.{token_at}
 use Rattle.sail_lex.proofs.Going.{Continues, continues_skip, continues_token, continues_end}
 use Rattle.sail_lex.proofs.lexer.lex.Goals as goal
-use Rattle.sail_lex.proofs.lexer.lex.Goals.{in-Skipped, in-Next+in_ok-keep-in-Next}
+use Rattle.sail_lex.proofs.lexer.lex.Goals.{in-Skipped, in-Next+in_ok-push-in-Next}
 
 pub loop-at-preserved : goal.loop-at-preserved
 loop-at-preserved c =
     let source = c.args.source.now in
     let at = c.loop-at.at in
-    let tokens = c.loop-at.tokens.items in
+    let tokens = c.loop-at.tokens in
     let file : c.loop-at.place.file ≡ c.args.file = ap (λ (p : Place). p.file) c.loop-at.invariant.place in
     let placed = c.advance-place.ensures ∙ ap (λ f. place_at f source (at + c.match-branch-2.length)) file in
     elim c.match-branch-2.branch [
       | in-Skipped w ↦
           let piece = subst (IsPiece source at (c.args.before + c.len.result)) w.in-Skipped.is c.in_ok-n.ensures.piece in
-          let same : c.match-branch-2.tokens.items ≡ tokens = ap (λ v. v.items) w.tokens-is in
+          let same : c.match-branch-2.tokens ≡ tokens = w.tokens-is in
           record {
             within = omega (arith, w.length-is, piece.2);
             place = placed;
@@ -29,20 +29,20 @@ loop-at-preserved c =
                 (subst (λ (n : ℕ). Continues c.args.file source c.args.before (at + n) tokens) (sym w.length-is)
                 (continues_skip c.args.file source c.args.before at tokens w.in-Skipped.n c.loop-at-test.true piece.0 c.loop-at.invariant.going));
           }
-      | in-Next+in_ok-keep-in-Next w ↦
+      | in-Next+in_ok-push-in-Next w ↦
           let piece = subst (IsPiece source at (c.args.before + c.len.result)) w.in-Next.is c.in_ok-n.ensures.piece in
-          let few : c.args.before + length tokens < 1000000 = omega (arith, piece.1, c.len.ensures, c.loop-at.tokens.ok.0) in
-          let kept = w.in_ok-keep-in-Next.ensures.kept ∙ ap (λ (p : Place). tokens ++ record { kind = w.in-Next.kind; place = p; start = at; end = at + w.in-Next.n } ∷ []) c.loop-at.invariant.place in
-          let same : c.match-branch-2.tokens.items ≡ tokens ++ token_at c.args.file source at w.in-Next.kind w.in-Next.n ∷ [] = ap (λ v. v.items) w.tokens-is ∙ kept in
+          let few : c.args.before + length tokens < 1000000 = omega (arith, piece.1, c.len.ensures, c.loop-at.invariant.count) in
+          let kept = w.in_ok-push-in-Next.ensures.pushed ∙ ap (λ (p : Place). tokens ++ record { kind = w.in-Next.kind; place = p; start = at; end = at + w.in-Next.n } ∷ []) c.loop-at.invariant.place in
+          let same : c.match-branch-2.tokens ≡ tokens ++ token_at c.args.file source at w.in-Next.kind w.in-Next.n ∷ [] = w.tokens-is ∙ kept in
           record {
             within = omega (arith, w.length-is, piece.3);
             place = placed;
             count = subst (λ (ts : List Token). c.args.before + length ts ≤ 1000000) (sym same) (omega (arith, length_push tokens (token_at c.args.file source at w.in-Next.kind w.in-Next.n)));
             going =
-                subst (λ (n : ℕ). Continues c.args.file source c.args.before (at + n) c.match-branch-2.tokens.items) (sym w.length-is)
-                (continues_token c.args.file source c.args.before at tokens w.in-Next.kind w.in-Next.n c.match-branch-2.tokens.items c.loop-at-test.true piece.0 few piece.2 piece.4 same c.loop-at.invariant.going);
+                subst (λ (n : ℕ). Continues c.args.file source c.args.before (at + n) c.match-branch-2.tokens) (sym w.length-is)
+                (continues_token c.args.file source c.args.before at tokens w.in-Next.kind w.in-Next.n c.match-branch-2.tokens c.loop-at-test.true piece.0 few piece.2 piece.4 same c.loop-at.invariant.going);
           }
     ]
 
 pub returns-clause-tokens : goal.returns-clause-tokens
-returns-clause-tokens c = continues_end c.args.file c.args.source.now c.args.before c.loop-at.at c.loop-at.tokens.items c.loop-at-test.false c.loop-at.invariant.going
+returns-clause-tokens c = continues_end c.args.file c.args.source.now c.args.before c.loop-at.at c.loop-at.tokens c.loop-at-test.false c.loop-at.invariant.going

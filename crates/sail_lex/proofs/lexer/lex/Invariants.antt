@@ -7,8 +7,8 @@ abbrev pub invariant-loop-at : goal.invariant-loop-at
 invariant-loop-at l = record {
   within : l.at ≤ length l.source;
   place : l.place ≡ place_at l.file l.source l.at;
-  count : l.before + length l.tokens.items ≤ 1000000;
-  going : Continues l.file l.source l.before l.at l.tokens.items;
+  count : l.before + length l.tokens ≤ 1000000;
+  going : Continues l.file l.source l.before l.at l.tokens;
 }
 
 abbrev pub decreases-loop-at : goal.decreases-loop-at

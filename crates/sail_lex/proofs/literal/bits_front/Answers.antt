@@ -1,6 +1,6 @@
 use Rattle.std.proofs.Common.{◌≡◌, ℕ, ◌+◌, ◌*◌, ◌≤◌, take, drop, sym, ap, ◌∙◌, subst, arith, ltb-false, length, length-drop}
 use Rattle.std.specs.Prelude.{count_by}
-use Rattle.sail_lex.specs.declared.kind.Kind.{Kind}
+use Rattle.sail_lex.specs.declared.kind.TokenKind.{TokenKind}
 use Rattle.sail_lex.specs.Literal.{digit_size, is_digit_of}
 use Rattle.sail_lex.specs.Valued.{IsValued}
 use Rattle.sail_lex.proofs.Prefixes.{bits_valued}
@@ -17,6 +17,6 @@ returns-clause-reaches c =
     let small : digit_size radix * c.digit_count-digits.result ≤ 128 = ltb-false 128 (digit_size radix * c.digit_count-digits.result) (sym c.is_too_wide.ensures ∙ c.if-is_too_wide.false) in (
       omega arith,
       omega (arith, c.run_length-length.ensures.within, ap length c.rest_of-rest.ensures, length-drop 2 text),
-      subst (λ (k : Kind). IsValued k (take (n + 2) text)) (sym c.bits_kind.ensures)
+      subst (λ (k : TokenKind). IsValued k (take (n + 2) text)) (sym c.bits_kind.ensures)
           (bits_valued radix text n c.requires.prefix c.requires.long (subst (λ (d : ℕ). digit_size radix * d ≤ 128) digits small)),
     )
