@@ -17,7 +17,8 @@ fn boxes_and_texts_are_made_where_memory_is_ample(rt: HostRuntime) -> Result<(),
     let boxed = Boxed::new(alloc, 7u8)?;
     assert_eq!(rt; boxed.into_inner(), 7);
     let text = Text::new(alloc, "PC")?;
-    let copy = text.copy()?;
+    let copy = text.clone()?;
     assert!(rt; copy.is("PC"));
+    assert!(rt; copy == Text::from_ascii(alloc, b"PC")?);
     Ok(())
 }

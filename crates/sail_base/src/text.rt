@@ -1,4 +1,4 @@
-ghost use Rattle.std.specs.Prelude.{◌≡◌, ◌↔◌, IsTrue, IfOk, length};
+ghost use Rattle.std.specs.Prelude.{◌≡◌, ◌↔◌, IsTrue, IfOk, IsAscii, length};
 
 use std::alloc::{AllocError, Global};
 use std::fmt::{Debug, Formatter, Write};
@@ -38,6 +38,15 @@ impl Text {
         Ok(Text { shared })
     }
 
+    /// A text of bytes that are ASCII. It fails where memory is wanting.
+    pub fn from_ascii(alloc: Global, bytes: &[u8]) -> Result<Text, AllocError>
+        requires { IsAscii bytes.now }
+        ensures { IfOk result (λ made. made ≡ bytes.now) }
+    {
+        let text = str::from_utf8(bytes).unwrap();
+        Text::new(alloc, text)
+    }
+
     /// The text, lent.
     pub fn as_str(&self) -> &str
         ensures { result.now ≡ self.now }
@@ -59,28 +68,50 @@ impl Text {
         self.shared.len()
     }
 
-    /// The same text once more, over the same memory. It fails where the count of its sharers would
-    /// not fit.
-    pub fn copy(&self) -> Result<Text, AllocError>
-        ensures { IfOk result (λ made. made ≡ self.now) }
-    {
-        let shared = self.shared.clone()?;
-        Ok(Text { shared })
-    }
-
-    /// Whether two texts have the same bytes.
-    pub fn same(&self, other: &Text) -> bool
-        ensures { IsTrue result ↔ (self.now ≡ other.now) }
-    {
-        self.as_bytes() == other.as_bytes()
-    }
-
     /// Whether the text has exactly these bytes.
     pub fn is(&self, spelling: &str) -> bool
         ensures { IsTrue result ↔ (self.now ≡ spelling.now) }
     {
         self.as_str() == spelling
     }
+}
+
+impl Clone for Text {
+    ghost use Rattle.std.specs.Prelude.{◌≡◌};
+
+    ghost is_clone = { λ text copy. copy ≡ text };
+
+    /// The same text once more, over the same memory. It fails where the count of its sharers would
+    /// not fit.
+    fn clone(&self) -> Result<Text, AllocError>
+        ensures { IfOk result (λ made. made ≡ self.now) }
+    {
+        let shared = self.shared.clone()?;
+        Ok(Text { shared })
+    }
+}
+
+impl PartialEq for Text {
+    ghost use Rattle.std.specs.Str.{bytes_eq};
+    ghost use Rattle.std.specs.Cmp.{partial_equiv_from_equiv};
+    ghost use Rattle.std.specs.Cmp.Lexicographic.{nat_list_eq_equiv};
+
+    ghost eq = { bytes_eq };
+
+    ghost laws = { partial_equiv_from_equiv nat_list_eq_equiv };
+
+    /// Whether two texts have the same bytes.
+    fn eq(&self, other: &Text) -> bool
+        ensures { IsTrue result ↔ (self.now ≡ other.now) }
+    {
+        self.as_bytes() == other.as_bytes()
+    }
+}
+
+impl Eq for Text {
+    ghost use Rattle.std.specs.Cmp.Lexicographic.{nat_list_eq_equiv};
+
+    ghost laws = { nat_list_eq_equiv };
 }
 
 impl Debug for Text {

@@ -1,10 +1,11 @@
-ghost use Rattle.std.specs.Prelude.{◌≡◌, IfOk};
+ghost use Rattle.std.specs.Prelude.{◌≡◌, IfOk, IsAscii};
 
 use sail_base::{Place, Text, Word};
 use std::alloc::{AllocError, Global};
 
-/// An identifier where it is written, or a type variable with its `'`.
-#[derive(Debug)]
+/// An identifier where it is written, or a type variable with its `'`. Names of one thing at two places
+/// have equal texts, and aren't equal.
+#[derive(PartialEq, Eq, Debug)]
 pub struct Name {
     /// The place of its token.
     pub place: Place,
@@ -27,12 +28,34 @@ impl Name {
         Ok(Name { place, text })
     }
 
-    /// The same name once more, over the same memory. It fails where the count of its sharers would
-    /// not fit.
+    /// A name with this spelling, in bytes that are ASCII. It fails where memory is wanting.
+    pub fn from_ascii(alloc: Global, place: Place, spelling: &[u8]) -> Result<Name, AllocError>
+        requires { IsAscii spelling.now }
+        ensures { IfOk result (λ name. name ≡ record { place = place; text = spelling.now }) }
+    {
+        let text = Text::from_ascii(alloc, spelling)?;
+        Ok(Name { place, text })
+    }
+
+    /// As `clone`.
     pub fn copy(&self) -> Result<Name, AllocError>
         ensures { IfOk result (λ name. name ≡ self.now) }
     {
-        let text = self.text.copy()?;
+        self.clone()
+    }
+}
+
+impl Clone for Name {
+    ghost use Rattle.std.specs.Prelude.{◌≡◌};
+
+    ghost is_clone = { λ name copy. copy ≡ name };
+
+    /// The same name once more, over the same memory. It fails where the count of its sharers would
+    /// not fit.
+    fn clone(&self) -> Result<Name, AllocError>
+        ensures { IfOk result (λ name. name ≡ self.now) }
+    {
+        let text = self.text.clone()?;
         Ok(Name {
             place: self.place,
             text,
