@@ -1,0 +1,3 @@
+-- what contracts say of memory
+pub mod Bytes
+pub mod laws

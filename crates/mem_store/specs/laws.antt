@@ -1,0 +1,3 @@
+-- what holds of the definitions
+pub mod Overwritten
+pub mod Words
