@@ -1,0 +1,140 @@
+-- Shapes, numbers and values as refusals and the report print them.
+use Rattle.std.specs.Prelude.{ℕ, ◌+◌, ◌%◌, nat_eq, nat_lt, ℤ, pos, Bool, true, false, not, ◌&&◌, cond, List, [], ◌∷◌, ◌++◌, map, length, reverse, slice_index_or, slice_get, codes, Option, Some, None, if◌then◌else◌}
+use Rattle.std.specs.Fmt.{signed_decimal}
+use Rattle.std.specs.Ordering.{int_eq}
+use Rattle.sail_base.specs.Bits.{value_of}
+use Rattle.sail_types.specs.Named.{constructors, fields, members}
+use Rattle.sail_types.specs.declared.numbers.Num.{Num}
+use Rattle.sail_types.specs.declared.numbers.Atom.{Atom}
+use Rattle.sail_types.specs.declared.numbers.Atom.TheOpen as N
+use Rattle.sail_types.specs.declared.numbers.Atom.TheOpen.{Atom-F, Num-F, Term-F}
+use Rattle.sail_types.specs.declared.numbers.Atom.TheFolds.{fold-Num, fold-Atom}
+use Rattle.sail_types.specs.declared.shapes.Shape.{Shape, Shape-F, fold-Shape}
+use Rattle.sail_types.specs.declared.shapes.Shape.TheOpen as S
+use Rattle.sail_types.specs.declared.table.Definition.{Definition}
+use Rattle.sail_types.specs.declared.table.Field.{Field}
+use Rattle.sail_types.specs.declared.table.Types.{Types}
+use Rattle.sail_types.specs.declared.values.Value.{Value, Value-F, fold-Value}
+use Rattle.sail_types.specs.declared.values.Value.TheOpen as W
+
+-- the text at an index, and no text past the end
+abbrev pub text_at : List (List ℕ) → ℕ → List ℕ
+text_at texts i = slice_index_or texts i []
+
+-- texts with another between them
+abbrev pub behind : List ℕ → List (List ℕ) → List ℕ
+behind separator [] = []
+behind separator (t ∷ ts) = separator ++ t ++ behind separator ts
+
+abbrev pub joined : List ℕ → List (List ℕ) → List ℕ
+joined separator [] = []
+joined separator (t ∷ ts) = t ++ behind separator ts
+
+abbrev pub listed : List (List ℕ) → List ℕ
+listed texts = joined (codes ", ") texts
+
+abbrev pub bracketed : List ℕ → List ℕ
+bracketed text = codes "(" ++ text ++ codes ")"
+
+-- arguments in brackets, and nothing where there are none
+abbrev pub arguments_text : List (List ℕ) → List ℕ
+arguments_text [] = []
+arguments_text (t ∷ ts) = bracketed (listed (t ∷ ts))
+
+abbrev pub definition_name : Option Definition → List ℕ
+definition_name None = []
+definition_name (Some definition) = definition.name
+
+-- the name of a named type
+abbrev pub name_text : Types → ℕ → List ℕ
+name_text types i = definition_name (slice_get types.definitions i)
+
+-- ---- shapes, the Type variables printing as these names
+
+abbrev pub form_shape_text : Types → List (List ℕ) → Shape-F (List ℕ) → List ℕ
+form_shape_text types names S.Unit = codes "unit"
+form_shape_text types names S.Bool = codes "bool"
+form_shape_text types names S.Bit = codes "bit"
+form_shape_text types names S.Bits = codes "bits"
+form_shape_text types names S.Int = codes "int"
+form_shape_text types names S.String = codes "string"
+form_shape_text types names (S.List s) = codes "list" ++ bracketed s
+form_shape_text types names (S.Vector s) = codes "vector" ++ bracketed s
+form_shape_text types names (S.Tuple ss) = bracketed (listed ss)
+form_shape_text types names (S.Named i ss) = name_text types i ++ arguments_text ss
+form_shape_text types names (S.Variable i) = text_at names i
+form_shape_text types names S.Hole = codes "_"
+form_shape_text types names S.Never = codes "_"
+
+abbrev pub shape_text : Types → List (List ℕ) → Shape → List ℕ
+shape_text types names = fold-Shape (List ℕ) (form_shape_text types names)
+
+-- ---- numbers, the variables printing as these names
+
+abbrev pub atom_form_text : List (List ℕ) → Atom-F (List ℕ) (List ℕ) (List ℕ) → List ℕ
+atom_form_text names (N.Variable i) = text_at names i
+atom_form_text names (N.Power t) = codes "2 ^ " ++ bracketed t
+
+-- a coefficient of 1 is left out
+abbrev pub term_form_text : Term-F (List ℕ) (List ℕ) (List ℕ) → List ℕ
+term_form_text term = (if int_eq term.coefficient (pos 1) then [] else signed_decimal term.coefficient ++ codes " * ") ++ term.atom
+
+-- a constant of 0 is left out behind terms
+abbrev pub sum_text : List (List ℕ) → ℤ → List ℕ
+sum_text [] z = signed_decimal z
+sum_text (t ∷ ts) z = joined (codes " + ") ((t ∷ ts) ++ (if int_eq z (pos 0) then [] else signed_decimal z ∷ []))
+
+abbrev pub sum_form_text : Num-F (List ℕ) (List ℕ) (List ℕ) → List ℕ
+sum_form_text n = sum_text n.terms n.constant
+
+abbrev pub num_text : List (List ℕ) → Num → List ℕ
+num_text names = fold-Num (List ℕ) (List ℕ) (List ℕ) (atom_form_text names) sum_form_text term_form_text
+
+abbrev pub atom_text : List (List ℕ) → Atom → List ℕ
+atom_text names = fold-Atom (List ℕ) (List ℕ) (List ℕ) (atom_form_text names) sum_form_text term_form_text
+
+-- ---- values
+
+-- a digit below 16, in lower case
+abbrev pub digit : ℕ → ℕ
+digit n = if nat_lt n 10 then 48 + n else 87 + n
+
+-- one digit a bit, and one every four bits, the lowest first
+abbrev pub binary_digits : List Bool → List ℕ
+binary_digits bits = map (λ b. cond b 49 48) bits
+
+abbrev pub hex_digits : List Bool → List ℕ
+hex_digits (a ∷ b ∷ c ∷ d ∷ bits) = digit (value_of (a ∷ b ∷ c ∷ d ∷ [])) ∷ hex_digits bits
+hex_digits bits = []
+
+-- `0x..` where the width is a positive multiple of 4, else `0b..`
+abbrev pub bits_text : List Bool → List ℕ
+bits_text [] = codes "0b"
+bits_text (b ∷ bits) =
+    if nat_eq (length (b ∷ bits) % 4) 0 then codes "0x" ++ reverse (hex_digits (b ∷ bits)) else codes "0b" ++ reverse (binary_digits (b ∷ bits))
+
+-- each field as `f = a`
+abbrev pub fields_text : List Field → List (List ℕ) → List (List ℕ)
+fields_text (f ∷ fs) (t ∷ ts) = (f.name ++ codes " = " ++ t) ∷ fields_text fs ts
+fields_text fs ts = []
+
+abbrev pub struct_text : Option (List Field) → List (List ℕ) → List ℕ
+struct_text None ts = codes "{" ++ codes "}"
+struct_text (Some fs) ts = codes "{" ++ listed (fields_text fs ts) ++ codes "}"
+
+abbrev pub form_value_text : Types → Value-F (List ℕ) → List ℕ
+form_value_text types W.Unit = codes "()"
+form_value_text types (W.Integer z) = signed_decimal z
+form_value_text types (W.Truth b) = if b then codes "true" else codes "false"
+form_value_text types (W.Bit b) = if b then codes "bitone" else codes "bitzero"
+form_value_text types (W.Bits bits) = bits_text bits
+form_value_text types (W.String text) = codes "\"" ++ text ++ codes "\""
+form_value_text types (W.Member i k) = text_at (members types i) k
+form_value_text types (W.Tuple vs) = bracketed (listed vs)
+form_value_text types (W.Struct i vs) = struct_text (fields types i) vs
+form_value_text types (W.Union i k v) = text_at (map (λ f. f.name) (constructors types i)) k ++ bracketed v
+form_value_text types (W.List vs) = codes "[|" ++ listed vs ++ codes "|]"
+form_value_text types (W.Vector vs) = codes "[" ++ listed vs ++ codes "]"
+
+abbrev pub value_text : Types → Value → List ℕ
+value_text types = fold-Value (List ℕ) (form_value_text types)

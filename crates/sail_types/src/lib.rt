@@ -1,0 +1,17 @@
+//! Numbers of types, constraints, types, shapes and values, and the table of named types and of the
+//! builtin rows.
+#![tactic(auto)]
+
+mod numbers;
+mod rows;
+mod shapes;
+mod table;
+mod types;
+mod values;
+
+pub use numbers::{Atom, Comparison, Con, Index, Num, Term};
+pub use rows::Row;
+pub use shapes::Shape;
+pub use table::{Definition, Field, Form, Parameter, Types};
+pub use types::Typ;
+pub use values::Value;
