@@ -1,13 +1,12 @@
 -- Which values belong to a type: those of its shape that have its numbers.
 use Rattle.std.specs.Bool.{beq}
-use Rattle.std.specs.Prelude.{ℕ, nat_eq, nat_lt, ℤ, pos, int_le, Bool, true, false, ◌&&◌, List, [], ◌∷◌, map, length, slice_get, slice_index_or, Option, Some, None}
+use Rattle.std.specs.Prelude.{nat_eq, nat_lt, ℤ, pos, int_le, Bool, true, false, ◌&&◌, List, [], ◌∷◌, map, length, slice_index_or, Option, Some, None}
 use Rattle.std.specs.Ordering.{int_eq}
 use Rattle.std.specs.List.{list_all}
 use Rattle.sail_types.specs.Limits.{is_small, is_width, is_length}
 use Rattle.sail_types.specs.Numbers.{Assignment, number, true_in, under}
 use Rattle.sail_types.specs.Named.{fields, field_types, members, payload}
-use Rattle.sail_types.specs.Places.{Given, an_int, a_bool, placed}
-use Rattle.sail_types.specs.declared.numbers.Num.{Num}
+use Rattle.sail_types.specs.Places.{Given, an_int, placed}
 use Rattle.sail_types.specs.declared.numbers.Con.{Con}
 use Rattle.sail_types.specs.declared.numbers.Index.{Index}
 use Rattle.sail_types.specs.declared.numbers.Index.TheVariants as I

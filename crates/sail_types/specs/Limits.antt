@@ -1,5 +1,5 @@
 -- The limits of integers, widths and lengths.
-use Rattle.std.specs.Prelude.{ℕ, ◌^◌, ℤ, pos, neg_ℤ, int_le, nat_le, nat_abs, Bool, ◌&&◌}
+use Rattle.std.specs.Prelude.{ℕ, ◌^◌, ℤ, nat_le, nat_abs, Bool}
 
 -- the largest integer of a model, and of a number of a type
 unfoldable pub largest : ℕ

@@ -1,5 +1,5 @@
 -- What stands in the table of named types.
-use Rattle.std.specs.Prelude.{ℕ, List, [], map, length, slice_get, Option, Some, None}
+use Rattle.std.specs.Prelude.{ℕ, List, [], map, slice_get, Option, Some, None}
 use Rattle.sail_types.specs.declared.table.Types.{Types}
 use Rattle.sail_types.specs.declared.table.Definition.{Definition}
 use Rattle.sail_types.specs.declared.table.Field.{Field}

@@ -1,11 +1,9 @@
 -- The value at which a register of a type starts, and which types have one.
-use Rattle.std.specs.Prelude.{ℕ, zero, suc, nat_eq, ℤ, pos, negsuc, int_le, int_lt, Bool, true, false, List, [], ◌∷◌, map, length, replicate, slice_get, Option, Some, None, option_map, if◌then◌else◌}
+use Rattle.std.specs.Prelude.{ℕ, zero, suc, ℤ, pos, negsuc, int_le, int_lt, Bool, true, false, List, [], ◌∷◌, map, length, replicate, slice_get, Option, Some, None, option_map, if◌then◌else◌}
 use Rattle.sail_types.specs.Limits.{is_small, is_width, is_length}
 use Rattle.sail_types.specs.Numbers.{Assignment, number}
 use Rattle.sail_types.specs.Named.{in_form}
 use Rattle.sail_types.specs.Belongs.{Reading, reading, Readings, no_readings, more_readings, assigned, read_each, inner_types}
-use Rattle.sail_types.specs.declared.numbers.Num.{Num}
-use Rattle.sail_types.specs.declared.numbers.Con.{Con}
 use Rattle.sail_types.specs.declared.table.Form.{Form}
 use Rattle.sail_types.specs.declared.table.Form.TheVariants as F
 use Rattle.sail_types.specs.declared.table.Types.{Types}
