@@ -1,6 +1,6 @@
 -- The bytes of each spelling are ASCII.
-use Rattle.std.proofs.Common.{◌≡◌, ℕ, zero, suc, ◌+◌, ◌<◌, ◌≤◌, Bool, true, false, cond, eqb, ◌==◌, nat_lt, List, [], ◌∷◌, length, take, drop, get_or, refl, sym, ap, subst, arith, eqb-true, ltb-true, add-one, ◌∙◌, ◌⊎◌, inl, inr, IsAscii}
-use Rattle.std.specs.Prelude.{◌&&◌, not}
+use Rattle.std.proofs.Common.{◌≡◌, ℕ, zero, suc, ◌+◌, ◌<◌, Bool, true, false, cond, eqb, ◌==◌, nat_lt, List, [], ◌∷◌, length, take, drop, get_or, refl, sym, ap, subst, arith, eqb-true, ltb-true, add-one, ◌∙◌, ◌⊎◌, inl, inr, IsAscii}
+use Rattle.std.specs.Prelude.{◌&&◌}
 use Rattle.std.specs.List.{list_all}
 use Rattle.std.proofs.lemmas.Bool.{and_parts, cases_order}
 use Rattle.std.proofs.lemmas.Bool.Decides.{nat_tests}

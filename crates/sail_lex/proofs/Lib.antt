@@ -9,4 +9,6 @@ pub mod Plain
 pub mod Prefixes
 pub mod Spelled
 pub mod Symbols
+pub mod Total
+pub mod Unspelled
 pub mod Values

@@ -34,7 +34,7 @@ choose : {A : Type 0} → Bool → Bool → Bool → Bool → Bool → Bool → 
 choose blank letter digit tick quote dollar a b c d e f g =
     cond blank a (cond letter b (cond digit c (cond tick d (cond quote e (cond dollar f g)))))
 
-length_of : Option (List ℕ × TokenKind) → ℕ
+pub length_of : Option (List ℕ × TokenKind) → ℕ
 length_of None = 0
 length_of (Some e) = length e.0
 
@@ -45,7 +45,7 @@ number_limit text =
     else prefix_len in_decimal text)
 
 -- how many bytes a spelling that begins the text has at most, by the first byte
-limit_at : ℕ → List ℕ → ℕ
+pub limit_at : ℕ → List ℕ → ℕ
 limit_at b text =
     choose (is_blank b) (begins_name b) (is_ascii_digit b) (eqb b 39) (eqb b 34) (eqb b 36)
     0 (prefix_len in_name text) (number_limit text) (prefix_len in_name (drop 1 text) + 1) (size_of (string_parts text) + 2) (prefix_len in_line text) (length_of (longest_in symbols text))
@@ -103,7 +103,7 @@ limit_quote : (text : List ℕ) → limit_at 34 text ≡ size_of (string_parts t
 unfolding limit_at choose
 limit_quote text = refl
 
-limit_dollar : (text : List ℕ) → limit_at 36 text ≡ prefix_len in_line text
+pub limit_dollar : (text : List ℕ) → limit_at 36 text ≡ prefix_len in_line text
 unfolding limit_at choose
 limit_dollar text = refl
 
@@ -327,6 +327,15 @@ symbol_begins word kind s =
     let found = stands_passes (λ e. begins_symbol (first e.0)) symbols word kind refl s in
     subst (λ (t : List ℕ). begins_symbol (first t) ≡ true) found.1 found.2
 
+pub limit_other : (b : ℕ) (text : List ℕ) → is_blank b ≡ false → begins_name b ≡ false → is_ascii_digit b ≡ false → eqb b 39 ≡ false → eqb b 34 ≡ false → eqb b 36 ≡ false → limit_at b text ≡ length_of (longest_in symbols text)
+unfolding limit_at
+limit_other b text p q r s k l =
+    choose_other (is_blank b) (begins_name b) (is_ascii_digit b) (eqb b 39) (eqb b 34) (eqb b 36) 0 (prefix_len in_name text) (number_limit text) (prefix_len in_name (drop 1 text) + 1) (size_of (string_parts text) + 2) (prefix_len in_line text) (length_of (longest_in symbols text)) p q r s k l
+
+pub length_none : length_of None ≡ 0
+unfolding length_of
+length_none = refl
+
 limit_symbol : (b : ℕ) (text : List ℕ) → begins_symbol b ≡ true → limit_at b text ≡ length_of (longest_in symbols text)
 unfolding begins_symbol limit_at
 limit_symbol b text h =
@@ -345,7 +354,7 @@ bound_symbol (suc m) (b ∷ text) kind le s =
     subst (λ (k : ℕ). suc m ≤ k) (sym (limit_symbol b (b ∷ text) (symbol_begins (take (suc m) (b ∷ text)) kind s))) (stands_bound symbols (b ∷ text) (take (suc m) (b ∷ text)) kind (suc m) le refl s)
 
 -- any spelling that begins the text is within the limit
-bound : (text word : List ℕ) (kind : TokenKind) (m : ℕ) → m ≤ length text → word ≡ take m text → IsSpelling kind word → m ≤ limit_at (first text) text
+pub bound : (text word : List ℕ) (kind : TokenKind) (m : ℕ) → m ≤ length text → word ≡ take m text → IsSpelling kind word → m ≤ limit_at (first text) text
 bound text word kind m le e (named h) = bound_name m text le (subst (λ (t : List ℕ). is_name t ≡ true) e h)
 bound text word kind m le e (type_variable {text = rest} h) = bound_variable m text rest le h e
 bound text word kind m le e (decimal d h) = bound_decimal m text le (subst (λ (t : List ℕ). is_ascii_digit (first t) ≡ true) e d) (subst (λ (t : List ℕ). list_all in_decimal t ≡ true) e h)

@@ -31,7 +31,7 @@ run_all p [] = refl
 run_all p (b ∷ text) = run_more p b text (run_all p text) (p b) refl
 
 -- a run that isn't empty begins with the text's first byte
-first_take : (p : ℕ → Bool) (text : List ℕ) → p (first text) ≡ true → first (take (prefix_len p text) text) ≡ first text
+pub first_take : (p : ℕ → Bool) (text : List ℕ) → p (first text) ≡ true → first (take (prefix_len p text) text) ≡ first text
 first_take p [] h = refl
 first_take p (b ∷ text) h =
     subst (λ (t : Bool). first (take (cond t (1 + prefix_len p text) 0) (b ∷ text)) ≡ b) (sym h)
@@ -102,7 +102,7 @@ and_false : (b : Bool) → (b && false) ≡ false
 and_false true = refl
 and_false false = refl
 
-two_first : (x y : ℕ) (text : List ℕ) (P : List ℕ → Type 0) → starts_with nat_eq text (x ∷ y ∷ []) ≡ true → ((rest : List ℕ) → P (x ∷ y ∷ rest)) → P text
+pub two_first : (x y : ℕ) (text : List ℕ) (P : List ℕ → Type 0) → starts_with nat_eq text (x ∷ y ∷ []) ≡ true → ((rest : List ℕ) → P (x ∷ y ∷ rest)) → P text
 two_first x y [] P h f = absurd (false≢true h)
 two_first x y (a ∷ []) P h f = absurd (false≢true (sym (and_false (eqb x a)) ∙ h))
 two_first x y (a ∷ c ∷ rest) P h f =
@@ -233,7 +233,7 @@ spelled_other text = by_test (starts_with nat_eq text (codes "//")) (starts_with
   by_test false false = spelled_found text (longest_in symbols text) (found_stands symbols text)
 
 -- a text that begins with a byte is that and its rest
-one_first : (x : ℕ) (text : List ℕ) (P : List ℕ → Type 0) → 0 < length text → (first text == x) ≡ true → ((rest : List ℕ) → P (x ∷ rest)) → P text
+pub one_first : (x : ℕ) (text : List ℕ) (P : List ℕ → Type 0) → 0 < length text → (first text == x) ≡ true → ((rest : List ℕ) → P (x ∷ rest)) → P text
 one_first x [] P some h f = absurd (omega arith)
 one_first x (b ∷ rest) P some h f = subst (λ (k : ℕ). P (k ∷ rest)) (sym (eqb-true b x h)) (f rest)
 

@@ -38,3 +38,11 @@ pub data IsSpelling : TokenKind → List ℕ → Type 0 where
 pub record IsLongest (text : List ℕ) (kind : TokenKind) (n : ℕ) : Type 0 where
   pub spelled : IsSpelling kind (take n text)
   pub longest : (other : TokenKind) (m : ℕ) → m ≤ length text → IsSpelling other (take m text) → m ≤ n
+
+-- no first bytes of the text are a spelling of any kind
+abbrev pub BeginsNone : List ℕ → Type 0
+BeginsNone text = (kind : TokenKind) (m : ℕ) → m ≤ length text → IsSpelling kind (take m text) → ⊥
+
+-- no n or more first bytes of the text are a spelling of any kind
+abbrev pub IsLonger : List ℕ → ℕ → Type 0
+IsLonger text n = (kind : TokenKind) (m : ℕ) → m ≤ length text → IsSpelling kind (take m text) → m < n

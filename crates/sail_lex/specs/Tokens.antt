@@ -1,5 +1,5 @@
 -- The tokens of a file, and why it has none.
-use Rattle.std.specs.Prelude.{◌≡◌, ℕ, ◌+◌, ◌<◌, ◌≤◌, List, [], ◌∷◌, length, drop}
+use Rattle.std.specs.Prelude.{◌≡◌, ℕ, ◌+◌, ◌<◌, ◌≤◌, ◌⊎◌, List, [], ◌∷◌, length, drop}
 use Rattle.sail_base.specs.declared.place.Place.{Place}
 use Rattle.sail_lex.specs.declared.kind.TokenKind.{TokenKind}
 use Rattle.sail_lex.specs.declared.front.Fault.{Fault}
@@ -54,6 +54,10 @@ pub data Refuses (file : ℕ) (source : List ℕ) : ℕ → ℕ → LexError →
       Refuses file source at count (error_at f (place_at file source (at + n)))
   too_many : {at count : ℕ} (kind : TokenKind) (n : ℕ) → at < length source → front (drop at source) ≡ Token kind n →
       most_tokens ≤ count → Refuses file source at count (error.TokenLimit (place_at file source at))
+
+-- from a place on, where so many tokens have come, the source has tokens or is refused
+abbrev pub IsAnswered : ℕ → List ℕ → ℕ → ℕ → Type 0
+IsAnswered file source at count = ((ts : List TokenType) × Lexes file source at count ts) ⊎ ((e : LexError) × Refuses file source at count e)
 
 -- an error is the refusal from a place on, where so many tokens have come; want of memory says nothing of the source
 abbrev pub IsRefusal : ℕ → List ℕ → ℕ → ℕ → LexError → Type 0

@@ -17,7 +17,7 @@ mod token;
 mod value;
 
 pub use kind::TokenKind;
-pub use laws::{longest_spelling, one_answer};
+pub use laws::{longest_spelling, no_spelling, one_answer};
 pub use lexer::lex;
 pub use token::{LexError, Token, Tokens};
 pub use value::{decimal_value, literal_word, string_value};
