@@ -42,6 +42,7 @@ type_place t = type_form_place (out-TyExp t)
 abbrev pub pattern_form_place : Pat-F Pat Joined → Place
 pattern_form_place (P.Wildcard place) = place
 pattern_form_place (P.Constant place literal) = place
+pattern_form_place (P.Negative place n) = place
 pattern_form_place (P.Bind name) = name.place
 pattern_form_place (P.Construct name ps) = name.place
 pattern_form_place (P.Group place brackets ps) = place
@@ -121,17 +122,21 @@ statement_place s = statement_form_place (out-Stmt s)
 -- a definition's place, its first word
 abbrev pub definition_place : Def → Place
 definition_place (D.Order place) = place
-definition_place (D.Alias place name params kind t) = place
+definition_place (D.Alias place name variables kind t) = place
 definition_place (D.Enum place name members) = place
-definition_place (D.Record place word name params members) = place
+definition_place (D.Struct place name variables fields) = place
+definition_place (D.Union place name variables constructors) = place
 definition_place (D.Val place name quantifier t arrow u) = place
-definition_place (D.Function place extent name params t e) = place
+definition_place (D.Function place extent name clauses) = place
 definition_place (D.Measure place name params e) = place
 definition_place (D.Mapping place name sides clauses) = place
 definition_place (D.Let place p e) = place
 definition_place (D.Register place name t e) = place
 definition_place (D.Overload place overloaded members) = place
-definition_place (D.Scatter place scattered name params) = place
+definition_place (D.ScatteredUnion place name variables) = place
+definition_place (D.ScatteredFunction place name) = place
+definition_place (D.ScatteredMapping place name) = place
 definition_place (D.UnionClause place name member) = place
+definition_place (D.FunctionClause name clause) = clause.place
 definition_place (D.MappingClause place name clause) = place
 definition_place (D.End place name) = place

@@ -2,39 +2,91 @@ use crate::expressions::Exp;
 use crate::name::Name;
 use crate::patterns::Pat;
 use crate::types::TyExp;
-use crate::words::{Arrow, Extent, Record, Scattered};
+use crate::words::{Arrow, Extent};
 use sail_base::{Boxed, Items, Kind, Operator, Place};
 
-/// A definition, as written, at its first word.
+/// A definition, as written, at its first word. Clauses that stand apart are gathered behind the
+/// definition that opens them, which then has the place of that opening.
 #[derive(Drop)]
 pub enum Def {
     /// `default Order dec`
     Order(Place),
-    /// `type t(params) : K = T`
-    Alias(Place, Name, Items<Param>, Option<Kind>, TyExp),
+    /// `type t('n) : K = T`
+    Alias {
+        place: Place,
+        name: Name,
+        variables: Items<Param>,
+        kind: Option<Kind>,
+        typ: TyExp,
+    },
     /// `enum e = {A, B}`, `enum e = A | B`
     Enum(Place, Name, Items<Name>),
-    /// `struct s(params) = {f : T}`, `union u(params) = {C : T}`
-    Record(Place, Record, Name, Items<Param>, Items<Member>),
+    /// `struct s('a : Type) = {f : T}`
+    Struct {
+        place: Place,
+        name: Name,
+        variables: Items<Param>,
+        fields: Items<Member>,
+    },
+    /// `union u('a : Type) = {C : T}`, or a gathered one, which may have no constructor.
+    Union {
+        place: Place,
+        name: Name,
+        variables: Items<Param>,
+        constructors: Items<Member>,
+    },
     /// `val f : forall .. T -> T`, `val m : T <-> T`
-    Val(Place, Name, Quantifier, TyExp, Arrow, TyExp),
-    /// `function f(p, q) -> T = e`, `function clause f(p, q) -> T = e`
-    Function(Place, Extent, Name, Items<Pat>, Option<TyExp>, Boxed<Exp>),
+    Val {
+        place: Place,
+        name: Name,
+        quantifier: Quantifier,
+        from: TyExp,
+        arrow: Arrow,
+        to: TyExp,
+    },
+    /// `function f(p, q) -> T = e`, which has one clause, or a gathered one, which may have none.
+    Function {
+        place: Place,
+        extent: Extent,
+        name: Name,
+        clauses: Items<FunctionClause>,
+    },
     /// `termination_measure f(p, q) = e`
-    Measure(Place, Name, Items<Pat>, Boxed<Exp>),
-    /// `mapping m : T <-> T = {..}`
-    Mapping(Place, Name, Option<Sides>, Items<MappingClause>),
+    Measure {
+        place: Place,
+        name: Name,
+        parameters: Items<Pat>,
+        value: Boxed<Exp>,
+    },
+    /// `mapping m : T <-> T = {..}`, or a gathered one, which has no types and may have no clause.
+    Mapping {
+        place: Place,
+        name: Name,
+        sides: Option<Sides>,
+        clauses: Items<MappingClause>,
+    },
     /// `let p = e`
     Let(Place, Pat, Boxed<Exp>),
     /// `register R : T = e`
-    Register(Place, Name, TyExp, Option<Boxed<Exp>>),
+    Register {
+        place: Place,
+        name: Name,
+        typ: TyExp,
+        initial: Option<Boxed<Exp>>,
+    },
     /// `overload f = {g, h}`, `overload operator + = {g, h}`
     Overload(Place, Overloaded, Items<Name>),
-    /// `scattered union u(params)`, `scattered function f`, `scattered mapping m`
-    Scatter(Place, Scattered, Name, Items<Param>),
+    /// `scattered union u('a : Type)`
+    ScatteredUnion(Place, Name, Items<Param>),
+    /// `scattered function f`
+    ScatteredFunction(Place, Name),
+    /// `scattered mapping m`
+    ScatteredMapping(Place, Name),
     /// `union clause u = C : T`
     UnionClause(Place, Name, Member),
-    /// `mapping clause m = ..`
+    /// `function clause f(p, q) -> T = e`, at the clause's first word.
+    FunctionClause(Name, FunctionClause),
+    /// `mapping clause m = ..`, at the definition's first word.
     MappingClause(Place, Name, MappingClause),
     /// `end f`
     End(Place, Name),
@@ -64,6 +116,17 @@ pub struct Sides {
     pub right: TyExp,
 }
 
+/// One clause of a function: `function f(p, q) -> T = e`, its own name apart.
+#[derive(Drop)]
+pub struct FunctionClause {
+    /// Its first word, `function`.
+    pub place: Place,
+    /// None where the brackets hold nothing.
+    pub parameters: Items<Pat>,
+    pub result: Option<TyExp>,
+    pub body: Boxed<Exp>,
+}
+
 /// One side of a mapping's clause: `p if e`.
 pub struct Side {
     pub pattern: Pat,
@@ -73,6 +136,8 @@ pub struct Side {
 /// One clause of a mapping: `p if e <-> q if e`.
 #[derive(Drop)]
 pub struct MappingClause {
+    /// Its first token.
+    pub place: Place,
     pub left: Side,
     pub right: Side,
 }

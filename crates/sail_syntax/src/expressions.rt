@@ -20,34 +20,82 @@ pub enum Exp {
     /// `- e` at the `-`, `2 ^ e` at the `^`, `~(e)` at the `~`, `not(e)` at the `not`.
     Prefixed(Place, Prefix, Boxed<Exp>),
     /// `a + b` and its like, at the operator.
-    Infix(Place, Operator, Boxed<Exp>, Boxed<Exp>),
+    Infix {
+        place: Place,
+        operator: Operator,
+        left: Boxed<Exp>,
+        right: Boxed<Exp>,
+    },
     /// `return e`, `throw e`, `exit e`, at the word.
     Leave(Place, Leaving, Boxed<Exp>),
     /// `(a, b)`, `()`, `[a, b]`, `[| a, b |]`, at the bracket.
     Group(Place, Brackets, Items<Exp>),
-    /// `a.f[i]`: its first token, the base and at least one suffix.
+    /// `a.f[i]`: its first token, the base and at least one suffix. It stands at the bracket of its
+    /// last suffix, or where that is a field at its first token.
     Part(Place, Boxed<Exp>, Items<Suffix>),
     /// `e : T`, at its first token.
     Typed(Place, Boxed<Exp>, TyExp),
-    /// `a = b = e`: its first token, the first target, the targets behind it, and the value.
-    Assign(Place, Boxed<LExp>, Items<Target>, Boxed<Exp>),
+    /// `a = b = e`, at its first token: the first target, the targets behind it, and the value.
+    Assign {
+        place: Place,
+        target: Boxed<LExp>,
+        more: Items<Target>,
+        value: Boxed<Exp>,
+    },
     /// `{ s; e }`, at its bracket: the statements but for the value, and the value. Without one (the
     /// last statement is followed by `;`, or is a `let` or `var`, or there is none) it is `()`.
     Block(Place, Items<Stmt>, Option<Boxed<Exp>>),
     /// `let p = e in e`, at the word.
-    Let(Place, Pat, Boxed<Exp>, Boxed<Exp>),
+    Let {
+        place: Place,
+        pattern: Pat,
+        bound: Boxed<Exp>,
+        body: Boxed<Exp>,
+    },
     /// `var x : T = e in e`, at the word.
-    Var(Place, Name, Option<TyExp>, Boxed<Exp>, Boxed<Exp>),
+    Var {
+        place: Place,
+        name: Name,
+        typ: Option<TyExp>,
+        initial: Boxed<Exp>,
+        body: Boxed<Exp>,
+    },
     /// `if e then e else e`, at the word.
-    If(Place, Boxed<Exp>, Boxed<Exp>, Option<Boxed<Exp>>),
+    If {
+        place: Place,
+        condition: Boxed<Exp>,
+        then: Boxed<Exp>,
+        otherwise: Option<Boxed<Exp>>,
+    },
     /// `match e { .. }`, `try e catch { .. }`, at the word.
-    Choose(Place, Choosing, Boxed<Exp>, Items<Case>),
+    Choose {
+        place: Place,
+        choosing: Choosing,
+        value: Boxed<Exp>,
+        cases: Items<Case>,
+    },
     /// `foreach (x from e to e by e in dec) e`, at the word.
-    Foreach(Place, Name, Boxed<Range>, Boxed<Exp>),
-    /// `while e do e`, `repeat e until e`, at the word: the measure, then both in text order.
-    Loop(Place, Looping, Option<Boxed<Exp>>, Boxed<Exp>, Boxed<Exp>),
+    Foreach {
+        place: Place,
+        name: Name,
+        range: Boxed<Range>,
+        body: Boxed<Exp>,
+    },
+    /// `while condition do body`, `repeat body until condition`, at the word.
+    Loop {
+        place: Place,
+        looping: Looping,
+        measure: Option<Boxed<Exp>>,
+        condition: Boxed<Exp>,
+        body: Boxed<Exp>,
+    },
     /// `[v with i = e]`, `[v with h .. l = e]`, at its bracket.
-    Update(Place, Boxed<Exp>, Boxed<Index>, Boxed<Exp>),
+    Update {
+        place: Place,
+        base: Boxed<Exp>,
+        index: Boxed<Index>,
+        value: Boxed<Exp>,
+    },
     /// `struct S { f = e }`, at the word.
     Struct(Place, Option<Name>, Items<FieldValue>),
     /// `{ e with f = e }`, at its bracket.
@@ -114,7 +162,12 @@ pub enum Stmt {
     /// `let p = e`, at the word.
     Define(Place, Pat, Boxed<Exp>),
     /// `var x : T = e`, at the word.
-    Declare(Place, Name, Option<TyExp>, Boxed<Exp>),
+    Declare {
+        place: Place,
+        name: Name,
+        typ: Option<TyExp>,
+        initial: Boxed<Exp>,
+    },
 }
 
 /// What is assigned to. A target in brackets of its own is that target.
@@ -127,7 +180,7 @@ pub enum LExp {
     ToCall(Name, Items<Exp>),
     /// `(a, b)` of at least two, at its bracket.
     ToTuple(Place, Items<LExp>),
-    /// `a.f[i]`: its first token, the base and at least one suffix.
+    /// `a.f[i]`: its first token, the base and at least one suffix; it stands as a part does.
     ToPart(Place, Boxed<LExp>, Items<Suffix>),
 }
 

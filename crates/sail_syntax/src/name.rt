@@ -36,13 +36,6 @@ impl Name {
         let text = Text::from_ascii(alloc, spelling)?;
         Ok(Name { place, text })
     }
-
-    /// As `clone`.
-    pub fn copy(&self) -> Result<Name, AllocError>
-        ensures { IfOk result (λ name. name ≡ self.now) }
-    {
-        self.clone()
-    }
 }
 
 impl Clone for Name {
@@ -66,7 +59,7 @@ impl Clone for Name {
 /// What a literal stands for.
 #[derive(Debug)]
 pub enum Literal {
-    /// A decimal, from 0 to 2^126; in a pattern also with a `-`, down to -2^126.
+    /// A decimal, from 0 to 2^126.
     Number(i128),
     /// `0x..` or `0b..`, four bits or one a digit: 1 to 128 of them.
     Bits(Word),

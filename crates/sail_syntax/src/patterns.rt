@@ -8,16 +8,23 @@ use sail_base::{Boxed, Items, Place};
 pub enum Pat {
     /// `_`
     Wildcard(Place),
-    /// A literal, or a decimal after a `-`, at its first token.
+    /// A literal, at its token.
     Constant(Place, Literal),
+    /// `- 5`, at the `-`: the decimal behind it, from 0 to 2^126.
+    Negative(Place, i128),
     /// A bare identifier: a member of an enum where one has this name, else it binds.
     Bind(Name),
     /// `id(p, q)`: a constructor or a mapping.
     Construct(Name, Items<Pat>),
     /// `(p, q)`, `()`, `[p, q]`, `[| p, q |]`, at the bracket.
     Group(Place, Brackets, Items<Pat>),
-    /// `p @ q @ r` as one form: the place of the first `@`, the first part, the second, the others.
-    Concat(Place, Boxed<Pat>, Boxed<Pat>, Items<Joined>),
+    /// `p @ q @ r` as one form, at the first `@`.
+    Concat {
+        place: Place,
+        first: Boxed<Pat>,
+        second: Boxed<Pat>,
+        more: Items<Joined>,
+    },
     /// `p :: q`, at the `::`.
     Cons(Place, Boxed<Pat>, Boxed<Pat>),
     /// `p as x`, at its first token.
@@ -39,10 +46,16 @@ impl Drop for Pat {
         match self {
             Pat::Wildcard(_) => {}
             Pat::Constant(_, _) => {}
+            Pat::Negative(_, _) => {}
             Pat::Bind(_) => {}
             Pat::Construct(_, _) => {}
             Pat::Group(_, _, _) => {}
-            Pat::Concat(_, _, _, _) => {}
+            Pat::Concat {
+                place: _,
+                first: _,
+                second: _,
+                more: _,
+            } => {}
             Pat::Cons(_, _, _) => {}
             Pat::As(_, _, _) => {}
             Pat::Typed(_, _, _) => {}

@@ -15,13 +15,23 @@ pub enum TyExp {
     /// `- t` at the `-`, `2 ^ t` at the `^`, `not(t)` at the `not`.
     Prefix(Place, TypePrefix, Boxed<TyExp>),
     /// `t + u` and its like, at the operator.
-    Infix(Place, TypeOperator, Boxed<TyExp>, Boxed<TyExp>),
+    Infix {
+        place: Place,
+        operator: TypeOperator,
+        left: Boxed<TyExp>,
+        right: Boxed<TyExp>,
+    },
     /// `t in {1, 2}`, at the `in`.
     OneOf(Place, Boxed<TyExp>, Items<i128>),
     /// `(t, u)` of at least two, at its bracket.
     Tuple(Place, Items<TyExp>),
-    /// `{'n, C. T}`, at its bracket: the variables, the constraint and the type.
-    Exists(Place, Items<Name>, Option<Boxed<TyExp>>, Boxed<TyExp>),
+    /// `{'n, C. T}`, at its bracket, with at least one variable.
+    Exists {
+        place: Place,
+        variables: Items<Name>,
+        constraint: Option<Boxed<TyExp>>,
+        typ: Boxed<TyExp>,
+    },
 }
 
 impl Drop for TyExp {
@@ -33,10 +43,20 @@ impl Drop for TyExp {
             TyExp::Number(_, _) => {}
             TyExp::Truth(_, _) => {}
             TyExp::Prefix(_, _, _) => {}
-            TyExp::Infix(_, _, _, _) => {}
+            TyExp::Infix {
+                place: _,
+                operator: _,
+                left: _,
+                right: _,
+            } => {}
             TyExp::OneOf(_, _, _) => {}
             TyExp::Tuple(_, _) => {}
-            TyExp::Exists(_, _, _, _) => {}
+            TyExp::Exists {
+                place: _,
+                variables: _,
+                constraint: _,
+                typ: _,
+            } => {}
         }
     }
 }

@@ -94,15 +94,6 @@ pub enum TypePrefix {
     Not,
 }
 
-/// The word of a definition of a type with members.
-#[derive(Clone, Copy, PartialEq, Eq, Debug)]
-pub enum Record {
-    /// `struct`
-    Struct,
-    /// `union`
-    Union,
-}
-
 /// The arrow of a `val`.
 #[derive(Clone, Copy, PartialEq, Eq, Debug)]
 pub enum Arrow {
@@ -112,22 +103,11 @@ pub enum Arrow {
     Mapping,
 }
 
-/// Whether a function stands whole or is one clause of a scattered one.
+/// Whether a function is written in one piece.
 #[derive(Clone, Copy, PartialEq, Eq, Debug)]
 pub enum Extent {
     /// `function f`
     Whole,
-    /// `function clause f`
-    Clause,
-}
-
-/// What is opened to be given in clauses.
-#[derive(Clone, Copy, PartialEq, Eq, Debug)]
-pub enum Scattered {
-    /// `scattered union`
-    Union,
-    /// `scattered function`
-    Function,
-    /// `scattered mapping`
-    Mapping,
+    /// The clauses of a `scattered function f`, gathered.
+    Gathered,
 }

@@ -52,7 +52,15 @@ pub fn infix(
 ) -> Result<Boxed<Exp>, AllocError>
     ensures { IfOk result (λ made. made ≡ V.Infix place operator left right) }
 {
-    Boxed::new(alloc, Exp::Infix(place, operator, left, right))
+    Boxed::new(
+        alloc,
+        Exp::Infix {
+            place,
+            operator,
+            left,
+            right,
+        },
+    )
 }
 
 /// `return`, `throw` or `exit`. It fails where memory is wanting.
@@ -113,7 +121,15 @@ pub fn assign(
 ) -> Result<Boxed<Exp>, AllocError>
     ensures { IfOk result (λ made. made ≡ V.Assign place target more value) }
 {
-    Boxed::new(alloc, Exp::Assign(place, target, more, value))
+    Boxed::new(
+        alloc,
+        Exp::Assign {
+            place,
+            target,
+            more,
+            value,
+        },
+    )
 }
 
 /// A block: its statements but for the value, and the value. It fails where memory is wanting.
@@ -138,7 +154,15 @@ pub fn let_in(
 ) -> Result<Boxed<Exp>, AllocError>
     ensures { IfOk result (λ made. made ≡ V.Let place pattern bound body) }
 {
-    Boxed::new(alloc, Exp::Let(place, pattern, bound, body))
+    Boxed::new(
+        alloc,
+        Exp::Let {
+            place,
+            pattern,
+            bound,
+            body,
+        },
+    )
 }
 
 /// `var .. in`. It fails where memory is wanting.
@@ -152,7 +176,16 @@ pub fn var_in(
 ) -> Result<Boxed<Exp>, AllocError>
     ensures { IfOk result (λ made. made ≡ V.Var place name typ initial body) }
 {
-    Boxed::new(alloc, Exp::Var(place, name, typ, initial, body))
+    Boxed::new(
+        alloc,
+        Exp::Var {
+            place,
+            name,
+            typ,
+            initial,
+            body,
+        },
+    )
 }
 
 /// `if`, with or without an `else`. It fails where memory is wanting.
@@ -165,7 +198,15 @@ pub fn branch(
 ) -> Result<Boxed<Exp>, AllocError>
     ensures { IfOk result (λ made. made ≡ V.If place condition then otherwise) }
 {
-    Boxed::new(alloc, Exp::If(place, condition, then, otherwise))
+    Boxed::new(
+        alloc,
+        Exp::If {
+            place,
+            condition,
+            then,
+            otherwise,
+        },
+    )
 }
 
 /// `match` or `try`. It fails where memory is wanting.
@@ -178,7 +219,15 @@ pub fn choose(
 ) -> Result<Boxed<Exp>, AllocError>
     ensures { IfOk result (λ made. made ≡ V.Choose place choosing value cases) }
 {
-    Boxed::new(alloc, Exp::Choose(place, choosing, value, cases))
+    Boxed::new(
+        alloc,
+        Exp::Choose {
+            place,
+            choosing,
+            value,
+            cases,
+        },
+    )
 }
 
 /// `foreach`. It fails where memory is wanting.
@@ -191,21 +240,38 @@ pub fn foreach(
 ) -> Result<Boxed<Exp>, AllocError>
     ensures { IfOk result (λ made. made ≡ V.Foreach place name range body) }
 {
-    Boxed::new(alloc, Exp::Foreach(place, name, range, body))
+    Boxed::new(
+        alloc,
+        Exp::Foreach {
+            place,
+            name,
+            range,
+            body,
+        },
+    )
 }
 
-/// `while` or `repeat`, the parts in text order. It fails where memory is wanting.
+/// `while` or `repeat`. It fails where memory is wanting.
 pub fn loop_on(
     alloc: Global,
     place: Place,
     looping: Looping,
     measure: Option<Boxed<Exp>>,
-    first: Boxed<Exp>,
-    second: Boxed<Exp>,
+    condition: Boxed<Exp>,
+    body: Boxed<Exp>,
 ) -> Result<Boxed<Exp>, AllocError>
-    ensures { IfOk result (λ made. made ≡ V.Loop place looping measure first second) }
+    ensures { IfOk result (λ made. made ≡ V.Loop place looping measure condition body) }
 {
-    Boxed::new(alloc, Exp::Loop(place, looping, measure, first, second))
+    Boxed::new(
+        alloc,
+        Exp::Loop {
+            place,
+            looping,
+            measure,
+            condition,
+            body,
+        },
+    )
 }
 
 /// `[v with ..]`. It fails where memory is wanting.
@@ -218,7 +284,15 @@ pub fn update(
 ) -> Result<Boxed<Exp>, AllocError>
     ensures { IfOk result (λ made. made ≡ V.Update place base index value) }
 {
-    Boxed::new(alloc, Exp::Update(place, base, index, value))
+    Boxed::new(
+        alloc,
+        Exp::Update {
+            place,
+            base,
+            index,
+            value,
+        },
+    )
 }
 
 /// A literal of a struct. It fails where memory is wanting.

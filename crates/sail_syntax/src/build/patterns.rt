@@ -19,7 +19,12 @@ pub fn concat(
 {
     let first = Boxed::new(alloc, first)?;
     let second = Boxed::new(alloc, second)?;
-    Ok(Pat::Concat(place, first, second, more))
+    Ok(Pat::Concat {
+        place,
+        first,
+        second,
+        more,
+    })
 }
 
 /// The head of a list and the rest. It fails where memory is wanting.

@@ -32,7 +32,12 @@ pub fn type_infix(
 {
     let left = Boxed::new(alloc, left)?;
     let right = Boxed::new(alloc, right)?;
-    Ok(TyExp::Infix(place, operator, left, right))
+    Ok(TyExp::Infix {
+        place,
+        operator,
+        left,
+        right,
+    })
 }
 
 /// A number among some. It fails where memory is wanting.
@@ -59,5 +64,10 @@ pub fn exists(
     ensures { IfOk result (λ made. made ≡ V.Exists place variables constraint typ) }
 {
     let typ = Boxed::new(alloc, typ)?;
-    Ok(TyExp::Exists(place, variables, constraint, typ))
+    Ok(TyExp::Exists {
+        place,
+        variables,
+        constraint,
+        typ,
+    })
 }

@@ -1,6 +1,6 @@
 use Rattle.std.proofs.Common.{◌≡◌, ◌++◌, map, drop}
 use Rattle.sail_syntax.specs.Bound.{names, names_of_joined, in_order}
-use Rattle.sail_syntax.proofs.readers.+names.Given as goal
+use Rattle.sail_syntax.proofs.names.+names.Given as goal
 
 -- the names of the patterns that are left complete the list
 abbrev pub invariant-push_all_names-loop-pattern : goal.invariant-push_all_names-loop-pattern
