@@ -1,5 +1,6 @@
 -- The bytes of each spelling are ASCII.
-use Rattle.std.proofs.Common.{◌≡◌, ℕ, zero, suc, ◌+◌, ◌<◌, Bool, true, false, cond, eqb, ◌==◌, nat_lt, List, [], ◌∷◌, length, take, drop, get_or, refl, sym, ap, subst, arith, eqb-true, ltb-true, add-one, ◌∙◌, ◌⊎◌, inl, inr, IsAscii}
+use Rattle.std.proofs.Common.{◌≡◌, ℕ, zero, suc, ◌+◌, ◌<◌, Bool, true, false, cond, eqb, ◌==◌, nat_lt, List, [], ◌∷◌, length, take, drop, get_or}
+use Rattle.std.proofs.Common.{refl, sym, ap, subst, arith, eqb-true, ltb-true, add-one, ◌∙◌, ◌⊎◌, inl, inr, IsAscii}
 use Rattle.std.specs.Prelude.{◌&&◌}
 use Rattle.std.specs.List.{list_all}
 use Rattle.std.proofs.lemmas.Bool.{and_parts, cases_order}
@@ -84,7 +85,8 @@ first_of_drop (b ∷ text) zero = refl
 first_of_drop (b ∷ text) (suc n) = first_of_drop text n
 
 -- a byte, so many small ones, a byte, and no more
-quoted_ascii : (b : ℕ) (text : List ℕ) (size : ℕ) → b ≡ 34 → ((j : ℕ) → j < size → get_or text j 0 < 128) → get_or text size 0 ≡ 34 → length text ≡ size + 1 → IsAscii (b ∷ text)
+quoted_ascii : (b : ℕ) (text : List ℕ) (size : ℕ) → b ≡ 34 → ((j : ℕ) → j < size → get_or text j 0 < 128) → get_or text size 0 ≡ 34 →
+    length text ≡ size + 1 → IsAscii (b ∷ text)
 quoted_ascii b text size quote small last long zero = omega arith
 quoted_ascii b text size quote small last long (suc i) = by_order (cases_order i size) where
   by_order : (i ≡ size) ⊎ ((i < size) ⊎ (size < i)) → get_or text i 0 < 128
@@ -100,7 +102,8 @@ string_ascii (b ∷ text) h =
     let both = and_parts (first word == 34 && list_all is_good (string_parts word)) (first (drop (size + 1) word) == 34 && length word == size + 2) h in
     let front = and_parts (first word == 34) (list_all is_good (string_parts word)) both.0 in
     let back = and_parts (first (drop (size + 1) word) == 34) (length word == size + 2) both.1 in
-    let last : get_or text size 0 ≡ 34 = sym (first_of_drop text size) ∙ (ap (λ k. first (drop k word)) (sym (add-one size)) ∙ eqb-true (first (drop (size + 1) word)) 34 back.0) in
+    let last : get_or text size 0 ≡ 34 = sym (first_of_drop text size) ∙
+    (ap (λ k. first (drop k word)) (sym (add-one size)) ∙ eqb-true (first (drop (size + 1) word)) 34 back.0) in
     let long = eqb-true (length word) (size + 2) back.1 in
     quoted_ascii b text size (eqb-true b 34 front.0) (λ j lt. inside_small text j front.1 lt) last (omega (arith, long))
 

@@ -1,5 +1,6 @@
 -- The token at a place is the longest spelling there: how far any spelling reaches.
-use Rattle.std.proofs.Common.{◌≡◌, ℕ, zero, suc, ◌+◌, ◌≤◌, Bool, true, false, cond, eqb, ◌==◌, List, [], ◌∷◌, length, take, drop, Option, Some, None, sym, refl, ap, ◌∙◌, subst, arith, inl, inr, eqb-true, eq-eqb, length-take-le, ltb-true, ltb-false}
+use Rattle.std.proofs.Common.{◌≡◌, ℕ, zero, suc, ◌+◌, ◌≤◌, Bool, true, false, cond, eqb, ◌==◌, List, [], ◌∷◌, length, take, drop, Option, Some, None}
+use Rattle.std.proofs.Common.{sym, refl, ap, ◌∙◌, subst, arith, inl, inr, eqb-true, eq-eqb, length-take-le, ltb-true, ltb-false}
 use Rattle.std.specs.Prelude.{◌&&◌, not, nat_eq, nat_lt, codes, if◌then◌else◌}
 use Rattle.std.specs.List.{prefix_len, list_all, starts_with}
 use Rattle.std.specs.Char.{is_ascii_digit}
@@ -15,9 +16,10 @@ use Rattle.sail_lex.specs.declared.front.Front.TheVariants.{Skip, Comment, Token
 use Rattle.sail_lex.specs.declared.front.Fault.TheVariants.{BadByte, BadLiteral, Unclosed, NumberTooLarge}
 use Rattle.sail_lex.specs.declared.kind.TokenKind.TheVariants.{TypeVariable, Decimal, StringLiteral, LeftOut}
 use Rattle.sail_lex.specs.Bytes.{is_blank, begins_name, in_name, in_decimal, in_hexadecimal, in_binary, in_line, in_directive, first}
-use Rattle.sail_lex.specs.Front.{front, name_front, number_front, type_variable_front, string_front, directive_front, other_front, symbol_front, decimal_front, bits_front, front_of_symbol, kind_of_bits}
+use Rattle.sail_lex.specs.Front.{front, name_front, number_front, type_variable_front, string_front, directive_front, other_front, symbol_front}
+use Rattle.sail_lex.specs.Front.{decimal_front, bits_front, front_of_symbol, kind_of_bits}
 use Rattle.sail_lex.specs.Literal.{Part, Escape, Byte, string_parts, size_of, parts, inside, in_digits_of, is_good, is_end}
-use Rattle.sail_lex.specs.Spelling.{longest_in, longer_of, if_begins, kind_of_name}
+use Rattle.sail_lex.specs.Lookup.{longest_in, longer_of, if_begins, kind_of_name}
 use Rattle.sail_lex.specs.Spellings.{IsSpelling, is_name, is_string, StandsIn, named, type_variable, decimal, hexadecimal, binary, string, directive, symbol}
 use Rattle.sail_lex.specs.Tables.{symbols}
 
@@ -48,7 +50,8 @@ number_limit text =
 pub limit_at : ℕ → List ℕ → ℕ
 limit_at b text =
     choose (is_blank b) (begins_name b) (is_ascii_digit b) (eqb b 39) (eqb b 34) (eqb b 36)
-    0 (prefix_len in_name text) (number_limit text) (prefix_len in_name (drop 1 text) + 1) (size_of (string_parts text) + 2) (prefix_len in_line text) (length_of (longest_in symbols text))
+    0 (prefix_len in_name text) (number_limit text) (prefix_len in_name (drop 1 text) + 1) (size_of (string_parts text) + 2)
+    (prefix_len in_line text) (length_of (longest_in symbols text))
 
 name_not_blank : (b : ℕ) → begins_name b ≡ true → is_blank b ≡ false
 name_not_blank b h = grind (arith, nat_tests)
@@ -89,11 +92,15 @@ module _ {A : Type 0} (t u v w x y : Bool) (a b c d e f g : A) where
 module _ (b : ℕ) (text : List ℕ) where
   limit_name : begins_name b ≡ true → limit_at b text ≡ prefix_len in_name text
   unfolding limit_at
-  limit_name h = choose_name (is_blank b) (begins_name b) (is_ascii_digit b) (eqb b 39) (eqb b 34) (eqb b 36) 0 (prefix_len in_name text) (number_limit text) (prefix_len in_name (drop 1 text) + 1) (size_of (string_parts text) + 2) (prefix_len in_line text) (length_of (longest_in symbols text)) (name_not_blank b h) h
+  limit_name h = choose_name (is_blank b) (begins_name b) (is_ascii_digit b) (eqb b 39) (eqb b 34) (eqb b 36) 0 (prefix_len in_name text)
+      (number_limit text) (prefix_len in_name (drop 1 text) + 1) (size_of (string_parts text) + 2) (prefix_len in_line text)
+      (length_of (longest_in symbols text)) (name_not_blank b h) h
 
   limit_digit : is_ascii_digit b ≡ true → limit_at b text ≡ number_limit text
   unfolding limit_at
-  limit_digit h = choose_digit (is_blank b) (begins_name b) (is_ascii_digit b) (eqb b 39) (eqb b 34) (eqb b 36) 0 (prefix_len in_name text) (number_limit text) (prefix_len in_name (drop 1 text) + 1) (size_of (string_parts text) + 2) (prefix_len in_line text) (length_of (longest_in symbols text)) (digit_not_blank b h) (digit_not_name b h) h
+  limit_digit h = choose_digit (is_blank b) (begins_name b) (is_ascii_digit b) (eqb b 39) (eqb b 34) (eqb b 36) 0 (prefix_len in_name text)
+      (number_limit text) (prefix_len in_name (drop 1 text) + 1) (size_of (string_parts text) + 2) (prefix_len in_line text)
+      (length_of (longest_in symbols text)) (digit_not_blank b h) (digit_not_name b h) h
 
 limit_tick : (text : List ℕ) → limit_at 39 text ≡ prefix_len in_name (drop 1 text) + 1
 unfolding limit_at choose
@@ -134,7 +141,8 @@ binary_limit : (text : List ℕ) → number_limit (48 ∷ 98 ∷ text) ≡ prefi
 unfolding number_limit
 binary_limit text = refl
 
-bound_hexadecimal : (m : ℕ) (text digits : List ℕ) → m ≤ length text → list_all in_hexadecimal digits ≡ true → 48 ∷ 120 ∷ digits ≡ take m text → m ≤ limit_at (first text) text
+bound_hexadecimal : (m : ℕ) (text digits : List ℕ) → m ≤ length text → list_all in_hexadecimal digits ≡ true → 48 ∷ 120 ∷ digits ≡ take m text →
+    m ≤ limit_at (first text) text
 bound_hexadecimal zero text digits le h e = omega arith
 bound_hexadecimal (suc m) [] digits le h e = absurd (omega arith)
 bound_hexadecimal (suc zero) (b ∷ text) digits le h e = cc
@@ -143,12 +151,14 @@ bound_hexadecimal (suc (suc m)) (b ∷ c ∷ text) digits le h e =
     let zero_ : 48 ≡ b = cc in
     let letter : 120 ≡ c = cc in
     let same : digits ≡ take m text = cc in
-    let run : m ≤ prefix_len in_hexadecimal text = run_bound in_hexadecimal text m (omega arith) (subst (λ (t : List ℕ). list_all in_hexadecimal t ≡ true) same h) in
+    let run : m ≤ prefix_len in_hexadecimal text =
+    run_bound in_hexadecimal text m (omega arith) (subst (λ (t : List ℕ). list_all in_hexadecimal t ≡ true) same h) in
     let limit = limit_digit 48 (48 ∷ 120 ∷ text) refl ∙ hexadecimal_limit text in
     let bound : suc (suc m) ≤ limit_at 48 (48 ∷ 120 ∷ text) = subst (λ (k : ℕ). suc (suc m) ≤ k) (sym limit) (omega arith) in
     subst (λ (k : ℕ). suc (suc m) ≤ limit_at k (k ∷ c ∷ text)) zero_ (subst (λ (k : ℕ). suc (suc m) ≤ limit_at 48 (48 ∷ k ∷ text)) letter bound)
 
-bound_binary : (m : ℕ) (text digits : List ℕ) → m ≤ length text → list_all in_binary digits ≡ true → 48 ∷ 98 ∷ digits ≡ take m text → m ≤ limit_at (first text) text
+bound_binary : (m : ℕ) (text digits : List ℕ) → m ≤ length text → list_all in_binary digits ≡ true → 48 ∷ 98 ∷ digits ≡ take m text →
+    m ≤ limit_at (first text) text
 bound_binary zero text digits le h e = omega arith
 bound_binary (suc m) [] digits le h e = absurd (omega arith)
 bound_binary (suc zero) (b ∷ text) digits le h e = cc
@@ -182,15 +192,19 @@ starts_short c (a ∷ d ∷ text) h s =
 decimal_within : (text : List ℕ) → prefix_len in_decimal text ≤ number_limit text
 unfolding number_limit
 decimal_within text = by_prefix (starts_with nat_eq text (codes "0x")) refl where
-  by_binary : (t : Bool) → starts_with nat_eq text (codes "0b") ≡ t → prefix_len in_decimal text ≤ cond t (prefix_len in_binary (drop 2 text) + 2) (prefix_len in_decimal text)
+  by_binary : (t : Bool) → starts_with nat_eq text (codes "0b") ≡ t →
+      prefix_len in_decimal text ≤ cond t (prefix_len in_binary (drop 2 text) + 2) (prefix_len in_decimal text)
   by_binary true s = omega (arith, starts_short 98 text refl s)
   by_binary false s = omega arith
 
-  by_prefix : (t : Bool) → starts_with nat_eq text (codes "0x") ≡ t → prefix_len in_decimal text ≤ cond t (prefix_len in_hexadecimal (drop 2 text) + 2) (cond (starts_with nat_eq text (codes "0b")) (prefix_len in_binary (drop 2 text) + 2) (prefix_len in_decimal text))
+  by_prefix : (t : Bool) → starts_with nat_eq text (codes "0x") ≡ t →
+      prefix_len in_decimal text ≤ cond t (prefix_len in_hexadecimal (drop 2 text) + 2)
+      (cond (starts_with nat_eq text (codes "0b")) (prefix_len in_binary (drop 2 text) + 2) (prefix_len in_decimal text))
   by_prefix true s = omega (arith, starts_short 120 text refl s)
   by_prefix false s = by_binary (starts_with nat_eq text (codes "0b")) refl
 
-bound_decimal : (m : ℕ) (text : List ℕ) → m ≤ length text → is_ascii_digit (first (take m text)) ≡ true → list_all in_decimal (take m text) ≡ true → m ≤ limit_at (first text) text
+bound_decimal : (m : ℕ) (text : List ℕ) → m ≤ length text → is_ascii_digit (first (take m text)) ≡ true → list_all in_decimal (take m text) ≡ true →
+    m ≤ limit_at (first text) text
 bound_decimal zero text le d h = omega arith
 bound_decimal (suc m) [] le d h = absurd (omega arith)
 bound_decimal (suc m) (b ∷ text) le d h =
@@ -205,11 +219,13 @@ all_in_line (b ∷ text) h =
     let both = and_parts (in_directive b) (list_all in_directive text) h in
     and_from (in_line b) (list_all in_line text) (directive_in_line b both.0) (all_in_line text both.1)
 
-bound_directive : (m : ℕ) (text : List ℕ) → m ≤ length text → first (take m text) ≡ 36 → list_all in_directive (take m text) ≡ true → m ≤ limit_at (first text) text
+bound_directive : (m : ℕ) (text : List ℕ) → m ≤ length text → first (take m text) ≡ 36 → list_all in_directive (take m text) ≡ true →
+    m ≤ limit_at (first text) text
 bound_directive zero text le d h = omega arith
 bound_directive (suc m) [] le d h = absurd (omega arith)
 bound_directive (suc m) (b ∷ text) le d h =
-    subst (λ (k : ℕ). suc m ≤ limit_at k (b ∷ text)) (sym d) (subst (λ (k : ℕ). suc m ≤ k) (sym (limit_dollar (b ∷ text))) (run_bound in_line (b ∷ text) (suc m) le (all_in_line (take (suc m) (b ∷ text)) h)))
+    subst (λ (k : ℕ). suc m ≤ limit_at k (b ∷ text)) (sym d)
+    (subst (λ (k : ℕ). suc m ≤ k) (sym (limit_dollar (b ∷ text))) (run_bound in_line (b ∷ text) (suc m) le (all_in_line (take (suc m) (b ∷ text)) h)))
 
 -- ---- strings: of fewer bytes no more are inside
 
@@ -239,7 +255,10 @@ unfolding inside size_of
 lone_by b c text true = omega (arith, lone_small b, escape_large c (parts text))
 lone_by b c text false = inside_cons (Byte b) [] (parts (c ∷ text)) (none_small (parts (c ∷ text)))
 
-pair_by : (b c : ℕ) (less text : List ℕ) → size_of (inside (parts less)) ≤ size_of (inside (parts text)) → size_of (inside (parts (c ∷ less))) ≤ size_of (inside (parts (c ∷ text))) → (t : Bool) → size_of (inside (cond t (Escape c ∷ parts less) (Byte b ∷ parts (c ∷ less)))) ≤ size_of (inside (cond t (Escape c ∷ parts text) (Byte b ∷ parts (c ∷ text))))
+pair_by : (b c : ℕ) (less text : List ℕ) → size_of (inside (parts less)) ≤ size_of (inside (parts text)) →
+    size_of (inside (parts (c ∷ less))) ≤ size_of (inside (parts (c ∷ text))) → (t : Bool) →
+    size_of (inside (cond t (Escape c ∷ parts less) (Byte b ∷ parts (c ∷ less)))) ≤ size_of
+    (inside (cond t (Escape c ∷ parts text) (Byte b ∷ parts (c ∷ text))))
 pair_by b c less text h k true = inside_cons (Escape c) (parts less) (parts text) h
 pair_by b c less text h k false = inside_cons (Byte b) (parts (c ∷ less)) (parts (c ∷ text)) k
 
@@ -264,7 +283,8 @@ bound_string (suc m) (b ∷ text) le h =
     let quote = eqb-true b 34 (and_parts (first word == 34) (list_all is_good (string_parts word)) both.0).0 in
     let long = eqb-true (length word) (size + 2) (and_parts (first (drop (size + 1) word) == 34) (length word == size + 2) both.1).1 in
     let exact = length-take-le m text (omega arith) in
-    subst (λ (k : ℕ). suc m ≤ limit_at k (b ∷ text)) (sym quote) (subst (λ (k : ℕ). suc m ≤ k) (sym (limit_quote (b ∷ text))) (omega (arith, long, exact, take_inside text m)))
+    subst (λ (k : ℕ). suc m ≤ limit_at k (b ∷ text)) (sym quote)
+    (subst (λ (k : ℕ). suc m ≤ k) (sym (limit_quote (b ∷ text))) (omega (arith, long, exact, take_inside text m)))
 
 -- ---- symbols
 
@@ -299,7 +319,8 @@ length_some : (e : List ℕ × TokenKind) → length_of (Some e) ≡ length e.0
 unfolding length_of
 length_some e = refl
 
-stands_bound : (table : List (List ℕ × TokenKind)) (text word : List ℕ) (kind : TokenKind) (m : ℕ) → m ≤ length text → word ≡ take m text → StandsIn table word kind → m ≤ length_of (longest_in table text)
+stands_bound : (table : List (List ℕ × TokenKind)) (text word : List ℕ) (kind : TokenKind) (m : ℕ) → m ≤ length text → word ≡ take m text →
+    StandsIn table word kind → m ≤ length_of (longest_in table text)
 unfolding StandsIn
 stands_bound [] text word kind m le h s = absurd s
 stands_bound (e ∷ table) text word kind m le h (inl both) =
@@ -315,7 +336,8 @@ stands_bound (e ∷ table) text word kind m le h (inr s) =
 begins_symbol : ℕ → Bool
 begins_symbol b = not (is_blank b) && (not (begins_name b) && (not (is_ascii_digit b) && (not (eqb b 39) && (not (eqb b 34) && not (eqb b 36)))))
 
-pub stands_passes : (p : List ℕ × TokenKind → Bool) (table : List (List ℕ × TokenKind)) (word : List ℕ) (kind : TokenKind) → list_all p table ≡ true → StandsIn table word kind → (e : List ℕ × TokenKind) × (e.0 ≡ word) × (p e ≡ true)
+pub stands_passes : (p : List ℕ × TokenKind → Bool) (table : List (List ℕ × TokenKind)) (word : List ℕ) (kind : TokenKind) →
+    list_all p table ≡ true → StandsIn table word kind → (e : List ℕ × TokenKind) × (e.0 ≡ word) × (p e ≡ true)
 unfolding StandsIn
 stands_passes p [] word kind h s = absurd s
 stands_passes p (e ∷ table) word kind h (inl both) = (e, both.0, (and_parts (p e) (list_all p table) h).0)
@@ -327,10 +349,12 @@ symbol_begins word kind s =
     let found = stands_passes (λ e. begins_symbol (first e.0)) symbols word kind refl s in
     subst (λ (t : List ℕ). begins_symbol (first t) ≡ true) found.1 found.2
 
-pub limit_other : (b : ℕ) (text : List ℕ) → is_blank b ≡ false → begins_name b ≡ false → is_ascii_digit b ≡ false → eqb b 39 ≡ false → eqb b 34 ≡ false → eqb b 36 ≡ false → limit_at b text ≡ length_of (longest_in symbols text)
+pub limit_other : (b : ℕ) (text : List ℕ) → is_blank b ≡ false → begins_name b ≡ false → is_ascii_digit b ≡ false → eqb b 39 ≡ false →
+    eqb b 34 ≡ false → eqb b 36 ≡ false → limit_at b text ≡ length_of (longest_in symbols text)
 unfolding limit_at
 limit_other b text p q r s k l =
-    choose_other (is_blank b) (begins_name b) (is_ascii_digit b) (eqb b 39) (eqb b 34) (eqb b 36) 0 (prefix_len in_name text) (number_limit text) (prefix_len in_name (drop 1 text) + 1) (size_of (string_parts text) + 2) (prefix_len in_line text) (length_of (longest_in symbols text)) p q r s k l
+    choose_other (is_blank b) (begins_name b) (is_ascii_digit b) (eqb b 39) (eqb b 34) (eqb b 36) 0 (prefix_len in_name text) (number_limit text)
+    (prefix_len in_name (drop 1 text) + 1) (size_of (string_parts text) + 2) (prefix_len in_line text) (length_of (longest_in symbols text)) p q r s k l
 
 pub length_none : length_of None ≡ 0
 unfolding length_of
@@ -344,24 +368,29 @@ limit_symbol b text h =
     let a3 = and_parts (not (is_ascii_digit b)) (not (eqb b 39) && (not (eqb b 34) && not (eqb b 36))) a2.1 in
     let a4 = and_parts (not (eqb b 39)) (not (eqb b 34) && not (eqb b 36)) a3.1 in
     let a5 = and_parts (not (eqb b 34)) (not (eqb b 36)) a4.1 in
-    choose_other (is_blank b) (begins_name b) (is_ascii_digit b) (eqb b 39) (eqb b 34) (eqb b 36) 0 (prefix_len in_name text) (number_limit text) (prefix_len in_name (drop 1 text) + 1) (size_of (string_parts text) + 2) (prefix_len in_line text) (length_of (longest_in symbols text))
-    (not-true (is_blank b) a1.0) (not-true (begins_name b) a2.0) (not-true (is_ascii_digit b) a3.0) (not-true (eqb b 39) a4.0) (not-true (eqb b 34) a5.0) (not-true (eqb b 36) a5.1)
+    choose_other (is_blank b) (begins_name b) (is_ascii_digit b) (eqb b 39) (eqb b 34) (eqb b 36) 0 (prefix_len in_name text) (number_limit text)
+    (prefix_len in_name (drop 1 text) + 1) (size_of (string_parts text) + 2) (prefix_len in_line text) (length_of (longest_in symbols text))
+    (not-true (is_blank b) a1.0) (not-true (begins_name b) a2.0) (not-true (is_ascii_digit b) a3.0) (not-true (eqb b 39) a4.0)
+    (not-true (eqb b 34) a5.0) (not-true (eqb b 36) a5.1)
 
 bound_symbol : (m : ℕ) (text : List ℕ) (kind : TokenKind) → m ≤ length text → StandsIn symbols (take m text) kind → m ≤ limit_at (first text) text
 bound_symbol zero text kind le s = omega arith
 bound_symbol (suc m) [] kind le s = absurd (omega arith)
 bound_symbol (suc m) (b ∷ text) kind le s =
-    subst (λ (k : ℕ). suc m ≤ k) (sym (limit_symbol b (b ∷ text) (symbol_begins (take (suc m) (b ∷ text)) kind s))) (stands_bound symbols (b ∷ text) (take (suc m) (b ∷ text)) kind (suc m) le refl s)
+    subst (λ (k : ℕ). suc m ≤ k) (sym (limit_symbol b (b ∷ text) (symbol_begins (take (suc m) (b ∷ text)) kind s)))
+    (stands_bound symbols (b ∷ text) (take (suc m) (b ∷ text)) kind (suc m) le refl s)
 
 -- any spelling that begins the text is within the limit
 pub bound : (text word : List ℕ) (kind : TokenKind) (m : ℕ) → m ≤ length text → word ≡ take m text → IsSpelling kind word → m ≤ limit_at (first text) text
 bound text word kind m le e (named h) = bound_name m text le (subst (λ (t : List ℕ). is_name t ≡ true) e h)
 bound text word kind m le e (type_variable {text = rest} h) = bound_variable m text rest le h e
-bound text word kind m le e (decimal d h) = bound_decimal m text le (subst (λ (t : List ℕ). is_ascii_digit (first t) ≡ true) e d) (subst (λ (t : List ℕ). list_all in_decimal t ≡ true) e h)
+bound text word kind m le e (decimal d h) =
+    bound_decimal m text le (subst (λ (t : List ℕ). is_ascii_digit (first t) ≡ true) e d) (subst (λ (t : List ℕ). list_all in_decimal t ≡ true) e h)
 bound text word kind m le e (hexadecimal {text = rest} h some) = bound_hexadecimal m text rest le h e
 bound text word kind m le e (binary {text = rest} h some) = bound_binary m text rest le h e
 bound text word kind m le e (string h) = bound_string m text le (subst (λ (t : List ℕ). is_string t ≡ true) e h)
-bound text word kind m le e (directive d h i) = bound_directive m text le (subst (λ (t : List ℕ). first t ≡ 36) e d) (subst (λ (t : List ℕ). list_all in_directive t ≡ true) e h)
+bound text word kind m le e (directive d h i) =
+    bound_directive m text le (subst (λ (t : List ℕ). first t ≡ 36) e d) (subst (λ (t : List ℕ). list_all in_directive t ≡ true) e h)
 bound text word kind m le e (symbol s) = bound_symbol m text kind le (subst (λ (t : List ℕ). StandsIn symbols t kind) e s)
 
 -- ---- a token has as many bytes as the limit
@@ -376,7 +405,9 @@ Fits limit (Refused f n) = Unit {0}
 fits_name : (text : List ℕ) → Fits (prefix_len in_name text) (name_front text)
 unfolding name_front Fits
 fits_name text =
-    elim (nat_lt 255 (prefix_len in_name text)) as (λ t. Fits (prefix_len in_name text) (cond t (Refused BadLiteral 0) (Token (kind_of_name (take (prefix_len in_name text) text)) (prefix_len in_name text)))) [ true ↦ tt | false ↦ refl ]
+    elim (nat_lt 255 (prefix_len in_name text)) as
+    (λ t. Fits (prefix_len in_name text)
+    (cond t (Refused BadLiteral 0) (Token (kind_of_name (take (prefix_len in_name text) text)) (prefix_len in_name text)))) [ true ↦ tt | false ↦ refl ]
 
 two_tests : (s t : Bool) (f g : Fault) (kind : TokenKind) (n : ℕ) → Fits n (cond s (Refused f 0) (cond t (Refused g 0) (Token kind n)))
 unfolding Fits
@@ -407,7 +438,9 @@ fits_decimal text = two_tests _ _ BadLiteral NumberTooLarge Decimal (prefix_len 
 fits_number : (text : List ℕ) → Fits (number_limit text) (number_front text)
 unfolding number_front number_limit
 fits_number text = by_prefix (starts_with nat_eq text (codes "0x")) (starts_with nat_eq text (codes "0b")) where
-  by_prefix : (s t : Bool) → Fits (cond s (prefix_len in_hexadecimal (drop 2 text) + 2) (cond t (prefix_len in_binary (drop 2 text) + 2) (prefix_len in_decimal text))) (cond s (bits_front Base16 text) (cond t (bits_front Base2 text) (decimal_front text)))
+  by_prefix : (s t : Bool) →
+      Fits (cond s (prefix_len in_hexadecimal (drop 2 text) + 2) (cond t (prefix_len in_binary (drop 2 text) + 2) (prefix_len in_decimal text)))
+      (cond s (bits_front Base16 text) (cond t (bits_front Base2 text) (decimal_front text)))
   by_prefix true t = fits_bits Base16 text
   by_prefix false true = fits_bits Base2 text
   by_prefix false false = fits_decimal text
@@ -432,26 +465,32 @@ fits_found text (Some e) = refl
 fits_other : (text : List ℕ) → Fits (length_of (longest_in symbols text)) (other_front text)
 unfolding other_front symbol_front Fits
 fits_other text = by_test (starts_with nat_eq text (codes "//")) (starts_with nat_eq text (codes "/*")) where
-  by_test : (s t : Bool) → Fits (length_of (longest_in symbols text)) (cond s (Skip (prefix_len in_line text)) (cond t Comment (front_of_symbol text (longest_in symbols text))))
+  by_test : (s t : Bool) →
+      Fits (length_of (longest_in symbols text)) (cond s (Skip (prefix_len in_line text)) (cond t Comment (front_of_symbol text (longest_in symbols text))))
   by_test true t = tt
   by_test false true = tt
   by_test false false = fits_found text (longest_in symbols text)
 
 fits : (text : List ℕ) → Fits (limit_at (first text) text) (front text)
 unfolding limit_at choose front Fits
-fits text = by_byte (is_blank (first text)) (begins_name (first text)) (is_ascii_digit (first text)) (eqb (first text) 39) (eqb (first text) 34) (eqb (first text) 36) where
-  by_byte : (t u v w x y : Bool) → Fits (choose t u v w x y 0 (prefix_len in_name text) (number_limit text) (prefix_len in_name (drop 1 text) + 1) (size_of (string_parts text) + 2) (prefix_len in_line text) (length_of (longest_in symbols text)))
-      (choose t u v w x y (Skip (prefix_len is_blank text)) (name_front text) (number_front text) (type_variable_front text) (string_front text) (directive_front text) (other_front text))
-  by_byte true u v w x y = tt
-  by_byte false true v w x y = fits_name text
-  by_byte false false true w x y = fits_number text
-  by_byte false false false true x y = fits_variable text
-  by_byte false false false false true y = fits_string text
-  by_byte false false false false false true = fits_directive text
-  by_byte false false false false false false = fits_other text
+fits text = by_byte (is_blank (first text)) (begins_name (first text)) (is_ascii_digit (first text)) (eqb (first text) 39) (eqb (first text) 34)
+    (eqb (first text) 36) where
+      by_byte : (t u v w x y : Bool) →
+          Fits (choose t u v w x y 0 (prefix_len in_name text) (number_limit text) (prefix_len in_name (drop 1 text) + 1)
+          (size_of (string_parts text) + 2) (prefix_len in_line text) (length_of (longest_in symbols text)))
+          (choose t u v w x y (Skip (prefix_len is_blank text)) (name_front text) (number_front text) (type_variable_front text) (string_front text)
+          (directive_front text) (other_front text))
+      by_byte true u v w x y = tt
+      by_byte false true v w x y = fits_name text
+      by_byte false false true w x y = fits_number text
+      by_byte false false false true x y = fits_variable text
+      by_byte false false false false true y = fits_string text
+      by_byte false false false false false true = fits_directive text
+      by_byte false false false false false false = fits_other text
 
 -- no more bytes than those of the token are a spelling
-pub longest_of : (text : List ℕ) (kind : TokenKind) (n : ℕ) → front text ≡ Token kind n → (other : TokenKind) (m : ℕ) → m ≤ length text → IsSpelling other (take m text) → m ≤ n
+pub longest_of : (text : List ℕ) (kind : TokenKind) (n : ℕ) → front text ≡ Token kind n → (other : TokenKind) (m : ℕ) → m ≤ length text →
+    IsSpelling other (take m text) → m ≤ n
 unfolding Fits
 longest_of text kind n h other m le s =
     let same : limit_at (first text) text ≡ n = subst (Fits (limit_at (first text) text)) h (fits text) in

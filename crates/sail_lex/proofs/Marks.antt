@@ -1,5 +1,6 @@
 -- A comment as its marks are read.
-use Rattle.std.proofs.Common.{◌≡◌, ◌≢◌, ℕ, zero, suc, ◌+◌, ◌<◌, ◌≤◌, true, false, eqb, List, [], ◌∷◌, length, get_or, take, drop, sym, refl, ap, ◌∙◌, subst, arith, cond, add-zero, length-drop}
+use Rattle.std.proofs.Common.{◌≡◌, ◌≢◌, ℕ, zero, suc, ◌+◌, ◌<◌, ◌≤◌, true, false, eqb, List, [], ◌∷◌, length, get_or, take, drop, sym, refl, ap, ◌∙◌}
+use Rattle.std.proofs.Common.{subst, arith, cond, add-zero, length-drop}
 use Rattle.std.proofs.lemmas.Bool.Decides.{Decides-eqb}
 use Rattle.std.proofs.Common.{eqb-true}
 use Rattle.std.proofs.lemmas.Bool.{false≢true, and_right, and_parts}
@@ -82,13 +83,15 @@ module _ (depth : ℕ) (ms : List Mark) (n : ℕ) where
   never_closing h zero le e = omega arith
   never_closing h (suc k) le e = h k (omega arith) (omega arith)
 
-marks_of : (b c : ℕ) (text : List ℕ) → marks (b ∷ c ∷ text) ≡ cond (eqb b 47 && eqb c 42) (Opening ∷ marks text) (cond (eqb b 42 && eqb c 47) (Closing ∷ marks text) (Plain ∷ marks (c ∷ text)))
+marks_of : (b c : ℕ) (text : List ℕ) →
+    marks (b ∷ c ∷ text) ≡ cond (eqb b 47 && eqb c 42) (Opening ∷ marks text) (cond (eqb b 42 && eqb c 47) (Closing ∷ marks text) (Plain ∷ marks (c ∷ text)))
 unfolding marks
 marks_of b c text = refl
 
 module _ (text : List ℕ) (i : ℕ) (two : i + 1 < length text) where
   two_bytes : drop i text ≡ get_or text i 0 ∷ get_or text (i + 1) 0 ∷ drop (i + 2) text
-  two_bytes = drop_more text i 0 (omega arith) ∙ (ap (λ t. get_or text i 0 ∷ t) (drop_more text (i + 1) 0 two) ∙ ap (λ k. get_or text i 0 ∷ get_or text (i + 1) 0 ∷ drop k text) (omega arith))
+  two_bytes = drop_more text i 0 (omega arith) ∙
+      (ap (λ t. get_or text i 0 ∷ t) (drop_more text (i + 1) 0 two) ∙ ap (λ k. get_or text i 0 ∷ get_or text (i + 1) 0 ∷ drop k text) (omega arith))
 
   marks_opening : (eqb (get_or text i 0) 47 && eqb (get_or text (i + 1) 0) 42) ≡ true → marks (drop i text) ≡ Opening ∷ marks (drop (i + 2) text)
   unfolding marks
@@ -106,7 +109,8 @@ module _ (text : List ℕ) (i : ℕ) (two : i + 1 < length text) where
       let c : get_or text (i + 1) 0 ≡ 47 = eqb-true (get_or text (i + 1) 0) 47 both.1 in
       ap marks two_bytes ∙ (λ j. marks (b j ∷ c j ∷ drop (i + 2) text))
 
-  marks_plain : (eqb (get_or text i 0) 47 && eqb (get_or text (i + 1) 0) 42) ≡ false → (eqb (get_or text i 0) 42 && eqb (get_or text (i + 1) 0) 47) ≡ false → marks (drop i text) ≡ Plain ∷ marks (drop (i + 1) text)
+  marks_plain : (eqb (get_or text i 0) 47 && eqb (get_or text (i + 1) 0) 42) ≡ false →
+      (eqb (get_or text i 0) 42 && eqb (get_or text (i + 1) 0) 47) ≡ false → marks (drop i text) ≡ Plain ∷ marks (drop (i + 1) text)
   marks_plain opens closes =
       ap marks two_bytes
       ∙ (marks_of (get_or text i 0) (get_or text (i + 1) 0) (drop (i + 2) text)
@@ -128,41 +132,50 @@ pub record Going (text : List ℕ) (depth at : ℕ) : Type 0 where
   pub never : NeverAfter depth (marks (drop at text)) → NeverEnds text
 
 module _ (text : List ℕ) (depth at : ℕ) where
-  pub going_opening : at + 1 < length text → 0 < depth → (eqb (get_or text at 0) 47 && eqb (get_or text (at + 1) 0) 42) ≡ true → Going text depth at → Going text (depth + 1) (at + 2)
+  pub going_opening : at + 1 < length text → 0 < depth → (eqb (get_or text at 0) 47 && eqb (get_or text (at + 1) 0) 42) ≡ true →
+      Going text depth at → Going text (depth + 1) (at + 2)
   going_opening two open_ pair going =
       let m = marks_opening text at two pair in
       record {
-        ends = λ n h. subst (IsComment text) (omega arith) (going.ends (n + 2) (subst (λ ms. EndsAfter depth ms (n + 2)) (sym m) (ends_opening depth (marks (drop (at + 2) text)) n open_ h)));
+        ends = λ n h. subst (IsComment text) (omega arith)
+            (going.ends (n + 2) (subst (λ ms. EndsAfter depth ms (n + 2)) (sym m) (ends_opening depth (marks (drop (at + 2) text)) n open_ h)));
         never = λ h. going.never (subst (NeverAfter depth) (sym m) (never_opening depth (marks (drop (at + 2) text)) 0 open_ h));
       }
 
-  pub going_closing : at + 1 < length text → (eqb (get_or text at 0) 42 && eqb (get_or text (at + 1) 0) 47) ≡ true → Going text (depth + 1) at → Going text depth (at + 2)
+  pub going_closing : at + 1 < length text → (eqb (get_or text at 0) 42 && eqb (get_or text (at + 1) 0) 47) ≡ true → Going text (depth + 1) at →
+      Going text depth (at + 2)
   going_closing two pair going =
       let m = marks_closing text at two pair in
       record {
-        ends = λ n h. subst (IsComment text) (omega arith) (going.ends (n + 2) (subst (λ ms. EndsAfter (depth + 1) ms (n + 2)) (sym m) (ends_closing depth (marks (drop (at + 2) text)) n h)));
+        ends = λ n h. subst (IsComment text) (omega arith)
+            (going.ends (n + 2) (subst (λ ms. EndsAfter (depth + 1) ms (n + 2)) (sym m) (ends_closing depth (marks (drop (at + 2) text)) n h)));
         never = λ h. going.never (subst (NeverAfter (depth + 1)) (sym m) (never_closing depth (marks (drop (at + 2) text)) 0 h));
       }
 
-  pub going_plain : at + 1 < length text → 0 < depth → (eqb (get_or text at 0) 47 && eqb (get_or text (at + 1) 0) 42) ≡ false → (eqb (get_or text at 0) 42 && eqb (get_or text (at + 1) 0) 47) ≡ false → Going text depth at → Going text depth (at + 1)
+  pub going_plain : at + 1 < length text → 0 < depth → (eqb (get_or text at 0) 47 && eqb (get_or text (at + 1) 0) 42) ≡ false →
+      (eqb (get_or text at 0) 42 && eqb (get_or text (at + 1) 0) 47) ≡ false → Going text depth at → Going text depth (at + 1)
   going_plain two open_ opens closes going =
       let m = marks_plain text at two opens closes in
       record {
-        ends = λ n h. subst (IsComment text) (omega arith) (going.ends (n + 1) (subst (λ ms. EndsAfter depth ms (n + 1)) (sym m) (ends_plain depth (marks (drop (at + 1) text)) n open_ h)));
+        ends = λ n h. subst (IsComment text) (omega arith)
+            (going.ends (n + 1) (subst (λ ms. EndsAfter depth ms (n + 1)) (sym m) (ends_plain depth (marks (drop (at + 1) text)) n open_ h)));
         never = λ h. going.never (subst (NeverAfter depth) (sym m) (never_plain depth (marks (drop (at + 1) text)) 0 open_ h));
       }
 
   -- where nothing is open the comment ends
   pub going_end : depth ≡ 0 → Going text depth at → IsComment text at
   unfolding opened closed mark_bytes
-  going_end closed_ going = subst (IsComment text) (add-zero at) (going.ends 0 (record { count = 0; within = omega arith; even = omega arith; before = λ k lt e. omega arith; bytes = refl }))
+  going_end closed_ going =
+      subst (IsComment text) (add-zero at)
+      (going.ends 0 (record { count = 0; within = omega arith; even = omega arith; before = λ k lt e. omega arith; bytes = refl }))
 
   -- where at most one byte is left it doesn't
   pub going_never : length text ≤ at + 1 → 0 < depth → Going text depth at → NeverEnds text
   going_never short open_ going = going.never (marks_last (drop at text) (omega (arith, length-drop at text)) depth open_)
 
 -- after the opening that begins the text
-first_before : (ms : List Mark) (n : ℕ) (h : EndsAfter 1 ms n) (k : ℕ) → 0 < k → k < suc h.count → opened (take k (Opening ∷ ms)) ≢ closed (take k (Opening ∷ ms))
+first_before : (ms : List Mark) (n : ℕ) (h : EndsAfter 1 ms n) (k : ℕ) → 0 < k → k < suc h.count →
+    opened (take k (Opening ∷ ms)) ≢ closed (take k (Opening ∷ ms))
 unfolding opened closed
 first_before ms n h zero some lt e = omega arith
 first_before ms n h (suc k) some lt e = h.before k (omega arith) (omega arith)
@@ -198,5 +211,6 @@ going_begins text h =
     let m = opening_marks text h in
     record {
       ends = λ n ended. first_ends (marks (drop 2 text)) n text m ended;
-      never = λ never. subst (λ ms. (k : ℕ) → 0 < k → k ≤ length ms → opened (take k ms) ≢ closed (take k ms)) (sym m) (first_never (marks (drop 2 text)) never);
+      never = λ never. subst (λ ms. (k : ℕ) → 0 < k → k ≤ length ms → opened (take k ms) ≢ closed (take k ms)) (sym m)
+          (first_never (marks (drop 2 text)) never);
     }

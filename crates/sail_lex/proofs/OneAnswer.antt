@@ -9,7 +9,8 @@ use Rattle.sail_lex.specs.declared.token.LexError.{LexError}
 use Rattle.sail_lex.specs.Comment.{IsComment, NeverEnds, marks, mark_bytes}
 use Rattle.sail_lex.specs.Front.{front}
 use Rattle.sail_lex.specs.Position.{place_at}
-use Rattle.sail_lex.specs.Tokens.{Lexes, ended, skipped, token, Refuses, after_skip, after_token, unclosed, faulty, too_many, Skips, blank, comment, token_at, error_at}
+use Rattle.sail_lex.specs.Tokens.{Lexes, ended, skipped, token, Refuses, after_skip, after_token, unclosed, faulty, too_many, Skips, blank, comment}
+use Rattle.sail_lex.specs.Tokens.{token_at, error_at}
 
 -- a comment has one end
 comment_once : (text : List ℕ) (n m : ℕ) → IsComment text n → IsComment text m → n ≡ m

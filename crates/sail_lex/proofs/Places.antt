@@ -33,3 +33,6 @@ module _ (source : List ℕ) (i : ℕ) where
   pub column_next : i < length source → eqb (get_or source i 0) 10 ≡ false → column_at source (i + 1) ≡ column_at source i + 1
   unfolding column_at
   column_next h e = rw (back h, e) (omega arith)
+
+-- the line and the column of the next byte
+pub ruleset next_byte = (line_small, column_small, line_feed, line_same, column_first, column_next)

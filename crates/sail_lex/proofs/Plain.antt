@@ -6,8 +6,8 @@ use Rattle.std.specs.Str.{bytes_eq}
 use Rattle.std.proofs.lemmas.Bool.{true≢false, and_parts, not-true}
 use Rattle.sail_lex.specs.declared.kind.TokenKind.{TokenKind}
 use Rattle.sail_lex.specs.declared.kind.TokenKind.TheVariants.{Identifier, Wildcard, Decimal, Hexadecimal, Binary, StringLiteral}
-use Rattle.sail_lex.specs.Spelling.{kind_in, kind_of_name, longest_in, if_begins}
-use Rattle.sail_lex.specs.Tables.{words, symbols}
+use Rattle.sail_lex.specs.Lookup.{kind_in, kind_of_name, longest_in, if_begins}
+use Rattle.sail_lex.specs.Tables.{keywords, symbols}
 use Rattle.sail_lex.specs.Valued.{has_value, IsValued}
 use Rattle.sail_lex.proofs.Symbols.{longer_keeps}
 
@@ -20,11 +20,14 @@ plain_kind Binary text h = absurd (true≢false h)
 plain_kind StringLiteral text h = absurd (true≢false h)
 plain_kind _ text h = tt
 
-plain_word : (table : List (List ℕ × TokenKind)) (word : List ℕ) → list_all (λ e. not (has_value e.1)) table ≡ true → IfSome (kind_in table word) (λ k. has_value k ≡ false)
+plain_word : (table : List (List ℕ × TokenKind)) (word : List ℕ) → list_all (λ e. not (has_value e.1)) table ≡ true →
+    IfSome (kind_in table word) (λ k. has_value k ≡ false)
 plain_word [] word h = tt
 plain_word (e ∷ table) word h =
     let parts = and_parts (not (has_value e.1)) (list_all (λ e. not (has_value e.1)) table) h in
-    elim (bytes_eq e.0 word) as (λ t. IfSome (cond t (Some e.1) (kind_in table word)) (λ k. has_value k ≡ false)) [ true ↦ not-true (has_value e.1) parts.0 | false ↦ plain_word table word parts.1 ]
+    elim (bytes_eq e.0 word) as
+    (λ t. IfSome (cond t (Some e.1) (kind_in table word)) (λ k. has_value k ≡ false))
+    [ true ↦ not-true (has_value e.1) parts.0 | false ↦ plain_word table word parts.1 ]
 
 plain_option : (o : Option TokenKind) → IfSome o (λ k. has_value k ≡ false) → has_value (unwrap_or o Identifier) ≡ false
 plain_option None h = refl
@@ -32,19 +35,21 @@ plain_option (Some k) h = h
 
 -- a name has no value
 pub plain_name : (name text : List ℕ) → IsValued (kind_of_name name) text
-unfolding words
+unfolding keywords
 plain_name name text =
-    elim (bytes_eq (codes "_") name) as (λ t. IsValued (cond t Wildcard (unwrap_or (kind_in words name) Identifier)) text) [
+    elim (bytes_eq (codes "_") name) as (λ t. IsValued (cond t Wildcard (unwrap_or (kind_in keywords name) Identifier)) text) [
       | true ↦ plain_kind Wildcard text refl
-      | false ↦ plain_kind (unwrap_or (kind_in words name) Identifier) text (plain_option (kind_in words name) (plain_word words name refl))
+      | false ↦ plain_kind (unwrap_or (kind_in keywords name) Identifier) text (plain_option (kind_in keywords name) (plain_word keywords name refl))
     ]
 
-plain_longest : (table : List (List ℕ × TokenKind)) (text : List ℕ) → list_all (λ e. not (has_value e.1)) table ≡ true → IfSome (longest_in table text) (λ f. has_value f.1 ≡ false)
+plain_longest : (table : List (List ℕ × TokenKind)) (text : List ℕ) → list_all (λ e. not (has_value e.1)) table ≡ true →
+    IfSome (longest_in table text) (λ f. has_value f.1 ≡ false)
 plain_longest [] text h = tt
 plain_longest (e ∷ table) text h =
     let parts = and_parts (not (has_value e.1)) (list_all (λ e. not (has_value e.1)) table) h in
     longer_keeps (λ f. has_value f.1 ≡ false) (if_begins e text) (longest_in table text)
-    (elim (starts_with nat_eq text e.0) as (λ t. IfSome (cond t (Some e) None) (λ f. has_value f.1 ≡ false)) [ true ↦ not-true (has_value e.1) parts.0 | false ↦ tt ])
+    (elim (starts_with nat_eq text e.0) as
+    (λ t. IfSome (cond t (Some e) None) (λ f. has_value f.1 ≡ false)) [ true ↦ not-true (has_value e.1) parts.0 | false ↦ tt ])
     (plain_longest table text parts.1)
 
 -- nor has a symbol

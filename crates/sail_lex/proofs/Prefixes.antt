@@ -1,5 +1,6 @@
 -- The prefixes of literals of bits, and how runs begin.
-use Rattle.std.proofs.Common.{◌≡◌, ℕ, suc, ◌+◌, ◌*◌, ◌<◌, ◌≤◌, Bool, true, false, cond, eqb, List, [], ◌∷◌, length, take, drop, refl, sym, ap, ◌∙◌, subst, arith, eqb-true}
+use Rattle.std.proofs.Common.{◌≡◌, ℕ, suc, ◌+◌, ◌*◌, ◌<◌, ◌≤◌, Bool, true, false, cond, eqb, List, [], ◌∷◌, length, take, drop, refl, sym, ap, ◌∙◌}
+use Rattle.std.proofs.Common.{subst, arith, eqb-true}
 use Rattle.std.specs.Prelude.{count_by, codes, nat_eq, ◌&&◌}
 use Rattle.std.specs.List.{prefix_len, starts_with}
 use Rattle.std.proofs.lemmas.Bool.{false≢true, and_parts, and_right}
@@ -27,12 +28,14 @@ pub run_some : (p : ℕ → Bool) (text : List ℕ) → 0 < length text → p (f
 run_some p [] some h = absurd (omega arith)
 run_some p (b ∷ text) some h = subst (λ (t : Bool). 0 < cond t (1 + prefix_len p text) 0) (sym h) (omega arith)
 
-narrow : (radix : Radix) (text : List ℕ) (n : ℕ) → radix_of text ≡ radix → 2 ≤ length text → digit_size radix * count_by (is_digit_of radix) (drop 2 text) ≤ 128 → IsValued (kind_of_bits radix) text
+narrow : (radix : Radix) (text : List ℕ) (n : ℕ) → radix_of text ≡ radix → 2 ≤ length text →
+    digit_size radix * count_by (is_digit_of radix) (drop 2 text) ≤ 128 → IsValued (kind_of_bits radix) text
 unfolding IsValued
 narrow Base2 text n e long small = (long, e, subst (λ (r : Radix). digit_size r * count_by (is_digit_of r) (drop 2 text) ≤ 128) (sym e) small)
 narrow Base16 text n e long small = (long, e, subst (λ (r : Radix). digit_size r * count_by (is_digit_of r) (drop 2 text) ≤ 128) (sym e) small)
 
-pub bits_valued : (radix : Radix) (text : List ℕ) (n : ℕ) → radix_of text ≡ radix → 2 ≤ length text → digit_size radix * count_by (is_digit_of radix) (take n (drop 2 text)) ≤ 128 → IsValued (kind_of_bits radix) (take (n + 2) text)
+pub bits_valued : (radix : Radix) (text : List ℕ) (n : ℕ) → radix_of text ≡ radix → 2 ≤ length text →
+    digit_size radix * count_by (is_digit_of radix) (take n (drop 2 text)) ≤ 128 → IsValued (kind_of_bits radix) (take (n + 2) text)
 bits_valued radix [] n e long small = absurd (omega arith)
 bits_valued radix (a ∷ []) n e long small = absurd (omega arith)
 bits_valued radix (a ∷ c ∷ text) n e long small =

@@ -13,10 +13,11 @@ use Rattle.sail_lex.specs.declared.front.Fault.TheVariants.{BadByte, BadLiteral,
 use Rattle.sail_lex.specs.declared.front.Front.{Front}
 use Rattle.sail_lex.specs.declared.front.Front.TheVariants.{Skip, Comment, Token, Refused}
 use Rattle.sail_lex.specs.Bytes.{is_blank, begins_name, in_name, in_line, in_directive, first}
-use Rattle.sail_lex.specs.Front.{front, name_front, number_front, type_variable_front, string_front, directive_front, other_front, symbol_front, decimal_front, bits_front}
+use Rattle.sail_lex.specs.Front.{front, name_front, number_front, type_variable_front, string_front, directive_front, other_front, symbol_front}
+use Rattle.sail_lex.specs.Front.{decimal_front, bits_front}
 use Rattle.sail_lex.specs.Front.{front_of_symbol, is_include}
 use Rattle.sail_lex.specs.Literal.{string_parts, size_of, is_good}
-use Rattle.sail_lex.specs.Spelling.{longest_in, kind_of_name}
+use Rattle.sail_lex.specs.Lookup.{longest_in, kind_of_name}
 use Rattle.sail_lex.specs.Spellings.{IsSpelling, BeginsNone, IsLonger, is_string, named, type_variable, decimal, hexadecimal, binary, string, directive, symbol}
 use Rattle.sail_lex.specs.Tables.{symbols}
 use Rattle.sail_lex.proofs.Longest.{bound, limit_at, limit_dollar, limit_other, length_of, length_none, stands_passes}
@@ -115,7 +116,8 @@ none_after_tick rest h kind (suc (suc m)) le s =
     true≢false (sym (after_tick kind (take (suc (suc m)) (39 ∷ rest)) s refl) ∙ (ap begins_name (first_taken rest m) ∙ h))
 
 -- an include is more than any directive there
-include_longer : (text : List ℕ) → first text ≡ 36 → 0 < length text → is_include (take (prefix_len in_line text) text) ≡ true → IsLonger text (prefix_len in_line text)
+include_longer : (text : List ℕ) → first text ≡ 36 → 0 < length text → is_include (take (prefix_len in_line text) text) ≡ true →
+    IsLonger text (prefix_len in_line text)
 include_longer text e some include kind m le s = by_order (cases_order m (prefix_len in_line text)) where
   within : m ≤ prefix_len in_line text
   within = subst (λ (k : ℕ). m ≤ k) (ap (λ b. limit_at b text) e ∙ limit_dollar text) (bound text (take m text) kind m le refl s)
@@ -149,9 +151,12 @@ late text b (suc n) h = tt
 unspelled_name : (text : List ℕ) → Unspelled text (name_front text)
 unfolding name_front Unspelled
 unspelled_name text =
-    elim (nat_lt 255 (prefix_len in_name text)) as (λ t. Unspelled text (cond t (Refused BadLiteral 0) (Token (kind_of_name (take (prefix_len in_name text) text)) (prefix_len in_name text)))) [ true ↦ tt | false ↦ tt ]
+    elim (nat_lt 255 (prefix_len in_name text)) as
+    (λ t. Unspelled text (cond t (Refused BadLiteral 0) (Token (kind_of_name (take (prefix_len in_name text) text)) (prefix_len in_name text))))
+    [ true ↦ tt | false ↦ tt ]
 
-two_tests : (text : List ℕ) (s t : Bool) (kind : TokenKind) (n : ℕ) → Unspelled text (cond s (Refused BadLiteral 0) (cond t (Refused NumberTooLarge 0) (Token kind n)))
+two_tests : (text : List ℕ) (s t : Bool) (kind : TokenKind) (n : ℕ) →
+    Unspelled text (cond s (Refused BadLiteral 0) (cond t (Refused NumberTooLarge 0) (Token kind n)))
 unfolding Unspelled
 two_tests text true t kind n = tt
 two_tests text false true kind n = tt
@@ -179,7 +184,8 @@ unfolding string_front Unspelled
 unspelled_string text =
     let n = size_of (string_parts text) in
     by_tests (not (list_all is_good (string_parts text)) || nat_lt 4096 n) (first (drop (n + 1) text) == 34) where
-      by_tests : (s t : Bool) → Unspelled text (cond s (Refused BadLiteral 0) (cond t (Token StringLiteral (size_of (string_parts text) + 2)) (Refused Unclosed 0)))
+      by_tests : (s t : Bool) →
+          Unspelled text (cond s (Refused BadLiteral 0) (cond t (Token StringLiteral (size_of (string_parts text) + 2)) (Refused Unclosed 0)))
       by_tests true t = tt
       by_tests false true = tt
       by_tests false false = tt
@@ -187,7 +193,8 @@ unspelled_string text =
 unspelled_directive : (text : List ℕ) → 0 < length text → first text ≡ 36 → Unspelled text (directive_front text)
 unfolding directive_front Unspelled
 unspelled_directive text some h =
-    by_tests (nat_lt (prefix_len in_directive (take (prefix_len in_line text) text)) (prefix_len in_line text)) (is_include (take (prefix_len in_line text) text)) refl where
+    by_tests (nat_lt (prefix_len in_directive (take (prefix_len in_line text) text)) (prefix_len in_line text))
+    (is_include (take (prefix_len in_line text) text)) refl where
       run : 0 < prefix_len in_line text
       run = run_some in_line text some (ap in_line h)
 
@@ -201,14 +208,18 @@ unspelled_directive text some h =
       good = run_some in_directive (take (prefix_len in_line text) text) line_some (ap in_directive line_first)
 
       by_tests : (s t : Bool) → is_include (take (prefix_len in_line text) text) ≡ t →
-          Unspelled text (cond s (Refused (BadByte (first (drop (prefix_len in_directive (take (prefix_len in_line text) text)) text))) (prefix_len in_directive (take (prefix_len in_line text) text)))
+          Unspelled text (cond s
+          (Refused (BadByte (first (drop (prefix_len in_directive (take (prefix_len in_line text) text)) text)))
+          (prefix_len in_directive (take (prefix_len in_line text) text)))
           (cond t (Skip (prefix_len in_line text)) (Token LeftOut (prefix_len in_line text))))
-      by_tests true t f = late text (first (drop (prefix_len in_directive (take (prefix_len in_line text) text)) text)) (prefix_len in_directive (take (prefix_len in_line text) text)) good
+      by_tests true t f = late text (first (drop (prefix_len in_directive (take (prefix_len in_line text) text)) text))
+          (prefix_len in_directive (take (prefix_len in_line text) text)) good
       by_tests false true f = (run, include_longer text h some f)
       by_tests false false f = tt
 
 -- where no symbol begins a text that none of the other spellings may begin, there is none
-unspelled_found : (text : List ℕ) (found : Option (List ℕ × TokenKind)) → limit_at (first text) text ≡ length_of found → Unspelled text (front_of_symbol text found)
+unspelled_found : (text : List ℕ) (found : Option (List ℕ × TokenKind)) → limit_at (first text) text ≡ length_of found →
+    Unspelled text (front_of_symbol text found)
 unfolding Unspelled
 unspelled_found text (Some e) h = tt
 unspelled_found text None h = none where
@@ -219,9 +230,14 @@ unspelled_found text None h = none where
 unspelled_other : (text : List ℕ) → limit_at (first text) text ≡ length_of (longest_in symbols text) → Unspelled text (other_front text)
 unfolding other_front symbol_front Unspelled
 unspelled_other text limit = by_test (starts_with nat_eq text (codes "//")) refl (starts_with nat_eq text (codes "/*")) refl where
-  by_test : (s : Bool) → starts_with nat_eq text (codes "//") ≡ s → (t : Bool) → starts_with nat_eq text (codes "/*") ≡ t → Unspelled text (cond s (Skip (prefix_len in_line text)) (cond t Comment (front_of_symbol text (longest_in symbols text))))
+  by_test : (s : Bool) → starts_with nat_eq text (codes "//") ≡ s → (t : Bool) → starts_with nat_eq text (codes "/*") ≡ t →
+      Unspelled text (cond s (Skip (prefix_len in_line text)) (cond t Comment (front_of_symbol text (longest_in symbols text))))
   by_test true e t f = two_first 47 47 text (λ w. (0 < prefix_len in_line w) × IsLonger w (prefix_len in_line w)) e
-      (λ rest. (run_some in_line (47 ∷ 47 ∷ rest) (omega arith) refl, longer_none (47 ∷ 47 ∷ rest) (prefix_len in_line (47 ∷ 47 ∷ rest)) (none_begins (47 ∷ 47 ∷ rest) refl)))
+      (λ rest. (
+        run_some in_line (47 ∷ 47 ∷ rest) (omega arith) refl,
+        longer_none (47 ∷ 47 ∷ rest) (prefix_len in_line (47 ∷ 47 ∷ rest))
+            (none_begins (47 ∷ 47 ∷ rest) refl),
+      ))
   by_test false e true f = two_first 47 42 text BeginsNone f (λ rest. none_begins (47 ∷ 42 ∷ rest) refl)
   by_test false e false f = unspelled_found text (longest_in symbols text) limit
 
@@ -234,14 +250,17 @@ unspelled_blank text some h = (
 
 pub unspelled : (text : List ℕ) → 0 < length text → Unspelled text (front text)
 unfolding front
-unspelled text some = by_byte (is_blank (first text)) refl (begins_name (first text)) refl (is_ascii_digit (first text)) refl (eqb (first text) 39) refl (eqb (first text) 34) refl (eqb (first text) 36) refl where
-  by_byte : (t : Bool) → is_blank (first text) ≡ t → (u : Bool) → begins_name (first text) ≡ u → (v : Bool) → is_ascii_digit (first text) ≡ v →
-      (w : Bool) → eqb (first text) 39 ≡ w → (x : Bool) → eqb (first text) 34 ≡ x → (y : Bool) → eqb (first text) 36 ≡ y →
-      Unspelled text (cond t (Skip (prefix_len is_blank text)) (cond u (name_front text) (cond v (number_front text) (cond w (type_variable_front text) (cond x (string_front text) (cond y (directive_front text) (other_front text)))))))
-  by_byte true et u eu v ev w ew x ex y ey = unspelled_blank text some et
-  by_byte false et true eu v ev w ew x ex y ey = unspelled_name text
-  by_byte false et false eu true ev w ew x ex y ey = unspelled_number text
-  by_byte false et false eu false ev true ew x ex y ey = one_first 39 text (λ t. Unspelled t (type_variable_front t)) some ew unspelled_variable
-  by_byte false et false eu false ev false ew true ex y ey = unspelled_string text
-  by_byte false et false eu false ev false ew false ex true ey = unspelled_directive text some (eqb-true (first text) 36 ey)
-  by_byte false et false eu false ev false ew false ex false ey = unspelled_other text (limit_other (first text) text et eu ev ew ex ey)
+unspelled text some = by_byte (is_blank (first text)) refl (begins_name (first text)) refl (is_ascii_digit (first text)) refl
+    (eqb (first text) 39) refl (eqb (first text) 34) refl (eqb (first text) 36) refl where
+      by_byte : (t : Bool) → is_blank (first text) ≡ t → (u : Bool) → begins_name (first text) ≡ u → (v : Bool) → is_ascii_digit (first text) ≡ v →
+          (w : Bool) → eqb (first text) 39 ≡ w → (x : Bool) → eqb (first text) 34 ≡ x → (y : Bool) → eqb (first text) 36 ≡ y →
+          Unspelled text (cond t (Skip (prefix_len is_blank text))
+          (cond u (name_front text)
+          (cond v (number_front text) (cond w (type_variable_front text) (cond x (string_front text) (cond y (directive_front text) (other_front text)))))))
+      by_byte true et u eu v ev w ew x ex y ey = unspelled_blank text some et
+      by_byte false et true eu v ev w ew x ex y ey = unspelled_name text
+      by_byte false et false eu true ev w ew x ex y ey = unspelled_number text
+      by_byte false et false eu false ev true ew x ex y ey = one_first 39 text (λ t. Unspelled t (type_variable_front t)) some ew unspelled_variable
+      by_byte false et false eu false ev false ew true ex y ey = unspelled_string text
+      by_byte false et false eu false ev false ew false ex true ey = unspelled_directive text some (eqb-true (first text) 36 ey)
+      by_byte false et false eu false ev false ew false ex false ey = unspelled_other text (limit_other (first text) text et eu ev ew ex ey)

@@ -1,5 +1,6 @@
 -- The value of a number as its digits are read.
-use Rattle.std.proofs.Common.{◌≡◌, ℕ, ◌+◌, ◌*◌, ◌<◌, ◌≤◌, Bool, true, false, List, [], ◌∷◌, length, get_or, drop, refl, ap, ◌∙◌, arith, le-ltb, lt-ltb, ◌-◌, leb, leb-true}
+use Rattle.std.proofs.Common.{◌≡◌, ℕ, ◌+◌, ◌*◌, ◌<◌, ◌≤◌, Bool, true, false, List, [], ◌∷◌, length, get_or, drop, refl, ap, ◌∙◌, arith, le-ltb}
+use Rattle.std.proofs.Common.{lt-ltb, ◌-◌, leb, leb-true}
 use Rattle.std.proofs.Common.{sym, subst, ◌^◌, eqb, eqb-true, lit<, inl, inr, ◌⊎◌}
 use Rattle.std.proofs.Math.Nat.{mul_comm}
 use Rattle.std.proofs.lemmas.Nat.{mul-add-lt, pow-add}
@@ -20,12 +21,14 @@ unfolding value_from
 value_grows p base before [] h = omega arith
 value_grows p base before (b ∷ text) h =
     elim (p b) as (λ t. before ≤ value_from p base (if t then before * base + digit_value b else before) text) [
-      | true ↦ let grown : before * base + digit_value b ≤ value_from p base (before * base + digit_value b) text = value_grows p base (before * base + digit_value b) text h in
+      | true ↦ let grown : before * base + digit_value b ≤ value_from p base (before * base + digit_value b) text =
+          value_grows p base (before * base + digit_value b) text h in
           let times : before ≤ before * base = le_times before base h in omega arith
       | false ↦ value_grows p base before text h
     ]
 
-value_yes : (p : ℕ → Bool) (base value b : ℕ) (text : List ℕ) → p b ≡ true → value_from p base value (b ∷ text) ≡ value_from p base (value * base + digit_value b) text
+value_yes : (p : ℕ → Bool) (base value b : ℕ) (text : List ℕ) → p b ≡ true →
+    value_from p base value (b ∷ text) ≡ value_from p base (value * base + digit_value b) text
 unfolding value_from
 value_yes p base value b text h = ap (λ (t : Bool). value_from p base (if t then value * base + digit_value b else value) text) h
 
@@ -35,7 +38,8 @@ value_no p base value b text h = ap (λ (t : Bool). value_from p base (if t then
 
 module _ (p : ℕ → Bool) (base value : ℕ) (text : List ℕ) (i : ℕ) where
   -- a digit more
-  pub value_digit : i < length text → p (get_or text i 0) ≡ true → value_from p base value (drop i text) ≡ value_from p base (value * base + digit_value (get_or text i 0)) (drop (i + 1) text)
+  pub value_digit : i < length text → p (get_or text i 0) ≡ true →
+      value_from p base value (drop i text) ≡ value_from p base (value * base + digit_value (get_or text i 0)) (drop (i + 1) text)
   value_digit h digit = ap (value_from p base value) (drop_more text i 0 h) ∙ value_yes p base value (get_or text i 0) (drop (i + 1) text) digit
 
   -- a byte more that is no digit
@@ -55,16 +59,19 @@ decimal_range : (b : ℕ) → is_ascii_digit b ≡ true → (48 ≤ b) × (b ≤
 decimal_range b h = (leb-true 48 b (and_parts (leb 48 b) (leb b 57) h).0, leb-true b 57 (and_parts (leb 48 b) (leb b 57) h).1)
 
 -- a decimal digit more
-pub decimal_digit : (value : ℕ) (text : List ℕ) (i : ℕ) → i < length text → is_ascii_digit (get_or text i 0) ≡ true → value_from is_ascii_digit 10 value (drop i text) ≡ value_from is_ascii_digit 10 (value * 10 + (get_or text i 0 - 48)) (drop (i + 1) text)
+pub decimal_digit : (value : ℕ) (text : List ℕ) (i : ℕ) → i < length text → is_ascii_digit (get_or text i 0) ≡ true →
+    value_from is_ascii_digit 10 value (drop i text) ≡ value_from is_ascii_digit 10 (value * 10 + (get_or text i 0 - 48)) (drop (i + 1) text)
 decimal_digit value text i h digit =
     let range = decimal_range (get_or text i 0) digit in
     value_digit is_ascii_digit 10 value text i h digit
     ∙ ap (λ d. value_from is_ascii_digit 10 (value * 10 + d) (drop (i + 1) text)) (digit_value_decimal (get_or text i 0) range.0 range.1)
 
 -- a number that is too large stays so
-pub decimal_passes : (largest value : ℕ) (text : List ℕ) (i : ℕ) → i < length text → is_ascii_digit (get_or text i 0) ≡ true → largest < value * 10 + (get_or text i 0 - 48) → largest < value_from is_ascii_digit 10 value (drop i text)
+pub decimal_passes : (largest value : ℕ) (text : List ℕ) (i : ℕ) → i < length text → is_ascii_digit (get_or text i 0) ≡ true →
+    largest < value * 10 + (get_or text i 0 - 48) → largest < value_from is_ascii_digit 10 value (drop i text)
 decimal_passes largest value text i h digit large =
-    rw (decimal_digit value text i h digit) (omega (arith, value_grows is_ascii_digit 10 (value * 10 + (get_or text i 0 - 48)) (drop (i + 1) text) (omega arith)))
+    rw (decimal_digit value text i h digit)
+    (omega (arith, value_grows is_ascii_digit 10 (value * 10 + (get_or text i 0 - 48)) (drop (i + 1) text) (omega arith)))
 
 -- a digit of k bits more has k bits more
 pub grow : (k base value width digit : ℕ) → base ≡ 2 ^ k → value < 2 ^ width → digit < base → value * base + digit < 2 ^ (width + k)

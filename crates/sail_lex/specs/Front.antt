@@ -1,5 +1,6 @@
 -- What a text begins with: the longest spelling there, or why there is none.
-use Rattle.std.specs.Prelude.{ℕ, ◌+◌, ◌*◌, ◌^◌, Bool, ◌||◌, ◌&&◌, ◌==◌, not, nat_eq, nat_lt, List, length, take, drop, count_by, Option, Some, None, codes, if◌then◌else◌}
+use Rattle.std.specs.Prelude.{ℕ, ◌+◌, ◌*◌, ◌^◌, Bool, ◌||◌, ◌&&◌, ◌==◌, not, nat_eq, nat_lt, List, length, take, drop, count_by, Option, Some, None}
+use Rattle.std.specs.Prelude.{codes, if◌then◌else◌}
 use Rattle.std.specs.List.{prefix_len, list_all, starts_with}
 use Rattle.std.specs.Char.{is_ascii_alphabetic, is_ascii_digit}
 use Rattle.sail_lex.specs.declared.kind.TokenKind.{TokenKind}
@@ -11,7 +12,7 @@ use Rattle.sail_lex.specs.declared.front.Front.{Front}
 use Rattle.sail_lex.specs.declared.front.Front.TheVariants.{Skip, Comment, Token, Refused}
 use Rattle.sail_lex.specs.Bytes.{is_blank, begins_name, in_name, in_decimal, in_line, in_directive, in_included, first}
 use Rattle.sail_lex.specs.Literal.{is_digit_of, in_digits_of, digit_size, decimal_value, string_parts, is_good, size_of}
-use Rattle.sail_lex.specs.Spelling.{kind_of_name, longest_in}
+use Rattle.sail_lex.specs.Lookup.{kind_of_name, longest_in}
 use Rattle.sail_lex.specs.Tables.{symbols}
 
 -- a name: the longest run of its bytes, at most 255

@@ -1,12 +1,12 @@
-pub mod Advance
 pub mod Bytes
 pub mod Comment
 pub mod Entries
 pub mod Front
 pub mod Literal
-pub mod Piece
+pub mod Lookup
+pub mod Next
 pub mod Position
-pub mod Spelling
+pub mod Reach
 pub mod Spellings
 pub mod Tables
 pub mod Tokens

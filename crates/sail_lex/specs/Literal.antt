@@ -38,13 +38,21 @@ decimal_value text = value_from is_ascii_digit 10 0 text
 abbrev pub radix_of : List ℕ → Radix
 radix_of text = if first (drop 1 text) == 120 then Base16 else Base2
 
--- how many bits a literal of bits has: `_` and the prefix are none
+-- how many bits the digits of a text have: `_` is none
+abbrev pub digits_width : Radix → List ℕ → ℕ
+digits_width radix text = digit_size radix * count_by (is_digit_of radix) text
+
+-- those bits as a number
+abbrev pub digits_bits : Radix → List ℕ → ℕ
+digits_bits radix text = value_from (is_digit_of radix) (base_of radix) 0 text
+
+-- how many bits a literal of bits has: those of the digits after its prefix
 abbrev pub literal_width : List ℕ → ℕ
-literal_width text = let radix = radix_of text in digit_size radix * count_by (is_digit_of radix) (drop 2 text)
+literal_width text = digits_width (radix_of text) (drop 2 text)
 
 -- those bits as a number
 abbrev pub literal_bits : List ℕ → ℕ
-literal_bits text = let radix = radix_of text in value_from (is_digit_of radix) (base_of radix) 0 (drop 2 text)
+literal_bits text = digits_bits (radix_of text) (drop 2 text)
 
 -- a part of a string: `\` and the byte after it, or one byte
 pub data Part : Type 0 where

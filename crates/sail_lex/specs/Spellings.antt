@@ -1,4 +1,4 @@
--- How the tokens are spelled, kind by kind, and which of the spellings at a place is taken.
+-- How the tokens are spelled, kind by kind, and which of the spellings that begin a text is taken.
 use Rattle.std.specs.Prelude.{◌≡◌, ℕ, ◌+◌, ◌<◌, ◌≤◌, Bool, true, false, ◌&&◌, ◌==◌, List, ◌∷◌, length, take, drop, count_by, [], ◌⊎◌}
 use Rattle.std.specs.List.{list_all}
 use Rattle.std.specs.Char.{is_ascii_digit, is_ascii_hexdigit}
@@ -7,7 +7,7 @@ use Rattle.sail_lex.specs.declared.kind.TokenKind.TheVariants.{TypeVariable, Dec
 use Rattle.sail_lex.specs.Bytes.{begins_name, in_name, in_decimal, in_hexadecimal, in_binary, is_binary_digit, in_directive, first}
 use Rattle.sail_lex.specs.Front.{is_include}
 use Rattle.sail_lex.specs.Literal.{string_parts, is_good, size_of}
-use Rattle.sail_lex.specs.Spelling.{kind_of_name}
+use Rattle.sail_lex.specs.Lookup.{kind_of_name}
 use Rattle.sail_lex.specs.Tables.{symbols}
 
 -- a table has the spelling with this kind
@@ -21,7 +21,8 @@ is_name text = begins_name (first text) && list_all in_name text
 
 -- good parts between two quotes, and nothing behind them
 abbrev pub is_string : List ℕ → Bool
-is_string text = (first text == 34 && list_all is_good (string_parts text)) && (first (drop (size_of (string_parts text) + 1) text) == 34 && length text == size_of (string_parts text) + 2)
+is_string text = (first text == 34 && list_all is_good (string_parts text)) &&
+    (first (drop (size_of (string_parts text) + 1) text) == 34 && length text == size_of (string_parts text) + 2)
 
 -- the text is a spelling of the kind, with one case for each kind of spelling
 pub data IsSpelling : TokenKind → List ℕ → Type 0 where

@@ -1,11 +1,20 @@
--- The words and the symbols of the language, each with its kind.
+-- The keywords and the symbols of the language, each with its kind.
 use Rattle.std.specs.Prelude.{ℕ, List, [], ◌∷◌, codes}
 use Rattle.sail_lex.specs.declared.kind.TokenKind.{TokenKind}
-use Rattle.sail_lex.specs.declared.kind.TokenKind.TheVariants.{As, Assert, Bitone, Bitzero, By, Catch, Clause, Constraint, Dec, Default, Do, Else, End, Enum, Exit, False, Forall, Foreach, From, Function, If, In, Inc, Let, Mapping, Match, Not, Operator, Overload, Register, Repeat, Return, Scattered, Sizeof, Struct, TerminationMeasure, Then, Throw, To, True, Try, TypeWord, Union, Until, Val, Var, While, With, LeftOut, Order, OpenParenthesis, CloseParenthesis, OpenBracket, CloseBracket, OpenBrace, CloseBrace, OpenVector, CloseVector, Comma, Semicolon, Colon, DoubleColon, Dot, DoubleDot, Equal, DoubleEqual, NotEqual, Less, LessEqual, Greater, GreaterEqual, LessUnsigned, LessEqualUnsigned, GreaterUnsigned, GreaterEqualUnsigned, LessSigned, LessEqualSigned, GreaterSigned, GreaterEqualSigned, Plus, Minus, Star, Caret, At, Ampersand, Bar, Tilde, ShiftLeft, ShiftRight, Arrow, DoubleArrow, FatArrow}
+use Rattle.sail_lex.specs.declared.kind.TokenKind.TheVariants.{As, Assert, Bitone, Bitzero, By, Catch, Clause, Constraint, Dec, Default, Do, Else}
+use Rattle.sail_lex.specs.declared.kind.TokenKind.TheVariants.{End, Enum, Exit, False, Forall, Foreach, From, Function, If, In, Inc, Let, Mapping}
+use Rattle.sail_lex.specs.declared.kind.TokenKind.TheVariants.{Match, Not, Operator, Overload, Register, Repeat, Return, Scattered, Sizeof, Struct}
+use Rattle.sail_lex.specs.declared.kind.TokenKind.TheVariants.{TerminationMeasure, Then, Throw, To, True, Try, TypeWord, Union, Until, Val, Var}
+use Rattle.sail_lex.specs.declared.kind.TokenKind.TheVariants.{While, With, LeftOut, Order, OpenParenthesis, CloseParenthesis, OpenBracket}
+use Rattle.sail_lex.specs.declared.kind.TokenKind.TheVariants.{CloseBracket, OpenBrace, CloseBrace, OpenVector, CloseVector, Comma, Semicolon, Colon}
+use Rattle.sail_lex.specs.declared.kind.TokenKind.TheVariants.{DoubleColon, Dot, DoubleDot, Equal, DoubleEqual, NotEqual, Less, LessEqual, Greater}
+use Rattle.sail_lex.specs.declared.kind.TokenKind.TheVariants.{GreaterEqual, LessUnsigned, LessEqualUnsigned, GreaterUnsigned, GreaterEqualUnsigned}
+use Rattle.sail_lex.specs.declared.kind.TokenKind.TheVariants.{LessSigned, LessEqualSigned, GreaterSigned, GreaterEqualSigned, Plus, Minus, Star}
+use Rattle.sail_lex.specs.declared.kind.TokenKind.TheVariants.{Caret, At, Ampersand, Bar, Tilde, ShiftLeft, ShiftRight, Arrow, DoubleArrow, FatArrow}
 
--- the words; those of Sail that models may not use are left out
-unfoldable pub words : List (List ℕ × TokenKind)
-words =
+-- the keywords; those of Sail that models may not use are left out
+unfoldable pub keywords : List (List ℕ × TokenKind)
+keywords =
     (codes "as", As) ∷
     (codes "assert", Assert) ∷
     (codes "bitone", Bitone) ∷

@@ -21,7 +21,7 @@ pub data Skips (text : List ℕ) : ℕ → Type 0 where
   blank : {n : ℕ} → front text ≡ Skip n → Skips text n
   comment : {n : ℕ} → front text ≡ Comment → IsComment text n → Skips text n
 
--- the token of n bytes at a place
+-- the token of n bytes from a byte of the source on
 abbrev pub token_at : ℕ → List ℕ → ℕ → TokenKind → ℕ → TokenType
 token_at file source at kind n = record { kind = kind; place = place_at file source at; start = at; end = at + n }
 
@@ -32,8 +32,8 @@ error_at fault.BadLiteral place = error.BadLiteral place
 error_at fault.Unclosed place = error.Unclosed place
 error_at fault.NumberTooLarge place = error.NumberTooLarge place
 
--- from a place on, where so many tokens have come, the source has these tokens: each the longest spelling
--- at its place, with blanks and comments between, up to the source's end
+-- from a byte on, where so many tokens have come, the source has these tokens: each the longest spelling there, with
+-- blanks and comments between, up to the source's end
 pub data Lexes (file : ℕ) (source : List ℕ) : ℕ → ℕ → List TokenType → Type 0 where
   ended : {at count : ℕ} → length source ≤ at → Lexes file source at count []
   skipped : {at count : ℕ} {tokens : List TokenType} (n : ℕ) → at < length source → Skips (drop at source) n →
@@ -41,7 +41,7 @@ pub data Lexes (file : ℕ) (source : List ℕ) : ℕ → ℕ → List TokenType
   token : {at count : ℕ} {tokens : List TokenType} (kind : TokenKind) (n : ℕ) → at < length source → front (drop at source) ≡ Token kind n →
       count < most_tokens → Lexes file source (at + n) (count + 1) tokens → Lexes file source at count (token_at file source at kind n ∷ tokens)
 
--- from a place on, where so many tokens have come, the source is refused: at the first place that no token begins at,
+-- from a byte on, where so many tokens have come, the source is refused: at the first byte that no token begins at,
 -- or at the first token too many
 pub data Refuses (file : ℕ) (source : List ℕ) : ℕ → ℕ → LexError → Type 0 where
   after_skip : {at count : ℕ} {e : LexError} (n : ℕ) → at < length source → Skips (drop at source) n →
@@ -55,16 +55,16 @@ pub data Refuses (file : ℕ) (source : List ℕ) : ℕ → ℕ → LexError →
   too_many : {at count : ℕ} (kind : TokenKind) (n : ℕ) → at < length source → front (drop at source) ≡ Token kind n →
       most_tokens ≤ count → Refuses file source at count (error.TokenLimit (place_at file source at))
 
--- from a place on, where so many tokens have come, the source has tokens or is refused
+-- from a byte on, where so many tokens have come, the source has tokens or is refused
 abbrev pub IsAnswered : ℕ → List ℕ → ℕ → ℕ → Type 0
 IsAnswered file source at count = ((ts : List TokenType) × Lexes file source at count ts) ⊎ ((e : LexError) × Refuses file source at count e)
 
--- an error is the refusal from a place on, where so many tokens have come; want of memory says nothing of the source
+-- an error is the refusal from a byte on, where so many tokens have come; want of memory says nothing of the source
 abbrev pub IsRefusal : ℕ → List ℕ → ℕ → ℕ → LexError → Type 0
 IsRefusal file source at count error.OutOfMemory = Unit {0}
 IsRefusal file source at count e = Refuses file source at count e
 
--- the tokens stand one behind the other between two places, each with some bytes
+-- the tokens stand one behind the other between two bytes of the source, each with some bytes
 abbrev pub AreInOrder : ℕ → ℕ → List TokenType → Type 0
 AreInOrder from to [] = from ≤ to
 AreInOrder from to (t ∷ tokens) = (from ≤ t.start) × (t.start < t.end) × AreInOrder t.end to tokens

@@ -1,5 +1,5 @@
 ghost use Rattle.std.specs.Prelude.{◌≡◌, ◌<◌, length};
-ghost use Rattle.sail_lex.specs.Advance.{Reaches};
+ghost use Rattle.sail_lex.specs.Reach.{Reaches};
 ghost use Rattle.std.specs.List.{list_all};
 ghost use Rattle.sail_lex.specs.Bytes.{first, belongs, is_blank};
 ghost use Rattle.sail_lex.specs.Front.{directive_front, is_include, past};

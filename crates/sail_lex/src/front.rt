@@ -1,5 +1,5 @@
 ghost use Rattle.std.specs.Prelude.{◌≡◌, ◌<◌, length, IsTrue, IsFalse};
-ghost use Rattle.sail_lex.specs.Advance.{Reaches};
+ghost use Rattle.sail_lex.specs.Reach.{Reaches};
 ghost use Rattle.sail_lex.specs.Bytes.{first};
 ghost use Rattle.sail_lex.specs.Front.{front, other_front, symbol_front};
 

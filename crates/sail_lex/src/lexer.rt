@@ -1,7 +1,7 @@
 ghost use Rattle.std.specs.Prelude.{◌≡◌, ◌+◌, ◌<◌, ◌≤◌, ◌∷◌, ◌++◌, [], ℕ, List, length, drop, IfOk, IfErr, OnOk};
 ghost use Rattle.sail_lex.specs.Position.{place_at, end_of};
 ghost use Rattle.sail_lex.specs.Tokens.{Lexes, Refuses, IsRefusal, AreInOrder, HavePlaces, error_at};
-ghost use Rattle.sail_lex.specs.Piece.{IsPiece};
+ghost use Rattle.sail_lex.specs.Next.{IsNext};
 ghost use Rattle.sail_lex.specs.Valued.{AreValued, AreAscii};
 
 use crate::bytes::rest_of;
@@ -16,13 +16,13 @@ use std::alloc::Global;
 /// All files together have at most so many tokens.
 const MOST_TOKENS: usize = 1_000_000;
 
-/// What a source goes on with.
+/// What comes next in a source.
 #[derive(Clone, Copy, Debug)]
-pub enum Piece {
+pub enum Next {
     /// So many bytes that are no token.
-    Skipped(usize),
+    Skip(usize),
     /// A token of this kind and so many bytes.
-    Next(TokenKind, usize),
+    Token(TokenKind, usize),
 }
 
 /// The tokens of a source, in order, with the source and the place of its end.
@@ -57,9 +57,9 @@ pub fn lex<'a>(
     let mut place = beginning_of(file);
     let earlier = before as usize;
     while at < source.len() {
-        let length = match piece_at(source, place, at, earlier + tokens.len())? {
-            Piece::Skipped(n) => n,
-            Piece::Next(kind, n) => {
+        let length = match next_at(source, place, at, earlier + tokens.len())? {
+            Next::Skip(n) => n,
+            Next::Token(kind, n) => {
                 let end = at + n;
                 tokens.push(Token {
                     kind,
@@ -80,24 +80,24 @@ pub fn lex<'a>(
     })
 }
 
-/// What the source goes on with at a byte, where so many tokens have come.
-fn piece_at(source: &[u8], place: Place, at: usize, count: usize) -> Result<Piece, LexError>
+/// What comes next in the source from the byte at `at` on, where so many tokens have come.
+fn next_at(source: &[u8], place: Place, at: usize, count: usize) -> Result<Next, LexError>
     requires within { at < length source.now }
     requires short { length source.now ≤ 4194304 }
     requires place { place ≡ place_at place.file source.now at }
-    ensures piece { IfOk result (λ piece. IsPiece source.now at count piece) }
+    ensures next { IfOk result (λ next. IsNext source.now at count next) }
     ensures refused { IfErr result (λ e. Refuses place.file source.now at count e) }
 {
     let text = rest_of(source, at);
     match front_of(text) {
-        Front::Skip(n) => Ok(Piece::Skipped(n)),
+        Front::Skip(n) => Ok(Next::Skip(n)),
         Front::Comment => match comment_length(text) {
-            Some(n) => Ok(Piece::Skipped(n)),
+            Some(n) => Ok(Next::Skip(n)),
             None => Err(LexError::Unclosed(place)),
         },
         Front::Token(kind, n) => {
             if count < MOST_TOKENS {
-                Ok(Piece::Next(kind, n))
+                Ok(Next::Token(kind, n))
             } else {
                 Err(LexError::TokenLimit(place))
             }

@@ -1,7 +1,7 @@
 ghost use Rattle.std.specs.Prelude.{◌≡◌, ◌<◌, ◌≤◌, ◌*◌, length, true, count_by, nat_lt};
 ghost use Rattle.std.specs.Char.{is_ascii_digit};
 ghost use Rattle.std.specs.List.{starts_with};
-ghost use Rattle.sail_lex.specs.Advance.{Reaches};
+ghost use Rattle.sail_lex.specs.Reach.{Reaches};
 ghost use Rattle.sail_lex.specs.Bytes.{first, belongs};
 ghost use Rattle.sail_lex.specs.Front.{number_front, decimal_front, bits_front, kind_of_bits};
 ghost use Rattle.sail_lex.specs.Literal.{is_digit_of, in_digits_of, digit_size, radix_of};

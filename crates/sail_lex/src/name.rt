@@ -1,5 +1,5 @@
 ghost use Rattle.std.specs.Prelude.{◌≡◌, ◌<◌, length, true};
-ghost use Rattle.sail_lex.specs.Advance.{Reaches};
+ghost use Rattle.sail_lex.specs.Reach.{Reaches};
 ghost use Rattle.sail_lex.specs.Bytes.{begins_name, first};
 ghost use Rattle.sail_lex.specs.Front.{name_front, type_variable_front};
 

@@ -16,7 +16,7 @@ pub fn beginning_of(file: u32) -> Place
 }
 
 /// The place of the byte at `to`, from that of an earlier one at `from`.
-#[tactic(auto, using(crate::proofs::Places::line_small, crate::proofs::Places::column_small, crate::proofs::Places::line_feed, crate::proofs::Places::line_same, crate::proofs::Places::column_first, crate::proofs::Places::column_next))]
+#[tactic(auto, using(crate::proofs::Places::next_byte))]
 pub fn advance(source: &[u8], place: Place, from: usize, to: usize) -> Place
     requires order { from ≤ to }
     requires within { to ≤ length source.now }

@@ -1,8 +1,8 @@
 ghost use Rattle.std.specs.Prelude.{◌≡◌, ◌≤◌, ℕ, length, nat_eq, Option, map};
 ghost use Rattle.std.specs.Option.{option_map};
 ghost use Rattle.sail_lex.specs.Entries.{entry, entries};
-ghost use Rattle.sail_lex.specs.Spelling.{kind_in, kind_of_name, longest_in, longer_of};
-ghost use Rattle.sail_lex.specs.Tables.{words, symbols};
+ghost use Rattle.sail_lex.specs.Lookup.{kind_in, kind_of_name, longest_in, longer_of};
+ghost use Rattle.sail_lex.specs.Tables.{keywords, symbols};
 
 use crate::kind::TokenKind;
 
@@ -32,15 +32,15 @@ pub fn name_kind(name: &[u8]) -> TokenKind
     if name == b"_".as_slice() {
         return TokenKind::Wildcard;
     }
-    find_word(name).unwrap_or(TokenKind::Identifier)
+    find_keyword(name).unwrap_or(TokenKind::Identifier)
 }
 
 /// The kind of a word of the language.
-#[tactic(auto, unfolding(crate::specs::Tables::words))]
-fn find_word(name: &[u8]) -> Option<TokenKind>
-    ensures { result ≡ kind_in words name.now }
+#[tactic(auto, unfolding(crate::specs::Tables::keywords))]
+fn find_keyword(name: &[u8]) -> Option<TokenKind>
+    ensures { result ≡ kind_in keywords name.now }
 {
-    find(&WORDS, name)
+    find(&KEYWORDS, name)
 }
 
 /// The longest spelling of the table that begins the text.
@@ -81,7 +81,7 @@ fn longer(best: Option<Spelling>, other: Spelling) -> Option<Spelling>
 }
 
 /// Each word with its kind.
-pub static WORDS: [Spelling; 67] = [
+pub static KEYWORDS: [Spelling; 67] = [
     Spelling {
         text: b"as",
         kind: TokenKind::As,

@@ -3,7 +3,7 @@ use sail_base::Place;
 use std::alloc::{AllocError, Global};
 use std::test::Fail;
 
-/// The answer to a source, in words: each token's kind, place and text, or the cause and its place.
+/// The answer to a source as a text: each token's kind, place and text, or the cause and its place.
 fn shown(alloc: Global, source: &[u8], before: u32) -> Result<String, AllocError> {
     let mut out = String::new(alloc);
     if source.len() > 4_194_304 || before > 1_000_000 {
@@ -227,7 +227,7 @@ fn between(alloc: Global, first: u8, n: usize, last: u8) -> Result<Vec<u8>, Allo
 #[test]
 fn limits_are_exact(rt: HostRuntime) -> Result<(), Fail> {
     let alloc = rt.alloc();
-    let rows = [
+    let cases = [
         (b'a', 253, b'a', true),
         (b'a', 254, b'a', false),
         (b'\'', 0, b'_', true),
@@ -235,7 +235,7 @@ fn limits_are_exact(rt: HostRuntime) -> Result<(), Fail> {
         (b'"', 4097, b'"', false),
         (b'"', 4097, b'\n', false),
     ];
-    for (first, n, last, good) in rows {
+    for (first, n, last, good) in cases {
         let text = between(alloc, first, n, last)?;
         let found = shown(alloc, &text, 0)?;
         assert_eq!(rt; found.as_str() != "BadLiteral 1:1 0", good);
@@ -274,12 +274,12 @@ fn counted(alloc: Global, source: &[u8], n: usize, before: u32) -> Option<usize>
 #[test]
 fn a_source_of_the_largest_size(rt: HostRuntime) -> Result<(), Fail> {
     let alloc = rt.alloc();
-    let rows = [
+    let cases = [
         (b' ', 0, ""),
         (b'x', 1_000_000, "TokenLimit 1:4194304 0"),
         (b'!', 1_000_000, "BadByte 1:4194304 33"),
     ];
-    for (last, before, answer) in rows {
+    for (last, before, answer) in cases {
         let source = filled(alloc, b' ', 4_194_303, last)?;
         let found = shown(alloc, &source, before)?;
         assert_eq!(rt; found.as_str(), answer);
@@ -293,12 +293,12 @@ fn a_million_tokens_and_one_more(rt: HostRuntime) -> Result<(), Fail> {
     let source = filled(alloc, b'"', 2_000_001, b'"')?;
     let found = shown(alloc, &source, 0)?;
     assert_eq!(rt; found.as_str(), "TokenLimit 1:2000001 0");
-    let rows = [
+    let cases = [
         (2_000_000, 0, Some(1_000_000)),
         (2_000_000, 1, None),
         (0, 1_000_000, Some(0)),
     ];
-    for (n, before, count) in rows {
+    for (n, before, count) in cases {
         assert_eq!(rt; counted(alloc, &source, n, before), count);
     }
     Ok(())

@@ -1,6 +1,6 @@
 ghost use Rattle.std.specs.Prelude.{◌≡◌, ◌<◌, ◌≤◌, ◌+◌, length, IfSome, IfNone, true, false};
 ghost use Rattle.std.specs.List.{list_all};
-ghost use Rattle.sail_lex.specs.Advance.{Reaches};
+ghost use Rattle.sail_lex.specs.Reach.{Reaches};
 ghost use Rattle.sail_lex.specs.Bytes.{first};
 ghost use Rattle.sail_lex.specs.Front.{string_front};
 ghost use Rattle.sail_lex.specs.Literal.{parts, inside, is_good, size_of, Escape};
@@ -36,7 +36,7 @@ pub fn string_front(text: &[u8]) -> Front
 
 /// How many bytes stand before a string's closing quote, or before the end of its line, where all
 /// its parts are good.
-#[tactic(auto, using(crate::proofs::Parts::inside_stop, crate::proofs::Parts::inside_none, crate::proofs::Parts::inside_byte, crate::proofs::Parts::inside_escape, crate::proofs::Parts::inside_lone), unfolding(crate::specs::Literal::size_of))]
+#[tactic(auto, using(crate::proofs::Parts::inside_next), unfolding(crate::specs::Literal::size_of))]
 fn body_length(text: &[u8]) -> Option<usize>
     ensures good { IfSome result (λ n. list_all is_good (inside (parts text.now)) ≡ true) }
     ensures size { IfSome result (λ n. n ≡ size_of (inside (parts text.now))) }

@@ -1,8 +1,10 @@
-ghost use Rattle.std.specs.Prelude.{◌≡◌, ◌+◌, ◌<◌, ◌≤◌, ◌^◌, ◌*◌, length, IfOk, IfSome, IfNone, count_by, map, drop, true, false, slice_index, ◌==◌, ◌||◌, ◌∷◌};
+ghost use Rattle.std.specs.Prelude.{◌≡◌, ◌+◌, ◌<◌, ◌≤◌, ◌^◌, ◌*◌, length, IfOk, IfSome, IfNone, map, drop, true, false};
+ghost use Rattle.std.specs.Prelude.{slice_index, ◌==◌, ◌||◌, ◌∷◌};
 ghost use Rattle.std.specs.Char.{digit_value, is_ascii_hexdigit};
 ghost use Rattle.std.specs.Option.{SomeIff};
 ghost use Rattle.sail_base.specs.Bits.{bits_of};
-ghost use Rattle.sail_lex.specs.Literal.{decimal_value, literal_bits, literal_width, string_value, radix_of, base_of, digit_size, is_digit_of, value_from, byte_of, inside, parts, Escape};
+ghost use Rattle.sail_lex.specs.Literal.{decimal_value, literal_bits, literal_width, string_value, radix_of, base_of, digit_size};
+ghost use Rattle.sail_lex.specs.Literal.{is_digit_of, digits_width, digits_bits, byte_of, inside, parts, Escape};
 
 use crate::bytes::{first, rest_of};
 use crate::literal::{Radix, digit_size, is_digit_of};
@@ -56,9 +58,9 @@ fn radix_of(text: &[u8]) -> Radix
 
 /// The bits of the digits of a base in a text, where they are at most 128.
 fn digits_word(radix: Radix, text: &[u8]) -> Option<Word>
-    ensures some { IfSome result (λ word. word ≡ bits_of (digit_size radix * count_by (is_digit_of radix) text.now) (value_from (is_digit_of radix) (base_of radix) 0 text.now)) }
-    ensures fits { IfSome result (λ word. digit_size radix * count_by (is_digit_of radix) text.now ≤ 128) }
-    ensures none { IfNone result (128 < digit_size radix * count_by (is_digit_of radix) text.now) }
+    ensures some { IfSome result (λ word. word ≡ bits_of (digits_width radix text.now) (digits_bits radix text.now)) }
+    ensures fits { IfSome result (λ word. digits_width radix text.now ≤ 128) }
+    ensures none { IfNone result (128 < digits_width radix text.now) }
 {
     let mut width = 0;
     let mut value = 0;
@@ -124,7 +126,7 @@ fn unescaped(alloc: Global, text: &[u8]) -> Result<Vec<u8>, AllocError>
     Ok(bytes)
 }
 
-/// What the part of a string at a place stands for, and how many bytes it has.
+/// What the part of a string from a byte on stands for, and how many bytes it has.
 #[tactic(auto, using(crate::proofs::Parts::value_escape, crate::proofs::Parts::value_lone, crate::proofs::Parts::value_byte))]
 fn part_at(text: &[u8], at: usize) -> (u8, usize)
     requires within { at < length text.now }

@@ -19,7 +19,8 @@ loop-depth-preserved-then-opens c =
       begun = omega arith;
       within = omega arith;
       shallow = omega arith;
-      going = going_opening c.args.text.now c.loop-depth.depth c.loop-depth.at two (omega arith) (sym c.opens.ensures ∙ c.if-opens.true) c.loop-depth.invariant.going;
+      going = going_opening c.args.text.now c.loop-depth.depth c.loop-depth.at two (omega arith)
+          (sym c.opens.ensures ∙ c.if-opens.true) c.loop-depth.invariant.going;
     }
 
 pub loop-depth-preserved-then-closes : goal.loop-depth-preserved-then-closes
@@ -30,7 +31,8 @@ loop-depth-preserved-then-closes c =
       begun = omega arith;
       within = omega arith;
       shallow = omega arith;
-      going = going_closing c.args.text.now (c.loop-depth.depth - 1) c.loop-depth.at two (sym c.closes.ensures ∙ c.if-closes.true) (subst (λ (d : ℕ). Going c.args.text.now d c.loop-depth.at) deeper c.loop-depth.invariant.going);
+      going = going_closing c.args.text.now (c.loop-depth.depth - 1) c.loop-depth.at two (sym c.closes.ensures ∙ c.if-closes.true)
+          (subst (λ (d : ℕ). Going c.args.text.now d c.loop-depth.at) deeper c.loop-depth.invariant.going);
     }
 
 pub loop-depth-preserved : goal.loop-depth-preserved
@@ -40,7 +42,8 @@ loop-depth-preserved c =
       begun = omega arith;
       within = omega arith;
       shallow = omega arith;
-      going = going_plain c.args.text.now c.loop-depth.depth c.loop-depth.at two (omega arith) (sym c.opens.ensures ∙ c.if-opens.false) (sym c.closes.ensures ∙ c.if-closes.false) c.loop-depth.invariant.going;
+      going = going_plain c.args.text.now c.loop-depth.depth c.loop-depth.at two (omega arith) (sym c.opens.ensures ∙ c.if-opens.false)
+          (sym c.closes.ensures ∙ c.if-closes.false) c.loop-depth.invariant.going;
     }
 
 pub returns-clause-ends : goal.returns-clause-ends

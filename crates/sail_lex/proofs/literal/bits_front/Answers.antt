@@ -14,7 +14,8 @@ returns-clause-reaches c =
     let n = c.run_length-length.result in
     let digits : c.digit_count-digits.result ≡ count_by (is_digit_of radix) (take n (drop 2 text)) =
     c.digit_count-digits.ensures.count ∙ ap (count_by (is_digit_of radix)) (c.leading.ensures ∙ ap (take n) c.rest_of-rest.ensures) in
-    let small : digit_size radix * c.digit_count-digits.result ≤ 128 = ltb-false 128 (digit_size radix * c.digit_count-digits.result) (sym c.is_too_wide.ensures ∙ c.if-is_too_wide.false) in (
+    let small : digit_size radix * c.digit_count-digits.result ≤ 128 =
+    ltb-false 128 (digit_size radix * c.digit_count-digits.result) (sym c.is_too_wide.ensures ∙ c.if-is_too_wide.false) in (
       omega arith,
       omega (arith, c.run_length-length.ensures.within, ap length c.rest_of-rest.ensures, length-drop 2 text),
       subst (λ (k : TokenKind). IsValued k (take (n + 2) text)) (sym c.bits_kind.ensures)

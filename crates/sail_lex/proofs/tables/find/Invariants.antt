@@ -1,6 +1,6 @@
 use Rattle.std.proofs.Common.{◌≡◌, drop}
 use Rattle.sail_lex.specs.Entries.{entries}
-use Rattle.sail_lex.specs.Spelling.{kind_in}
+use Rattle.sail_lex.specs.Lookup.{kind_in}
 use Rattle.sail_lex.proofs.tables.find.Given as goal
 
 -- what is left of the table answers for the whole of it

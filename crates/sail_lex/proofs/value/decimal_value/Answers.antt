@@ -9,7 +9,8 @@ use Rattle.sail_lex.proofs.value.decimal_value.Goals.{then-is_ascii_digit+else-v
 pub returns-then-value-digit : goal.returns-then-value-digit
 returns-then-value-digit c =
     let digit = sym c.is_ascii_digit.ensures.value ∙ c.if-is_ascii_digit.true in
-    let past = decimal_passes (2 ^ 126) c.loop-byte.value c.args.text.now c.loop-byte.byte-index c.loop-byte-test.true digit (omega (arith, c.from-digit.ensures, c.if-value-digit.true)) in
+    let past = decimal_passes (2 ^ 126) c.loop-byte.value c.args.text.now c.loop-byte.byte-index c.loop-byte-test.true digit
+    (omega (arith, c.from-digit.ensures, c.if-value-digit.true)) in
     λ small. omega (arith, past, c.loop-byte.invariant.same)
 
 pub loop-byte-preserved : goal.loop-byte-preserved
@@ -19,13 +20,17 @@ loop-byte-preserved c =
           let digit = sym c.is_ascii_digit.ensures.value ∙ w.if-is_ascii_digit.true in
           record {
             small = omega (arith, w.value-is, w.if-value-digit.false, w.from-digit.ensures, c.type_inv.text c.loop-byte.byte-index);
-            same = ap (λ v. value_from is_ascii_digit 10 v (drop (c.loop-byte.byte-index + 1) c.args.text.now)) (w.value-is ∙ ap (λ d. c.loop-byte.value * 10 + d) w.from-digit.ensures) ∙ (sym (decimal_digit c.loop-byte.value c.args.text.now c.loop-byte.byte-index c.loop-byte-test.true digit) ∙ c.loop-byte.invariant.same);
+            same = ap (λ v. value_from is_ascii_digit 10 v (drop (c.loop-byte.byte-index + 1) c.args.text.now))
+                (w.value-is ∙ ap (λ d. c.loop-byte.value * 10 + d) w.from-digit.ensures) ∙
+                (sym (decimal_digit c.loop-byte.value c.args.text.now c.loop-byte.byte-index c.loop-byte-test.true digit) ∙ c.loop-byte.invariant.same);
           }
       | else-is_ascii_digit w ↦
           let other = sym c.is_ascii_digit.ensures.value ∙ w.if-is_ascii_digit.false in
           record {
             small = omega (arith, w.value-is, c.loop-byte.invariant.small);
-            same = ap (λ v. value_from is_ascii_digit 10 v (drop (c.loop-byte.byte-index + 1) c.args.text.now)) w.value-is ∙ (sym (value_other is_ascii_digit 10 c.loop-byte.value c.args.text.now c.loop-byte.byte-index c.loop-byte-test.true other) ∙ c.loop-byte.invariant.same);
+            same = ap (λ v. value_from is_ascii_digit 10 v (drop (c.loop-byte.byte-index + 1) c.args.text.now)) w.value-is ∙
+                (sym (value_other is_ascii_digit 10 c.loop-byte.value c.args.text.now c.loop-byte.byte-index c.loop-byte-test.true other) ∙
+                c.loop-byte.invariant.same);
           }
     ]
 

@@ -22,10 +22,12 @@ loop-byte-preserved c =
             narrow = omega (arith, w.width-is, size, w.digit_size.ensures.size, w.if-width-digit_size-gt128.false);
             below =
                 subst (λ (v : ℕ). v < 2 ^ c.if-is_digit_of.width) (sym w.value-is)
-                (subst (λ (k : ℕ). w.with_digit-value.result < 2 ^ k) (sym (w.width-is ∙ ap (λ s. c.loop-byte.width + s) size)) w.with_digit-value.ensures.below);
+                (subst (λ (k : ℕ). w.with_digit-value.result < 2 ^ k)
+                (sym (w.width-is ∙ ap (λ s. c.loop-byte.width + s) size)) w.with_digit-value.ensures.below);
             width =
                 w.width-is ∙ ((λ j. c.loop-byte.invariant.width j + size j)
-                ∙ (one_more (digit_size c.args.radix) (count_by p (take i text)) ∙ ap (λ n. digit_size c.args.radix * n) (sym (count_by_more_yes p text i 0 c.loop-byte-test.true digit))));
+                ∙ (one_more (digit_size c.args.radix) (count_by p (take i text)) ∙
+                ap (λ n. digit_size c.args.radix * n) (sym (count_by_more_yes p text i 0 c.loop-byte-test.true digit))));
             same =
                 ap (λ v. value_from p base v (drop (i + 1) text)) (w.value-is ∙ w.with_digit-value.ensures.value)
                 ∙ (sym (value_digit p base c.loop-byte.value text i c.loop-byte-test.true digit) ∙ c.loop-byte.invariant.same);
@@ -37,8 +39,10 @@ loop-byte-preserved c =
             below =
                 subst (λ (v : ℕ). v < 2 ^ c.if-is_digit_of.width) (sym w.value-is)
                 (subst (λ (k : ℕ). c.loop-byte.value < 2 ^ k) (sym w.width-is) c.loop-byte.invariant.below);
-            width = w.width-is ∙ (c.loop-byte.invariant.width ∙ ap (λ n. digit_size c.args.radix * n) (sym (count_by_more_no p text i 0 c.loop-byte-test.true other)));
-            same = ap (λ v. value_from p base v (drop (i + 1) text)) w.value-is ∙ (sym (value_other p base c.loop-byte.value text i c.loop-byte-test.true other) ∙ c.loop-byte.invariant.same);
+            width = w.width-is ∙
+                (c.loop-byte.invariant.width ∙ ap (λ n. digit_size c.args.radix * n) (sym (count_by_more_no p text i 0 c.loop-byte-test.true other)));
+            same = ap (λ v. value_from p base v (drop (i + 1) text)) w.value-is ∙
+                (sym (value_other p base c.loop-byte.value text i c.loop-byte-test.true other) ∙ c.loop-byte.invariant.same);
           }
     ]
 

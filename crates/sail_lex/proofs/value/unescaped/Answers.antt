@@ -10,6 +10,8 @@ ended bytes rest all e h = sym (append-nil bytes) ∙ (ap (λ t. bytes ++ t) (sy
 pub returns : goal.returns
 returns c =
     elim c.loop-at-test.branch [
-      | then-loop-at-test+else-not-ends_string w ↦ ended _ _ _ (value_stop c.args.text.now c.loop-at.at w.loop-at-test.true (sym w.ends_string.ensures ∙ w.if-not-ends_string.false)) c.loop-at.invariant.same
+      | then-loop-at-test+else-not-ends_string w ↦
+          ended _ _ _ (value_stop c.args.text.now c.loop-at.at w.loop-at-test.true (sym w.ends_string.ensures ∙ w.if-not-ends_string.false))
+          c.loop-at.invariant.same
       | else-loop-at-test w ↦ ended _ _ _ (value_none c.args.text.now c.loop-at.at w.loop-at-test.false) c.loop-at.invariant.same
     ]

@@ -4,7 +4,7 @@ use Rattle.std.specs.List.{starts_with}
 use Rattle.std.specs.Str.{bytes_eq}
 use Rattle.sail_lex.specs.declared.kind.TokenKind.{TokenKind}
 use Rattle.sail_lex.specs.declared.kind.TokenKind.TheVariants.{Identifier, Wildcard}
-use Rattle.sail_lex.specs.Tables.{words}
+use Rattle.sail_lex.specs.Tables.{keywords}
 
 -- the kind of a word in a table, if it stands there
 abbrev pub kind_in : List (List ℕ × TokenKind) → List ℕ → Option TokenKind
@@ -13,7 +13,7 @@ kind_in (e ∷ table) word = if bytes_eq e.0 word then Some e.1 else kind_in tab
 
 -- a name's kind: `_` is the wildcard, a word of the table has its kind, and any other is an identifier
 abbrev pub kind_of_name : List ℕ → TokenKind
-kind_of_name name = if bytes_eq (codes "_") name then Wildcard else unwrap_or (kind_in words name) Identifier
+kind_of_name name = if bytes_eq (codes "_") name then Wildcard else unwrap_or (kind_in keywords name) Identifier
 
 -- the longer of two spellings, where either may be absent
 abbrev pub longer_of : Option (List ℕ × TokenKind) → Option (List ℕ × TokenKind) → Option (List ℕ × TokenKind)

@@ -3,21 +3,25 @@ use Rattle.sail_lex.specs.declared.token.LexError.TheVariants as error
 use Rattle.sail_lex.specs.Comment.{IsComment, NeverEnds}
 use Rattle.sail_lex.specs.Front.{front}
 use Rattle.sail_lex.specs.Tokens.{blank, comment, Refuses, unclosed, faulty, too_many, error_at}
-use Rattle.sail_lex.proofs.lexer.piece_at.Goals as goal
+use Rattle.sail_lex.proofs.lexer.next_at.Goals as goal
 
-pub returns-in-Skip-clause-piece : goal.returns-in-Skip-clause-piece
-returns-in-Skip-clause-piece c =
+pub returns-in-Skip-clause-next : goal.returns-in-Skip-clause-next
+returns-in-Skip-clause-next c =
     let text = c.rest_of-text.ensures in
     let reaches = c.in-Skip.ensures.reaches in
     let long = ap length text ∙ length-drop c.args.at c.args.source.now in
     (blank (sym (c.in-Skip.ensures.front ∙ ap front text)), reaches.0, omega (arith, reaches.1, long))
 
-pub returns-in-Some-clause-piece : goal.returns-in-Some-clause-piece
-returns-in-Some-clause-piece c =
+pub returns-in-Some-clause-next : goal.returns-in-Some-clause-next
+returns-in-Some-clause-next c =
     let text = c.rest_of-text.ensures in
     let within = c.in-Some.ensures.within in
-    let long = ap length text ∙ length-drop c.args.at c.args.source.now in
-    (comment (sym (c.in-Comment.ensures.front ∙ ap front text)) (subst (λ t. IsComment t c.in-Some.n) text c.in-Some.ensures.ends), within.0, omega (arith, within.1, long))
+    let long = ap length text ∙ length-drop c.args.at c.args.source.now in (
+      comment (sym (c.in-Comment.ensures.front ∙ ap front text)) (subst (λ t. IsComment t c.in-Some.n) text c.in-Some.ensures.ends),
+      within.0,
+      omega
+          (arith, within.1, long),
+    )
 
 -- the place of a refusal at the place itself
 pub returns-in-None-clause-refused : goal.returns-in-None-clause-refused
