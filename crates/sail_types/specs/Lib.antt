@@ -6,3 +6,4 @@ pub mod Places
 pub mod Belongs
 pub mod Zero
 pub mod Texts
+pub mod Sums

@@ -5,6 +5,8 @@
 mod numbers;
 mod rows;
 mod shapes;
+mod small;
+mod sums;
 mod table;
 mod types;
 mod values;
@@ -12,6 +14,7 @@ mod values;
 pub use numbers::{Atom, Comparison, Con, Index, Num, Term};
 pub use rows::Row;
 pub use shapes::Shape;
+pub use sums::{same_atom, same_num};
 pub use table::{Definition, Field, Form, Parameter, Types};
 pub use types::Typ;
 pub use values::Value;
