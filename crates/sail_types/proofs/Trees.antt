@@ -1,7 +1,6 @@
 -- Trees whose parts are equal are equal.
-use Rattle.std.proofs.Common.{◌≡◌, ℤ, List, ◌∙◌, sym, ap}
+use Rattle.std.proofs.Common.{◌≡◌, ◌∙◌, sym}
 use Rattle.sail_types.specs.declared.numbers.Num.{Num, out-Num, roll-Num}
-use Rattle.sail_types.specs.declared.numbers.Term.{Term}
 use Rattle.sail_types.specs.declared.numbers.Atom.TheViews.{roll-out-Num}
 
 pub same_parts : (a b : Num) → (out-Num a).terms ≡ (out-Num b).terms → (out-Num a).constant ≡ (out-Num b).constant → a ≡ b

@@ -48,9 +48,18 @@ num_form_eq f n = each_eq f.terms n.terms && int_eq f.constant n.constant
 abbrev pub term_form_eq : Term-F (Atom → Bool) (Num → Bool) (Term → Bool) → Term-F Atom Num Term → Bool
 term_form_eq f t = int_eq f.coefficient t.coefficient && f.atom t.atom
 
+abbrev pub atom_eq_step : Atom-F (Atom → Bool) (Num → Bool) (Term → Bool) → Atom → Bool
+atom_eq_step f a = atom_form_eq f (out-Atom a)
+
+abbrev pub num_eq_step : Num-F (Atom → Bool) (Num → Bool) (Term → Bool) → Num → Bool
+num_eq_step f n = num_form_eq f (out-Num n)
+
+abbrev pub term_eq_step : Term-F (Atom → Bool) (Num → Bool) (Term → Bool) → Term → Bool
+term_eq_step f t = term_form_eq f (out-Term t)
+
 -- whether two atoms are the same variable, or powers with the same exponent
 abbrev pub eq_atom : Atom → Atom → Bool
-eq_atom = fold-Atom (Atom → Bool) (Num → Bool) (Term → Bool) (λ f a. atom_form_eq f (out-Atom a)) (λ f n. num_form_eq f (out-Num n)) (λ f t. term_form_eq f (out-Term t))
+eq_atom = fold-Atom (Atom → Bool) (Num → Bool) (Term → Bool) atom_eq_step num_eq_step term_eq_step
 
 -- ---- sums
 
