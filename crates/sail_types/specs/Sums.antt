@@ -4,6 +4,8 @@ use Rattle.std.specs.Prelude.{ℕ, ◌^◌, ℤ, pos, negsuc, ◌+ℤ◌, ◌*�
 use Rattle.std.specs.List.{position, remove}
 use Rattle.std.specs.Ordering.{int_eq}
 use Rattle.sail_types.specs.Limits.{is_small}
+use Rattle.sail_types.specs.declared.numbers.Index.{Index}
+use Rattle.sail_types.specs.declared.numbers.Index.TheVariants as I
 use Rattle.sail_types.specs.declared.numbers.Num.{Num, out-Num, roll-Num}
 use Rattle.sail_types.specs.declared.numbers.Term.{Term, out-Term, roll-Term}
 use Rattle.sail_types.specs.declared.numbers.Atom.{Atom, out-Atom}
@@ -164,3 +166,24 @@ only_for x n i = if nat_eq i x then n else variable i
 -- a number with another in the place of one variable
 abbrev pub subst : Num → ℕ → Num → Option Num
 subst n x by = substituted (only_for x by) n
+
+-- ---- a number read under what its variables stand for
+
+abbrev pub number_or_zero : Option Index → Num
+number_or_zero (Some (I.Number n)) = n
+number_or_zero index = zero_num
+
+-- what that variable stands for; 0 where it is no Int variable of the list
+abbrev pub number_at : List Index → ℕ → Num
+number_at indices i = number_or_zero (slice_get indices i)
+
+-- a number with these in the place of its variables
+abbrev pub read : List Index → Num → Option Num
+read indices n = substituted (number_at indices) n
+
+-- ---- for contracts
+
+-- what was made, where all went well
+abbrev pub kept : {A : Type 0} → Bool → A → Option A
+kept true x = Some x
+kept false x = None

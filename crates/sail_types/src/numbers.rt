@@ -1,3 +1,6 @@
+ghost use Rattle.std.specs.Prelude.{◌≡◌};
+ghost use Rattle.sail_types.specs.Sums.{terms_of, constant_of};
+
 use sail_base::{Boxed, Items};
 
 /// A number of a type: a sum of terms in order of first appearance, and a constant.
@@ -55,6 +58,17 @@ impl Drop for Atom {
             Atom::Variable(_) => {}
             Atom::Power(_) => {}
         }
+    }
+}
+
+impl Num {
+    /// The terms and the constant.
+    pub fn into_parts(self) -> (Items<Term>, i128)
+        ensures terms { result.0 ≡ terms_of self }
+        ensures constant { result.1 ≡ constant_of self }
+    {
+        let Num { terms, constant } = self;
+        (terms, constant)
     }
 }
 

@@ -1,4 +1,8 @@
-ghost use Rattle.std.specs.Prelude.{◌≡◌, ◌↔◌, IsTrue};
+ghost use Rattle.std.specs.Prelude.{◌≡◌, ◌↔◌, IsTrue, ◌*ℤ◌, ◌+ℤ◌, MatchOption, false};
+ghost use Rattle.sail_types.specs.Limits.{is_small as is_small_integer};
+
+/// The largest integer of a model.
+pub const LARGEST: u128 = 1 << 126;
 
 /// Whether both are true. Both are known where it is called, so that a caller has no branch.
 pub fn both(a: bool, b: bool) -> bool
@@ -12,4 +16,32 @@ pub fn same_integer(a: &i128, b: &i128) -> bool
     ensures { IsTrue result ↔ (a.now ≡ b.now) }
 {
     *a == *b
+}
+
+/// Whether an integer is from the least to the largest.
+#[tactic(auto, unfolding(crate::specs::Limits::largest))]
+pub fn is_small(z: i128) -> bool
+    ensures { result ≡ is_small_integer z }
+{
+    z.unsigned_abs() <= LARGEST
+}
+
+/// The sum of two integers, where it is from the least to the largest.
+pub fn small_sum(a: i128, b: i128) -> Option<i128>
+    ensures { MatchOption result (is_small_integer (a +ℤ b) ≡ false) (λ c. (c ≡ a +ℤ b) × IsTrue (is_small_integer c)) }
+{
+    match a.checked_add(b) {
+        None => None,
+        Some(sum) => if is_small(sum) { Some(sum) } else { None },
+    }
+}
+
+/// The product of two integers, where it is from the least to the largest.
+pub fn small_product(a: i128, b: i128) -> Option<i128>
+    ensures { MatchOption result (is_small_integer (a *ℤ b) ≡ false) (λ c. (c ≡ a *ℤ b) × IsTrue (is_small_integer c)) }
+{
+    match a.checked_mul(b) {
+        None => None,
+        Some(product) => if is_small(product) { Some(product) } else { None },
+    }
 }
