@@ -1,2 +1,4 @@
 pub mod Trees
 pub mod EqualAtoms
+pub mod Limits
+pub mod TermSums

@@ -71,9 +71,11 @@ and_then None f = None
 and_then (Some x) f = f x
 
 -- a list with that term at an index, without it where its coefficient is 0
+abbrev pub placed_term : List Term → ℕ → ℤ → Atom → List Term
+placed_term ts i c atom = if int_eq c (pos 0) then remove ts i else slice_set ts i (term c atom)
+
 abbrev pub with_term : List Term → ℕ → ℤ → Atom → Option (List Term)
-with_term ts i c atom =
-    if int_eq c (pos 0) then Some (remove ts i) else (if is_small c then Some (slice_set ts i (term c atom)) else None)
+with_term ts i c atom = if is_small c then Some (placed_term ts i c atom) else None
 
 abbrev pub coefficient_or : Option Term → ℤ
 coefficient_or None = pos 0
@@ -83,7 +85,7 @@ abbrev pub coefficient_at : List Term → ℕ → ℤ
 coefficient_at ts i = coefficient_or (slice_get ts i)
 
 abbrev pub merged : List Term → ℤ → Atom → Option ℕ → Option (List Term)
-merged ts c atom None = if int_eq c (pos 0) then Some ts else Some (ts ++ term c atom ∷ [])
+merged ts c atom None = Some (if int_eq c (pos 0) then ts else ts ++ term c atom ∷ [])
 merged ts c atom (Some i) = with_term ts i (coefficient_at ts i +ℤ c) atom
 
 -- terms with one more: merged with the first of the same atom, else behind them

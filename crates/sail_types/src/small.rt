@@ -26,6 +26,7 @@ pub fn is_small(z: i128) -> bool
     z.unsigned_abs() <= LARGEST
 }
 
+#[tactic(auto, using(crate::proofs::Limits::past))]
 /// The sum of two integers, where it is from the least to the largest.
 pub fn small_sum(a: i128, b: i128) -> Option<i128>
     ensures { MatchOption result (is_small_integer (a +ℤ b) ≡ false) (λ c. (c ≡ a +ℤ b) × IsTrue (is_small_integer c)) }
@@ -36,6 +37,7 @@ pub fn small_sum(a: i128, b: i128) -> Option<i128>
     }
 }
 
+#[tactic(auto, using(crate::proofs::Limits::past))]
 /// The product of two integers, where it is from the least to the largest.
 pub fn small_product(a: i128, b: i128) -> Option<i128>
     ensures { MatchOption result (is_small_integer (a *ℤ b) ≡ false) (λ c. (c ≡ a *ℤ b) × IsTrue (is_small_integer c)) }

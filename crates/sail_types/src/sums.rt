@@ -1,6 +1,6 @@
 //! Sums, products and substitutions of numbers.
 ghost use Rattle.std.specs.Prelude.{◌≡◌, ◌↔◌, ◌<◌, ◌+ℤ◌, IsTrue, IfOk, length, position};
-ghost use Rattle.sail_types.specs.Sums.{eq_atom, atom_of, coefficient_at, constant as const_num, variable, with_term, kept};
+ghost use Rattle.sail_types.specs.Sums.{eq_atom, atom_of, coefficient_at, constant as const_num, variable, placed_term, with_term, kept};
 ghost use Rattle.sail_types.specs.Sums.{plus_term as plus_term_of, plus_terms as plus_terms_of};
 
 use crate::numbers::{Atom, Num, Term};
@@ -142,20 +142,29 @@ fn position_of(terms: &[Term], atom: &Atom) -> Option<usize>
     terms.iter().position(|term| is_atom(&term.atom, atom))
 }
 
+/// Gives a term this coefficient and this atom, or takes it out where the coefficient is 0.
+fn put_term(terms: &mut Vec<Term>, index: usize, coefficient: i128, atom: Atom)
+    requires { index < length terms.old.items }
+    ensures { terms.new.items ≡ placed_term terms.old.items index coefficient atom }
+{
+    if coefficient == 0 {
+        let _ = terms.remove(index);
+    } else {
+        terms[index] = Term { coefficient, atom };
+    }
+}
+
 /// Adds to the coefficient of a term; one that becomes 0 is taken out. It is false, and the terms are
 /// unchanged, where the coefficient would be past the largest integer.
+#[tactic(auto, using(crate::proofs::TermSums::at_item))]
 fn merge(terms: &mut Vec<Term>, index: usize, coefficient: i128, atom: Atom) -> bool
     requires { index < length terms.old.items }
     ensures { with_term terms.old.items index (coefficient_at terms.old.items index +ℤ coefficient) atom ≡ kept result terms.new.items }
 {
     match small_sum(terms[index].coefficient, coefficient) {
         None => false,
-        Some(0) => {
-            let _ = terms.remove(index);
-            true
-        }
-        Some(coefficient) => {
-            terms[index] = Term { coefficient, atom };
+        Some(sum) => {
+            put_term(terms, index, sum, atom);
             true
         }
     }
