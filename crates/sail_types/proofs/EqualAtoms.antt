@@ -75,9 +75,10 @@ atom_step : (y : Atom-F SuchA SuchN SuchT) → IsTest eq_atom (roll-Atom (open_a
 unfolding roll-Atom out-Atom
 atom_step y =
     let f = open_atom y in
-    let r = λ (b : Atom). ap (λ g. g b) (fold-roll-Atom (Atom → Bool) (Num → Bool) (Term → Bool) atom_eq_step num_eq_step term_eq_step f) in
-    ((r (roll-Atom f) ∙ ap (atom_form_eq (asked_atom f)) (out-roll-Atom f) ∙ atom_refl y),
-     (λ b h. ap roll-Atom (atom_sound y (out-Atom b) (sym (r b) ∙ h)) ∙ roll-out-Atom b))
+    let r = λ (b : Atom). ap (λ g. g b) (fold-roll-Atom (Atom → Bool) (Num → Bool) (Term → Bool) atom_eq_step num_eq_step term_eq_step f) in (
+      (r (roll-Atom f) ∙ ap (atom_form_eq (asked_atom f)) (out-roll-Atom f) ∙ atom_refl y),
+      (λ b h. ap roll-Atom (atom_sound y (out-Atom b) (sym (r b) ∙ h)) ∙ roll-out-Atom b),
+    )
 
 -- ---- numbers
 
@@ -91,13 +92,14 @@ num_step : (y : Num-F SuchA SuchN SuchT) → IsTest eq_num (roll-Num (open_num y
 unfolding roll-Num out-Num
 num_step y =
     let f = open_num y in
-    let r = λ (b : Num). ap (λ g. g b) (fold-roll-Num (Atom → Bool) (Num → Bool) (Term → Bool) atom_eq_step num_eq_step term_eq_step f) in
-    ((r (roll-Num f) ∙ ap (num_form_eq (asked_num f)) (out-roll-Num f)
-      ∙ two (each_eq (asked_num f).terms f.terms) (int_eq f.constant f.constant) (each_refl y.terms) ((Decides-int_eq f.constant f.constant).1 refl)),
-     (λ b h.
-        let k = both (each_eq (asked_num f).terms (out-Num b).terms) (int_eq f.constant (out-Num b).constant) (sym (r b) ∙ h) in
-        (λ i. roll-Num (record { terms = each_sound y.terms (out-Num b).terms k.0 i; constant = (Decides-int_eq f.constant (out-Num b).constant).0 k.1 i }))
-        ∙ roll-out-Num b))
+    let r = λ (b : Num). ap (λ g. g b) (fold-roll-Num (Atom → Bool) (Num → Bool) (Term → Bool) atom_eq_step num_eq_step term_eq_step f) in (
+      (r (roll-Num f) ∙ ap (num_form_eq (asked_num f)) (out-roll-Num f)
+          ∙ two (each_eq (asked_num f).terms f.terms) (int_eq f.constant f.constant) (each_refl y.terms) ((Decides-int_eq f.constant f.constant).1 refl)),
+      (λ b h.
+          let k = both (each_eq (asked_num f).terms (out-Num b).terms) (int_eq f.constant (out-Num b).constant) (sym (r b) ∙ h) in
+          (λ i. roll-Num (record { terms = each_sound y.terms (out-Num b).terms k.0 i; constant = (Decides-int_eq f.constant (out-Num b).constant).0 k.1 i }))
+          ∙ roll-out-Num b),
+    )
 
 -- ---- terms
 
@@ -110,13 +112,14 @@ asked_term x = map-Term Atom Num Term (Atom → Bool) (Num → Bool) (Term → B
 term_step : (y : Term-F SuchA SuchN SuchT) → IsTest eq_term (roll-Term (open_term y))
 term_step y =
     let f = open_term y in
-    let r = λ (b : Term). ap (λ g. g b) (fold-roll-Term (Atom → Bool) (Num → Bool) (Term → Bool) atom_eq_step num_eq_step term_eq_step f) in
-    ((r (roll-Term f) ∙ ap (term_form_eq (asked_term f)) (out-roll-Term f)
-      ∙ two (int_eq f.coefficient f.coefficient) (eq_atom y.atom.0 y.atom.0) ((Decides-int_eq f.coefficient f.coefficient).1 refl) y.atom.1.0),
-     (λ b h.
-        let k = both (int_eq f.coefficient (out-Term b).coefficient) (eq_atom y.atom.0 (out-Term b).atom) (sym (r b) ∙ h) in
-        (λ i. roll-Term (record { coefficient = (Decides-int_eq f.coefficient (out-Term b).coefficient).0 k.0 i; atom = y.atom.1.1 (out-Term b).atom k.1 i }))
-        ∙ roll-out-Term b))
+    let r = λ (b : Term). ap (λ g. g b) (fold-roll-Term (Atom → Bool) (Num → Bool) (Term → Bool) atom_eq_step num_eq_step term_eq_step f) in (
+      (r (roll-Term f) ∙ ap (term_form_eq (asked_term f)) (out-roll-Term f)
+          ∙ two (int_eq f.coefficient f.coefficient) (eq_atom y.atom.0 y.atom.0) ((Decides-int_eq f.coefficient f.coefficient).1 refl) y.atom.1.0),
+      (λ b h.
+          let k = both (int_eq f.coefficient (out-Term b).coefficient) (eq_atom y.atom.0 (out-Term b).atom) (sym (r b) ∙ h) in
+          (λ i. roll-Term (record { coefficient = (Decides-int_eq f.coefficient (out-Term b).coefficient).0 k.0 i; atom = y.atom.1.1 (out-Term b).atom k.1 i }))
+          ∙ roll-out-Term b),
+    )
 
 is_test : (a : Atom) → IsTest eq_atom a
 is_test = ind-Atom (IsTest eq_atom) (IsTest eq_num) (IsTest eq_term)

@@ -1,9 +1,9 @@
 -- What numbers of types are and when constraints are true, under an assignment to their variables, over
 -- unbounded integers (Sail language manual, "Numeric types" and "Type variables").
-use Rattle.std.specs.Prelude.{ℕ, zero, suc, ◌^◌, ℤ, pos, negsuc, ◌+ℤ◌, ◌*ℤ◌, ◌≤ℤ◌, int_le, int_lt, nat_lt, Bool, false, not, List, [], ◌∷◌, map, if◌then◌else◌}
+use Rattle.std.specs.Prelude.{unwrap_or, ℕ, zero, suc, ℤ, pos, ◌+ℤ◌, ◌*ℤ◌, ◌≤ℤ◌, int_le, int_lt, Bool, false, not, List, [], ◌∷◌, map}
 use Rattle.std.specs.Ordering.{int_eq}
 use Rattle.std.specs.List.{list_all, list_any}
-use Rattle.sail_types.specs.Limits.{largest}
+use Rattle.sail_types.specs.Limits.{largest, small_power}
 use Rattle.sail_types.specs.declared.numbers.Num.{Num}
 use Rattle.sail_types.specs.declared.numbers.Term.{Term}
 use Rattle.sail_types.specs.declared.numbers.Atom.{Atom}
@@ -28,18 +28,13 @@ pub record Assignment : Type 0 where
   pub bool : ℕ → Bool
   pub beyond : Num → Positive
 
--- 2 to an exponent from 0 to 126; for another one the number that is given
-abbrev pub power : ℤ → ℤ → ℤ
-power (pos n) other = if nat_lt n 127 then pos (2 ^ n) else other
-power (negsuc n) other = other
-
 abbrev pub total : List ℤ → ℤ
 total [] = pos 0
 total (z ∷ zs) = z +ℤ total zs
 
 abbrev pub atom_number : Assignment → Atom-F (Atom × ℤ) (Num × ℤ) (Term × ℤ) → ℤ
 atom_number nu (N.Variable i) = nu.int i
-atom_number nu (N.Power (t, z)) = power z (nu.beyond t).value
+atom_number nu (N.Power (t, z)) = unwrap_or (small_power z) (nu.beyond t).value
 
 abbrev pub term_number : Term-F (Atom × ℤ) (Num × ℤ) (Term × ℤ) → ℤ
 term_number term = term.coefficient *ℤ term.atom.1

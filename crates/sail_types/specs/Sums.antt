@@ -1,9 +1,9 @@
 -- Sums, products and substitutions of numbers in normal form. They are made term by term from the left; there is none where
 -- a number past the largest integer stands on the way.
-use Rattle.std.specs.Prelude.{ℕ, ◌^◌, ℤ, pos, negsuc, ◌+ℤ◌, ◌*ℤ◌, nat_eq, nat_lt, Bool, true, false, ◌&&◌, List, [], ◌∷◌, ◌++◌, slice_get, slice_set, Option, Some, None, option_map, if◌then◌else◌}
+use Rattle.std.specs.Prelude.{ℕ, ℤ, pos, negsuc, ◌+ℤ◌, ◌*ℤ◌, nat_eq, Bool, true, false, ◌&&◌, List, [], ◌∷◌, ◌++◌, slice_get, slice_set, Option, Some, None, option_map, if◌then◌else◌}
 use Rattle.std.specs.List.{position, remove}
 use Rattle.std.specs.Ordering.{int_eq}
-use Rattle.sail_types.specs.Limits.{is_small}
+use Rattle.sail_types.specs.Limits.{is_small, small_power}
 use Rattle.sail_types.specs.declared.numbers.Index.{Index}
 use Rattle.sail_types.specs.declared.numbers.Index.TheVariants as I
 use Rattle.sail_types.specs.declared.numbers.Num.{Num, out-Num, roll-Num}
@@ -107,8 +107,11 @@ plus times b a = and_then (plus_terms times (terms_of b) (terms_of a)) (λ ts. p
 abbrev pub constant : ℤ → Num
 constant z = num [] z
 
+abbrev pub of_atom : Atom → Num
+of_atom atom = num (term (pos 1) atom ∷ []) (pos 0)
+
 abbrev pub variable : ℕ → Num
-variable i = num (term (pos 1) (A.Variable i) ∷ []) (pos 0)
+variable i = of_atom (A.Variable i)
 
 abbrev pub zero_num : Num
 zero_num = constant (pos 0)
@@ -130,13 +133,13 @@ is_constant n = no_terms (terms_of n)
 abbrev pub product : Num → Num → Option Num
 product a b = if is_constant a then plus (constant_of a) b zero_num else (if is_constant b then plus (constant_of b) a zero_num else None)
 
-abbrev pub power_of : ℤ → Num → Num
-power_of (pos n) t = if nat_lt n 127 then constant (pos (2 ^ n)) else num (term (pos 1) (A.Power t) ∷ []) (pos 0)
-power_of (negsuc n) t = num (term (pos 1) (A.Power t) ∷ []) (pos 0)
+abbrev pub constant_or_atom : Num → Option ℤ → Num
+constant_or_atom t (Some z) = constant z
+constant_or_atom t None = of_atom (A.Power t)
 
 -- 2 to a number: a constant where that is one from 0 to 126, elsewhere an atom
 abbrev pub power_num : Num → Num
-power_num t = if is_constant t then power_of (constant_of t) t else num (term (pos 1) (A.Power t) ∷ []) (pos 0)
+power_num t = constant_or_atom t (if is_constant t then small_power (constant_of t) else None)
 
 -- ---- substitutions
 

@@ -14,7 +14,7 @@ mod values;
 pub use numbers::{Atom, Comparison, Con, Index, Num, Term};
 pub use rows::Row;
 pub use shapes::Shape;
-pub use sums::{copy_atom, copy_num, same_atom, same_num};
+pub use sums::{add, copy_atom, copy_num, multiply, plus, power, same_atom, same_num, subtract};
 pub use table::{Definition, Field, Form, Parameter, Types};
 pub use types::Typ;
 pub use values::Value;

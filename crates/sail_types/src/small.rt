@@ -1,5 +1,5 @@
 ghost use Rattle.std.specs.Prelude.{◌≡◌, ◌↔◌, IsTrue, ◌*ℤ◌, ◌+ℤ◌, MatchOption, false};
-ghost use Rattle.sail_types.specs.Limits.{is_small as is_small_integer};
+ghost use Rattle.sail_types.specs.Limits.{is_small as is_small_integer, small_power as small_power_of};
 
 /// The largest integer of a model.
 pub const LARGEST: u128 = 1 << 126;
@@ -44,6 +44,21 @@ pub fn small_product(a: i128, b: i128) -> Option<i128>
 {
     match a.checked_mul(b) {
         None => None,
-        Some(product) => if is_small(product) { Some(product) } else { None },
+        Some(product) => if is_small(product) {
+            Some(product)
+        } else {
+            None
+        },
+    }
+}
+
+/// 2 to an exponent from 0 to 126; none for another one.
+pub fn small_power(exponent: i128) -> Option<i128>
+    ensures { result ≡ small_power_of exponent }
+{
+    if 0 <= exponent && exponent < 127 {
+        Some(1 << exponent)
+    } else {
+        None
     }
 }

@@ -1,10 +1,12 @@
 //! Sums, products and substitutions of numbers.
-ghost use Rattle.std.specs.Prelude.{◌≡◌, ◌↔◌, ◌<◌, ◌+ℤ◌, IsTrue, IfOk, length, position};
+ghost use Rattle.sail_types.specs.Limits.{small_power as small_power_of};
+ghost use Rattle.std.specs.Prelude.{if◌then◌else◌, ◌≡◌, ◌↔◌, ◌<◌, ◌+ℤ◌, IsTrue, IfOk, length, position};
 ghost use Rattle.sail_types.specs.Sums.{eq_atom, atom_of, coefficient_at, constant as const_num, variable, placed_term, with_term, kept};
-ghost use Rattle.sail_types.specs.Sums.{plus_term as plus_term_of, plus_terms as plus_terms_of};
+ghost use Rattle.sail_types.specs.Sums.{plus_term as plus_term_of, plus_terms as plus_terms_of, plus_constant as plus_constant_of, plus as plus_of};
+ghost use Rattle.sail_types.specs.Sums.{sum, difference, product, power_num, of_atom, is_constant, constant_of};
 
 use crate::numbers::{Atom, Num, Term};
-use crate::small::{both, is_small, same_integer, small_product, small_sum};
+use crate::small::{both, is_small, same_integer, small_power, small_product, small_sum};
 use sail_base::{Boxed, Items};
 use std::alloc::{AllocError, Global};
 
@@ -19,16 +21,23 @@ impl Num {
         }
     }
 
-    /// The number that is this variable alone. It fails where memory is wanting.
-    pub fn variable(alloc: Global, number: u32) -> Result<Num, AllocError>
-        ensures { IfOk result (λ made. made ≡ variable number) }
+    /// The number that is this atom alone. It fails where memory is wanting.
+    pub fn of_atom(alloc: Global, atom: Atom) -> Result<Num, AllocError>
+        ensures { IfOk result (λ made. made ≡ of_atom atom) }
     {
         let mut terms = Items::new(alloc);
         terms.push(Term {
             coefficient: 1,
-            atom: Atom::Variable(number),
+            atom,
         })?;
         Ok(Num { terms, constant: 0 })
+    }
+
+    /// The number that is this variable alone. It fails where memory is wanting.
+    pub fn variable(alloc: Global, number: u32) -> Result<Num, AllocError>
+        ensures { IfOk result (λ made. made ≡ variable number) }
+    {
+        Num::of_atom(alloc, Atom::Variable(number))
     }
 }
 
@@ -207,4 +216,88 @@ fn plus_terms(
         }
     }
     Ok(true)
+}
+
+/// Adds a constant. There is none where it or the sum is past the largest integer.
+fn plus_constant(number: Num, constant: i128) -> Option<Num>
+    ensures { result ≡ plus_constant_of constant number }
+{
+    if !is_small(constant) {
+        return None;
+    }
+    let (terms, before) = number.into_parts();
+    match small_sum(before, constant) {
+        None => None,
+        Some(constant) => Some(Num { terms, constant }),
+    }
+}
+
+/// A number with so many times another, added term by term and then its constant; none where a number past
+/// the largest integer stands on the way. It fails where memory is wanting.
+pub fn plus(alloc: Global, times: i128, other: &Num, number: Num) -> Result<Option<Num>, AllocError>
+    ensures { IfOk result (λ made. made ≡ plus_of times other.now number) }
+{
+    let (terms, constant) = number.into_parts();
+    let mut terms = terms.into_vec();
+    if !plus_terms(alloc, times, other.terms.as_slice(), &mut terms)? {
+        return Ok(None);
+    }
+    let terms = Items::from_vec(terms);
+    match small_product(times, other.constant) {
+        None => Ok(None),
+        Some(more) => Ok(plus_constant(Num { terms, constant }, more)),
+    }
+}
+
+/// The sum of two numbers, the terms of the first one first; none where a number past the largest integer
+/// stands on the way. It fails where memory is wanting.
+pub fn add(alloc: Global, a: &Num, b: &Num) -> Result<Option<Num>, AllocError>
+    ensures { IfOk result (λ made. made ≡ sum a.now b.now) }
+{
+    plus(alloc, 1, b, copy_num(alloc, a)?)
+}
+
+/// The difference of two numbers; none where a number past the largest integer stands on the way. It fails
+/// where memory is wanting.
+pub fn subtract(alloc: Global, a: &Num, b: &Num) -> Result<Option<Num>, AllocError>
+    ensures { IfOk result (λ made. made ≡ difference a.now b.now) }
+{
+    plus(alloc, -1, b, copy_num(alloc, a)?)
+}
+
+/// The product of two numbers; none where neither is constant, and where a number past the largest integer
+/// stands on the way. It fails where memory is wanting.
+pub fn multiply(alloc: Global, a: &Num, b: &Num) -> Result<Option<Num>, AllocError>
+    ensures { IfOk result (λ made. made ≡ product a.now b.now) }
+{
+    let zero = Num::constant(alloc, 0);
+    if a.terms.is_empty() {
+        plus(alloc, a.constant, b, zero)
+    } else if b.terms.is_empty() {
+        plus(alloc, b.constant, a, zero)
+    } else {
+        Ok(None)
+    }
+}
+
+/// 2 to a number: a constant where that is one from 0 to 126, elsewhere an atom. It fails where memory is
+/// wanting.
+pub fn power(alloc: Global, exponent: Num) -> Result<Num, AllocError>
+    ensures { IfOk result (λ made. made ≡ power_num exponent) }
+{
+    match constant_power(&exponent) {
+        Some(value) => Ok(Num::constant(alloc, value)),
+        None => Num::of_atom(alloc, Atom::Power(Boxed::new(alloc, exponent)?)),
+    }
+}
+
+/// 2 to a number that is constant and from 0 to 126.
+fn constant_power(exponent: &Num) -> Option<i128>
+    ensures { result ≡ (if is_constant exponent.now then small_power_of (constant_of exponent.now) else None) }
+{
+    if exponent.terms.is_empty() {
+        small_power(exponent.constant)
+    } else {
+        None
+    }
 }
