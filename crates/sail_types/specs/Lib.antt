@@ -7,3 +7,4 @@ pub mod Belongs
 pub mod Zero
 pub mod Texts
 pub mod Sums
+pub mod Replacing

@@ -12,7 +12,7 @@ use Rattle.sail_types.specs.declared.numbers.Atom.{Atom, out-Atom}
 use Rattle.sail_types.specs.declared.numbers.Atom.TheOpen as N
 use Rattle.sail_types.specs.declared.numbers.Atom.TheVariants as A
 use Rattle.sail_types.specs.declared.numbers.Atom.TheOpen.{Atom-F, Num-F, Term-F}
-use Rattle.sail_types.specs.declared.numbers.Atom.TheFolds.{fold-Num, fold-Atom}
+use Rattle.sail_types.specs.declared.numbers.Atom.TheFolds.{fold-Num, fold-Atom, fold-Term}
 
 abbrev pub num : List Term → ℤ → Num
 num terms constant = roll-Num (record { terms = terms; constant = constant })
@@ -154,9 +154,12 @@ atom_becomes by (N.Power t) = option_map power_num t
 abbrev pub term_becomes : Term-F (Option Num) (Option Num) Became → Became
 term_becomes t = (t.coefficient, t.atom)
 
+abbrev pub plus_became : Became → Num → Option Num
+plus_became t n = and_then t.1 (λ m. plus t.0 m n)
+
 abbrev pub plus_each : List Became → Num → Option Num
 plus_each [] n = Some n
-plus_each (t ∷ ts) n = and_then (and_then t.1 (λ m. plus t.0 m n)) (plus_each ts)
+plus_each (t ∷ ts) n = and_then (plus_became t n) (plus_each ts)
 
 abbrev pub sum_becomes : Num-F (Option Num) (Option Num) Became → Option Num
 sum_becomes n = and_then (plus_each n.terms zero_num) (plus_constant n.constant)
@@ -164,6 +167,14 @@ sum_becomes n = and_then (plus_each n.terms zero_num) (plus_constant n.constant)
 -- a number with others in the place of its variables
 abbrev pub substituted : (ℕ → Num) → Num → Option Num
 substituted by = fold-Num (Option Num) (Option Num) Became (atom_becomes by) sum_becomes term_becomes
+
+-- what an atom becomes
+abbrev pub substituted_atom : (ℕ → Num) → Atom → Option Num
+substituted_atom by = fold-Atom (Option Num) (Option Num) Became (atom_becomes by) sum_becomes term_becomes
+
+-- a term with what its atom becomes
+abbrev pub became : (ℕ → Num) → Term → Became
+became by = fold-Term (Option Num) (Option Num) Became (atom_becomes by) sum_becomes term_becomes
 
 abbrev pub only_for : ℕ → Num → ℕ → Num
 only_for x n i = if nat_eq i x then n else variable i

@@ -219,7 +219,7 @@ fn plus_terms(
 }
 
 /// Adds a constant. There is none where it or the sum is past the largest integer.
-fn plus_constant(number: Num, constant: i128) -> Option<Num>
+pub fn plus_constant(number: Num, constant: i128) -> Option<Num>
     ensures { result ≡ plus_constant_of constant number }
 {
     if !is_small(constant) {
