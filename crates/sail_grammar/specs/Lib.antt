@@ -1,0 +1,9 @@
+pub mod Symbol
+pub mod RowName
+pub mod Form
+pub mod Reads
+pub mod Test
+pub mod Ends
+pub mod Shapes
+pub mod Table
+pub mod Sets
