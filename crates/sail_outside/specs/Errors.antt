@@ -1,4 +1,7 @@
--- The refusal of a whole read or write that each refusal of a single call becomes.
+-- What each error of an opening is to a shelf, and the refusal of a whole read or write that each
+-- refusal of a single call becomes.
+use Rattle.std.specs.declared.io.ErrorKind.{ErrorKind}
+use Rattle.std.specs.declared.io.ErrorKind.TheVariants as kind
 use Rattle.sail_outside.specs.declared.edge.BeginError.{BeginError}
 use Rattle.sail_outside.specs.declared.edge.BeginError.TheVariants as begin
 use Rattle.sail_outside.specs.declared.edge.PutError.{PutError}
@@ -7,6 +10,12 @@ use Rattle.sail_outside.specs.declared.errors.ReadError.{ReadError}
 use Rattle.sail_outside.specs.declared.errors.ReadError.TheVariants as read
 use Rattle.sail_outside.specs.declared.errors.WriteError.{WriteError}
 use Rattle.sail_outside.specs.declared.errors.WriteError.TheVariants as write
+
+-- what an opening that failed with an error of this kind is: missing, want of memory, else a fault
+abbrev pub opening_refusal : ErrorKind → BeginError
+opening_refusal kind.NotFound = begin.Missing
+opening_refusal kind.OutOfMemory = begin.OutOfMemory
+opening_refusal _ = begin.Failed
 
 -- what a refused `begin` makes of a whole read
 abbrev pub begin_refusal : BeginError → ReadError

@@ -1,5 +1,6 @@
 //! The real files and the real output, of whose content no contract tells: the trusted edge.
 ghost use Rattle.std.specs.Prelude.{◌≡◌};
+ghost use Rattle.sail_outside.specs.Errors.{opening_refusal};
 
 use crate::edge::{BeginError, Failed, PutError, Shelf, Sink};
 use std::fs;
@@ -45,8 +46,7 @@ impl<'a, R: Files> Shelf for StdShelf<'a, R> {
 
     ghost left_told = { λ s h. h };
 
-    /// Opens the file: std's `NotFound` is `Missing`, its `OutOfMemory` is that, and every other
-    /// error is a fault.
+    /// Opens the file; every refusal but `Missing` and `OutOfMemory` is a fault.
     fn begin(&mut self, name: &str) -> Result<(), BeginError> {
         self.begun = None;
         match fs::open(self.files, name) {
@@ -54,14 +54,13 @@ impl<'a, R: Files> Shelf for StdShelf<'a, R> {
                 self.begun = Some(file);
                 Ok(())
             }
-            Err(error) => match error.kind() {
-                ErrorKind::NotFound => Err(BeginError::Missing),
-                ErrorKind::OutOfMemory => Err(BeginError::OutOfMemory),
-                _ => {
+            Err(error) => {
+                let refusal = begin_error(error.kind());
+                if refusal == BeginError::Failed {
                     self.faults = self.faults.saturating_add(1);
-                    Err(BeginError::Failed)
                 }
-            },
+                Err(refusal)
+            }
         }
     }
 
@@ -78,6 +77,18 @@ impl<'a, R: Files> Shelf for StdShelf<'a, R> {
                 Err(Failed)
             }
         }
+    }
+}
+
+/// What an opening that fails with an error of this kind is: `NotFound` is `Missing`, `OutOfMemory` is
+/// that, and every other kind is `Failed`.
+fn begin_error(kind: ErrorKind) -> BeginError
+    ensures { result ≡ opening_refusal kind }
+{
+    match kind {
+        ErrorKind::NotFound => BeginError::Missing,
+        ErrorKind::OutOfMemory => BeginError::OutOfMemory,
+        _ => BeginError::Failed,
     }
 }
 

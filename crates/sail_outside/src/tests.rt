@@ -164,9 +164,9 @@ impl Print for Output {
 }
 
 #[test]
-fn real_files_and_output_carry_the_bytes(rt: HostRuntime) -> Result<(), Fail> {
+fn the_real_output_takes_the_bytes(rt: HostRuntime) -> Result<(), Fail> {
     let alloc = rt.alloc();
-    let name = "sail_outside_bytes.tmp";
+    let name = "sail_outside_output.tmp";
     let all = sample(alloc, 5000)?;
     let output = Output {
         file: fs::create(&rt, name)?,
@@ -182,27 +182,41 @@ fn real_files_and_output_carry_the_bytes(rt: HostRuntime) -> Result<(), Fail> {
     let mut sink = StdSink::new(&stuck);
     assert_eq!(rt; write_all(&mut sink, b"x"), Err(WriteError::Fault));
     assert_eq!(rt; sink.faults(), 1);
+    assert_eq!(rt; fs::read(&rt, name)?.as_slice(), all.as_slice());
+    fs::remove_file(&rt, name)?;
+    Ok(())
+}
 
+#[test]
+fn real_files_are_read_and_refused(rt: HostRuntime) -> Result<(), Fail> {
+    let alloc = rt.alloc();
+    let name = "sail_outside_file.tmp";
+    let all = sample(alloc, 5000)?;
+    fs::write(&rt, name, all.as_slice())?;
     let mut shelf = StdShelf::new(&rt);
     let mut buffer = [0u8; 2];
     assert_eq!(rt; shelf.take(&mut buffer), Ok(0));
-    assert_eq!(rt;
-        read_file(alloc, &mut shelf, name, 5000)?.as_slice(),
-        all.as_slice()
-    );
+    let read = read_file(alloc, &mut shelf, name, 5000)?;
+    assert_eq!(rt; read.as_slice(), all.as_slice());
     let long = read_file(alloc, &mut shelf, name, 4999);
     assert_eq!(rt; long.err(), Some(ReadError::TooLong { limit: 4999 }));
+    // a name, its refusal, the faults that are then counted
+    let refused = [
+        ("sail_outside_none.tmp", BeginError::Missing, 0),
+        ("sail_outside_file.tmp/x", BeginError::Failed, 1),
+        ("sail_outside\0.tmp", BeginError::Failed, 2),
+    ];
+    for (other, refusal, faults) in refused {
+        assert_eq!(rt; shelf.begin(name), Ok(()));
+        assert_eq!(rt; shelf.begin(other), Err(refusal), "{other}");
+        assert_eq!(rt; shelf.faults(), faults, "{other}");
+        // Nothing is left of the file begun before.
+        assert_eq!(rt; shelf.take(&mut buffer), Ok(0), "{other}");
+    }
     fs::remove_file(&rt, name)?;
-    let gone = read_file(alloc, &mut shelf, name, 5000);
-    assert_eq!(rt; gone.err(), Some(ReadError::Missing));
-    assert_eq!(rt; shelf.faults(), 0);
     // A directory is opened, and its read is at fault.
     let folder = read_file(alloc, &mut shelf, ".", 5000);
     assert_eq!(rt; folder.err(), Some(ReadError::Fault));
-    assert_eq!(rt; shelf.faults(), 1);
-
-    let mut sink = StdSink::new(&rt);
-    assert_eq!(rt; write_all(&mut sink, b"standard output\n"), Ok(()));
-    assert_eq!(rt; sink.faults(), 0);
+    assert_eq!(rt; shelf.faults(), 3);
     Ok(())
 }
