@@ -5,6 +5,7 @@
 mod numbers;
 mod rows;
 mod shapes;
+mod shaping;
 mod small;
 mod substitution;
 mod sums;
@@ -15,6 +16,10 @@ mod values;
 pub use numbers::{Atom, Comparison, Con, Index, Num, Term};
 pub use rows::Row;
 pub use shapes::Shape;
+pub use shaping::{
+    copy_shape, copy_shapes, may_share, parts_may_share, same_shape, same_shapes, shape_of,
+    shapes_of,
+};
 pub use substitution::{read_number, subst};
 pub use sums::{add, copy_atom, copy_num, multiply, plus, power, same_atom, same_num, subtract};
 pub use table::{Definition, Field, Form, Parameter, Types};

@@ -62,3 +62,10 @@ pub fn small_power(exponent: i128) -> Option<i128>
         None
     }
 }
+
+/// Whether two places in a table are the same.
+pub fn same_place(a: u32, b: u32) -> bool
+    ensures { IsTrue result ↔ (a ≡ b) }
+{
+    a == b
+}
