@@ -6,3 +6,5 @@ pub mod Complete
 pub mod Reach
 pub mod BarsFound
 pub mod Clear
+pub mod Found
+pub mod Whole

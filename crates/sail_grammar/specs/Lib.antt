@@ -7,3 +7,4 @@ pub mod Ends
 pub mod Shapes
 pub mod Table
 pub mod Sets
+pub mod Unfit
