@@ -1,5 +1,5 @@
 -- A write keeps the count of the bytes, gives the new bytes where it wrote, and the old ones elsewhere.
-use Rattle.std.proofs.Common.{◌≡◌, ℕ, ◌+◌, ◌-◌, ◌<◌, ◌≤◌, List, ◌++◌, length, take, drop, get_or, ap, ◌∙◌, arith, length-append, length-take, length-drop}
+use Rattle.std.proofs.Common.{◌≡◌, ℕ, ◌+◌, ◌-◌, ◌<◌, ◌≤◌, List, [], ◌++◌, length, take, drop, get_or, ap, sym, ◌∙◌, arith, add-zero, append-nil, append_assoc, take_at, drop_at, drop-drop, take-append-drop, length-append, length-take, length-drop}
 use Rattle.std.proofs.Math.ListN.{get_or-append}
 use Rattle.std.proofs.lemmas.List.{get_or-take, get_or-drop, get_or-append_right}
 use Rattle.mem_store.specs.Bytes.{overwritten}
@@ -25,3 +25,18 @@ pub get_or-overwritten_behind : (bytes : List ℕ) (i : ℕ) (new : List ℕ) (k
 get_or-overwritten_behind bytes i new k d h b =
     get_or-append_right (take i bytes ++ new) (drop (i + length new) bytes) (i + length new) k d (omega (arith, length-append (take i bytes) new, length-take i bytes)) b
     ∙ get_or-drop (i + length new) bytes (k - (i + length new)) d ∙ ap (λ n. get_or bytes n d) (omega arith)
+
+-- two writes, the second right behind the first, are one
+pub overwritten-more : (bytes : List ℕ) (i : ℕ) (a b : List ℕ) → i ≤ length bytes → overwritten (overwritten bytes i a) (i + length a) b ≡ overwritten bytes i (a ++ b)
+overwritten-more bytes i a b h =
+    let n : length (take i bytes ++ a) ≡ i + length a = omega (arith, length-append (take i bytes) a, length-take i bytes) in
+    let front : take (i + length a) (overwritten bytes i a) ≡ take i bytes ++ a = take_at (take i bytes ++ a) (drop (i + length a) bytes) (i + length a) n in
+    let behind : drop (i + length a) (overwritten bytes i a) ≡ drop (i + length a) bytes = drop_at (take i bytes ++ a) (drop (i + length a) bytes) (i + length a) n in
+    let rest : drop (i + length a + length b) (overwritten bytes i a) ≡ drop (i + length (a ++ b)) bytes =
+    ap (λ k. drop k (overwritten bytes i a)) (omega arith) ∙ sym (drop-drop (length b) (i + length a) (overwritten bytes i a)) ∙ ap (drop (length b)) behind
+    ∙ drop-drop (length b) (i + length a) bytes ∙ ap (λ k. drop k bytes) (omega (arith, length-append a b)) in
+    (λ j. front j ++ b ++ rest j) ∙ ap (λ xs. xs ++ drop (i + length (a ++ b)) bytes) (append_assoc (take i bytes) a b)
+
+-- a write of nothing changes nothing
+pub overwritten-none : (bytes : List ℕ) (i : ℕ) → overwritten bytes i [] ≡ bytes
+overwritten-none bytes i = rw (append-nil, add-zero) (take-append-drop i bytes)

@@ -1,0 +1,2 @@
+-- lemmas of the proofs
+pub mod Harts

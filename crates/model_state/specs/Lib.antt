@@ -1,0 +1,4 @@
+-- what contracts say of a state, of the builtins that read or write it, and of runs
+pub mod Folds
+pub mod RunState
+pub mod StateRows
