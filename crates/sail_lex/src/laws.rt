@@ -1,4 +1,3 @@
-//! Laws of the definitions: each function's contract is one, and it does nothing.
 ghost use Rattle.std.specs.Prelude.{◌≡◌, ◌<◌, ℕ, List, length};
 ghost use Rattle.sail_lex.specs.declared.token.Token.{Token as TokenType};
 ghost use Rattle.sail_lex.specs.declared.kind.TokenKind.{TokenKind};
@@ -9,7 +8,7 @@ ghost use Rattle.sail_lex.specs.Spellings.{IsLongest, IsLonger, BeginsNone};
 ghost use Rattle.sail_lex.specs.declared.token.LexError.{LexError};
 ghost use Rattle.sail_lex.specs.Tokens.{Lexes, Refuses, IsAnswered};
 
-/// A source has exactly one list of tokens, or exactly one refusal, and never both.
+/// A law: a source has exactly one list of tokens, or exactly one refusal, and never both.
 pub fn one_answer()
     ensures some { (file before : ℕ) (source : List ℕ) → IsAnswered file source 0 before }
     ensures tokens { (file before : ℕ) (source : List ℕ) (ts us : List TokenType) →
@@ -20,15 +19,15 @@ pub fn one_answer()
         Lexes file source 0 before ts → Refuses file source 0 before e → ⊥ }
 {}
 
-/// The token that a text begins with is spelled by its first bytes, and no more of them are a
+/// A law: the token that a text begins with is spelled by its first bytes, and no more of them are a
 /// spelling of any kind.
 pub fn longest_spelling()
     ensures { (text : List ℕ) (kind : TokenKind) (n : ℕ) →
         0 < length text → front text ≡ Token kind n → IsLongest text kind n }
 {}
 
-/// Where a text begins with what is passed over, that is longer than any spelling there. Where it
-/// begins with a comment, or with a byte that begins no token, no first bytes are a spelling.
+/// A law: what is passed over where a text begins is longer than any spelling there; where a comment
+/// or a byte that begins no token stands there, no first bytes are a spelling.
 pub fn no_spelling()
     ensures passed { (text : List ℕ) (n : ℕ) →
         0 < length text → front text ≡ Skip n → IsLonger text n }

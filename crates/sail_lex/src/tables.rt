@@ -1,9 +1,11 @@
-ghost use Rattle.std.specs.Prelude.{◌≡◌, ◌≤◌, ℕ, length, nat_eq, Option, map};
+ghost use Rattle.std.specs.Prelude.{◌≡◌, ◌<◌, ◌≤◌, ℕ, length, nat_eq, Option, map, true};
+ghost use Rattle.std.specs.List.{starts_with};
 ghost use Rattle.std.specs.Option.{option_map};
-ghost use Rattle.sail_lex.specs.Entries.{entry, entries};
+ghost use Rattle.sail_lex.specs.Entries.{entry, entries, none_empty};
 ghost use Rattle.sail_lex.specs.Lookup.{kind_in, kind_of_name, longest_in, longer_of};
 ghost use Rattle.sail_lex.specs.Tables.{keywords, symbols};
 
+use crate::bytes::first;
 use crate::kind::TokenKind;
 
 /// A spelling and its kind.
@@ -11,6 +13,14 @@ use crate::kind::TokenKind;
 pub struct Spelling {
     pub text: &'static [u8],
     pub kind: TokenKind,
+}
+
+/// Whether the spelling begins the text. Most are told apart by their first bytes.
+fn begins(spelling: &[u8], text: &[u8]) -> bool
+    requires { 0 < length spelling.now }
+    ensures { result ≡ starts_with nat_eq text.now spelling.now }
+{
+    first(spelling) == first(text) && text.starts_with(spelling)
 }
 
 /// The kind of a word, if it stands in the table.
@@ -25,7 +35,7 @@ fn find(table: &[Spelling], word: &[u8]) -> Option<TokenKind>
     None
 }
 
-/// The kind of a name: the wildcard, a word's, or an identifier.
+/// The kind of a name: the wildcard, a keyword's, or an identifier.
 pub fn name_kind(name: &[u8]) -> TokenKind
     ensures { result ≡ kind_of_name name.now }
 {
@@ -35,7 +45,7 @@ pub fn name_kind(name: &[u8]) -> TokenKind
     find_keyword(name).unwrap_or(TokenKind::Identifier)
 }
 
-/// The kind of a word of the language.
+/// The kind of a keyword of the language.
 #[tactic(auto, unfolding(crate::specs::Tables::keywords))]
 fn find_keyword(name: &[u8]) -> Option<TokenKind>
     ensures { result ≡ kind_in keywords name.now }
@@ -45,11 +55,12 @@ fn find_keyword(name: &[u8]) -> Option<TokenKind>
 
 /// The longest spelling of the table that begins the text.
 fn longest(table: &[Spelling], text: &[u8]) -> Option<Spelling>
+    requires { none_empty (entries table.now) ≡ true }
     ensures { option_map entry result ≡ longest_in (entries table.now) text.now }
 {
     let mut best = None;
     for spelling in table {
-        if text.starts_with(spelling.text) {
+        if begins(spelling.text, text) {
             best = longer(best, *spelling);
         }
     }
@@ -80,7 +91,7 @@ fn longer(best: Option<Spelling>, other: Spelling) -> Option<Spelling>
     }
 }
 
-/// Each word with its kind.
+/// Each keyword with its kind.
 pub static KEYWORDS: [Spelling; 67] = [
     Spelling {
         text: b"as",

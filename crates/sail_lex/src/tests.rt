@@ -272,34 +272,44 @@ fn counted(alloc: Global, source: &[u8], n: usize, before: u32) -> Option<usize>
 }
 
 #[test]
-fn a_source_of_the_largest_size(rt: HostRuntime) -> Result<(), Fail> {
+fn sources_at_the_limits_of_bytes_and_tokens(rt: HostRuntime) -> Result<(), Fail> {
     let alloc = rt.alloc();
     let cases = [
-        (b' ', 0, ""),
-        (b'x', 1_000_000, "TokenLimit 1:4194304 0"),
-        (b'!', 1_000_000, "BadByte 1:4194304 33"),
+        (b' ', 4_194_303, b' ', 0, ""),
+        (b' ', 4_194_303, b'x', 1_000_000, "TokenLimit 1:4194304 0"),
+        (b' ', 4_194_303, b'!', 1_000_000, "BadByte 1:4194304 33"),
+        (b'"', 2_000_001, b'"', 0, "TokenLimit 1:2000001 0"),
     ];
-    for (last, before, answer) in cases {
-        let source = filled(alloc, b' ', 4_194_303, last)?;
+    for (byte, n, last, before, answer) in cases {
+        let source = filled(alloc, byte, n, last)?;
         let found = shown(alloc, &source, before)?;
         assert_eq!(rt; found.as_str(), answer);
     }
+    let source = filled(alloc, b'"', 1_999_999, b'"')?;
+    assert_eq!(rt; counted(alloc, &source, 2_000_000, 0), Some(1_000_000));
+    assert_eq!(rt; counted(alloc, &source, 2_000_000, 1), None);
+    assert_eq!(rt; counted(alloc, &source, 0, 1_000_000), Some(0));
     Ok(())
 }
 
 #[test]
-fn a_million_tokens_and_one_more(rt: HostRuntime) -> Result<(), Fail> {
-    let alloc = rt.alloc();
-    let source = filled(alloc, b'"', 2_000_001, b'"')?;
-    let found = shown(alloc, &source, 0)?;
-    assert_eq!(rt; found.as_str(), "TokenLimit 1:2000001 0");
-    let cases = [
-        (2_000_000, 0, Some(1_000_000)),
-        (2_000_000, 1, None),
-        (0, 1_000_000, Some(0)),
+fn a_source_ends_one_past_its_last_byte(rt: HostRuntime) -> Result<(), Fail> {
+    let cases: [(&[u8], u32, u32); 4] = [
+        (b"", 1, 1),
+        (b"a\n", 2, 1),
+        (b"a\nbc", 2, 3),
+        (b"\n\n // \xc3\xa9", 3, 7),
     ];
-    for (n, before, count) in cases {
-        assert_eq!(rt; counted(alloc, &source, n, before), count);
+    for (source, line, column) in cases {
+        if source.len() <= 4_194_304 {
+            let found = lex(rt.alloc(), source, 3, 0).map_err(|_| "no tokens")?;
+            let end = Place {
+                file: 3,
+                line,
+                column,
+            };
+            assert_eq!(rt; found.end, end);
+        }
     }
     Ok(())
 }

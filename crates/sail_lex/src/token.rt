@@ -1,4 +1,3 @@
-//! The tokens of a source, and why it has none.
 ghost use Rattle.std.specs.Prelude.{◌≡◌, ◌≤◌, length};
 ghost use Rattle.sail_lex.specs.Valued.{text_of};
 
