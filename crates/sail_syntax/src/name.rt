@@ -57,7 +57,6 @@ impl Clone for Name {
 }
 
 /// What a literal stands for.
-#[derive(Debug)]
 pub enum Literal {
     /// A decimal, from 0 to 2^126.
     Number(i128),
