@@ -8,3 +8,5 @@ pub mod BarsFound
 pub mod Clear
 pub mod Found
 pub mod Whole
+pub mod Words
+pub mod Steps

@@ -8,3 +8,4 @@ pub mod Shapes
 pub mod Table
 pub mod Sets
 pub mod Unfit
+pub mod Parsing

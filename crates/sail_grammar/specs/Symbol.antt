@@ -26,6 +26,7 @@ code k = suc (tag_of the_type k)
 -- two symbols more: the decimal that is spelled `2`, and an identifier that is spelled as a kind
 abbrev pub two : ℕ
 two = 201
+
 abbrev pub kind_name : ℕ
 kind_name = 202
 
@@ -38,3 +39,10 @@ is_kind_name text = bytes_eq text (codes "Int") || (bytes_eq text (codes "Bool")
 -- the symbol of a token
 abbrev pub symbol : Sign → ℕ
 symbol s = if code s.kind == code Decimal && is_two s.text then two else (if code s.kind == code Identifier && is_kind_name s.text then kind_name else code s.kind)
+
+-- the symbols of identifiers, and of decimals
+abbrev pub identifiers : List ℕ
+identifiers = code Identifier ∷ kind_name ∷ []
+
+abbrev pub numbers : List ℕ
+numbers = code Decimal ∷ two ∷ []
