@@ -9,3 +9,4 @@ pub mod Table
 pub mod Sets
 pub mod Unfit
 pub mod Parsing
+pub mod Leaves
