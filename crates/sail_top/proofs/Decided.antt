@@ -1,37 +1,42 @@
 -- Every text spells a model or none, and words have an answer over every files.
-use Rattle.std.proofs.Common.{◌≡◌, ℕ, zero, suc, ◌≤◌, Bool, true, ◌&&◌, List, [], ◌∷◌, ◌++◌, length, codes, nat_le, Option, Some, None, refl, sym, ap, ◌∙◌, subst, arith, inl, inr, ◌⊎◌}
+use Rattle.std.proofs.Common.{◌≡◌, ℕ, zero, suc, ◌+◌, ◌<◌, ◌≤◌, Bool, true, ◌&&◌, List, [], ◌∷◌, ◌++◌, length, codes, map}
+use Rattle.std.proofs.Common.{nat_le, Option, Some, None, refl, sym, ap, ◌∙◌, subst, arith, inl, inr, ◌⊎◌, append_assoc}
 use Rattle.std.specs.Str.{bytes_eq}
 use Rattle.std.proofs.lemmas.Bool.{cases_Bool, both_ways, and_parts}
 use Rattle.std.proofs.lemmas.List.{append_cancel_left}
 use Rattle.std.proofs.lemmas.Slice.Eq.{bytes_eq-Decides}
-use Rattle.sail_outside.specs.Files.{Files, lookup}
-use Rattle.sail_top.specs.Answer.{Judges, AnswersLine, AnswersOver, IsAnswer, answer_for, model_refused, outside, usage, no_file, too_long, contents_of}
-use Rattle.sail_top.specs.Command.{Command, line}
-use Rattle.sail_top.specs.Grammar.{ReadsRegister, ReadsRegisters, ReadsAssignment, ReadsAssignments, IsModel, HasNoModel, is_name, width_of, literal_bits, is_well_formed, opening, closing}
+use Rattle.sail_outside.specs.Files.{Files}
+use Rattle.sail_top.specs.Answer.{Judges, AnswersFiles, AnswersEnd, AnswersLine, IsAnswer}
+use Rattle.sail_top.specs.Answer.{answer_for, model_refused, outside, usage, no_file, too_long}
+use Rattle.sail_top.specs.Command.{Command, command_of}
+use Rattle.sail_top.specs.Grammar.{ReadsRegister, ReadsAssignment, ReadsAll, IsModel, AreModel, HaveNoModel}
+use Rattle.sail_top.specs.Grammar.{is_name, width_of, literal_bits, is_well_formed, opening, closing}
 use Rattle.sail_top.specs.Image.{image_refusal}
-use Rattle.sail_top.specs.Rows.{HasNoRegister, HasNoAssignment, BeginsOtherwise, is_register_tokens, is_assignment_tokens}
+use Rattle.sail_top.specs.Reading.{Wanted, wanted_model, wanted_elf, wanted_by, Contents, contents_at}
+use Rattle.sail_top.specs.Reading.{ReadEnd, whole, absent, long, behind, reading}
+use Rattle.sail_top.specs.parts.Rows.{HasNone, HasNoModel, BeginsOtherwise, is_register_tokens, is_assignment_tokens}
 use Rattle.sail_top.specs.Spelling.{tokens}
 use Rattle.sail_top.specs.declared.model.Register.{Register}
 use Rattle.sail_top.specs.declared.model.Assignment.{Assignment}
 use Rattle.sail_top.specs.declared.model.Model.{Model}
 use Rattle.sail_top.specs.declared.status.Answer.{Answer}
-use Rattle.sail_top.proofs.Unique.{no_opening, one_model}
+use Rattle.sail_top.proofs.Unique.{Tokens, ReadsParts, no_opening, one_model}
 
 abbrev Token : Type 0
 Token = List ℕ
 
 -- a register's row stands in front, or none does
-abbrev SomeRegister : List Token → Type 0
-SomeRegister ts = (r : Register) × (rest : List Token) × ReadsRegister ts r rest
+abbrev SomeRegister : Tokens → Type 0
+SomeRegister ts = (r : Register) × (rest : Tokens) × ReadsRegister ts r rest
 
-register_of : (name w : Token) (rest : List Token) (o : Option ℕ) → width_of w ≡ o → is_name name ≡ true → (let ts = codes "register" ∷ name ∷ codes ":" ∷ codes "bits" ∷ codes "(" ∷ w ∷ codes ")" ∷ rest in SomeRegister ts ⊎ HasNoRegister ts)
+register_of : (name w : Token) (rest : Tokens) (o : Option ℕ) → width_of w ≡ o → is_name name ≡ true → (let ts = codes "register" ∷ name ∷ codes ":" ∷ codes "bits" ∷ codes "(" ∷ w ∷ codes ")" ∷ rest in SomeRegister ts ⊎ HasNone ReadsRegister ts)
 register_of name w rest None none named = inr (λ r behind p. let same : p.0 ≡ w = cc p.1 in absurd (cc (sym none ∙ ap width_of (sym same) ∙ p.3)))
 register_of name w rest (Some n) some named = inl (record { name = name; width = n }, rest, (w, refl, named, some))
 
 same_token : (a b : Token) → bytes_eq a b ≡ true → a ≡ b
 same_token a b h = (bytes_eq-Decides a b).0 h
 
-found_register : (ts : List Token) → SomeRegister ts ⊎ HasNoRegister ts
+found_register : (ts : Tokens) → SomeRegister ts ⊎ HasNone ReadsRegister ts
 found_register [] = inr (λ r rest p. cc p.1)
 found_register (a ∷ []) = inr (λ r rest p. cc p.1)
 found_register (a ∷ b ∷ []) = inr (λ r rest p. cc p.1)
@@ -47,7 +52,7 @@ found_register (a ∷ b ∷ c ∷ d ∷ e ∷ w ∷ g ∷ rest) =
           let third = and_parts (is_name b && bytes_eq c (codes ":") && bytes_eq d (codes "bits")) (bytes_eq e (codes "(")) fourth.0 in
           let second = and_parts (is_name b && bytes_eq c (codes ":")) (bytes_eq d (codes "bits")) third.0 in
           let first = and_parts (is_name b) (bytes_eq c (codes ":")) second.0 in
-          subst (λ ts. SomeRegister ts ⊎ HasNoRegister ts)
+          subst (λ ts. SomeRegister ts ⊎ HasNone ReadsRegister ts)
           (λ i. sym (same_token a (codes "register") front.0) i ∷ b ∷ sym (same_token c (codes ":") first.1) i ∷ sym (same_token d (codes "bits") second.1) i ∷ sym (same_token e (codes "(") third.1) i ∷ w ∷ sym (same_token g (codes ")") fourth.1) i ∷ rest)
           (register_of b w rest (width_of w) refl first.0)
       | inr fails ↦ inr (λ r behind p.
@@ -63,14 +68,14 @@ found_register (a ∷ b ∷ c ∷ d ∷ e ∷ w ∷ g ∷ rest) =
           both_ways (bytes_eq a (codes "register") && is_register_tokens b c d e g) fails holds)
     ]
 
-abbrev SomeAssignment : List Token → Type 0
-SomeAssignment ts = (a : Assignment) × (rest : List Token) × ReadsAssignment ts a rest
+abbrev SomeAssignment : Tokens → Type 0
+SomeAssignment ts = (a : Assignment) × (rest : Tokens) × ReadsAssignment ts a rest
 
-assignment_of : (target source w : Token) (rest : List Token) (o : Option (List Bool)) → literal_bits w ≡ o → is_name target ≡ true → is_name source ≡ true → (let ts = target ∷ codes "=" ∷ source ∷ codes "+" ∷ w ∷ codes ";" ∷ rest in SomeAssignment ts ⊎ HasNoAssignment ts)
+assignment_of : (target source w : Token) (rest : Tokens) (o : Option (List Bool)) → literal_bits w ≡ o → is_name target ≡ true → is_name source ≡ true → (let ts = target ∷ codes "=" ∷ source ∷ codes "+" ∷ w ∷ codes ";" ∷ rest in SomeAssignment ts ⊎ HasNone ReadsAssignment ts)
 assignment_of target source w rest None none t s = inr (λ a behind p. let same : p.0 ≡ w = cc p.1 in absurd (cc (sym none ∙ ap literal_bits (sym same) ∙ p.4)))
 assignment_of target source w rest (Some bits) some t s = inl (record { target = target; source = source; literal = bits }, rest, (w, refl, t, s, some))
 
-found_assignment : (ts : List Token) → SomeAssignment ts ⊎ HasNoAssignment ts
+found_assignment : (ts : Tokens) → SomeAssignment ts ⊎ HasNone ReadsAssignment ts
 found_assignment [] = inr (λ r rest p. cc p.1)
 found_assignment (a ∷ []) = inr (λ r rest p. cc p.1)
 found_assignment (a ∷ b ∷ []) = inr (λ r rest p. cc p.1)
@@ -84,7 +89,7 @@ found_assignment (a ∷ b ∷ c ∷ d ∷ w ∷ g ∷ rest) =
           let third = and_parts (is_name a && bytes_eq b (codes "=") && is_name c) (bytes_eq d (codes "+")) fourth.0 in
           let second = and_parts (is_name a && bytes_eq b (codes "=")) (is_name c) third.0 in
           let first = and_parts (is_name a) (bytes_eq b (codes "=")) second.0 in
-          subst (λ ts. SomeAssignment ts ⊎ HasNoAssignment ts)
+          subst (λ ts. SomeAssignment ts ⊎ HasNone ReadsAssignment ts)
           (λ i. a ∷ sym (same_token b (codes "=") first.1) i ∷ c ∷ sym (same_token d (codes "+") third.1) i ∷ w ∷ sym (same_token g (codes ";") fourth.1) i ∷ rest)
           (assignment_of a c w rest (literal_bits w) refl first.0 second.1)
       | inr fails ↦ inr (λ r behind p.
@@ -100,33 +105,33 @@ found_assignment (a ∷ b ∷ c ∷ d ∷ w ∷ g ∷ rest) =
           both_ways (is_assignment_tokens a b c d g) fails holds)
     ]
 
--- all registers in front, for lists of at most so many tokens
-all_registers : (n : ℕ) (ts : List Token) → length ts ≤ n → (rs : List Register) × (rest : List Token) × ReadsRegisters ts rs rest × HasNoRegister rest
-all_registers zero [] h = ([], [], refl, (λ r rest p. cc p.1))
-all_registers zero (t ∷ ts) h = absurd (omega (arith, h))
-all_registers (suc n) ts h =
-    elim (found_register ts) [
+-- a kind of row of which one is found in front, or there is none
+abbrev Finds : {A : Type 0} → (Tokens → A → Tokens → Type 0) → Type 0
+Finds {A} Reads = (input : Tokens) → ((row : A) × (rest : Tokens) × Reads input row rest) ⊎ HasNone Reads input
+
+-- then all rows in front are found, in a list of at most so many tokens
+all_rows : {A : Type 0} (Reads : Tokens → A → Tokens → Type 0) → Finds Reads → ((input : Tokens) (row : A) (rest : Tokens) → Reads input row rest → length rest < length input) → (n : ℕ) (input : Tokens) → length input ≤ n → (rows : List A) × (rest : Tokens) × ReadsAll Reads input rows rest × HasNone Reads rest
+all_rows Reads find shorter zero input h =
+    elim (find input) [
+      | inl found ↦ absurd (omega (arith, h, shorter input found.0 found.1 found.2))
+      | inr none ↦ ([], input, refl, none)
+    ]
+all_rows Reads find shorter (suc n) input h =
+    elim (find input) [
       | inl found ↦
-          let shorter : length found.1 ≤ n = omega (arith, ap length found.2.1, h) in
-          let more = all_registers n found.1 shorter in
+          let more = all_rows Reads find shorter n found.1 (omega (arith, h, shorter input found.0 found.1 found.2)) in
           (found.0 ∷ more.0, more.1, (found.1, found.2, more.2), more.3)
-      | inr none ↦ ([], ts, refl, none)
+      | inr none ↦ ([], input, refl, none)
     ]
 
-all_assignments : (n : ℕ) (ts : List Token) → length ts ≤ n → (rs : List Assignment) × (rest : List Token) × ReadsAssignments ts rs rest × HasNoAssignment rest
-all_assignments zero [] h = ([], [], refl, (λ r rest p. cc p.1))
-all_assignments zero (t ∷ ts) h = absurd (omega (arith, h))
-all_assignments (suc n) ts h =
-    elim (found_assignment ts) [
-      | inl found ↦
-          let shorter : length found.1 ≤ n = omega (arith, ap length found.2.1, h) in
-          let more = all_assignments n found.1 shorter in
-          (found.0 ∷ more.0, more.1, (found.1, found.2, more.2), more.3)
-      | inr none ↦ ([], ts, refl, none)
-    ]
+shorter_register : (input : Tokens) (r : Register) (rest : Tokens) → ReadsRegister input r rest → length rest < length input
+shorter_register input r rest p = omega (arith, ap length p.1)
+
+shorter_assignment : (input : Tokens) (a : Assignment) (rest : Tokens) → ReadsAssignment input a rest → length rest < length input
+shorter_assignment input a rest p = omega (arith, ap length p.1)
 
 -- a list begins with a front, or otherwise
-begins : (front ts : List Token) → ((rest : List Token) × (ts ≡ front ++ rest)) ⊎ BeginsOtherwise ts front
+begins : (front ts : Tokens) → ((rest : Tokens) × (ts ≡ front ++ rest)) ⊎ BeginsOtherwise ts front
 begins [] ts = inl (ts, refl)
 begins (t ∷ front) [] = inr (λ rest p. cc p)
 begins (t ∷ front) (u ∷ ts) =
@@ -139,11 +144,11 @@ begins (t ∷ front) (u ∷ ts) =
       | inr differs ↦ inr (λ rest p. let same : u ≡ t = cc p in both_ways (bytes_eq u t) differs ((bytes_eq-Decides u t).1 same))
     ]
 
-nothing : (ts : List Token) → (ts ≡ []) ⊎ (ts ≡ [] → ⊥)
+nothing : (ts : Tokens) → (ts ≡ []) ⊎ (ts ≡ [] → ⊥)
 nothing [] = inl refl
 nothing (t ∷ ts) = inr (λ p. cc p)
 
-ending : (ts : List Token) → (ts ≡ closing) ⊎ (ts ≡ closing → ⊥)
+ending : (ts : Tokens) → (ts ≡ closing) ⊎ (ts ≡ closing → ⊥)
 ending ts =
     elim (begins closing ts) [
       | inl here ↦
@@ -154,59 +159,91 @@ ending ts =
       | inr other ↦ inr (λ p. other [] p)
     ]
 
-judged_form : (text : List ℕ) (model : Model) (body : List Token) → ReadsRegisters (tokens text) model.registers (opening ++ body) → ReadsAssignments body model.assignments closing → HasNoAssignment closing → ((m : Model) × IsModel text m) ⊎ HasNoModel text
-judged_form text model body registers assignments last =
+formed : {text : List ℕ} {model : Model} → ReadsParts text model closing → ((m : Model) × IsModel text m) ⊎ HasNoModel text
+formed {text} {model} parts =
     elim (cases_Bool (is_well_formed model)) [
-      | inl formed ↦ inl (model, record { body = body; registers = registers; assignments = assignments; well_formed = formed })
-      | inr other ↦ inr (λ m p. both_ways (is_well_formed model) other (sym (ap is_well_formed (one_model text model.registers body model.assignments closing registers assignments last m p).0) ∙ p.well_formed))
+      | inl well ↦ inl (model, record { body = parts.body; registers = parts.registers; assignments = parts.assignments; well_formed = well })
+      | inr other ↦ inr (λ m p. both_ways (is_well_formed model) other (sym (ap is_well_formed (one_model parts m p).0) ∙ p.well_formed))
+    ]
+
+closed : {text : List ℕ} {model : Model} {rest : Tokens} → ReadsParts text model rest → ((m : Model) × IsModel text m) ⊎ HasNoModel text
+closed {text} {model} {rest} parts =
+    elim (ending rest) [
+      | inl end ↦
+          let whole : ReadsParts text model closing = subst (λ t. ReadsParts text model t) end parts in
+          formed whole
+      | inr unclosed ↦ inr (λ m p. unclosed (one_model parts m p).1)
     ]
 
 -- a text spells a model, or none
-decided : (text : List ℕ) → ((m : Model) × IsModel text m) ⊎ HasNoModel text
-decided text =
-    let rs = all_registers (length (tokens text)) (tokens text) (omega arith) in
+text_decided : (text : List ℕ) → ((m : Model) × IsModel text m) ⊎ HasNoModel text
+text_decided text =
+    let rs = all_rows ReadsRegister found_register shorter_register (length (tokens text)) (tokens text) (omega arith) in
     elim (begins opening rs.1) [
       | inl here ↦
-          let registers : ReadsRegisters (tokens text) rs.0 (opening ++ here.0) = subst (λ t. ReadsRegisters (tokens text) rs.0 t) here.1 rs.2 in
-          let assigned = all_assignments (length here.0) here.0 (omega arith) in
-          elim (ending assigned.1) [
-            | inl closed ↦
-                judged_form text (record { registers = rs.0; assignments = assigned.0 }) here.0 registers
-                (subst (λ t. ReadsAssignments here.0 assigned.0 t) closed assigned.2) (subst (λ t. HasNoAssignment t) closed assigned.3)
-            | inr unclosed ↦ inr (λ m p. unclosed (one_model text rs.0 here.0 assigned.0 assigned.1 registers assigned.2 assigned.3 m p).1)
-          ]
+          let registers : ReadsAll ReadsRegister (tokens text) rs.0 (opening ++ here.0) = subst (λ t. ReadsAll ReadsRegister (tokens text) rs.0 t) here.1 rs.2 in
+          let assigned = all_rows ReadsAssignment found_assignment shorter_assignment (length here.0) here.0 (omega arith) in
+          let parts : ReadsParts text (record { registers = rs.0; assignments = assigned.0 }) assigned.1 =
+          record { body = here.0; registers = registers; assignments = assigned.2; last = assigned.3 } in
+          closed parts
       | inr other ↦ inr (no_opening text rs.0 rs.1 rs.2 rs.3 other)
     ]
 
-judged : (steps : ℕ) (text image : List ℕ) → (a : Answer) × Judges steps text image a
-judged steps text image =
-    elim (decided text) [
-      | inl model ↦ (answer_for steps model.0 (image_refusal image), inr (model.0, model.1, refl))
+-- and so do texts
+decided : (texts : List (List ℕ)) → ((m : Model) × AreModel texts m) ⊎ HaveNoModel texts
+decided [] = inr (λ m p. p)
+decided (text ∷ []) = text_decided text
+decided (text ∷ other ∷ texts) = inr (λ m p. p)
+
+judged : (events : ℕ) (texts : List (List ℕ)) (image : List ℕ) → (a : Answer) × Judges events texts image a
+judged events texts image =
+    elim (decided texts) [
+      | inl model ↦ (answer_for events model.0 (image_refusal image), inr (model.0, model.1, refl))
       | inr none ↦ (model_refused outside, inl (outside, (none, refl), refl))
     ]
 
--- the answer where the first file is read whole
-with_second : (command : Command) (text : List ℕ) (second : Option (List ℕ)) → nat_le (length text) 4194304 ≡ true → (a : Answer) × AnswersOver command (Some text ∷ second ∷ []) a
-with_second command text None short = (no_file 1 command.elf, rw short refl)
-with_second command text (Some image) short =
-    elim (cases_Bool (nat_le (length image) 67108864)) [
-      | inl small ↦ let a = judged command.steps text image in (a.0, rw (short, small) a.1)
-      | inr over ↦ (too_long 1 command.elf 67108864, rw (short, over) refl)
+-- files of which one at least was read
+files_answered : (events : ℕ) (first : List ℕ) (more before : List (List ℕ)) → (a : Answer) × AnswersFiles events (before ++ first ∷ more) a
+files_answered events image [] before = let a = judged events before image in (a.0, (before, image, refl, a.1))
+files_answered events first (next ∷ more) before =
+    let rest = files_answered events next more (before ++ first ∷ []) in
+    (rest.0, subst (λ files. AnswersFiles events files rest.0) (append_assoc before (first ∷ []) (next ∷ more)) rest.1)
+
+-- the end of a reading of which one file at least was read, or one couldn't be
+abbrev IsFilled : ReadEnd → Type 0
+IsFilled (whole []) = ⊥
+IsFilled _ = Unit {0}
+
+filled_behind : (bytes : List ℕ) (end : ReadEnd) → IsFilled (behind bytes end)
+filled_behind bytes (whole rest) = tt
+filled_behind bytes (absent number name) = tt
+filled_behind bytes (long number name limit) = tt
+
+filled : (number : ℕ) (file : Wanted) (files : List Wanted) (contents : Contents) → IsFilled (reading number (file ∷ files) contents)
+filled number file files [] = tt
+filled number file files (None ∷ contents) = tt
+filled number file files (Some bytes ∷ contents) =
+    elim (cases_Bool (nat_le (length bytes) file.limit)) [
+      | inl short ↦ rw short (filled_behind bytes (reading (number + 1) files contents))
+      | inr over ↦ rw over tt
     ]
 
--- the answer over two files, each held or not, and long or not
-over_two : (command : Command) (first second : Option (List ℕ)) → (a : Answer) × AnswersOver command (first ∷ second ∷ []) a
-over_two command None second = (no_file 0 command.model, refl)
-over_two command (Some text) second =
-    elim (cases_Bool (nat_le (length text) 4194304)) [
-      | inl short ↦ with_second command text second short
-      | inr over ↦ (too_long 0 command.model 4194304, rw over refl)
-    ]
+filled_wanted : (models : List (List ℕ)) (elf : List ℕ) (contents : Contents) → IsFilled (reading 0 (map wanted_model models ++ wanted_elf elf ∷ []) contents)
+filled_wanted [] elf contents = filled 0 (wanted_elf elf) [] contents
+filled_wanted (model ∷ models) elf contents = filled 0 (wanted_model model) (map wanted_model models ++ wanted_elf elf ∷ []) contents
 
-line_answered : (l : Option Command) (files : Files) → (a : Answer) × AnswersLine l (contents_of files l) a
+end_answered : (events : ℕ) (end : ReadEnd) → IsFilled end → (a : Answer) × AnswersEnd events end a
+end_answered events (absent number name) some = (no_file number name, refl)
+end_answered events (long number name limit) some = (too_long number name limit, refl)
+end_answered events (whole []) some = absurd some
+end_answered events (whole (first ∷ more)) some = files_answered events first more []
+
+line_answered : (l : Option Command) (files : Files) → (a : Answer) × AnswersLine l (Some files) a
 line_answered None files = (usage, refl)
-line_answered (Some command) files = over_two command (lookup files command.model) (lookup files command.elf)
+line_answered (Some command) files =
+    let contents = contents_at files (wanted_by command) in
+    end_answered command.events (reading 0 (wanted_by command) contents) (filled_wanted command.models command.elf contents)
 
 -- words have an answer over all files that are told
 pub some_answer : (words : List (List ℕ)) (files : Files) → (a : Answer) × IsAnswer words (Some files) a
-some_answer words files = line_answered (line words) files
+some_answer words files = line_answered (command_of words) files

@@ -1,11 +1,13 @@
+pub mod AnswerLemmas
 pub mod Decided
 pub mod EndingLemmas
 pub mod Numbers
 pub mod ParseLemmas
 pub mod ReadingLemmas
 pub mod ReportLemmas
+pub mod RowLemmas
 pub mod RunLemmas
 pub mod SpellingLemmas
-pub mod StepCounts
-pub mod StepLemmas
+pub mod EventCounts
+pub mod EventLemmas
 pub mod Unique

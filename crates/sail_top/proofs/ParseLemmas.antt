@@ -6,9 +6,9 @@ use Rattle.std.proofs.lemmas.Str.{IsUtf8-from_ascii}
 use Rattle.std.proofs.lemmas.Bool.{and_parts, cases_Bool}
 use Rattle.std.proofs.lemmas.Bool.Decides.{nat_tests}
 use Rattle.sail_top.specs.Spelling.{is_upper, is_digit}
-use Rattle.sail_top.specs.Grammar.{is_name, width_of, ReadsRegisters}
+use Rattle.sail_top.specs.Grammar.{is_name, width_of, ReadsRegister, ReadsAll}
 use Rattle.sail_top.specs.Digits.{number, are_digits}
-use Rattle.sail_top.specs.Steps.{AreWidths}
+use Rattle.sail_top.specs.parts.Indices.{AreWidths}
 use Rattle.sail_top.specs.declared.model.Register.{Register}
 
 upper_below : (b : ℕ) → is_upper b ≡ true → b < 128
@@ -45,7 +45,7 @@ width_fits token n is =
       | inr fails ↦ absurd (none_is_some n (rw fails at is))
     ]
 
-pub widths_fit : (text : List (List ℕ)) (registers : List Register) (rest : List (List ℕ)) → ReadsRegisters text registers rest → AreWidths registers
-widths_fit text [] rest read k d h = absurd (omega arith)
-widths_fit text (r ∷ registers) rest read zero d h = width_fits read.1.0 r.width read.1.3
-widths_fit text (r ∷ registers) rest read (suc k) d h = widths_fit read.0 registers rest read.2 k d (omega arith)
+pub widths_fit : (input : List (List ℕ)) (registers : List Register) (rest : List (List ℕ)) → ReadsAll ReadsRegister input registers rest → AreWidths registers
+widths_fit input [] rest read k d h = absurd (omega arith)
+widths_fit input (r ∷ registers) rest read zero d h = width_fits read.1.0 r.width read.1.3
+widths_fit input (r ∷ registers) rest read (suc k) d h = widths_fit read.0 registers rest read.2 k d (omega arith)

@@ -6,7 +6,7 @@ use Rattle.std.proofs.Math.Seq.{drop-cons}
 use Rattle.std.proofs.lemmas.List.{drop-drop}
 use Rattle.sail_base.specs.Bits.{value_of, slice_bits}
 use Rattle.sail_top.specs.Report.{digit, digits, register_line}
-use Rattle.sail_top.specs.Steps.{names_of}
+use Rattle.sail_top.specs.parts.Indices.{names_of}
 use Rattle.sail_top.specs.declared.model.Register.{Register}
 
 -- a part of at most four bits is below sixteen
@@ -32,8 +32,8 @@ digits_more bits_each left count word some within =
     (digits_next bits_each (left - 1) count word (omega arith))
 
 -- one line more
-pub lines_more : (at : ℕ) (registers : List Register) (words : List (List Bool)) (r : Register) (w : List Bool) → at < length registers → at < length words → r ≡ get_or registers at r → w ≡ get_or words at w → flat_map register_line (zip (names_of (drop at registers)) (drop at words)) ≡ register_line (r.name, w) ++ flat_map register_line (zip (names_of (drop (at + 1) registers)) (drop (at + 1) words))
-lines_more at registers words r w h k is is' =
+pub lines_more : (at : ℕ) (registers : List Register) (values : List (List Bool)) (r : Register) (w : List Bool) → at < length registers → at < length values → r ≡ get_or registers at r → w ≡ get_or values at w → flat_map register_line (zip (names_of (drop at registers)) (drop at values)) ≡ register_line (r.name, w) ++ flat_map register_line (zip (names_of (drop (at + 1) registers)) (drop (at + 1) values))
+lines_more at registers values r w h k is is' =
     let front : drop at registers ≡ r ∷ drop (at + 1) registers = rw (add-one at) (drop-cons registers at r h ∙ ap (λ x. x ∷ drop (suc at) registers) (sym is)) in
-    let others : drop at words ≡ w ∷ drop (at + 1) words = rw (add-one at) (drop-cons words at w k ∙ ap (λ x. x ∷ drop (suc at) words) (sym is')) in
+    let others : drop at values ≡ w ∷ drop (at + 1) values = rw (add-one at) (drop-cons values at w k ∙ ap (λ x. x ∷ drop (suc at) values) (sym is')) in
     λ i. flat_map register_line (zip (names_of (front i)) (others i))

@@ -1,5 +1,6 @@
--- A run over places is the run over names.
-use Rattle.std.proofs.Common.{◌≡◌, ℕ, zero, suc, ◌<◌, Bool, true, false, not, ◌&&◌, ◌||◌, ◌==◌, nat_le, List, [], ◌∷◌, length, map, get_or, set, replicate, refl, sym, ap, ◌∙◌, subst, arith, inl, inr, one-add, length-set}
+-- A run over indices is the run over names.
+use Rattle.std.proofs.Common.{◌≡◌, ℕ, zero, suc, ◌<◌, Bool, true, false, not, ◌&&◌, ◌||◌, ◌==◌, nat_le, List, [], ◌∷◌}
+use Rattle.std.proofs.Common.{length, map, get_or, set, replicate, refl, sym, ap, ◌∙◌, subst, arith, inl, inr, one-add, length-set}
 use Rattle.std.specs.List.{All, fold, zip, list_all, list_any}
 use Rattle.std.specs.Fn.{iterate}
 use Rattle.std.specs.Str.{bytes_eq}
@@ -9,69 +10,91 @@ use Rattle.std.proofs.lemmas.Slice.Eq.{bytes_eq-Decides}
 use Rattle.sail_base.specs.Bits.{add_bits}
 use Rattle.sail_top.specs.Grammar.{has_register, are_distinct, is_typed, is_well_formed}
 use Rattle.sail_top.specs.Run.{read, written, assigned, event, run}
-use Rattle.sail_top.specs.Steps.{names_of, widths_of, place_of, step_of, steps_of, done, IsSteady}
+use Rattle.sail_top.specs.parts.Indices.{names_of, widths_of, index_of, indexed, all_indexed, assigned_at, IsTypedAt}
 use Rattle.sail_top.specs.declared.model.Register.{Register}
 use Rattle.sail_top.specs.declared.model.Assignment.{Assignment}
 use Rattle.sail_top.specs.declared.model.Model.{Model}
-use Rattle.sail_top.specs.declared.evaluate.Step.{Step}
+use Rattle.sail_top.specs.declared.evaluate.Indexed.{Indexed}
 
--- a read by name is one by place
-read-zip : (names : List (List ℕ)) (words : List (List Bool)) (name : List ℕ) → length words ≡ length names → read name (zip names words) ≡ get_or words (place_of names name) []
+-- the names of registers, and their values
+abbrev Names : Type 0
+Names = List (List ℕ)
+
+abbrev Values : Type 0
+Values = List (List Bool)
+
+-- a read by name is one by index
+read-zip : (names : Names) (values : Values) (name : List ℕ)
+    → length values ≡ length names → read name (zip names values) ≡ get_or values (index_of names name) []
 read-zip [] [] name h = refl
-read-zip [] (w ∷ words) name h = absurd (omega (arith, h))
+read-zip [] (v ∷ values) name h = absurd (omega (arith, h))
 read-zip (n ∷ names) [] name h = absurd (omega (arith, h))
-read-zip (n ∷ names) (w ∷ words) name h =
+read-zip (n ∷ names) (v ∷ values) name h =
     elim (cases_Bool (bytes_eq n name)) [
       | inl here ↦ rw here refl
-      | inr other ↦ rw (other, one-add) (read-zip names words name (omega (arith, h)))
+      | inr other ↦ rw (other, one-add) (read-zip names values name (omega (arith, h)))
     ]
 
 -- and so is a write
-written-zip : (names : List (List ℕ)) (words : List (List Bool)) (name : List ℕ) (bits : List Bool) → length words ≡ length names → written name bits (zip names words) ≡ zip names (set words (place_of names name) bits)
+written-zip : (names : Names) (values : Values) (name : List ℕ) (bits : List Bool)
+    → length values ≡ length names → written name bits (zip names values) ≡ zip names (set values (index_of names name) bits)
 written-zip [] [] name bits h = refl
-written-zip [] (w ∷ words) name bits h = absurd (omega (arith, h))
+written-zip [] (v ∷ values) name bits h = absurd (omega (arith, h))
 written-zip (n ∷ names) [] name bits h = absurd (omega (arith, h))
-written-zip (n ∷ names) (w ∷ words) name bits h =
+written-zip (n ∷ names) (v ∷ values) name bits h =
     elim (cases_Bool (bytes_eq n name)) [
       | inl here ↦ rw here refl
-      | inr other ↦ rw (other, one-add) (ap (λ s. (n, w) ∷ s) (written-zip names words name bits (omega (arith, h))))
+      | inr other ↦ rw (other, one-add) (ap (λ s. (n, v) ∷ s) (written-zip names values name bits (omega (arith, h))))
     ]
 
-assigned-zip : (names : List (List ℕ)) (words : List (List Bool)) (a : Assignment) → length words ≡ length names → assigned (zip names words) a ≡ zip names (done words (step_of names a))
-assigned-zip names words a h =
-    ap (λ b. written a.target (add_bits b a.literal) (zip names words)) (read-zip names words a.source h)
-    ∙ written-zip names words a.target (add_bits (get_or words (place_of names a.source) []) a.literal) h
+assigned-zip : (names : Names) (values : Values) (a : Assignment)
+    → length values ≡ length names → assigned (zip names values) a ≡ zip names (assigned_at values (indexed names a))
+assigned-zip names values a h =
+    ap (λ b. written a.target (add_bits b a.literal) (zip names values)) (read-zip names values a.source h)
+    ∙ written-zip names values a.target (add_bits (get_or values (index_of names a.source) []) a.literal) h
 
-length-done : (words : List (List Bool)) (s : Step) → length (done words s) ≡ length words
-length-done words s = length-set words s.target _
+length-assigned_at : (values : Values) (a : Indexed) → length (assigned_at values a) ≡ length values
+length-assigned_at values a = length-set values a.target _
 
-length-fold_done : (words : List (List Bool)) (steps : List Step) → length (fold done words steps) ≡ length words
-length-fold_done words [] = refl
-length-fold_done words (s ∷ steps) = length-fold_done (done words s) steps ∙ length-done words s
+length-fold_assigned_at : (values : Values) (all : List Indexed) → length (fold assigned_at values all) ≡ length values
+length-fold_assigned_at values [] = refl
+length-fold_assigned_at values (a ∷ all) = length-fold_assigned_at (assigned_at values a) all ∙ length-assigned_at values a
 
-event-zip : (names : List (List ℕ)) (words : List (List Bool)) (assignments : List Assignment) → length words ≡ length names → fold assigned (zip names words) assignments ≡ zip names (fold done words (steps_of names assignments))
-event-zip names words [] h = refl
-event-zip names words (a ∷ assignments) h =
-    ap (λ s. fold assigned s assignments) (assigned-zip names words a h)
-    ∙ event-zip names (done words (step_of names a)) assignments (length-done words (step_of names a) ∙ h)
+event-zip : (names : Names) (values : Values) (assignments : List Assignment)
+    → length values ≡ length names
+    → fold assigned (zip names values) assignments ≡ zip names (fold assigned_at values (all_indexed names assignments))
+event-zip names values [] h = refl
+event-zip names values (a ∷ assignments) h =
+    ap (λ s. fold assigned s assignments) (assigned-zip names values a h)
+    ∙ event-zip names (assigned_at values (indexed names a)) assignments (length-assigned_at values (indexed names a) ∙ h)
 
-run-zip : (names : List (List ℕ)) (words : List (List Bool)) (assignments : List Assignment) (n : ℕ) → length words ≡ length names → iterate (λ s. fold assigned s assignments) n (zip names words) ≡ zip names (iterate (λ ws. fold done ws (steps_of names assignments)) n words)
-run-zip names words assignments zero h = refl
-run-zip names words assignments (suc n) h =
-    ap (iterate (λ s. fold assigned s assignments) n) (event-zip names words assignments h)
-    ∙ run-zip names (fold done words (steps_of names assignments)) assignments n (length-fold_done words (steps_of names assignments) ∙ h)
+run-zip : (names : Names) (values : Values) (assignments : List Assignment) (n : ℕ)
+    → length values ≡ length names
+    → iterate (λ s. fold assigned s assignments) n (zip names values)
+    ≡ zip names (iterate (λ vs. fold assigned_at vs (all_indexed names assignments)) n values)
+run-zip names values assignments zero h = refl
+run-zip names values assignments (suc n) h =
+    let all = all_indexed names assignments in
+    ap (iterate (λ s. fold assigned s assignments) n) (event-zip names values assignments h)
+    ∙ run-zip names (fold assigned_at values all) assignments n (length-fold_assigned_at values all ∙ h)
 
--- what an event does for all its places, it does for all the names; at the beginning every register is zero
+-- at the beginning every register is zero
 initial-zip : (rs : List Register) → zip (names_of rs) (map (λ r. replicate r.width false) rs) ≡ map (λ r. (r.name, replicate r.width false)) rs
 initial-zip [] = refl
 initial-zip (r ∷ rs) = ap (λ s. (r.name, replicate r.width false) ∷ s) (initial-zip rs)
 
--- the words at places are those of the run
-pub run-places : (model : Model) (n : ℕ) (words : List (List Bool)) → words ≡ map (λ r. replicate r.width false) model.registers → zip (names_of model.registers) (iterate (λ ws. fold done ws (steps_of (names_of model.registers) model.assignments)) n words) ≡ run model n
-run-places model n words zeros =
+-- the values at indices are those of the run
+pub run-indices : (model : Model) (n : ℕ) (values : Values)
+    → values ≡ map (λ r. replicate r.width false) model.registers
+    → zip (names_of model.registers) (iterate (λ vs. fold assigned_at vs (all_indexed (names_of model.registers) model.assignments)) n values)
+    ≡ run model n
+run-indices model n values zeros =
     let names = names_of model.registers in
-    let long : length words ≡ length names = ap length zeros ∙ length-map model.registers (λ r. replicate r.width false) ∙ sym (length-map model.registers (λ r. r.name)) in
-    sym (ap (iterate (event model) n) (sym (initial-zip model.registers)) ∙ ap (λ ws. iterate (event model) n (zip names ws)) (sym zeros) ∙ run-zip names words model.assignments n long)
+    let long : length values ≡ length names =
+    ap length zeros ∙ length-map model.registers (λ r. replicate r.width false) ∙ sym (length-map model.registers (λ r. r.name)) in
+    sym (ap (iterate (event model) n) (sym (initial-zip model.registers))
+    ∙ ap (λ vs. iterate (event model) n (zip names vs)) (sym zeros)
+    ∙ run-zip names values model.assignments n long)
 
 or_parts : (x y : Bool) → (x || y) ≡ false → (x ≡ false) × (y ≡ false)
 or_parts true y h = absurd (true≢false h)
@@ -81,7 +104,8 @@ same_name : (a b c : List ℕ) → bytes_eq a c ≡ true → bytes_eq b c ≡ tr
 same_name a b c p q = (bytes_eq-Decides a b).1 ((bytes_eq-Decides a c).0 p ∙ sym ((bytes_eq-Decides b c).0 q))
 
 -- no other register has the name
-apart : (r : Register) (rs : List Register) (name : List ℕ) (w : ℕ) → list_any (λ other. bytes_eq other.name r.name) rs ≡ false → bytes_eq r.name name ≡ true → has_register rs name w ≡ true → ⊥
+apart : (r : Register) (rs : List Register) (name : List ℕ) (w : ℕ)
+    → list_any (λ other. bytes_eq other.name r.name) rs ≡ false → bytes_eq r.name name ≡ true → has_register rs name w ≡ true → ⊥
 apart r [] name w none here has = absurd (true≢false (sym has))
 apart r (q ∷ rs) name w none here has =
     let others = or_parts (bytes_eq q.name r.name) (list_any (λ other. bytes_eq other.name r.name) rs) none in
@@ -90,10 +114,12 @@ apart r (q ∷ rs) name w none here has =
       | inr more ↦ apart r rs name w others.1 here more
     ]
 
--- the place of a register's name has its width
-place_has_width : (rs : List Register) (name : List ℕ) (w : ℕ) → are_distinct rs ≡ true → has_register rs name w ≡ true → (place_of (names_of rs) name < length (widths_of rs)) × (get_or (widths_of rs) (place_of (names_of rs) name) 0 ≡ w)
-place_has_width [] name w distinct has = absurd (true≢false (sym has))
-place_has_width (r ∷ rs) name w distinct has =
+-- the index of a register's name has its width
+index_has_width : (rs : List Register) (name : List ℕ) (w : ℕ)
+    → are_distinct rs ≡ true → has_register rs name w ≡ true
+    → (index_of (names_of rs) name < length (widths_of rs)) × (get_or (widths_of rs) (index_of (names_of rs) name) 0 ≡ w)
+index_has_width [] name w distinct has = absurd (true≢false (sym has))
+index_has_width (r ∷ rs) name w distinct has =
     let parts = and_parts (not (list_any (λ other. bytes_eq other.name r.name) rs)) (are_distinct rs) distinct in
     let none = not-true (list_any (λ other. bytes_eq other.name r.name) rs) parts.0 in
     elim (cases_Bool (bytes_eq r.name name)) [
@@ -105,32 +131,38 @@ place_has_width (r ∷ rs) name w distinct has =
           ] in
           rw here (omega arith, width)
       | inr other ↦
-          let rest = place_has_width rs name w parts.1 (rw other at has) in
+          let rest = index_has_width rs name w parts.1 (rw other at has) in
           rw (other, one-add) (omega (arith, rest.0), rest.1)
     ]
 
--- the steps of typed assignments are steady
-pub steps_steady : (rs : List Register) (assignments : List Assignment) → are_distinct rs ≡ true → list_all (is_typed rs) assignments ≡ true → All (IsSteady (widths_of rs)) (steps_of (names_of rs) assignments)
-steps_steady rs [] distinct typed k d h = absurd (omega arith)
-steps_steady rs (a ∷ assignments) distinct typed zero d h =
+-- typed assignments are typed at their indices
+pub all_typed : (rs : List Register) (assignments : List Assignment)
+    → are_distinct rs ≡ true → list_all (is_typed rs) assignments ≡ true
+    → All (IsTypedAt (widths_of rs)) (all_indexed (names_of rs) assignments)
+all_typed rs [] distinct typed k d h = absurd (omega arith)
+all_typed rs (a ∷ assignments) distinct typed zero d h =
     let parts = and_parts (is_typed rs a) _ typed in
     let both = and_parts (has_register rs a.target (length a.literal)) _ parts.0 in
-    let target = place_has_width rs a.target (length a.literal) distinct both.0 in
-    let source = place_has_width rs a.source (length a.literal) distinct both.1 in
+    let target = index_has_width rs a.target (length a.literal) distinct both.0 in
+    let source = index_has_width rs a.source (length a.literal) distinct both.1 in
     record { target = target.0; source = source.0; target_width = target.1; source_width = source.1 }
-steps_steady rs (a ∷ assignments) distinct typed (suc k) d h =
-    steps_steady rs assignments distinct (and_parts (is_typed rs a) _ typed).1 k d (omega arith)
+all_typed rs (a ∷ assignments) distinct typed (suc k) d h =
+    all_typed rs assignments distinct (and_parts (is_typed rs a) _ typed).1 k d (omega arith)
 
 -- zeros are as wide as their registers
-pub widths-zeros : (rs : List Register) → map length (map (λ r. replicate r.width false) rs) ≡ widths_of rs
+widths-zeros : (rs : List Register) → map length (map (λ r. replicate r.width false) rs) ≡ widths_of rs
 widths-zeros [] = refl
 widths-zeros (r ∷ rs) = λ i. length-replicate r.width false i ∷ widths-zeros rs i
 
--- the steps of a well-formed model are steady for its zeros
-pub zeros_steady : (model : Model) (words : List (List Bool)) (steps : List Step) → is_well_formed model ≡ true → words ≡ map (λ r. replicate r.width false) model.registers → steps ≡ steps_of (names_of model.registers) model.assignments → All (IsSteady (map length words)) steps
-zeros_steady model words steps formed zeros resolved =
-    let first = and_parts (nat_le (length model.registers) 64 && nat_le (length model.assignments) 64 && are_distinct model.registers) (list_all (is_typed model.registers) model.assignments) formed in
-    let distinct = (and_parts (nat_le (length model.registers) 64 && nat_le (length model.assignments) 64) (are_distinct model.registers) first.0).1 in
-    subst (λ ss. All (IsSteady (map length words)) ss) (sym resolved)
-    (subst (λ ws. All (IsSteady ws) (steps_of (names_of model.registers) model.assignments)) (sym (ap (map length) zeros ∙ widths-zeros model.registers))
-    (steps_steady model.registers model.assignments distinct first.1))
+-- the assignments of a well-formed model are typed at their indices for its zeros
+pub zeros_typed : (model : Model) (values : Values) (all : List Indexed)
+    → is_well_formed model ≡ true → values ≡ map (λ r. replicate r.width false) model.registers
+    → all ≡ all_indexed (names_of model.registers) model.assignments → All (IsTypedAt (map length values)) all
+zeros_typed model values all formed zeros resolved =
+    let few = nat_le (length model.registers) 64 && nat_le (length model.assignments) 64 in
+    let first = and_parts (few && are_distinct model.registers) (list_all (is_typed model.registers) model.assignments) formed in
+    let distinct = (and_parts few (are_distinct model.registers) first.0).1 in
+    subst (λ them. All (IsTypedAt (map length values)) them) (sym resolved)
+    (subst (λ ws. All (IsTypedAt ws) (all_indexed (names_of model.registers) model.assignments))
+    (sym (ap (map length) zeros ∙ widths-zeros model.registers))
+    (all_typed model.registers model.assignments distinct first.1))

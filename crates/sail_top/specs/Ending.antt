@@ -1,14 +1,20 @@
--- What the clauses of the top call say of its status and of the bytes written.
+-- What the clauses of the top call say of its status, of the bytes written and of the files.
 use Rattle.std.specs.Prelude.{◌≡◌, ℕ, List, Option, Some, None}
 use Rattle.sail_outside.specs.Files.{Files}
-use Rattle.sail_outside.specs.Faults.{Rose}
 use Rattle.sail_outside.specs.Bytes.{Sent, SentPart}
-use Rattle.sail_top.specs.Answer.{IsAnswer, contents_of}
-use Rattle.sail_top.specs.Command.{line}
-use Rattle.sail_top.specs.Reading.{IsLeft}
+use Rattle.sail_top.specs.Answer.{IsAnswer}
+use Rattle.sail_top.specs.Command.{Command}
+use Rattle.sail_top.specs.Reading.{IsLeft, contents_at, wanted_by, reading}
 use Rattle.sail_top.specs.declared.status.Answer.{Answer}
 use Rattle.sail_top.specs.declared.status.Status.{Status}
 use Rattle.sail_top.specs.declared.status.Status.TheVariants as status
+
+-- a status that is answered: not one of a fault or of want of memory
+abbrev pub IsPlain : Status → Type 0
+IsPlain status.ReadFault = ⊥
+IsPlain status.WriteFault = ⊥
+IsPlain status.OutOfMemory = ⊥
+IsPlain _ = Unit {0}
 
 -- the status is that of the answer, and all the answer's bytes were written
 abbrev pub Answered : List (List ℕ) → Option Files → Status → Option (List ℕ) → Option (List ℕ) → Type 0
@@ -27,20 +33,10 @@ Completes answer status.WriteFault given now = SentPart given answer.bytes now
 Completes answer status.ReadFault given now = now ≡ given
 Completes answer ended given now = (ended ≡ answer.status) × Sent given answer.bytes now
 
--- what is left of the files, where they are told
-abbrev pub Leaves : List (List ℕ) → Option Files → Status → Option (List ℕ) → Type 0
-Leaves words None ended left = Unit {0}
-Leaves words (Some files) ended left = IsLeft (contents_of files (line words)) ended left
-
--- the end of writing an answer: all was written and the status is the answer's, or a front was
-pub data Finished (answer : Answer) : Status → Option (List ℕ) → Option (List ℕ) → ℕ → ℕ → Type 0 where
-  all : {given now : Option (List ℕ)} {before after : ℕ} → Sent given answer.bytes now → Finished answer answer.status given now before after
-  fault : {given now : Option (List ℕ)} {before after : ℕ} → SentPart given answer.bytes now → Rose before after → Finished answer status.WriteFault given now before after
-  wanting : {given now : Option (List ℕ)} {before after : ℕ} → SentPart given answer.bytes now → Finished answer status.OutOfMemory given now before after
-
--- a status that is answered: not one of a fault or of want of memory
-abbrev pub IsPlain : Status → Type 0
-IsPlain status.ReadFault = ⊥
-IsPlain status.WriteFault = ⊥
-IsPlain status.OutOfMemory = ⊥
-IsPlain _ = Unit {0}
+-- what is left of the files of a command, where they are told and were read
+abbrev pub Leaves : Option Command → Option Files → Option (List ℕ) → Type 0
+Leaves None held left = Unit {0}
+Leaves (Some command) None left = Unit {0}
+Leaves (Some command) (Some files) left =
+    let wanted = wanted_by command in
+    IsLeft (contents_at files wanted) (reading 0 wanted (contents_at files wanted)) left

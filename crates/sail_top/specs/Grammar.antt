@@ -39,32 +39,26 @@ literal_bits (zero_digit ∷ mark ∷ digits) =
     else None
 literal_bits _ = None
 
--- `register NAME : bits ( WIDTH )`, and then the rest
+-- `register NAME : bits ( WIDTH )` stands in front of the tokens, and then the rest
 abbrev pub ReadsRegister : List (List ℕ) → Register → List (List ℕ) → Type 0
-ReadsRegister text register rest =
+ReadsRegister input register rest =
     (width : List ℕ)
-    × (text ≡ codes "register" ∷ register.name ∷ codes ":" ∷ codes "bits" ∷ codes "(" ∷ width ∷ codes ")" ∷ rest)
+    × (input ≡ codes "register" ∷ register.name ∷ codes ":" ∷ codes "bits" ∷ codes "(" ∷ width ∷ codes ")" ∷ rest)
     × IsTrue (is_name register.name) × (width_of width ≡ Some register.width)
 
--- `TARGET = SOURCE + LITERAL ;`, and then the rest
+-- `TARGET = SOURCE + LITERAL ;` stands in front of the tokens, and then the rest
 abbrev pub ReadsAssignment : List (List ℕ) → Assignment → List (List ℕ) → Type 0
-ReadsAssignment text assignment rest =
+ReadsAssignment input assignment rest =
     (literal : List ℕ)
-    × (text ≡ assignment.target ∷ codes "=" ∷ assignment.source ∷ codes "+" ∷ literal ∷ codes ";" ∷ rest)
+    × (input ≡ assignment.target ∷ codes "=" ∷ assignment.source ∷ codes "+" ∷ literal ∷ codes ";" ∷ rest)
     × IsTrue (is_name assignment.target) × IsTrue (is_name assignment.source)
     × (literal_bits literal ≡ Some assignment.literal)
 
--- registers one after another, and then the rest
-abbrev pub ReadsRegisters : List (List ℕ) → List Register → List (List ℕ) → Type 0
-ReadsRegisters text [] rest = text ≡ rest
-ReadsRegisters text (register ∷ registers) rest =
-    (behind : List (List ℕ)) × ReadsRegister text register behind × ReadsRegisters behind registers rest
-
--- assignments one after another, and then the rest
-abbrev pub ReadsAssignments : List (List ℕ) → List Assignment → List (List ℕ) → Type 0
-ReadsAssignments text [] rest = text ≡ rest
-ReadsAssignments text (assignment ∷ assignments) rest =
-    (behind : List (List ℕ)) × ReadsAssignment text assignment behind × ReadsAssignments behind assignments rest
+-- rows of one kind stand in front one after another, and then the rest
+abbrev pub ReadsAll : {A : Type 0} → (List (List ℕ) → A → List (List ℕ) → Type 0) → List (List ℕ) → List A → List (List ℕ) → Type 0
+ReadsAll Reads input [] rest = input ≡ rest
+ReadsAll Reads input (row ∷ rows) rest =
+    (behind : List (List ℕ)) × Reads input row behind × ReadsAll Reads behind rows rest
 
 -- what stands between the registers and the assignments
 abbrev pub opening : List (List ℕ)
@@ -98,17 +92,18 @@ is_well_formed model =
     nat_le (length model.registers) 64 && nat_le (length model.assignments) 64
     && are_distinct model.registers && list_all (is_typed model.registers) model.assignments
 
--- the text spells the model
+-- the text spells the model: its registers, what stands behind them, its assignments, and the end of `step`
 pub record IsModel (text : List ℕ) (model : Model) : Type 0 where
   pub body : List (List ℕ)
-  pub registers : ReadsRegisters (tokens text) model.registers (opening ++ body)
-  pub assignments : ReadsAssignments body model.assignments closing
+  pub registers : ReadsAll ReadsRegister (tokens text) model.registers (opening ++ body)
+  pub assignments : ReadsAll ReadsAssignment body model.assignments closing
   pub well_formed : IsTrue (is_well_formed model)
 
--- the text spells no other model
-abbrev pub IsOnlyModel : List ℕ → Model → Type 0
-IsOnlyModel text model = (other : Model) → IsModel text other → other ≡ model
+-- texts spell a model where there is one, and it spells it
+abbrev pub AreModel : List (List ℕ) → Model → Type 0
+AreModel (text ∷ []) model = IsModel text model
+AreModel _ model = ⊥
 
--- the text spells no model
-abbrev pub HasNoModel : List ℕ → Type 0
-HasNoModel text = (model : Model) → IsModel text model → ⊥
+-- texts spell no model
+abbrev pub HaveNoModel : List (List ℕ) → Type 0
+HaveNoModel texts = (model : Model) → AreModel texts model → ⊥

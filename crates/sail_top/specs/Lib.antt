@@ -1,3 +1,4 @@
+-- what a reader of the crate's promises believes
 pub mod Answer
 pub mod Command
 pub mod Digits
@@ -5,12 +6,12 @@ pub mod Ending
 pub mod Exit
 pub mod Grammar
 pub mod Image
-pub mod Laws
 pub mod Lines
 pub mod Reading
 pub mod Report
-pub mod Rows
 pub mod Run
 pub mod Spelling
-pub mod Steps
-pub mod Words
+-- what follows from it
+pub mod laws
+-- what the contracts of private functions say
+pub mod parts

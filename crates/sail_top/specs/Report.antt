@@ -27,6 +27,6 @@ register_line register = register.0 ++ (codes " = " ++ (bits_text register.1 ++ 
 
 -- the report: the cause of the stop, the counts of events and of console bytes, and the one hart's registers
 abbrev pub report : ℕ → State → List ℕ
-report steps state =
-    codes "== report\nstop steps-done\nsteps " ++ decimal steps ++ codes "\nconsole 0\nhart 0\n"
+report events state =
+    codes "== report\nstop steps-done\nsteps " ++ decimal events ++ codes "\nconsole 0\nhart 0\n"
     ++ flat_map register_line state ++ codes "== end\n"

@@ -37,4 +37,4 @@ event model state = fold assigned state model.assignments
 
 -- the state after that many events
 abbrev pub run : Model → ℕ → State
-run model steps = iterate (event model) steps (initial model)
+run model events = iterate (event model) events (initial model)

@@ -1,9 +1,9 @@
-ghost use Rattle.std.specs.Prelude.{◌≡◌, MatchOption, map, None, Some};
+ghost use Rattle.std.specs.Prelude.{◌≡◌, IfSome, length, map};
 ghost use Rattle.std.specs.String.{string_bytes};
 ghost use Rattle.std.specs.Option.{option_map};
 ghost use Rattle.sail_top.specs.Command as spec;
-ghost use Rattle.sail_top.specs.Command.{line, step_count, command_of};
-ghost use Rattle.sail_top.specs.Words.{as_command};
+ghost use Rattle.sail_top.specs.Command.{command_of, event_count, command_with};
+ghost use Rattle.sail_top.specs.parts.Borrowed.{as_command};
 
 use crate::digits::is_spelled_in;
 
@@ -13,14 +13,14 @@ pub struct Command<'a> {
     /// The name of the program's file.
     pub elf: &'a str,
     /// How many events are run.
-    pub steps: u32,
-    /// The name of the model's file.
-    pub model: &'a str,
+    pub events: u32,
+    /// The names of the models' files, in their order.
+    pub models: &'a [String],
 }
 
 /// Reads a number of events: one or more decimal digits that spell at most 4,294,967,295.
-fn step_number(word: &str) -> Option<u32>
-    ensures { result ≡ step_count word.now }
+fn event_number(word: &str) -> Option<u32>
+    ensures { result ≡ event_count word.now }
 {
     if is_spelled_in(10, word.as_bytes()) {
         word.parse::<u32>().ok()
@@ -32,12 +32,13 @@ fn step_number(word: &str) -> Option<u32>
 /// Reads the words of a command, `run --elf FILE [--steps N] MODEL` in this order; `None` where
 /// they are anything else.
 pub fn read_command<'a>(words: &'a [String]) -> Option<Command<'a>>
-    ensures { option_map as_command result ≡ line (map string_bytes words.now) }
+    ensures command { option_map as_command result ≡ command_of (map string_bytes words.now) }
+    ensures one_model { IfSome result (λ command. length command.models.now ≡ 1) }
 {
     match words {
         [run, elf_option, elf, model] => {
             if run.as_str() == "run" && elf_option.as_str() == "--elf" {
-                named(elf.as_str(), Some(1000), model.as_str())
+                command_with(elf.as_str(), Some(1000), model)
             } else {
                 None
             }
@@ -47,7 +48,7 @@ pub fn read_command<'a>(words: &'a [String]) -> Option<Command<'a>>
                 && elf_option.as_str() == "--elf"
                 && steps_option.as_str() == "--steps"
             {
-                named(elf.as_str(), step_number(steps.as_str()), model.as_str())
+                command_with(elf.as_str(), event_number(steps.as_str()), model)
             } else {
                 None
             }
@@ -57,12 +58,18 @@ pub fn read_command<'a>(words: &'a [String]) -> Option<Command<'a>>
 }
 
 /// The command of two names, for this number of events if it is one.
-fn named<'a>(elf: &'a str, steps: Option<u32>, model: &'a str) -> Option<Command<'a>>
-    ensures { option_map as_command result ≡ command_of elf.now steps model.now }
+fn command_with<'a>(elf: &'a str, events: Option<u32>, model: &'a String) -> Option<Command<'a>>
+    ensures command { option_map as_command result ≡ spec.command_with elf.now events (string_bytes model.now) }
+    ensures one_model { IfSome result (λ command. length command.models.now ≡ 1) }
 {
-    let steps = steps?;
-    if is_file_name(elf) && is_file_name(model) {
-        Some(Command { elf, steps, model })
+    let events = events?;
+    if is_file_name(elf) && is_file_name(model.as_str()) {
+        let models = std::slice::from_ref(model);
+        Some(Command {
+            elf,
+            events,
+            models,
+        })
     } else {
         None
     }

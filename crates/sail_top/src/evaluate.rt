@@ -2,107 +2,108 @@ ghost use Rattle.std.specs.Prelude.{◌≡◌, true, false, length, map, replica
 ghost use Rattle.std.specs.List.{All, fold, zip};
 ghost use Rattle.std.specs.Fn.{iterate};
 ghost use Rattle.sail_top.specs.Run as spec;
-ghost use Rattle.sail_top.specs.Steps.{place_of, steps_of, done, IsSteady, AreWidths, names_of};
+ghost use Rattle.sail_top.specs.parts.Indices as indices;
+ghost use Rattle.sail_top.specs.parts.Indices.{all_indexed, assigned_at, IsTypedAt, AreWidths, names_of};
 ghost use Rattle.sail_top.specs.Grammar as grammar;
 
 use crate::model::{Assignment, Model, Register};
 use sail_base::Word;
 use std::alloc::{AllocError, Global};
 
-/// An assignment whose registers are found: their places in the list of registers.
+/// An assignment whose registers are found: their indices in the list of registers.
 #[derive(Clone, Copy)]
-pub struct Step {
+pub struct Indexed {
     pub target: usize,
     pub source: usize,
     pub literal: Word,
 }
 
 /// Does the assignments in order.
-fn event(words: &mut [Word], steps: &[Step])
-    requires { All (IsSteady (map length words.old)) steps.now }
-    ensures words { words.new ≡ fold done words.old steps.now }
-    ensures widths { map length words.new ≡ map length words.old }
+fn event(values: &mut [Word], assignments: &[Indexed])
+    requires { All (IsTypedAt (map length values.old)) assignments.now }
+    ensures values { values.new ≡ fold assigned_at values.old assignments.now }
+    ensures widths { map length values.new ≡ map length values.old }
 {
-    for step in steps {
-        words[step.target] = words[step.source].add(step.literal);
+    for assignment in assignments {
+        values[assignment.target] = values[assignment.source].add(assignment.literal);
     }
 }
 
 /// Does that many events.
-fn events(words: &mut [Word], steps: &[Step], count: u32)
-    requires { All (IsSteady (map length words.old)) steps.now }
-    ensures { words.new ≡ iterate (λ ws. fold done ws steps.now) count words.old }
+fn events(values: &mut [Word], assignments: &[Indexed], count: u32)
+    requires { All (IsTypedAt (map length values.old)) assignments.now }
+    ensures { values.new ≡ iterate (λ vs. fold assigned_at vs assignments.now) count values.old }
 {
     for _ in 0..count {
-        event(words, steps);
+        event(values, assignments);
     }
 }
 
-/// The words after that many events.
-fn after_events(mut words: Vec<Word>, steps: &[Step], count: u32) -> Vec<Word>
-    requires { All (IsSteady (map length words.items)) steps.now }
-    ensures words { result.items ≡ iterate (λ ws. fold done ws steps.now) count words.items }
-    ensures count { length result.items ≡ length words.items }
+/// The values after that many events.
+fn after_events(mut values: Vec<Word>, assignments: &[Indexed], count: u32) -> Vec<Word>
+    requires { All (IsTypedAt (map length values.items)) assignments.now }
+    ensures values { result.items ≡ iterate (λ vs. fold assigned_at vs assignments.now) count values.items }
+    ensures count { length result.items ≡ length values.items }
 {
-    events(words.as_mut_slice(), steps, count);
-    words
+    events(values.as_mut_slice(), assignments, count);
+    values
 }
 
-/// The words of a model's registers, in text order, after that many events. It takes no memory for an
+/// The values of a model's registers, in text order, after that many events. It takes no memory for an
 /// event.
 pub fn evaluate(alloc: Global, model: &Model, count: u32) -> Result<Vec<Word>, AllocError>
     requires widths { AreWidths model.now.registers }
     requires well_formed { grammar.is_well_formed model.now ≡ true }
-    ensures words { IfOk result (λ words. zip (names_of model.now.registers) words.items ≡ spec.run model.now count) }
-    ensures count { IfOk result (λ words. length words.items ≡ length model.now.registers) }
+    ensures values { IfOk result (λ values. zip (names_of model.now.registers) values.items ≡ spec.run model.now count) }
+    ensures count { IfOk result (λ values. length values.items ≡ length model.now.registers) }
 {
     let registers = model.registers.as_slice();
-    let words = zeros(alloc, registers)?;
-    let steps = resolve(alloc, registers, model.assignments.as_slice())?;
-    Ok(after_events(words, steps.as_slice(), count))
+    let values = zeros(alloc, registers)?;
+    let assignments = resolve(alloc, registers, model.assignments.as_slice())?;
+    Ok(after_events(values, assignments.as_slice(), count))
 }
 
 /// A word of zeros for each register.
 fn zeros(alloc: Global, registers: &[Register]) -> Result<Vec<Word>, AllocError>
     requires { AreWidths registers.now }
-    ensures { IfOk result (λ words. words.items ≡ map (λ register. replicate register.width false) registers.now) }
+    ensures { IfOk result (λ values. values.items ≡ map (λ register. replicate register.width false) registers.now) }
 {
-    let mut words = Vec::new(alloc);
+    let mut values = Vec::new(alloc);
     for register in registers {
-        words.push(Word::zeros(register.width))?;
+        values.push(Word::zeros(register.width))?;
     }
-    Ok(words)
+    Ok(values)
 }
 
-/// The assignments with the places of their registers.
+/// The assignments with the indices of their registers.
 fn resolve(
     alloc: Global,
     registers: &[Register],
     assignments: &[Assignment],
-) -> Result<Vec<Step>, AllocError>
-    ensures { IfOk result (λ steps. steps.items ≡ steps_of (names_of registers.now) assignments.now) }
+) -> Result<Vec<Indexed>, AllocError>
+    ensures { IfOk result (λ all. all.items ≡ all_indexed (names_of registers.now) assignments.now) }
 {
-    let mut steps = Vec::new(alloc);
+    let mut all = Vec::new(alloc);
     for assignment in assignments {
-        steps.push(Step {
-            target: place(registers, assignment.target.as_bytes()),
-            source: place(registers, assignment.source.as_bytes()),
+        all.push(Indexed {
+            target: index_of(registers, assignment.target.as_bytes()),
+            source: index_of(registers, assignment.source.as_bytes()),
             literal: assignment.literal,
         })?;
     }
-    Ok(steps)
+    Ok(all)
 }
 
-/// The place of the register of this name, or the count of the registers where there is none.
-fn place(registers: &[Register], name: &[u8]) -> usize
-    ensures { result ≡ place_of (names_of registers.now) name.now }
+/// The index of the register of this name, or the count of the registers where there is none.
+fn index_of(registers: &[Register], name: &[u8]) -> usize
+    ensures { result ≡ indices.index_of (names_of registers.now) name.now }
 {
-    let mut place = 0;
+    let mut index = 0;
     for register in registers {
         if register.name.as_bytes() == name {
-            return place;
+            return index;
         }
-        place += 1;
+        index += 1;
     }
-    place
+    index
 }

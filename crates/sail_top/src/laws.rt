@@ -1,12 +1,12 @@
-ghost use Rattle.sail_top.specs.Laws.{SpellsOneModel, HasAnswer, HasNoOtherAnswer};
+ghost use Rattle.sail_top.specs.laws.OneAnswer.{SpellOneModel, HaveAnswer, HaveNoOtherAnswer};
 
-/// A law: a text spells at most one model.
-pub fn text_spells_one_model()
-    ensures { SpellsOneModel }
+/// A law: texts spell at most one model.
+pub fn texts_spell_one_model()
+    ensures { SpellOneModel }
 {}
 
 /// A law: words have exactly one answer over files that are told.
 pub fn words_have_one_answer()
-    ensures some { HasAnswer }
-    ensures no_other { HasNoOtherAnswer }
+    ensures some { HaveAnswer }
+    ensures no_other { HaveNoOtherAnswer }
 {}

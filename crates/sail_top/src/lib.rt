@@ -1,10 +1,10 @@
 //! The top call of `sail-run`: what the program answers to its words, with its files on any shelf and
 //! its output to any sink.
 //!
-//! [`run_words`] reads the words, reads the files, judges the model and the image, runs the model and
+//! [`run_words`] reads the words, reads the files, judges the models and the image, runs the model and
 //! writes the report or the line of the refusal. Its contract speaks of the definitions in `specs/`:
-//! the command line, the grammar of the model's text, the image, the run, the report, and the answer
-//! that joins them.
+//! the command line, the files in the order of reading, the grammar of a model's text, the image, the
+//! run, the report, and the answer that joins them.
 #![tactic(auto)]
 
 mod answer;
@@ -27,7 +27,7 @@ mod status;
 mod tests;
 mod top;
 
-pub use laws::{text_spells_one_model, words_have_one_answer};
+pub use laws::{texts_spell_one_model, words_have_one_answer};
 pub use sail_base::{ElfRefusal, Refusal};
 pub use status::Status;
 pub use top::run_words;

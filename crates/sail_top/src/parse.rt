@@ -1,13 +1,14 @@
-ghost use Rattle.std.specs.Prelude.{◌≡◌, ◌≢◌, ◌++◌, ◌≤◌, List, ℕ, None, Ok, true, length, IsTrue, ◌↔◌, MatchOption, IfSome, IfOk, OnOk};
+ghost use Rattle.std.specs.Prelude.{◌≡◌, ◌++◌, None, Ok, IsTrue, ◌↔◌, MatchOption, IfSome, IfOk};
 ghost use Rattle.sail_top.specs.Spelling.{tokens};
-ghost use Rattle.sail_top.specs.Grammar.{ReadsRegisters, ReadsAssignments, IsModel, IsOnlyModel, HasNoModel, closing, is_name};
-ghost use Rattle.sail_top.specs.Rows.{HasNoRegister, HasNoAssignment, BeginsOtherwise};
+ghost use Rattle.sail_top.specs.Grammar.{IsModel, AreModel, HaveNoModel, closing};
+ghost use Rattle.sail_top.specs.parts.Indices.{AreWidths};
+ghost use Rattle.sail_top.specs.parts.Rows.{BeginsOtherwise, HasNoModel};
 
 use crate::conditions::is_well_formed;
-use crate::model::{Assignment, Model, Register};
-use crate::rows::{assignment_row, register_row};
+use crate::model::Model;
+use crate::rows::read_rows;
 use crate::spelling::next_token;
-use sail_base::{Items, Text};
+use sail_base::Items;
 use std::alloc::{AllocError, Global};
 
 // What stands between the registers and the assignments.
@@ -31,57 +32,6 @@ fn after_tokens<'a>(text: &'a [u8], wanted: &[u8]) -> Option<&'a [u8]>
     Some(rest)
 }
 
-/// Reads registers as long as there are more, and leaves the text behind them.
-fn read_registers(alloc: Global, text: &mut &[u8]) -> Result<Items<Register>, AllocError>
-    ensures read { IfOk result (λ registers. ReadsRegisters (tokens text.old.now) registers (tokens text.new.now)) }
-    ensures last { OnOk result (HasNoRegister (tokens text.new.now)) }
-{
-    let mut registers = Items::new(alloc);
-    let mut rest = *text;
-    while let Some(row) = register_row(rest) {
-        let name = name_text(alloc, row.name)?;
-        registers.push(Register {
-            name,
-            width: row.width,
-        })?;
-        rest = row.rest;
-    }
-    *text = rest;
-    Ok(registers)
-}
-
-/// A name as a text.
-fn name_text(alloc: Global, name: &[u8]) -> Result<Text, AllocError>
-    requires { is_name name.now ≡ true }
-    ensures { IfOk result (λ text. text ≡ name.now) }
-{
-    match std::str::from_utf8(name) {
-        Ok(name) => Text::new(alloc, name),
-        Err(_) => unreachable!(),
-    }
-}
-
-/// Reads assignments as long as there are more, and leaves the text behind them.
-fn read_assignments(alloc: Global, text: &mut &[u8]) -> Result<Items<Assignment>, AllocError>
-    ensures read { IfOk result (λ assignments. ReadsAssignments (tokens text.old.now) assignments (tokens text.new.now)) }
-    ensures last { OnOk result (HasNoAssignment (tokens text.new.now)) }
-{
-    let mut assignments = Items::new(alloc);
-    let mut rest = *text;
-    while let Some(row) = assignment_row(rest) {
-        let target = name_text(alloc, row.target)?;
-        let source = name_text(alloc, row.source)?;
-        assignments.push(Assignment {
-            target,
-            source,
-            literal: row.literal,
-        })?;
-        rest = row.rest;
-    }
-    *text = rest;
-    Ok(assignments)
-}
-
 /// Whether nothing but the end of `step` is left.
 fn is_closing(text: &[u8]) -> bool
     ensures { IsTrue result ↔ (tokens text.now ≡ closing) }
@@ -92,18 +42,30 @@ fn is_closing(text: &[u8]) -> bool
     }
 }
 
-/// Reads a model; `None` where the text spells none.
-pub fn read_model(alloc: Global, text: &[u8]) -> Result<Option<Model>, AllocError>
+/// Reads the model of texts; `None` where they spell none.
+pub fn read_models(alloc: Global, texts: &[Items<u8>]) -> Result<Option<Model>, AllocError>
+    ensures read { IfOk result (λ found. IfSome found (AreModel texts.now)) }
+    ensures widths { IfOk result (λ found. IfSome found (λ model. AreWidths model.registers)) }
+    ensures none { result ≡ Ok None → HaveNoModel texts.now }
+{
+    match texts {
+        [text] => read_model(alloc, text.as_slice()),
+        _ => Ok(None),
+    }
+}
+
+/// Reads the model of a text; `None` where it spells none.
+fn read_model(alloc: Global, text: &[u8]) -> Result<Option<Model>, AllocError>
     ensures read { IfOk result (λ found. IfSome found (IsModel text.now)) }
-    ensures only { IfOk result (λ found. IfSome found (IsOnlyModel text.now)) }
+    ensures widths { IfOk result (λ found. IfSome found (λ model. AreWidths model.registers)) }
     ensures none { result ≡ Ok None → HasNoModel text.now }
 {
     let mut rest = text;
-    let registers = read_registers(alloc, &mut rest)?;
+    let registers = read_rows(alloc, &mut rest)?;
     let Some(mut rest) = after_tokens(rest, OPENING) else {
         return Ok(None);
     };
-    let assignments = read_assignments(alloc, &mut rest)?;
+    let assignments = read_rows(alloc, &mut rest)?;
     if !is_closing(rest) {
         return Ok(None);
     }

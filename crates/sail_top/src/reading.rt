@@ -1,13 +1,10 @@
-ghost use Rattle.std.specs.Prelude.{◌≡◌, ℕ, Some, IfOk, Err, Ok};
-ghost use Rattle.sail_outside.specs.Faults.{Rose};
-ghost use Rattle.sail_top.specs.Answer as spec;
-ghost use Rattle.sail_top.specs.Reading.{AnswersCommand, LeavesCommand};
-ghost use Rattle.sail_top.specs.Words.{as_command};
+ghost use Rattle.std.specs.Prelude.{◌≡◌, ◌<◌, ◌≤◌, length, map, IfOk, IfErr};
+ghost use Rattle.sail_top.specs.Reading as spec;
+ghost use Rattle.sail_top.specs.Reading.{whole};
+ghost use Rattle.sail_top.specs.parts.Borrowed.{as_command, as_wanted};
+ghost use Rattle.sail_top.specs.parts.Unread.{Ends, StopsAt};
 
-use crate::answer::judge;
 use crate::command::Command;
-use crate::lines::named_line;
-use crate::status::{Answer, Status};
 use sail_base::Items;
 use sail_outside::{ReadError, Shelf, read_file};
 use std::alloc::{AllocError, Global};
@@ -18,72 +15,78 @@ const MODEL_LIMIT: u64 = 4_194_304;
 // How many bytes the program's file may have.
 const ELF_LIMIT: u64 = 67_108_864;
 
-/// Why there is no answer.
-#[derive(Clone, Copy, Debug, PartialEq, Eq)]
-pub enum Unanswered {
-    /// The shelf was at fault; its count of faults rose.
-    Fault,
-    /// Memory was wanting.
-    OutOfMemory,
+/// A file that is wanted.
+#[derive(Clone, Copy)]
+pub struct Wanted<'a> {
+    pub name: &'a str,
+    /// How many bytes it may have.
+    pub limit: u64,
 }
 
-impl From<AllocError> for Unanswered {
-    ghost use Rattle.std.specs.Prelude.{◌≡◌};
-    ghost use Rattle.sail_top.specs.declared.reading.Unanswered.{Unanswered};
+/// Why files were not all read.
+#[derive(Clone, Copy)]
+pub struct Unread<'a> {
+    /// The number of the first file that was not read, counted from 0 in the order of reading.
+    pub file: u32,
+    /// Its name.
+    pub name: &'a str,
+    /// Why it was not read.
+    pub error: ReadError,
+}
 
-    ghost from_gives = { λ e r. r ≡ Unanswered.OutOfMemory };
-
-    fn from(_: AllocError) -> Unanswered {
-        Unanswered::OutOfMemory
+/// The files of a command in the order of reading: the models in the order of the words, then the
+/// program.
+pub fn wanted_by<'a>(alloc: Global, command: &Command<'a>) -> Result<Vec<Wanted<'a>>, AllocError>
+    ensures { IfOk result (λ files. map as_wanted files.items ≡ spec.wanted_by (as_command command.now)) }
+{
+    let mut files = Vec::new(alloc);
+    for name in command.models {
+        files.push(Wanted {
+            name: name.as_str(),
+            limit: MODEL_LIMIT,
+        })?;
     }
+    files.push(Wanted {
+        name: command.elf,
+        limit: ELF_LIMIT,
+    })?;
+    Ok(files)
 }
 
-/// The answer to a command: its files are read whole, the model and then the program, and the first
-/// that isn't held or is too long decides.
-pub fn answer_command<S: Shelf>(
+/// Reads files one after another, each whole. The first that isn't held, is too long or is at fault
+/// ends the reading.
+pub fn read_files<'a, S: Shelf>(
     alloc: Global,
-    command: &Command<'_>,
-    files: &mut S,
-) -> Result<Answer, Unanswered>
-    ensures answer { IfOk result (λ answer. AnswersCommand (as_command command.now) (S.holds files.old) answer × LeavesCommand (as_command command.now) (S.holds files.old) answer.status (S.left files.new)) }
-    ensures fault { result ≡ Err Unanswered.Fault → Rose (S.faults files.old) (S.faults files.new) }
+    shelf: &mut S,
+    wanted: &[Wanted<'a>],
+) -> Result<Items<Items<u8>>, Unread<'a>>
+    requires some { 0 < length wanted.now }
+    requires few { length wanted.now ≤ 65 }
+    ensures whole { IfOk result (λ files. Ends (S.holds shelf.old) (map as_wanted wanted.now) (whole files) (S.left shelf.new)) }
+    ensures count { IfOk result (λ files. length files ≡ length wanted.now) }
+    ensures unread { IfErr result (λ e. StopsAt (S.holds shelf.old) (map as_wanted wanted.now) e.file e.name.now e.error (S.left shelf.new) (S.faults shelf.old) (S.faults shelf.new)) }
 {
-    let text = match read_file(alloc, files, command.model, MODEL_LIMIT) {
-        Ok(bytes) => bytes,
-        Err(error) => return unread(alloc, 0, command.model, error),
-    };
-    let image = match read_file(alloc, files, command.elf, ELF_LIMIT) {
-        Ok(bytes) => bytes,
-        Err(error) => return unread(alloc, 1, command.elf, error),
-    };
-    let answer = judge(alloc, command.steps, text.as_slice(), image.as_slice())?;
-    Ok(answer)
-}
-
-/// What is answered where a file, counted from 0 in the order of reading, could not be read.
-fn unread(alloc: Global, file: u32, name: &str, error: ReadError) -> Result<Answer, Unanswered>
-    ensures missing { error ≡ ReadError.Missing → IfOk result (λ answer. answer ≡ spec.no_file file name.now) }
-    ensures long { (limit : ℕ) → error ≡ ReadError.TooLong limit → IfOk result (λ answer. answer ≡ spec.too_long file name.now limit) }
-    ensures fault { error ≡ ReadError.Fault → result ≡ Err Unanswered.Fault }
-    ensures memory { error ≡ ReadError.OutOfMemory → result ≡ Err Unanswered.OutOfMemory }
-    ensures only { result ≡ Err Unanswered.Fault → error ≡ ReadError.Fault }
-{
-    match error {
-        ReadError::Missing => {
-            let line = named_line(alloc, "no file: ", name)?;
-            Ok(Answer {
-                status: Status::NoFile { file },
-                bytes: Items::from_vec(line),
-            })
+    let mut files = Items::new(alloc);
+    for (number, file) in wanted.iter().enumerate() {
+        let number = number as u32;
+        match read_file(alloc, shelf, file.name, file.limit) {
+            Ok(bytes) => {
+                if files.push(Items::from_vec(bytes)).is_err() {
+                    return Err(Unread {
+                        file: number,
+                        name: file.name,
+                        error: ReadError::OutOfMemory,
+                    });
+                }
+            }
+            Err(error) => {
+                return Err(Unread {
+                    file: number,
+                    name: file.name,
+                    error,
+                });
+            }
         }
-        ReadError::TooLong { limit } => {
-            let line = named_line(alloc, "too long: ", name)?;
-            Ok(Answer {
-                status: Status::FileTooLong { file, limit },
-                bytes: Items::from_vec(line),
-            })
-        }
-        ReadError::Fault => Err(Unanswered::Fault),
-        ReadError::OutOfMemory => Err(Unanswered::OutOfMemory),
     }
+    Ok(files)
 }

@@ -2,7 +2,7 @@ ghost use Rattle.std.specs.Prelude.{◌≡◌, ◌*◌, ◌<◌, ◌≤◌, ◌+
 ghost use Rattle.std.specs.List.{flat_map, zip};
 ghost use Rattle.sail_base.specs.Bits.{value_of};
 ghost use Rattle.sail_top.specs.Report as spec;
-ghost use Rattle.sail_top.specs.Steps.{names_of};
+ghost use Rattle.sail_top.specs.parts.Indices.{names_of};
 
 use crate::model::Register;
 use sail_base::Word;
@@ -11,31 +11,31 @@ use std::alloc::{AllocError, Global};
 // The sixteen digits.
 const DIGITS: &[u8; 16] = b"0123456789abcdef";
 
-/// The report of a run that did all its events: their count, and each register with its word.
+/// The report of a run that did all its events: their count, and each register with its value.
 pub fn report(
     alloc: Global,
-    steps: u32,
+    events: u32,
     registers: &[Register],
-    words: &[Word],
+    values: &[Word],
 ) -> Result<Vec<u8>, AllocError>
-    requires { length words.now ≡ length registers.now }
-    ensures { IfOk result (λ text. text.items ≡ spec.report steps (zip (names_of registers.now) words.now)) }
+    requires { length values.now ≡ length registers.now }
+    ensures { IfOk result (λ text. text.items ≡ spec.report events (zip (names_of registers.now) values.now)) }
 {
     let mut text = Vec::from_slice(alloc, b"== report\nstop steps-done\nsteps ")?;
-    text.extend_from_slice(itoa::Buffer::new().format(steps).as_bytes())?;
+    text.extend_from_slice(itoa::Buffer::new().format(events).as_bytes())?;
     text.extend_from_slice(b"\nconsole 0\nhart 0\n")?;
-    push_lines(&mut text, registers, words)?;
+    push_lines(&mut text, registers, values)?;
     text.extend_from_slice(b"== end\n")?;
     Ok(text)
 }
 
 /// Appends the line of each register.
-fn push_lines(text: &mut Vec<u8>, registers: &[Register], words: &[Word]) -> Result<(), AllocError>
-    requires { length words.now ≡ length registers.now }
-    ensures { OnOk result (text.new.items ≡ text.old.items ++ flat_map spec.register_line (zip (names_of registers.now) words.now)) }
+fn push_lines(text: &mut Vec<u8>, registers: &[Register], values: &[Word]) -> Result<(), AllocError>
+    requires { length values.now ≡ length registers.now }
+    ensures { OnOk result (text.new.items ≡ text.old.items ++ flat_map spec.register_line (zip (names_of registers.now) values.now)) }
 {
     for (at, register) in registers.iter().enumerate() {
-        push_line(text, register.name.as_bytes(), words[at])?;
+        push_line(text, register.name.as_bytes(), values[at])?;
     }
     Ok(())
 }

@@ -1,16 +1,16 @@
-ghost use Rattle.std.specs.Prelude.{◌≡◌, ℕ, Some, IfOk, Err, map};
+ghost use Rattle.std.specs.Prelude.{◌≡◌, Some, None, IfOk, Err, map};
 ghost use Rattle.std.specs.String.{string_bytes};
 ghost use Rattle.sail_outside.specs.Files.{Files};
 ghost use Rattle.sail_outside.specs.Faults.{Rose};
-ghost use Rattle.sail_base.specs.declared.refusal.Refusal.{Refusal};
-ghost use Rattle.sail_base.specs.declared.elf_refusal.ElfRefusal.{ElfRefusal};
 ghost use Rattle.sail_top.specs.declared.status.Answer.{Answer};
 ghost use Rattle.sail_top.specs.Answer as spec;
 ghost use Rattle.sail_top.specs.Answer.{IsAnswer};
-ghost use Rattle.sail_top.specs.Ending.{Answered, AnsweredPart, Completes, Leaves, Finished};
+ghost use Rattle.sail_top.specs.Command.{command_of};
+ghost use Rattle.sail_top.specs.Ending.{IsPlain, Answered, AnsweredPart, Completes, Leaves};
+ghost use Rattle.sail_top.specs.parts.Finished.{Finished};
 
+use crate::answer::{Unanswered, answer_command};
 use crate::command::read_command;
-use crate::reading::{Unanswered, answer_command};
 use crate::status::{Answer, Status};
 use sail_base::Items;
 use sail_outside::{Shelf, Sink, WriteError, write_all};
@@ -32,19 +32,15 @@ pub fn run_words<S: Shelf, K: Sink>(
     ensures complete { (held : Files) (answer : Answer) → S.holds files.old ≡ Some held → IsAnswer (map string_bytes words.now) (Some held) answer → Completes answer result (K.given out.old) (K.given out.new) }
 
     // The cause of each status, also where nothing is told.
-    ensures done { result ≡ Status.Done → Answered (map string_bytes words.now) (S.holds files.old) Status.Done (K.given out.old) (K.given out.new) }
-    ensures model_refused { (refusal : Refusal) → result ≡ Status.ModelRefused refusal → Answered (map string_bytes words.now) (S.holds files.old) (Status.ModelRefused refusal) (K.given out.old) (K.given out.new) }
-    ensures usage { result ≡ Status.Usage → Answered (map string_bytes words.now) (S.holds files.old) Status.Usage (K.given out.old) (K.given out.new) }
-    ensures elf_refused { (refusal : ElfRefusal) → result ≡ Status.ElfRefused refusal → Answered (map string_bytes words.now) (S.holds files.old) (Status.ElfRefused refusal) (K.given out.old) (K.given out.new) }
-    ensures too_long { (file limit : ℕ) → result ≡ Status.FileTooLong file limit → Answered (map string_bytes words.now) (S.holds files.old) (Status.FileTooLong file limit) (K.given out.old) (K.given out.new) }
-    ensures no_file { (file : ℕ) → result ≡ Status.NoFile file → Answered (map string_bytes words.now) (S.holds files.old) (Status.NoFile file) (K.given out.old) (K.given out.new) }
+    ensures answered { IsPlain result → Answered (map string_bytes words.now) (S.holds files.old) result (K.given out.old) (K.given out.new) }
     ensures read_fault { result ≡ Status.ReadFault → Rose (S.faults files.old) (S.faults files.new) }
     ensures nothing_written { result ≡ Status.ReadFault → K.given out.new ≡ K.given out.old }
     ensures write_fault { result ≡ Status.WriteFault → Rose (K.faults out.old) (K.faults out.new) }
     ensures front_written { result ≡ Status.WriteFault → AnsweredPart (map string_bytes words.now) (S.holds files.old) (K.given out.old) (K.given out.new) }
 
-    // How far the files were read.
-    ensures left { Leaves (map string_bytes words.now) (S.holds files.old) result (S.left files.new) }
+    // How far the files were read: not at all where the words are no command.
+    ensures left { IsPlain result → Leaves (command_of (map string_bytes words.now)) (S.holds files.old) (S.left files.new) }
+    ensures untouched { command_of (map string_bytes words.now) ≡ None → files.new ≡ files.old }
 {
     match answer_words(alloc, words, files) {
         Ok(answer) => finish(answer, out),
@@ -60,8 +56,9 @@ fn answer_words<S: Shelf>(
     files: &mut S,
 ) -> Result<Answer, Unanswered>
     ensures answer { IfOk result (IsAnswer (map string_bytes words.now) (S.holds files.old)) }
-    ensures left { IfOk result (λ answer. Leaves (map string_bytes words.now) (S.holds files.old) answer.status (S.left files.new)) }
+    ensures left { IfOk result (λ _. Leaves (command_of (map string_bytes words.now)) (S.holds files.old) (S.left files.new)) }
     ensures fault { result ≡ Err Unanswered.Fault → Rose (S.faults files.old) (S.faults files.new) }
+    ensures untouched { command_of (map string_bytes words.now) ≡ None → files.new ≡ files.old }
 {
     match read_command(words) {
         Some(command) => answer_command(alloc, &command, files),

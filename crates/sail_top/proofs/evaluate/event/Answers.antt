@@ -1,18 +1,22 @@
 use Rattle.std.proofs.Common.{◌∙◌, ◌<◌, ap, length, map, arith, Bool}
 use Rattle.std.proofs.lemmas.List.{length-map}
-use Rattle.sail_top.proofs.StepLemmas.{steady_at, written_is_done, widths_kept, fold_done_more}
-use Rattle.sail_top.specs.Steps.{IsSteady}
+use Rattle.sail_top.proofs.EventLemmas.{typed_at, written_is_assigned, widths_kept, assigned_more}
+use Rattle.sail_top.specs.parts.Indices.{IsTypedAt}
 use Rattle.sail_top.proofs.evaluate.event.Goals as goal
 
-pub loop-step-preserved : goal.loop-step-preserved
-loop-step-preserved c =
-    let words = c.loop-step.words in
-    let widths = map length c.args.words.now in
-    let s = c.step-item.result in
-    let steady : IsSteady widths s = steady_at widths c.args.steps.now c.loop-step.step-index s c.requires c.loop-step-test.true c.step-item.is in
-    let there : s.source < length words = omega (arith, steady.source, ap length c.loop-step.invariant.widths, length-map words (length {A = Bool})) in
+pub loop-assignment-preserved : goal.loop-assignment-preserved
+loop-assignment-preserved c =
+    let values = c.loop-assignment.values in
+    let widths = map length c.args.values.now in
+    let all = c.args.assignments.now in
+    let i = c.loop-assignment.assignment-index in
+    let a = c.assignment-item.result in
+    let source = c.index-values-assignment.result in
+    let typed : IsTypedAt widths a = typed_at widths all i a c.requires c.loop-assignment-test.true c.assignment-item.is in
+    let there : a.source < length values =
+    omega (arith, typed.source, ap length c.loop-assignment.invariant.widths, length-map values (length {A = Bool})) in
     record {
-      so_far = written_is_done words s c.index-words-step.result c.add.result there c.index-words-step.is c.add.ensures
-          ∙ fold_done_more c.args.words.now words c.args.steps.now c.loop-step.step-index s c.loop-step-test.true c.step-item.is c.loop-step.invariant.so_far;
-      widths = widths_kept widths words s c.index-words-step.result c.add.result steady c.loop-step.invariant.widths c.index-words-step.is c.add.ensures;
+      so_far = written_is_assigned values a source c.add.result there c.index-values-assignment.is c.add.ensures
+          ∙ assigned_more c.args.values.now values all i a c.loop-assignment-test.true c.assignment-item.is c.loop-assignment.invariant.so_far;
+      widths = widths_kept widths values a source c.add.result typed c.loop-assignment.invariant.widths c.index-values-assignment.is c.add.ensures;
     }

@@ -1,10 +1,10 @@
 use Rattle.std.proofs.Common.{◌≡◌, length, map, take}
 use Rattle.std.specs.List.{fold}
-use Rattle.sail_top.specs.Steps.{done}
+use Rattle.sail_top.specs.parts.Indices.{assigned_at}
 use Rattle.sail_top.proofs.evaluate.event.Given as goal
 
-abbrev pub invariant-loop-step : goal.invariant-loop-step
-invariant-loop-step l = record {
-  so_far : l.words ≡ fold done l.fn.words (take l.step-index l.steps);
-  widths : map length l.words ≡ map length l.fn.words;
+abbrev pub invariant-loop-assignment : goal.invariant-loop-assignment
+invariant-loop-assignment l = record {
+  so_far : l.values ≡ fold assigned_at l.fn.values (take l.assignment-index l.assignments);
+  widths : map length l.values ≡ map length l.fn.values;
 }

@@ -2,4 +2,4 @@ use Rattle.std.proofs.Common.{◌≡◌, false, map, take, replicate}
 use Rattle.sail_top.proofs.evaluate.zeros.Given as goal
 
 abbrev pub invariant-loop-register : goal.invariant-loop-register
-invariant-loop-register l = l.words.items ≡ map (λ r. replicate r.width false) (take l.register-index l.registers)
+invariant-loop-register l = l.values.items ≡ map (λ r. replicate r.width false) (take l.register-index l.registers)

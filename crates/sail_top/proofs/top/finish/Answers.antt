@@ -1,6 +1,6 @@
 use Rattle.std.proofs.Common.{sym, ap, subst, List, ℕ, Err}
 use Rattle.sail_outside.specs.Bytes.{Sent, SentPart}
-use Rattle.sail_top.specs.Ending.{Finished, all, fault, wanting}
+use Rattle.sail_top.specs.parts.Finished.{Finished, all, fault, wanting}
 use Rattle.sail_top.specs.declared.status.Status.{Status}
 use Rattle.sail_top.proofs.top.finish.Goals as goal
 

@@ -1,17 +1,12 @@
--- What the reading of one row tells.
+-- What the reading of rows and of a model tells.
 use Rattle.std.specs.Prelude.{◌≡◌, ℕ, Bool, ◌&&◌, List, ◌++◌, codes}
 use Rattle.std.specs.Str.{bytes_eq}
-use Rattle.sail_top.specs.Grammar.{is_name, ReadsRegister, ReadsAssignment}
-use Rattle.sail_top.specs.declared.model.Register.{Register}
-use Rattle.sail_top.specs.declared.model.Assignment.{Assignment}
+use Rattle.sail_top.specs.Grammar.{is_name, IsModel}
+use Rattle.sail_top.specs.declared.model.Model.{Model}
 
--- no register's row stands in front
-abbrev pub HasNoRegister : List (List ℕ) → Type 0
-HasNoRegister text = (register : Register) (rest : List (List ℕ)) → ReadsRegister text register rest → ⊥
-
--- no assignment's row stands in front
-abbrev pub HasNoAssignment : List (List ℕ) → Type 0
-HasNoAssignment text = (assignment : Assignment) (rest : List (List ℕ)) → ReadsAssignment text assignment rest → ⊥
+-- no row of a kind stands in front
+abbrev pub HasNone : {A : Type 0} → (List (List ℕ) → A → List (List ℕ) → Type 0) → List (List ℕ) → Type 0
+HasNone {A} Reads input = (row : A) (rest : List (List ℕ)) → Reads input row rest → ⊥
 
 -- whether these are the tokens of `NAME : bits ( .. )`
 abbrev pub is_register_tokens : List ℕ → List ℕ → List ℕ → List ℕ → List ℕ → Bool
@@ -25,6 +20,10 @@ is_assignment_tokens target equals source plus semicolon =
     is_name target && bytes_eq equals (codes "=") && is_name source && bytes_eq plus (codes "+")
     && bytes_eq semicolon (codes ";")
 
--- the text doesn't begin with these tokens
+-- the tokens don't begin with these
 abbrev pub BeginsOtherwise : List (List ℕ) → List (List ℕ) → Type 0
-BeginsOtherwise text front = (rest : List (List ℕ)) → text ≡ front ++ rest → ⊥
+BeginsOtherwise input front = (rest : List (List ℕ)) → input ≡ front ++ rest → ⊥
+
+-- the text spells no model
+abbrev pub HasNoModel : List ℕ → Type 0
+HasNoModel text = (model : Model) → IsModel text model → ⊥

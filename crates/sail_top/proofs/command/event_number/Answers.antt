@@ -1,7 +1,7 @@
 use Rattle.std.proofs.Common.{sym, ap, ◌∙◌, ◌≡◌, true}
 use Rattle.sail_top.specs.Digits.{are_digits}
-use Rattle.sail_top.proofs.StepCounts.{result_ok-parse}
-use Rattle.sail_top.proofs.command.step_number.Goals as goal
+use Rattle.sail_top.proofs.EventCounts.{result_ok-parse}
+use Rattle.sail_top.proofs.command.event_number.Goals as goal
 
 pub returns-then-is_spelled_in : goal.returns-then-is_spelled_in
 returns-then-is_spelled_in c =
