@@ -10,22 +10,32 @@ use Rattle.sail_top.specs.Reading.{ReadEnd, absent, long, contents_at, wanted_by
 use Rattle.sail_top.specs.parts.Unread.{Ends, StopsAt, AnswersUnread}
 use Rattle.sail_top.specs.declared.status.Answer.{Answer}
 
-pub answered_end : (held : Option Files) (command : Command) (end : ReadEnd) (left : Option (List ℕ)) (answer : Answer) → Ends held (wanted_by command) end left → AnswersEnd command.events end answer → AnswersCommand command held answer
+pub answered_end : (held : Option Files) (command : Command) (end : ReadEnd) (left : Option (List ℕ)) (answer : Answer)
+    → Ends held (wanted_by command) end left → AnswersEnd command.events end answer
+    → AnswersCommand command held answer
 answered_end None command end left answer ends is = (ends.0, subst (λ e. AnswersEnd command.events e answer) (sym ends.1) is)
 answered_end (Some files) command end left answer ends is = subst (λ e. AnswersEnd command.events e answer) (sym ends.0) is
 
-pub left_end : (held : Option Files) (command : Command) (end : ReadEnd) (left : Option (List ℕ)) → Ends held (wanted_by command) end left → Leaves (Some command) held left
+pub left_end : (held : Option Files) (command : Command) (end : ReadEnd) (left : Option (List ℕ))
+    → Ends held (wanted_by command) end left → Leaves (Some command) held left
 left_end None command end left ends = tt
 left_end (Some files) command end left ends = subst (λ e. IsLeft (contents_at files (wanted_by command)) e left) (sym ends.0) ends.1
 
 -- the answer where a file could not be read
-pub answered_unread : (held : Option Files) (command : Command) (number : ℕ) (name : List ℕ) (error : ReadError) (left : Option (List ℕ)) (before now : ℕ) (answer : Answer) → StopsAt held (wanted_by command) number name error left before now → AnswersUnread number name error answer → AnswersCommand command held answer
+pub answered_unread : (held : Option Files) (command : Command) (number : ℕ) (name : List ℕ) (error : ReadError) (left : Option (List ℕ))
+    (before now : ℕ) (answer : Answer)
+    → StopsAt held (wanted_by command) number name error left before now → AnswersUnread number name error answer
+    → AnswersCommand command held answer
 answered_unread held command number name read.Missing left before now answer stops is = answered_end held command (absent number name) left answer stops is
-answered_unread held command number name (read.TooLong limit) left before now answer stops is = answered_end held command (long number name limit) left answer stops is
+answered_unread held command number name (read.TooLong limit) left before now answer stops is = answered_end held command
+    (long number name limit) left answer stops is
 answered_unread held command number name read.Fault left before now answer stops is = absurd is
 answered_unread held command number name read.OutOfMemory left before now answer stops is = absurd is
 
-pub left_unread : (held : Option Files) (command : Command) (number : ℕ) (name : List ℕ) (error : ReadError) (left : Option (List ℕ)) (before now : ℕ) (answer : Answer) → StopsAt held (wanted_by command) number name error left before now → AnswersUnread number name error answer → Leaves (Some command) held left
+pub left_unread : (held : Option Files) (command : Command) (number : ℕ) (name : List ℕ) (error : ReadError) (left : Option (List ℕ))
+    (before now : ℕ) (answer : Answer)
+    → StopsAt held (wanted_by command) number name error left before now → AnswersUnread number name error answer
+    → Leaves (Some command) held left
 left_unread held command number name read.Missing left before now answer stops is = left_end held command (absent number name) left stops
 left_unread held command number name (read.TooLong limit) left before now answer stops is = left_end held command (long number name limit) left stops
 left_unread held command number name read.Fault left before now answer stops is = absurd is

@@ -29,7 +29,9 @@ Token = List ℕ
 abbrev SomeRegister : Tokens → Type 0
 SomeRegister ts = (r : Register) × (rest : Tokens) × ReadsRegister ts r rest
 
-register_of : (name w : Token) (rest : Tokens) (o : Option ℕ) → width_of w ≡ o → is_name name ≡ true → (let ts = codes "register" ∷ name ∷ codes ":" ∷ codes "bits" ∷ codes "(" ∷ w ∷ codes ")" ∷ rest in SomeRegister ts ⊎ HasNone ReadsRegister ts)
+register_of : (name w : Token) (rest : Tokens) (o : Option ℕ)
+    → width_of w ≡ o → is_name name ≡ true
+    → (let ts = codes "register" ∷ name ∷ codes ":" ∷ codes "bits" ∷ codes "(" ∷ w ∷ codes ")" ∷ rest in SomeRegister ts ⊎ HasNone ReadsRegister ts)
 register_of name w rest None none named = inr (λ r behind p. let same : p.0 ≡ w = cc p.1 in absurd (cc (sym none ∙ ap width_of (sym same) ∙ p.3)))
 register_of name w rest (Some n) some named = inl (record { name = name; width = n }, rest, (w, refl, named, some))
 
@@ -48,12 +50,14 @@ found_register (a ∷ b ∷ c ∷ d ∷ e ∷ w ∷ g ∷ rest) =
     elim (cases_Bool (bytes_eq a (codes "register") && is_register_tokens b c d e g)) [
       | inl holds ↦
           let front = and_parts (bytes_eq a (codes "register")) (is_register_tokens b c d e g) holds in
-          let fourth = and_parts (is_name b && bytes_eq c (codes ":") && bytes_eq d (codes "bits") && bytes_eq e (codes "(")) (bytes_eq g (codes ")")) front.1 in
+          let fourth = and_parts (is_name b && bytes_eq c (codes ":") && bytes_eq d (codes "bits") && bytes_eq e (codes "("))
+          (bytes_eq g (codes ")")) front.1 in
           let third = and_parts (is_name b && bytes_eq c (codes ":") && bytes_eq d (codes "bits")) (bytes_eq e (codes "(")) fourth.0 in
           let second = and_parts (is_name b && bytes_eq c (codes ":")) (bytes_eq d (codes "bits")) third.0 in
           let first = and_parts (is_name b) (bytes_eq c (codes ":")) second.0 in
           subst (λ ts. SomeRegister ts ⊎ HasNone ReadsRegister ts)
-          (λ i. sym (same_token a (codes "register") front.0) i ∷ b ∷ sym (same_token c (codes ":") first.1) i ∷ sym (same_token d (codes "bits") second.1) i ∷ sym (same_token e (codes "(") third.1) i ∷ w ∷ sym (same_token g (codes ")") fourth.1) i ∷ rest)
+          (λ i. sym (same_token a (codes "register") front.0) i ∷ b ∷ sym (same_token c (codes ":") first.1) i ∷ sym
+          (same_token d (codes "bits") second.1) i ∷ sym (same_token e (codes "(") third.1) i ∷ w ∷ sym (same_token g (codes ")") fourth.1) i ∷ rest)
           (register_of b w rest (width_of w) refl first.0)
       | inr fails ↦ inr (λ r behind p.
           let ea : a ≡ codes "register" = cc p.1 in
@@ -64,15 +68,19 @@ found_register (a ∷ b ∷ c ∷ d ∷ e ∷ w ∷ g ∷ rest) =
           let eg : g ≡ codes ")" = cc p.1 in
           let named : is_name b ≡ true = ap is_name eb ∙ p.2 in
           let holds : (bytes_eq a (codes "register") && is_register_tokens b c d e g) ≡ true =
-          (λ i. bytes_eq (ea i) (codes "register") && (named i && bytes_eq (ec i) (codes ":") && bytes_eq (ed i) (codes "bits") && bytes_eq (ee i) (codes "(") && bytes_eq (eg i) (codes ")"))) in
+          (λ i. bytes_eq (ea i) (codes "register") && (named i && bytes_eq (ec i) (codes ":") && bytes_eq (ed i) (codes "bits") && bytes_eq
+          (ee i) (codes "(") && bytes_eq (eg i) (codes ")"))) in
           both_ways (bytes_eq a (codes "register") && is_register_tokens b c d e g) fails holds)
     ]
 
 abbrev SomeAssignment : Tokens → Type 0
 SomeAssignment ts = (a : Assignment) × (rest : Tokens) × ReadsAssignment ts a rest
 
-assignment_of : (target source w : Token) (rest : Tokens) (o : Option (List Bool)) → literal_bits w ≡ o → is_name target ≡ true → is_name source ≡ true → (let ts = target ∷ codes "=" ∷ source ∷ codes "+" ∷ w ∷ codes ";" ∷ rest in SomeAssignment ts ⊎ HasNone ReadsAssignment ts)
-assignment_of target source w rest None none t s = inr (λ a behind p. let same : p.0 ≡ w = cc p.1 in absurd (cc (sym none ∙ ap literal_bits (sym same) ∙ p.4)))
+assignment_of : (target source w : Token) (rest : Tokens) (o : Option (List Bool))
+    → literal_bits w ≡ o → is_name target ≡ true → is_name source ≡ true
+    → (let ts = target ∷ codes "=" ∷ source ∷ codes "+" ∷ w ∷ codes ";" ∷ rest in SomeAssignment ts ⊎ HasNone ReadsAssignment ts)
+assignment_of target source w rest None none t s = inr (λ a behind p. let same : p.0 ≡ w = cc p.1 in absurd
+    (cc (sym none ∙ ap literal_bits (sym same) ∙ p.4)))
 assignment_of target source w rest (Some bits) some t s = inl (record { target = target; source = source; literal = bits }, rest, (w, refl, t, s, some))
 
 found_assignment : (ts : Tokens) → SomeAssignment ts ⊎ HasNone ReadsAssignment ts
@@ -90,7 +98,8 @@ found_assignment (a ∷ b ∷ c ∷ d ∷ w ∷ g ∷ rest) =
           let second = and_parts (is_name a && bytes_eq b (codes "=")) (is_name c) third.0 in
           let first = and_parts (is_name a) (bytes_eq b (codes "=")) second.0 in
           subst (λ ts. SomeAssignment ts ⊎ HasNone ReadsAssignment ts)
-          (λ i. a ∷ sym (same_token b (codes "=") first.1) i ∷ c ∷ sym (same_token d (codes "+") third.1) i ∷ w ∷ sym (same_token g (codes ";") fourth.1) i ∷ rest)
+          (λ i. a ∷ sym (same_token b (codes "=") first.1) i ∷ c ∷ sym (same_token d (codes "+") third.1) i ∷ w ∷ sym
+          (same_token g (codes ";") fourth.1) i ∷ rest)
           (assignment_of a c w rest (literal_bits w) refl first.0 second.1)
       | inr fails ↦ inr (λ r behind p.
           let ea : a ≡ r.target = cc p.1 in
@@ -110,7 +119,10 @@ abbrev Finds : {A : Type 0} → (Tokens → A → Tokens → Type 0) → Type 0
 Finds {A} Reads = (input : Tokens) → ((row : A) × (rest : Tokens) × Reads input row rest) ⊎ HasNone Reads input
 
 -- then all rows in front are found, in a list of at most so many tokens
-all_rows : {A : Type 0} (Reads : Tokens → A → Tokens → Type 0) → Finds Reads → ((input : Tokens) (row : A) (rest : Tokens) → Reads input row rest → length rest < length input) → (n : ℕ) (input : Tokens) → length input ≤ n → (rows : List A) × (rest : Tokens) × ReadsAll Reads input rows rest × HasNone Reads rest
+all_rows : {A : Type 0} (Reads : Tokens → A → Tokens → Type 0)
+    → Finds Reads → ((input : Tokens) (row : A) (rest : Tokens) → Reads input row rest → length rest < length input)
+    → (n : ℕ) (input : Tokens) → length input ≤ n
+    → (rows : List A) × (rest : Tokens) × ReadsAll Reads input rows rest × HasNone Reads rest
 all_rows Reads find shorter zero input h =
     elim (find input) [
       | inl found ↦ absurd (omega (arith, h, shorter input found.0 found.1 found.2))
@@ -181,7 +193,8 @@ text_decided text =
     let rs = all_rows ReadsRegister found_register shorter_register (length (tokens text)) (tokens text) (omega arith) in
     elim (begins opening rs.1) [
       | inl here ↦
-          let registers : ReadsAll ReadsRegister (tokens text) rs.0 (opening ++ here.0) = subst (λ t. ReadsAll ReadsRegister (tokens text) rs.0 t) here.1 rs.2 in
+          let registers : ReadsAll ReadsRegister (tokens text) rs.0 (opening ++ here.0) = subst
+          (λ t. ReadsAll ReadsRegister (tokens text) rs.0 t) here.1 rs.2 in
           let assigned = all_rows ReadsAssignment found_assignment shorter_assignment (length here.0) here.0 (omega arith) in
           let parts : ReadsParts text (record { registers = rs.0; assignments = assigned.0 }) assigned.1 =
           record { body = here.0; registers = registers; assignments = assigned.2; last = assigned.3 } in
@@ -228,7 +241,8 @@ filled number file files (Some bytes ∷ contents) =
       | inr over ↦ rw over tt
     ]
 
-filled_wanted : (models : List (List ℕ)) (elf : List ℕ) (contents : Contents) → IsFilled (reading 0 (map wanted_model models ++ wanted_elf elf ∷ []) contents)
+filled_wanted : (models : List (List ℕ)) (elf : List ℕ) (contents : Contents)
+    → IsFilled (reading 0 (map wanted_model models ++ wanted_elf elf ∷ []) contents)
 filled_wanted [] elf contents = filled 0 (wanted_elf elf) [] contents
 filled_wanted (model ∷ models) elf contents = filled 0 (wanted_model model) (map wanted_model models ++ wanted_elf elf ∷ []) contents
 

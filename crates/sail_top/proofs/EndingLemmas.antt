@@ -81,36 +81,45 @@ pub one_answer : (words : List (List ℕ)) (files : Files) (a b : Answer) → Is
 one_answer words files a b p q = one_line (command_of words) files a b p q
 
 -- a plain status is the answer's, and all was written
-pub answered : (words : List (List ℕ)) (held : Option Files) {answer : Answer} {ended : Status} {given now : Option (List ℕ)} {before after : ℕ} → IsAnswer words held answer → Finished answer ended given now before after → IsPlain ended → Answered words held ended given now
+pub answered : (words : List (List ℕ)) (held : Option Files) {answer : Answer} {ended : Status} {given now : Option (List ℕ)} {before after : ℕ}
+    → IsAnswer words held answer → Finished answer ended given now before after → IsPlain ended
+    → Answered words held ended given now
 answered words held {answer} is (all sent) plain = (answer.bytes, is, sent)
 answered words held is (fault part rose) plain = absurd plain
 answered words held is (wanting part) plain = absurd plain
 
 -- a fault of writing
-pub faulted : (words : List (List ℕ)) (held : Option Files) {answer : Answer} {ended : Status} {given now : Option (List ℕ)} {before after : ℕ} → IsAnswer words held answer → Finished answer ended given now before after → ended ≡ status.WriteFault → Rose before after × AnsweredPart words held given now
+pub faulted : (words : List (List ℕ)) (held : Option Files) {answer : Answer} {ended : Status} {given now : Option (List ℕ)} {before after : ℕ}
+    → IsAnswer words held answer → Finished answer ended given now before after → ended ≡ status.WriteFault
+    → Rose before after × AnsweredPart words held given now
 faulted words held {answer} is (all sent) same = absurd (subst IsPlain same (plain_answer words held answer is))
 faulted words held {answer} is (fault part rose) same = (rose, (answer, is, part))
 faulted words held is (wanting part) same = absurd (cc same)
 
 -- an answer is no fault of reading
-pub not_read_fault : (words : List (List ℕ)) (held : Option Files) {answer : Answer} {ended : Status} {given now : Option (List ℕ)} {before after : ℕ} → IsAnswer words held answer → Finished answer ended given now before after → ended ≡ status.ReadFault → ⊥
+pub not_read_fault : (words : List (List ℕ)) (held : Option Files) {answer : Answer} {ended : Status} {given now : Option (List ℕ)} {before after : ℕ}
+    → IsAnswer words held answer → Finished answer ended given now before after → ended ≡ status.ReadFault → ⊥
 not_read_fault words held {answer} is (all sent) same = subst IsPlain same (plain_answer words held answer is)
 not_read_fault words held is (fault part rose) same = cc same
 not_read_fault words held is (wanting part) same = cc same
 
-completes_plain : (answer : Answer) (s : Status) (given now : Option (List ℕ)) → IsPlain s → s ≡ answer.status → Sent given answer.bytes now → Completes answer s given now
+completes_plain : (answer : Answer) (s : Status) (given now : Option (List ℕ))
+    → IsPlain s → s ≡ answer.status → Sent given answer.bytes now → Completes answer s given now
 completes_plain answer status.ReadFault given now plain same sent = absurd plain
 completes_plain answer status.WriteFault given now plain same sent = absurd plain
 completes_plain answer status.OutOfMemory given now plain same sent = absurd plain
 completes_plain answer _ given now plain same sent = (same, sent)
 
-completes : {answer : Answer} {ended : Status} {given now : Option (List ℕ)} {before after : ℕ} → IsPlain answer.status → Finished answer ended given now before after → Completes answer ended given now
+completes : {answer : Answer} {ended : Status} {given now : Option (List ℕ)} {before after : ℕ}
+    → IsPlain answer.status → Finished answer ended given now before after → Completes answer ended given now
 completes {answer} {given} {now} plain (all sent) = completes_plain answer answer.status given now plain refl sent
 completes plain (fault part rose) = part
 completes plain (wanting part) = part
 
 -- where the files are told, the ending is that of the answer
-pub completes_told : (words : List (List ℕ)) (held : Option Files) {answer : Answer} {ended : Status} {given now : Option (List ℕ)} {before after : ℕ} → IsAnswer words held answer → Finished answer ended given now before after → (files : Files) (a : Answer) → held ≡ Some files → IsAnswer words (Some files) a → Completes a ended given now
+pub completes_told : (words : List (List ℕ)) (held : Option Files) {answer : Answer} {ended : Status} {given now : Option (List ℕ)} {before after : ℕ}
+    → IsAnswer words held answer → Finished answer ended given now before after → (files : Files) (a : Answer)
+    → held ≡ Some files → IsAnswer words (Some files) a → Completes a ended given now
 completes_told words held {answer} {ended} {given} {now} is finished files a told other =
     let here : IsAnswer words (Some files) answer = subst (λ h. IsAnswer words h answer) told is in
     subst (λ x. Completes x ended given now) (one_answer words files answer a here other)

@@ -16,7 +16,9 @@ own = numerals_by_fold _ (search rules) (read_on 10) (search rules)
 pub some_digit : (base : ℕ) (ds : List ℕ) → are_digits base ds ≡ true → 0 < length ds
 some_digit base ds p = omega (arith, eqb-false (length ds) 0 (not-true (length ds == 0) (and_parts (not (length ds == 0)) _ p).0))
 
-counted : {E : Type 0} (ds : List ℕ) (r : Result ℕ E) → are_digits 10 ds ≡ true → OkIff r ((0 < length ds) × (number 10 ds < 2 ^ 32)) (number 10 ds) → result_ok r ≡ event_count ds
+counted : {E : Type 0} (ds : List ℕ) (r : Result ℕ E)
+    → are_digits 10 ds ≡ true → OkIff r ((0 < length ds) × (number 10 ds < 2 ^ 32)) (number 10 ds)
+    → result_ok r ≡ event_count ds
 counted ds (Ok n) p h = rw (p, lt-ltb (number 10 ds) (2 ^ 32) h.0.1) (ap Some h.1)
 counted ds (Err e) p h =
     let filled : 0 < length ds = some_digit 10 ds p in

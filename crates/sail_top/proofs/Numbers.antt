@@ -1,8 +1,9 @@
 -- The number that digits spell, digit by digit.
-use Rattle.std.proofs.Common.{◌≡◌, ℕ, zero, suc, ◌+◌, ◌*◌, ◌<◌, ◌≤◌, ◌^◌, true, List, [], ◌∷◌, length, get_or, arith, refl, sym, ap, ◌∙◌, add-one, pow-suc, pow-add}
+use Rattle.std.proofs.Common.{◌≡◌, ℕ, zero, suc, ◌+◌, ◌*◌, ◌/◌, ◌<◌, ◌≤◌, ◌^◌, true, List, [], ◌∷◌, length, get_or, arith, sym, ap}
+use Rattle.std.proofs.Common.{◌∙◌, add-one, pow-suc, pow-add}
 use Rattle.std.specs.Char.{digit_value, is_digit}
 use Rattle.std.specs.List.{list_all}
-use Rattle.std.proofs.Math.Nat.{mul-le-mul_left, pow-le-pow_right}
+use Rattle.std.proofs.Math.Nat.{mul-le-mul_left, mul-div-le, mul-zero, pow-zero, pow-le-pow_right}
 use Rattle.std.proofs.Math.Pow.{pow_mono}
 use Rattle.std.proofs.lemmas.Bool.{ltb-true, and_parts}
 use Rattle.sail_top.specs.Digits.{are_digits}
@@ -20,21 +21,31 @@ next_below base n d i h k =
     rw (add-one i, p) (omega (arith, mul-le-mul_left base more))
 
 -- a number that is read on by the digit at i
-pub read_below : (base n i : ℕ) (ds : List ℕ) → are_digits base ds ≡ true → i < length ds → n < base ^ i → base * n + digit_value (get_or ds i 0) < base ^ (i + 1)
+pub read_below : (base n i : ℕ) (ds : List ℕ)
+    → are_digits base ds ≡ true → i < length ds → n < base ^ i
+    → base * n + digit_value (get_or ds i 0) < base ^ (i + 1)
 read_below base n i ds spelled h below = next_below base n (digit_value (get_or ds i 0)) i below (digit_below base ds i (and_parts _ _ spelled).1 h)
 
 -- it fits where the power of all digits does
-pub read_fits : (base n i limit : ℕ) (ds : List ℕ) → 1 ≤ base → are_digits base ds ≡ true → i < length ds → n < base ^ i → base ^ length ds ≤ limit → base * n + digit_value (get_or ds i 0) < limit
+pub read_fits : (base n i limit : ℕ) (ds : List ℕ)
+    → 1 ≤ base → are_digits base ds ≡ true → i < length ds → n < base ^ i → base ^ length ds ≤ limit
+    → base * n + digit_value (get_or ds i 0) < limit
 read_fits base n i limit ds some spelled h below fits =
     let up : base ^ (i + 1) ≤ base ^ length ds = pow-le-pow_right some (omega arith) in
     omega (arith, read_below base n i ds spelled h below, up)
 
--- a hexadecimal digit is four bits
-pub sixteen-pow : (n : ℕ) → 16 ^ n ≡ 2 ^ (4 * n)
-sixteen-pow zero = refl
-sixteen-pow (suc n) =
-    let longer : 4 * suc n ≡ 4 * n + 4 = omega arith in
-    pow-suc 16 n ∙ ap (λ k. k * 16) (sixteen-pow n) ∙ sym (ap (λ k. 2 ^ k) longer ∙ pow-add 2 (4 * n) 4)
+-- digits of so many bits each
+pub digits-pow : (base bits_each n : ℕ) → base ≡ 2 ^ bits_each → base ^ n ≡ 2 ^ (bits_each * n)
+digits-pow base bits_each zero is = pow-zero base ∙ sym (ap (λ k. 2 ^ k) (mul-zero bits_each))
+digits-pow base bits_each (suc n) is =
+    let longer : bits_each * suc n ≡ bits_each * n + bits_each = omega arith in
+    pow-suc base n
+    ∙ (λ i. digits-pow base bits_each n is i * is i)
+    ∙ sym (ap (λ k. 2 ^ k) longer ∙ pow-add 2 (bits_each * n) bits_each)
 
-pub sixteen-pow-le : (n : ℕ) → n ≤ 32 → 16 ^ n ≤ 2 ^ 128
-sixteen-pow-le n h = let up : 2 ^ (4 * n) ≤ 2 ^ 128 = pow_mono {i = 4 * n} {j = 128} (omega arith) in rw sixteen-pow up
+-- at most 128 bits of digits
+pub digits-fit : (base bits_each n : ℕ) → 0 < bits_each → base ≡ 2 ^ bits_each → n ≤ 128 / bits_each → base ^ n ≤ 2 ^ 128
+digits-fit base bits_each n some is few =
+    let within : bits_each * n ≤ 128 = omega (arith, mul-le-mul_left bits_each few, mul-div-le 128 bits_each) in
+    let up : 2 ^ (bits_each * n) ≤ 2 ^ 128 = pow_mono {i = bits_each * n} {j = 128} within in
+    rw (digits-pow base bits_each n is) up

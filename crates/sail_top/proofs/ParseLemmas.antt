@@ -1,8 +1,7 @@
--- Names are texts, and widths are those of words.
+-- Names are ASCII, and widths are those of words.
 use Rattle.std.proofs.Common.{◌≡◌, ℕ, zero, suc, ◌<◌, ◌≤◌, ◌&&◌, ◌||◌, true, List, [], ◌∷◌, nat_le, length, Some, None, arith, inl, inr, leb-true}
 use Rattle.std.specs.List.{list_all}
-use Rattle.std.specs.Str.{IsUtf8, IsAscii}
-use Rattle.std.proofs.lemmas.Str.{IsUtf8-from_ascii}
+use Rattle.std.specs.Str.{IsAscii}
 use Rattle.std.proofs.lemmas.Bool.{and_parts, cases_Bool}
 use Rattle.std.proofs.lemmas.Bool.Decides.{nat_tests}
 use Rattle.sail_top.specs.Spelling.{is_upper, is_digit}
@@ -22,13 +21,10 @@ IsAscii-capitals [] h i = omega arith
 IsAscii-capitals (b ∷ bs) h zero = capital_below b (and_parts (is_upper b || is_digit b) _ h).0
 IsAscii-capitals (b ∷ bs) h (suc i) = IsAscii-capitals bs (and_parts (is_upper b || is_digit b) _ h).1 i
 
-IsAscii-name : (name : List ℕ) → is_name name ≡ true → IsAscii name
+pub IsAscii-name : (name : List ℕ) → is_name name ≡ true → IsAscii name
 IsAscii-name [] h i = omega arith
 IsAscii-name (letter ∷ rest) h zero = upper_below letter (and_parts (is_upper letter) _ h).0
 IsAscii-name (letter ∷ rest) h (suc i) = IsAscii-capitals rest (and_parts _ _ (and_parts (is_upper letter) _ h).1).0 i
-
-pub IsUtf8-name : (name : List ℕ) → is_name name ≡ true → IsUtf8 name
-IsUtf8-name name h = IsUtf8-from_ascii name (IsAscii-name name h)
 
 none_is_some : (n : ℕ) → None ≡ Some n → ⊥
 none_is_some n h = cc h
@@ -45,7 +41,8 @@ width_fits token n is =
       | inr fails ↦ absurd (none_is_some n (rw fails at is))
     ]
 
-pub widths_fit : (input : List (List ℕ)) (registers : List Register) (rest : List (List ℕ)) → ReadsAll ReadsRegister input registers rest → AreWidths registers
+pub widths_fit : (input : List (List ℕ)) (registers : List Register) (rest : List (List ℕ))
+    → ReadsAll ReadsRegister input registers rest → AreWidths registers
 widths_fit input [] rest read k d h = absurd (omega arith)
 widths_fit input (r ∷ registers) rest read zero d h = width_fits read.1.0 r.width read.1.3
 widths_fit input (r ∷ registers) rest read (suc k) d h = widths_fit read.0 registers rest read.2 k d (omega arith)

@@ -36,11 +36,13 @@ behind_long : (files : List (List ℕ)) (number : ℕ) (name : List ℕ) (limit 
 behind_long [] number name limit = refl
 behind_long (first ∷ files) number name limit = ap (behind first) (behind_long files number name limit)
 
-held_last : (files : List (List ℕ)) (bytes : List ℕ) (contents : Contents) → map Some (files ++ bytes ∷ []) ++ contents ≡ map Some files ++ Some bytes ∷ contents
+held_last : (files : List (List ℕ)) (bytes : List ℕ) (contents : Contents)
+    → map Some (files ++ bytes ∷ []) ++ contents ≡ map Some files ++ Some bytes ∷ contents
 held_last [] bytes contents = refl
 held_last (first ∷ files) bytes contents = ap (λ more. Some first ∷ more) (held_last files bytes contents)
 
-held_here : (files : List (List ℕ)) (here : Option (List ℕ)) (contents : Contents) → slice_get (map Some files ++ here ∷ contents) (length files) ≡ Some here
+held_here : (files : List (List ℕ)) (here : Option (List ℕ)) (contents : Contents)
+    → slice_get (map Some files ++ here ∷ contents) (length files) ≡ Some here
 held_here [] here contents = refl
 held_here (first ∷ files) here contents = held_here files here contents
 
@@ -54,16 +56,21 @@ pub record ReadSoFar (held : Option Files) (wanted : List Wanted) (files : List 
 pub none_read : (held : Option Files) (wanted : List Wanted) → ReadSoFar held wanted [] 0 wanted
 none_read held wanted = record { count = refl; over = λ contents. refl; told = λ all is. refl }
 
-told_bytes : (held : Option Files) (name bytes : List ℕ) (left : Option (List ℕ)) → ReadWhole held name bytes left → (all : Files) → held ≡ Some all → lookup all name ≡ Some bytes
+told_bytes : (held : Option Files) (name bytes : List ℕ) (left : Option (List ℕ))
+    → ReadWhole held name bytes left → (all : Files) → held ≡ Some all → lookup all name ≡ Some bytes
 told_bytes None name bytes left read all is = absurd (cc is)
 told_bytes (Some files) name bytes left read all is = let same : files ≡ all = cc is in subst (λ fs. lookup fs name ≡ Some bytes) same read.0
 
-pub nothing_left : (held : Option Files) (name bytes : List ℕ) (left : Option (List ℕ)) → ReadWhole held name bytes left → (all : Files) → held ≡ Some all → left ≡ Some []
+pub nothing_left : (held : Option Files) (name bytes : List ℕ) (left : Option (List ℕ))
+    → ReadWhole held name bytes left → (all : Files) → held ≡ Some all → left ≡ Some []
 nothing_left None name bytes left read all is = absurd (cc is)
 nothing_left (Some files) name bytes left read all is = read.1
 
 -- one more was read
-pub one_more : {held : Option Files} {wanted : List Wanted} {files : List (List ℕ)} {number : ℕ} {file : Wanted} {more : List Wanted} (bytes : List ℕ) (left : Option (List ℕ)) → ReadSoFar held wanted files number (file ∷ more) → length bytes ≤ file.limit → ReadWhole held file.name bytes left → ReadSoFar held wanted (files ++ bytes ∷ []) (number + 1) more
+pub one_more : {held : Option Files} {wanted : List Wanted} {files : List (List ℕ)} {number : ℕ} {file : Wanted} {more : List Wanted}
+    (bytes : List ℕ) (left : Option (List ℕ))
+    → ReadSoFar held wanted files number (file ∷ more) → length bytes ≤ file.limit
+    → ReadWhole held file.name bytes left → ReadSoFar held wanted (files ++ bytes ∷ []) (number + 1) more
 one_more {held} {wanted} {files} {number} {file} {more} bytes left so_far within read =
     record {
       count = omega (arith, length-append files (bytes ∷ []), so_far.count);
@@ -78,13 +85,18 @@ one_more {held} {wanted} {files} {number} {file} {more} bytes left so_far within
     }
 
 -- all were read
-pub all_read : {held : Option Files} {wanted : List Wanted} {files : List (List ℕ)} {number : ℕ} (left : Option (List ℕ)) → ReadSoFar held wanted files number [] → ((all : Files) → held ≡ Some all → left ≡ Some []) → Ends held wanted (whole files) left
+pub all_read : {held : Option Files} {wanted : List Wanted} {files : List (List ℕ)} {number : ℕ} (left : Option (List ℕ))
+    → ReadSoFar held wanted files number [] → ((all : Files) → held ≡ Some all → left ≡ Some [])
+    → Ends held wanted (whole files) left
 all_read {held = None} {files} left so_far none = (map Some files ++ [], so_far.over [] ∙ behind_whole files)
 all_read {held = Some all} {wanted} {files} left so_far none =
     (ap (reading 0 wanted) (so_far.told all refl) ∙ so_far.over [] ∙ behind_whole files, none all refl)
 
 -- the next isn't held
-pub stops_absent : {held : Option Files} {wanted : List Wanted} {files : List (List ℕ)} {number : ℕ} {file : Wanted} {more : List Wanted} (left : Option (List ℕ)) → ReadSoFar held wanted files number (file ∷ more) → Lacks held file.name → IsUsedUp left → Ends held wanted (absent number file.name) left
+pub stops_absent : {held : Option Files} {wanted : List Wanted} {files : List (List ℕ)} {number : ℕ} {file : Wanted} {more : List Wanted}
+    (left : Option (List ℕ))
+    → ReadSoFar held wanted files number (file ∷ more) → Lacks held file.name → IsUsedUp left
+    → Ends held wanted (absent number file.name) left
 stops_absent {held = None} {files} {number} {file} left so_far lacks used =
     (map Some files ++ None ∷ [], so_far.over (None ∷ []) ∙ behind_absent files number file.name)
 stops_absent {held = Some all} {wanted} {files} {number} {file} {more} left so_far lacks used = (
@@ -99,7 +111,10 @@ too_many : (limit : ℕ) → (bytes : List ℕ) × (limit < length bytes)
 too_many limit = (replicate (suc limit) 0, omega (arith, length-replicate {A = ℕ} (suc limit) 0))
 
 -- the next is too long
-pub stops_long : {held : Option Files} {wanted : List Wanted} {files : List (List ℕ)} {number : ℕ} {file : Wanted} {more : List Wanted} (left : Option (List ℕ)) → ReadSoFar held wanted files number (file ∷ more) → PassedLimit held file.name file.limit left → Ends held wanted (long number file.name file.limit) left
+pub stops_long : {held : Option Files} {wanted : List Wanted} {files : List (List ℕ)} {number : ℕ} {file : Wanted} {more : List Wanted}
+    (left : Option (List ℕ))
+    → ReadSoFar held wanted files number (file ∷ more) → PassedLimit held file.name file.limit left
+    → Ends held wanted (long number file.name file.limit) left
 stops_long {held = None} {files} {number} {file} left so_far past =
     let bytes = too_many file.limit in (
       map Some files ++ Some bytes.0 ∷ [],
@@ -133,7 +148,10 @@ rose_since first before now later (inl higher) = inl (omega arith)
 rose_since first before now later (inr full) = inr full
 
 -- the reading stops at the next file
-pub stops_at : {held : Option Files} {wanted : List Wanted} {files : List (List ℕ)} {number : ℕ} {file : Wanted} {more : List Wanted} (left : Option (List ℕ)) (first before now : ℕ) (error : ReadError) → ReadSoFar held wanted files number (file ∷ more) → first ≤ before → Reason held file left before now error → StopsAt held wanted number file.name error left first now
+pub stops_at : {held : Option Files} {wanted : List Wanted} {files : List (List ℕ)} {number : ℕ} {file : Wanted} {more : List Wanted}
+    (left : Option (List ℕ)) (first before now : ℕ) (error : ReadError)
+    → ReadSoFar held wanted files number (file ∷ more) → first ≤ before → Reason held file left before now error
+    → StopsAt held wanted number file.name error left first now
 stops_at left first before now read.Missing so_far later why = stops_absent left so_far (why.missing refl) (why.unbegun refl)
 stops_at {held} {wanted} {number} {file} left first before now (read.TooLong limit) so_far later why =
     subst (λ l. Ends held wanted (long number file.name l) left) (sym (why.asked limit refl)) (stops_long left so_far (why.long limit refl))
@@ -141,7 +159,9 @@ stops_at left first before now read.Fault so_far later why = rose_since first be
 stops_at left first before now read.OutOfMemory so_far later why = tt
 
 -- the next of the files that are lent
-pub next_wanted : (wanted : List declared.Wanted) (number : ℕ) (d : declared.Wanted) → number < length wanted → map as_wanted (drop number wanted) ≡ as_wanted (get_or wanted number d) ∷ map as_wanted (drop (number + 1) wanted)
+pub next_wanted : (wanted : List declared.Wanted) (number : ℕ) (d : declared.Wanted)
+    → number < length wanted
+    → map as_wanted (drop number wanted) ≡ as_wanted (get_or wanted number d) ∷ map as_wanted (drop (number + 1) wanted)
 next_wanted wanted number d within = rw (add-one number) (ap (map as_wanted) (drop-cons wanted number d within))
 
 -- none is next

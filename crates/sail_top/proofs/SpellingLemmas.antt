@@ -1,5 +1,6 @@
 -- The first token of a text, by how many letters and digits or blanks stand at its front.
-use Rattle.std.proofs.Common.{◌≡◌, ℕ, ◌<◌, ◌==◌, Bool, true, false, List, [], ◌∷◌, length, take, drop, slice_index, arith, refl, ap, sym, ◌∙◌, inl, inr, suc, subst, one-add}
+use Rattle.std.proofs.Common.{◌≡◌, ℕ, ◌<◌, ◌==◌, Bool, true, false, List, [], ◌∷◌, length, take, drop, slice_index, arith, refl, ap}
+use Rattle.std.proofs.Common.{sym, ◌∙◌, inl, inr, suc, subst, one-add}
 use Rattle.std.specs.List.{prefix_len, take_while}
 use Rattle.std.proofs.lemmas.Bool.{cases_Bool}
 use Rattle.std.proofs.lemmas.List.Folds.{length-prefix_len}
@@ -32,7 +33,9 @@ tokens-drop_blanks (b ∷ rest) =
     ]
 
 -- behind them stands no blank
-pub blanks_end : (text : List ℕ) → 0 < length (drop (prefix_len is_blank text) text) → is_blank (slice_index (drop (prefix_len is_blank text) text) 0) ≡ false
+pub blanks_end : (text : List ℕ)
+    → 0 < length (drop (prefix_len is_blank text) text)
+    → is_blank (slice_index (drop (prefix_len is_blank text) text) 0) ≡ false
 blanks_end [] h = absurd (omega arith)
 blanks_end (b ∷ rest) h =
     elim (cases_Bool (is_blank b)) [
@@ -54,12 +57,15 @@ first_letter b rest h =
     ]
 
 -- letters and digits that stand together are one token
-pub tokens-word : (text : List ℕ) → 0 < prefix_len is_letter_or_digit text → tokens text ≡ take (prefix_len is_letter_or_digit text) text ∷ tokens (drop (prefix_len is_letter_or_digit text) text)
+pub tokens-word : (text : List ℕ)
+    → 0 < prefix_len is_letter_or_digit text
+    → tokens text ≡ take (prefix_len is_letter_or_digit text) text ∷ tokens (drop (prefix_len is_letter_or_digit text) text)
 tokens-word [] h = absurd (omega arith)
 tokens-word (b ∷ []) h = rw (first_letter b [] h, blank_apart b (first_letter b [] h)) refl
 tokens-word (b ∷ next ∷ rest) h =
     let letter : is_letter_or_digit b ≡ true = first_letter b (next ∷ rest) h in
-    let longer : prefix_len is_letter_or_digit (b ∷ next ∷ rest) ≡ suc (prefix_len is_letter_or_digit (next ∷ rest)) = one_more is_letter_or_digit b (next ∷ rest) letter in
+    let longer : prefix_len is_letter_or_digit (b ∷ next ∷ rest) ≡ suc
+    (prefix_len is_letter_or_digit (next ∷ rest)) = one_more is_letter_or_digit b (next ∷ rest) letter in
     elim (cases_Bool (is_letter_or_digit next)) [
       | inl more ↦
           let some : 0 < prefix_len is_letter_or_digit (next ∷ rest) = rw more (omega arith) in
@@ -75,12 +81,16 @@ pub tokens-without_blanks : (text back : List ℕ) (n : ℕ) → n ≡ length (t
 tokens-without_blanks text back n counted cut =
     rw (cut, counted, length-prefix_len is_blank text) (tokens-drop_blanks text)
 
-pub start-without_blanks : (text back : List ℕ) (n : ℕ) → n ≡ length (take_while is_blank text) → back ≡ drop n text → 0 < length back → is_blank (slice_index back 0) ≡ false
+pub start-without_blanks : (text back : List ℕ) (n : ℕ)
+    → n ≡ length (take_while is_blank text) → back ≡ drop n text → 0 < length back
+    → is_blank (slice_index back 0) ≡ false
 start-without_blanks text back n counted cut =
     let same : back ≡ drop (prefix_len is_blank text) text = cut ∙ ap (λ k. drop k text) (counted ∙ length-prefix_len is_blank text) in
     subst (λ xs. 0 < length xs → is_blank (slice_index xs 0) ≡ false) (sym same) (blanks_end text)
 
-pub tokens-letters : (text : List ℕ) (n : ℕ) → n ≡ length (take_while is_letter_or_digit text) → 0 < length text → is_letter_or_digit (slice_index text 0) ≡ true → tokens text ≡ take n text ∷ tokens (drop n text)
+pub tokens-letters : (text : List ℕ) (n : ℕ)
+    → n ≡ length (take_while is_letter_or_digit text) → 0 < length text
+    → is_letter_or_digit (slice_index text 0) ≡ true → tokens text ≡ take n text ∷ tokens (drop n text)
 tokens-letters [] n counted h letter = absurd (omega arith)
 tokens-letters (b ∷ rest) n counted h letter =
     let same : n ≡ prefix_len is_letter_or_digit (b ∷ rest) = counted ∙ length-prefix_len is_letter_or_digit (b ∷ rest) in

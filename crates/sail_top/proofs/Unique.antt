@@ -37,7 +37,8 @@ one_assignment input a b x y p q =
     ((λ i. record { target = target i; source = source i; literal = literal i }), rest)
 
 -- then all rows in front are one list, and one rest
-one_list : {A : Type 0} (Reads : Tokens → A → Tokens → Type 0) (one : ReadsOne Reads) (input : Tokens) (rs bs : List A) (x y : Tokens) → ReadsAll Reads input rs x → ReadsAll Reads input bs y → HasNone Reads x → HasNone Reads y → (rs ≡ bs) × (x ≡ y)
+one_list : {A : Type 0} (Reads : Tokens → A → Tokens → Type 0) (one : ReadsOne Reads) (input : Tokens) (rs bs : List A) (x y : Tokens)
+    → ReadsAll Reads input rs x → ReadsAll Reads input bs y → HasNone Reads x → HasNone Reads y → (rs ≡ bs) × (x ≡ y)
 one_list Reads one input [] [] x y p q ex ey = (refl, sym p ∙ q)
 one_list Reads one input [] (b ∷ bs) x y p q ex ey = absurd (ex b q.0 (subst (λ t. Reads t b q.0) p q.1))
 one_list Reads one input (a ∷ rs) [] x y p q ex ey = absurd (ey a p.0 (subst (λ t. Reads t a p.0) q p.1))
@@ -72,12 +73,16 @@ parts_read text registers assignments behind body rest first is second last =
     }
 
 -- no model where the registers are followed by something else
-pub no_opening : (text : List ℕ) (registers : List Register) (rest : Tokens) → ReadsAll ReadsRegister (tokens text) registers rest → HasNone ReadsRegister rest → BeginsOtherwise rest opening → (model : Model) → IsModel text model → ⊥
+pub no_opening : (text : List ℕ) (registers : List Register) (rest : Tokens)
+    → ReadsAll ReadsRegister (tokens text) registers rest → HasNone ReadsRegister rest → BeginsOtherwise rest opening
+    → (model : Model) → IsModel text model → ⊥
 no_opening text registers rest read last other model m =
-    other m.body (one_list ReadsRegister one_register (tokens text) registers model.registers rest (opening ++ m.body) read m.registers last (no_register_at_opening m.body)).1
+    other m.body (one_list ReadsRegister one_register (tokens text) registers model.registers rest (opening ++ m.body) read m.registers last
+    (no_register_at_opening m.body)).1
 
 -- what a text's model is, where its registers and assignments are read
-pub one_model : {text : List ℕ} {read : Model} {rest : Tokens} → ReadsParts text read rest → (model : Model) → IsModel text model → (model ≡ read) × (rest ≡ closing)
+pub one_model : {text : List ℕ} {read : Model} {rest : Tokens}
+    → ReadsParts text read rest → (model : Model) → IsModel text model → (model ≡ read) × (rest ≡ closing)
 one_model {text} {read} {rest} parts model m =
     let front = one_list ReadsRegister one_register (tokens text) read.registers model.registers (opening ++ parts.body) (opening ++ m.body)
     parts.registers m.registers (no_register_at_opening parts.body) (no_register_at_opening m.body) in
@@ -88,7 +93,12 @@ one_model {text} {read} {rest} parts model m =
 
 one_text : (text : List ℕ) (a b : Model) → IsModel text a → IsModel text b → a ≡ b
 one_text text a b p q =
-    let parts : ReadsParts text b closing = record { body = q.body; registers = q.registers; assignments = q.assignments; last = no_assignment_at_closing } in
+    let parts : ReadsParts text b closing = record {
+      body = q.body;
+      registers = q.registers;
+      assignments = q.assignments;
+      last = no_assignment_at_closing;
+    } in
     (one_model parts a p).0
 
 -- texts spell at most one model

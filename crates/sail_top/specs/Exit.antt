@@ -1,7 +1,8 @@
 -- The exit status of each way to end.
 use Rattle.std.specs.Prelude.{ℕ}
 use Rattle.sail_top.specs.declared.status.Status.{Status}
-use Rattle.sail_top.specs.declared.status.Status.TheVariants.{Done, ModelRefused, Usage, ReadFault, WriteFault, OutOfMemory, ElfRefused, FileTooLong, NoFile}
+use Rattle.sail_top.specs.declared.status.Status.TheVariants.{Done, ModelRefused, Usage, ReadFault, WriteFault, OutOfMemory}
+use Rattle.sail_top.specs.declared.status.Status.TheVariants.{ElfRefused, FileTooLong, NoFile}
 
 abbrev pub exit_code : Status → ℕ
 exit_code Done = 0

@@ -1,5 +1,6 @@
 -- The grammar of a model's text.
-use Rattle.std.specs.Prelude.{◌≡◌, ℕ, ◌*◌, Bool, true, false, not, ◌&&◌, ◌||◌, ◌==◌, nat_le, if◌then◌else◌, List, [], ◌∷◌, ◌++◌, length, codes, Option, Some, None, IsTrue}
+use Rattle.std.specs.Prelude.{◌≡◌, ℕ, ◌*◌, ◌/◌, Bool, true, false, not, ◌&&◌, ◌||◌, ◌==◌, nat_le, if◌then◌else◌, List, [], ◌∷◌}
+use Rattle.std.specs.Prelude.{◌++◌, length, codes, Option, Some, None, IsTrue}
 use Rattle.std.specs.Str.{bytes_eq}
 use Rattle.std.specs.List.{list_all, list_any}
 use Rattle.sail_base.specs.Bits.{bits_of}
@@ -21,21 +22,18 @@ width_of token =
     then Some (number 10 token)
     else None
 
--- the bits of one to 32 hexadecimal digits, four each
-abbrev pub hexadecimal_bits : List ℕ → Option (List Bool)
-hexadecimal_bits digits =
-    if are_digits 16 digits && nat_le (length digits) 32 then Some (bits_of (4 * length digits) (number 16 digits)) else None
-
--- the bits of one to 128 binary digits
-abbrev pub binary_bits : List ℕ → Option (List Bool)
-binary_bits digits =
-    if are_digits 2 digits && nat_le (length digits) 128 then Some (bits_of (length digits) (number 2 digits)) else None
+-- the bits of one or more digits of a base, of so many bits each: at most 128 in all
+abbrev pub bits_in : ℕ → ℕ → List ℕ → Option (List Bool)
+bits_in base bits_each digits =
+    if are_digits base digits && nat_le (length digits) (128 / bits_each)
+    then Some (bits_of (bits_each * length digits) (number base digits))
+    else None
 
 -- the bits of a literal: `0x` and hexadecimal digits, or `0b` and binary ones
 abbrev pub literal_bits : List ℕ → Option (List Bool)
 literal_bits (zero_digit ∷ mark ∷ digits) =
-    if zero_digit == 48 && mark == 120 then hexadecimal_bits digits
-    else if zero_digit == 48 && mark == 98 then binary_bits digits
+    if zero_digit == 48 && mark == 120 then bits_in 16 4 digits
+    else if zero_digit == 48 && mark == 98 then bits_in 2 1 digits
     else None
 literal_bits _ = None
 

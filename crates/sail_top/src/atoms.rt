@@ -1,4 +1,4 @@
-ghost use Rattle.std.specs.Prelude.{◌≡◌, ◌||◌, ◌&&◌, nat_le, length};
+ghost use Rattle.std.specs.Prelude.{◌≡◌, ◌<◌, ◌≤◌, ◌^◌, ◌||◌, ◌&&◌, nat_le, length};
 ghost use Rattle.std.specs.List.{list_all};
 ghost use Rattle.sail_top.specs.Spelling.{is_upper, is_digit};
 ghost use Rattle.sail_top.specs.Grammar as grammar;
@@ -50,26 +50,22 @@ pub fn literal(token: &[u8]) -> Option<Word>
     ensures { result ≡ grammar.literal_bits token.now }
 {
     match token {
-        [b'0', b'x', digits @ ..] => hexadecimal(digits),
-        [b'0', b'b', digits @ ..] => binary(digits),
+        [b'0', b'x', digits @ ..] => word_of(16, 4, digits),
+        [b'0', b'b', digits @ ..] => word_of(2, 1, digits),
         _ => None,
     }
 }
 
-fn hexadecimal(digits: &[u8]) -> Option<Word>
-    ensures { result ≡ grammar.hexadecimal_bits digits.now }
+/// The bits of digits of a base, `bits_each` bits each, at most 128.
+fn word_of(base: u8, bits_each: u8, digits: &[u8]) -> Option<Word>
+    requires some { 0 < bits_each }
+    requires few { bits_each ≤ 4 }
+    requires base { base ≡ 2 ^ bits_each }
+    ensures { result ≡ grammar.bits_in base bits_each digits.now }
 {
-    if !is_spelled_in(16, digits) || digits.len() > 32 {
+    if !is_spelled_in(base, digits) || digits.len() > 128 / bits_each as usize {
         return None;
     }
-    Some(Word::new(4 * digits.len() as u8, number_in(16, digits)))
-}
-
-fn binary(digits: &[u8]) -> Option<Word>
-    ensures { result ≡ grammar.binary_bits digits.now }
-{
-    if !is_spelled_in(2, digits) || digits.len() > 128 {
-        return None;
-    }
-    Some(Word::new(digits.len() as u8, number_in(2, digits)))
+    let width = bits_each * digits.len() as u8;
+    Some(Word::new(width, number_in(base, digits)))
 }

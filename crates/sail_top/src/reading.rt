@@ -64,7 +64,8 @@ pub fn read_files<'a, S: Shelf>(
     requires few { length wanted.now ≤ 65 }
     ensures whole { IfOk result (λ files. Ends (S.holds shelf.old) (map as_wanted wanted.now) (whole files) (S.left shelf.new)) }
     ensures count { IfOk result (λ files. length files ≡ length wanted.now) }
-    ensures unread { IfErr result (λ e. StopsAt (S.holds shelf.old) (map as_wanted wanted.now) e.file e.name.now e.error (S.left shelf.new) (S.faults shelf.old) (S.faults shelf.new)) }
+    ensures unread { IfErr result (λ e. StopsAt (S.holds shelf.old) (map as_wanted wanted.now) e.file e.name.now e.error
+        (S.left shelf.new) (S.faults shelf.old) (S.faults shelf.new)) }
 {
     let mut files = Items::new(alloc);
     for (number, file) in wanted.iter().enumerate() {

@@ -81,10 +81,7 @@ fn name_text(alloc: Global, name: &[u8]) -> Result<Text, AllocError>
     requires { is_name name.now ≡ true }
     ensures { IfOk result (λ text. text ≡ name.now) }
 {
-    match std::str::from_utf8(name) {
-        Ok(name) => Text::new(alloc, name),
-        Err(_) => unreachable!(),
-    }
+    Text::from_ascii(alloc, name)
 }
 
 /// Whether a token is spelled so.
@@ -108,7 +105,8 @@ struct Ahead<'a> {
 
 /// The first six tokens of a text; `None` where it has fewer.
 fn six_tokens(text: &[u8]) -> Option<Ahead<'_>>
-    ensures tokens { MatchOption result (length (tokens text.now) < 6) (λ a. tokens text.now ≡ a.first.now ∷ a.second.now ∷ a.third.now ∷ a.fourth.now ∷ a.fifth.now ∷ a.sixth.now ∷ tokens a.rest.now) }
+    ensures tokens { MatchOption result (length (tokens text.now) < 6) (λ a.
+        tokens text.now ≡ a.first.now ∷ a.second.now ∷ a.third.now ∷ a.fourth.now ∷ a.fifth.now ∷ a.sixth.now ∷ tokens a.rest.now) }
     ensures shorter { MatchOption result (length (tokens text.now) < 6) (λ a. length a.rest.now < length text.now) }
 {
     let (first, rest) = next_token(text)?;
@@ -182,7 +180,8 @@ struct AssignmentRow<'a> {
 
 /// Reads the row of an assignment at the front of a text; `None` where none stands there.
 fn assignment_row(text: &[u8]) -> Option<AssignmentRow<'_>>
-    ensures row { IfSome result (λ row. ReadsAssignment (tokens text.now) (record { target = row.target.now; source = row.source.now; literal = row.literal }) (tokens row.rest.now)) }
+    ensures row { IfSome result (λ row. ReadsAssignment (tokens text.now)
+        (record { target = row.target.now; source = row.source.now; literal = row.literal }) (tokens row.rest.now)) }
     ensures shorter { IfSome result (λ row. length row.rest.now < length text.now) }
     ensures none { IfNone result (HasNone ReadsAssignment (tokens text.now)) }
 {

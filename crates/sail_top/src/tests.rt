@@ -1,4 +1,4 @@
-use crate::{Status, run_words, text_spells_one_model, words_have_one_answer};
+use crate::run_words;
 use sail_outside::{MemShelf, MemSink};
 use std::alloc::{AllocError, Global};
 use std::test::Fail;
@@ -6,9 +6,12 @@ use std::test::Fail;
 const RESET: &str =
     "val reset : (range(0, 7), bits(64)) -> unit\nfunction reset(h, e) = ()\nval step : unit -> bool\n";
 
-// The headers of an image, in hexadecimal digits, and its eight bytes of code.
-const IMAGE: &str =
-    "7f454c460201010000000000000000000200f30001000000000000800000000040000000000000000000000000000000000000004000380001000000000000000100000005000000780000000000000000000080000000000000008000000000080000000000000008000000000000000400000000000000";
+// An image in hexadecimal digits: its header, its one program header and its eight bytes of code.
+const HEADER: &str =
+    "7f454c460201010000000000000000000200f3000100000000000080000000004000000000000000000000000000000000000000400038000100000000000000";
+
+const PROGRAM_HEADER: &str =
+    "0100000005000000780000000000000000000080000000000000008000000000080000000000000008000000000000000400000000000000";
 
 const CODE: &str = "93005000b3812000";
 
@@ -27,7 +30,7 @@ fn model(alloc: Global, registers: &str, body: &str) -> Result<Vec<u8>, AllocErr
 }
 
 fn image(alloc: Global) -> Result<Vec<u8>, Fail> {
-    let text = format!(in alloc; "{IMAGE}{CODE}")?;
+    let text = format!(in alloc; "{HEADER}{PROGRAM_HEADER}{CODE}")?;
     let bytes = hex::decode(alloc, text)?;
     Ok(bytes)
 }
@@ -291,16 +294,4 @@ fn a_failing_call_is_a_fault(rt: HostRuntime) -> Result<(), Fail> {
         );
     }
     Ok(())
-}
-
-#[test]
-fn want_of_memory_ends_with_five(rt: HostRuntime) {
-    assert_eq!(rt; Status::OutOfMemory.code(), 5);
-}
-
-// The laws have no result: their contracts are what they say.
-#[test]
-fn laws_are_called() {
-    text_spells_one_model();
-    words_have_one_answer();
 }

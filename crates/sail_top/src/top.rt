@@ -29,7 +29,8 @@ pub fn run_words<S: Shelf, K: Sink>(
     out: &mut K,
 ) -> Status
     // Where the files are told, the ending is that of the answer.
-    ensures complete { (held : Files) (answer : Answer) → S.holds files.old ≡ Some held → IsAnswer (map string_bytes words.now) (Some held) answer → Completes answer result (K.given out.old) (K.given out.new) }
+    ensures complete { (held : Files) (answer : Answer) → S.holds files.old ≡ Some held
+        → IsAnswer (map string_bytes words.now) (Some held) answer → Completes answer result (K.given out.old) (K.given out.new) }
 
     // The cause of each status, also where nothing is told.
     ensures answered { IsPlain result → Answered (map string_bytes words.now) (S.holds files.old) result (K.given out.old) (K.given out.new) }

@@ -21,8 +21,10 @@ returns-in-Err-clause-unread g c =
     let same = c.loop-number.invariant.same in
     let e = c.in-Err.ensures in
     let so_far : ReadSoFar held (map as_wanted files) c.loop-number.files number (as_wanted file ∷ map as_wanted (drop (number + 1) files)) =
-    subst (ReadSoFar held (map as_wanted files) c.loop-number.files number) (next_wanted files number _ c.loop-number-test.true) c.loop-number.invariant.read in
-    stops_at left (g.S.Shelf.faults c.args.shelf.now) (g.S.Shelf.faults c.loop-number.shelf) (g.S.Shelf.faults c.read_file.new.shelf) c.in-Err.error so_far c.loop-number.invariant.faults
+    subst (ReadSoFar held (map as_wanted files) c.loop-number.files number)
+    (next_wanted files number _ c.loop-number-test.true) c.loop-number.invariant.read in
+    stops_at left (g.S.Shelf.faults c.args.shelf.now) (g.S.Shelf.faults c.loop-number.shelf)
+    (g.S.Shelf.faults c.read_file.new.shelf) c.in-Err.error so_far c.loop-number.invariant.faults
     (record {
       missing = λ is. subst (λ (h : Option Files). Lacks h file.name.now) same (e.missing (ap Err is));
       unbegun = λ is. e.unbegun (ap Err is);
@@ -45,7 +47,8 @@ loop-number-preserved g c =
     at_ok c.push.result _ c.push.ensures.pushed (sym c.is_err.ensures.value ∙ c.if-is_err.false)
     ∙ ap (λ last. c.loop-number.files ++ last ∷ []) c.from_vec.ensures in
     let so_far : ReadSoFar held (map as_wanted files) c.loop-number.files number (as_wanted file ∷ map as_wanted (drop (number + 1) files)) =
-    subst (ReadSoFar held (map as_wanted files) c.loop-number.files number) (next_wanted files number _ c.loop-number-test.true) c.loop-number.invariant.read in
+    subst (ReadSoFar held (map as_wanted files) c.loop-number.files number)
+    (next_wanted files number _ c.loop-number-test.true) c.loop-number.invariant.read in
     let whole : ReadWhole held file.name.now bytes left = subst (λ (h : Option Files). ReadWhole h file.name.now bytes left) same read.whole in
     record {
       same = read.same ∙ same;
@@ -61,8 +64,10 @@ returns-clause-whole g c =
     let files = c.args.wanted.now in
     let number = c.loop-number.number in
     let so_far : ReadSoFar held (map as_wanted files) c.loop-number.files number [] =
-    subst (ReadSoFar held (map as_wanted files) c.loop-number.files number) (none_wanted files number c.loop-number-test.false) c.loop-number.invariant.read in
-    all_read (g.S.Shelf.left c.loop-number.shelf) so_far (λ all is. c.loop-number.invariant.left all is (omega (arith, c.requires.some, c.loop-number-test.false)))
+    subst (ReadSoFar held (map as_wanted files) c.loop-number.files number)
+    (none_wanted files number c.loop-number-test.false) c.loop-number.invariant.read in
+    all_read (g.S.Shelf.left c.loop-number.shelf) so_far (λ all is. c.loop-number.invariant.left all is
+    (omega (arith, c.requires.some, c.loop-number-test.false)))
 
 pub returns-clause-count : goal.returns-clause-count
 returns-clause-count g c = omega (arith, c.loop-number.invariant.read.count, c.loop-number-test.false, c.loop-number.auto.number-end)

@@ -1,5 +1,5 @@
-use Rattle.sail_top.proofs.ParseLemmas.{IsUtf8-name}
+use Rattle.sail_top.proofs.ParseLemmas.{IsAscii-name}
 use Rattle.sail_top.proofs.rows.name_text.Goals as goal
 
-pub unreachable-requires : goal.unreachable-requires
-unreachable-requires c = c.in-Err.ensures.cases.0 (IsUtf8-name c.args.name.now c.requires)
+pub from_ascii-requires : goal.from_ascii-requires
+from_ascii-requires c = IsAscii-name c.args.name.now c.requires
