@@ -9,11 +9,8 @@ use Rattle.byteorder.specs.Numbers.{little_from-cons, little_from-take}
 use Rattle.sail_base.specs.Bits.{bits_of, value_of}
 use Rattle.sail_base.specs.laws.BitLaws.{length-bits_of, value_of-bits_of, value_of-append, bits_of-value_of, value_of-lt, take-bits_of, drop-bits_of}
 use Rattle.mem_store.specs.Bytes.{span, word_of, word_bytes, overwritten}
+use Rattle.mem_store.specs.laws.AreBytes.{AreBytes, AreBytes-drop, AreBytes-take, All-AreBytes}
 use Rattle.mem_store.specs.laws.Words.{length-word_of}
-
--- every byte is one, also past the end, where a list reads as 0
-abbrev pub AreBytes : List ℕ → Type 0
-AreBytes bytes = (k : ℕ) → slice_index bytes k < 256
 
 -- the number of a word is that of its bytes
 value_of-word_of : (bytes : List ℕ) → AreBytes bytes → value_of (word_of bytes) ≡ little_from 0 (length bytes) bytes
@@ -24,18 +21,6 @@ value_of-word_of (byte ∷ bytes) fits =
     let rest = value_of-word_of bytes (λ k. fits (suc k)) in
     let moved = little_from-cons 0 (length bytes) byte bytes in
     omega (arith, value_of-append (bits_of 8 byte) (word_of bytes), ap (λ n. value_of (word_of bytes) * 2 ^ n) (length-bits_of 8 byte), value_of-bits_of 8 byte, rest, moved)
-
-AreBytes-drop : (n : ℕ) (bytes : List ℕ) → AreBytes bytes → AreBytes (drop n bytes)
-AreBytes-drop n bytes fits = λ k. rw (get_or-drop n bytes k 0) (fits (n + k))
-
-AreBytes-take : (n : ℕ) (bytes : List ℕ) → AreBytes bytes → AreBytes (take n bytes)
-AreBytes-take zero bytes fits = λ k. omega arith
-AreBytes-take (suc n) [] fits = fits
-AreBytes-take (suc n) (byte ∷ bytes) fits = λ k. elim k as (λ k. slice_index (take (suc n) (byte ∷ bytes)) k < 256) [ zero ↦ fits 0 | suc (k → ih) ↦ AreBytes-take n bytes (λ j. fits (suc j)) k ]
-
-All-AreBytes : (bytes : List ℕ) → AreBytes bytes → All (λ byte. byte < 256) bytes
-All-AreBytes [] fits = λ k d h. absurd (omega arith)
-All-AreBytes (byte ∷ bytes) fits = λ k. elim k as (λ k. (d : ℕ) → k < length (byte ∷ bytes) → get_or (byte ∷ bytes) k d < 256) [ zero ↦ λ d h. fits 0 | suc (k → ih) ↦ λ d h. All-AreBytes bytes (λ j. fits (suc j)) k d (omega arith) ]
 
 pub span_fits : (bytes : List ℕ) (at w : ℕ) → AreBytes bytes → All (λ byte. byte < 256) (span bytes at w)
 span_fits bytes at w fits = All-AreBytes (take w (drop at bytes)) (AreBytes-take w (drop at bytes) (AreBytes-drop at bytes fits))

@@ -1,3 +1,4 @@
 -- what holds of the definitions
+pub mod AreBytes
 pub mod Overwritten
 pub mod Words
