@@ -10,3 +10,5 @@ pub mod Sets
 pub mod Unfit
 pub mod Parsing
 pub mod Leaves
+pub mod TypeTrees
+pub mod PatternTrees
