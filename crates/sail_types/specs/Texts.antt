@@ -1,5 +1,5 @@
 -- Shapes, numbers and values as refusals and the report print them.
-use Rattle.std.specs.Prelude.{ℕ, ◌+◌, ◌%◌, nat_eq, nat_lt, ℤ, pos, Bool, cond, List, [], ◌∷◌, ◌++◌, map, length, reverse, slice_index_or, slice_get, codes, Option, Some, None, if◌then◌else◌}
+use Rattle.std.specs.Prelude.{ℕ, zero, suc, ◌/◌, ◌%◌, ◌==◌, ℤ, pos, Bool, not, ◌&&◌, List, [], ◌∷◌, ◌++◌, map, length, take, drop, slice_index, slice_index_or, slice_get, codes, Option, Some, None, if◌then◌else◌}
 use Rattle.std.specs.Fmt.{signed_decimal}
 use Rattle.std.specs.Ordering.{int_eq}
 use Rattle.sail_base.specs.Bits.{value_of}
@@ -29,6 +29,10 @@ behind separator (t ∷ ts) = separator ++ t ++ behind separator ts
 abbrev pub joined : List ℕ → List (List ℕ) → List ℕ
 joined separator [] = []
 joined separator (t ∷ ts) = t ++ behind separator ts
+
+-- the texts that are left, where one came before and where none did
+abbrev pub rest_joined : Bool → List ℕ → List (List ℕ) → List ℕ
+rest_joined first separator ts = if first then joined separator ts else behind separator ts
 
 abbrev pub listed : List (List ℕ) → List ℕ
 listed texts = joined (codes ", ") texts
@@ -95,23 +99,20 @@ atom_text names = fold-Atom (List ℕ) (List ℕ) (List ℕ) (atom_form_text nam
 
 -- ---- values
 
--- a digit below 16, in lower case
+-- the sixteen digits
 abbrev pub digit : ℕ → ℕ
-digit n = if nat_lt n 10 then 48 + n else 87 + n
+digit n = slice_index (codes "0123456789abcdef") n
 
--- one digit a bit, and one every four bits, the lowest first
-abbrev pub binary_digits : List Bool → List ℕ
-binary_digits bits = map (λ b. cond b 49 48) bits
+-- that many digits of as many bits each, the highest first
+abbrev pub digits : ℕ → ℕ → List Bool → List ℕ
+digits bits_each zero bits = []
+digits bits_each (suc count) bits = digits bits_each count (drop bits_each bits) ++ digit (value_of (take bits_each bits)) ∷ []
 
-abbrev pub hex_digits : List Bool → List ℕ
-hex_digits (a ∷ b ∷ c ∷ d ∷ bits) = digit (value_of (a ∷ b ∷ c ∷ d ∷ [])) ∷ hex_digits bits
-hex_digits bits = []
-
--- `0x..` where the width is a positive multiple of 4, else `0b..`
+-- bits: in hexadecimal where their number is a positive multiple of 4, else in binary
 abbrev pub bits_text : List Bool → List ℕ
-bits_text [] = codes "0b"
-bits_text (b ∷ bits) =
-    if nat_eq (length (b ∷ bits) % 4) 0 then codes "0x" ++ reverse (hex_digits (b ∷ bits)) else codes "0b" ++ reverse (binary_digits (b ∷ bits))
+bits_text bits =
+    if not (length bits == 0) && (length bits % 4 == 0) then codes "0x" ++ digits 4 (length bits / 4) bits
+    else codes "0b" ++ digits 1 (length bits) bits
 
 -- each field as `f = a`
 abbrev pub fields_text : List Field → List (List ℕ) → List (List ℕ)
