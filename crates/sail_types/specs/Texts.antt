@@ -6,9 +6,10 @@ use Rattle.sail_base.specs.Bits.{value_of}
 use Rattle.sail_types.specs.Named.{constructors, fields, members}
 use Rattle.sail_types.specs.declared.numbers.Num.{Num}
 use Rattle.sail_types.specs.declared.numbers.Atom.{Atom}
+use Rattle.sail_types.specs.declared.numbers.Term.{Term}
 use Rattle.sail_types.specs.declared.numbers.Atom.TheOpen as N
 use Rattle.sail_types.specs.declared.numbers.Atom.TheOpen.{Atom-F, Num-F, Term-F}
-use Rattle.sail_types.specs.declared.numbers.Atom.TheFolds.{fold-Num, fold-Atom}
+use Rattle.sail_types.specs.declared.numbers.Atom.TheFolds.{fold-Num, fold-Atom, fold-Term}
 use Rattle.sail_types.specs.declared.shapes.Shape.{Shape, Shape-F, fold-Shape}
 use Rattle.sail_types.specs.declared.shapes.Shape.TheOpen as S
 use Rattle.sail_types.specs.declared.table.Definition.{Definition}
@@ -80,13 +81,19 @@ atom_form_text names (N.Variable i) = text_at names i
 atom_form_text names (N.Power t) = codes "2 ^ " ++ bracketed t
 
 -- a coefficient of 1 is left out
+abbrev pub coefficient_text : ℤ → List ℕ
+coefficient_text z = if int_eq z (pos 1) then [] else signed_decimal z ++ codes " * "
+
 abbrev pub term_form_text : Term-F (List ℕ) (List ℕ) (List ℕ) → List ℕ
-term_form_text term = (if int_eq term.coefficient (pos 1) then [] else signed_decimal term.coefficient ++ codes " * ") ++ term.atom
+term_form_text term = coefficient_text term.coefficient ++ term.atom
 
 -- a constant of 0 is left out behind terms
+abbrev pub constant_text : ℤ → List ℕ
+constant_text z = if int_eq z (pos 0) then [] else codes " + " ++ signed_decimal z
+
 abbrev pub sum_text : List (List ℕ) → ℤ → List ℕ
 sum_text [] z = signed_decimal z
-sum_text (t ∷ ts) z = joined (codes " + ") ((t ∷ ts) ++ (if int_eq z (pos 0) then [] else signed_decimal z ∷ []))
+sum_text (t ∷ ts) z = joined (codes " + ") (t ∷ ts) ++ constant_text z
 
 abbrev pub sum_form_text : Num-F (List ℕ) (List ℕ) (List ℕ) → List ℕ
 sum_form_text n = sum_text n.terms n.constant
@@ -96,6 +103,9 @@ num_text names = fold-Num (List ℕ) (List ℕ) (List ℕ) (atom_form_text names
 
 abbrev pub atom_text : List (List ℕ) → Atom → List ℕ
 atom_text names = fold-Atom (List ℕ) (List ℕ) (List ℕ) (atom_form_text names) sum_form_text term_form_text
+
+abbrev pub term_text : List (List ℕ) → Term → List ℕ
+term_text names = fold-Term (List ℕ) (List ℕ) (List ℕ) (atom_form_text names) sum_form_text term_form_text
 
 -- ---- values
 
@@ -120,8 +130,12 @@ fields_text (f ∷ fs) (t ∷ ts) = (f.name ++ codes " = " ++ t) ∷ fields_text
 fields_text fs ts = []
 
 abbrev pub struct_text : Option (List Field) → List (List ℕ) → List ℕ
-struct_text None ts = codes "{" ++ codes "}"
+struct_text None ts = []
 struct_text (Some fs) ts = codes "{" ++ listed (fields_text fs ts) ++ codes "}"
+
+abbrev pub field_name : Option Field → List ℕ
+field_name None = []
+field_name (Some field) = field.name
 
 abbrev pub form_value_text : Types → Value-F (List ℕ) → List ℕ
 form_value_text types W.Unit = codes "()"
@@ -133,7 +147,7 @@ form_value_text types (W.String text) = codes "\"" ++ text ++ codes "\""
 form_value_text types (W.Member i k) = text_at (members types i) k
 form_value_text types (W.Tuple vs) = bracketed (listed vs)
 form_value_text types (W.Struct i vs) = struct_text (fields types i) vs
-form_value_text types (W.Union i k v) = text_at (map (λ f. f.name) (constructors types i)) k ++ bracketed v
+form_value_text types (W.Union i k v) = field_name (slice_get (constructors types i) k) ++ bracketed v
 form_value_text types (W.List vs) = codes "[|" ++ listed vs ++ codes "|]"
 form_value_text types (W.Vector vs) = codes "[" ++ listed vs ++ codes "]"
 

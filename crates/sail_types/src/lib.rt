@@ -24,6 +24,6 @@ pub use shaping::{
 pub use substitution::{read_number, subst};
 pub use sums::{add, copy_atom, copy_num, multiply, plus, power, same_atom, same_num, subtract};
 pub use table::{Definition, Field, Form, Parameter, Types};
-pub use texts::{push_integer, push_shape};
+pub use texts::{push_atom, push_integer, push_number, push_shape};
 pub use types::Typ;
 pub use values::Value;

@@ -1,9 +1,10 @@
 //! Shapes, numbers and values as refusals and the report print them. A text is put behind a list of bytes;
 //! each call fails where memory is wanting.
-ghost use Rattle.std.specs.Prelude.{◌≡◌, ◌++◌, map, OnOk};
+ghost use Rattle.std.specs.Prelude.{◌≡◌, ◌++◌, map, codes, OnOk};
 ghost use Rattle.std.specs.Fmt.{signed_decimal};
-ghost use Rattle.sail_types.specs.Texts.{shape_text, listed, bracketed, arguments_text, name_text, text_at};
+ghost use Rattle.sail_types.specs.Texts.{shape_text, num_text, atom_text, term_text, coefficient_text, constant_text, joined, listed, bracketed, arguments_text, name_text, text_at};
 
+use crate::numbers::{Atom, Num, Term};
 use crate::shapes::Shape;
 use crate::table::Types;
 use itoa::Buffer;
@@ -136,4 +137,75 @@ fn push_shapes(
         first = false;
     }
     Ok(())
+}
+
+/// Puts a number's text, its variables printing as these names.
+#[cycle(push_num)]
+pub fn push_number(out: &mut Vec<u8>, names: &[Text], number: &Num) -> Result<(), AllocError>
+    ensures { OnOk result (out.new.items ≡ out.old.items ++ num_text names.now number.now) }
+{
+    let terms = number.terms.as_slice();
+    if terms.is_empty() {
+        return push_integer(out, number.constant);
+    }
+    push_terms(out, names, terms)?;
+    push_constant(out, number.constant)
+}
+
+/// Puts the text of what a coefficient multiplies.
+#[cycle(push_num)]
+pub fn push_atom(out: &mut Vec<u8>, names: &[Text], atom: &Atom) -> Result<(), AllocError>
+    ensures { OnOk result (out.new.items ≡ out.old.items ++ atom_text names.now atom.now) }
+{
+    match atom {
+        Atom::Variable(number) => push_name(out, names, *number),
+        Atom::Power(exponent) => {
+            out.extend_from_slice(b"2 ^ (")?;
+            push_number(out, names, exponent.get())?;
+            out.extend_from_slice(b")")
+        }
+    }
+}
+
+#[cycle(push_num)]
+fn push_terms(out: &mut Vec<u8>, names: &[Text], terms: &[Term]) -> Result<(), AllocError>
+    ensures { OnOk result (out.new.items ≡ out.old.items ++ joined (codes " + ") (map (term_text names.now) terms.now)) }
+{
+    let mut first = true;
+    for term in terms {
+        if !first {
+            out.extend_from_slice(b" + ")?;
+        }
+        push_term(out, names, term)?;
+        first = false;
+    }
+    Ok(())
+}
+
+#[cycle(push_num)]
+fn push_term(out: &mut Vec<u8>, names: &[Text], term: &Term) -> Result<(), AllocError>
+    ensures { OnOk result (out.new.items ≡ out.old.items ++ term_text names.now term.now) }
+{
+    push_coefficient(out, term.coefficient)?;
+    push_atom(out, names, &term.atom)
+}
+
+fn push_coefficient(out: &mut Vec<u8>, coefficient: i128) -> Result<(), AllocError>
+    ensures { OnOk result (out.new.items ≡ out.old.items ++ coefficient_text coefficient) }
+{
+    if coefficient == 1 {
+        return Ok(());
+    }
+    push_integer(out, coefficient)?;
+    out.extend_from_slice(b" * ")
+}
+
+fn push_constant(out: &mut Vec<u8>, constant: i128) -> Result<(), AllocError>
+    ensures { OnOk result (out.new.items ≡ out.old.items ++ constant_text constant) }
+{
+    if constant == 0 {
+        return Ok(());
+    }
+    out.extend_from_slice(b" + ")?;
+    push_integer(out, constant)
 }
