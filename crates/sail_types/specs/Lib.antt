@@ -8,3 +8,5 @@ pub mod Zero
 pub mod Texts
 pub mod Sums
 pub mod Replacing
+pub mod Rows
+pub mod Sorts

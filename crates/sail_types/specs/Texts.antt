@@ -1,5 +1,5 @@
 -- Shapes, numbers and values as refusals and the report print them.
-use Rattle.std.specs.Prelude.{ℕ, zero, suc, ◌/◌, ◌%◌, ◌==◌, ℤ, pos, Bool, not, ◌&&◌, List, [], ◌∷◌, ◌++◌, map, length, take, drop, slice_index, slice_index_or, slice_get, codes, Option, Some, None, if◌then◌else◌}
+use Rattle.std.specs.Prelude.{ℕ, zero, suc, ◌/◌, ◌%◌, ◌==◌, ℤ, pos, Bool, not, ◌&&◌, List, [], ◌∷◌, ◌++◌, length, take, drop, slice_index, slice_index_or, slice_get, codes, Option, Some, None, if◌then◌else◌}
 use Rattle.std.specs.Fmt.{signed_decimal}
 use Rattle.std.specs.Ordering.{int_eq}
 use Rattle.sail_base.specs.Bits.{value_of}
@@ -124,14 +124,18 @@ bits_text bits =
     if not (length bits == 0) && (length bits % 4 == 0) then codes "0x" ++ digits 4 (length bits / 4) bits
     else codes "0b" ++ digits 1 (length bits) bits
 
+abbrev pub quoted : List ℕ → List ℕ
+quoted text = codes "\"" ++ text ++ codes "\""
+
 -- each field as `f = a`
-abbrev pub fields_text : List Field → List (List ℕ) → List (List ℕ)
-fields_text (f ∷ fs) (t ∷ ts) = (f.name ++ codes " = " ++ t) ∷ fields_text fs ts
-fields_text fs ts = []
+abbrev pub fields_text : List (List ℕ) → List Field → List (List ℕ)
+fields_text [] fs = []
+fields_text (t ∷ ts) [] = []
+fields_text (t ∷ ts) (f ∷ fs) = (f.name ++ codes " = " ++ t) ∷ fields_text ts fs
 
 abbrev pub struct_text : Option (List Field) → List (List ℕ) → List ℕ
 struct_text None ts = []
-struct_text (Some fs) ts = codes "{" ++ listed (fields_text fs ts) ++ codes "}"
+struct_text (Some fs) ts = codes "{" ++ listed (fields_text ts fs) ++ codes "}"
 
 abbrev pub field_name : Option Field → List ℕ
 field_name None = []
@@ -143,7 +147,7 @@ form_value_text types (W.Integer z) = signed_decimal z
 form_value_text types (W.Truth b) = if b then codes "true" else codes "false"
 form_value_text types (W.Bit b) = if b then codes "bitone" else codes "bitzero"
 form_value_text types (W.Bits bits) = bits_text bits
-form_value_text types (W.String text) = codes "\"" ++ text ++ codes "\""
+form_value_text types (W.String text) = quoted text
 form_value_text types (W.Member i k) = text_at (members types i) k
 form_value_text types (W.Tuple vs) = bracketed (listed vs)
 form_value_text types (W.Struct i vs) = struct_text (fields types i) vs

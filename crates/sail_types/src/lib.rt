@@ -2,6 +2,7 @@
 //! builtin rows.
 #![tactic(auto)]
 
+mod members;
 mod numbers;
 mod rows;
 mod shapes;
@@ -12,10 +13,12 @@ mod sums;
 mod table;
 mod texts;
 mod types;
+mod value_texts;
 mod values;
 
+pub use members::{Member, row_members, rows_members};
 pub use numbers::{Atom, Comparison, Con, Index, Num, Term};
-pub use rows::Row;
+pub use rows::{ALL, Row, operator_rows, prefix_rows, row_name, row_named};
 pub use shapes::Shape;
 pub use shaping::{
     copy_shape, copy_shapes, may_share, parts_may_share, same_shape, same_shapes, shape_of,
@@ -26,4 +29,5 @@ pub use sums::{add, copy_atom, copy_num, multiply, plus, power, same_atom, same_
 pub use table::{Definition, Field, Form, Parameter, Types};
 pub use texts::{push_atom, push_integer, push_number, push_shape};
 pub use types::Typ;
+pub use value_texts::{push_bits, push_value};
 pub use values::Value;

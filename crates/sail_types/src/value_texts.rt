@@ -3,7 +3,7 @@
 ghost use Rattle.std.specs.Prelude.{◌≡◌, ◌*◌, ◌<◌, ◌≤◌, ◌++◌, ◌+◌, length, take, drop, map, slice_get, OnOk};
 ghost use Rattle.sail_base.specs.Bits.{value_of};
 ghost use Rattle.sail_types.specs.Named.{constructors, fields, members};
-ghost use Rattle.sail_types.specs.Texts.{bits_text, digit, digits, value_text, listed, bracketed, struct_text, field_name, text_at, fields_text};
+ghost use Rattle.sail_types.specs.Texts.{bits_text, digit, digits, value_text, listed, struct_text, field_name, text_at, fields_text, quoted};
 
 use crate::table::{Field, Types};
 use crate::texts::push_integer;
@@ -134,7 +134,7 @@ fn push_fields(
     fields: &[Field],
     values: &[Value],
 ) -> Result<(), AllocError>
-    ensures { OnOk result (out.new.items ≡ out.old.items ++ listed (fields_text fields.now (map (value_text types.now) values.now))) }
+    ensures { OnOk result (out.new.items ≡ out.old.items ++ listed (fields_text (map (value_text types.now) values.now) fields.now)) }
 {
     let mut index = 0;
     for value in values {
