@@ -1,5 +1,5 @@
 -- What the trees of types stand for, a function for each row.
-use Rattle.std.specs.Prelude.{Bool, true, false, ℤ, pos, List, [], ◌∷◌, Option, Some, None}
+use Rattle.std.specs.Prelude.{Bool, true, false, ℤ, List, [], ◌∷◌, Option, Some, None}
 use Rattle.sail_base.specs.declared.place.Place.{Place}
 use Rattle.sail_lex.specs.declared.kind.TokenKind.{TokenKind}
 use Rattle.sail_lex.specs.declared.kind.TokenKind.TheVariants as K
@@ -54,6 +54,25 @@ abbrev pub set_of : Tree → List ℤ
 set_of (Pair word (Pair bracket (Pair number (Pair tail close)))) = number_at number ∷ numbers_tail_of tail
 set_of t = []
 
+-- a number that is one of a set
+abbrev pub in_some_set_of : TyExp → Tree → TyExp
+in_some_set_of x set = V.OneOf (first_place set) x (set_of set)
+
+-- the same where a set is behind it
+abbrev pub in_set_of : TyExp → Tree → TyExp
+in_set_of x (Left set) = in_some_set_of x set
+in_set_of x t = x
+
+-- operands of one token
+abbrev pub type_variable_of : Tree → TyExp
+type_variable_of t = V.Variable (name_at t)
+
+abbrev pub type_decimal_of : Tree → TyExp
+type_decimal_of t = V.Number (place_at t) (number_at t)
+
+abbrev pub type_truth_of : Tree → TyExp
+type_truth_of t = V.Truth (place_at t) (is_true (kind_at t))
+
 -- type variables behind the first
 abbrev pub type_variables_of : Tree → List Name
 type_variables_of (Left (Pair variable more)) = name_at variable ∷ type_variables_of more
@@ -72,8 +91,7 @@ abbrev mutual
 
   pub type_comparison_of : Tree → TyExp
   type_comparison_of (Pair a (Left (Pair sign b))) = V.Infix (place_at sign) (type_operator (kind_at sign)) (type_sum_of a) (type_sum_of b)
-  type_comparison_of (Pair a (Right (Left set))) = V.OneOf (first_place set) (type_sum_of a) (set_of set)
-  type_comparison_of (Pair a (Right (Right t))) = type_sum_of a
+  type_comparison_of (Pair a (Right set)) = in_set_of (type_sum_of a) set
   type_comparison_of t = no_type
 
   pub type_sum_of : Tree → TyExp
@@ -97,11 +115,11 @@ abbrev mutual
 
   pub type_atom_of : Tree → TyExp
   type_atom_of (Left named) = type_named_of named
-  type_atom_of (Right (Left variable)) = V.Variable (name_at variable)
+  type_atom_of (Right (Left variable)) = type_variable_of variable
   type_atom_of (Right (Right (Left power))) = type_power_of power
-  type_atom_of (Right (Right (Right (Left decimal)))) = V.Number (place_at decimal) (number_at decimal)
+  type_atom_of (Right (Right (Right (Left decimal)))) = type_decimal_of decimal
   type_atom_of (Right (Right (Right (Right (Left negation))))) = type_negation_of negation
-  type_atom_of (Right (Right (Right (Right (Right (Left truth)))))) = V.Truth (place_at truth) (is_true (kind_at truth))
+  type_atom_of (Right (Right (Right (Right (Right (Left truth)))))) = type_truth_of truth
   type_atom_of (Right (Right (Right (Right (Right (Right (Left negated))))))) = type_not_of negated
   type_atom_of (Right (Right (Right (Right (Right (Right (Right (Left group)))))))) = type_group_of group
   type_atom_of (Right (Right (Right (Right (Right (Right (Right (Right exists)))))))) = type_exists_of exists
@@ -130,11 +148,13 @@ abbrev mutual
   type_group_of t = no_type
 
   pub type_exists_of : Tree → TyExp
-  type_exists_of (Pair bracket (Pair variable (Pair variables (Pair (Left (Pair comma constraint)) (Pair dot (Pair a close)))))) =
-      V.Exists (place_at bracket) (name_at variable ∷ type_variables_of variables) (Some (typ_of constraint)) (typ_of a)
-  type_exists_of (Pair bracket (Pair variable (Pair variables (Pair (Right t) (Pair dot (Pair a close)))))) =
-      V.Exists (place_at bracket) (name_at variable ∷ type_variables_of variables) None (typ_of a)
+  type_exists_of (Pair bracket (Pair variable (Pair variables (Pair constraint (Pair dot (Pair a close)))))) =
+      V.Exists (place_at bracket) (name_at variable ∷ type_variables_of variables) (type_constraint_of constraint) (typ_of a)
   type_exists_of t = no_type
+
+  pub type_constraint_of : Tree → Option TyExp
+  type_constraint_of (Left (Pair comma constraint)) = Some (typ_of constraint)
+  type_constraint_of t = None
 
   pub types_of : Tree → List TyExp
   types_of (Pair a tail) = typ_of a ∷ types_tail_of tail

@@ -1,3 +1,4 @@
+use crate::lexeme::Lexeme;
 use std::alloc::AllocError;
 use thiserror::Error;
 
@@ -27,3 +28,6 @@ impl From<AllocError> for ReadError {
         ReadError::OutOfMemory
     }
 }
+
+/// What the reading of a row gives: what it stands for, and the tokens behind it.
+pub type Read<'a, T> = Result<(T, &'a [Lexeme<'a>]), ReadError>;

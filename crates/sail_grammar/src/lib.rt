@@ -4,13 +4,15 @@
 mod error;
 mod lexeme;
 mod mode;
+mod value;
 mod word;
 
-pub use error::ReadError;
+pub use error::{Read, ReadError};
 pub use lexeme::Lexeme;
 pub use mode::Mode;
+pub use value::{name, number};
 pub use word::{
     accept, accept_any, accept_identifier, accept_kind_name, accept_number, accept_two, expect,
-    expect_any, expect_identifier, expect_kind_name, expect_number, sees, sees_any,
+    expect_any, expect_identifier, expect_kind_name, expect_number, expect_two, sees, sees_any,
     sees_identifier, sees_two,
 };

@@ -263,6 +263,19 @@ pub fn expect_kind_name<'a>(
     }
 }
 
+/// The first token, which is to be spelled `2`, and those behind it.
+#[tactic(auto, using(crate::proofs::Words::take_word, crate::proofs::Words::stop_word))]
+pub fn expect_two<'a>(tokens: &'a [Lexeme<'a>]) -> Result<(Lexeme<'a>, &'a [Lexeme<'a>]), ReadError>
+    ensures read { IfOk result (λ r. Takes (two ∷ []) (signs tokens.now) (sign r.0) (signs r.1.now)) }
+    ensures shorter { IfOk result (λ r. length r.1.now < length tokens.now) }
+    ensures stop { IfErr result (λ e. StopsAt (Word (two ∷ [])) (signs tokens.now) e) }
+{
+    match accept_two(tokens) {
+        Some(read) => Ok(read),
+        None => Err(ReadError::Unfit(tokens.len())),
+    }
+}
+
 /// Whether the first token is of this kind.
 #[tactic(auto, using(crate::proofs::Words::held_head))]
 pub fn sees(tokens: &[Lexeme<'_>], kind: TokenKind) -> bool
