@@ -12,3 +12,6 @@ pub mod Parsing
 pub mod Leaves
 pub mod TypeTrees
 pub mod PatternTrees
+pub mod Targets
+pub mod ExpTrees
+pub mod DefTrees
