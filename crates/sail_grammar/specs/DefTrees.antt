@@ -2,7 +2,7 @@
 use Rattle.std.specs.Prelude.{ℕ, Bool, true, false, List, [], ◌∷◌, Option, Some, None, bytes_eq, codes, if◌then◌else◌}
 use Rattle.sail_base.specs.declared.place.Place.{Place}
 use Rattle.sail_base.specs.declared.kind.Kind.{Kind}
-use Rattle.sail_base.specs.declared.kind.Kind.TheVariants.{Int, Bool as BoolKind, Type as TypeKind}
+use Rattle.sail_base.specs.declared.kind.Kind.TheVariants as N
 use Rattle.sail_lex.specs.declared.kind.TokenKind.{TokenKind}
 use Rattle.sail_lex.specs.declared.kind.TokenKind.TheVariants as K
 use Rattle.sail_syntax.specs.declared.name.Name.{Name}
@@ -33,7 +33,7 @@ no_def = V.Order nowhere
 
 -- the kind that is spelled so
 abbrev pub kind_of_text : List ℕ → Kind
-kind_of_text text = if bytes_eq text (codes "Bool") then BoolKind else (if bytes_eq text (codes "Type") then TypeKind else Int)
+kind_of_text text = if bytes_eq text (codes "Bool") then N.Bool else (if bytes_eq text (codes "Type") then N.Type else N.Int)
 
 -- row KindMark: the kind that is written, if one is
 abbrev pub kind_if : Tree → Option Kind
@@ -42,7 +42,7 @@ kind_if t = None
 
 -- without one it is `Int`
 abbrev pub kind_or : Option Kind → Kind
-kind_or None = Int
+kind_or None = N.Int
 kind_or (Some kind) = kind
 
 -- row Names and its tails
@@ -71,7 +71,7 @@ members_of t = []
 -- row Parameter
 abbrev pub parameter_of : Tree → Param
 parameter_of (Pair variable kind) = record { name = name_at variable; kind = kind_or (kind_if kind) }
-parameter_of t = record { name = name_at t; kind = Int }
+parameter_of t = record { name = name_at t; kind = N.Int }
 
 -- row Parameters and its tail
 abbrev pub parameters_tail : Tree → List Param
@@ -85,8 +85,8 @@ parameters_of t = []
 -- row QuantifiedVariable
 abbrev pub variable_of : Tree → Param
 variable_of (Right (Pair bracket (Pair variable (Pair colon (Pair kind close))))) = record { name = name_at variable; kind = kind_of_text (text_at kind) }
-variable_of (Left variable) = record { name = name_at variable; kind = Int }
-variable_of t = record { name = name_at t; kind = Int }
+variable_of (Left variable) = record { name = name_at variable; kind = N.Int }
+variable_of t = record { name = name_at t; kind = N.Int }
 
 -- row QuantifiedVariables
 abbrev pub variables_of : Tree → List Param
