@@ -10,3 +10,4 @@ pub mod Sums
 pub mod Replacing
 pub mod Rows
 pub mod Sorts
+pub mod Readings

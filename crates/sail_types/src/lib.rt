@@ -2,6 +2,7 @@
 //! builtin rows.
 #![tactic(auto)]
 
+mod constraints;
 mod members;
 mod numbers;
 mod rows;
@@ -16,6 +17,9 @@ mod types;
 mod value_texts;
 mod values;
 
+pub use constraints::{
+    copy_con, copy_index, read_con, read_index, read_indices, same_con, same_index,
+};
 pub use members::{Member, row_members, rows_members};
 pub use numbers::{Atom, Comparison, Con, Index, Num, Term};
 pub use rows::{ALL, Row, operator_rows, prefix_rows, row_name, row_named};

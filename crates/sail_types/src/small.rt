@@ -69,3 +69,17 @@ pub fn same_place(a: u32, b: u32) -> bool
 {
     a == b
 }
+
+/// Whether two truth values are the same.
+pub fn same_truth(a: bool, b: bool) -> bool
+    ensures { IsTrue result ↔ (a ≡ b) }
+{
+    a == b
+}
+
+/// Whether two lists hold the same integers in the same order.
+pub fn same_integers(a: &[i128], b: &[i128]) -> bool
+    ensures { IsTrue result ↔ (a.now ≡ b.now) }
+{
+    a == b
+}
