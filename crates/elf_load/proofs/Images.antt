@@ -1,5 +1,5 @@
 -- The image of a file whose segments are within it.
-use Rattle.std.proofs.Common.{◌≡◌, ℕ, ◌+◌, ◌<◌, ◌≤◌, true, false, nat_eq, List, length, take, drop, ap, ◌∙◌, arith, length-take, Option, Some, None, ℤ}
+use Rattle.std.proofs.Common.{◌≡◌, ℕ, ◌≤◌, true, false, List, drop, ◌∙◌, arith, length-take, Option, Some, None, ℤ}
 use Rattle.std.specs.List.{flat_map}
 use Rattle.sail_base.specs.declared.elf_refusal.ElfRefusal.{ElfRefusal}
 use Rattle.std.proofs.lemmas.Bool.Decides.{nat_tests}
@@ -7,7 +7,7 @@ use Rattle.elf_load.specs.Fields.{e_phnum, p_type, p_offset, p_filesz, p_memsz}
 use Rattle.elf_load.specs.Reading.{first_failed, identity_tests, machine_tests, table_tests, program_tests, indices, elf_refusal, segment_at, is_load, image_of}
 use Rattle.elf_load.specs.Refused.{SegmentsWithin}
 use Rattle.elf_load.specs.Placed.{Fits}
-use Rattle.elf_load.proofs.Tests.{Held, all_held, passed_two, first_failed-failed}
+use Rattle.elf_load.proofs.Failures.{Held, all_held, passed_two, first_failed-failed}
 
 loaded : (file : List ℕ) (i : ℕ) → is_load file i ≡ true → p_type file i ≡ 1
 loaded file i h = grind (arith, nat_tests)

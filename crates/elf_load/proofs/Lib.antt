@@ -1,5 +1,5 @@
 -- lemmas of the proofs
 pub mod Numbers
-pub mod Tests
+pub mod Failures
 pub mod Puts
 pub mod Images

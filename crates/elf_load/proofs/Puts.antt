@@ -1,7 +1,5 @@
 -- Writes one behind another.
-use Rattle.std.proofs.Common.{◌≡◌, ℕ, zero, suc, ◌+◌, ◌-◌, ◌*◌, ◌^◌, ◌<◌, ◌≤◌, List, [], ◌∷◌, ◌++◌, length, take, drop, replicate, get_or, refl, sym, ap, ◌∙◌, arith, add-one, length-append, length-take, length-drop, take_all}
-use Rattle.std.proofs.Math.Seq.{take-suc}
-use Rattle.std.proofs.lemmas.List.{length-replicate}
+use Rattle.std.proofs.Common.{◌≡◌, ℕ, zero, suc, ◌+◌, ◌-◌, ◌<◌, ◌≤◌, List, [], ◌∷◌, ◌++◌, length, replicate, refl, ap, ◌∙◌, arith, take_all}
 use Rattle.sail_base.specs.Bits.{bits_of, value_of}
 use Rattle.sail_base.specs.laws.BitLaws.{length-bits_of, value_of-bits_of_fits}
 use Rattle.mem_store.specs.Bytes.{overwritten, word_bytes}

@@ -1,5 +1,5 @@
 -- What RAM holds once an image is placed, or the first segment that RAM has no room for.
-use Rattle.std.specs.Prelude.{ℕ, ◌≢◌, ◌-◌, ◌≤◌, Bool, not, ◌&&◌, ◌==◌, List, [], ◌∷◌, ◌++◌, length, map, replicate, Option, All}
+use Rattle.std.specs.Prelude.{ℕ, ◌≢◌, ◌-◌, ◌≤◌, not, ◌&&◌, ◌==◌, List, ◌++◌, length, map, replicate, Option, All}
 use Rattle.std.specs.List.{fold}
 use Rattle.sail_base.specs.declared.elf_refusal.ElfRefusal.{ElfRefusal}
 use Rattle.sail_base.specs.declared.elf_refusal.ElfRefusal.TheVariants.{NotInRam}

@@ -15,6 +15,7 @@ use sail_base::{ElfRefusal, Word};
 pub fn place<M: Memory>(image: &Image, memory: &mut M) -> Result<(), ElfRefusal>
     requires { Fits image.now }
     ensures same { M.base memory.new ≡ M.base memory.old }
+    ensures size { length (M.bytes memory.new) ≡ length (M.bytes memory.old) }
     ensures fits { OnOk result (place_refusal image.now (M.base memory.old) (length (M.bytes memory.old)) ≡ None) }
     ensures placed { OnOk result (M.bytes memory.new ≡ placed image.now (M.base memory.old) (M.bytes memory.old)) }
     ensures refused { IfErr result (λ refusal. place_refusal image.now (M.base memory.old) (length (M.bytes memory.old)) ≡ Some refusal) }

@@ -1,4 +1,4 @@
-use Rattle.std.proofs.Common.{◌≡◌, ◌-◌, ◌++◌, length, replicate, ◌∙◌, ap, refl, arith}
+use Rattle.std.proofs.Common.{◌-◌, ◌++◌, length, replicate, ◌∙◌, ap, refl, arith}
 use Rattle.mem_store.specs.Bytes.{overwritten}
 use Rattle.elf_load.proofs.Puts.{put_segment}
 use Rattle.elf_load.proofs.placing.place_segment.Goals as goal

@@ -1,4 +1,4 @@
-use Rattle.std.proofs.Common.{◌≡◌, ◌+◌, ◌-◌, ◌<◌, ◌∙◌, ◌∷◌, [], ◌++◌, ℕ, take, get_or, length, ap, sym, arith, add-one, length-take, refl}
+use Rattle.std.proofs.Common.{◌≡◌, ◌+◌, ◌-◌, ◌∙◌, ◌∷◌, [], ◌++◌, take, get_or, ap, sym, arith, add-one, length-take, refl}
 use Rattle.std.proofs.Math.Seq.{take-suc}
 use Rattle.mem_store.specs.Bytes.{overwritten, word_bytes}
 use Rattle.elf_load.proofs.Puts.{put_more, put_keeps}

@@ -1,4 +1,4 @@
-use Rattle.std.proofs.Common.{◌≡◌, ◌+◌, ◌-◌, ◌<◌, ◌∙◌, ℕ, suc, replicate, ap, sym, arith, refl}
+use Rattle.std.proofs.Common.{◌≡◌, ◌+◌, ◌-◌, ◌∙◌, suc, replicate, ap, sym, arith, refl}
 use Rattle.std.proofs.lemmas.List.{length-replicate}
 use Rattle.mem_store.specs.Bytes.{overwritten, word_bytes}
 use Rattle.elf_load.proofs.Puts.{put_more, put_keeps, replicate-more}

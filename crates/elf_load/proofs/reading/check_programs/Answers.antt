@@ -1,10 +1,10 @@
-use Rattle.std.proofs.Common.{rules, arith}
+use Rattle.std.proofs.Common.{arith}
 use Rattle.std.proofs.lemmas.Result.{err_from_is_err_and}
 use borrow.Author.Count.{below_more}
 use Rattle.elf_load.specs.Fields.{e_phnum}
 use Rattle.elf_load.specs.Reading.{program_tests}
 use Rattle.elf_load.specs.Refused.{SegmentWithin}
-use Rattle.elf_load.proofs.Tests.{index_failed, index_passed}
+use Rattle.elf_load.proofs.Failures.{index_failed, index_passed}
 use Rattle.elf_load.proofs.reading.check_programs.Goals as goal
 
 pub returns-in_err-check_program-clause-failed : goal.returns-in_err-check_program-clause-failed

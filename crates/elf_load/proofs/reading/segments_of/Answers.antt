@@ -2,7 +2,7 @@ use Rattle.std.proofs.Common.{◌≡◌, ap, ◌∙◌}
 use Rattle.elf_load.specs.Fields.{p_type, number_at}
 use Rattle.elf_load.specs.Reading.{segment_at, is_load}
 use Rattle.elf_load.proofs.Images.{is_load-true, is_load-false}
-use Rattle.elf_load.proofs.Tests.{segments_more, segments_same}
+use Rattle.elf_load.proofs.Failures.{segments_more, segments_same}
 use Rattle.elf_load.proofs.reading.segments_of.Goals as goal
 use Rattle.elf_load.proofs.reading.segments_of.Goals.{then-field-eq-LOAD+in_ok-segment_of+in_ok-push, else-field-eq-LOAD}
 
