@@ -1,16 +1,26 @@
 -- What the operations on words compute of their numbers, as the lists that contracts see.
-use Rattle.std.proofs.Common.{◌≡◌, ℕ, zero, suc, ◌+◌, ◌-◌, ◌*◌, ◌/◌, ◌%◌, ◌^◌, ◌<◌, ◌≤◌, Bool, true, false, List, [], length, take, refl, sym, ap, ◌∙◌, subst, arith, pow-add, pow_mono, pow_pos, bit_and, bit_or, bit_xor, lt_of_lt_of_le, get_or, mul_comm, pow-suc, SFits, ℤ, pos, negsuc, ◌-ℤ◌, ◌*ℤ◌, to_z, of_z, unsigned_abs, lit<, add-one, mul-le-mul_right, suc-mul}
+use Rattle.std.proofs.Common.{◌≡◌, ℕ, zero, suc, ◌+◌, ◌-◌, ◌*◌, ◌/◌, ◌%◌, ◌^◌, ◌<◌, ◌≤◌, Bool, true, false}
+use Rattle.std.proofs.Common.{List, [], length, take, refl, sym, ap, ◌∙◌, subst, arith, pow-add, pow_mono}
+use Rattle.std.proofs.Common.{pow_pos, bit_and, bit_or, bit_xor, lt_of_lt_of_le, get_or, mul_comm, pow-suc}
+use Rattle.std.proofs.Common.{SFits, ℤ, pos, negsuc, ◌-ℤ◌, ◌*ℤ◌, to_z, of_z, unsigned_abs, lit<, add-one}
+use Rattle.std.proofs.Common.{mul-le-mul_right, suc-mul}
 use Rattle.std.proofs.lemmas.Nat.{mul-lt, mul-add-lt}
 use Rattle.std.proofs.lemmas.List.{nil_from_length}
 use Rattle.std.proofs.Math.Nat.{div-eq_of_lt}
 use Rattle.std.specs.Int.{w128}
 use Rattle.std.proofs.lemmas.Int.{ints, to_z_pos, to_z-of_z, fits_signed_mul}
-use Rattle.sail_base.specs.Bits.{bits_of, value_of, is_odd, top_bit, not_bits, and_bits, or_bits, xor_bits, mul_wide_unsigned, append_bits, zext_bits, slice_bits, shl_bits, shr_bits, copies, signed_of, bits_of_int, mul_wide_signed, mul_wide_mixed}
-use Rattle.sail_base.specs.laws.BitLaws.{length-bits_of, value_of-bits_of, value_of-bits_of_fits, bits_of-mod, mod-pow_twice, value_of-lt, take-bits_of}
+use Rattle.sail_base.specs.Bits.{bits_of, value_of, is_odd, top_bit, not_bits, and_bits, or_bits, xor_bits}
+use Rattle.sail_base.specs.Bits.{mul_wide_unsigned, append_bits, zext_bits, slice_bits, shl_bits, shr_bits}
+use Rattle.sail_base.specs.Bits.{copies, signed_of, bits_of_int, mul_wide_signed, mul_wide_mixed}
+use Rattle.sail_base.specs.laws.BitLaws.{length-bits_of, value_of-bits_of, value_of-bits_of_fits, bits_of-mod}
+use Rattle.sail_base.specs.laws.BitLaws.{mod-pow_twice, value_of-lt, take-bits_of}
 use Rattle.sail_base.specs.laws.BitNumbers.{bits_of-and, bits_of-or, bits_of-xor, bits_of-complement, pow_multiple}
-use Rattle.sail_base.specs.laws.BitShapes.{get_or-bits_of, append_bits-numbers, zext_bits-numbers, slice_bits-numbers, shl_bits-numbers, shr_bits-numbers, shl-past}
+use Rattle.sail_base.specs.laws.BitShapes.{get_or-bits_of, append_bits-numbers, zext_bits-numbers}
+use Rattle.sail_base.specs.laws.BitShapes.{slice_bits-numbers, shl_bits-numbers, shr_bits-numbers, shl-past}
 use Rattle.sail_base.specs.laws.WordParts.{length-copies}
-use Rattle.sail_base.specs.laws.BitSigns.{top_bit-none, top_bit-true, top_bit-false, value_of-not_bits, length-not_bits, signed_of-negative, signed_of-positive, signed_of-bound}
+use Rattle.sail_base.specs.laws.BitSigns.{top_bit-none, top_bit-true, top_bit-false, value_of-not_bits}
+use Rattle.sail_base.specs.laws.BitSigns.{length-not_bits, signed_of-negative, signed_of-positive}
+use Rattle.sail_base.specs.laws.BitSigns.{signed_of-bound}
 
 -- the width of a word is the length of its list
 pub width_is : (w x : ℕ) (a : List Bool) → bits_of w x ≡ a → w ≡ length a
@@ -22,13 +32,17 @@ same_width w v x y a b e f l = width_is w x a e ∙ l ∙ sym (width_is v y b f)
 pub below_same : (w v x y : ℕ) (a b : List Bool) → bits_of w x ≡ a → bits_of v y ≡ b → length a ≡ length b → y < 2 ^ v → y < 2 ^ w
 below_same w v x y a b e f l h = subst (λ k. y < 2 ^ k) (sym (same_width w v x y a b e f l)) h
 
-pub and_of : (w v x y : ℕ) (a b : List Bool) → bits_of w x ≡ a → bits_of v y ≡ b → length a ≡ length b → bits_of w (bit_and x y) ≡ and_bits a b
+pub and_of :
+    (w v x y : ℕ) (a b : List Bool) → bits_of w x ≡ a → bits_of v y ≡ b → length a ≡ length b
+    → bits_of w (bit_and x y) ≡ and_bits a b
 and_of w v x y a b e f l = bits_of-and w x y ∙ (λ i. and_bits (e i) ((ap (λ k. bits_of k y) (same_width w v x y a b e f l) ∙ f) i))
 
 pub or_of : (w v x y : ℕ) (a b : List Bool) → bits_of w x ≡ a → bits_of v y ≡ b → length a ≡ length b → bits_of w (bit_or x y) ≡ or_bits a b
 or_of w v x y a b e f l = bits_of-or w x y ∙ (λ i. or_bits (e i) ((ap (λ k. bits_of k y) (same_width w v x y a b e f l) ∙ f) i))
 
-pub xor_of : (w v x y : ℕ) (a b : List Bool) → bits_of w x ≡ a → bits_of v y ≡ b → length a ≡ length b → bits_of w (bit_xor x y) ≡ xor_bits a b
+pub xor_of :
+    (w v x y : ℕ) (a b : List Bool) → bits_of w x ≡ a → bits_of v y ≡ b → length a ≡ length b
+    → bits_of w (bit_xor x y) ≡ xor_bits a b
 xor_of w v x y a b e f l = bits_of-xor w x y ∙ (λ i. xor_bits (e i) ((ap (λ k. bits_of k y) (same_width w v x y a b e f l) ∙ f) i))
 
 pub not_of : (t w x r : ℕ) (a : List Bool) → w ≤ t → x < 2 ^ w → bits_of w x ≡ a → r ≡ (2 ^ t - 1 - x) % 2 ^ w → bits_of w r ≡ not_bits a
@@ -41,7 +55,9 @@ pub below_pow : (t w x : ℕ) → w ≤ t → x < 2 ^ w → x < 2 ^ t
 below_pow t w x h p = lt_of_lt_of_le p (pow_mono h)
 
 -- the product of two words is below 2 to twice the width
-pub product_below : (w v x y : ℕ) (a b : List Bool) → bits_of w x ≡ a → bits_of v y ≡ b → length a ≡ length b → x < 2 ^ w → y < 2 ^ v → x * y < 2 ^ (2 * w)
+pub product_below :
+    (w v x y : ℕ) (a b : List Bool) → bits_of w x ≡ a → bits_of v y ≡ b → length a ≡ length b → x < 2 ^ w → y < 2 ^ v
+    → x * y < 2 ^ (2 * w)
 product_below w v x y a b e f l p q =
     let d : w + w ≡ 2 * w = omega arith in
     subst (λ k. x * y < k) (sym (pow-add 2 w w) ∙ ap (λ k. 2 ^ k) d) (mul-lt x y (2 ^ w) (2 ^ w) p (below_same w v x y a b e f l q))
@@ -49,7 +65,9 @@ product_below w v x y a b e f l p q =
 pub double_below : (w n x : ℕ) (a : List Bool) → bits_of w x ≡ a → length a ≤ n → 2 * w ≤ 2 * n
 double_below w n x a e h = let l = width_is w x a e in omega arith
 
-pub product_of : (w v x y : ℕ) (a b : List Bool) → bits_of w x ≡ a → bits_of v y ≡ b → x < 2 ^ w → y < 2 ^ v → bits_of (2 * w) (x * y) ≡ mul_wide_unsigned a b
+pub product_of :
+    (w v x y : ℕ) (a b : List Bool) → bits_of w x ≡ a → bits_of v y ≡ b → x < 2 ^ w → y < 2 ^ v
+    → bits_of (2 * w) (x * y) ≡ mul_wide_unsigned a b
 product_of w v x y a b e f p q =
     let m : x ≡ value_of a = sym (value_of-bits_of_fits w x p) ∙ ap value_of e in
     let n : y ≡ value_of b = sym (value_of-bits_of_fits v y q) ∙ ap value_of f in
@@ -85,7 +103,9 @@ pub append_below : (w v x y : ℕ) → x < 2 ^ w → y < 2 ^ v → x * 2 ^ v + y
 append_below w v x y p q =
     subst (λ k. x * 2 ^ v + y < k) (mul_comm (2 ^ v) (2 ^ w) ∙ sym (pow-add 2 w v)) (mul-add-lt x (2 ^ v) y (2 ^ w) p q)
 
-pub append_of : (w v x y r : ℕ) (a b : List Bool) → bits_of w x ≡ a → bits_of v y ≡ b → y < 2 ^ v → r ≡ x * 2 ^ v + y → bits_of (w + v) r ≡ append_bits a b
+pub append_of :
+    (w v x y r : ℕ) (a b : List Bool) → bits_of w x ≡ a → bits_of v y ≡ b → y < 2 ^ v → r ≡ x * 2 ^ v + y
+    → bits_of (w + v) r ≡ append_bits a b
 append_of w v x y r a b e f q k =
     ap (bits_of (w + v)) k ∙ append_bits-numbers w v x y q ∙ (λ i. append_bits (e i) (f i))
 
@@ -97,7 +117,9 @@ zext_of w m x a e h p =
     let l = width_is w x a e in
     zext_bits-numbers w m x (omega arith) p ∙ ap (λ b. zext_bits b m) e
 
-pub slice_of : (w x hi lo k r : ℕ) (a : List Bool) → bits_of w x ≡ a → lo ≤ hi → hi < length a → k ≡ hi - lo + 1 → r ≡ x / 2 ^ lo % 2 ^ k → bits_of k r ≡ slice_bits a hi lo
+pub slice_of :
+    (w x hi lo k r : ℕ) (a : List Bool) → bits_of w x ≡ a → lo ≤ hi → hi < length a → k ≡ hi - lo + 1
+    → r ≡ x / 2 ^ lo % 2 ^ k → bits_of k r ≡ slice_bits a hi lo
 slice_of w x hi lo k r a e p q n s =
     let l = width_is w x a e in
     ap (bits_of k) s ∙ slice_bits-numbers w x hi lo k p (omega arith) n ∙ ap (λ b. slice_bits b hi lo) e
@@ -158,7 +180,9 @@ turned_fits w x a e t h p =
     let c : 2 * x < 2 ^ w = subst (λ k. 2 * x < 2 ^ k) (sym l) (subst (λ k. 2 * k < 2 ^ length a) (sym v) b) in
     record { sfits = half_below x 127 (below_pow 128 w (2 * x) h c) }
 
-pub signed_upper : (w x : ℕ) (a : List Bool) → bits_of w x ≡ not_bits a → top_bit a ≡ true → w ≤ 128 → x < 2 ^ w → to_z w128 (of_z w128 (negsuc 0 -ℤ to_z w128 x)) ≡ signed_of a
+pub signed_upper :
+    (w x : ℕ) (a : List Bool) → bits_of w x ≡ not_bits a → top_bit a ≡ true → w ≤ 128 → x < 2 ^ w
+    → to_z w128 (of_z w128 (negsuc 0 -ℤ to_z w128 x)) ≡ signed_of a
 signed_upper w x a e t h p =
     let f = turned_fits w x a e t h p in
     let z : to_z w128 x ≡ pos x = to_z_pos w128 x f.sfits in
@@ -187,30 +211,48 @@ short_value b s e h =
     let m : 2 ^ length b ≤ 2 ^ 64 = pow_mono h in
     subst (λ k. unsigned_abs k ≤ 2 ^ 64 - 1) (sym e) (omega (arith, value_of-lt b))
 
-pub product_fits : (s u : ℤ) (m n : ℕ) → SFits w128 s → SFits w128 u → unsigned_abs s ≤ m → unsigned_abs u ≤ n → m * n < 2 ^ 127 → SFits w128 (to_z w128 (of_z w128 s) *ℤ to_z w128 (of_z w128 u))
+pub product_fits :
+    (s u : ℤ) (m n : ℕ) → SFits w128 s → SFits w128 u → unsigned_abs s ≤ m → unsigned_abs u ≤ n → m * n < 2 ^ 127
+    → SFits w128 (to_z w128 (of_z w128 s) *ℤ to_z w128 (of_z w128 u))
 product_fits s u m n f g p q r =
     subst (λ k. SFits w128 k) (λ i. sym (to_z-of_z w128 s f) i *ℤ sym (to_z-of_z w128 u g) i) (fits_signed_mul w128 s u m n p q r)
 
-pub product_is : (s u x y : ℤ) (m n : ℕ) → SFits w128 s → SFits w128 u → s ≡ x → u ≡ y → unsigned_abs s ≤ m → unsigned_abs u ≤ n → m * n < 2 ^ 127 → to_z w128 (of_z w128 (to_z w128 (of_z w128 s) *ℤ to_z w128 (of_z w128 u))) ≡ x *ℤ y
+pub product_is :
+    (s u x y : ℤ) (m n : ℕ) → SFits w128 s → SFits w128 u → s ≡ x → u ≡ y → unsigned_abs s ≤ m → unsigned_abs u ≤ n
+    → m * n < 2 ^ 127 → to_z w128 (of_z w128 (to_z w128 (of_z w128 s) *ℤ to_z w128 (of_z w128 u))) ≡ x *ℤ y
 product_is s u x y m n f g e k p q r =
     to_z-of_z w128 (to_z w128 (of_z w128 s) *ℤ to_z w128 (of_z w128 u)) (product_fits s u m n f g p q r)
     ∙ (λ i. to_z-of_z w128 s f i *ℤ to_z-of_z w128 u g i) ∙ (λ i. e i *ℤ k i)
 
-pub signed_product_fits : (a b : List Bool) (s u : ℤ) → s ≡ signed_of a → u ≡ signed_of b → length a ≡ length b → length a ≤ 64 → SFits w128 s → SFits w128 u → SFits w128 (to_z w128 (of_z w128 s) *ℤ to_z w128 (of_z w128 u))
+pub signed_product_fits :
+    (a b : List Bool) (s u : ℤ) → s ≡ signed_of a → u ≡ signed_of b → length a ≡ length b → length a ≤ 64
+    → SFits w128 s → SFits w128 u → SFits w128 (to_z w128 (of_z w128 s) *ℤ to_z w128 (of_z w128 u))
 signed_product_fits a b s u e k l h f g =
     product_fits s u (2 ^ 63) (2 ^ 63) f g (short_abs a s e h) (short_abs b u k (omega arith)) (lit< tt)
 
-pub signed_product_of : (a b : List Bool) (s u : ℤ) (w : ℕ) → s ≡ signed_of a → u ≡ signed_of b → w ≡ length a → length a ≡ length b → length a ≤ 64 → SFits w128 s → SFits w128 u → bits_of_int (2 * w) (to_z w128 (of_z w128 (to_z w128 (of_z w128 s) *ℤ to_z w128 (of_z w128 u)))) ≡ mul_wide_signed a b
+pub signed_product_of :
+    (a b : List Bool) (s u : ℤ) (w : ℕ) → s ≡ signed_of a → u ≡ signed_of b → w ≡ length a → length a ≡ length b
+    → length a ≤ 64 → SFits w128 s → SFits w128 u
+    → bits_of_int (2 * w) (to_z w128 (of_z w128 (to_z w128 (of_z w128 s) *ℤ to_z w128 (of_z w128 u)))) ≡ mul_wide_signed a b
 signed_product_of a b s u w e k n l h f g =
-    λ i. bits_of_int (2 * n i) (product_is s u (signed_of a) (signed_of b) (2 ^ 63) (2 ^ 63) f g e k (short_abs a s e h) (short_abs b u k (omega arith)) (lit< tt) i)
+    let p = short_abs a s e h in
+    let q = short_abs b u k (omega arith) in
+    λ i. bits_of_int (2 * n i) (product_is s u (signed_of a) (signed_of b) (2 ^ 63) (2 ^ 63) f g e k p q (lit< tt) i)
 
-pub mixed_product_fits : (a b : List Bool) (s u : ℤ) → s ≡ signed_of a → u ≡ pos (value_of b) → length a ≡ length b → length a ≤ 64 → SFits w128 s → SFits w128 u → SFits w128 (to_z w128 (of_z w128 s) *ℤ to_z w128 (of_z w128 u))
+pub mixed_product_fits :
+    (a b : List Bool) (s u : ℤ) → s ≡ signed_of a → u ≡ pos (value_of b) → length a ≡ length b → length a ≤ 64
+    → SFits w128 s → SFits w128 u → SFits w128 (to_z w128 (of_z w128 s) *ℤ to_z w128 (of_z w128 u))
 mixed_product_fits a b s u e k l h f g =
     product_fits s u (2 ^ 63) (2 ^ 64 - 1) f g (short_abs a s e h) (short_value b u k (omega arith)) (lit< tt)
 
-pub mixed_product_of : (a b : List Bool) (s u : ℤ) (w : ℕ) → s ≡ signed_of a → u ≡ pos (value_of b) → w ≡ length a → length a ≡ length b → length a ≤ 64 → SFits w128 s → SFits w128 u → bits_of_int (2 * w) (to_z w128 (of_z w128 (to_z w128 (of_z w128 s) *ℤ to_z w128 (of_z w128 u)))) ≡ mul_wide_mixed a b
+pub mixed_product_of :
+    (a b : List Bool) (s u : ℤ) (w : ℕ) → s ≡ signed_of a → u ≡ pos (value_of b) → w ≡ length a → length a ≡ length b
+    → length a ≤ 64 → SFits w128 s → SFits w128 u
+    → bits_of_int (2 * w) (to_z w128 (of_z w128 (to_z w128 (of_z w128 s) *ℤ to_z w128 (of_z w128 u)))) ≡ mul_wide_mixed a b
 mixed_product_of a b s u w e k n l h f g =
-    λ i. bits_of_int (2 * n i) (product_is s u (signed_of a) (pos (value_of b)) (2 ^ 63) (2 ^ 64 - 1) f g e k (short_abs a s e h) (short_value b u k (omega arith)) (lit< tt) i)
+    let p = short_abs a s e h in
+    let q = short_value b u k (omega arith) in
+    λ i. bits_of_int (2 * n i) (product_is s u (signed_of a) (pos (value_of b)) (2 ^ 63) (2 ^ 64 - 1) f g e k p q (lit< tt) i)
 
 -- ---- copies
 

@@ -1,7 +1,9 @@
 -- Words of bits as lists, the least significant bit first, and the numbers that they stand for.
 use Rattle.std.specs.Bool.{beq}
 use Rattle.std.specs.Cmp.Lexicographic.{pointwise}
-use Rattle.std.specs.Prelude.{ℕ, zero, suc, ◌+◌, ◌-◌, ◌*◌, ◌/◌, ◌%◌, ◌^◌, Bool, true, false, not, cond, ◌&&◌, ◌||◌, nat_eq, nat_lt, List, [], ◌∷◌, ◌++◌, length, take, drop, replicate, map, reverse, slice_index_or, ℤ, pos, negsuc, ◌-ℤ◌, ◌*ℤ◌, int_lt, take_while}
+use Rattle.std.specs.Prelude.{ℕ, zero, suc, ◌+◌, ◌-◌, ◌*◌, ◌/◌, ◌%◌, ◌^◌, Bool, true, false, not, cond, ◌&&◌}
+use Rattle.std.specs.Prelude.{◌||◌, nat_eq, nat_lt, List, [], ◌∷◌, ◌++◌, length, take, drop, replicate, map}
+use Rattle.std.specs.Prelude.{reverse, slice_index_or, ℤ, pos, negsuc, ◌-ℤ◌, ◌*ℤ◌, int_lt, take_while}
 
 -- ---- bits and numbers
 
@@ -57,7 +59,8 @@ sub_bits a b = bits_of_int (length a) (pos (value_of a) -ℤ pos (value_of b))
 abbrev pub mul_bits : List Bool → List Bool → List Bool
 mul_bits a b = bits_of (length a) (value_of a * value_of b)
 
--- the whole product, twice as wide, of two unsigned words, of two signed ones, and of a signed one by an unsigned one
+-- the whole product, twice as wide, of two unsigned words, of two signed ones, and of a signed one by an unsigned
+-- one: its high half is that of MULHU, MULH and MULHSU (RISC-V unprivileged manual, "Multiplication Operations")
 abbrev pub mul_wide_unsigned : List Bool → List Bool → List Bool
 mul_wide_unsigned a b = bits_of (2 * length a) (value_of a * value_of b)
 
@@ -134,6 +137,7 @@ lt_unsigned a b = nat_lt (value_of a) (value_of b)
 abbrev pub lt_signed : List Bool → List Bool → Bool
 lt_signed a b = int_lt (signed_of a) (signed_of b)
 
--- how many zeros stand above the highest bit that is set; all of them where none is
+-- how many zeros stand above the highest bit that is set; all of them where none is (RISC-V unprivileged manual,
+-- extension Zbb, CLZ)
 abbrev pub leading_zeros : List Bool → ℕ
 leading_zeros bs = length (take_while not (reverse bs))

@@ -11,7 +11,8 @@ pub fn sum(a: i128, b: i128) -> Option<i128>
 
 /// The greatest common divisor of two integers, which is never negative, or `None` exactly where it is 2^127.
 pub fn gcd(a: i128, b: i128) -> Option<i128>
-    ensures { MatchOption result (IsGcd (unsigned_abs a) (unsigned_abs b) (2 ^ 127)) (λ g. (pos 0 ≤ℤ g) × IsGcd (unsigned_abs a) (unsigned_abs b) (unsigned_abs g)) }
+    ensures { MatchOption result (IsGcd (unsigned_abs a) (unsigned_abs b) (2 ^ 127))
+        (λ g. (pos 0 ≤ℤ g) × IsGcd (unsigned_abs a) (unsigned_abs b) (unsigned_abs g)) }
 {
     let g = gcd_of(a.unsigned_abs(), b.unsigned_abs());
     if g < 1 << 127 { Some(g as i128) } else { None }

@@ -9,7 +9,7 @@ use std::marker::Model;
 /// Named files in memory, of which one may be begun: a contract sees the files as a map, and the
 /// bytes of the begun file that aren't yet taken.
 #[derive(Drop)]
-pub(crate) struct Held {
+pub struct Held {
     files: Vec<(String, Vec<u8>)>,
     begun: usize,
     taken: usize,
@@ -32,7 +32,7 @@ impl Model for Held {
 
 impl Held {
     /// These files, none of them begun.
-    pub(crate) fn new(files: Vec<(String, Vec<u8>)>) -> Held
+    pub fn new(files: Vec<(String, Vec<u8>)>) -> Held
         ensures files { result.files ≡ files_of files.items }
         ensures left { result.left ≡ [] }
     {
@@ -45,7 +45,7 @@ impl Held {
     }
 
     /// Begins the file of this name, and answers whether there is one; if not, none is begun.
-    pub(crate) fn begin(&mut self, name: &str) -> bool
+    pub fn begin(&mut self, name: &str) -> bool
         ensures files { self.new.files ≡ self.old.files }
         ensures begun { IsTrue result → lookup self.old.files name.now ≡ Some self.new.left }
         ensures missing { result ≡ false → lookup self.old.files name.now ≡ None }
@@ -65,7 +65,7 @@ impl Held {
     }
 
     /// Begins none: nothing is left.
-    pub(crate) fn close(&mut self)
+    pub fn close(&mut self)
         ensures files { self.new.files ≡ self.old.files }
         ensures none { self.new.left ≡ [] }
     {
@@ -74,7 +74,7 @@ impl Held {
     }
 
     /// Takes the next bytes, at most `most` and as many as `buf` has room for.
-    pub(crate) fn take(&mut self, buf: &mut [u8], most: usize) -> usize
+    pub fn take(&mut self, buf: &mut [u8], most: usize) -> usize
         requires { 0 < most }
         ensures files { self.new.files ≡ self.old.files }
         ensures count { result ≡ min (min (length self.old.left) (length buf.new)) most }
@@ -87,7 +87,7 @@ impl Held {
     }
 }
 
-// The index of the first file of this name.
+/// The index of the first file of this name.
 fn index_of(files: &[(String, Vec<u8>)], name: &str) -> Option<usize>
     ensures found { IfSome result (λ i.
         lookup (files_of files.now) name.now ≡ Some (bytes_at (files_of files.now) i)) }
@@ -101,7 +101,7 @@ fn index_of(files: &[(String, Vec<u8>)], name: &str) -> Option<usize>
     None
 }
 
-// The bytes of the file at an index, none past the end.
+/// The bytes of the file at an index, none past the end.
 fn bytes_of(files: &[(String, Vec<u8>)], index: usize) -> &[u8]
     ensures { result.now ≡ bytes_at (files_of files.now) index }
 {
@@ -111,7 +111,7 @@ fn bytes_of(files: &[(String, Vec<u8>)], index: usize) -> &[u8]
     files[index].1.as_slice()
 }
 
-// Those bytes but for the first `taken`.
+/// Those bytes but for the first `taken`.
 fn rest_of(files: &[(String, Vec<u8>)], index: usize, taken: usize) -> &[u8]
     requires { taken ≤ length (bytes_at (files_of files.now) index) }
     ensures rest { result.now ≡ drop taken (bytes_at (files_of files.now) index) }
@@ -121,7 +121,7 @@ fn rest_of(files: &[(String, Vec<u8>)], index: usize, taken: usize) -> &[u8]
     &bytes[taken..]
 }
 
-// Copies the front of `from` to the front of `to`, at most `most` bytes, and answers how many.
+/// Copies the front of `from` to the front of `to`, at most `most` bytes, and answers how many.
 fn copy_front(from: &[u8], to: &mut [u8], most: usize) -> usize
     requires { 0 < most }
     ensures count { result ≡ min (min (length from.now) (length to.new)) most }

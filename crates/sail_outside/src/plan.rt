@@ -4,7 +4,7 @@ ghost use Rattle.sail_outside.specs.Faults.{Rose};
 
 /// The calls that fail, counted from 0, the calls so far, and the faults among them.
 #[derive(Drop)]
-pub(crate) struct Plan {
+pub struct Plan {
     fails: Vec<u64>,
     calls: u64,
     faults: u64,
@@ -12,7 +12,7 @@ pub(crate) struct Plan {
 
 impl Plan {
     /// These calls fail; there was none so far.
-    pub(crate) fn new(fails: Vec<u64>) -> Plan
+    pub fn new(fails: Vec<u64>) -> Plan
         ensures fails { result.fails ≡ fails }
         ensures calls { result.calls ≡ 0 }
         ensures faults { result.faults ≡ 0 }
@@ -25,21 +25,21 @@ impl Plan {
     }
 
     /// How many calls there were; the count stands still at its end.
-    pub(crate) fn calls(&self) -> u64
+    pub fn calls(&self) -> u64
         ensures { result ≡ self.now.calls }
     {
         self.calls
     }
 
     /// How many of them failed; the count stands still at its end.
-    pub(crate) fn faults(&self) -> u64
+    pub fn faults(&self) -> u64
         ensures { result ≡ self.now.faults }
     {
         self.faults
     }
 
     /// Counts one more call and answers whether it fails, which is a fault.
-    pub(crate) fn fails_now(&mut self) -> bool
+    pub fn fails_now(&mut self) -> bool
         ensures planned { IsTrue result ↔ Contains self.old.fails.items self.old.calls }
         ensures plan { self.new.fails ≡ self.old.fails }
         ensures counted { self.new.calls ≡ min (self.old.calls + 1) (2 ^ 64 - 1) }

@@ -8,7 +8,7 @@ use crate::edge::Shelf;
 use crate::errors::ReadError;
 use std::alloc::Global;
 
-// As many bytes are taken at once, at most.
+/// As many bytes are taken at once, at most.
 const CHUNK: usize = 4096;
 
 /// Reads the whole file of this name, of at most `limit` bytes, and answers its bytes.
@@ -41,7 +41,7 @@ pub fn read_file<S: Shelf>(
     read_rest(alloc, shelf, limit)
 }
 
-// The bytes that are left of the begun file, at most `limit`.
+/// The bytes that are left of the begun file, at most `limit`.
 fn read_rest<S: Shelf>(alloc: Global, shelf: &mut S, limit: u64) -> Result<Vec<u8>, ReadError>
     ensures same { S.holds shelf.new ≡ S.holds shelf.old }
     ensures later { S.faults shelf.old ≤ S.faults shelf.new }

@@ -9,7 +9,7 @@ use std::io::Write;
 use std::test::Fail;
 use std::{fs, io};
 
-// Bytes of which no two neighbours are equal.
+/// Bytes of which no two neighbours are equal.
 fn sample(alloc: Global, count: usize) -> Result<Vec<u8>, AllocError> {
     let mut bytes = Vec::new(alloc);
     for index in 0..count {
@@ -18,7 +18,7 @@ fn sample(alloc: Global, count: usize) -> Result<Vec<u8>, AllocError> {
     Ok(bytes)
 }
 
-// A file `a` of so many bytes, and an empty file `b`.
+/// A file `a` of so many bytes, and an empty file `b`.
 fn files(alloc: Global, count: usize) -> Result<Vec<(String, Vec<u8>)>, AllocError> {
     let a = (String::from_str(alloc, "a")?, sample(alloc, count)?);
     let b = (String::from_str(alloc, "b")?, Vec::new(alloc));
@@ -26,99 +26,29 @@ fn files(alloc: Global, count: usize) -> Result<Vec<(String, Vec<u8>)>, AllocErr
 }
 
 #[test]
-fn files_are_read_whole_up_to_the_limit(rt: HostRuntime) -> Result<(), Fail> {
-    let alloc = rt.alloc();
-    // bytes, limit, whether they are read
-    let rows: [(usize, u64, bool); 12] = [
-        (0, 0, true),
-        (1, 0, false),
-        (3, 3, true),
-        (3, 2, false),
-        (3, 4, true),
-        (4095, 4095, true),
-        (4096, 4095, false),
-        (4096, 4096, true),
-        (4097, 4096, false),
-        (4097, 4097, true),
-        (9000, 8999, false),
-        (9000, u64::MAX, true),
-    ];
-    for (count, limit, read) in rows {
-        for piece in [1, 7, usize::MAX] {
-            let mut shelf = MemShelf::new(files(alloc, count)?, Vec::new(alloc), piece);
-            let answer = read_file(alloc, &mut shelf, "a", limit);
-            if read {
-                assert_eq!(rt;
-                    answer?.as_slice(),
-                    sample(alloc, count)?.as_slice(),
-                    "{count} {limit}"
-                );
-            } else {
-                assert_eq!(rt;
-                    answer.err(),
-                    Some(ReadError::TooLong { limit }),
-                    "{count} {limit}"
-                );
-            }
-            assert_eq!(rt; shelf.faults(), 0, "{count} {limit}");
-        }
-    }
-    Ok(())
-}
-
-#[test]
 fn a_shelf_that_fails_at_each_call_in_turn_is_at_fault(rt: HostRuntime) -> Result<(), Fail> {
     let alloc = rt.alloc();
-    for (piece, calls) in [(1, 7), (2, 5), (9, 3)] {
-        let mut shelf = MemShelf::new(files(alloc, 5)?, Vec::new(alloc), piece);
-        assert_eq!(rt; read_file(alloc, &mut shelf, "a", 5)?.len(), 5);
-        assert_eq!(rt; shelf.calls(), calls);
-        for call in 0..calls {
-            let mut shelf = MemShelf::new(files(alloc, 5)?, vec![in alloc; call]?, piece);
-            let answer = read_file(alloc, &mut shelf, "a", 5);
-            assert_eq!(rt; answer.err(), Some(ReadError::Fault), "{call}");
-            assert_eq!(rt; shelf.faults(), 1, "{call}");
-            // The next file is read as if nothing had been.
-            assert_eq!(rt; read_file(alloc, &mut shelf, "b", 0)?.len(), 0, "{call}");
-        }
+    for call in 0..5 {
+        let mut shelf = MemShelf::new(files(alloc, 5)?, vec![in alloc; call]?, 2);
+        let answer = read_file(alloc, &mut shelf, "a", 5);
+        assert_eq!(rt; answer.err(), Some(ReadError::Fault), "{call}");
+        assert_eq!(rt; (shelf.calls(), shelf.faults()), (call + 1, 1), "{call}");
+        // The next file is read as if nothing had been.
+        assert_eq!(rt; read_file(alloc, &mut shelf, "b", 0)?.len(), 0, "{call}");
     }
-    let mut shelf = MemShelf::new(files(alloc, 5)?, Vec::new(alloc), 1);
-    assert_eq!(rt;
-        read_file(alloc, &mut shelf, "c", 5).err(),
-        Some(ReadError::Missing)
-    );
-    assert_eq!(rt; shelf.faults(), 0);
-    let mut buffer = [0u8; 2];
-    assert_eq!(rt; shelf.take(&mut buffer), Ok(0));
     Ok(())
 }
 
 #[test]
-fn pieces_are_written_whole_or_up_to_the_failing_call(rt: HostRuntime) -> Result<(), Fail> {
+fn pieces_are_written_up_to_the_failing_call(rt: HostRuntime) -> Result<(), Fail> {
     let alloc = rt.alloc();
-    let all = sample(alloc, 12)?;
     // the size of the pieces, the call that fails, the bytes that are then there
-    for (piece, call, there) in [
-        (1, 0, 0),
-        (1, 11, 11),
-        (5, 2, 10),
-        (10, 1, 10),
-        (12, 0, 0),
-        (0, 3, 3),
-    ] {
+    for (piece, call, there) in [(5, 2, 10), (12, 0, 0), (0, 3, 3)] {
         let mut sink = MemSink::new(alloc, vec![in alloc; call]?, piece);
-        assert_eq!(rt;
-            write_all(&mut sink, all.as_slice()),
-            Err(WriteError::Fault),
-            "{piece}"
-        );
-        assert_eq!(rt; sink.bytes(), sample(alloc, there)?.as_slice(), "{piece}");
-        assert_eq!(rt; sink.faults(), 1, "{piece}");
-        let mut sink = MemSink::new(alloc, vec![in alloc; 99]?, piece);
-        assert_eq!(rt; write_all(&mut sink, b""), Ok(()), "{piece}");
-        assert_eq!(rt; sink.calls(), 0, "{piece}");
-        assert_eq!(rt; write_all(&mut sink, all.as_slice()), Ok(()), "{piece}");
-        assert_eq!(rt; sink.bytes(), all.as_slice(), "{piece}");
+        let answer = write_all(&mut sink, b"twelve bytes");
+        assert_eq!(rt; answer, Err(WriteError::Fault), "{piece}");
+        assert_eq!(rt; sink.bytes(), &b"twelve bytes"[..there], "{piece}");
+        assert_eq!(rt; (sink.calls(), sink.faults()), (call + 1, 1), "{piece}");
     }
     Ok(())
 }
@@ -128,16 +58,13 @@ fn a_sure_shelf_and_a_sure_sink_carry_the_bytes(rt: HostRuntime) -> Result<(), F
     let alloc = rt.alloc();
     let mut shelf = SureShelf::new(files(alloc, 5000)?);
     let bytes = read_file(alloc, &mut shelf, "a", 5000)?;
-    assert_eq!(rt; shelf.begin("c"), Err(BeginError::Missing));
     let mut sink = SureSink::new(alloc);
-    assert_eq!(rt; write_all(&mut sink, b"="), Ok(()));
     assert_eq!(rt; write_all(&mut sink, bytes.as_slice()), Ok(()));
-    assert_eq!(rt; &sink.bytes()[..1], b"=".as_slice());
-    assert_eq!(rt; &sink.bytes()[1..], sample(alloc, 5000)?.as_slice());
+    assert_eq!(rt; sink.bytes(), sample(alloc, 5000)?.as_slice());
     Ok(())
 }
 
-// A real file in the place of the standard output, which takes at most `most` bytes at once.
+/// A real file in the place of the standard output, which takes at most `most` bytes at once.
 #[derive(Drop)]
 struct Output {
     file: File,

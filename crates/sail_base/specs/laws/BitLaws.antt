@@ -1,7 +1,10 @@
 -- The laws that tie lists of bits to numbers.
-use Rattle.std.proofs.Common.{◌≡◌, ℕ, zero, suc, ◌+◌, ◌-◌, ◌*◌, ◌/◌, ◌%◌, ◌^◌, ◌<◌, ◌≤◌, Bool, true, false, cond, nat_eq, List, [], ◌∷◌, ◌++◌, length, take, drop, refl, sym, ap, ◌∙◌, subst, arith, pow-suc, add-one, mod-eq_of_lt, take-append-drop, Decides, ◌≢◌, ◌&&◌}
+use Rattle.std.proofs.Common.{◌≡◌, ℕ, zero, suc, ◌+◌, ◌-◌, ◌*◌, ◌/◌, ◌%◌, ◌^◌, ◌<◌, ◌≤◌, Bool, true, false}
+use Rattle.std.proofs.Common.{cond, nat_eq, List, [], ◌∷◌, ◌++◌, length, take, drop, refl, sym, ap, ◌∙◌}
+use Rattle.std.proofs.Common.{subst, arith, pow-suc, add-one, mod-eq_of_lt, take-append-drop, Decides}
+use Rattle.std.proofs.Common.{◌&&◌}
 use Rattle.std.proofs.lemmas.Nat.{mod-pow-add, shr-shr, shr_high, mod_low}
-use Rattle.std.proofs.lemmas.Bool.Decides.{not_from_Decides, same_from_decides, Decides-like, Decides-and, Decides-eqb}
+use Rattle.std.proofs.lemmas.Bool.Decides.{same_from_decides, Decides-like, Decides-and, Decides-eqb}
 use Rattle.std.proofs.Math.Pow.{mod-mod-pow}
 use Rattle.std.specs.Cmp.{IsEquivalence, booleans_Decides, bool_eq_equiv}
 use Rattle.std.specs.Cmp.Lexicographic.{lists_equiv, pointwise_decides}
@@ -18,10 +21,10 @@ below_two (suc zero) h = refl
 below_two (suc (suc r)) h = absurd (omega arith)
 
 -- a lowest bit is the remainder by 2
-pub bit_value-is_odd : (n : ℕ) → bit_value (is_odd n) ≡ n % 2
+bit_value-is_odd : (n : ℕ) → bit_value (is_odd n) ≡ n % 2
 bit_value-is_odd n = below_two (n % 2) (omega arith)
 
-pub is_odd-bit_value : (b : Bool) (n : ℕ) → is_odd (bit_value b + 2 * n) ≡ b
+is_odd-bit_value : (b : Bool) (n : ℕ) → is_odd (bit_value b + 2 * n) ≡ b
 is_odd-bit_value true n = let e : (1 + 2 * n) % 2 ≡ 1 = omega arith in rw e
 is_odd-bit_value false n = let e : (0 + 2 * n) % 2 ≡ 0 = omega arith in rw e
 
@@ -37,7 +40,7 @@ unfolding bits_of value_of
 value_of-bits_of zero n = omega arith
 value_of-bits_of (suc w) n = omega (arith, mod-pow-suc w n, bit_value-is_odd n, value_of-bits_of w (n / 2))
 
-pub bit_value-lt : (b : Bool) → bit_value b < 2
+bit_value-lt : (b : Bool) → bit_value b < 2
 bit_value-lt true = omega arith
 bit_value-lt false = omega arith
 
@@ -57,10 +60,6 @@ value_of-bits_of_fits w n h = value_of-bits_of w n ∙ mod-eq_of_lt h
 
 pub bits_of-mod : (w n : ℕ) → bits_of w (n % 2 ^ w) ≡ bits_of w n
 bits_of-mod w n = rw (← value_of-bits_of w n) (let e = bits_of-value_of (bits_of w n) in rw (length-bits_of w n) at e)
-
--- two words of one width that stand for one number are one
-pub same_from_value : (a b : List Bool) → length a ≡ length b → value_of a ≡ value_of b → a ≡ b
-same_from_value a b e v = sym (bits_of-value_of a) ∙ (λ i. bits_of (e i) (v i)) ∙ bits_of-value_of b
 
 -- the front of a number's bits are its low bits
 pub take-bits_of : (n w x : ℕ) → n ≤ w → take n (bits_of w x) ≡ bits_of n x
@@ -115,12 +114,6 @@ pub ruleset word_equality = (Decides-eq_bits)
 pub eq_bits-equiv : IsEquivalence eq_bits
 eq_bits-equiv = lists_equiv bool_eq_equiv
 
-pub same_from_eq_bits : (a b : List Bool) → eq_bits a b ≡ true → a ≡ b
-same_from_eq_bits a b h = (Decides-eq_bits a b).0 h
-
-pub other_from_eq_bits : (a b : List Bool) → eq_bits a b ≡ false → a ≢ b
-other_from_eq_bits a b h = not_from_Decides (eq_bits a b) (Decides-eq_bits a b) h
-
 -- words are equal where the widths and the numbers are
 pub eq_bits-numbers : (w v x y : ℕ) → x < 2 ^ w → y < 2 ^ v → (nat_eq w v && nat_eq x y) ≡ eq_bits (bits_of w x) (bits_of v y)
 eq_bits-numbers w v x y p q =
@@ -134,7 +127,9 @@ eq_bits-numbers w v x y p q =
     (Decides-eq_bits (bits_of w x) (bits_of v y))
 
 -- the low bits of a sum that was taken at more bits
-pub add_bits-numbers : (t w v x y r : ℕ) → w ≤ t → x < 2 ^ w → y < 2 ^ v → r ≡ (x + y) % 2 ^ t % 2 ^ w → bits_of w r ≡ add_bits (bits_of w x) (bits_of v y)
+pub add_bits-numbers :
+    (t w v x y r : ℕ) → w ≤ t → x < 2 ^ w → y < 2 ^ v → r ≡ (x + y) % 2 ^ t % 2 ^ w
+    → bits_of w r ≡ add_bits (bits_of w x) (bits_of v y)
 add_bits-numbers t w v x y r h p q e =
     ap (bits_of w) (e ∙ mod-pow_twice t w (x + y) h) ∙ bits_of-mod w (x + y)
     ∙ (λ i. bits_of (sym (length-bits_of w x) i) (sym (value_of-bits_of_fits w x p) i + sym (value_of-bits_of_fits v y q) i))

@@ -1,5 +1,7 @@
 -- Sums, differences, products, bitwise operations and signed readings of words, as numbers.
-use Rattle.std.proofs.Common.{◌≡◌, ℕ, zero, suc, ◌+◌, ◌-◌, ◌*◌, ◌/◌, ◌%◌, ◌^◌, ◌<◌, ◌≤◌, not, ◌&&◌, ◌||◌, nat_eq, ◌∷◌, refl, sym, ap, ◌∙◌, arith, pow-add, pos, negsuc, ◌-ℤ◌, ⊎_elim, bit_and, bit_or, bit_xor}
+use Rattle.std.proofs.Common.{◌≡◌, ℕ, zero, suc, ◌+◌, ◌-◌, ◌*◌, ◌/◌, ◌%◌, ◌^◌, ◌<◌, ◌≤◌, not, ◌&&◌, ◌||◌}
+use Rattle.std.proofs.Common.{nat_eq, ◌∷◌, refl, sym, ap, ◌∙◌, arith, pow-add, pos, negsuc, ◌-ℤ◌, ⊎_elim}
+use Rattle.std.proofs.Common.{bit_and, bit_or, bit_xor}
 use Rattle.std.proofs.lemmas.Bool.{cases_lt}
 use Rattle.std.proofs.Math.Nat.{add-mul-mod_self_right}
 use Rattle.std.proofs.lemmas.Int.{ints}
@@ -47,13 +49,17 @@ difference t w x y h k =
     (cases_lt x y)
 
 -- the difference as an integer: where it is negative, its bits are those of the distance below -1, turned
-pub sub_bits-numbers : (t w v x y r : ℕ) → w ≤ t → x < 2 ^ w → y < 2 ^ v → y < 2 ^ t → r ≡ (x + (2 ^ t - y)) % 2 ^ t % 2 ^ w → bits_of w r ≡ sub_bits (bits_of w x) (bits_of v y)
+pub sub_bits-numbers :
+    (t w v x y r : ℕ) → w ≤ t → x < 2 ^ w → y < 2 ^ v → y < 2 ^ t → r ≡ (x + (2 ^ t - y)) % 2 ^ t % 2 ^ w
+    → bits_of w r ≡ sub_bits (bits_of w x) (bits_of v y)
 sub_bits-numbers t w v x y r h p q k e =
     ap (bits_of w) (e ∙ mod-pow_twice t w (x + (2 ^ t - y)) h) ∙ bits_of-mod w (x + (2 ^ t - y))
     ∙ difference t w x y h k
     ∙ (λ i. bits_of_int (sym (length-bits_of w x) i) (pos (sym (value_of-bits_of_fits w x p) i) -ℤ pos (sym (value_of-bits_of_fits v y q) i)))
 
-pub mul_bits-numbers : (t w v x y r : ℕ) → w ≤ t → x < 2 ^ w → y < 2 ^ v → r ≡ (x * y) % 2 ^ t % 2 ^ w → bits_of w r ≡ mul_bits (bits_of w x) (bits_of v y)
+pub mul_bits-numbers :
+    (t w v x y r : ℕ) → w ≤ t → x < 2 ^ w → y < 2 ^ v → r ≡ (x * y) % 2 ^ t % 2 ^ w
+    → bits_of w r ≡ mul_bits (bits_of w x) (bits_of v y)
 mul_bits-numbers t w v x y r h p q e =
     ap (bits_of w) (e ∙ mod-pow_twice t w (x * y) h) ∙ bits_of-mod w (x * y)
     ∙ (λ i. bits_of (sym (length-bits_of w x) i) (sym (value_of-bits_of_fits w x p) i * sym (value_of-bits_of_fits v y q) i))

@@ -1,8 +1,9 @@
 -- Parts of words, wider words and shifts: lists of bits against numbers.
-use Rattle.std.proofs.Common.{◌≡◌, ℕ, zero, suc, ◌+◌, ◌-◌, ◌*◌, ◌/◌, ◌%◌, ◌^◌, ◌<◌, ◌≤◌, Bool, true, false, not, List, [], ◌∷◌, ◌++◌, length, take, drop, replicate, refl, sym, ap, ◌∙◌, arith, pow_pos, pow_mono, get_or, zero-add, mul_assoc}
+use Rattle.std.proofs.Common.{◌≡◌, ℕ, zero, suc, ◌+◌, ◌-◌, ◌*◌, ◌/◌, ◌%◌, ◌^◌, ◌<◌, ◌≤◌, Bool, true, false}
+use Rattle.std.proofs.Common.{not, List, [], ◌∷◌, ◌++◌, length, take, drop, replicate, refl, sym, ap, ◌∙◌}
+use Rattle.std.proofs.Common.{arith, pow_pos, get_or, zero-add, mul_assoc}
 use Rattle.std.proofs.lemmas.List.{map-append}
 use Rattle.std.proofs.lemmas.Nat.{shr-shr}
-use Rattle.std.proofs.Math.Nat.{div-eq_of_lt}
 use Rattle.sail_base.specs.Bits.{is_odd, bits_of, not_bits, shl_bits, shr_bits, append_bits, slice_bits, zext_bits}
 use Rattle.sail_base.specs.laws.BitLaws.{length-bits_of, bits_of-mod, take-bits_of, drop-bits_of, bits_of-append}
 use Rattle.sail_base.specs.laws.BitNumbers.{pow_multiple, bits_of-add-multiple}
@@ -39,7 +40,9 @@ append_bits-numbers w v x y h =
     let e : w + v ≡ v + w = omega arith in
     (λ i. bits_of (e i) (x * 2 ^ v + y)) ∙ bits_of-append v w y x h
 
-pub slice_bits-numbers : (w x hi lo k : ℕ) → lo ≤ hi → hi < w → k ≡ hi - lo + 1 → bits_of k (x / 2 ^ lo % 2 ^ k) ≡ slice_bits (bits_of w x) hi lo
+pub slice_bits-numbers :
+    (w x hi lo k : ℕ) → lo ≤ hi → hi < w → k ≡ hi - lo + 1
+    → bits_of k (x / 2 ^ lo % 2 ^ k) ≡ slice_bits (bits_of w x) hi lo
 slice_bits-numbers w x hi lo k p q e =
     bits_of-mod k (x / 2 ^ lo)
     ∙ sym (take-bits_of k (w - lo) (x / 2 ^ lo) (omega arith))
@@ -62,18 +65,12 @@ shr_bits-numbers w x n h =
 -- a shift up by the width or more leaves zeros
 pub shl-past : (w x n : ℕ) → w ≤ n → bits_of w 0 ≡ bits_of w (x * 2 ^ n)
 shl-past w x n h =
-    let e : 0 + x * 2 ^ (n - w) * 2 ^ w ≡ x * 2 ^ n = zero-add (x * 2 ^ (n - w) * 2 ^ w) ∙ mul_assoc x (2 ^ (n - w)) (2 ^ w) ∙ sym (ap (λ k. x * k) (pow_multiple n w h)) in
+    let e : 0 + x * 2 ^ (n - w) * 2 ^ w ≡ x * 2 ^ n =
+    zero-add (x * 2 ^ (n - w) * 2 ^ w) ∙ mul_assoc x (2 ^ (n - w)) (2 ^ w) ∙ sym (ap (λ k. x * k) (pow_multiple n w h)) in
     sym (bits_of-add-multiple w 0 (x * 2 ^ (n - w))) ∙ ap (bits_of w) e
 
--- a shift down by the width or more leaves zeros
-pub shr-past : (w x n : ℕ) → x < 2 ^ w → w ≤ n → bits_of w 0 ≡ bits_of w (x / 2 ^ n)
-shr-past w x n h p =
-    let m : 2 ^ w ≤ 2 ^ n = pow_mono p in
-    let lt : x < 2 ^ n = omega arith in
-    ap (bits_of w) (sym (div-eq_of_lt lt))
-
 -- ---- turned bits
-pub not-not : (b : Bool) → not (not b) ≡ b
+not-not : (b : Bool) → not (not b) ≡ b
 not-not true = refl
 not-not false = refl
 

@@ -1,14 +1,17 @@
 -- The sign of a word, its signed number, and how many zeros stand at its top.
-use Rattle.std.proofs.Common.{◌≡◌, ℕ, zero, suc, ◌+◌, ◌-◌, ◌*◌, ◌/◌, ◌%◌, ◌^◌, ◌<◌, ◌≤◌, Bool, true, false, cond, not, List, [], ◌∷◌, ◌++◌, length, drop, replicate, reverse, refl, sym, ap, ◌∙◌, subst, arith, pow-suc, pow_mono, get_or, ⊎_elim, pos, negsuc, ◌-ℤ◌, unsigned_abs, eqb-true, ◌⊎◌, inl, inr, add-one, true≢false, take_while, neg_ℤ, ◌≤ℤ◌, ◌<ℤ◌, length-take, ℤ}
+use Rattle.std.proofs.Common.{◌≡◌, ℕ, zero, suc, ◌+◌, ◌-◌, ◌*◌, ◌/◌, ◌%◌, ◌^◌, ◌<◌, ◌≤◌, Bool, true, false}
+use Rattle.std.proofs.Common.{cond, not, List, [], ◌∷◌, ◌++◌, length, drop, replicate, reverse, refl, sym, ap}
+use Rattle.std.proofs.Common.{◌∙◌, subst, arith, pow-suc, pow_mono, get_or, ⊎_elim, pos, negsuc, ◌-ℤ◌}
+use Rattle.std.proofs.Common.{unsigned_abs, eqb-true, ◌⊎◌, inl, inr, add-one, true≢false, take_while}
 use Rattle.std.proofs.lemmas.Int.{ints}
 use Rattle.std.proofs.lemmas.Bool.{cases_lt}
-use Rattle.std.proofs.lemmas.List.{length-map, length-reverse, reverse-append, replicate_more}
+use Rattle.std.proofs.lemmas.List.{length-map, reverse-append, replicate_more}
 use Rattle.std.proofs.lemmas.List.Sums.{take_while-cons}
-use Rattle.std.specs.List.{prefix_len}
 use Rattle.std.proofs.Math.Nat.{div-eq_of_lt-le, mul-le-mul_right, div-mul-le_self}
 use Rattle.std.specs.Int.Count.{count_leading_zeros, leading_of_zero}
 use Rattle.std.proofs.lemmas.Nat.{leading_top}
-use Rattle.sail_base.specs.Bits.{is_odd, bit_value, bits_of, value_of, top_bit, not_bits, signed_of, leading_zeros, shr_bits, sar_bits, zext_bits, sext_bits}
+use Rattle.sail_base.specs.Bits.{is_odd, bit_value, bits_of, value_of, top_bit, not_bits, signed_of}
+use Rattle.sail_base.specs.Bits.{leading_zeros, shr_bits, sar_bits, zext_bits, sext_bits}
 use Rattle.sail_base.specs.laws.BitLaws.{length-bits_of, value_of-lt, bits_of-value_of, bits_of-append}
 use Rattle.sail_base.specs.laws.BitNumbers.{bits_of-add-multiple}
 use Rattle.sail_base.specs.laws.BitShapes.{bits_of-zero, get_or-bits_of, bits_of-wider, not_bits-append, not_bits-drop}
@@ -42,7 +45,7 @@ lower_half v x p h =
     absurd (true≢false (sym odd ∙ h)))
     (cases_lt x (2 ^ v))
 
-pub top_bit-bits_of : (v x : ℕ) → top_bit (bits_of (suc v) x) ≡ is_odd (x / 2 ^ v)
+top_bit-bits_of : (v x : ℕ) → top_bit (bits_of (suc v) x) ≡ is_odd (x / 2 ^ v)
 top_bit-bits_of v x =
     let last : length (bits_of (suc v) x) - 1 ≡ v = omega (arith, length-bits_of (suc v) x) in
     ap (λ n. get_or (bits_of (suc v) x) n false) last ∙ get_or-bits_of (suc v) x v false (omega arith)
@@ -87,22 +90,6 @@ signed_of-bound bs =
     subst (λ z. 2 * unsigned_abs z ≤ 2 ^ length bs) (sym (signed_of-positive bs h)) (omega (arith, top_bit-false bs h)))
     (by_top (top_bit bs))
 
--- the signed numbers of a width lie from minus half of 2 to the width to below half of it
-pub signed_of-range : (v : ℕ) (bs : List Bool) → length bs ≡ suc v → (neg_ℤ (pos (2 ^ v)) ≤ℤ signed_of bs) × (signed_of bs <ℤ pos (2 ^ v))
-signed_of-range v bs e =
-    let w : 2 ^ length bs ≡ 2 ^ suc v = ap (λ k. 2 ^ k) e in
-    let P : ℤ → Type 0 = λ z. (neg_ℤ (pos (2 ^ v)) ≤ℤ z) × (z <ℤ pos (2 ^ v)) in
-    ⊎_elim (λ (h : top_bit bs ≡ true).
-    let t = top_bit-true bs h in
-    let n = value_of-not_bits bs in
-    let p = pow-suc 2 v in
-    subst P (sym (signed_of-negative bs h)) (omega (arith, ints), omega (arith, ints)))
-    (λ (h : top_bit bs ≡ false).
-    let t = top_bit-false bs h in
-    let p = pow-suc 2 v in
-    subst P (sym (signed_of-positive bs h)) (omega (arith, ints), omega (arith, ints)))
-    (by_top (top_bit bs))
-
 -- ---- the sign that comes in
 
 pub sar_bits-negative : (bs : List Bool) (n : ℕ) → top_bit bs ≡ true → not_bits (shr_bits (not_bits bs) n) ≡ sar_bits bs n
@@ -145,11 +132,11 @@ bits_of-top j x p q =
     (λ i. bits_of (w i) (whole i)) ∙ bits_of-append j 1 (x - 2 ^ j) 1 low
     ∙ (λ i. (sym (bits_of-add-multiple j (x - 2 ^ j) 1) ∙ ap (bits_of j) same) i ++ one_bit i)
 
-pub leading_zeros-none : (w : ℕ) → leading_zeros (bits_of w 0) ≡ w
+leading_zeros-none : (w : ℕ) → leading_zeros (bits_of w 0) ≡ w
 leading_zeros-none w =
     ap leading_zeros (bits_of-zero w) ∙ ap (λ r. length (take_while not r)) (reverse-replicate w) ∙ zeros_only w
 
-pub leading_zeros-top : (w j x : ℕ) → suc j ≤ w → 2 ^ j ≤ x → x < 2 ^ suc j → leading_zeros (bits_of w x) ≡ w - suc j
+leading_zeros-top : (w j x : ℕ) → suc j ≤ w → 2 ^ j ≤ x → x < 2 ^ suc j → leading_zeros (bits_of w x) ≡ w - suc j
 leading_zeros-top w j x h p q =
     let e : w ≡ suc j + (w - suc j) = omega arith in
     let parts : bits_of w x ≡ (bits_of j x ++ true ∷ []) ++ replicate (w - suc j) false =
@@ -182,7 +169,3 @@ count_leading_zeros-ge t w (suc x) h p =
     let m : 2 ^ w ≤ 2 ^ t = pow_mono h in
     let top = leading_top t (suc x) (omega arith) (omega arith) in
     omega (arith, top.1, place_below top.0 w (suc x) top.2 p)
-
--- no more zeros than bits
-pub leading_zeros-le : (bs : List Bool) → leading_zeros bs ≤ length bs
-leading_zeros-le bs = omega (arith, length-take (prefix_len not (reverse bs)) (reverse bs), length-reverse bs)

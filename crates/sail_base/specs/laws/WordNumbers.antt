@@ -1,23 +1,25 @@
 -- Laws of words as numbers: what each result stands for, read as unsigned and as signed.
-use Rattle.std.proofs.Common.{◌≡◌, ℕ, zero, suc, ◌+◌, ◌-◌, ◌*◌, ◌/◌, ◌%◌, ◌^◌, ◌<◌, ◌≤◌, Bool, true, false, List, [], ◌∷◌, ◌++◌, length, take, drop, replicate, get_or, refl, sym, ap, ◌∙◌, subst, arith, ⊎_elim, pow-suc, pow-add, div-le_self, ℤ, pos, negsuc, neg_ℤ, ◌+ℤ◌, ◌-ℤ◌, ◌≤ℤ◌, mul-le-mul_left, pow_pos, add-mul, suc-mul, div-add-mod', ◌<ℤ◌, unsigned_abs, length-append, length-drop, get_or-drop, append-nil}
+use Rattle.std.proofs.Common.{◌≡◌, ℕ, zero, suc, ◌+◌, ◌-◌, ◌*◌, ◌/◌, ◌%◌, ◌^◌, ◌<◌, ◌≤◌, Bool, true, false}
+use Rattle.std.proofs.Common.{List, [], ◌∷◌, ◌++◌, length, take, drop, replicate, get_or, refl, sym, ap, ◌∙◌}
+use Rattle.std.proofs.Common.{subst, arith, ⊎_elim, pow-suc, div-le_self, ℤ, pos, negsuc, neg_ℤ}
+use Rattle.std.proofs.Common.{◌≤ℤ◌}
+use Rattle.std.proofs.Common.{◌<ℤ◌, unsigned_abs, length-append, length-drop, get_or-drop, append-nil}
 use Rattle.std.proofs.lemmas.Int.{ints}
-use Rattle.std.proofs.lemmas.Nat.{shr_below, mul-lt}
+use Rattle.std.proofs.lemmas.Nat.{shr_below}
 use Rattle.std.proofs.lemmas.List.{length-replicate, get_or-append-add, get_or-replicate}
 use Rattle.std.specs.Int.{int_div_euclid, int_rem_euclid}
-use Rattle.sail_base.specs.Bits.{bits_of, value_of, top_bit, not_bits, signed_of, bits_of_int, add_bits, sub_bits, mul_bits, mul_wide_unsigned, shl_bits, shr_bits, sar_bits, slice_bits, zext_bits, sext_bits}
-use Rattle.sail_base.specs.laws.BitLaws.{length-bits_of, value_of-bits_of, value_of-bits_of_fits, value_of-lt, bits_of-value_of, take-bits_of, drop-bits_of, value_of-append}
-use Rattle.sail_base.specs.laws.BitNumbers.{bits_of-add-multiple, bits_of-complement}
+use Rattle.sail_base.specs.Bits.{bits_of, value_of, top_bit, not_bits, signed_of, bits_of_int}
+use Rattle.sail_base.specs.Bits.{shl_bits, shr_bits, sar_bits}
+use Rattle.sail_base.specs.Bits.{slice_bits, zext_bits, sext_bits}
+use Rattle.sail_base.specs.laws.BitLaws.{length-bits_of, value_of-bits_of, value_of-bits_of_fits, value_of-lt}
+use Rattle.sail_base.specs.laws.BitLaws.{bits_of-value_of, take-bits_of, drop-bits_of, value_of-append}
 use Rattle.sail_base.specs.laws.BitShapes.{shl_bits-numbers, shr_bits-numbers, not_bits-twice}
-use Rattle.sail_base.specs.laws.BitSigns.{length-not_bits, value_of-not_bits, top_bit-true, top_bit-false, signed_of-negative, signed_of-positive, by_top, sar_bits-negative, sext_bits-negative}
+use Rattle.sail_base.specs.laws.BitSigns.{length-not_bits, value_of-not_bits, top_bit-true, top_bit-false}
+use Rattle.sail_base.specs.laws.BitSigns.{signed_of-negative, signed_of-positive, by_top, sar_bits-negative}
+use Rattle.sail_base.specs.laws.BitSigns.{sext_bits-negative}
 use Rattle.sail_base.specs.laws.WordParts.{length-sar_bits, sar_bits-past}
 
 -- ---- sums, differences and products, modulo 2 to the width
-
-pub value_of-add_bits : (a b : List Bool) → value_of (add_bits a b) ≡ (value_of a + value_of b) % 2 ^ length a
-value_of-add_bits a b = value_of-bits_of (length a) (value_of a + value_of b)
-
-pub value_of-mul_bits : (a b : List Bool) → value_of (mul_bits a b) ≡ value_of a * value_of b % 2 ^ length a
-value_of-mul_bits a b = value_of-bits_of (length a) (value_of a * value_of b)
 
 -- the residue of an integer, which is never negative
 pub value_of-bits_of_int : (w : ℕ) (z : ℤ) → value_of (bits_of_int w z) ≡ unsigned_abs (int_rem_euclid z (pos (2 ^ w)))
@@ -26,63 +28,6 @@ value_of-bits_of_int w (negsuc n) =
     let t : value_of (not_bits (bits_of w n)) + value_of (bits_of w n) + 1 ≡ 2 ^ w =
     value_of-not_bits (bits_of w n) ∙ ap (λ k. 2 ^ k) (length-bits_of w n) in
     omega (arith, value_of-bits_of w n, t)
-
-pub value_of-sub_bits : (a b : List Bool) → value_of (sub_bits a b) ≡ unsigned_abs (int_rem_euclid (pos (value_of a) -ℤ pos (value_of b)) (pos (2 ^ length a)))
-value_of-sub_bits a b = value_of-bits_of_int (length a) (pos (value_of a) -ℤ pos (value_of b))
-
--- an integer has the low bits of each number that lies a multiple of 2 to the width above it
-pub bits_of_int-above : (w m k : ℕ) (z : ℤ) → z +ℤ pos (k * 2 ^ w) ≡ pos m → bits_of_int w z ≡ bits_of w m
-bits_of_int-above w m k (pos n) e =
-    let s : n + k * 2 ^ w ≡ m = omega (arith, ints) in
-    sym (bits_of-add-multiple w n k) ∙ ap (bits_of w) s
-bits_of_int-above w m k (negsuc n) e =
-    let s : n + m + 1 ≡ k * 2 ^ w = omega (arith, ints) in
-    sym (bits_of-complement w n m k s)
-
--- integers that differ by a multiple of 2 to the width have the same low bits
-pub bits_of_int-same : (w k : ℕ) (x y : ℤ) → x +ℤ pos (k * 2 ^ w) ≡ y → bits_of_int w x ≡ bits_of_int w y
-bits_of_int-same w k x (pos n) e = bits_of_int-above w n k x e
-bits_of_int-same w k x (negsuc n) e =
-    let p : suc n * 1 ≤ suc n * 2 ^ w = mul-le-mul_left (suc n) (pow_pos w) in
-    let d : (k + suc n) * 2 ^ w ≡ k * 2 ^ w + suc n * 2 ^ w = add-mul k (suc n) (2 ^ w) in
-    bits_of_int-above w (suc n * 2 ^ w - suc n) (k + suc n) x (omega (arith, ints))
-    ∙ sym (bits_of_int-above w (suc n * 2 ^ w - suc n) (suc n) (negsuc n) (omega (arith, ints)))
-
--- the word of an integer stands for a number that differs from it by a multiple of 2 to the width
-residue_low : (w n : ℕ) → value_of (bits_of_int w (pos n)) + n / 2 ^ w * 2 ^ w ≡ n
-residue_low w n = omega (arith, value_of-bits_of w n, div-add-mod' n (2 ^ w))
-
-residue_high : (w n : ℕ) → value_of (bits_of_int w (negsuc n)) + n + 1 ≡ suc (n / 2 ^ w) * 2 ^ w
-residue_high w n =
-    let t : value_of (not_bits (bits_of w n)) + value_of (bits_of w n) + 1 ≡ 2 ^ w =
-    value_of-not_bits (bits_of w n) ∙ ap (λ k. 2 ^ k) (length-bits_of w n) in
-    omega (arith, value_of-bits_of w n, t, div-add-mod' n (2 ^ w), suc-mul (n / 2 ^ w) (2 ^ w))
-
--- to add or take away an integer is to add or take away its word
-pub add_bits-int : (a : List Bool) (z : ℤ) → add_bits a (bits_of_int (length a) z) ≡ bits_of_int (length a) (pos (value_of a) +ℤ z)
-add_bits-int a (pos n) =
-    let r = residue_low (length a) n in
-    bits_of_int-same (length a) (n / 2 ^ length a) (pos (value_of a + value_of (bits_of_int (length a) (pos n)))) (pos (value_of a) +ℤ pos n) (omega (arith, ints, r))
-add_bits-int a (negsuc n) =
-    let r = residue_high (length a) n in
-    sym (bits_of_int-same (length a) (suc (n / 2 ^ length a)) (pos (value_of a) +ℤ negsuc n) (pos (value_of a + value_of (bits_of_int (length a) (negsuc n)))) (omega (arith, ints, r)))
-
-pub sub_bits-int : (a : List Bool) (z : ℤ) → sub_bits a (bits_of_int (length a) z) ≡ bits_of_int (length a) (pos (value_of a) -ℤ z)
-sub_bits-int a (pos n) =
-    let r = residue_low (length a) n in
-    sym (bits_of_int-same (length a) (n / 2 ^ length a) (pos (value_of a) -ℤ pos n) (pos (value_of a) -ℤ pos (value_of (bits_of_int (length a) (pos n)))) (omega (arith, ints, r)))
-sub_bits-int a (negsuc n) =
-    let r = residue_high (length a) n in
-    bits_of_int-same (length a) (suc (n / 2 ^ length a)) (pos (value_of a) -ℤ pos (value_of (bits_of_int (length a) (negsuc n)))) (pos (value_of a) -ℤ negsuc n) (omega (arith, ints, r))
-
--- twice the width holds the whole product
-pub value_of-mul_wide_unsigned : (a b : List Bool) → length a ≡ length b → value_of (mul_wide_unsigned a b) ≡ value_of a * value_of b
-value_of-mul_wide_unsigned a b e =
-    let d : length a + length b ≡ 2 * length a = omega arith in
-    let p : value_of a * value_of b < 2 ^ (2 * length a) =
-    subst (λ k. value_of a * value_of b < k) (sym (pow-add 2 (length a) (length b)) ∙ ap (λ k. 2 ^ k) d)
-    (mul-lt (value_of a) (value_of b) (2 ^ length a) (2 ^ length b) (value_of-lt a) (value_of-lt b)) in
-    value_of-bits_of_fits (2 * length a) (value_of a * value_of b) p
 
 -- ---- shifts and parts
 
@@ -96,18 +41,20 @@ value_of-shr_bits bs n =
     ap value_of (ap (λ a. shr_bits a n) (sym (bits_of-value_of bs)) ∙ sym (shr_bits-numbers (length bs) (value_of bs) n (value_of-lt bs)))
     ∙ value_of-bits_of_fits (length bs) (value_of bs / 2 ^ n) (omega (arith, value_of-lt bs, div-le_self (value_of bs) (2 ^ n)))
 
-pub value_of-take : (n : ℕ) (bs : List Bool) → n ≤ length bs → value_of (take n bs) ≡ value_of bs % 2 ^ n
+value_of-take : (n : ℕ) (bs : List Bool) → n ≤ length bs → value_of (take n bs) ≡ value_of bs % 2 ^ n
 value_of-take n bs h =
     ap value_of (ap (take n) (sym (bits_of-value_of bs)) ∙ take-bits_of n (length bs) (value_of bs) h) ∙ value_of-bits_of n (value_of bs)
 
-pub value_of-drop : (n : ℕ) (bs : List Bool) → n ≤ length bs → value_of (drop n bs) ≡ value_of bs / 2 ^ n
+value_of-drop : (n : ℕ) (bs : List Bool) → n ≤ length bs → value_of (drop n bs) ≡ value_of bs / 2 ^ n
 value_of-drop n bs h =
     let w : length bs - n + n ≡ length bs = omega arith in
     let v : value_of bs < 2 ^ (length bs - n + n) = subst (λ k. value_of bs < 2 ^ k) (sym w) (value_of-lt bs) in
     ap value_of (ap (drop n) (sym (bits_of-value_of bs)) ∙ drop-bits_of n (length bs) (value_of bs) h)
     ∙ value_of-bits_of_fits (length bs - n) (value_of bs / 2 ^ n) (shr_below (value_of bs) (length bs - n) n v)
 
-pub value_of-slice_bits : (bs : List Bool) (hi lo : ℕ) → lo ≤ hi → hi < length bs → value_of (slice_bits bs hi lo) ≡ value_of bs / 2 ^ lo % 2 ^ (hi - lo + 1)
+pub value_of-slice_bits :
+    (bs : List Bool) (hi lo : ℕ) → lo ≤ hi → hi < length bs
+    → value_of (slice_bits bs hi lo) ≡ value_of bs / 2 ^ lo % 2 ^ (hi - lo + 1)
 value_of-slice_bits bs hi lo p q =
     value_of-take (hi - lo + 1) (drop lo bs) (omega (arith, length-drop lo bs)) ∙ ap (λ n. n % 2 ^ (hi - lo + 1)) (value_of-drop lo bs (omega arith))
 
@@ -118,7 +65,7 @@ unfolding value_of
 value_of-zeros zero = refl
 value_of-zeros (suc n) = omega (arith, value_of-zeros n)
 
-pub value_of-above : (bs : List Bool) (k : ℕ) → value_of (bs ++ replicate k false) ≡ value_of bs
+value_of-above : (bs : List Bool) (k : ℕ) → value_of (bs ++ replicate k false) ≡ value_of bs
 value_of-above bs k =
     value_of-append bs (replicate k false) ∙ ap (λ n. n * 2 ^ length bs + value_of bs) (value_of-zeros k) ∙ omega arith
 
@@ -133,7 +80,7 @@ top_bit-above bs (suc k) =
     ap (λ n. get_or (bs ++ replicate (suc k) b) n false) l ∙ get_or-append-add bs (replicate (suc k) b) k false
     ∙ get_or-replicate (suc k) k b false (omega arith)
 
-pub top_bit-sext_bits : (bs : List Bool) (m : ℕ) → top_bit (sext_bits bs m) ≡ top_bit bs
+top_bit-sext_bits : (bs : List Bool) (m : ℕ) → top_bit (sext_bits bs m) ≡ top_bit bs
 top_bit-sext_bits bs m = top_bit-above bs (m - length bs)
 
 pub signed_of-sext_bits : (bs : List Bool) (m : ℕ) → signed_of (sext_bits bs m) ≡ signed_of bs
@@ -148,7 +95,7 @@ signed_of-sext_bits bs m =
     ∙ ap pos (ap (λ b. value_of (bs ++ replicate (m - length bs) b)) h ∙ value_of-above bs (m - length bs)) ∙ sym (signed_of-positive bs h))
     (by_top (top_bit bs))
 
-pub top_bit-sar_bits : (bs : List Bool) (n : ℕ) → top_bit (sar_bits bs n) ≡ top_bit bs
+top_bit-sar_bits : (bs : List Bool) (n : ℕ) → top_bit (sar_bits bs n) ≡ top_bit bs
 top_bit-sar_bits [] n = ap top_bit (sar_bits-past [] n (omega arith))
 top_bit-sar_bits (x ∷ xs) n =
     let bs = x ∷ xs in
@@ -167,7 +114,8 @@ signed_of-sar_bits bs n =
     ∙ ap negsuc (ap value_of t ∙ value_of-shr_bits (not_bits bs) n) ∙ ap (λ z. int_div_euclid z (pos (2 ^ n))) (sym (signed_of-negative bs h)))
     (λ (h : top_bit bs ≡ false).
     signed_of-positive (sar_bits bs n) (top_bit-sar_bits bs n ∙ h)
-    ∙ ap pos (ap (λ b. value_of (drop n (bs ++ replicate n b))) h ∙ value_of-shr_bits bs n) ∙ ap (λ z. int_div_euclid z (pos (2 ^ n))) (sym (signed_of-positive bs h)))
+    ∙ ap pos (ap (λ b. value_of (drop n (bs ++ replicate n b))) h ∙ value_of-shr_bits bs n)
+    ∙ ap (λ z. int_div_euclid z (pos (2 ^ n))) (sym (signed_of-positive bs h)))
     (by_top (top_bit bs))
 
 -- ---- signed numbers and their words

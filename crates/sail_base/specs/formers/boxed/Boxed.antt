@@ -59,7 +59,8 @@ module _ (From To : RattleType) (change : From.Denot → To.Denot) where
       view_places stored this view (λ X Y k u. refl) (λ X u. refl) From.Denot To.Denot change (whole.the_row From).coded (whole.the_row To).coded
       (invariant From.Denot) (invariant To.Denot) (λ u p q. refl) (λ u p q. refl) (λ u e. tt) (λ u e. tt)
       (over (parts.the_row From)) (over (parts.the_row To))
-      (struct_places (parts.the_type From) (parts.the_type To) ((λ box. holding box (change box.value)), tt) _ (λ fields. refl) refl (laid _ _ _ (pointers_alike alike), tt))
+      (struct_places (parts.the_type From) (parts.the_type To) ((λ box. holding box (change box.value)), tt) _
+      (λ fields. refl) refl (laid _ _ _ (pointers_alike alike), tt))
 
   pub the_codes_placed : Recodes From To change → Recodes (whole.the_row From) (whole.the_row To) ((the_former this).map From.Denot To.Denot change)
   the_codes_placed same value = same value

@@ -8,12 +8,14 @@ pub returns-then-eq-clause-found : goal.returns-then-eq-clause-found
 returns-then-eq-clause-found c =
     let d = c.index-files-index.result in
     let lt : c.loop-index.index < length c.args.files.now = omega arith in
-    let same = sym (c.eq.ensures ∙ ap (λ s. bytes_eq s c.args.name.now) (c.as_str.ensures.value ∙ ap (λ f. string_bytes f.0) c.index-files-index.is)) ∙ c.if-eq.true in
+    let name = c.as_str.ensures.value ∙ ap (λ f. string_bytes f.0) c.index-files-index.is in
+    let same = sym (c.eq.ensures ∙ ap (λ s. bytes_eq s c.args.name.now) name) ∙ c.if-eq.true in
     stored_here c.args.files.now d c.args.name.now c.loop-index.index lt c.loop-index.invariant same
 
 pub loop-index-preserved : goal.loop-index-preserved
 loop-index-preserved c =
     let d = c.index-files-index.result in
     let lt : c.loop-index.index < length c.args.files.now = omega arith in
-    let other = sym (c.eq.ensures ∙ ap (λ s. bytes_eq s c.args.name.now) (c.as_str.ensures.value ∙ ap (λ f. string_bytes f.0) c.index-files-index.is)) ∙ c.if-eq.false in
+    let name = c.as_str.ensures.value ∙ ap (λ f. string_bytes f.0) c.index-files-index.is in
+    let other = sym (c.eq.ensures ∙ ap (λ s. bytes_eq s c.args.name.now) name) ∙ c.if-eq.false in
     stored_next c.args.files.now d c.args.name.now c.loop-index.index lt c.loop-index.invariant other
