@@ -21,7 +21,7 @@ pub data StopsFrom : Outcome → List Sign → Type 0 where
 pub not_done : {t : Tree} {rest from : List Sign} → StopsFrom (Done t rest) from → ⊥
 not_done h = elim h [ ]
 
-not_plain : {rest from : List Sign} → StopsFrom (Stop rest None) from → ⊥
+pub not_plain : {rest from : List Sign} → StopsFrom (Stop rest None) from → ⊥
 not_plain h = elim h [ ]
 
 -- what shows a forbidden form has a token
@@ -29,7 +29,7 @@ no_word : (w mid : List Sign) → [] ≡ w ++ mid → mid ≡ []
 no_word [] mid e = sym e
 no_word (s ∷ w) mid e = absurd cc
 
-empty_bars : (rule : RowName → Form) {a : Form} {from : List Sign} (ss : List Sign) → Bars rule a ss from → ss ≡ [] → ⊥
+pub empty_bars : (rule : RowName → Form) {a : Form} {from : List Sign} (ss : List Sign) → Bars rule a ss from → ss ≡ [] → ⊥
 empty_bars rule ss (bars_word h) e = cc
 empty_bars rule ss (bars_left r) e = empty_bars rule ss r e
 empty_bars rule ss (bars_right r) e = empty_bars rule ss r e

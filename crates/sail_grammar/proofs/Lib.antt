@@ -8,5 +8,6 @@ pub mod BarsFound
 pub mod Clear
 pub mod Found
 pub mod Whole
+pub mod Model
 pub mod Words
 pub mod Steps

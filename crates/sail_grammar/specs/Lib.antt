@@ -15,3 +15,5 @@ pub mod PatternTrees
 pub mod Targets
 pub mod ExpTrees
 pub mod DefTrees
+pub mod Levels
+pub mod Model

@@ -1,4 +1,5 @@
 use crate::lexeme::Lexeme;
+use sail_base::{Place, Text};
 use std::alloc::AllocError;
 use thiserror::Error;
 
@@ -31,3 +32,21 @@ impl From<AllocError> for ReadError {
 
 /// What the reading of a row gives: what it stands for, and the tokens behind it.
 pub type Read<'a, T> = Result<(T, &'a [Lexeme<'a>]), ReadError>;
+
+/// Why the tokens of all files are no model.
+#[derive(PartialEq, Eq, Debug, Drop, Error)]
+pub enum ParseError {
+    /// The first token that doesn't fit is a word that models may not use, or it shows a form that is
+    /// forbidden there: the place of the word or of the first token of that form, and its text.
+    #[error("a word or a form is left out of the language")]
+    Outside(Place, Text),
+    /// The first token after which no model can begin so, with its text; or, without a text, the end.
+    #[error("a token doesn't fit")]
+    Syntax(Place, Option<Text>),
+    /// The token that has more than 128 levels of brackets, operators and words.
+    #[error("a token is too deep")]
+    TooDeep(Place),
+    /// There is no memory for the model. This says nothing of the tokens.
+    #[error("out of memory")]
+    OutOfMemory,
+}
