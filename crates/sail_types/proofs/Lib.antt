@@ -6,3 +6,5 @@ pub mod Counts
 pub mod Digits
 pub mod Integers
 pub mod SumNumbers
+pub mod Zeros
+pub mod Substituted

@@ -11,3 +11,4 @@ pub mod Replacing
 pub mod Rows
 pub mod Sorts
 pub mod Readings
+pub mod Before

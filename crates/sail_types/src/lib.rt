@@ -16,6 +16,8 @@ mod texts;
 mod types;
 mod value_texts;
 mod values;
+mod values_of;
+mod zero;
 
 pub use constraints::{
     copy_con, copy_index, read_con, read_index, read_indices, same_con, same_index,
@@ -35,3 +37,5 @@ pub use texts::{push_atom, push_integer, push_number, push_shape};
 pub use types::Typ;
 pub use value_texts::{push_bits, push_value};
 pub use values::Value;
+pub use values_of::{copy_value, copy_values, same_value, same_values};
+pub use zero::zero_of;

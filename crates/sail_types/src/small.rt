@@ -1,6 +1,8 @@
 ghost use Rattle.std.specs.Prelude.{◌≡◌, ◌↔◌, IsTrue, ◌*ℤ◌, ◌+ℤ◌, MatchOption, false};
 ghost use Rattle.sail_types.specs.Limits.{is_small as is_small_integer, small_power as small_power_of};
 
+use sail_base::{Text, Word};
+
 /// The largest integer of a model.
 pub const LARGEST: u128 = 1 << 126;
 
@@ -82,4 +84,18 @@ pub fn same_integers(a: &[i128], b: &[i128]) -> bool
     ensures { IsTrue result ↔ (a.now ≡ b.now) }
 {
     a == b
+}
+
+/// Whether two words are as wide and have the same bits.
+pub fn same_word(a: &Word, b: &Word) -> bool
+    ensures { IsTrue result ↔ (a.now ≡ b.now) }
+{
+    *a == *b
+}
+
+/// Whether two texts have the same bytes.
+pub fn same_text(a: &Text, b: &Text) -> bool
+    ensures { IsTrue result ↔ (a.now ≡ b.now) }
+{
+    *a == *b
 }
