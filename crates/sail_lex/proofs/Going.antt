@@ -80,13 +80,3 @@ module _ (file : ℕ) (source : List ℕ) (before at : ℕ) (tokens : List Token
   -- at the source's end the tokens so far are all
   pub continues_end : length source ≤ at → Continues file source before at tokens → Lexes file source 0 before tokens
   continues_end h c = subst (Lexes file source 0 before) (append-nil tokens) (c.lexes [] (ended h))
-
-pub continues_begin : (file : ℕ) (source : List ℕ) (before : ℕ) (tokens : List TokenType) → tokens ≡ [] → Continues file source before 0 tokens
-continues_begin file source before tokens e = subst (Continues file source before 0) (sym e) (record {
-  lexes = λ more rest. subst (λ k. Lexes file source 0 k more) (omega arith) rest;
-  refuses = λ r rest. subst (λ k. Refuses file source 0 k r) (omega arith) rest;
-  spans = omega arith;
-  places = tt;
-  values = tt;
-  ascii = tt;
-})

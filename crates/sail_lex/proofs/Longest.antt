@@ -71,18 +71,6 @@ module _ {A : Type 0} (t u v w x y : Bool) (a b c d e f g : A) where
   unfolding choose
   choose_digit p q r = λ j. choose (p j) (q j) (r j) w x y a b c d e f g
 
-  choose_tick : t ≡ false → u ≡ false → v ≡ false → w ≡ true → choose t u v w x y a b c d e f g ≡ d
-  unfolding choose
-  choose_tick p q r s = λ j. choose (p j) (q j) (r j) (s j) x y a b c d e f g
-
-  choose_quote : t ≡ false → u ≡ false → v ≡ false → w ≡ false → x ≡ true → choose t u v w x y a b c d e f g ≡ e
-  unfolding choose
-  choose_quote p q r s k = λ j. choose (p j) (q j) (r j) (s j) (k j) y a b c d e f g
-
-  choose_dollar : t ≡ false → u ≡ false → v ≡ false → w ≡ false → x ≡ false → y ≡ true → choose t u v w x y a b c d e f g ≡ f
-  unfolding choose
-  choose_dollar p q r s k l = λ j. choose (p j) (q j) (r j) (s j) (k j) (l j) a b c d e f g
-
   choose_other : t ≡ false → u ≡ false → v ≡ false → w ≡ false → x ≡ false → y ≡ false → choose t u v w x y a b c d e f g ≡ g
   unfolding choose
   choose_other p q r s k l = λ j. choose (p j) (q j) (r j) (s j) (k j) (l j) a b c d e f g

@@ -88,8 +88,5 @@ binary_small b h = by_case (or_cases (eqb b 48) (eqb b 49) h) where
   by_case (inr e) = subst (λ n. digit_value n < 2) (sym (eqb-true b 49 e)) (lit< tt)
 
 -- a digit more among more digits
-pub wider : (size n m : ℕ) → n + 1 ≤ m → size * n + size ≤ size * m
-wider size n m h = grind arith
-
 pub one_more : (size n : ℕ) → size * n + size ≡ size * (n + 1)
 one_more size n = grind arith
