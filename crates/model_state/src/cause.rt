@@ -1,3 +1,6 @@
+ghost use Rattle.std.specs.Prelude.{◌≡◌, MatchOption};
+ghost use Rattle.sail_types.specs.declared.values.Value.{Value};
+
 use sail_base::{Place, Text};
 use sail_types::Value;
 
@@ -55,6 +58,18 @@ impl Drop for Ended {
         match self {
             Ended::Value(_) => {}
             Ended::Stop(_) => {}
+        }
+    }
+}
+
+impl Ended {
+    /// The cause of the stop; none where there is a value.
+    pub fn into_stop(self) -> Option<Cause>
+        ensures { MatchOption result ((value : Value) × (self ≡ Ended.Value value)) (λ cause. self ≡ Ended.Stop cause) }
+    {
+        match self {
+            Ended::Value(_) => None,
+            Ended::Stop(cause) => Some(cause),
         }
     }
 }
