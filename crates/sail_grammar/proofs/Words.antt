@@ -7,7 +7,7 @@ use Rattle.std.specs.Prelude.{◌==◌, ◌&&◌, ◌||◌, cond}
 use Rattle.sail_lex.specs.declared.kind.TokenKind.{TokenKind}
 use Rattle.sail_lex.specs.declared.kind.TokenKind.TheVariants.{Decimal, Identifier}
 use Rattle.sail_lex.specs.contracts.kind.TokenKind.{the_type}
-use Rattle.sail_grammar.specs.Symbol.{Sign, sign, signs, symbol, code, is_two, is_kind_name}
+use Rattle.sail_grammar.specs.Symbol.{Sign, symbol, code, is_two, is_kind_name}
 use denote.Enum.Bare.{sameb}
 use denote.Enum.Declared.{Declared, tag_of, variants}
 use denote.Enum.Enum.{tag_below}
@@ -17,14 +17,14 @@ use Rattle.sail_grammar.specs.Parsing.{Takes, Stopping}
 use Rattle.sail_grammar.specs.Form.{Word}
 use Rattle.std.specs.Prelude.{None}
 
-pub take_word : (ks : List ℕ) (ls : List Lexeme) (l : Lexeme) (rest : List Lexeme) → ls ≡ l ∷ rest → among ks (symbol (sign l)) ≡ true → Takes ks (signs ls) (sign l) (signs rest)
-take_word ks ls l rest e h = subst (λ xs. Takes ks (signs xs) (sign l) (signs rest)) (sym e) (word_read h)
+pub take_word : (ks : List ℕ) (ls : List Lexeme) (l : Lexeme) (rest : List Lexeme) → ls ≡ l ∷ rest → among ks (symbol l) ≡ true → Takes ks ls l rest
+take_word ks ls l rest e h = subst (λ xs. Takes ks xs l rest) (sym e) (word_read h)
 
-pub not_held : (ks : List ℕ) (ls : List Lexeme) (l : Lexeme) (rest : List Lexeme) → ls ≡ l ∷ rest → among ks (symbol (sign l)) ≡ false → held (signs ls) ks ≡ false
-not_held ks ls l rest e h = subst (λ xs. held (signs xs) ks ≡ false) (sym e) h
+pub not_held : (ks : List ℕ) (ls : List Lexeme) (l : Lexeme) (rest : List Lexeme) → ls ≡ l ∷ rest → among ks (symbol l) ≡ false → held ls ks ≡ false
+not_held ks ls l rest e h = subst (λ xs. held xs ks ≡ false) (sym e) h
 
-pub none_held : (ks : List ℕ) (ls : List Lexeme) → ls ≡ [] → held (signs ls) ks ≡ false
-none_held ks ls e = subst (λ xs. held (signs xs) ks ≡ false) (sym e) refl
+pub none_held : (ks : List ℕ) (ls : List Lexeme) → ls ≡ [] → held ls ks ≡ false
+none_held ks ls e = subst (λ xs. held xs ks ≡ false) (sym e) refl
 
 -- the symbol of a kind is a small number
 code_below : (k : TokenKind) → code k < 201
@@ -46,14 +46,11 @@ unlike k s h =
     let apart : code k ≡ code s.kind → ⊥ = λ e. eqb-false (tag_of the_type s.kind) (tag_of the_type k) h (omega (arith, e)) in
     ap (λ b. b || false) (sym (differs (code k) (code s.kind) (code s.kind == code Decimal && is_two s.text) (code s.kind == code Identifier && is_kind_name s.text) (λ e. omega (arith, below, e)) (λ e. omega (arith, below, e)) apart))
 
-pub held_head : (ks : List ℕ) (ls : List Lexeme) (l : Lexeme) (rest : List Lexeme) → ls ≡ l ∷ rest → held (signs ls) ks ≡ among ks (symbol (sign l))
-held_head ks ls l rest e = ap (λ xs. held (signs xs) ks) e
+pub held_head : (ks : List ℕ) (ls : List Lexeme) (l : Lexeme) (rest : List Lexeme) → ls ≡ l ∷ rest → held ls ks ≡ among ks (symbol l)
+held_head ks ls l rest e = ap (λ xs. held xs ks) e
 
-pub signs_length : (ls : List Lexeme) → length (signs ls) ≡ length ls
-signs_length ls = length-map ls sign
-
-pub stop_word : (ks : List ℕ) (ls : List Lexeme) → held (signs ls) ks ≡ false → Stopping (Word ks) (signs ls) (length ls) None
-stop_word ks ls h = record { rest = signs ls; begun = None; ends = word_stop h; left_is = sym (signs_length ls); from_is = refl }
+pub stop_word : (ks : List ℕ) (ls : List Lexeme) → held ls ks ≡ false → Stopping (Word ks) ls (length ls) None
+stop_word ks ls h = record { rest = ls; begun = None; ends = word_stop h; left_is = refl; from_is = refl }
 
 -- one kind more that isn't it
 among_rest : (x b : Bool) → (x || false) ≡ false → (x || b) ≡ b

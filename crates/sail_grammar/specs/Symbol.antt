@@ -1,5 +1,5 @@
 -- The tokens of a model as the grammar sees them.
-use Rattle.std.specs.Prelude.{ℕ, suc, ◌==◌, Bool, true, false, ◌&&◌, ◌||◌, if◌then◌else◌, List, [], ◌∷◌, map, bytes_eq, codes}
+use Rattle.std.specs.Prelude.{ℕ, suc, ◌==◌, Bool, true, false, ◌&&◌, ◌||◌, if◌then◌else◌, List, [], ◌∷◌, bytes_eq, codes}
 use Rattle.sail_base.specs.declared.place.Place.{Place}
 use Rattle.sail_lex.specs.declared.kind.TokenKind.{TokenKind}
 use Rattle.sail_lex.specs.declared.kind.TokenKind.TheVariants.{Identifier, Decimal}
@@ -8,16 +8,8 @@ use Rattle.sail_grammar.specs.declared.lexeme.Lexeme.{Lexeme}
 use denote.Enum.Declared.{tag_of}
 
 -- a token with its text
-pub record Sign : Type 0 where
-  pub kind : TokenKind
-  pub place : Place
-  pub text : List ℕ
-
-abbrev pub sign : Lexeme → Sign
-sign l = record { kind = l.kind; place = l.place; text = l.text.now }
-
-abbrev pub signs : List Lexeme → List Sign
-signs ls = map sign ls
+abbrev pub Sign : Type 0
+Sign = Lexeme
 
 -- the symbol of a kind of token: its place among all kinds, from 1
 abbrev pub code : TokenKind → ℕ

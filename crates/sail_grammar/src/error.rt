@@ -31,7 +31,7 @@ impl From<AllocError> for ReadError {
 }
 
 /// What the reading of a row gives: what it stands for, and the tokens behind it.
-pub type Read<'a, T> = Result<(T, &'a [Lexeme<'a>]), ReadError>;
+pub type Read<'a, T> = Result<(T, &'a [Lexeme]), ReadError>;
 
 /// Why the tokens of all files are no model.
 #[derive(PartialEq, Eq, Debug, Drop, Error)]

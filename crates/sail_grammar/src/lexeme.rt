@@ -1,13 +1,23 @@
-use sail_base::Place;
+use sail_base::{Place, Text};
 use sail_lex::TokenKind;
 
 /// A token with its text.
-#[derive(Clone, Copy, Debug)]
-pub struct Lexeme<'a> {
+#[derive(Debug)]
+pub struct Lexeme {
     /// Its kind.
     pub kind: TokenKind,
     /// The place of its first byte.
     pub place: Place,
     /// Its bytes in the source.
-    pub text: &'a str,
+    pub text: Text,
+}
+
+impl Drop for Lexeme {
+    fn drop(self) {
+        let Lexeme {
+            kind: _,
+            place: _,
+            text: _,
+        } = self;
+    }
 }

@@ -14,5 +14,5 @@ pub use value::{name, number};
 pub use word::{
     accept, accept_any, accept_identifier, accept_kind_name, accept_number, accept_two, expect,
     expect_any, expect_identifier, expect_kind_name, expect_number, expect_two, sees, sees_any,
-    sees_identifier, sees_two,
+    sees_identifier, sees_number, sees_two,
 };

@@ -4,18 +4,22 @@ ghost use Rattle.sail_grammar.specs.Leaves.{number_of};
 use crate::lexeme::Lexeme;
 use sail_lex::decimal_value;
 use sail_syntax::Name;
-use std::alloc::{AllocError, Global};
+use std::alloc::AllocError;
 
-/// The name that a token spells. It fails where memory is wanting.
-pub fn name(alloc: Global, token: &Lexeme<'_>) -> Result<Name, AllocError>
-    ensures { IfOk result (λ name. name ≡ record { place = token.now.place; text = token.now.text.now }) }
+/// The name that a token spells, over the same memory. It fails where the count of its sharers would
+/// not fit.
+pub fn name(token: &Lexeme) -> Result<Name, AllocError>
+    ensures { IfOk result (λ name. name ≡ record { place = token.now.place; text = token.now.text }) }
 {
-    Name::new(alloc, token.place, token.text)
+    Ok(Name {
+        place: token.place,
+        text: token.text.clone()?,
+    })
 }
 
 /// What a decimal stands for; 0 above the 126th power of two, which no token of a source is.
-pub fn number(token: &Lexeme<'_>) -> i128
-    ensures { result ≡ number_of token.now.text.now }
+pub fn number(token: &Lexeme) -> i128
+    ensures { result ≡ number_of token.now.text }
 {
     match decimal_value(token.text.as_bytes()) {
         Some(value) => value as i128,

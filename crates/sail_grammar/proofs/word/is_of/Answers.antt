@@ -1,8 +1,7 @@
 use Rattle.std.proofs.Common.{◌≡◌, ℕ, ◌+◌, ◌==◌, Bool, true, false, suc, refl, sym, ◌∙◌, ap, arith}
 use Rattle.std.specs.Prelude.{◌||◌, ◌&&◌, if◌then◌else◌}
 use Rattle.sail_grammar.proofs.word.is_of.Goals as goal
-use Rattle.sail_grammar.specs.Symbol.{sign}
 use Rattle.sail_grammar.proofs.Words.{unlike}
 
 pub returns-else-eq : goal.returns-else-eq
-returns-else-eq c = unlike c.args.kind (sign c.args.token.now) (sym c.if-eq.ensures)
+returns-else-eq c = unlike c.args.kind c.args.token.now (sym c.if-eq.ensures)
