@@ -1,7 +1,7 @@
 -- What the reading of all definitions says of the tokens of a model.
 use Rattle.std.proofs.Common.{◌≡◌, ℕ, suc, ◌<◌, ◌≤◌, ◌-◌, ◌+◌, Bool, true, false, List, [], ◌∷◌, ◌++◌, length, take, drop, refl, sym, ap, ◌∙◌, subst, append_assoc, append-nil, arith, length-append, length-take, length-drop, inl, inr, ◌⊎◌}
 use Rattle.std.specs.Prelude.{Option, Some, None, slice_get}
-use Rattle.std.proofs.lemmas.Bool.{cases_lt}
+use Rattle.std.proofs.lemmas.Bool.{cases_lt, cases_order}
 use Rattle.std.proofs.lemmas.List.{take-append-drop, take-append-le}
 use Rattle.std.proofs.Math.Seq.{take-append_seam, drop-append_seam}
 use Rattle.sail_base.specs.declared.place.Place.{Place}
@@ -166,3 +166,15 @@ not_refused ss ds end e m (left_out k s f w g h) = no_first_unfit ss ds k m f
 not_refused ss ds end e m (unfit k s f w g h b) = no_first_unfit ss ds k m f
 not_refused ss ds end e m (ended f h) = no_first_unfit ss ds (length ss) m f
 not_refused ss ds end e m (too_deep k s h g o) = let n = m.shallow in cc
+
+-- ---- one first unfit token
+
+not_later : (ss : List Sign) (k n : ℕ) → k < n → IsFirstUnfit rule Definitions ss k → IsFirstUnfit rule Definitions ss n → ⊥
+not_later ss k n lt f h = f.unfit (let w = h.within in omega arith) (h.viable (suc k) (omega arith))
+
+pub one_first_unfit : (ss : List Sign) (k n : ℕ) → IsFirstUnfit rule Definitions ss k → IsFirstUnfit rule Definitions ss n → k ≡ n
+one_first_unfit ss k n f h =
+    elim (cases_order k n) [
+      inl e ↦ e
+    | inr (inl lt) ↦ absurd (not_later ss k n lt f h)
+    | inr (inr lt) ↦ absurd (not_later ss n k lt h f) ]

@@ -2,12 +2,14 @@
 #![tactic(auto)]
 
 mod error;
+mod laws;
 mod lexeme;
 mod mode;
 mod value;
 mod word;
 
-pub use error::{Read, ReadError};
+pub use error::{ParseError, Read, ReadError};
+pub use laws::one_answer;
 pub use lexeme::Lexeme;
 pub use mode::Mode;
 pub use value::{name, number};
