@@ -2,21 +2,22 @@
 -- each variable the number of what stands in its place.
 use Rattle.std.proofs.Common.{◌≡◌, ℕ, List, [], ◌∷◌, map, ap, sym, ◌∙◌, refl, subst, arith, Bool, true, false}
 use Rattle.std.specs.Prelude.{ℤ, pos, ◌+ℤ◌, ◌*ℤ◌, Option, Some, None, unwrap_or, option_map, cond}
+use Rattle.std.proofs.Math.IntN.{*ℤ_comm}
 use Rattle.std.proofs.lemmas.Int.{ints}
 use Rattle.sail_types.specs.Limits.{small_power}
-use Rattle.sail_types.specs.Numbers.{Assignment, Positive, number, number_of_atom, number_of_term, total, atom_number, term_number, sum_number}
-use Rattle.sail_types.specs.Sums.{num, terms_of, constant_of, coefficient_of, atom_of, and_then, plus, plus_constant, constant, of_atom, no_terms, is_constant, constant_or_atom, power_num, Became, atom_becomes, term_becomes, sum_becomes, plus_became, plus_each, substituted, substituted_atom, became, zero_num}
+use Rattle.sail_types.specs.Numbers.{Assignment, number, number_of_atom, number_of_term, total, atom_number, term_number, sum_number}
+use Rattle.sail_types.specs.Sums.{num, terms_of, constant_of, plus, plus_constant, product, constant, of_atom, no_terms, is_constant, constant_or_atom, power_num, Became, atom_becomes, term_becomes, sum_becomes, plus_became, plus_each, substituted, substituted_atom, became, zero_num}
 use Rattle.sail_types.specs.Before.{before, beyond_of}
-use Rattle.sail_types.specs.declared.numbers.Num.{Num, out-Num, roll-Num}
-use Rattle.sail_types.specs.declared.numbers.Term.{Term, out-Term, roll-Term}
+use Rattle.sail_types.specs.declared.numbers.Num.{Num, roll-Num}
+use Rattle.sail_types.specs.declared.numbers.Term.{Term, roll-Term}
 use Rattle.sail_types.specs.declared.numbers.Atom.{Atom, roll-Atom}
 use Rattle.sail_types.specs.declared.numbers.Atom.TheOpen as N
 use Rattle.sail_types.specs.declared.numbers.Atom.TheOpen.{Atom-F, Num-F, Term-F}
 use Rattle.sail_types.specs.declared.numbers.Atom.TheVariants as A
 use Rattle.sail_types.specs.declared.numbers.Atom.TheFolds.{fold-roll-Atom, fold-roll-Num, fold-roll-Term, para-roll-Atom, map-Atom, map-Num, map-Term, ind-Num}
-use Rattle.sail_types.specs.declared.numbers.Atom.TheViews.{out-roll-Num, roll-out-Num, roll-out-Term, out-roll-Term}
+use Rattle.sail_types.specs.declared.numbers.Atom.TheViews.{roll-out-Num}
 use Rattle.sail_types.proofs.Integers.{one_time}
-use Rattle.sail_types.proofs.SumNumbers.{weights, number_num, number_parts, number_term, term_parts, plus_number, plus_constant_number, then_parts, some_same}
+use Rattle.sail_types.proofs.SumNumbers.{weights, number_num, number_term, plus_number, plus_constant_number, then_parts, some_same}
 
 -- ---- what atoms are
 
@@ -127,3 +128,21 @@ substituted_number by = ind-Num (KeepsA by) (KeepsN by) (KeepsT by)
     (λ e y is. subst (λ d. KeepsA by (roll-Atom d)) is (atom_step by y))
     (λ e y is. subst (λ d. KeepsN by (roll-Num d)) is (num_step by y))
     (λ e y is. subst (λ d. KeepsT by (roll-Term d)) is (term_step by y))
+
+-- ---- products
+
+by_constant : (nu : Assignment) (a b m : Num) → is_constant a ≡ true → plus (constant_of a) b zero_num ≡ Some m → number nu m ≡ number nu a *ℤ number nu b
+by_constant nu a b m e h =
+    let k : number nu m ≡ number nu zero_num +ℤ constant_of a *ℤ number nu b = plus_number nu (constant_of a) b zero_num m h in
+    let nothing : number nu zero_num ≡ pos 0 = number_constant nu (pos 0) in
+    let w : number nu m ≡ constant_of a *ℤ number nu b = omega (arith, ints, k, nothing) in
+    w ∙ ap (λ z. z *ℤ number nu b) (sym (number_of_constant nu a e))
+
+by_either : (nu : Assignment) (a b m : Num) (p q : Bool) → is_constant a ≡ p → is_constant b ≡ q
+    → cond p (plus (constant_of a) b zero_num) (cond q (plus (constant_of b) a zero_num) None) ≡ Some m → number nu m ≡ number nu a *ℤ number nu b
+by_either nu a b m true q e f h = by_constant nu a b m e h
+by_either nu a b m false true e f h = by_constant nu b a m f h ∙ *ℤ_comm (number nu b) (number nu a)
+by_either nu a b m false false e f h = absurd (cc)
+
+pub product_number : (nu : Assignment) (a b m : Num) → product a b ≡ Some m → number nu m ≡ number nu a *ℤ number nu b
+product_number nu a b m h = by_either nu a b m (is_constant a) (is_constant b) refl refl h

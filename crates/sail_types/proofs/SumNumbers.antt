@@ -10,8 +10,8 @@ use Rattle.std.proofs.lemmas.List.Quantifiers.{position-Some}
 use Rattle.sail_types.specs.Limits.{is_small}
 use Rattle.sail_types.specs.Numbers.{Assignment, number, number_of_atom, number_of_term, total, atom_number, term_number, sum_number}
 use Rattle.sail_types.specs.Sums.{num, term, terms_of, constant_of, coefficient_of, coefficient_at, atom_of, eq_atom, and_then, placed_term, with_term, merged, plus_term, plus_terms, plus_constant, plus, sum, difference}
-use Rattle.sail_types.specs.declared.numbers.Num.{Num, out-Num, roll-Num}
-use Rattle.sail_types.specs.declared.numbers.Term.{Term, out-Term, roll-Term}
+use Rattle.sail_types.specs.declared.numbers.Num.{Num}
+use Rattle.sail_types.specs.declared.numbers.Term.{Term}
 use Rattle.sail_types.specs.declared.numbers.Atom.{Atom}
 use Rattle.sail_types.specs.declared.numbers.Atom.TheFolds.{para-roll-Num, para-roll-Term}
 use Rattle.sail_types.specs.declared.numbers.Atom.TheViews.{roll-out-Num, roll-out-Term}

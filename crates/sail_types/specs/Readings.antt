@@ -1,12 +1,11 @@
 -- Constraints and arguments read under what their variables stand for.
-use Rattle.std.specs.Prelude.{ℕ, Bool, true, false, List, [], ◌∷◌, ◌++◌, map, slice_get, Option, Some, None, option_map}
+use Rattle.std.specs.Prelude.{ℕ, false, List, [], ◌∷◌, ◌++◌, map, slice_get, Option, Some, None, option_map}
 use Rattle.sail_types.specs.Sums.{and_then, read}
 use Rattle.sail_types.specs.declared.numbers.Con.{Con, Con-F, fold-Con}
 use Rattle.sail_types.specs.declared.numbers.Con.TheOpen as C
 use Rattle.sail_types.specs.declared.numbers.Con.TheVariants as V
 use Rattle.sail_types.specs.declared.numbers.Index.{Index}
 use Rattle.sail_types.specs.declared.numbers.Index.TheVariants as I
-use Rattle.sail_types.specs.declared.numbers.Comparison.{Comparison}
 
 abbrev pub more : {A : Type 0} → Option A → Option (List A) → Option (List A)
 more None xs = None

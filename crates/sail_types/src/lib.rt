@@ -3,6 +3,7 @@
 #![tactic(auto)]
 
 mod constraints;
+pub mod laws;
 mod members;
 mod numbers;
 mod rows;
@@ -39,3 +40,6 @@ pub use value_texts::{push_bits, push_value};
 pub use values::Value;
 pub use values_of::{copy_value, copy_values, same_value, same_values};
 pub use zero::zero_of;
+
+#[cfg(test)]
+mod tests;
