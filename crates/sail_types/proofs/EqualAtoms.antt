@@ -9,7 +9,8 @@ use Rattle.sail_types.specs.declared.numbers.Term.{Term, out-Term, roll-Term}
 use Rattle.sail_types.specs.declared.numbers.Atom.{Atom, out-Atom, roll-Atom}
 use Rattle.sail_types.specs.declared.numbers.Atom.TheOpen as N
 use Rattle.sail_types.specs.declared.numbers.Atom.TheOpen.{Atom-F, Num-F, Term-F}
-use Rattle.sail_types.specs.declared.numbers.Atom.TheFolds.{fold-Num, fold-Term, fold-roll-Atom, fold-roll-Num, fold-roll-Term, map-Atom, map-Num, map-Term, ind-Atom}
+use Rattle.sail_types.specs.declared.numbers.Atom.TheFolds.{fold-Num, fold-Term, fold-roll-Atom, fold-roll-Num, fold-roll-Term, map-Atom}
+use Rattle.sail_types.specs.declared.numbers.Atom.TheFolds.{map-Num, map-Term, ind-Atom}
 use Rattle.sail_types.specs.declared.numbers.Atom.TheViews.{roll-out-Atom, roll-out-Num, roll-out-Term, out-roll-Atom, out-roll-Num, out-roll-Term}
 
 abbrev eq_num : Num → Num → Bool

@@ -1,7 +1,8 @@
 -- Laws of integers.
 use Rattle.std.proofs.Common.{◌≡◌, ap, sym, ◌∙◌, arith}
 use Rattle.std.specs.Prelude.{ℤ, pos, negsuc, ◌+ℤ◌, ◌*ℤ◌, ◌-ℤ◌, neg_ℤ}
-use Rattle.std.proofs.Math.IntN.{pred_ℤ, suc_ℤ-*ℤ, pred_ℤ-*ℤ, ℤ_ind, *ℤ_comm, +ℤ_one, +ℤ_assoc, +ℤ_idr, zero-*ℤ, *ℤ-one, *ℤ-negsuc, +ℤ_invl, +ℤ-suc_ℤ, +ℤ-pred_ℤ, -ℤ_one}
+use Rattle.std.proofs.Math.IntN.{pred_ℤ, suc_ℤ-*ℤ, pred_ℤ-*ℤ, ℤ_ind, *ℤ_comm, +ℤ_one, +ℤ_assoc, +ℤ_idr, zero-*ℤ, *ℤ-one, *ℤ-negsuc, +ℤ_invl}
+use Rattle.std.proofs.Math.IntN.{+ℤ-suc_ℤ, +ℤ-pred_ℤ, -ℤ_one}
 use Rattle.std.proofs.lemmas.Int.{ints}
 
 up : (a b k : ℤ) → (a +ℤ b) *ℤ k ≡ a *ℤ k +ℤ b *ℤ k → (a +ℤ (b +ℤ pos 1)) *ℤ k ≡ a *ℤ k +ℤ (b +ℤ pos 1) *ℤ k

@@ -1,5 +1,6 @@
 -- What passes 128 bits passes the largest integer.
-use Rattle.std.proofs.Common.{◌≡◌, ℕ, ◌*◌, ◌%◌, ◌^◌, ◌<◌, ◌≤ℤ◌, ◌<ℤ◌, ℤ, pos, negsuc, Bool, true, false, refl, ap, ◌∙◌, arith, FitsSigned, to_z, of_z, Some}
+use Rattle.std.proofs.Common.{◌≡◌, ℕ, ◌*◌, ◌%◌, ◌^◌, ◌<◌, ◌≤ℤ◌, ◌<ℤ◌, ℤ, pos, negsuc, Bool, true, false, refl, ap, ◌∙◌, arith, FitsSigned}
+use Rattle.std.proofs.Common.{to_z, of_z, Some}
 use Rattle.std.specs.Prelude.{nat_abs}
 use Rattle.std.specs.Int.{w128}
 use Rattle.std.proofs.lemmas.Int.{fits_signed_from_abs, to_z_pos, ints}

@@ -6,7 +6,9 @@ use Rattle.std.proofs.Math.IntN.{*ℤ_comm}
 use Rattle.std.proofs.lemmas.Int.{ints}
 use Rattle.sail_types.specs.Limits.{small_power}
 use Rattle.sail_types.specs.Numbers.{Assignment, number, number_of_atom, number_of_term, total, atom_number, term_number, sum_number}
-use Rattle.sail_types.specs.Sums.{num, terms_of, constant_of, plus, plus_constant, product, constant, of_atom, no_terms, is_constant, constant_or_atom, power_num, Became, atom_becomes, term_becomes, sum_becomes, plus_became, plus_each, substituted, substituted_atom, became, zero_num}
+use Rattle.sail_types.specs.Sums.{num, terms_of, constant_of, plus, plus_constant, product, constant, of_atom, no_terms, is_constant}
+use Rattle.sail_types.specs.Sums.{constant_or_atom, power_num, Became, atom_becomes, term_becomes, sum_becomes, plus_became, plus_each}
+use Rattle.sail_types.specs.Sums.{substituted, substituted_atom, became, zero_num}
 use Rattle.sail_types.specs.Before.{before, beyond_of}
 use Rattle.sail_types.specs.declared.numbers.Num.{Num, roll-Num}
 use Rattle.sail_types.specs.declared.numbers.Term.{Term, roll-Term}
@@ -14,7 +16,8 @@ use Rattle.sail_types.specs.declared.numbers.Atom.{Atom, roll-Atom}
 use Rattle.sail_types.specs.declared.numbers.Atom.TheOpen as N
 use Rattle.sail_types.specs.declared.numbers.Atom.TheOpen.{Atom-F, Num-F, Term-F}
 use Rattle.sail_types.specs.declared.numbers.Atom.TheVariants as A
-use Rattle.sail_types.specs.declared.numbers.Atom.TheFolds.{fold-roll-Atom, fold-roll-Num, fold-roll-Term, para-roll-Atom, map-Atom, map-Num, map-Term, ind-Num}
+use Rattle.sail_types.specs.declared.numbers.Atom.TheFolds.{fold-roll-Atom, fold-roll-Num, fold-roll-Term, para-roll-Atom, map-Atom}
+use Rattle.sail_types.specs.declared.numbers.Atom.TheFolds.{map-Num, map-Term, ind-Num}
 use Rattle.sail_types.specs.declared.numbers.Atom.TheViews.{roll-out-Num}
 use Rattle.sail_types.proofs.Integers.{one_time}
 use Rattle.sail_types.proofs.SumNumbers.{weights, number_num, number_term, plus_number, plus_constant_number, then_parts, some_same}
@@ -24,7 +27,8 @@ use Rattle.sail_types.proofs.SumNumbers.{weights, number_num, number_term, plus_
 pub number_atom : (nu : Assignment) (a : Atom) → number nu (of_atom a) ≡ number_of_atom nu a
 number_atom nu a =
     let w : number nu (of_atom a) ≡ (number_of_term nu (roll-Term (record { coefficient = pos 1; atom = a })) +ℤ pos 0) +ℤ pos 0 = number_num nu _ (pos 0) in
-    let t : number_of_term nu (roll-Term (record { coefficient = pos 1; atom = a })) ≡ number_of_atom nu a = number_term nu (pos 1) a ∙ one_time (number_of_atom nu a) in
+    let t : number_of_term nu (roll-Term (record { coefficient = pos 1; atom = a })) ≡ number_of_atom nu a = number_term nu (pos 1) a
+    ∙ one_time (number_of_atom nu a) in
     omega (arith, ints, w, t)
 
 pub number_constant : (nu : Assignment) (z : ℤ) → number nu (constant z) ≡ z
@@ -48,7 +52,8 @@ by_power : (nu : Assignment) (u : Num) (o : Option ℤ) → ((z : ℤ) → o ≡
 by_power nu u None h = number_atom nu (A.Power u) ∙ atom_power nu u
 by_power nu u (Some z) h = number_constant nu z ∙ ap (λ p. unwrap_or p (nu.beyond u).value) (sym (h z refl))
 
-where_constant : (nu : Assignment) (u : Num) (b : Bool) (z : ℤ) → is_constant u ≡ b → cond b (small_power (constant_of u)) None ≡ Some z → small_power (number nu u) ≡ Some z
+where_constant : (nu : Assignment) (u : Num) (b : Bool) (z : ℤ) → is_constant u ≡ b → cond b (small_power (constant_of u)) None ≡ Some z
+    → small_power (number nu u) ≡ Some z
 where_constant nu u true z e h = ap small_power (number_of_constant nu u e) ∙ h
 where_constant nu u false z e h = absurd (cc)
 
@@ -82,9 +87,11 @@ power_kept by t k nu (Some u) m e h =
     ap (number nu) (sym (some_same (power_num u) m h)) ∙ number_power nu u
     ∙ (λ i. unwrap_or (small_power (k nu u e i)) (beyond_of nu (sym e i)).value) ∙ sym (atom_power (before by nu) t)
 
-atom_step : (by : ℕ → Num) (y : Atom-F (SuchA by) (SuchN by) (SuchT by)) → KeepsA by (roll-Atom (map-Atom (SuchA by) (SuchN by) (SuchT by) Atom Num Term (λ p. p.0) (λ p. p.0) (λ p. p.0) y))
+atom_step : (by : ℕ → Num) (y : Atom-F (SuchA by) (SuchN by) (SuchT by))
+    → KeepsA by (roll-Atom (map-Atom (SuchA by) (SuchN by) (SuchT by) Atom Num Term (λ p. p.0) (λ p. p.0) (λ p. p.0) y))
 atom_step by (N.Variable i) nu m h =
-    ap (number nu) (sym (some_same (by i) m (sym (fold-roll-Atom (Option Num) (Option Num) Became (atom_becomes by) sum_becomes term_becomes (N.Variable i)) ∙ h)))
+    ap (number nu) (sym (some_same (by i) m (sym (fold-roll-Atom (Option Num) (Option Num) Became (atom_becomes by) sum_becomes
+    term_becomes (N.Variable i)) ∙ h)))
     ∙ sym (para-roll-Atom ℤ ℤ ℤ (atom_number (before by nu)) sum_number term_number (N.Variable i))
 atom_step by (N.Power t) nu m h =
     power_kept by t.0 t.1 nu (substituted by t.0) m refl
@@ -100,7 +107,8 @@ each_kept by (y ∷ ys) nu s m h =
     let rest : number nu m ≡ number nu k.0 +ℤ total (weights (before by nu) (map (λ p. p.0) ys)) = each_kept by ys nu k.0 m k.2 in
     omega (arith, ints, first, rest)
 
-num_step : (by : ℕ → Num) (y : Num-F (SuchA by) (SuchN by) (SuchT by)) → KeepsN by (roll-Num (map-Num (SuchA by) (SuchN by) (SuchT by) Atom Num Term (λ p. p.0) (λ p. p.0) (λ p. p.0) y))
+num_step : (by : ℕ → Num) (y : Num-F (SuchA by) (SuchN by) (SuchT by))
+    → KeepsN by (roll-Num (map-Num (SuchA by) (SuchN by) (SuchT by) Atom Num Term (λ p. p.0) (λ p. p.0) (λ p. p.0) y))
 num_step by y nu m h =
     let ts : List Term = map (λ p. p.0) y.terms in
     let k = then_parts (plus_each (map (became by) ts) zero_num) (plus_constant y.constant) m
@@ -116,7 +124,8 @@ term_kept by c a k nu s m h =
     let p = then_parts (substituted_atom by a) (λ n. plus c n s) m h in
     plus_number nu c p.0 s m p.2 ∙ ap (λ z. number nu s +ℤ c *ℤ z) (k nu p.0 p.1)
 
-term_step : (by : ℕ → Num) (y : Term-F (SuchA by) (SuchN by) (SuchT by)) → KeepsT by (roll-Term (map-Term (SuchA by) (SuchN by) (SuchT by) Atom Num Term (λ p. p.0) (λ p. p.0) (λ p. p.0) y))
+term_step : (by : ℕ → Num) (y : Term-F (SuchA by) (SuchN by) (SuchT by))
+    → KeepsT by (roll-Term (map-Term (SuchA by) (SuchN by) (SuchT by) Atom Num Term (λ p. p.0) (λ p. p.0) (λ p. p.0) y))
 term_step by y nu s m h =
     let f : Term-F Atom Num Term = record { coefficient = y.coefficient; atom = y.atom.0 } in
     term_kept by y.coefficient y.atom.0 y.atom.1 nu s m

@@ -1,5 +1,6 @@
 -- Sums and substitutions keep what numbers are under an assignment.
-use Rattle.std.proofs.Common.{◌≡◌, ℕ, zero, suc, ◌<◌, List, [], ◌∷◌, ◌++◌, map, length, get_or, ap, sym, ◌∙◌, refl, subst, arith, Bool, true, false, ◌&&◌, set}
+use Rattle.std.proofs.Common.{◌≡◌, ℕ, zero, suc, ◌<◌, List, [], ◌∷◌, ◌++◌, map, length, get_or, ap, sym, ◌∙◌, refl, subst, arith, Bool}
+use Rattle.std.proofs.Common.{true, false, ◌&&◌, set}
 use Rattle.std.specs.Prelude.{ℤ, pos, negsuc, ◌+ℤ◌, ◌*ℤ◌, ◌-ℤ◌, Option, Some, None, cond, Decides}
 use Rattle.std.specs.List.{position, remove}
 use Rattle.std.specs.Ordering.{int_eq}
@@ -9,7 +10,8 @@ use Rattle.std.proofs.lemmas.Bool.Decides.{Decides-int_eq}
 use Rattle.std.proofs.lemmas.List.Quantifiers.{position-Some}
 use Rattle.sail_types.specs.Limits.{is_small}
 use Rattle.sail_types.specs.Numbers.{Assignment, number, number_of_atom, number_of_term, total, atom_number, term_number, sum_number}
-use Rattle.sail_types.specs.Sums.{num, term, terms_of, constant_of, coefficient_of, coefficient_at, atom_of, eq_atom, and_then, placed_term, with_term, merged, plus_term, plus_terms, plus_constant, plus, sum, difference}
+use Rattle.sail_types.specs.Sums.{num, term, terms_of, constant_of, coefficient_of, coefficient_at, atom_of, eq_atom, and_then, placed_term}
+use Rattle.sail_types.specs.Sums.{with_term, merged, plus_term, plus_terms, plus_constant, plus, sum, difference}
 use Rattle.sail_types.specs.declared.numbers.Num.{Num}
 use Rattle.sail_types.specs.declared.numbers.Term.{Term}
 use Rattle.sail_types.specs.declared.numbers.Atom.{Atom}
@@ -58,7 +60,8 @@ pub changed : (nu : Assignment) (ts : List Term) (i : ℕ) (d t : Term) → i < 
 changed nu [] i d t h = absurd (omega arith)
 changed nu (u ∷ ts) zero d t h = omega (arith, ints)
 changed nu (u ∷ ts) (suc i) d t h =
-    let k : total (weights nu (set ts i t)) +ℤ number_of_term nu (get_or ts i d) ≡ total (weights nu ts) +ℤ number_of_term nu t = changed nu ts i d t (omega arith) in
+    let k : total (weights nu (set ts i t)) +ℤ number_of_term nu (get_or ts i d)
+    ≡ total (weights nu ts) +ℤ number_of_term nu t = changed nu ts i d t (omega arith) in
     omega (arith, ints, k)
 
 pub taken : (nu : Assignment) (ts : List Term) (i : ℕ) (d : Term) → i < length ts
@@ -109,7 +112,8 @@ placed_by : (nu : Assignment) (ts : List Term) (i : ℕ) (c : ℤ) (a : Atom) (t
 placed_by nu ts i c a t true h is one d = placed_zero nu ts i c a t h is one (d.0 refl)
 placed_by nu ts i c a t false h is one d = placed_other nu ts i c a t h is one
 
-with_by : (nu : Assignment) (ts us : List Term) (x : List Term) (z : ℤ) (b : Bool) → (total (weights nu x) ≡ z) → cond b (Some x) None ≡ Some us → total (weights nu us) ≡ z
+with_by : (nu : Assignment) (ts us : List Term) (x : List Term) (z : ℤ) (b : Bool) → (total (weights nu x) ≡ z)
+    → cond b (Some x) None ≡ Some us → total (weights nu us) ≡ z
 with_by nu ts us x z true e h = ap (λ y. total (weights nu y)) (sym (some_same x us h)) ∙ e
 with_by nu ts us x z false e h = absurd (cc)
 
@@ -173,8 +177,10 @@ plus_terms_number nu times (u ∷ us) ts rs h =
 
 pub plus_constant_number : (nu : Assignment) (c : ℤ) (n m : Num) → plus_constant c n ≡ Some m → number nu m ≡ number nu n +ℤ c
 plus_constant_number nu c n m h =
-    let e : num (terms_of n) (constant_of n +ℤ c) ≡ m = some_same _ m (guarded (is_small c && is_small (constant_of n +ℤ c)) (Some (num (terms_of n) (constant_of n +ℤ c))) m h) in
-    let k : number nu (num (terms_of n) (constant_of n +ℤ c)) ≡ total (weights nu (terms_of n)) +ℤ (constant_of n +ℤ c) = number_num nu (terms_of n) (constant_of n +ℤ c) in
+    let e : num (terms_of n) (constant_of n +ℤ c) ≡ m = some_same _ m (guarded (is_small c && is_small (constant_of n +ℤ c)) (Some (num
+    (terms_of n) (constant_of n +ℤ c))) m h) in
+    let k : number nu (num (terms_of n) (constant_of n +ℤ c))
+    ≡ total (weights nu (terms_of n)) +ℤ (constant_of n +ℤ c) = number_num nu (terms_of n) (constant_of n +ℤ c) in
     let l : number nu n ≡ total (weights nu (terms_of n)) +ℤ constant_of n = number_parts nu n in
     ap (number nu) (sym e) ∙ omega (arith, ints, k, l)
 

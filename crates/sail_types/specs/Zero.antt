@@ -1,5 +1,6 @@
 -- The value at which a register of a type starts, and which types have one.
-use Rattle.std.specs.Prelude.{ℕ, zero, suc, ◌^◌, ◌-◌, ℤ, pos, negsuc, int_le, int_lt, Bool, true, false, List, [], ◌∷◌, map, replicate, slice_get, Option, Some, None, option_map, if◌then◌else◌}
+use Rattle.std.specs.Prelude.{ℕ, zero, suc, ◌^◌, ◌-◌, ℤ, pos, negsuc, int_le, int_lt, Bool, true, false, List, [], ◌∷◌, map, replicate}
+use Rattle.std.specs.Prelude.{slice_get, Option, Some, None, option_map, if◌then◌else◌}
 use Rattle.sail_types.specs.Limits.{is_small, is_width, is_length}
 use Rattle.sail_types.specs.Named.{in_form, field_types}
 use Rattle.sail_types.specs.Readings.{read_indices, together}
@@ -69,6 +70,10 @@ zero_named zero_typ i indices zeros (F.Struct fields) =
 zero_named zero_typ i indices zeros (F.Union constructors) = None
 zero_named zero_typ i indices zeros (F.Enum members) = first_of i members
 
+-- the zero of the struct or enum at a place in the table
+abbrev pub zero_in_table : (Typ → Asked) → Types → ℕ → List Index → List (Option Value) → Option Value
+zero_in_table zero_typ types i indices zeros = in_form None (zero_named zero_typ i indices zeros) (slice_get types.definitions i)
+
 abbrev pub zero_at : List (Option Value) → ℕ → Option Value
 zero_at zeros i = and_then (slice_get zeros i) (λ z. z)
 
@@ -82,8 +87,7 @@ form_zero types zero_typ (T.Range t u) indices zeros = and_then (known indices t
 form_zero types zero_typ (T.Vector n t) indices zeros = and_then (known indices n) (λ k. and_then (zero_typ t indices zeros) (zero_vector k))
 form_zero types zero_typ (T.Tuple ts) indices zeros = option_map V.Tuple (together (each_zero (map zero_typ ts) indices zeros))
 form_zero types zero_typ (T.Named i arguments ts) indices zeros =
-    and_then (read_indices indices arguments) (λ is.
-    in_form None (zero_named zero_typ i is (each_zero (map zero_typ ts) indices zeros)) (slice_get types.definitions i))
+    and_then (read_indices indices arguments) (λ is. zero_in_table zero_typ types i is (each_zero (map zero_typ ts) indices zeros))
 form_zero types zero_typ (T.Variable i) indices zeros = zero_at zeros i
 form_zero types zero_typ t indices zeros = None
 

@@ -1,6 +1,7 @@
 //! Constraints and arguments: copies, equality, and what they become under what their variables stand for.
 ghost use Rattle.std.specs.Prelude.{◌≡◌, ◌↔◌, IsTrue, IfOk, map};
-ghost use Rattle.sail_types.specs.Readings.{together, truth_at, read_con as read_con_of, read_index as read_index_of, read_indices as read_indices_of};
+ghost use Rattle.sail_types.specs.Readings.{together, truth_at, read_con as read_con_of, read_index as read_index_of};
+ghost use Rattle.sail_types.specs.Readings.{read_indices as read_indices_of};
 
 use crate::numbers::{Comparison, Con, Index};
 use crate::small::{both, same_integers, same_place, same_truth};

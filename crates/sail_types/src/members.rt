@@ -1,5 +1,6 @@
 ghost use Rattle.std.specs.Prelude.{◌≡◌, IfOk, OnOk, map, [], ◌∷◌, ◌++◌};
-ghost use Rattle.sail_types.specs.Rows.{member, comparison, comparisons as comparisons_of, lengths as lengths_of, enums_from, row_members as members_of_row, members_of};
+ghost use Rattle.sail_types.specs.Rows.{member, comparison, comparisons as comparisons_of, lengths as lengths_of, enums_from};
+ghost use Rattle.sail_types.specs.Rows.{row_members as members_of_row, members_of};
 ghost use Rattle.sail_types.specs.Sorts.{sort_shape};
 ghost use Rattle.sail_types.specs.declared.shapes.Shape.TheVariants as V;
 

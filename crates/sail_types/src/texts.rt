@@ -2,7 +2,8 @@
 //! each call fails where memory is wanting.
 ghost use Rattle.std.specs.Prelude.{◌≡◌, ◌++◌, map, codes, OnOk};
 ghost use Rattle.std.specs.Fmt.{signed_decimal};
-ghost use Rattle.sail_types.specs.Texts.{shape_text, num_text, atom_text, term_text, coefficient_text, constant_text, joined, listed, bracketed, arguments_text, name_text, text_at};
+ghost use Rattle.sail_types.specs.Texts.{shape_text, num_text, atom_text, term_text, coefficient_text, constant_text, joined, listed};
+ghost use Rattle.sail_types.specs.Texts.{bracketed, arguments_text, name_text, text_at};
 
 use crate::numbers::{Atom, Num, Term};
 use crate::shapes::Shape;

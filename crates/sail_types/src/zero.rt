@@ -3,7 +3,10 @@ ghost use Rattle.std.specs.Prelude.{◌≡◌, IfOk, map, None, replicate, slice
 ghost use Rattle.sail_types.specs.Named.{in_form, field_types};
 ghost use Rattle.sail_types.specs.Sums.{and_then};
 ghost use Rattle.sail_types.specs.Readings.{together};
-ghost use Rattle.sail_types.specs.Zero.{zero_of as zero_of_type, zero_within as zero_in, zero_bits as bits_of, zero_range as range_of, zero_vector as vector_of, zero_named as named_of, known as known_of, each_zero, field_zeros, zero_at as at_of, deepest as deepest_of, nearest as nearest_of, constant_value as constant_value_of, first_of, form_zero};
+ghost use Rattle.sail_types.specs.Zero.{zero_of as zero_of_type, zero_within as zero_in, zero_bits as bits_of, zero_range as range_of};
+ghost use Rattle.sail_types.specs.Zero.{zero_vector as vector_of, zero_in_table, known as known_of, each_zero, field_zeros};
+ghost use Rattle.sail_types.specs.Zero.{zero_at as at_of, deepest as deepest_of, nearest as nearest_of};
+ghost use Rattle.sail_types.specs.Zero.{constant_value as constant_value_of, first_of, form_zero};
 ghost use Rattle.sail_types.specs.declared.types.Typ.{out-Typ};
 
 use crate::constraints::read_indices;
@@ -160,7 +163,7 @@ fn zero_named(
     indices: &[Index],
     zeros: &[Option<Value>],
 ) -> Result<Option<Value>, AllocError>
-    ensures { IfOk result (λ made. made ≡ in_form None (named_of (zero_in types.now depth) place indices.now zeros.now) (slice_get types.now.definitions place)) }
+    ensures { IfOk result (λ made. made ≡ zero_in_table (zero_in types.now depth) types.now place indices.now zeros.now) }
 {
     let Some(definition) = types.definitions.get(place as usize) else {
         return Ok(None);
