@@ -331,18 +331,33 @@ abbrev mutual
 
   -- row Unary, with Negation, Power and Postfix
   pub unary_of : Tree → Exp
-  unary_of (Left (Pair minus t)) = V.Prefixed (place_at minus) P.Negate (unary_of t)
-  unary_of (Right (Left (Pair two (Left (Pair caret t))))) = V.Prefixed (place_at caret) P.Power (unary_of t)
-  unary_of (Right (Left (Pair two (Right (Pair none suffixes))))) = with_suffixes (place_at two) (V.Constant (place_at two) (literal_at two)) (suffixes_of suffixes)
-  unary_of (Right (Right (Pair atom suffixes))) = with_suffixes (first_place atom) (atom_of atom) (suffixes_of suffixes)
+  unary_of (Left t) = negation_of t
+  unary_of (Right (Left t)) = two_of t
+  unary_of (Right (Right t)) = postfix_of t
   unary_of t = no_exp
 
-  -- row Suffixes
+  pub negation_of : Tree → Exp
+  negation_of (Pair minus t) = V.Prefixed (place_at minus) P.Negate (unary_of t)
+  negation_of t = no_exp
+
+  pub two_of : Tree → Exp
+  two_of (Pair two (Left (Pair caret t))) = V.Prefixed (place_at caret) P.Power (unary_of t)
+  two_of (Pair two (Right (Pair none suffixes))) = with_suffixes (place_at two) (V.Constant (place_at two) (literal_at two)) (suffixes_of suffixes)
+  two_of t = no_exp
+
+  pub postfix_of : Tree → Exp
+  postfix_of (Pair atom suffixes) = with_suffixes (first_place atom) (atom_of atom) (suffixes_of suffixes)
+  postfix_of t = no_exp
+
+  -- rows Suffixes and Suffix
   pub suffixes_of : Tree → List Suffix
-  suffixes_of (Left (Pair (Pair bracket (Pair first (Pair last close))) more)) =
-      F.At (place_at bracket) (roll-Index (record { first = exp_of first; last = behind_word last })) ∷ suffixes_of more
-  suffixes_of (Right (Left (Pair (Pair dot name) more))) = F.Field (name_at name) ∷ suffixes_of more
+  suffixes_of (Left (Pair s more)) = suffix_of s ∷ suffixes_of more
   suffixes_of t = []
+
+  pub suffix_of : Tree → Suffix
+  suffix_of (Left (Pair bracket (Pair first (Pair last close)))) = F.At (place_at bracket) (roll-Index (record { first = exp_of first; last = behind_word last }))
+  suffix_of (Right (Pair dot name)) = F.Field (name_at name)
+  suffix_of t = F.Field (name_at t)
 
   -- row Atom
   pub atom_of : Tree → Exp
@@ -376,10 +391,19 @@ abbrev mutual
 
   -- rows VectorExp and Update
   pub vector_of : Tree → Exp
-  vector_of (Pair bracket (Pair base (Pair (Left (Pair with_word (Pair first (Pair last (Pair equal value))))) close))) =
-      V.Update (place_at bracket) (exp_of base) (roll-Index (record { first = infix_of first; last = infix_if last })) (exp_of value)
-  vector_of (Pair bracket (Pair first (Pair (Right more) close))) = V.Group (place_at bracket) B.Vector (exp_of first ∷ exps_tail more)
+  vector_of (Pair bracket (Pair base (Pair t close))) = vector_more (place_at bracket) (exp_of base) t
   vector_of t = no_exp
+
+  -- a vector of this first item, or an update of this base
+  pub vector_more : Place → Exp → Tree → Exp
+  vector_more place base (Left t) = update_of place base t
+  vector_more place base (Right t) = V.Group place B.Vector (base ∷ exps_tail t)
+  vector_more place base t = no_exp
+
+  pub update_of : Place → Exp → Tree → Exp
+  update_of place base (Pair with_word (Pair first (Pair last (Pair equal value)))) =
+      V.Update place base (roll-Index (record { first = infix_of first; last = infix_if last })) (exp_of value)
+  update_of place base t = no_exp
 
   pub infix_if : Tree → Option Exp
   infix_if (Left (Pair word t)) = Some (infix_of t)
@@ -417,11 +441,19 @@ abbrev mutual
   -- row Block, all of it, and the part of it that is plain
   pub block_of : Tree → Exp
   block_of (Pair (Pair bracket (Left (Pair s t))) (Pair with_word (Pair values close))) = V.With (place_at bracket) (exp_of_statement (statement_of s)) (values_of values)
-  block_of (Pair bracket (Pair (Left (Pair s (Left (Pair with_word values)))) close)) = V.With (place_at bracket) (exp_of_statement (statement_of s)) (values_of values)
-  block_of (Pair bracket (Pair (Left (Pair s (Right (Left (Pair semicolon more))))) close)) = block (place_at bracket) (statement_of s ∷ statements_of more) (is_closed more)
-  block_of (Pair bracket (Pair (Left (Pair s (Right (Right t)))) close)) = block (place_at bracket) (statement_of s ∷ []) false
-  block_of (Pair bracket t) = block (place_at bracket) [] true
+  block_of (Pair bracket (Pair body close)) = body_of (place_at bracket) body
   block_of t = no_exp
+
+  -- what stands in the braces of a block
+  pub body_of : Place → Tree → Exp
+  body_of place (Left (Pair s t)) = body_more place (statement_of s) t
+  body_of place t = block place [] true
+
+  -- what stands behind its first statement
+  pub body_more : Place → Stmt → Tree → Exp
+  body_more place s (Left (Pair with_word values)) = V.With place (exp_of_statement s) (values_of values)
+  body_more place s (Right (Left (Pair semicolon more))) = block place (s ∷ statements_of more) (is_closed more)
+  body_more place s t = block place (s ∷ []) false
 
   -- row Statements
   pub statements_of : Tree → List Stmt

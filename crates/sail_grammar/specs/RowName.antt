@@ -115,6 +115,7 @@ pub data RowName : Type 0 where
   Power : Mode → RowName
   Postfix : Mode → RowName
   Suffixes : Mode → RowName
+  Suffix : Mode → RowName
   Index : Mode → RowName
   -- operands
   Atom : Mode → RowName

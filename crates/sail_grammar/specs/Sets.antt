@@ -1,7 +1,7 @@
 -- The sets of the grammar's rows, made by tools/grammar_sets.py.
 use Rattle.std.specs.Prelude.{true, false, [], ◌∷◌}
 use Rattle.sail_grammar.specs.declared.mode.Mode.TheVariants.{Full, Limited}
-use Rattle.sail_grammar.specs.RowName.{RowName, Definitions, Definition, OrderDefinition, TypeDefinition, EnumDefinition, EnumMembers, EnumBars, StructDefinition, UnionDefinition, UnionClause, UnionWhole, ValDefinition, FunctionDefinition, MeasureDefinition, MappingDefinition, MappingClauseDefinition, MappingWhole, LetDefinition, RegisterDefinition, OverloadDefinition, ScatteredDefinition, EndDefinition, Names, NamesTail, NamesMore, Members, MembersTail, MembersMore, Member, Parameters, ParametersTail, Parameter, KindMark, Quantifier, QuantifiedVariables, QuantifiedVariable, MappingClauses, MappingClausesTail, MappingClausesMore, MappingClause, MappingSide, Typ, TypeAnd, TypeComparison, TypeSet, NumbersTail, NumbersMore, TypeSum, TypeSumMore, TypeProduct, TypeProductMore, TypeAtom, TypeNamed, TypePower, TypeNegation, TypeNot, TypeGroup, TypeExists, TypeVariables, Types, TypesTail, Pattern, PatternAs, PatternConcat, PatternAppends, PatternTyped, PatternBase, PatternWildcard, PatternNegative, PatternNamed, PatternGroup, PatternVector, PatternList, Patterns, PatternsTail, Exp, LetIn, VarIn, ExpInner, If, Match, Control, Try, Foreach, While, Repeat, Leave, LoopMeasure, Assignment, Cases, CasesTail, CasesMore, Case, Infix, InfixAnd, InfixComparison, InfixAppend, InfixSum, InfixSumMore, InfixProduct, InfixProductMore, InfixPower, Unary, Negation, Power, Postfix, Suffixes, Index, Atom, NamedExp, PrefixCall, GroupExp, VectorExp, Update, ListExp, StructExp, TypeQuestion, Assertion, Exps, ExpsTail, Block, Statements, Statement, LetStatement, VarStatement, FieldValues, FieldValuesTail, FieldValuesMore, FieldValue}
+use Rattle.sail_grammar.specs.RowName.{RowName, Definitions, Definition, OrderDefinition, TypeDefinition, EnumDefinition, EnumMembers, EnumBars, StructDefinition, UnionDefinition, UnionClause, UnionWhole, ValDefinition, FunctionDefinition, MeasureDefinition, MappingDefinition, MappingClauseDefinition, MappingWhole, LetDefinition, RegisterDefinition, OverloadDefinition, ScatteredDefinition, EndDefinition, Names, NamesTail, NamesMore, Members, MembersTail, MembersMore, Member, Parameters, ParametersTail, Parameter, KindMark, Quantifier, QuantifiedVariables, QuantifiedVariable, MappingClauses, MappingClausesTail, MappingClausesMore, MappingClause, MappingSide, Typ, TypeAnd, TypeComparison, TypeSet, NumbersTail, NumbersMore, TypeSum, TypeSumMore, TypeProduct, TypeProductMore, TypeAtom, TypeNamed, TypePower, TypeNegation, TypeNot, TypeGroup, TypeExists, TypeVariables, Types, TypesTail, Pattern, PatternAs, PatternConcat, PatternAppends, PatternTyped, PatternBase, PatternWildcard, PatternNegative, PatternNamed, PatternGroup, PatternVector, PatternList, Patterns, PatternsTail, Exp, LetIn, VarIn, ExpInner, If, Match, Control, Try, Foreach, While, Repeat, Leave, LoopMeasure, Assignment, Cases, CasesTail, CasesMore, Case, Infix, InfixAnd, InfixComparison, InfixAppend, InfixSum, InfixSumMore, InfixProduct, InfixProductMore, InfixPower, Unary, Negation, Power, Postfix, Suffixes, Suffix, Index, Atom, NamedExp, PrefixCall, GroupExp, VectorExp, Update, ListExp, StructExp, TypeQuestion, Assertion, Exps, ExpsTail, Block, Statements, Statement, LetStatement, VarStatement, FieldValues, FieldValuesTail, FieldValuesMore, FieldValue}
 use Rattle.sail_grammar.specs.Table.{rule}
 use Rattle.sail_grammar.specs.Test.{Sets, Grammar}
 
@@ -118,6 +118,7 @@ sets (Negation m) = record { first = 88 ∷ []; nullable = false; follow = 0 ∷
 sets (Power m) = record { first = 201 ∷ []; nullable = false; follow = 0 ∷ 14 ∷ 15 ∷ 19 ∷ 20 ∷ 21 ∷ 22 ∷ 23 ∷ 29 ∷ 31 ∷ 33 ∷ 34 ∷ 38 ∷ 39 ∷ 42 ∷ 44 ∷ 45 ∷ 46 ∷ 48 ∷ 51 ∷ 52 ∷ 53 ∷ 54 ∷ 57 ∷ 59 ∷ 61 ∷ 62 ∷ 63 ∷ 65 ∷ 66 ∷ 67 ∷ 68 ∷ 69 ∷ 71 ∷ 72 ∷ 73 ∷ 74 ∷ 75 ∷ 76 ∷ 77 ∷ 78 ∷ 79 ∷ 80 ∷ 81 ∷ 82 ∷ 83 ∷ 84 ∷ 85 ∷ 86 ∷ 87 ∷ 88 ∷ 89 ∷ 90 ∷ 91 ∷ 92 ∷ 93 ∷ 95 ∷ 96 ∷ 98 ∷ 99 ∷ [] }
 sets (Postfix m) = record { first = 1 ∷ 4 ∷ 5 ∷ 6 ∷ 7 ∷ 11 ∷ 12 ∷ 13 ∷ 17 ∷ 25 ∷ 36 ∷ 43 ∷ 44 ∷ 49 ∷ 58 ∷ 60 ∷ 62 ∷ 64 ∷ 94 ∷ 202 ∷ []; nullable = false; follow = 0 ∷ 14 ∷ 15 ∷ 19 ∷ 20 ∷ 21 ∷ 22 ∷ 23 ∷ 29 ∷ 31 ∷ 33 ∷ 34 ∷ 38 ∷ 39 ∷ 42 ∷ 44 ∷ 45 ∷ 46 ∷ 48 ∷ 51 ∷ 52 ∷ 53 ∷ 54 ∷ 57 ∷ 59 ∷ 61 ∷ 62 ∷ 63 ∷ 65 ∷ 66 ∷ 67 ∷ 68 ∷ 69 ∷ 71 ∷ 72 ∷ 73 ∷ 74 ∷ 75 ∷ 76 ∷ 77 ∷ 78 ∷ 79 ∷ 80 ∷ 81 ∷ 82 ∷ 83 ∷ 84 ∷ 85 ∷ 86 ∷ 87 ∷ 88 ∷ 89 ∷ 90 ∷ 91 ∷ 92 ∷ 93 ∷ 95 ∷ 96 ∷ 98 ∷ 99 ∷ [] }
 sets (Suffixes m) = record { first = 60 ∷ 70 ∷ []; nullable = true; follow = 0 ∷ 14 ∷ 15 ∷ 19 ∷ 20 ∷ 21 ∷ 22 ∷ 23 ∷ 29 ∷ 31 ∷ 33 ∷ 34 ∷ 38 ∷ 39 ∷ 42 ∷ 44 ∷ 45 ∷ 46 ∷ 48 ∷ 51 ∷ 52 ∷ 53 ∷ 54 ∷ 57 ∷ 59 ∷ 61 ∷ 62 ∷ 63 ∷ 65 ∷ 66 ∷ 67 ∷ 68 ∷ 69 ∷ 71 ∷ 72 ∷ 73 ∷ 74 ∷ 75 ∷ 76 ∷ 77 ∷ 78 ∷ 79 ∷ 80 ∷ 81 ∷ 82 ∷ 83 ∷ 84 ∷ 85 ∷ 86 ∷ 87 ∷ 88 ∷ 89 ∷ 90 ∷ 91 ∷ 92 ∷ 93 ∷ 95 ∷ 96 ∷ 98 ∷ 99 ∷ [] }
+sets (Suffix m) = record { first = 60 ∷ 70 ∷ []; nullable = false; follow = 0 ∷ 14 ∷ 15 ∷ 19 ∷ 20 ∷ 21 ∷ 22 ∷ 23 ∷ 29 ∷ 31 ∷ 33 ∷ 34 ∷ 38 ∷ 39 ∷ 42 ∷ 44 ∷ 45 ∷ 46 ∷ 48 ∷ 51 ∷ 52 ∷ 53 ∷ 54 ∷ 57 ∷ 59 ∷ 60 ∷ 61 ∷ 62 ∷ 63 ∷ 65 ∷ 66 ∷ 67 ∷ 68 ∷ 69 ∷ 70 ∷ 71 ∷ 72 ∷ 73 ∷ 74 ∷ 75 ∷ 76 ∷ 77 ∷ 78 ∷ 79 ∷ 80 ∷ 81 ∷ 82 ∷ 83 ∷ 84 ∷ 85 ∷ 86 ∷ 87 ∷ 88 ∷ 89 ∷ 90 ∷ 91 ∷ 92 ∷ 93 ∷ 95 ∷ 96 ∷ 98 ∷ 99 ∷ [] }
 sets (Index m) = record { first = 60 ∷ []; nullable = false; follow = 0 ∷ 14 ∷ 15 ∷ 19 ∷ 20 ∷ 21 ∷ 22 ∷ 23 ∷ 29 ∷ 31 ∷ 33 ∷ 34 ∷ 38 ∷ 39 ∷ 42 ∷ 44 ∷ 45 ∷ 46 ∷ 48 ∷ 51 ∷ 52 ∷ 53 ∷ 54 ∷ 57 ∷ 59 ∷ 60 ∷ 61 ∷ 62 ∷ 63 ∷ 65 ∷ 66 ∷ 67 ∷ 68 ∷ 69 ∷ 70 ∷ 71 ∷ 72 ∷ 73 ∷ 74 ∷ 75 ∷ 76 ∷ 77 ∷ 78 ∷ 79 ∷ 80 ∷ 81 ∷ 82 ∷ 83 ∷ 84 ∷ 85 ∷ 86 ∷ 87 ∷ 88 ∷ 89 ∷ 90 ∷ 91 ∷ 92 ∷ 93 ∷ 95 ∷ 96 ∷ 98 ∷ 99 ∷ [] }
 sets (Atom m) = record { first = 1 ∷ 4 ∷ 5 ∷ 6 ∷ 7 ∷ 11 ∷ 12 ∷ 13 ∷ 17 ∷ 25 ∷ 36 ∷ 43 ∷ 44 ∷ 49 ∷ 58 ∷ 60 ∷ 62 ∷ 64 ∷ 94 ∷ 202 ∷ []; nullable = false; follow = 0 ∷ 14 ∷ 15 ∷ 19 ∷ 20 ∷ 21 ∷ 22 ∷ 23 ∷ 29 ∷ 31 ∷ 33 ∷ 34 ∷ 38 ∷ 39 ∷ 42 ∷ 44 ∷ 45 ∷ 46 ∷ 48 ∷ 51 ∷ 52 ∷ 53 ∷ 54 ∷ 57 ∷ 59 ∷ 60 ∷ 61 ∷ 62 ∷ 63 ∷ 65 ∷ 66 ∷ 67 ∷ 68 ∷ 69 ∷ 70 ∷ 71 ∷ 72 ∷ 73 ∷ 74 ∷ 75 ∷ 76 ∷ 77 ∷ 78 ∷ 79 ∷ 80 ∷ 81 ∷ 82 ∷ 83 ∷ 84 ∷ 85 ∷ 86 ∷ 87 ∷ 88 ∷ 89 ∷ 90 ∷ 91 ∷ 92 ∷ 93 ∷ 95 ∷ 96 ∷ 98 ∷ 99 ∷ [] }
 sets (NamedExp m) = record { first = 1 ∷ 202 ∷ []; nullable = false; follow = 0 ∷ 14 ∷ 15 ∷ 19 ∷ 20 ∷ 21 ∷ 22 ∷ 23 ∷ 29 ∷ 31 ∷ 33 ∷ 34 ∷ 38 ∷ 39 ∷ 42 ∷ 44 ∷ 45 ∷ 46 ∷ 48 ∷ 51 ∷ 52 ∷ 53 ∷ 54 ∷ 57 ∷ 59 ∷ 60 ∷ 61 ∷ 62 ∷ 63 ∷ 65 ∷ 66 ∷ 67 ∷ 68 ∷ 69 ∷ 70 ∷ 71 ∷ 72 ∷ 73 ∷ 74 ∷ 75 ∷ 76 ∷ 77 ∷ 78 ∷ 79 ∷ 80 ∷ 81 ∷ 82 ∷ 83 ∷ 84 ∷ 85 ∷ 86 ∷ 87 ∷ 88 ∷ 89 ∷ 90 ∷ 91 ∷ 92 ∷ 93 ∷ 95 ∷ 96 ∷ 98 ∷ 99 ∷ [] }

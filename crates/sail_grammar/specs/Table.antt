@@ -4,7 +4,7 @@ use Rattle.sail_lex.specs.declared.kind.TokenKind.{TokenKind}
 use Rattle.sail_lex.specs.declared.kind.TokenKind.TheVariants.{Identifier, TypeVariable, Wildcard, Decimal, Hexadecimal, Binary, StringLiteral, LeftOut, Order, As, Assert, Bitone, Bitzero, By, Catch, Clause, Constraint, Dec, Default, Do, Else, End, Enum, Exit, False, Forall, Foreach as ForeachWord, From, Function, If as IfWord, In, Inc, Let, Mapping, Match as MatchWord, Not, Operator, Overload, Register, Repeat as RepeatWord, Return, Scattered, Sizeof, Struct, TerminationMeasure, Then, Throw, To, True, Try as TryWord, TypeWord, Union, Until, Val, Var, While as WhileWord, With, OpenParenthesis, CloseParenthesis, OpenBracket, CloseBracket, OpenBrace, CloseBrace, OpenVector, CloseVector, Comma, Semicolon, Colon, DoubleColon, Dot, DoubleDot, Equal, DoubleEqual, NotEqual, Less, LessEqual, Greater, GreaterEqual, LessUnsigned, LessEqualUnsigned, GreaterUnsigned, GreaterEqualUnsigned, LessSigned, LessEqualSigned, GreaterSigned, GreaterEqualSigned, Plus, Minus, Star, Caret, At, Ampersand, Bar as Stroke, Tilde, ShiftLeft, ShiftRight, Arrow, DoubleArrow, FatArrow}
 use Rattle.sail_grammar.specs.declared.mode.Mode.TheVariants.{Full, Limited}
 use Rattle.sail_grammar.specs.Symbol.{code, two, kind_name}
-use Rattle.sail_grammar.specs.RowName.{RowName, Definitions, Definition, OrderDefinition, TypeDefinition, EnumDefinition, EnumMembers, EnumBars, StructDefinition, UnionDefinition, UnionClause, UnionWhole, ValDefinition, FunctionDefinition, MeasureDefinition, MappingDefinition, MappingClauseDefinition, MappingWhole, LetDefinition, RegisterDefinition, OverloadDefinition, ScatteredDefinition, EndDefinition, Names, NamesTail, NamesMore, Members, MembersTail, MembersMore, Member, Parameters, ParametersTail, Parameter, KindMark, Quantifier, QuantifiedVariables, QuantifiedVariable, MappingClauses, MappingClausesTail, MappingClausesMore, MappingClause, MappingSide, Typ, TypeAnd, TypeComparison, TypeSet, NumbersTail, NumbersMore, TypeSum, TypeSumMore, TypeProduct, TypeProductMore, TypeAtom, TypeNamed, TypePower, TypeNegation, TypeNot, TypeGroup, TypeExists, TypeVariables, Types, TypesTail, Pattern, PatternAs, PatternConcat, PatternAppends, PatternTyped, PatternBase, PatternWildcard, PatternNegative, PatternNamed, PatternGroup, PatternVector, PatternList, Patterns, PatternsTail, Exp, LetIn, VarIn, ExpInner, If, Match, Control, Try, Foreach, While, Repeat, Leave, LoopMeasure, Assignment, Cases, CasesTail, CasesMore, Case, Infix, InfixAnd, InfixComparison, InfixAppend, InfixSum, InfixSumMore, InfixProduct, InfixProductMore, InfixPower, Unary, Negation, Power, Postfix, Suffixes, Index, Atom, NamedExp, PrefixCall, GroupExp, VectorExp, Update, ListExp, StructExp, TypeQuestion, Assertion, Exps, ExpsTail, Block, Statements, Statement, LetStatement, VarStatement, FieldValues, FieldValuesTail, FieldValuesMore, FieldValue}
+use Rattle.sail_grammar.specs.RowName.{RowName, Definitions, Definition, OrderDefinition, TypeDefinition, EnumDefinition, EnumMembers, EnumBars, StructDefinition, UnionDefinition, UnionClause, UnionWhole, ValDefinition, FunctionDefinition, MeasureDefinition, MappingDefinition, MappingClauseDefinition, MappingWhole, LetDefinition, RegisterDefinition, OverloadDefinition, ScatteredDefinition, EndDefinition, Names, NamesTail, NamesMore, Members, MembersTail, MembersMore, Member, Parameters, ParametersTail, Parameter, KindMark, Quantifier, QuantifiedVariables, QuantifiedVariable, MappingClauses, MappingClausesTail, MappingClausesMore, MappingClause, MappingSide, Typ, TypeAnd, TypeComparison, TypeSet, NumbersTail, NumbersMore, TypeSum, TypeSumMore, TypeProduct, TypeProductMore, TypeAtom, TypeNamed, TypePower, TypeNegation, TypeNot, TypeGroup, TypeExists, TypeVariables, Types, TypesTail, Pattern, PatternAs, PatternConcat, PatternAppends, PatternTyped, PatternBase, PatternWildcard, PatternNegative, PatternNamed, PatternGroup, PatternVector, PatternList, Patterns, PatternsTail, Exp, LetIn, VarIn, ExpInner, If, Match, Control, Try, Foreach, While, Repeat, Leave, LoopMeasure, Assignment, Cases, CasesTail, CasesMore, Case, Infix, InfixAnd, InfixComparison, InfixAppend, InfixSum, InfixSumMore, InfixProduct, InfixProductMore, InfixPower, Unary, Negation, Power, Postfix, Suffixes, Suffix, Index, Atom, NamedExp, PrefixCall, GroupExp, VectorExp, Update, ListExp, StructExp, TypeQuestion, Assertion, Exps, ExpsTail, Block, Statements, Statement, LetStatement, VarStatement, FieldValues, FieldValuesTail, FieldValuesMore, FieldValue}
 use Rattle.sail_grammar.specs.Form.{Form, Word, Empty, ◌or◌, ◌then◌, Guard, Row, Forbid, Bar, Hold}
 use Rattle.sail_grammar.specs.Shapes.{is_target, is_exp}
 
@@ -193,7 +193,8 @@ rule (Unary m) = Row (Negation m) or Row (Power m) or Row (Postfix m)
 rule (Negation m) = word Minus then Row (Unary m)
 rule (Power m) = Word (two ∷ []) then (word Caret then Row (Unary m) or Empty (code Caret ∷ []) then Row (Suffixes m))
 rule (Postfix m) = Row (Atom m) then Row (Suffixes m)
-rule (Suffixes m) = Row (Index m) then Row (Suffixes m) or (word Dot then identifier) then Row (Suffixes m) or nothing
+rule (Suffixes m) = Row (Suffix m) then Row (Suffixes m) or nothing
+rule (Suffix m) = Row (Index m) or word Dot then identifier
 rule (Index m) = word OpenBracket then Row (Exp m) then (word DoubleDot then Row (Exp m) or nothing) then word CloseBracket
 
 rule (Atom m) =
