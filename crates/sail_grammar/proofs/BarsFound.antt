@@ -53,7 +53,8 @@ module _ (g : Grammar) (good_rows : IsClear g) where
   bars_look : {a : Form} {from : List Sign} (us zs ss : List Sign) → Bars g.rule a us from → ss ≡ us ++ zs → starts g a (look ss) ≡ true
   bars_look {a = a} us zs ss r split =
       elim (bars_tokens g.rule us r) [
-        tokens s more e ↦ subst (λ x. starts g a x ≡ true) (ap look e ∙ sym (ap look (split ∙ ap (λ x. x ++ zs) e))) (bars_front g good_rows r) ]
+        | tokens s more e ↦ subst (λ x. starts g a x ≡ true) (ap look e ∙ sym (ap look (split ∙ ap (λ x. x ++ zs) e))) (bars_front g good_rows r)
+      ]
 
   wrong_left : (a b : Form) (f : List ℕ) (ss : List Sign) → clear g (a or b) f ≡ true → may_left g a b (look ss) ≡ true → starts g b (look ss) ≡ true → ⊥
   wrong_left a b f ss c m h = not_left (starts g a (look ss)) (starts g b (look ss)) (blank g a (look ss)) (blank g b (look ss)) ((clear_or g a b f c).apart (look ss)) h m
@@ -66,9 +67,10 @@ module _ (g : Grammar) (good_rows : IsClear g) where
       Ends g a ss r → clear g a (firsts g b ++ kept (blank g b) f) ≡ true → ss ≡ us ++ zs → Reads g.rule a t us mid → Bars g.rule b mid from → r ≡ Done t (mid ++ zs)
   first_read a b f t ss us zs mid from r e c split q k =
       elim (bars_tokens g.rule mid k) [
-        tokens s more h ↦
-          whole_first g good_rows a b f t ss us zs s more r e c split (subst (λ x. Reads g.rule a t us x) h q) (subst (λ x. starts g b (look x) ≡ true) h (bars_front g good_rows k))
-            ∙ ap (λ x. Done t (x ++ zs)) (sym h) ]
+        | tokens s more h ↦
+            whole_first g good_rows a b f t ss us zs s more r e c split (subst (λ x. Reads g.rule a t us x) h q) (subst (λ x. starts g b (look x) ≡ true) h (bars_front g good_rows k))
+            ∙ ap (λ x. Done t (x ++ zs)) (sym h)
+      ]
 
   -- what a bar is put on is read whole
   barred_read : (a : Form) (test : Tree → Bool) (ks f : List ℕ) (t : Tree) (ss us zs : List Sign) (s : Sign) (r : Outcome) →

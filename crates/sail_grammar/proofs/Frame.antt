@@ -35,7 +35,7 @@ module _ (rule : RowName → Form) where
     read = f.read ++ k.read;
     split = f.split ∙ (ap (λ x. f.read ++ x) k.split ∙ sym (append_assoc f.read k.read rest));
     again = λ more alike.
-      subst (λ x. Reads rule (a then b) (Pair t u) x more) (sym (append_assoc f.read k.read more))
+        subst (λ x. Reads rule (a then b) (Pair t u) x more) (sym (append_assoc f.read k.read more))
         (both (f.again (k.read ++ more) (subst (λ x. Alike x (k.read ++ more)) (sym k.split) (alike_append k.read alike))) (k.again more alike));
   }
 

@@ -32,7 +32,7 @@ module _ (g : Grammar) (clear : IsClear g) where
   then_first a b ss mid rest (some h) k = some (or_left (starts g a (look ss)) (blank g a (look ss) && starts g b (look ss)) h)
   then_first a b ss mid rest (none e h) (some k) =
       some (or_right (starts g a (look ss)) (blank g a (look ss) && starts g b (look ss))
-        (subst (λ x. (blank g a (look x) && starts g b (look x)) ≡ true) (sym e) (and_from (blank g a (look mid)) (starts g b (look mid)) h k)))
+      (subst (λ x. (blank g a (look x) && starts g b (look x)) ≡ true) (sym e) (and_from (blank g a (look mid)) (starts g b (look mid)) h k)))
   then_first a b ss mid rest (none e h) (none f k) =
       none (e ∙ f) (and_from (blank g a (look rest)) (blank g b (look rest)) (subst (λ x. blank g a (look x) ≡ true) f h) k)
 
@@ -75,7 +75,7 @@ module _ (g : Grammar) (clear : IsClear g) where
   next_front a b ss mid (some h) k = begun (or_left (starts g a (look ss)) (blank g a (look ss) && starts g b (look ss)) h)
   next_front a b ss mid (none e h) (begun k) =
       begun (or_right (starts g a (look ss)) (blank g a (look ss) && starts g b (look ss))
-        (subst (λ x. (blank g a (look x) && starts g b (look x)) ≡ true) (sym e) (and_from (blank g a (look mid)) (starts g b (look mid)) h k)))
+      (subst (λ x. (blank g a (look x) && starts g b (look x)) ≡ true) (sym e) (and_from (blank g a (look mid)) (starts g b (look mid)) h k)))
   next_front a b ss mid (none e h) (bare f) = bare (e ∙ f)
 
   front_map : (a b : Form) (ss : List Sign) → (starts g a (look ss) ≡ true → starts g b (look ss) ≡ true) → Front g a ss → Front g b ss
@@ -98,13 +98,13 @@ module _ (g : Grammar) (clear : IsClear g) where
   next_bar a b ss mid (some h) k = or_left (starts g a (look ss)) (blank g a (look ss) && starts g b (look ss)) h
   next_bar a b ss mid (none e h) k =
       or_right (starts g a (look ss)) (blank g a (look ss) && starts g b (look ss))
-        (subst (λ x. (blank g a (look x) && starts g b (look x)) ≡ true) (sym e) (and_from (blank g a (look mid)) (starts g b (look mid)) h k))
+      (subst (λ x. (blank g a (look x) && starts g b (look x)) ≡ true) (sym e) (and_from (blank g a (look mid)) (starts g b (look mid)) h k))
 
   here_bar : (a : Form) (test : Tree → Bool) (ks : List ℕ) (ss : List Sign) (s : Sign) → among ks (symbol s) ≡ true → First g a ss (s ∷ []) → starts g (Bar a test ks) (look ss) ≡ true
   here_bar a test ks ss s h (some k) = or_left (starts g a (look ss)) (blank g a (look ss) && among ks (look ss)) k
   here_bar a test ks ss s h (none e k) =
       or_right (starts g a (look ss)) (blank g a (look ss) && among ks (look ss))
-        (subst (λ x. (blank g a (look x) && among ks (look x)) ≡ true) (sym e) (and_from (blank g a (symbol s)) (among ks (symbol s)) k h))
+      (subst (λ x. (blank g a (look x) && among ks (look x)) ≡ true) (sym e) (and_from (blank g a (symbol s)) (among ks (symbol s)) k h))
 
   pub bars_front : {a : Form} {ss from : List Sign} → Bars g.rule a ss from → starts g a (look ss) ≡ true
   bars_front (bars_word h) = h

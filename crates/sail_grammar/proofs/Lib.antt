@@ -11,3 +11,4 @@ pub mod Whole
 pub mod Model
 pub mod Words
 pub mod Steps
+pub mod FilesJoined

@@ -104,7 +104,7 @@ module _ (us more ss : List Sign) (whole : ss ≡ us ++ more) where
       let shown : take (suc k) ss ≡ b.shown = same_take (suc k) (omega arith) ∙ (ap (take (suc k)) b.split ∙ (ap (λ i. take i (b.shown ++ b.more)) count ∙ take-append_seam b.shown b.more)) in
       let h = begun_head rule b.bars (s) tail b.more (sym first ∙ b.begins) in
       forbidden k s h.0 (unfit_longer k lt (first_unfit grammar grammar_clear Definitions ends_clear us rest (Some from) e)) (shallow_to k lt bound)
-        (subst (λ x. Bars rule start x (s ∷ h.0)) (sym shown) h.1)
+      (subst (λ x. Bars rule start x (s ∷ h.0)) (sym shown) h.1)
 
   -- the place of the token that stops a reading, and that it stands there
   pub record Stopped_at (rest : List Sign) (s : Sign) : Type 0 where
@@ -134,7 +134,7 @@ module _ (us more ss : List Sign) (whole : ss ≡ us ++ more) where
       let k : ℕ = length us - length rest in
       let a = stopped_at rest tail s None e here in
       unfit k s (unfit_longer k a.below (first_unfit grammar grammar_clear Definitions ends_clear us rest None e)) (shallow_to k a.below bound) a.there h
-        (λ from b. not_plain (bars_found grammar grammar_clear [] (drop (suc k) us) e refl (sym (take-append-drop (suc k) us)) (subst (λ x. Bars rule start x from) (same_take (suc k) (let lt = a.below in omega arith)) b)))
+      (λ from b. not_plain (bars_found grammar grammar_clear [] (drop (suc k) us) e refl (sym (take-append-drop (suc k) us)) (subst (λ x. Bars rule start x from) (same_take (suc k) (let lt = a.below in omega arith)) b)))
 
 -- ---- the refusals at the end and at a token that is too deep
 
@@ -157,8 +157,9 @@ viable_all ss t i r = opens_part rule (take i ss) (drop i ss) (reads_open rule r
 no_first_unfit : (ss : List Sign) (ds : List Def) (k : ℕ) → IsModel ss ds → IsFirstUnfit rule Definitions ss k → ⊥
 no_first_unfit ss ds k m f =
     elim (cases_lt k (length ss)) [
-      inl lt ↦ f.unfit lt (viable_all ss m.tree (suc k) m.reads)
-    | inr le ↦ f.no_tree (let w = f.within in omega arith) m.tree m.reads ]
+      | inl lt ↦ f.unfit lt (viable_all ss m.tree (suc k) m.reads)
+      | inr le ↦ f.no_tree (let w = f.within in omega arith) m.tree m.reads
+    ]
 
 pub not_refused : (ss : List Sign) (ds : List Def) (end : Place) (e : ParseError) → IsModel ss ds → IsRefused ss end e → ⊥
 not_refused ss ds end e m (forbidden k s more f w b) = no_first_unfit ss ds k m f
@@ -175,6 +176,7 @@ not_later ss k n lt f h = f.unfit (let w = h.within in omega arith) (h.viable (s
 pub one_first_unfit : (ss : List Sign) (k n : ℕ) → IsFirstUnfit rule Definitions ss k → IsFirstUnfit rule Definitions ss n → k ≡ n
 one_first_unfit ss k n f h =
     elim (cases_order k n) [
-      inl e ↦ e
-    | inr (inl lt) ↦ absurd (not_later ss k n lt f h)
-    | inr (inr lt) ↦ absurd (not_later ss n k lt h f) ]
+      | inl e ↦ e
+      | inr (inl lt) ↦ absurd (not_later ss k n lt f h)
+      | inr (inr lt) ↦ absurd (not_later ss n k lt h f)
+    ]

@@ -58,7 +58,7 @@ module _ (g : Grammar) (good_rows : IsClear g) where
       let there : Reads g.rule a t (k.read ++ ((s ∷ mid) ++ zs)) ((s ∷ mid) ++ zs) = k.again ((s ∷ mid) ++ zs) same in
       let all : k.read ++ ((s ∷ mid) ++ zs) ≡ ss = sym (append_assoc k.read (s ∷ mid) zs) ∙ (ap (λ x. x ++ zs) (sym k.split) ∙ sym split) in
       complete g good_rows (firsts g b ++ kept (blank g b) f) e c (subst (λ x. Reads g.rule a t x ((s ∷ mid) ++ zs)) all there)
-        (among_left (firsts g b) (kept (blank g b) f) (symbol s) (starts_firsts g b (symbol s) h))
+      (among_left (firsts g b) (kept (blank g b) f) (symbol s) (starts_firsts g b (symbol s) h))
 
   -- the second part of two begins with a token, or the first part alone opens so far
   data Second (a b : Form) (t : Tree) (us mid : List Sign) : Type 0 where
@@ -106,24 +106,27 @@ module _ (g : Grammar) (good_rows : IsClear g) where
       let two = and_parts (clear g a (firsts g b ++ kept (blank g b) f)) (clear g b f) c in
       let short = λ (p : Opens g.rule a us). reach (firsts g b ++ kept (blank g b) f) zs e two.0 split p in
       elim (second_of a b t us mid q (opens_front g good_rows o)) [
-        in_first p ↦ short p
-      | in_second s more here h ↦ absurd (not_stopped (whole_first a b f t ss us zs s more (Stop rest from) e two.0 split (subst (λ x. Reads g.rule a t us x) here q) h)) ]
+        | in_first p ↦ short p
+        | in_second s more here h ↦ absurd (not_stopped (whole_first a b f t ss us zs s more (Stop rest from) e two.0 split (subst (λ x. Reads g.rule a t us x) here q) h))
+      ]
   reach {ss = ss} {us = us} f zs (next_stop {a = a} {b = b} {t = read} {mid = seen} {rest = rest} e d) c split (opens_next {t = t} {mid = mid} q o) =
       let two = and_parts (clear g a (firsts g b ++ kept (blank g b) f)) (clear g b f) c in
       let short = λ (p : Opens g.rule a us). reach (firsts g b ++ kept (blank g b) f) zs e two.0 split p in
       let long = λ (p : seen ≡ mid ++ zs). reach f zs d two.1 p o in
       elim (second_of a b t us mid q (opens_front g good_rows o)) [
-        in_first p ↦ omega (arith, shrinks g d, short p)
-      | in_second s more here h ↦
-          long (ap rest_of (whole_first a b f t ss us zs s more (Done read seen) e two.0 split (subst (λ x. Reads g.rule a t us x) here q) h) ∙ ap (λ x. x ++ zs) (sym here)) ]
+        | in_first p ↦ omega (arith, shrinks g d, short p)
+        | in_second s more here h ↦
+            long (ap rest_of (whole_first a b f t ss us zs s more (Done read seen) e two.0 split (subst (λ x. Reads g.rule a t us x) here q) h) ∙ ap (λ x. x ++ zs) (sym here))
+      ]
   reach {ss = ss} {us = us} f zs (both_read {a = a} {b = b} {t = read} {mid = seen} {rest = rest} e d) c split (opens_next {t = t} {mid = mid} q o) =
       let two = and_parts (clear g a (firsts g b ++ kept (blank g b) f)) (clear g b f) c in
       let short = λ (p : Opens g.rule a us). reach (firsts g b ++ kept (blank g b) f) zs e two.0 split p in
       let long = λ (p : seen ≡ mid ++ zs). reach f zs d two.1 p o in
       elim (second_of a b t us mid q (opens_front g good_rows o)) [
-        in_first p ↦ omega (arith, shrinks g d, short p)
-      | in_second s more here h ↦
-          long (ap rest_of (whole_first a b f t ss us zs s more (Done read seen) e two.0 split (subst (λ x. Reads g.rule a t us x) here q) h) ∙ ap (λ x. x ++ zs) (sym here)) ]
+        | in_first p ↦ omega (arith, shrinks g d, short p)
+        | in_second s more here h ↦
+            long (ap rest_of (whole_first a b f t ss us zs s more (Done read seen) e two.0 split (subst (λ x. Reads g.rule a t us x) here q) h) ∙ ap (λ x. x ++ zs) (sym here))
+      ]
   reach f zs (guard_read h e) c split (opens_guard o) = reach f zs e c split o
   reach f zs (guard_shut h e) c split (opens_guard o) = reach f zs e c split o
   reach f zs (guard_stop e) c split (opens_guard o) = reach f zs e c split o

@@ -10,15 +10,17 @@ pub every_at : (p : ℕ → Bool) (cs : List ℕ) (c : ℕ) → every p cs ≡ t
 every_at p [] c h m = absurd (true≢false (sym m))
 every_at p (d ∷ cs) c h m =
     elim (or_cases (d == c) (among cs c) m) [
-      inl e ↦ subst (λ x. p x ≡ true) (eqb-true d c e) (and_parts (p d) (every p cs) h).0
-    | inr n ↦ every_at p cs c (and_parts (p d) (every p cs) h).1 n ]
+      | inl e ↦ subst (λ x. p x ≡ true) (eqb-true d c e) (and_parts (p d) (every p cs) h).0
+      | inr n ↦ every_at p cs c (and_parts (p d) (every p cs) h).1 n
+    ]
 
 pub among_left : (xs ys : List ℕ) (c : ℕ) → among xs c ≡ true → among (xs ++ ys) c ≡ true
 among_left [] ys c m = absurd (true≢false (sym m))
 among_left (a ∷ xs) ys c m =
     elim (or_cases (a == c) (among xs c) m) [
-      inl e ↦ or_left (a == c) (among (xs ++ ys) c) e
-    | inr n ↦ or_right (a == c) (among (xs ++ ys) c) (among_left xs ys c n) ]
+      | inl e ↦ or_left (a == c) (among (xs ++ ys) c) e
+      | inr n ↦ or_right (a == c) (among (xs ++ ys) c) (among_left xs ys c n)
+    ]
 
 pub among_right : (xs ys : List ℕ) (c : ℕ) → among ys c ≡ true → among (xs ++ ys) c ≡ true
 among_right [] ys c m = m
@@ -28,12 +30,15 @@ pub among_kept : (p : ℕ → Bool) (cs : List ℕ) (c : ℕ) → p c ≡ true �
 among_kept p [] c h m = m
 among_kept p (d ∷ cs) c h m =
     elim (cases_Bool (p d)) [
-      inl e ↦ subst (λ b. among (cond b (d ∷ kept p cs) (kept p cs)) c ≡ true) (sym e) (elim (or_cases (d == c) (among cs c) m) [
-        inl same ↦ or_left (d == c) (among (kept p cs) c) same
-      | inr n ↦ or_right (d == c) (among (kept p cs) c) (among_kept p cs c h n) ])
-    | inr e ↦ subst (λ b. among (cond b (d ∷ kept p cs) (kept p cs)) c ≡ true) (sym e) (elim (or_cases (d == c) (among cs c) m) [
-        inl same ↦ absurd (true≢false (sym h ∙ (ap p (sym (eqb-true d c same)) ∙ e)))
-      | inr n ↦ among_kept p cs c h n ]) ]
+      | inl e ↦ subst (λ b. among (cond b (d ∷ kept p cs) (kept p cs)) c ≡ true) (sym e) (elim (or_cases (d == c) (among cs c) m) [
+        | inl same ↦ or_left (d == c) (among (kept p cs) c) same
+        | inr n ↦ or_right (d == c) (among (kept p cs) c) (among_kept p cs c h n)
+      ])
+      | inr e ↦ subst (λ b. among (cond b (d ∷ kept p cs) (kept p cs)) c ≡ true) (sym e) (elim (or_cases (d == c) (among cs c) m) [
+        | inl same ↦ absurd (true≢false (sym h ∙ (ap p (sym (eqb-true d c same)) ∙ e)))
+        | inr n ↦ among_kept p cs c h n
+      ])
+    ]
 
 module _ (g : Grammar) where
   -- what is blank before some symbol may be empty
@@ -42,8 +47,9 @@ module _ (g : Grammar) where
   blank_empties (Empty ks) c h = refl
   blank_empties (a or b) c h =
       elim (or_cases (blank g a c) (blank g b c) h) [
-        inl x ↦ or_left (empties g a) (empties g b) (blank_empties a c x)
-      | inr y ↦ or_right (empties g a) (empties g b) (blank_empties b c y) ]
+        | inl x ↦ or_left (empties g a) (empties g b) (blank_empties a c x)
+        | inr y ↦ or_right (empties g a) (empties g b) (blank_empties b c y)
+      ]
   blank_empties (a then b) c h =
       let both = and_parts (blank g a c) (blank g b c) h in
       and_from (empties g a) (empties g b) (blank_empties a c both.0) (blank_empties b c both.1)
@@ -62,23 +68,26 @@ module _ (g : Grammar) where
   starts_firsts (Empty ks) c h = absurd (true≢false (sym h))
   starts_firsts (a or b) c h =
       elim (or_cases (starts g a c) (starts g b c) h) [
-        inl x ↦ among_left (firsts g a) (firsts g b) c (starts_firsts a c x)
-      | inr y ↦ among_right (firsts g a) (firsts g b) c (starts_firsts b c y) ]
+        | inl x ↦ among_left (firsts g a) (firsts g b) c (starts_firsts a c x)
+        | inr y ↦ among_right (firsts g a) (firsts g b) c (starts_firsts b c y)
+      ]
   starts_firsts (a then b) c h =
       elim (or_cases (starts g a c) (blank g a c && starts g b c) h) [
-        inl x ↦ among_left (firsts g a) (cond (empties g a) (firsts g b) []) c (starts_firsts a c x)
-      | inr y ↦
-          let both = and_parts (blank g a c) (starts g b c) y in
-          among_right (firsts g a) (cond (empties g a) (firsts g b) []) c (behind a (firsts g b) c both.0 (starts_firsts b c both.1)) ]
+        | inl x ↦ among_left (firsts g a) (cond (empties g a) (firsts g b) []) c (starts_firsts a c x)
+        | inr y ↦
+            let both = and_parts (blank g a c) (starts g b c) y in
+            among_right (firsts g a) (cond (empties g a) (firsts g b) []) c (behind a (firsts g b) c both.0 (starts_firsts b c both.1))
+      ]
   starts_firsts (Guard a test ks) c h = starts_firsts a c h
   starts_firsts (Row n) c h = h
   starts_firsts (Forbid ks) c h = h
   starts_firsts (Bar a test ks) c h =
       elim (or_cases (starts g a c) (blank g a c && among ks c) h) [
-        inl x ↦ among_left (firsts g a) (cond (empties g a) ks []) c (starts_firsts a c x)
-      | inr y ↦
-          let both = and_parts (blank g a c) (among ks c) y in
-          among_right (firsts g a) (cond (empties g a) ks []) c (behind a ks c both.0 both.1) ]
+        | inl x ↦ among_left (firsts g a) (cond (empties g a) ks []) c (starts_firsts a c x)
+        | inr y ↦
+            let both = and_parts (blank g a c) (among ks c) y in
+            among_right (firsts g a) (cond (empties g a) ks []) c (behind a ks c both.0 both.1)
+      ]
   starts_firsts (Hold a) c h = starts_firsts a c h
 
   -- the three parts of the test of a row
@@ -94,7 +103,8 @@ module _ (g : Grammar) where
       record {
         first = λ c s. every_at (among (g.sets n).first) (firsts g (g.rule n)) c outer.0 (starts_firsts (g.rule n) c s);
         null = λ c b. elim (or_cases (g.sets n).nullable (not (empties g (g.rule n))) inner.0) [
-          inl e ↦ e
-        | inr e ↦ absurd (true≢false (sym (blank_empties (g.rule n) c b) ∙ not-true (empties g (g.rule n)) e)) ];
+          | inl e ↦ e
+          | inr e ↦ absurd (true≢false (sym (blank_empties (g.rule n) c b) ∙ not-true (empties g (g.rule n)) e))
+        ];
         choices = inner.1;
       }

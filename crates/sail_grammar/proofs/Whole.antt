@@ -54,9 +54,10 @@ module _ (rule : RowName → Form) where
       let in_second = λ (more : List Sign) (p : mid ≡ more ++ (ys ++ rest)). parts more ys q p in
       let in_first = λ (more : List Sign) (p : ss ≡ xs ++ (more ++ mid)). parts xs more r p in
       elim (cut k.read mid xs (ys ++ rest) (sym k.split ∙ e)) as (λ c. Opens rule (a then b) xs) [
-        later more f h ↦
-          subst (Opens rule (a then b)) (sym f) (opens_next (k.again more (subst (λ x. Alike x more) (sym h) (alike_front more (ys ++ rest)))) (in_second more h))
-      | before more f h ↦ opens_first (in_first more (e ∙ ap (λ x. xs ++ x) h)) ]
+        | later more f h ↦
+            subst (Opens rule (a then b)) (sym f) (opens_next (k.again more (subst (λ x. Alike x more) (sym h) (alike_front more (ys ++ rest)))) (in_second more h))
+        | before more f h ↦ opens_first (in_first more (e ∙ ap (λ x. xs ++ x) h))
+      ]
   parts xs ys (guard h r) e = opens_guard (parts xs ys r e)
   parts xs ys (bar h r) e = opens_bar (parts xs ys r e)
   parts xs ys (hold r) e = opens_hold (parts xs ys r e)
@@ -80,8 +81,9 @@ module _ (rule : RowName → Form) where
       let k = frame rule r in
       let in_second = λ (more : List Sign) (p : mid ≡ more ++ ys). opens_part more ys o p in
       elim (cut k.read mid xs ys (sym k.split ∙ e)) as (λ c. Opens rule (a then b) xs) [
-        later more f h ↦ subst (Opens rule (a then b)) (sym f) (opens_next (k.again more (subst (λ x. Alike x more) (sym h) (alike_front more ys))) (in_second more h))
-      | before more f h ↦ opens_first (parts xs more r (e ∙ ap (λ x. xs ++ x) h)) ]
+        | later more f h ↦ subst (Opens rule (a then b)) (sym f) (opens_next (k.again more (subst (λ x. Alike x more) (sym h) (alike_front more ys))) (in_second more h))
+        | before more f h ↦ opens_first (parts xs more r (e ∙ ap (λ x. xs ++ x) h))
+      ]
   opens_part xs ys (opens_guard o) e = opens_guard (opens_part xs ys o e)
   opens_part xs ys (opens_bar o) e = opens_bar (opens_part xs ys o e)
   opens_part xs ys (opens_hold o) e = opens_hold (opens_part xs ys o e)
@@ -105,9 +107,9 @@ module _ (g : Grammar) (good_rows : IsClear g) (n : RowName) (ends : clear g (Ro
         within = omega arith;
         viable = λ i le. front_viable ss rest s.front i s.split (omega arith) s.opened;
         unfit = λ lt o.
-          let k : ℕ = suc (length ss - length rest) in
-          let far : length rest ≤ length (drop k ss) = reach g good_rows [] (drop k ss) e refl (sym (take-append-drop k ss)) o in
-          absurd (omega (arith, length-drop k ss));
+            let k : ℕ = suc (length ss - length rest) in
+            let far : length rest ≤ length (drop k ss) = reach g good_rows [] (drop k ss) e refl (sym (take-append-drop k ss)) o in
+            absurd (omega (arith, length-drop k ss));
         no_tree = λ at t r. not_stopped (complete g good_rows (0 ∷ []) e ends r refl);
       }
 

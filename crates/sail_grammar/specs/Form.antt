@@ -13,7 +13,6 @@ pub data Tree : Type 0 where
 
 infixr 40 ◌then◌
 infixr 30 ◌or◌
-
 -- the right side of a row
 pub data Form : Type 0 where
   -- a token with one of these symbols

@@ -93,7 +93,7 @@ counted n k =
     else (if is_in closing k then closed n.inside n
     else (if is_in separators k then record (separated n.inside n) { ends = false }
     else (let m : Nesting = record (if begins n k then record n { outside = 0; enum = code k == code K.Enum } else n) { ends = is_in last_tokens k } in
-      if is_level n k then one_deeper m.inside m else m)))
+    if is_level n k then one_deeper m.inside m else m)))
 
 -- the nesting behind a token
 abbrev pub nest : Nesting → TokenKind → Nesting

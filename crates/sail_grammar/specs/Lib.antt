@@ -16,4 +16,5 @@ pub mod Targets
 pub mod ExpTrees
 pub mod DefTrees
 pub mod Levels
+pub mod Joined
 pub mod Model

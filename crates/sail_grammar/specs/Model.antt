@@ -4,9 +4,6 @@ use Rattle.std.specs.Prelude.{◌≡◌, ℕ, suc, ◌≤◌, ◌==◌, Bool, tr
 use Rattle.sail_base.specs.declared.place.Place.{Place}
 use Rattle.sail_lex.specs.declared.kind.TokenKind.{TokenKind}
 use Rattle.sail_lex.specs.declared.kind.TokenKind.TheVariants as K
-use Rattle.sail_lex.specs.declared.token.Token.{Token}
-use Rattle.sail_lex.specs.declared.token.Tokens.{Tokens}
-use Rattle.sail_lex.specs.Valued.{text_of}
 use Rattle.sail_syntax.specs.declared.definitions.Def.{Def}
 use Rattle.sail_grammar.specs.declared.error.ParseError.{ParseError}
 use Rattle.sail_grammar.specs.declared.error.ParseError.TheVariants as error
@@ -18,21 +15,6 @@ use Rattle.sail_grammar.specs.Table.{rule}
 use Rattle.sail_grammar.specs.Unfit.{IsFirstUnfit}
 use Rattle.sail_grammar.specs.DefTrees.{defs_of}
 use Rattle.sail_grammar.specs.Levels.{deep}
-
--- the tokens of a source, each with its text
-abbrev pub with_texts : List ℕ → List Token → List Sign
-with_texts source [] = []
-with_texts source (t ∷ ts) = record { kind = t.kind; place = t.place; text = text_of source t } ∷ with_texts source ts
-
--- the tokens of all files, joined in order
-abbrev pub joined : List Tokens → List Sign
-joined [] = []
-joined (f ∷ files) = with_texts f.source.now f.tokens ++ joined files
-
--- the end of the last file
-abbrev pub end_from : Place → List Tokens → Place
-end_from place [] = place
-end_from place (f ∷ files) = end_from f.end files
 
 -- the tokens are a model, which stands for these definitions: a tree reads them all, and none of them is too deep
 pub record IsModel (ss : List Sign) (defs : List Def) : Type 0 where

@@ -90,7 +90,6 @@ rule OverloadDefinition =
 rule ScatteredDefinition =
     word Scattered then (word Union then identifier then Row Parameters or word Function then identifier or word Mapping then identifier)
 rule EndDefinition = word End then identifier
-
 rule Names = identifier then Row NamesTail
 rule NamesTail = word Comma then Row NamesMore or nothing
 rule NamesMore = identifier then Row NamesTail or nothing
@@ -110,7 +109,6 @@ rule MappingClausesTail = word Comma then Row MappingClausesMore or nothing
 rule MappingClausesMore = Row MappingClause then Row MappingClausesTail or nothing
 rule MappingClause = Row MappingSide then word DoubleArrow then Row MappingSide
 rule MappingSide = Row (Pattern Limited) then (word IfWord then Row (Exp Full) or nothing)
-
 rule (Typ m) = Row (TypeAnd m) then (word Stroke then Row (Typ m) or nothing)
 rule (TypeAnd m) = Row (TypeComparison m) then (word Ampersand then Row (TypeAnd m) or nothing)
 rule (TypeComparison m) = Row TypeSum then (words type_comparisons then Row TypeSum or Row (TypeSet m) or nothing)
@@ -136,7 +134,6 @@ rule TypeExists =
 rule TypeVariables = word TypeVariable then Row TypeVariables or nothing
 rule Types = Row (Typ Full) then Row TypesTail
 rule TypesTail = word Comma then Row (Typ Full) then Row TypesTail or nothing
-
 rule (Pattern m) = Row (PatternConcat m) then Row (PatternAs m)
 rule (PatternAs Full) = word As then identifier or nothing
 rule (PatternAs Limited) = never or nothing
@@ -155,7 +152,6 @@ rule (PatternVector m) = word OpenBracket then Row (Patterns m) then word CloseB
 rule (PatternList m) = word OpenVector then (Row (Patterns m) or nothing) then word CloseVector
 rule (Patterns m) = Row (Pattern m) then Row (PatternsTail m)
 rule (PatternsTail m) = word Comma then Row (Pattern m) then Row (PatternsTail m) or nothing
-
 rule (Exp m) = Row (LetIn m) or Row (VarIn m) or Row (ExpInner m)
 rule (LetIn m) = word Let then Row (Pattern Full) then word Equal then Row (Exp m) then word In then Row (Exp m)
 rule (VarIn m) =
@@ -179,7 +175,6 @@ rule (Cases m) = word OpenBrace then Row (Case m) then Row (CasesTail m) then wo
 rule (CasesTail m) = word Comma then Row (CasesMore m) or nothing
 rule (CasesMore m) = Row (Case m) then Row (CasesTail m) or nothing
 rule (Case m) = Row (Pattern Full) then (word IfWord then Row (Exp m) or nothing) then word FatArrow then Row (Exp m)
-
 rule (Infix m) = Row (InfixAnd m) then (word Stroke then Row (Infix m) or nothing)
 rule (InfixAnd m) = Row (InfixComparison m) then (word Ampersand then Row (InfixAnd m) or nothing)
 rule (InfixComparison m) = Row (InfixAppend m) then (words comparisons then Row (InfixAppend m) or nothing)
@@ -196,7 +191,6 @@ rule (Postfix m) = Row (Atom m) then Row (Suffixes m)
 rule (Suffixes m) = Row (Suffix m) then Row (Suffixes m) or nothing
 rule (Suffix m) = Row (Index m) or word Dot then identifier
 rule (Index m) = word OpenBracket then Row (Exp m) then (word DoubleDot then Row (Exp m) or nothing) then word CloseBracket
-
 rule (Atom m) =
     words literals or Row (NamedExp m) or Row (PrefixCall m) or Row (GroupExp m) or Row (Block m) or Row (VectorExp m) or Row (ListExp m)
     or Row (StructExp m) or Row TypeQuestion or Row (Assertion m)
@@ -215,11 +209,11 @@ rule (ExpsTail m) = word Comma then Row (Exp m) then Row (ExpsTail m) or nothing
 rule (Block Full) =
     word OpenBrace
     then (Guard (Row (Statement Full)) is_exp (code With ∷ []) then (word With then Row (FieldValues Full) or word Semicolon then Row Statements or nothing)
-      or nothing)
+    or nothing)
     then word CloseBrace
 rule (Block Limited) =
     Hold (word OpenBrace
-      then (Guard (Row (Statement Limited)) is_exp (code With ∷ []) then (Forbid (codes_of (Semicolon ∷ CloseBrace ∷ [])) or nothing) or Forbid (code CloseBrace ∷ [])))
+    then (Guard (Row (Statement Limited)) is_exp (code With ∷ []) then (Forbid (codes_of (Semicolon ∷ CloseBrace ∷ [])) or nothing) or Forbid (code CloseBrace ∷ [])))
     then word With then Row (FieldValues Limited) then word CloseBrace
 rule Statements = Row (Statement Full) then (word Semicolon then Row Statements or nothing) or nothing
 rule (Statement m) = Row (LetStatement m) or Row (VarStatement m) or Row (ExpInner m)

@@ -93,6 +93,7 @@ module _ (g : Grammar) where
   -- the side that is taken with this symbol in hand; where it fits neither, any
   abbrev pub may_left : Form → Form → ℕ → Bool
   may_left a b c = starts a c || (not (starts b c) && (blank a c || not (blank b c)))
+
   abbrev pub may_right : Form → Form → ℕ → Bool
   may_right a b c = starts b c || (not (starts a c) && (blank b c || not (blank a c)))
 

@@ -2,6 +2,7 @@
 #![tactic(auto)]
 
 mod error;
+mod joining;
 mod laws;
 mod lexeme;
 mod mode;
@@ -9,6 +10,7 @@ mod value;
 mod word;
 
 pub use error::{ParseError, Read, ReadError};
+pub use joining::join;
 pub use laws::one_answer;
 pub use lexeme::Lexeme;
 pub use mode::Mode;
