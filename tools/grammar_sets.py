@@ -7,6 +7,7 @@ The sets are shown to be large enough, and the choices to be clear, by the crate
 import os
 import re
 import sys
+import textwrap
 
 TOP = os.path.dirname(os.path.dirname(os.path.abspath(__file__)))
 CRATE = os.path.join(TOP, "crates/sail_grammar")
@@ -132,7 +133,7 @@ class Reader:
 def read_table():
     text = re.sub(r"^--.*$", "", open(os.path.join(CRATE, "specs/Table.antt")).read(), flags=re.M)
     lists = {}
-    for name, body in re.findall(r"^abbrev pub \w+ : List TokenKind\n(\w+) = (.*)$", text, re.M):
+    for name, body in re.findall(r"^abbrev pub \w+ : List TokenKind\n(\w+) =((?:.|\n )*)$", text, re.M):
         lists[name] = Reader(body, lists, None).kind_list()
     rules = {}
     for piece in re.split(r"^rule ", text, flags=re.M)[1:]:
@@ -239,7 +240,8 @@ def spell(token):
 
 
 def listed(symbols):
-    return " ∷ ".join(map(str, sorted(symbols))) + " ∷ []" if symbols else "[]"
+    text = " ∷ ".join(map(str, sorted(symbols))) + " ∷ []" if symbols else "[]"
+    return "\n    ".join(textwrap.wrap(text, 140))
 
 
 def main():
@@ -261,7 +263,8 @@ def main():
              "-- what may begin each row, whether it may be empty, and what may follow it", "abbrev pub sets : RowName → Sets"]
     for name in set_names:
         head = f"({name})" if " " in name else f"({name} m)" if name in moded else name
-        lines.append(f"sets {head} = record {{ first = {listed(sets.first[name])}; nullable = {str(sets.nullable[name]).lower()}; follow = {listed(sets.follow[name])} }}")
+        lines += [f"sets {head} = record {{", f"  first = {listed(sets.first[name])};", f"  nullable = {str(sets.nullable[name]).lower()};",
+                  f"  follow = {listed(sets.follow[name])};", "}"]
     lines += ["", "-- the grammar of models", "abbrev pub grammar : Grammar", "grammar = record { rule = rule; sets = sets }"]
     open(os.path.join(CRATE, "specs/Sets.antt"), "w").write("\n".join(lines) + "\n")
     print(len(names), "rows,", len(rules), "rules")

@@ -57,18 +57,22 @@ module _ (g : Grammar) (good_rows : IsClear g) where
       ]
 
   wrong_left : (a b : Form) (f : List ℕ) (ss : List Sign) → clear g (a or b) f ≡ true → may_left g a b (look ss) ≡ true → starts g b (look ss) ≡ true → ⊥
-  wrong_left a b f ss c m h = not_left (starts g a (look ss)) (starts g b (look ss)) (blank g a (look ss)) (blank g b (look ss)) ((clear_or g a b f c).apart (look ss)) h m
+  wrong_left a b f ss c m h = not_left (starts g a (look ss)) (starts g b (look ss)) (blank g a (look ss)) (blank g b (look ss))
+      ((clear_or g a b f c).apart (look ss)) h m
 
   wrong_right : (a b : Form) (f : List ℕ) (ss : List Sign) → clear g (a or b) f ≡ true → may_right g a b (look ss) ≡ true → starts g a (look ss) ≡ true → ⊥
-  wrong_right a b f ss c m h = not_right (starts g a (look ss)) (starts g b (look ss)) (blank g a (look ss)) (blank g b (look ss)) ((clear_or g a b f c).apart (look ss)) h m
+  wrong_right a b f ss c m h = not_right (starts g a (look ss)) (starts g b (look ss)) (blank g a (look ss)) (blank g b (look ss))
+      ((clear_or g a b f c).apart (look ss)) h m
 
   -- the first part of two is read whole where the second shows a forbidden form
   first_read : (a b : Form) (f : List ℕ) (t : Tree) (ss us zs mid from : List Sign) (r : Outcome) →
-      Ends g a ss r → clear g a (firsts g b ++ kept (blank g b) f) ≡ true → ss ≡ us ++ zs → Reads g.rule a t us mid → Bars g.rule b mid from → r ≡ Done t (mid ++ zs)
+      Ends g a ss r → clear g a (firsts g b ++ kept (blank g b) f) ≡ true → ss ≡ us ++ zs → Reads g.rule a t us mid → Bars g.rule b mid from →
+      r ≡ Done t (mid ++ zs)
   first_read a b f t ss us zs mid from r e c split q k =
       elim (bars_tokens g.rule mid k) [
         | tokens s more h ↦
-            whole_first g good_rows a b f t ss us zs s more r e c split (subst (λ x. Reads g.rule a t us x) h q) (subst (λ x. starts g b (look x) ≡ true) h (bars_front g good_rows k))
+            whole_first g good_rows a b f t ss us zs s more r e c split (subst (λ x. Reads g.rule a t us x) h q)
+            (subst (λ x. starts g b (look x) ≡ true) h (bars_front g good_rows k))
             ∙ ap (λ x. Done t (x ++ zs)) (sym h)
       ]
 
@@ -81,8 +85,12 @@ module _ (g : Grammar) (good_rows : IsClear g) where
       let all : k.read ++ (s ∷ zs) ≡ ss = sym (append_assoc k.read (s ∷ []) zs) ∙ (ap (λ x. x ++ zs) (sym k.split) ∙ sym split) in
       complete g good_rows (ks ++ f) e c (subst (λ x. Reads g.rule a t x (s ∷ zs)) all there) (among_left ks f (symbol s) (shut_held test ks t (s ∷ []) h))
 
-  shut_here : (test : Tree → Bool) (ks : List ℕ) (t u : Tree) (s : Sign) (rest zs : List Sign) → passes test ks u rest ≡ true → passes test ks t (s ∷ []) ≡ false → Done u rest ≡ Done t (s ∷ zs) → ⊥
-  shut_here test ks t u s rest zs h k e = true≢false (sym (let j : passes test ks t (s ∷ zs) ≡ true = (let p : rest ≡ s ∷ zs = cc in let q : u ≡ t = cc in subst (λ x. passes test ks x (s ∷ zs) ≡ true) q (subst (λ x. passes test ks u x ≡ true) p h)) in j) ∙ k)
+  shut_here : (test : Tree → Bool) (ks : List ℕ) (t u : Tree) (s : Sign) (rest zs : List Sign) → passes test ks u rest ≡ true →
+      passes test ks t (s ∷ []) ≡ false → Done u rest ≡ Done t (s ∷ zs) → ⊥
+  shut_here test ks t u s rest zs h k e =
+      true≢false (sym (let j : passes test ks t (s ∷ zs) ≡ true =
+      (let p : rest ≡ s ∷ zs = cc in let q : u ≡ t =
+      cc in subst (λ x. passes test ks x (s ∷ zs) ≡ true) q (subst (λ x. passes test ks u x ≡ true) p h)) in j) ∙ k)
 
   not_stopped : {t : Tree} {rest more : List Sign} {from : Option (List Sign)} → Stop rest from ≡ Done t more → ⊥
   not_stopped e = cc
@@ -93,7 +101,8 @@ module _ (g : Grammar) (good_rows : IsClear g) where
   from_word : (s t : Sign) (ss zs : List Sign) → s ∷ ss ≡ t ∷ zs → StopsFrom (Stop (s ∷ ss) (Some (s ∷ ss))) (t ∷ zs)
   from_word s t ss zs e = subst (λ x. StopsFrom (Stop x (Some x)) (t ∷ zs)) (sym e) stops_from
 
-  pub bars_found : {a : Form} {ss us from : List Sign} {r : Outcome} (f : List ℕ) (zs : List Sign) → Ends g a ss r → clear g a f ≡ true → ss ≡ us ++ zs → Bars g.rule a us from → StopsFrom r (from ++ zs)
+  pub bars_found : {a : Form} {ss us from : List Sign} {r : Outcome} (f : List ℕ) (zs : List Sign) → Ends g a ss r → clear g a f ≡ true → ss ≡ us ++ zs →
+      Bars g.rule a us from → StopsFrom r (from ++ zs)
   bars_found f zs (forbid_stop {ks = ks} h) c split (bars_word k) = absurd (true≢false (sym k ∙ (ap (λ x. held x ks) (sym split) ∙ h)))
   bars_found f zs (forbid_bar {s = s} {ss = ss} h) c split (bars_word {s = t} k) = from_word s t ss zs split
   bars_found f zs (left_read {a = a} {b = b} m e) c split (bars_left r) = absurd (not_done (bars_found f zs e (clear_or g a b f c).for_left split r))
@@ -107,11 +116,14 @@ module _ (g : Grammar) (good_rows : IsClear g) where
   bars_found f zs (first_stop {a = a} {b = b} e) c split (bars_first r) =
       bars_found (firsts g b ++ kept (blank g b) f) zs e (and_parts (clear g a (firsts g b ++ kept (blank g b) f)) (clear g b f) c).0 split r
   bars_found f zs (next_stop {a = a} {b = b} e d) c split (bars_first r) =
-      absurd (not_done (bars_found (firsts g b ++ kept (blank g b) f) zs e (and_parts (clear g a (firsts g b ++ kept (blank g b) f)) (clear g b f) c).0 split r))
+      absurd (not_done (bars_found (firsts g b ++ kept (blank g b) f) zs e (and_parts (clear g a (firsts g b ++ kept (blank g b) f)) (clear g b f) c).0 split
+      r))
   bars_found f zs (both_read {a = a} {b = b} e d) c split (bars_first r) =
-      absurd (not_done (bars_found (firsts g b ++ kept (blank g b) f) zs e (and_parts (clear g a (firsts g b ++ kept (blank g b) f)) (clear g b f) c).0 split r))
+      absurd (not_done (bars_found (firsts g b ++ kept (blank g b) f) zs e (and_parts (clear g a (firsts g b ++ kept (blank g b) f)) (clear g b f) c).0 split
+      r))
   bars_found {ss = ss} {us = us} {from = from} f zs (first_stop {a = a} {b = b} {rest = rest} {from = found} e) c split (bars_next {t = t} {mid = mid} q r) =
-      absurd (not_stopped (first_read a b f t ss us zs mid from (Stop rest found) e (and_parts (clear g a (firsts g b ++ kept (blank g b) f)) (clear g b f) c).0 split q r))
+      absurd (not_stopped (first_read a b f t ss us zs mid from (Stop rest found) e
+      (and_parts (clear g a (firsts g b ++ kept (blank g b) f)) (clear g b f) c).0 split q r))
   bars_found {ss = ss} {us = us} {from = from} f zs (next_stop {a = a} {b = b} {t = u} {mid = seen} e d) c split (bars_next {t = t} {mid = mid} q r) =
       let two = and_parts (clear g a (firsts g b ++ kept (blank g b) f)) (clear g b f) c in
       bars_found f zs d two.1 (ap rest_of (first_read a b f t ss us zs mid from (Done u seen) e two.0 split q r)) r

@@ -64,41 +64,55 @@ blank_left true false true false w h m = true≢false (sym m)
 blank_left false false true false w h m = true≢false (sym m)
 
 module _ (g : Grammar) (good_rows : IsClear g) where
-  pub side_left : (a b : Form) (f : List ℕ) (ss rest : List Sign) → ClearOr g a b f → may_left g a b (look ss) ≡ true → First g b ss rest → among f (look rest) ≡ true → ⊥
-  side_left a b f ss rest k m (some h) n = not_left (starts g a (look ss)) (starts g b (look ss)) (blank g a (look ss)) (blank g b (look ss)) (k.apart (look ss)) h m
+  pub side_left : (a b : Form) (f : List ℕ) (ss rest : List Sign) → ClearOr g a b f → may_left g a b (look ss) ≡ true → First g b ss rest →
+      among f (look rest) ≡ true → ⊥
+  side_left a b f ss rest k m (some h) n =
+      not_left (starts g a (look ss)) (starts g b (look ss)) (blank g a (look ss)) (blank g b (look ss)) (k.apart (look ss)) h m
   side_left a b f ss rest k m (none e h) n =
-      blank_right (starts g a (look rest)) (starts g b (look rest)) (blank g a (look rest)) (blank g b (look rest)) (k.ways (look rest) n) h (subst (λ x. may_left g a b (look x) ≡ true) e m)
+      blank_right (starts g a (look rest)) (starts g b (look rest)) (blank g a (look rest)) (blank g b (look rest)) (k.ways (look rest) n) h
+      (subst (λ x. may_left g a b (look x) ≡ true) e m)
 
-  pub side_right : (a b : Form) (f : List ℕ) (ss rest : List Sign) → ClearOr g a b f → may_right g a b (look ss) ≡ true → First g a ss rest → among f (look rest) ≡ true → ⊥
-  side_right a b f ss rest k m (some h) n = not_right (starts g a (look ss)) (starts g b (look ss)) (blank g a (look ss)) (blank g b (look ss)) (k.apart (look ss)) h m
+  pub side_right : (a b : Form) (f : List ℕ) (ss rest : List Sign) → ClearOr g a b f → may_right g a b (look ss) ≡ true → First g a ss rest →
+      among f (look rest) ≡ true → ⊥
+  side_right a b f ss rest k m (some h) n =
+      not_right (starts g a (look ss)) (starts g b (look ss)) (blank g a (look ss)) (blank g b (look ss)) (k.apart (look ss)) h m
   side_right a b f ss rest k m (none e h) n =
-      blank_left (starts g a (look rest)) (starts g b (look rest)) (blank g a (look rest)) (blank g b (look rest)) (k.ways (look rest) n) h (subst (λ x. may_right g a b (look x) ≡ true) e m)
+      blank_left (starts g a (look rest)) (starts g b (look rest)) (blank g a (look rest)) (blank g b (look rest)) (k.ways (look rest) n) h
+      (subst (λ x. may_right g a b (look x) ≡ true) e m)
 
   -- what comes behind the first part of two
   abbrev pub next_set : Form → List ℕ → List ℕ
   next_set b f = firsts g b ++ kept (blank g b) f
 
-  pub behind_first : (b : Form) (f : List ℕ) (mid rest : List Sign) → First g b mid rest → among f (look rest) ≡ true → among (firsts g b ++ kept (blank g b) f) (look mid) ≡ true
+  pub behind_first : (b : Form) (f : List ℕ) (mid rest : List Sign) → First g b mid rest → among f (look rest) ≡ true →
+      among (firsts g b ++ kept (blank g b) f) (look mid) ≡ true
   behind_first b f mid rest (some h) n = among_left (firsts g b) (kept (blank g b) f) (look mid) (starts_firsts g b (look mid) h)
   behind_first b f mid rest (none e h) n =
-      subst (λ x. among (firsts g b ++ kept (blank g b) f) (look x) ≡ true) (sym e) (among_right (firsts g b) (kept (blank g b) f) (look rest) (among_kept (blank g b) f (look rest) h n))
+      subst (λ x. among (firsts g b ++ kept (blank g b) f) (look x) ≡ true) (sym e)
+      (among_right (firsts g b) (kept (blank g b) f) (look rest) (among_kept (blank g b) f (look rest) h n))
 
-  shut_not : (test : Tree → Bool) (ks : List ℕ) (t u : Tree) (rest more : List Sign) → passes test ks t rest ≡ false → passes test ks u more ≡ true → Done t rest ≡ Done u more → ⊥
+  shut_not : (test : Tree → Bool) (ks : List ℕ) (t u : Tree) (rest more : List Sign) → passes test ks t rest ≡ false → passes test ks u more ≡ true →
+      Done t rest ≡ Done u more → ⊥
   shut_not test ks t u rest more h k e = cc
 
-  pub complete : {a : Form} {ss rest : List Sign} {t : Tree} {r : Outcome} (f : List ℕ) → Ends g a ss r → clear g a f ≡ true → Reads g.rule a t ss rest → among f (look rest) ≡ true → r ≡ Done t rest
+  pub complete : {a : Form} {ss rest : List Sign} {t : Tree} {r : Outcome} (f : List ℕ) → Ends g a ss r → clear g a f ≡ true → Reads g.rule a t ss rest →
+      among f (look rest) ≡ true → r ≡ Done t rest
   complete f (word_read h) c (word k) n = refl
   complete f (word_stop {ks = ks} h) c (word {s = s} k) n = absurd (true≢false (sym k ∙ h))
   complete f (empty_read h) c (empty k) n = refl
   complete f (empty_stop h) c (empty k) n = absurd (true≢false (sym h ∙ k))
   complete f (left_read {a = a} {b = b} m e) c (left r) n = ap (changed Left) (complete f e (clear_or g a b f c).for_left r n)
   complete f (left_stop {a = a} {b = b} m e) c (left r) n = ap (changed Left) (complete f e (clear_or g a b f c).for_left r n)
-  complete {ss = ss} {rest = rest} f (left_read {a = a} {b = b} m e) c (right r) n = absurd (side_left a b f ss rest (clear_or g a b f c) m (reads_first g good_rows r) n)
-  complete {ss = ss} {rest = rest} f (left_stop {a = a} {b = b} m e) c (right r) n = absurd (side_left a b f ss rest (clear_or g a b f c) m (reads_first g good_rows r) n)
+  complete {ss = ss} {rest = rest} f (left_read {a = a} {b = b} m e) c (right r) n =
+      absurd (side_left a b f ss rest (clear_or g a b f c) m (reads_first g good_rows r) n)
+  complete {ss = ss} {rest = rest} f (left_stop {a = a} {b = b} m e) c (right r) n =
+      absurd (side_left a b f ss rest (clear_or g a b f c) m (reads_first g good_rows r) n)
   complete f (right_read {a = a} {b = b} m e) c (right r) n = ap (changed Right) (complete f e (clear_or g a b f c).for_right r n)
   complete f (right_stop {a = a} {b = b} m e) c (right r) n = ap (changed Right) (complete f e (clear_or g a b f c).for_right r n)
-  complete {ss = ss} {rest = rest} f (right_read {a = a} {b = b} m e) c (left r) n = absurd (side_right a b f ss rest (clear_or g a b f c) m (reads_first g good_rows r) n)
-  complete {ss = ss} {rest = rest} f (right_stop {a = a} {b = b} m e) c (left r) n = absurd (side_right a b f ss rest (clear_or g a b f c) m (reads_first g good_rows r) n)
+  complete {ss = ss} {rest = rest} f (right_read {a = a} {b = b} m e) c (left r) n =
+      absurd (side_right a b f ss rest (clear_or g a b f c) m (reads_first g good_rows r) n)
+  complete {ss = ss} {rest = rest} f (right_stop {a = a} {b = b} m e) c (left r) n =
+      absurd (side_right a b f ss rest (clear_or g a b f c) m (reads_first g good_rows r) n)
   complete {rest = rest} f (first_stop {a = a} {b = b} e) c (both {mid = mid} r q) n =
       let two = and_parts (clear g a (firsts g b ++ kept (blank g b) f)) (clear g b f) c in
       let i = complete (firsts g b ++ kept (blank g b) f) e two.0 r (behind_first b f mid rest (reads_first g good_rows q) n) in
@@ -114,9 +128,11 @@ module _ (g : Grammar) (good_rows : IsClear g) where
       let j = complete f d two.1 (subst (λ x. Reads g.rule b u x rest) (sym (ap rest_of i)) q) n in
       cc
   complete f (guard_read h e) c (guard k r) n = complete f e c r n
-  complete {rest = rest} {t = t} f (guard_shut {test = test} {ks = ks} {t = u} {rest = seen} h e) c (guard k r) n = absurd (shut_not test ks u t seen rest h k (complete f e c r n))
+  complete {rest = rest} {t = t} f (guard_shut {test = test} {ks = ks} {t = u} {rest = seen} h e) c (guard k r) n =
+      absurd (shut_not test ks u t seen rest h k (complete f e c r n))
   complete f (guard_stop e) c (guard k r) n = complete f e c r n
-  complete f (row_ends {n = m} e) c (row {rest = rest} r) n = complete (g.sets m).follow e (good g good_rows m).choices r (every_at (among (g.sets m).follow) f (look rest) c n)
+  complete f (row_ends {n = m} e) c (row {rest = rest} r) n =
+      complete (g.sets m).follow e (good g good_rows m).choices r (every_at (among (g.sets m).follow) f (look rest) c n)
   complete {rest = rest} f (bar_read {ks = ks} h e) c (bar k r) n = complete (ks ++ f) e c r (among_right ks f (look rest) n)
   complete {rest = rest} {t = t} f (bar_bar {test = test} {ks = ks} {t = u} {rest = seen} h e) c (bar k r) n =
       absurd (shut_not test ks u t seen rest h k (complete (ks ++ f) e c r (among_right ks f (look rest) n)))

@@ -24,17 +24,22 @@ free_right true false ba true w h = absurd (true≢false (sym (and_parts (not (b
 free_right false false ba true w h = refl
 
 module _ (g : Grammar) (good_rows : IsClear g) where
-  take_left : (a b : Form) (f : List ℕ) (ss rest : List Sign) → ClearOr g a b f → First g a ss rest → among f (look rest) ≡ true → may_left g a b (look ss) ≡ true
+  take_left : (a b : Form) (f : List ℕ) (ss rest : List Sign) → ClearOr g a b f → First g a ss rest → among f (look rest) ≡ true →
+      may_left g a b (look ss) ≡ true
   take_left a b f ss rest k (some h) n = or_left (starts g a (look ss)) (not (starts g b (look ss)) && (blank g a (look ss) || not (blank g b (look ss)))) h
   take_left a b f ss rest k (none e h) n =
-      subst (λ x. may_left g a b (look x) ≡ true) (sym e) (free_left (starts g a (look rest)) (starts g b (look rest)) (blank g a (look rest)) (blank g b (look rest)) (k.ways (look rest) n) h)
+      subst (λ x. may_left g a b (look x) ≡ true) (sym e)
+      (free_left (starts g a (look rest)) (starts g b (look rest)) (blank g a (look rest)) (blank g b (look rest)) (k.ways (look rest) n) h)
 
-  take_right : (a b : Form) (f : List ℕ) (ss rest : List Sign) → ClearOr g a b f → First g b ss rest → among f (look rest) ≡ true → may_right g a b (look ss) ≡ true
+  take_right : (a b : Form) (f : List ℕ) (ss rest : List Sign) → ClearOr g a b f → First g b ss rest → among f (look rest) ≡ true →
+      may_right g a b (look ss) ≡ true
   take_right a b f ss rest k (some h) n = or_left (starts g b (look ss)) (not (starts g a (look ss)) && (blank g b (look ss) || not (blank g a (look ss)))) h
   take_right a b f ss rest k (none e h) n =
-      subst (λ x. may_right g a b (look x) ≡ true) (sym e) (free_right (starts g a (look rest)) (starts g b (look rest)) (blank g a (look rest)) (blank g b (look rest)) (k.ways (look rest) n) h)
+      subst (λ x. may_right g a b (look x) ≡ true) (sym e)
+      (free_right (starts g a (look rest)) (starts g b (look rest)) (blank g a (look rest)) (blank g b (look rest)) (k.ways (look rest) n) h)
 
-  pub found : {a : Form} {t : Tree} {ss rest : List Sign} (f : List ℕ) → clear g a f ≡ true → Reads g.rule a t ss rest → among f (look rest) ≡ true → Ends g a ss (Done t rest)
+  pub found : {a : Form} {t : Tree} {ss rest : List Sign} (f : List ℕ) → clear g a f ≡ true → Reads g.rule a t ss rest → among f (look rest) ≡ true →
+      Ends g a ss (Done t rest)
   found f c (word h) n = word_read h
   found f c (empty h) n = empty_read h
   found {ss = ss} {rest = rest} f c (left {a = a} {b = b} r) n =
@@ -47,8 +52,10 @@ module _ (g : Grammar) (good_rows : IsClear g) where
   found f c (guard h r) n = guard_read h (found f c r n)
   found {rest = rest} f c (bar {ks = ks} h r) n = bar_read h (found (ks ++ f) c r (among_right ks f (look rest) n))
   found f c (hold r) n = hold_read (found f c r n)
-  found {rest = rest} f c (row {n = m} r) n = row_ends (found (g.sets m).follow (good g good_rows m).choices r (every_at (among (g.sets m).follow) f (look rest) c n))
+  found {rest = rest} f c (row {n = m} r) n =
+      row_ends (found (g.sets m).follow (good g good_rows m).choices r (every_at (among (g.sets m).follow) f (look rest) c n))
 
   -- at a place where this may follow a list has at most one tree of a form
-  pub one_tree : {a : Form} {t u : Tree} {ss rest : List Sign} (f : List ℕ) → clear g a f ≡ true → Reads g.rule a t ss rest → Reads g.rule a u ss rest → among f (look rest) ≡ true → t ≡ u
+  pub one_tree : {a : Form} {t u : Tree} {ss rest : List Sign} (f : List ℕ) → clear g a f ≡ true → Reads g.rule a t ss rest → Reads g.rule a u ss rest →
+      among f (look rest) ≡ true → t ≡ u
   one_tree f c r q n = let e = complete g good_rows f (found f c r n) c q n in cc

@@ -15,7 +15,8 @@ alike_held : {rest more : List Sign} (ks : List ℕ) → Alike rest more → hel
 alike_held ks bare h = refl
 alike_held ks same h = h
 
-alike_passes : {rest more : List Sign} (test : Tree → Bool) (ks : List ℕ) (t : Tree) → Alike rest more → passes test ks t rest ≡ true → passes test ks t more ≡ true
+alike_passes : {rest more : List Sign} (test : Tree → Bool) (ks : List ℕ) (t : Tree) → Alike rest more → passes test ks t rest ≡ true →
+    passes test ks t more ≡ true
 alike_passes test ks t bare h = or_right (test t) true refl
 alike_passes test ks t same h = h
 

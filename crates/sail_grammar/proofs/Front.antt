@@ -87,10 +87,12 @@ module _ (g : Grammar) (clear : IsClear g) where
   opens_front (opens_word h) = begun h
   opens_front (opens_left {a = a} {b = b} {ss = ss} o) = front_map a (a or b) ss (or_left (starts g a (look ss)) (starts g b (look ss))) (opens_front o)
   opens_front (opens_right {a = a} {b = b} {ss = ss} o) = front_map b (a or b) ss (or_right (starts g a (look ss)) (starts g b (look ss))) (opens_front o)
-  opens_front (opens_first {a = a} {b = b} {ss = ss} o) = front_map a (a then b) ss (or_left (starts g a (look ss)) (blank g a (look ss) && starts g b (look ss))) (opens_front o)
+  opens_front (opens_first {a = a} {b = b} {ss = ss} o) =
+      front_map a (a then b) ss (or_left (starts g a (look ss)) (blank g a (look ss) && starts g b (look ss))) (opens_front o)
   opens_front (opens_next {a = a} {b = b} {ss = ss} {mid = mid} r o) = next_front a b ss mid (reads_first r) (opens_front o)
   opens_front (opens_guard {a = a} {test = test} {ks = ks} {ss = ss} o) = front_map a (Guard a test ks) ss (λ h. h) (opens_front o)
-  opens_front (opens_bar {a = a} {test = test} {ks = ks} {ss = ss} o) = front_map a (Bar a test ks) ss (or_left (starts g a (look ss)) (blank g a (look ss) && among ks (look ss))) (opens_front o)
+  opens_front (opens_bar {a = a} {test = test} {ks = ks} {ss = ss} o) =
+      front_map a (Bar a test ks) ss (or_left (starts g a (look ss)) (blank g a (look ss) && among ks (look ss))) (opens_front o)
   opens_front (opens_hold {a = a} {ss = ss} o) = front_map a (Hold a) ss (λ h. h) (opens_front o)
   opens_front (opens_row {n = n} {ss = ss} o) = front_map (g.rule n) (Row n) ss ((good g clear n).first (look ss)) (opens_front o)
 
@@ -100,7 +102,8 @@ module _ (g : Grammar) (clear : IsClear g) where
       or_right (starts g a (look ss)) (blank g a (look ss) && starts g b (look ss))
       (subst (λ x. (blank g a (look x) && starts g b (look x)) ≡ true) (sym e) (and_from (blank g a (look mid)) (starts g b (look mid)) h k))
 
-  here_bar : (a : Form) (test : Tree → Bool) (ks : List ℕ) (ss : List Sign) (s : Sign) → among ks (symbol s) ≡ true → First g a ss (s ∷ []) → starts g (Bar a test ks) (look ss) ≡ true
+  here_bar : (a : Form) (test : Tree → Bool) (ks : List ℕ) (ss : List Sign) (s : Sign) → among ks (symbol s) ≡ true → First g a ss (s ∷ []) →
+      starts g (Bar a test ks) (look ss) ≡ true
   here_bar a test ks ss s h (some k) = or_left (starts g a (look ss)) (blank g a (look ss) && among ks (look ss)) k
   here_bar a test ks ss s h (none e k) =
       or_right (starts g a (look ss)) (blank g a (look ss) && among ks (look ss))
@@ -113,7 +116,8 @@ module _ (g : Grammar) (clear : IsClear g) where
   bars_front (bars_first {a = a} {b = b} {ss = ss} r) = or_left (starts g a (look ss)) (blank g a (look ss) && starts g b (look ss)) (bars_front r)
   bars_front (bars_next {a = a} {b = b} {ss = ss} {mid = mid} q r) = next_bar a b ss mid (reads_first q) (bars_front r)
   bars_front (bars_guard r) = bars_front r
-  bars_front (bars_here {a = a} {test = test} {ks = ks} {t = t} {ss = ss} {s = s} q h) = here_bar a test ks ss s (shut_held test ks t (s ∷ []) h) (reads_first q)
+  bars_front (bars_here {a = a} {test = test} {ks = ks} {t = t} {ss = ss} {s = s} q h) =
+      here_bar a test ks ss s (shut_held test ks t (s ∷ []) h) (reads_first q)
   bars_front (bars_in {a = a} {ks = ks} {ss = ss} r) = or_left (starts g a (look ss)) (blank g a (look ss) && among ks (look ss)) (bars_front r)
   bars_front (bars_hold r) = bars_front r
   bars_front (bars_row {n = n} {ss = ss} r) = (good g clear n).first (look ss) (bars_front r)

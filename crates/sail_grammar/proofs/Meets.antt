@@ -64,13 +64,17 @@ module _ (g : Grammar) where
   meets_stop (right_stop {a = a} {b = b} {ss = ss} {rest = rest} m e) = stopped_map b (a or b) ss rest (λ front o. opens_right o) (meets_stop e)
   meets_stop (first_stop {a = a} {b = b} {ss = ss} {rest = rest} e) = stopped_map a (a then b) ss rest (λ front o. opens_first o) (meets_stop e)
   meets_stop (next_stop {a = a} {b = b} {t = t} {ss = ss} {mid = mid} {rest = rest} e d) = next_stopped a b t ss mid rest (meets_done e) (meets_stop d)
-  meets_stop (guard_shut {a = a} {test = test} {ks = ks} {t = t} {ss = ss} {rest = rest} h e) = stopped_map a (Guard a test ks) ss rest (λ front o. opens_guard o) (read_stopped a t ss rest (meets_done e))
-  meets_stop (guard_stop {a = a} {test = test} {ks = ks} {ss = ss} {rest = rest} e) = stopped_map a (Guard a test ks) ss rest (λ front o. opens_guard o) (meets_stop e)
+  meets_stop (guard_shut {a = a} {test = test} {ks = ks} {t = t} {ss = ss} {rest = rest} h e) =
+      stopped_map a (Guard a test ks) ss rest (λ front o. opens_guard o) (read_stopped a t ss rest (meets_done e))
+  meets_stop (guard_stop {a = a} {test = test} {ks = ks} {ss = ss} {rest = rest} e) =
+      stopped_map a (Guard a test ks) ss rest (λ front o. opens_guard o) (meets_stop e)
   meets_stop (row_ends {n = n} {ss = ss} {r = Stop rest from} e) = stopped_map (g.rule n) (Row n) ss rest (λ front o. opens_row o) (meets_stop e)
   meets_stop (forbid_stop {ks = ks} {ss = ss} h) = stopped_here (Forbid ks) ss
   meets_stop (forbid_bar {ks = ks} {s = s} {ss = ss} h) = stopped_here (Forbid ks) (s ∷ ss)
-  meets_stop (bar_bar {a = a} {test = test} {ks = ks} {t = t} {ss = ss} {rest = rest} h e) = stopped_map a (Bar a test ks) ss rest (λ front o. opens_bar o) (read_stopped a t ss rest (meets_done e))
-  meets_stop (bar_stop {a = a} {test = test} {ks = ks} {ss = ss} {rest = rest} e) = stopped_map a (Bar a test ks) ss rest (λ front o. opens_bar o) (meets_stop e)
+  meets_stop (bar_bar {a = a} {test = test} {ks = ks} {t = t} {ss = ss} {rest = rest} h e) =
+      stopped_map a (Bar a test ks) ss rest (λ front o. opens_bar o) (read_stopped a t ss rest (meets_done e))
+  meets_stop (bar_stop {a = a} {test = test} {ks = ks} {ss = ss} {rest = rest} e) =
+      stopped_map a (Bar a test ks) ss rest (λ front o. opens_bar o) (meets_stop e)
   meets_stop (hold_stop {a = a} {ss = ss} {rest = rest} e) = stopped_map a (Hold a) ss rest (λ front o. opens_hold o) (meets_stop e)
   meets_stop (hold_bar {a = a} {ss = ss} {rest = rest} e) = stopped_map a (Hold a) ss rest (λ front o. opens_hold o) (meets_stop e)
 
@@ -85,8 +89,20 @@ module _ (g : Grammar) where
     pub begins : from ≡ begun ++ more
     pub bars : Bars g.rule a shown begun
 
-  barred_map : (a b : Form) (ss rest from : List Sign) → ((shown begun : List Sign) → Bars g.rule a shown begun → Bars g.rule b shown begun) → Barred a ss rest from → Barred b ss rest from
-  barred_map a b ss rest from f s = record { unfit = s.unfit; more = s.more; here = s.here; shown = s.shown; begun = s.begun; split = s.split; begins = s.begins; bars = f s.shown s.begun s.bars }
+  barred_map : (a b : Form) (ss rest from : List Sign) → ((shown begun : List Sign) → Bars g.rule a shown begun → Bars g.rule b shown begun) →
+      Barred a ss rest from → Barred b ss rest from
+  barred_map a b ss rest from f s =
+      record {
+        unfit = s.unfit;
+        more = s.more;
+        here = s.here;
+        shown = s.shown;
+        begun = s.begun;
+        split = s.split;
+        begins = s.begins;
+        bars =
+            f s.shown s.begun s.bars;
+      }
 
   next_barred : (a b : Form) (t : Tree) (ss mid rest from : List Sign) → Reads g.rule a t ss mid → Barred b mid rest from → Barred (a then b) ss rest from
   next_barred a b t ss mid rest from r s =
@@ -102,7 +118,8 @@ module _ (g : Grammar) where
         bars = bars_next (f.again s.shown (subst (λ x. Alike x s.shown) (sym s.split) (alike_front s.shown s.more))) s.bars;
       }
 
-  shut_barred : (a : Form) (test : Tree → Bool) (ks : List ℕ) (t : Tree) (ss rest : List Sign) → passes test ks t rest ≡ false → Reads g.rule a t ss rest → Barred (Bar a test ks) ss rest ss
+  shut_barred : (a : Form) (test : Tree → Bool) (ks : List ℕ) (t : Tree) (ss rest : List Sign) → passes test ks t rest ≡ false → Reads g.rule a t ss rest →
+      Barred (Bar a test ks) ss rest ss
   shut_barred a test ks t ss [] h r = absurd (false≢true (shut_held test ks t [] h))
   shut_barred a test ks t ss (s ∷ more) h r =
       let f = frame g.rule r in
@@ -119,16 +136,24 @@ module _ (g : Grammar) where
       }
 
   hold_barred : (a : Form) (ss rest from : List Sign) → Barred a ss rest from → Barred (Hold a) ss rest ss
-  hold_barred a ss rest from s = record { unfit = s.unfit; more = s.more; here = s.here; shown = s.shown; begun = s.shown; split = s.split; begins = s.split; bars = bars_hold s.bars }
+  hold_barred a ss rest from s =
+      record { unfit = s.unfit; more = s.more; here = s.here; shown = s.shown; begun = s.shown; split = s.split; begins = s.split; bars = bars_hold s.bars }
 
   pub meets_bar : {a : Form} {ss rest from : List Sign} → Ends g a ss (Stop rest (Some from)) → Barred a ss rest from
-  meets_bar (left_stop {a = a} {b = b} {ss = ss} {rest = rest} {from = Some from} m e) = barred_map a (a or b) ss rest from (λ shown begun o. bars_left o) (meets_bar e)
-  meets_bar (right_stop {a = a} {b = b} {ss = ss} {rest = rest} {from = Some from} m e) = barred_map b (a or b) ss rest from (λ shown begun o. bars_right o) (meets_bar e)
-  meets_bar (first_stop {a = a} {b = b} {ss = ss} {rest = rest} {from = Some from} e) = barred_map a (a then b) ss rest from (λ shown begun o. bars_first o) (meets_bar e)
-  meets_bar (next_stop {a = a} {b = b} {t = t} {ss = ss} {mid = mid} {rest = rest} {from = Some from} e d) = next_barred a b t ss mid rest from (meets_done e) (meets_bar d)
-  meets_bar (guard_stop {a = a} {test = test} {ks = ks} {ss = ss} {rest = rest} {from = Some from} e) = barred_map a (Guard a test ks) ss rest from (λ shown begun o. bars_guard o) (meets_bar e)
+  meets_bar (left_stop {a = a} {b = b} {ss = ss} {rest = rest} {from = Some from} m e) =
+      barred_map a (a or b) ss rest from (λ shown begun o. bars_left o) (meets_bar e)
+  meets_bar (right_stop {a = a} {b = b} {ss = ss} {rest = rest} {from = Some from} m e) =
+      barred_map b (a or b) ss rest from (λ shown begun o. bars_right o) (meets_bar e)
+  meets_bar (first_stop {a = a} {b = b} {ss = ss} {rest = rest} {from = Some from} e) =
+      barred_map a (a then b) ss rest from (λ shown begun o. bars_first o) (meets_bar e)
+  meets_bar (next_stop {a = a} {b = b} {t = t} {ss = ss} {mid = mid} {rest = rest} {from = Some from} e d) =
+      next_barred a b t ss mid rest from (meets_done e) (meets_bar d)
+  meets_bar (guard_stop {a = a} {test = test} {ks = ks} {ss = ss} {rest = rest} {from = Some from} e) =
+      barred_map a (Guard a test ks) ss rest from (λ shown begun o. bars_guard o) (meets_bar e)
   meets_bar (row_ends {n = n} {ss = ss} {r = Stop rest (Some from)} e) = barred_map (g.rule n) (Row n) ss rest from (λ shown begun o. bars_row o) (meets_bar e)
-  meets_bar (forbid_bar {ks = ks} {s = s} {ss = ss} h) = record { unfit = s; more = ss; here = refl; shown = s ∷ []; begun = s ∷ []; split = refl; begins = refl; bars = bars_word h }
+  meets_bar (forbid_bar {ks = ks} {s = s} {ss = ss} h) =
+      record { unfit = s; more = ss; here = refl; shown = s ∷ []; begun = s ∷ []; split = refl; begins = refl; bars = bars_word h }
   meets_bar (bar_bar {a = a} {test = test} {ks = ks} {t = t} {ss = ss} {rest = rest} h e) = shut_barred a test ks t ss rest h (meets_done e)
-  meets_bar (bar_stop {a = a} {test = test} {ks = ks} {ss = ss} {rest = rest} {from = Some from} e) = barred_map a (Bar a test ks) ss rest from (λ shown begun o. bars_in o) (meets_bar e)
+  meets_bar (bar_stop {a = a} {test = test} {ks = ks} {ss = ss} {rest = rest} {from = Some from} e) =
+      barred_map a (Bar a test ks) ss rest from (λ shown begun o. bars_in o) (meets_bar e)
   meets_bar (hold_bar {a = a} {ss = ss} {rest = rest} {from = from} e) = hold_barred a ss rest from (meets_bar e)

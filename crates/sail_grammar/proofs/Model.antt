@@ -59,7 +59,8 @@ begun_some r from (bars_in b) e = begun_some r from b e
 begun_some r from (bars_hold b) e = empty_bars r from b e
 begun_some r from (bars_row b) e = begun_some r from b e
 
-begun_head : (r : RowName → Form) {a : Form} {ss begun : List Sign} → Bars r a ss begun → (s : Sign) (tail more : List Sign) → s ∷ tail ≡ begun ++ more → (rest : List Sign) × Bars r a ss (s ∷ rest)
+begun_head : (r : RowName → Form) {a : Form} {ss begun : List Sign} → Bars r a ss begun → (s : Sign) (tail more : List Sign) → s ∷ tail ≡ begun ++ more →
+    (rest : List Sign) × Bars r a ss (s ∷ rest)
 begun_head r {a = a} {ss = ss} {begun = begun} b s tail more e = head_of begun b e where
   head_of : (begun : List Sign) → Bars r a ss begun → s ∷ tail ≡ begun ++ more → (rest : List Sign) × Bars r a ss (s ∷ rest)
   head_of [] b e = absurd (begun_some r [] b refl)
@@ -92,7 +93,8 @@ module _ (us more ss : List Sign) (whole : ss ≡ us ++ more) where
       let all : ss ≡ front ++ (s ∷ (tail ++ more)) = whole ∙ (ap (λ x. x ++ more) e ∙ append_assoc front (s ∷ tail) more) in
       ap (λ x. slice_get x (length front)) all ∙ item_at front (tail ++ more) s
 
-  pub forbidden_at : (rest from tail : List Sign) (s : Sign) (end : Place) → ((m : ℕ) → deep ss ≡ Some m → length us ≤ suc m) → Ends grammar (Row Definitions) us (Stop rest (Some from)) → from ≡ s ∷ tail → IsRefused ss end (error.Outside s.place s.text)
+  pub forbidden_at : (rest from tail : List Sign) (s : Sign) (end : Place) → ((m : ℕ) → deep ss ≡ Some m → length us ≤ suc m) →
+      Ends grammar (Row Definitions) us (Stop rest (Some from)) → from ≡ s ∷ tail → IsRefused ss end (error.Outside s.place s.text)
   forbidden_at rest from tail s end bound e first =
       let k : ℕ = length us - length rest in
       let b = meets_bar grammar e in
@@ -101,7 +103,8 @@ module _ (us more ss : List Sign) (whole : ss ≡ us ++ more) where
       let most : length rest ≤ length us = shrinks grammar e in
       let lt : k < length us = omega arith in
       let count : suc k ≡ length b.shown = omega arith in
-      let shown : take (suc k) ss ≡ b.shown = same_take (suc k) (omega arith) ∙ (ap (take (suc k)) b.split ∙ (ap (λ i. take i (b.shown ++ b.more)) count ∙ take-append_seam b.shown b.more)) in
+      let shown : take (suc k) ss ≡ b.shown =
+      same_take (suc k) (omega arith) ∙ (ap (take (suc k)) b.split ∙ (ap (λ i. take i (b.shown ++ b.more)) count ∙ take-append_seam b.shown b.more)) in
       let h = begun_head rule b.bars (s) tail b.more (sym first ∙ b.begins) in
       forbidden k s h.0 (unfit_longer k lt (first_unfit grammar grammar_clear Definitions ends_clear us rest (Some from) e)) (shallow_to k lt bound)
       (subst (λ x. Bars rule start x (s ∷ h.0)) (sym shown) h.1)
@@ -111,7 +114,8 @@ module _ (us more ss : List Sign) (whole : ss ≡ us ++ more) where
     pub below : length us - length rest < length us
     pub there : slice_get ss (length us - length rest) ≡ Some s
 
-  pub stopped_at : (rest tail : List Sign) (s : Sign) (from : Option (List Sign)) → Ends grammar (Row Definitions) us (Stop rest from) → rest ≡ s ∷ tail → Stopped_at rest s
+  pub stopped_at : (rest tail : List Sign) (s : Sign) (from : Option (List Sign)) → Ends grammar (Row Definitions) us (Stop rest from) → rest ≡ s ∷ tail →
+      Stopped_at rest s
   stopped_at rest tail s from e here =
       let f = meets_stop grammar e in
       let left : length rest ≡ suc (length tail) = ap length here in
@@ -122,29 +126,38 @@ module _ (us more ss : List Sign) (whole : ss ≡ us ++ more) where
         there = subst (λ i. slice_get ss i ≡ Some s) count (at_place s tail f.front (f.split ∙ ap (λ x. f.front ++ x) here));
       }
 
-  pub left_out_at : (rest tail : List Sign) (s : Sign) (end : Place) → ((m : ℕ) → deep ss ≡ Some m → length us ≤ suc m) → Ends grammar (Row Definitions) us (Stop rest None) → rest ≡ s ∷ tail →
+  pub left_out_at : (rest tail : List Sign) (s : Sign) (end : Place) → ((m : ℕ) → deep ss ≡ Some m → length us ≤ suc m) →
+      Ends grammar (Row Definitions) us (Stop rest None) → rest ≡ s ∷ tail →
       is_left_out s.kind (token_before ss (length us - length rest)) ≡ true → IsRefused ss end (error.Outside s.place s.text)
   left_out_at rest tail s end bound e here h =
       let a = stopped_at rest tail s None e here in
-      left_out (length us - length rest) s (unfit_longer (length us - length rest) a.below (first_unfit grammar grammar_clear Definitions ends_clear us rest None e)) (shallow_to (length us - length rest) a.below bound) a.there h
+      left_out (length us - length rest) s
+      (unfit_longer (length us - length rest) a.below (first_unfit grammar grammar_clear Definitions ends_clear us rest None e))
+      (shallow_to (length us - length rest) a.below bound) a.there h
 
-  pub unfit_at : (rest tail : List Sign) (s : Sign) (end : Place) → ((m : ℕ) → deep ss ≡ Some m → length us ≤ suc m) → Ends grammar (Row Definitions) us (Stop rest None) → rest ≡ s ∷ tail →
+  pub unfit_at : (rest tail : List Sign) (s : Sign) (end : Place) → ((m : ℕ) → deep ss ≡ Some m → length us ≤ suc m) →
+      Ends grammar (Row Definitions) us (Stop rest None) → rest ≡ s ∷ tail →
       is_left_out s.kind (token_before ss (length us - length rest)) ≡ false → IsRefused ss end (error.Syntax s.place (Some s.text))
   unfit_at rest tail s end bound e here h =
       let k : ℕ = length us - length rest in
       let a = stopped_at rest tail s None e here in
       unfit k s (unfit_longer k a.below (first_unfit grammar grammar_clear Definitions ends_clear us rest None e)) (shallow_to k a.below bound) a.there h
-      (λ from b. not_plain (bars_found grammar grammar_clear [] (drop (suc k) us) e refl (sym (take-append-drop (suc k) us)) (subst (λ x. Bars rule start x from) (same_take (suc k) (let lt = a.below in omega arith)) b)))
+      (λ from b. not_plain (bars_found grammar grammar_clear [] (drop (suc k) us) e refl (sym (take-append-drop (suc k) us))
+      (subst (λ x. Bars rule start x from) (same_take (suc k) (let lt = a.below in omega arith)) b)))
 
 -- ---- the refusals at the end and at a token that is too deep
 
-pub ended_at : (ss : List Sign) (from : Option (List Sign)) (end : Place) → deep ss ≡ None → Ends grammar (Row Definitions) ss (Stop [] from) → IsRefused ss end (error.Syntax end None)
-ended_at ss from end h e = ended (subst (IsFirstUnfit rule Definitions ss) (omega arith) (first_unfit grammar grammar_clear Definitions ends_clear ss [] from e)) h
+pub ended_at : (ss : List Sign) (from : Option (List Sign)) (end : Place) → deep ss ≡ None → Ends grammar (Row Definitions) ss (Stop [] from) →
+    IsRefused ss end (error.Syntax end None)
+ended_at ss from end h e = ended
+    (subst (IsFirstUnfit rule Definitions ss) (omega arith) (first_unfit grammar grammar_clear Definitions ends_clear ss [] from e)) h
 
-pub deep_read : (ss : List Sign) (m : ℕ) (s : Sign) (t : Tree) (end : Place) → deep ss ≡ Some m → slice_get ss m ≡ Some s → Ends grammar (Row Definitions) (take (suc m) ss) (Done t []) → IsRefused ss end (error.TooDeep s.place)
+pub deep_read : (ss : List Sign) (m : ℕ) (s : Sign) (t : Tree) (end : Place) → deep ss ≡ Some m → slice_get ss m ≡ Some s →
+    Ends grammar (Row Definitions) (take (suc m) ss) (Done t []) → IsRefused ss end (error.TooDeep s.place)
 deep_read ss m s t end h there e = too_deep m s h there (reads_open rule (meets_done grammar e))
 
-pub deep_end : (ss : List Sign) (m : ℕ) (s : Sign) (from : Option (List Sign)) (end : Place) → deep ss ≡ Some m → slice_get ss m ≡ Some s → Ends grammar (Row Definitions) (take (suc m) ss) (Stop [] from) → IsRefused ss end (error.TooDeep s.place)
+pub deep_end : (ss : List Sign) (m : ℕ) (s : Sign) (from : Option (List Sign)) (end : Place) → deep ss ≡ Some m → slice_get ss m ≡ Some s →
+    Ends grammar (Row Definitions) (take (suc m) ss) (Stop [] from) → IsRefused ss end (error.TooDeep s.place)
 deep_end ss m s from end h there e =
     let f = meets_stop grammar e in
     too_deep m s h there (subst (Opens rule start) (sym (append-nil f.front) ∙ sym f.split) f.opened)

@@ -70,22 +70,27 @@ module _ (g : Grammar) (good_rows : IsClear g) where
   second_of a b t us (s ∷ mid) r (begun h) = in_second s mid refl h
   second_of a b t us (s ∷ mid) r (bare e) = absurd cc
 
-  other_left : (a b : Form) (f : List ℕ) (ss us zs : List Sign) (n : ℕ) → ClearOr g a b f → may_left g a b (look ss) ≡ true → ss ≡ us ++ zs → Front g b us → n ≤ length ss → n ≤ length zs
+  other_left : (a b : Form) (f : List ℕ) (ss us zs : List Sign) (n : ℕ) → ClearOr g a b f → may_left g a b (look ss) ≡ true → ss ≡ us ++ zs → Front g b us →
+      n ≤ length ss → n ≤ length zs
   other_left a b f ss [] zs n k m e h le = within ss [] zs n e refl le
   other_left a b f ss (s ∷ us) zs n k m e (bare none) le = within ss (s ∷ us) zs n e none le
   other_left a b f ss (s ∷ us) zs n k m e (begun h) le =
-      absurd (not_left (starts g a (symbol s)) (starts g b (symbol s)) (blank g a (symbol s)) (blank g b (symbol s)) (k.apart (symbol s)) h (subst (λ x. may_left g a b (look x) ≡ true) e m))
+      absurd (not_left (starts g a (symbol s)) (starts g b (symbol s)) (blank g a (symbol s)) (blank g b (symbol s)) (k.apart (symbol s)) h
+      (subst (λ x. may_left g a b (look x) ≡ true) e m))
 
-  other_right : (a b : Form) (f : List ℕ) (ss us zs : List Sign) (n : ℕ) → ClearOr g a b f → may_right g a b (look ss) ≡ true → ss ≡ us ++ zs → Front g a us → n ≤ length ss → n ≤ length zs
+  other_right : (a b : Form) (f : List ℕ) (ss us zs : List Sign) (n : ℕ) → ClearOr g a b f → may_right g a b (look ss) ≡ true → ss ≡ us ++ zs → Front g a us →
+      n ≤ length ss → n ≤ length zs
   other_right a b f ss [] zs n k m e h le = within ss [] zs n e refl le
   other_right a b f ss (s ∷ us) zs n k m e (bare none) le = within ss (s ∷ us) zs n e none le
   other_right a b f ss (s ∷ us) zs n k m e (begun h) le =
-      absurd (not_right (starts g a (symbol s)) (starts g b (symbol s)) (blank g a (symbol s)) (blank g b (symbol s)) (k.apart (symbol s)) h (subst (λ x. may_right g a b (look x) ≡ true) e m))
+      absurd (not_right (starts g a (symbol s)) (starts g b (symbol s)) (blank g a (symbol s)) (blank g b (symbol s)) (k.apart (symbol s)) h
+      (subst (λ x. may_right g a b (look x) ≡ true) e m))
 
   not_stopped : {t : Tree} {rest more : List Sign} {from : Option (List Sign)} → Stop rest from ≡ Done t more → ⊥
   not_stopped e = cc
 
-  pub reach : {a : Form} {ss us : List Sign} {r : Outcome} (f : List ℕ) (zs : List Sign) → Ends g a ss r → clear g a f ≡ true → ss ≡ us ++ zs → Opens g.rule a us → length (rest_of r) ≤ length zs
+  pub reach : {a : Form} {ss us : List Sign} {r : Outcome} (f : List ℕ) (zs : List Sign) → Ends g a ss r → clear g a f ≡ true → ss ≡ us ++ zs →
+      Opens g.rule a us → length (rest_of r) ≤ length zs
   reach {a = a} {ss = ss} {r = r} f zs e c split opens_none = within ss [] zs (length (rest_of r)) split refl (shrinks g e)
   reach f zs (word_read h) c split (opens_word k) = let n = ap length split in omega arith
   reach f zs (word_stop {ks = ks} h) c split (opens_word k) = absurd (true≢false (sym k ∙ (ap (λ x. held x ks) (sym split) ∙ h)))
@@ -93,21 +98,37 @@ module _ (g : Grammar) (good_rows : IsClear g) where
   reach f zs (left_stop {a = a} {b = b} m e) c split (opens_left o) = reach f zs e (clear_or g a b f c).for_left split o
   reach f zs (right_read {a = a} {b = b} m e) c split (opens_right o) = reach f zs e (clear_or g a b f c).for_right split o
   reach f zs (right_stop {a = a} {b = b} m e) c split (opens_right o) = reach f zs e (clear_or g a b f c).for_right split o
-  reach {ss = ss} {us = us} f zs (left_read {a = a} {b = b} {rest = rest} m e) c split (opens_right o) = other_left a b f ss us zs (length rest) (clear_or g a b f c) m split (opens_front g good_rows o) (shrinks g e)
-  reach {ss = ss} {us = us} f zs (left_stop {a = a} {b = b} {rest = rest} m e) c split (opens_right o) = other_left a b f ss us zs (length rest) (clear_or g a b f c) m split (opens_front g good_rows o) (shrinks g e)
-  reach {ss = ss} {us = us} f zs (right_read {a = a} {b = b} {rest = rest} m e) c split (opens_left o) = other_right a b f ss us zs (length rest) (clear_or g a b f c) m split (opens_front g good_rows o) (shrinks g e)
-  reach {ss = ss} {us = us} f zs (right_stop {a = a} {b = b} {rest = rest} m e) c split (opens_left o) = other_right a b f ss us zs (length rest) (clear_or g a b f c) m split (opens_front g good_rows o) (shrinks g e)
-  reach f zs (first_stop {a = a} {b = b} e) c split (opens_first o) = reach (firsts g b ++ kept (blank g b) f) zs e (and_parts (clear g a (firsts g b ++ kept (blank g b) f)) (clear g b f) c).0 split o
+  reach {ss = ss} {us = us} f zs (left_read {a = a} {b = b} {rest = rest} m e) c split (opens_right o) =
+      other_left a b f ss us zs (length rest) (clear_or g a b f c) m split (opens_front g good_rows o) (shrinks g e)
+  reach {ss = ss} {us = us} f zs (left_stop {a = a} {b = b} {rest = rest} m e) c split (opens_right o) =
+      other_left a b f ss us zs (length rest) (clear_or g a b f c) m split (opens_front g good_rows o) (shrinks g e)
+  reach {ss = ss} {us = us} f zs (right_read {a = a} {b = b} {rest = rest} m e) c split (opens_left o) =
+      other_right a b f ss us zs (length rest) (clear_or g a b f c) m split (opens_front g good_rows o) (shrinks g e)
+  reach {ss = ss} {us = us} f zs (right_stop {a = a} {b = b} {rest = rest} m e) c split (opens_left o) =
+      other_right a b f ss us zs (length rest) (clear_or g a b f c) m split (opens_front g good_rows o) (shrinks g e)
+  reach f zs (first_stop {a = a} {b = b} e) c split (opens_first o) =
+      reach (firsts g b ++ kept (blank g b) f) zs e (and_parts (clear g a (firsts g b ++ kept (blank g b) f)) (clear g b f) c).0 split o
   reach f zs (next_stop {a = a} {b = b} e d) c split (opens_first o) =
-      omega (arith, shrinks g d, reach (firsts g b ++ kept (blank g b) f) zs e (and_parts (clear g a (firsts g b ++ kept (blank g b) f)) (clear g b f) c).0 split o)
+      omega (
+        arith,
+        shrinks g d,
+        reach (firsts g b ++ kept (blank g b) f) zs e (and_parts (clear g a (firsts g b ++ kept (blank g b) f)) (clear g b f) c).0
+            split o,
+      )
   reach f zs (both_read {a = a} {b = b} e d) c split (opens_first o) =
-      omega (arith, shrinks g d, reach (firsts g b ++ kept (blank g b) f) zs e (and_parts (clear g a (firsts g b ++ kept (blank g b) f)) (clear g b f) c).0 split o)
+      omega (
+        arith,
+        shrinks g d,
+        reach (firsts g b ++ kept (blank g b) f) zs e (and_parts (clear g a (firsts g b ++ kept (blank g b) f)) (clear g b f) c).0
+            split o,
+      )
   reach {ss = ss} {us = us} f zs (first_stop {a = a} {b = b} {rest = rest} {from = from} e) c split (opens_next {t = t} {mid = mid} q o) =
       let two = and_parts (clear g a (firsts g b ++ kept (blank g b) f)) (clear g b f) c in
       let short = λ (p : Opens g.rule a us). reach (firsts g b ++ kept (blank g b) f) zs e two.0 split p in
       elim (second_of a b t us mid q (opens_front g good_rows o)) [
         | in_first p ↦ short p
-        | in_second s more here h ↦ absurd (not_stopped (whole_first a b f t ss us zs s more (Stop rest from) e two.0 split (subst (λ x. Reads g.rule a t us x) here q) h))
+        | in_second s more here h ↦ absurd
+            (not_stopped (whole_first a b f t ss us zs s more (Stop rest from) e two.0 split (subst (λ x. Reads g.rule a t us x) here q) h))
       ]
   reach {ss = ss} {us = us} f zs (next_stop {a = a} {b = b} {t = read} {mid = seen} {rest = rest} e d) c split (opens_next {t = t} {mid = mid} q o) =
       let two = and_parts (clear g a (firsts g b ++ kept (blank g b) f)) (clear g b f) c in
@@ -116,7 +137,8 @@ module _ (g : Grammar) (good_rows : IsClear g) where
       elim (second_of a b t us mid q (opens_front g good_rows o)) [
         | in_first p ↦ omega (arith, shrinks g d, short p)
         | in_second s more here h ↦
-            long (ap rest_of (whole_first a b f t ss us zs s more (Done read seen) e two.0 split (subst (λ x. Reads g.rule a t us x) here q) h) ∙ ap (λ x. x ++ zs) (sym here))
+            long (ap rest_of (whole_first a b f t ss us zs s more (Done read seen) e two.0 split (subst (λ x. Reads g.rule a t us x) here q) h) ∙
+            ap (λ x. x ++ zs) (sym here))
       ]
   reach {ss = ss} {us = us} f zs (both_read {a = a} {b = b} {t = read} {mid = seen} {rest = rest} e d) c split (opens_next {t = t} {mid = mid} q o) =
       let two = and_parts (clear g a (firsts g b ++ kept (blank g b) f)) (clear g b f) c in
@@ -125,7 +147,8 @@ module _ (g : Grammar) (good_rows : IsClear g) where
       elim (second_of a b t us mid q (opens_front g good_rows o)) [
         | in_first p ↦ omega (arith, shrinks g d, short p)
         | in_second s more here h ↦
-            long (ap rest_of (whole_first a b f t ss us zs s more (Done read seen) e two.0 split (subst (λ x. Reads g.rule a t us x) here q) h) ∙ ap (λ x. x ++ zs) (sym here))
+            long (ap rest_of (whole_first a b f t ss us zs s more (Done read seen) e two.0 split (subst (λ x. Reads g.rule a t us x) here q) h) ∙
+            ap (λ x. x ++ zs) (sym here))
       ]
   reach f zs (guard_read h e) c split (opens_guard o) = reach f zs e c split o
   reach f zs (guard_shut h e) c split (opens_guard o) = reach f zs e c split o

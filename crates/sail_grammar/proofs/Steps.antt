@@ -15,7 +15,9 @@ use Rattle.sail_grammar.specs.declared.error.ReadError.{ReadError}
 use Rattle.sail_grammar.specs.declared.error.ReadError.TheVariants.{Unfit, Forbidden, OutOfMemory}
 
 -- a refusal within a part is one of the whole, where every stop of the part is one of the whole
-pub carry : {a b : Form} {ss mid : List Sign} {e : ReadError} → ((rest : List Sign) (from : Option (List Sign)) → Ends grammar a mid (Stop rest from) → Ends grammar b ss (Stop rest from)) → StopsAt a mid e → StopsAt b ss e
+pub carry : {a b : Form} {ss mid : List Sign} {e : ReadError} →
+    ((rest : List Sign) (from : Option (List Sign)) → Ends grammar a mid (Stop rest from) → Ends grammar b ss (Stop rest from)) → StopsAt a mid e →
+    StopsAt b ss e
 carry {a = a} {b = b} {ss = ss} {mid = mid} {e = e} f s = record { why = tell e s.why } where
   stopping : (n : ℕ) (m : Option ℕ) → Stopping a mid n m → Stopping b ss n m
   stopping n m w = record { rest = w.rest; begun = w.begun; ends = f w.rest w.begun w.ends; left_is = w.left_is; from_is = w.from_is }
@@ -77,12 +79,14 @@ pub takes_held : (ks : List ℕ) (ss : List Sign) (s : Sign) (rest : List Sign) 
 takes_held ks ss s rest (word_read h) = h
 
 -- what a `?` hands on
-pub exit_stop : {X : Type 0} {f : Form} {ss : List Sign} {e : ReadError} (r : Result X ReadError) → IsErrAnd r (λ y. y ≡ e) → StopsAt f ss e → IfErr r (λ y. StopsAt f ss y)
+pub exit_stop : {X : Type 0} {f : Form} {ss : List Sign} {e : ReadError} (r : Result X ReadError) → IsErrAnd r (λ y. y ≡ e) → StopsAt f ss e →
+    IfErr r (λ y. StopsAt f ss y)
 exit_stop (Ok x) h s = tt
 exit_stop {f = f} {ss = ss} (Err y) h s = subst (StopsAt f ss) (sym h) s
 
 -- what the last call hands on
-pub pass_stop : {X : Type 0} {f g : Form} {ss mid : List Sign} (r : Result X ReadError) → IfErr r (λ y. StopsAt f mid y) → ((e : ReadError) → StopsAt f mid e → StopsAt g ss e) → IfErr r (λ y. StopsAt g ss y)
+pub pass_stop : {X : Type 0} {f g : Form} {ss mid : List Sign} (r : Result X ReadError) → IfErr r (λ y. StopsAt f mid y) →
+    ((e : ReadError) → StopsAt f mid e → StopsAt g ss e) → IfErr r (λ y. StopsAt g ss y)
 pass_stop (Ok x) h k = tt
 pass_stop (Err y) h k = k y h
 
@@ -92,27 +96,36 @@ left_word ks x b [] h = absurd (true≢false (sym h))
 left_word ks x b (s ∷ ss) h = ap (λ v. (v || false) || (not (starts grammar b (symbol s)) && (false || not (blank grammar b (symbol s))))) h
 
 -- with another nothing is read
-pub none_word : (ks : List ℕ) (x : Form) (ss : List Sign) → among ks 0 ≡ false → held ss ks ≡ false → may_right grammar (Word ks then x) (Empty []) (look ss) ≡ true
+pub none_word : (ks : List ℕ) (x : Form) (ss : List Sign) → among ks 0 ≡ false → held ss ks ≡ false →
+    may_right grammar (Word ks then x) (Empty []) (look ss) ≡ true
 none_word ks x ss z h = right_nothing (Word ks then x) ss (ap (λ v. v || false) (held_none ks ss z h))
 
 -- a part, and perhaps a word and another part behind it
-pub some_ends : {a b c : Form} {ks : List ℕ} {t u : Tree} {s : Sign} {ss mid after rest : List Sign} → Ends grammar a ss (Done t mid) → Takes ks mid s after → Ends grammar b after (Done u rest) → Ends grammar (a then ((Word ks then b) or c)) ss (Done (Pair t (Left (Pair (Leaf s) u))) rest)
-some_ends {b = b} {c = c} {ks = ks} {s = s} {mid = mid} {after = after} r w q = both_read r (left_read (left_word ks b c mid (takes_held ks mid s after w)) (both_read w q))
+pub some_ends : {a b c : Form} {ks : List ℕ} {t u : Tree} {s : Sign} {ss mid after rest : List Sign} → Ends grammar a ss (Done t mid) → Takes ks mid s after →
+    Ends grammar b after (Done u rest) → Ends grammar (a then ((Word ks then b) or c)) ss (Done (Pair t (Left (Pair (Leaf s) u))) rest)
+some_ends {b = b} {c = c} {ks = ks} {s = s} {mid = mid} {after = after} r w q =
+    both_read r (left_read (left_word ks b c mid (takes_held ks mid s after w)) (both_read w q))
 
-pub none_ends : {a b : Form} {ks : List ℕ} {t : Tree} {ss mid : List Sign} → Ends grammar a ss (Done t mid) → among ks 0 ≡ false → held mid ks ≡ false → Ends grammar (a then ((Word ks then b) or Empty [])) ss (Done (Pair t (Right Nothing)) mid)
+pub none_ends : {a b : Form} {ks : List ℕ} {t : Tree} {ss mid : List Sign} → Ends grammar a ss (Done t mid) → among ks 0 ≡ false → held mid ks ≡ false →
+    Ends grammar (a then ((Word ks then b) or Empty [])) ss (Done (Pair t (Right Nothing)) mid)
 none_ends {b = b} {ks = ks} {mid = mid} r z h = both_read r (right_read (none_word ks b mid z h) (empty_read (none_in mid)))
 
-pub some_stops : {a b c : Form} {ks : List ℕ} {t : Tree} {s : Sign} {ss mid after : List Sign} {e : ReadError} → Ends grammar a ss (Done t mid) → Takes ks mid s after → StopsAt b after e → StopsAt (a then ((Word ks then b) or c)) ss e
-some_stops {b = b} {c = c} {ks = ks} {s = s} {mid = mid} {after = after} r w q = stops_next r (stops_left (left_word ks b c mid (takes_held ks mid s after w)) (stops_next w q))
+pub some_stops : {a b c : Form} {ks : List ℕ} {t : Tree} {s : Sign} {ss mid after : List Sign} {e : ReadError} → Ends grammar a ss (Done t mid) →
+    Takes ks mid s after → StopsAt b after e → StopsAt (a then ((Word ks then b) or c)) ss e
+some_stops {b = b} {c = c} {ks = ks} {s = s} {mid = mid} {after = after} r w q =
+    stops_next r (stops_left (left_word ks b c mid (takes_held ks mid s after w)) (stops_next w q))
 
 -- perhaps a word and parts behind it
-pub more_ends : {b c : Form} {ks : List ℕ} {u : Tree} {s : Sign} {ss after rest : List Sign} → Takes ks ss s after → Ends grammar b after (Done u rest) → Ends grammar ((Word ks then b) or c) ss (Done (Left (Pair (Leaf s) u)) rest)
+pub more_ends : {b c : Form} {ks : List ℕ} {u : Tree} {s : Sign} {ss after rest : List Sign} → Takes ks ss s after → Ends grammar b after (Done u rest) →
+    Ends grammar ((Word ks then b) or c) ss (Done (Left (Pair (Leaf s) u)) rest)
 more_ends {b = b} {c = c} {ks = ks} {s = s} {ss = ss} {after = after} w q = left_read (left_word ks b c ss (takes_held ks ss s after w)) (both_read w q)
 
-pub no_more_ends : {b : Form} {ks : List ℕ} {ss : List Sign} → among ks 0 ≡ false → held ss ks ≡ false → Ends grammar ((Word ks then b) or Empty []) ss (Done (Right Nothing) ss)
+pub no_more_ends : {b : Form} {ks : List ℕ} {ss : List Sign} → among ks 0 ≡ false → held ss ks ≡ false →
+    Ends grammar ((Word ks then b) or Empty []) ss (Done (Right Nothing) ss)
 no_more_ends {b = b} {ks = ks} {ss = ss} z h = right_read (none_word ks b ss z h) (empty_read (none_in ss))
 
-pub more_stops : {b c : Form} {ks : List ℕ} {s : Sign} {ss after : List Sign} {e : ReadError} → Takes ks ss s after → StopsAt b after e → StopsAt ((Word ks then b) or c) ss e
+pub more_stops : {b c : Form} {ks : List ℕ} {s : Sign} {ss after : List Sign} {e : ReadError} → Takes ks ss s after → StopsAt b after e →
+    StopsAt ((Word ks then b) or c) ss e
 more_stops {b = b} {c = c} {ks = ks} {s = s} {ss = ss} {after = after} w q = stops_left (left_word ks b c ss (takes_held ks ss s after w)) (stops_next w q)
 
 -- what the last call gives
@@ -121,12 +134,15 @@ pass_ok (Ok x) h k = k x h
 pass_ok (Err e) h k = tt
 
 -- a list that is read by a loop: what is read from here on, behind the items so far, is read from the start on
-pub record Onward {A : Type 0} (f : Form) (behind : List A → Tree → List A) (start : List Sign) (first : List A) (now : List Sign) (items : List A) : Type 0 where
-  pub reads : (x : List A) (rest : List Sign) → Reading f (behind items) now x rest → Reading f (behind first) start x rest
-  pub stops : (e : ReadError) → StopsAt f now e → StopsAt f start e
+pub record Onward {A : Type 0} (f : Form) (behind : List A → Tree → List A) (start : List Sign) (first : List A) (now : List Sign) (items : List A) : Type 0
+  where
+    pub reads : (x : List A) (rest : List Sign) → Reading f (behind items) now x rest → Reading f (behind first) start x rest
+    pub stops : (e : ReadError) → StopsAt f now e → StopsAt f start e
 
 pub onward_start : {A : Type 0} (f : Form) (behind : List A → Tree → List A) (ss : List Sign) (items : List A) → Onward f behind ss items ss items
 onward_start f behind ss items = record { reads = λ x rest r. r; stops = λ e s. s }
 
-pub onward_step : {A : Type 0} {f : Form} {behind : List A → Tree → List A} {start now next : List Sign} {first items more : List A} → Onward f behind start first now items → ((x : List A) (rest : List Sign) → Reading f (behind more) next x rest → Reading f (behind items) now x rest) → ((e : ReadError) → StopsAt f next e → StopsAt f now e) → Onward f behind start first next more
+pub onward_step : {A : Type 0} {f : Form} {behind : List A → Tree → List A} {start now next : List Sign} {first items more : List A} →
+    Onward f behind start first now items → ((x : List A) (rest : List Sign) → Reading f (behind more) next x rest → Reading f (behind items) now x rest) →
+    ((e : ReadError) → StopsAt f next e → StopsAt f now e) → Onward f behind start first next more
 onward_step o k s = record { reads = λ x rest r. o.reads x rest (k x rest r); stops = λ e h. o.stops e (s e h) }

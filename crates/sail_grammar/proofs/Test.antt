@@ -98,7 +98,8 @@ module _ (g : Grammar) where
 
   pub good : IsClear g → (n : RowName) → IsGood n
   good h n =
-      let outer = and_parts (every (among (g.sets n).first) (firsts g (g.rule n))) (((g.sets n).nullable || not (empties g (g.rule n))) && clear g (g.rule n) (g.sets n).follow) (h n) in
+      let outer = and_parts (every (among (g.sets n).first) (firsts g (g.rule n)))
+      (((g.sets n).nullable || not (empties g (g.rule n))) && clear g (g.rule n) (g.sets n).follow) (h n) in
       let inner = and_parts ((g.sets n).nullable || not (empties g (g.rule n))) (clear g (g.rule n) (g.sets n).follow) outer.1 in
       record {
         first = λ c s. every_at (among (g.sets n).first) (firsts g (g.rule n)) c outer.0 (starts_firsts (g.rule n) c s);

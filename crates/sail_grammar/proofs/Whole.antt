@@ -55,7 +55,8 @@ module _ (rule : RowName → Form) where
       let in_first = λ (more : List Sign) (p : ss ≡ xs ++ (more ++ mid)). parts xs more r p in
       elim (cut k.read mid xs (ys ++ rest) (sym k.split ∙ e)) as (λ c. Opens rule (a then b) xs) [
         | later more f h ↦
-            subst (Opens rule (a then b)) (sym f) (opens_next (k.again more (subst (λ x. Alike x more) (sym h) (alike_front more (ys ++ rest)))) (in_second more h))
+            subst (Opens rule (a then b)) (sym f)
+            (opens_next (k.again more (subst (λ x. Alike x more) (sym h) (alike_front more (ys ++ rest)))) (in_second more h))
         | before more f h ↦ opens_first (in_first more (e ∙ ap (λ x. xs ++ x) h))
       ]
   parts xs ys (guard h r) e = opens_guard (parts xs ys r e)
@@ -81,7 +82,8 @@ module _ (rule : RowName → Form) where
       let k = frame rule r in
       let in_second = λ (more : List Sign) (p : mid ≡ more ++ ys). opens_part more ys o p in
       elim (cut k.read mid xs ys (sym k.split ∙ e)) as (λ c. Opens rule (a then b) xs) [
-        | later more f h ↦ subst (Opens rule (a then b)) (sym f) (opens_next (k.again more (subst (λ x. Alike x more) (sym h) (alike_front more ys))) (in_second more h))
+        | later more f h ↦ subst (Opens rule (a then b)) (sym f)
+            (opens_next (k.again more (subst (λ x. Alike x more) (sym h) (alike_front more ys))) (in_second more h))
         | before more f h ↦ opens_first (parts xs more r (e ∙ ap (λ x. xs ++ x) h))
       ]
   opens_part xs ys (opens_guard o) e = opens_guard (opens_part xs ys o e)

@@ -44,7 +44,8 @@ pub unlike : (k : TokenKind) (s : Sign) → sameb the_type s.kind k ≡ false �
 unlike k s h =
     let below = code_below k in
     let apart : code k ≡ code s.kind → ⊥ = λ e. eqb-false (tag_of the_type s.kind) (tag_of the_type k) h (omega (arith, e)) in
-    ap (λ b. b || false) (sym (differs (code k) (code s.kind) (code s.kind == code Decimal && is_two s.text) (code s.kind == code Identifier && is_kind_name s.text) (λ e. omega (arith, below, e)) (λ e. omega (arith, below, e)) apart))
+    ap (λ b. b || false) (sym (differs (code k) (code s.kind) (code s.kind == code Decimal && is_two s.text) (code s.kind ==
+    code Identifier && is_kind_name s.text) (λ e. omega (arith, below, e)) (λ e. omega (arith, below, e)) apart))
 
 pub held_head : (ks : List ℕ) (ls : List Lexeme) (l : Lexeme) (rest : List Lexeme) → ls ≡ l ∷ rest → held ls ks ≡ among ks (symbol l)
 held_head ks ls l rest e = ap (λ xs. held xs ks) e
@@ -61,8 +62,12 @@ among_head : (x b : Bool) → (x || false) ≡ true → (x || b) ≡ true
 among_head true b h = refl
 among_head false b h = absurd (true≢false (sym h))
 
-pub among_next : (ks : List TokenKind) (i : ℕ) (d : TokenKind) (c : ℕ) → i < length ks → among (code (get_or ks i d) ∷ []) c ≡ false → among (map code (drop (i + 1) ks)) c ≡ among (map code (drop i ks)) c
-among_next ks i d c lt h = sym (ap (λ xs. among (map code xs) c) (drop_more ks i d lt) ∙ among_rest (code (get_or ks i d) == c) (among (map code (drop (i + 1) ks)) c) h)
+pub among_next : (ks : List TokenKind) (i : ℕ) (d : TokenKind) (c : ℕ) → i < length ks → among (code (get_or ks i d) ∷ []) c ≡ false →
+    among (map code (drop (i + 1) ks)) c ≡ among (map code (drop i ks)) c
+among_next ks i d c lt h = sym
+    (ap (λ xs. among (map code xs) c) (drop_more ks i d lt) ∙ among_rest (code (get_or ks i d) == c) (among (map code (drop (i + 1) ks)) c) h)
 
-pub among_found : (ks : List TokenKind) (i : ℕ) (d : TokenKind) (c : ℕ) → i < length ks → among (code (get_or ks i d) ∷ []) c ≡ true → among (map code (drop i ks)) c ≡ true
-among_found ks i d c lt h = ap (λ xs. among (map code xs) c) (drop_more ks i d lt) ∙ among_head (code (get_or ks i d) == c) (among (map code (drop (i + 1) ks)) c) h
+pub among_found : (ks : List TokenKind) (i : ℕ) (d : TokenKind) (c : ℕ) → i < length ks → among (code (get_or ks i d) ∷ []) c ≡ true →
+    among (map code (drop i ks)) c ≡ true
+among_found ks i d c lt h = ap (λ xs. among (map code xs) c) (drop_more ks i d lt) ∙ among_head (code (get_or ks i d) ==
+    c) (among (map code (drop (i + 1) ks)) c) h

@@ -155,7 +155,8 @@ order_of t = no_def
 
 -- row TypeDefinition
 abbrev pub alias_of : Tree → Def
-alias_of (Pair word (Pair name (Pair parameters (Pair kind (Pair equal typ))))) = V.Alias (place_at word) (name_at name) (parameters_of parameters) (kind_if kind) (typ_of typ)
+alias_of (Pair word (Pair name (Pair parameters (Pair kind (Pair equal typ))))) =
+    V.Alias (place_at word) (name_at name) (parameters_of parameters) (kind_if kind) (typ_of typ)
 alias_of t = no_def
 
 -- row EnumDefinition
@@ -185,12 +186,14 @@ val_of t = no_def
 -- row FunctionDefinition
 abbrev pub function_of : Tree → Def
 function_of (Pair word (Pair clause_word (Pair name (Pair parameters (Pair result (Pair equal body)))))) =
-    function_as word clause_word (name_at name) (record { place = place_at word; parameters = pattern_list_of parameters; result = typ_if result; body = exp_of body })
+    function_as word clause_word (name_at name)
+    (record { place = place_at word; parameters = pattern_list_of parameters; result = typ_if result; body = exp_of body })
 function_of t = no_def
 
 -- row MeasureDefinition
 abbrev pub measure_definition_of : Tree → Def
-measure_definition_of (Pair word (Pair name (Pair parameters (Pair equal value)))) = V.Measure (place_at word) (name_at name) (pattern_list_of parameters) (exp_of value)
+measure_definition_of (Pair word (Pair name (Pair parameters (Pair equal value)))) =
+    V.Measure (place_at word) (name_at name) (pattern_list_of parameters) (exp_of value)
 measure_definition_of t = no_def
 
 -- row MappingDefinition

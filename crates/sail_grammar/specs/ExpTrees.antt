@@ -230,16 +230,19 @@ abbrev mutual
   -- row Foreach
   pub foreach_of : Tree → Exp
   foreach_of (Pair word (Pair open_bracket (Pair name (Pair from_word (Pair from (Pair to_word (Pair to (Pair by (Pair direction (Pair close body)))))))))) =
-      V.Foreach (place_at word) (name_at name) (roll-Range (record { from = exp_of from; to = exp_of to; by = behind_word by; direction = direction_at direction })) (exp_of body)
+      V.Foreach (place_at word) (name_at name)
+      (roll-Range (record { from = exp_of from; to = exp_of to; by = behind_word by; direction = direction_at direction })) (exp_of body)
   foreach_of t = no_exp
 
   -- rows While and Repeat
   pub while_of : Tree → Exp
-  while_of (Pair word (Pair measure (Pair condition (Pair do_word body)))) = V.Loop (place_at word) Y.While (measure_of measure) (exp_of condition) (exp_of body)
+  while_of (Pair word (Pair measure (Pair condition (Pair do_word body)))) =
+      V.Loop (place_at word) Y.While (measure_of measure) (exp_of condition) (exp_of body)
   while_of t = no_exp
 
   pub repeat_of : Tree → Exp
-  repeat_of (Pair word (Pair measure (Pair body (Pair until condition)))) = V.Loop (place_at word) Y.Repeat (measure_of measure) (exp_of condition) (exp_of body)
+  repeat_of (Pair word (Pair measure (Pair body (Pair until condition)))) =
+      V.Loop (place_at word) Y.Repeat (measure_of measure) (exp_of condition) (exp_of body)
   repeat_of t = no_exp
 
   -- row LoopMeasure
@@ -254,7 +257,8 @@ abbrev mutual
 
   -- row Assignment
   pub assignment_of : Tree → Exp
-  assignment_of (Pair operand (Left (Pair equal value))) = V.Assign (first_place operand) (target_value (infix_of operand)) (targets_of value) (assigned_of value)
+  assignment_of (Pair operand (Left (Pair equal value))) =
+      V.Assign (first_place operand) (target_value (infix_of operand)) (targets_of value) (assigned_of value)
   assignment_of (Pair operand (Right (Left (Pair colon typ)))) = V.Typed (first_place operand) (infix_of operand) (typ_of typ)
   assignment_of (Pair operand t) = infix_of operand
   assignment_of t = no_exp
@@ -355,7 +359,8 @@ abbrev mutual
   suffixes_of t = []
 
   pub suffix_of : Tree → Suffix
-  suffix_of (Left (Pair bracket (Pair first (Pair last close)))) = F.At (place_at bracket) (roll-Index (record { first = exp_of first; last = behind_word last }))
+  suffix_of (Left (Pair bracket (Pair first (Pair last close)))) =
+      F.At (place_at bracket) (roll-Index (record { first = exp_of first; last = behind_word last }))
   suffix_of (Right (Pair dot name)) = F.Field (name_at name)
   suffix_of t = F.Field (name_at t)
 
@@ -440,7 +445,8 @@ abbrev mutual
 
   -- row Block, all of it, and the part of it that is plain
   pub block_of : Tree → Exp
-  block_of (Pair (Pair bracket (Left (Pair s t))) (Pair with_word (Pair values close))) = V.With (place_at bracket) (exp_of_statement (statement_of s)) (values_of values)
+  block_of (Pair (Pair bracket (Left (Pair s t))) (Pair with_word (Pair values close))) =
+      V.With (place_at bracket) (exp_of_statement (statement_of s)) (values_of values)
   block_of (Pair bracket (Pair body close)) = body_of (place_at bracket) body
   block_of t = no_exp
 

@@ -26,7 +26,8 @@ level_words = K.If ∷ K.Match ∷ K.Let ∷ K.Var ∷ K.Foreach ∷ K.While ∷
 
 -- the words that begin a definition
 abbrev pub definition_words : List TokenKind
-definition_words = K.Default ∷ K.TypeWord ∷ K.Enum ∷ K.Struct ∷ K.Union ∷ K.Val ∷ K.Function ∷ K.TerminationMeasure ∷ K.Mapping ∷ K.Let ∷ K.Register ∷ K.Overload ∷ K.Scattered ∷ K.End ∷ []
+definition_words = K.Default ∷ K.TypeWord ∷ K.Enum ∷ K.Struct ∷ K.Union ∷ K.Val ∷ K.Function ∷ K.TerminationMeasure ∷ K.Mapping ∷ K.Let ∷ K.Register ∷
+    K.Overload ∷ K.Scattered ∷ K.End ∷ []
 
 -- what a definition may end with
 abbrev pub last_tokens : List TokenKind

@@ -43,10 +43,12 @@ IsShallow ss k = (m : ℕ) → deep ss ≡ Some m → k ≤ m
 -- tokens that end at this place are refused so
 pub data IsRefused (ss : List Sign) (end : Place) : ParseError → Type 0 where
   -- a token begins no model with those before it, and shows a form that is forbidden and begins at this one
-  forbidden : (k : ℕ) (s : Sign) (more : List Sign) → IsFirstUnfit rule Definitions ss k → IsShallow ss k → Bars rule (Row Definitions) (take (suc k) ss) (s ∷ more) →
+  forbidden : (k : ℕ) (s : Sign) (more : List Sign) → IsFirstUnfit rule Definitions ss k → IsShallow ss k →
+      Bars rule (Row Definitions) (take (suc k) ss) (s ∷ more) →
       IsRefused ss end (error.Outside s.place s.text)
   -- or it is a word that is left out
-  left_out : (k : ℕ) (s : Sign) → IsFirstUnfit rule Definitions ss k → IsShallow ss k → slice_get ss k ≡ Some s → is_left_out s.kind (token_before ss k) ≡ true →
+  left_out : (k : ℕ) (s : Sign) → IsFirstUnfit rule Definitions ss k → IsShallow ss k → slice_get ss k ≡ Some s →
+      is_left_out s.kind (token_before ss k) ≡ true →
       IsRefused ss end (error.Outside s.place s.text)
   -- or it is another
   unfit : (k : ℕ) (s : Sign) → IsFirstUnfit rule Definitions ss k → IsShallow ss k → slice_get ss k ≡ Some s → is_left_out s.kind (token_before ss k) ≡ false →
@@ -54,7 +56,8 @@ pub data IsRefused (ss : List Sign) (end : Place) : ParseError → Type 0 where
   -- the tokens begin a model and are none
   ended : IsFirstUnfit rule Definitions ss (length ss) → deep ss ≡ None → IsRefused ss end (error.Syntax end None)
   -- the tokens up to the first one that is too deep begin a model
-  too_deep : (m : ℕ) (s : Sign) → deep ss ≡ Some m → slice_get ss m ≡ Some s → Opens rule (Row Definitions) (take (suc m) ss) → IsRefused ss end (error.TooDeep s.place)
+  too_deep : (m : ℕ) (s : Sign) → deep ss ≡ Some m → slice_get ss m ≡ Some s → Opens rule (Row Definitions) (take (suc m) ss) →
+      IsRefused ss end (error.TooDeep s.place)
 
 -- an error says how the tokens are refused; want of memory says nothing of them
 abbrev pub IsRefusal : List Sign → Place → ParseError → Type 0

@@ -11,8 +11,10 @@ pub data Reads (rule : RowName → Form) : Form → Tree → List Sign → List 
   left : {a b : Form} {t : Tree} {ss rest : List Sign} → Reads rule a t ss rest → Reads rule (a or b) (Left t) ss rest
   right : {a b : Form} {t : Tree} {ss rest : List Sign} → Reads rule b t ss rest → Reads rule (a or b) (Right t) ss rest
   both : {a b : Form} {t u : Tree} {ss mid rest : List Sign} → Reads rule a t ss mid → Reads rule b u mid rest → Reads rule (a then b) (Pair t u) ss rest
-  guard : {a : Form} {test : Tree → Bool} {ks : List ℕ} {t : Tree} {ss rest : List Sign} → passes test ks t rest ≡ true → Reads rule a t ss rest → Reads rule (Guard a test ks) t ss rest
-  bar : {a : Form} {test : Tree → Bool} {ks : List ℕ} {t : Tree} {ss rest : List Sign} → passes test ks t rest ≡ true → Reads rule a t ss rest → Reads rule (Bar a test ks) t ss rest
+  guard : {a : Form} {test : Tree → Bool} {ks : List ℕ} {t : Tree} {ss rest : List Sign} → passes test ks t rest ≡ true → Reads rule a t ss rest →
+      Reads rule (Guard a test ks) t ss rest
+  bar : {a : Form} {test : Tree → Bool} {ks : List ℕ} {t : Tree} {ss rest : List Sign} → passes test ks t rest ≡ true → Reads rule a t ss rest →
+      Reads rule (Bar a test ks) t ss rest
   hold : {a : Form} {t : Tree} {ss rest : List Sign} → Reads rule a t ss rest → Reads rule (Hold a) t ss rest
   row : {n : RowName} {t : Tree} {ss rest : List Sign} → Reads rule (rule n) t ss rest → Reads rule (Row n) t ss rest
 
@@ -37,7 +39,8 @@ pub data Bars (rule : RowName → Form) : Form → List Sign → List Sign → T
   bars_first : {a b : Form} {ss from : List Sign} → Bars rule a ss from → Bars rule (a then b) ss from
   bars_next : {a b : Form} {t : Tree} {ss mid from : List Sign} → Reads rule a t ss mid → Bars rule b mid from → Bars rule (a then b) ss from
   bars_guard : {a : Form} {test : Tree → Bool} {ks : List ℕ} {ss from : List Sign} → Bars rule a ss from → Bars rule (Guard a test ks) ss from
-  bars_here : {a : Form} {test : Tree → Bool} {ks : List ℕ} {t : Tree} {ss : List Sign} {s : Sign} → Reads rule a t ss (s ∷ []) → passes test ks t (s ∷ []) ≡ false → Bars rule (Bar a test ks) ss ss
+  bars_here : {a : Form} {test : Tree → Bool} {ks : List ℕ} {t : Tree} {ss : List Sign} {s : Sign} → Reads rule a t ss (s ∷ []) →
+      passes test ks t (s ∷ []) ≡ false → Bars rule (Bar a test ks) ss ss
   bars_in : {a : Form} {test : Tree → Bool} {ks : List ℕ} {ss from : List Sign} → Bars rule a ss from → Bars rule (Bar a test ks) ss from
   bars_hold : {a : Form} {ss from : List Sign} → Bars rule a ss from → Bars rule (Hold a) ss ss
   bars_row : {n : RowName} {ss from : List Sign} → Bars rule (rule n) ss from → Bars rule (Row n) ss from

@@ -30,7 +30,8 @@ is_kind_name text = bytes_eq text (codes "Int") || (bytes_eq text (codes "Bool")
 
 -- the symbol of a token
 abbrev pub symbol : Sign → ℕ
-symbol s = if code s.kind == code Decimal && is_two s.text then two else (if code s.kind == code Identifier && is_kind_name s.text then kind_name else code s.kind)
+symbol s = if code s.kind == code Decimal && is_two s.text then two else (if code s.kind ==
+    code Identifier && is_kind_name s.text then kind_name else code s.kind)
 
 -- the symbols of identifiers, and of decimals
 abbrev pub identifiers : List ℕ

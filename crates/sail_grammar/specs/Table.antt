@@ -45,14 +45,21 @@ abbrev pub type_comparisons : List TokenKind
 type_comparisons = DoubleEqual ∷ NotEqual ∷ Less ∷ LessEqual ∷ Greater ∷ GreaterEqual ∷ []
 
 abbrev pub comparisons : List TokenKind
-comparisons = DoubleEqual ∷ NotEqual ∷ Less ∷ LessEqual ∷ Greater ∷ GreaterEqual ∷ LessUnsigned ∷ LessEqualUnsigned ∷ GreaterUnsigned ∷ GreaterEqualUnsigned ∷ LessSigned ∷ LessEqualSigned ∷ GreaterSigned ∷ GreaterEqualSigned ∷ []
+comparisons = DoubleEqual ∷ NotEqual ∷ Less ∷ LessEqual ∷ Greater ∷ GreaterEqual ∷ LessUnsigned ∷ LessEqualUnsigned ∷ GreaterUnsigned ∷ GreaterEqualUnsigned ∷
+    LessSigned ∷ LessEqualSigned ∷ GreaterSigned ∷ GreaterEqualSigned ∷ []
 
 abbrev pub operators : List TokenKind
 operators = Caret ∷ Star ∷ ShiftLeft ∷ ShiftRight ∷ Plus ∷ Minus ∷ At ∷ DoubleColon ∷ Ampersand ∷ Stroke ∷ comparisons
 
 -- every kind of token
 abbrev pub every_kind : List TokenKind
-every_kind = Identifier ∷ TypeVariable ∷ Wildcard ∷ Decimal ∷ Hexadecimal ∷ Binary ∷ StringLiteral ∷ LeftOut ∷ Order ∷ As ∷ Assert ∷ Bitone ∷ Bitzero ∷ By ∷ Catch ∷ Clause ∷ Constraint ∷ Dec ∷ Default ∷ Do ∷ Else ∷ End ∷ Enum ∷ Exit ∷ False ∷ Forall ∷ ForeachWord ∷ From ∷ Function ∷ IfWord ∷ In ∷ Inc ∷ Let ∷ Mapping ∷ MatchWord ∷ Not ∷ Operator ∷ Overload ∷ Register ∷ RepeatWord ∷ Return ∷ Scattered ∷ Sizeof ∷ Struct ∷ TerminationMeasure ∷ Then ∷ Throw ∷ To ∷ True ∷ TryWord ∷ TypeWord ∷ Union ∷ Until ∷ Val ∷ Var ∷ WhileWord ∷ With ∷ OpenParenthesis ∷ CloseParenthesis ∷ OpenBracket ∷ CloseBracket ∷ OpenBrace ∷ CloseBrace ∷ OpenVector ∷ CloseVector ∷ Comma ∷ Semicolon ∷ Colon ∷ DoubleColon ∷ Dot ∷ DoubleDot ∷ Equal ∷ DoubleEqual ∷ NotEqual ∷ Less ∷ LessEqual ∷ Greater ∷ GreaterEqual ∷ LessUnsigned ∷ LessEqualUnsigned ∷ GreaterUnsigned ∷ GreaterEqualUnsigned ∷ LessSigned ∷ LessEqualSigned ∷ GreaterSigned ∷ GreaterEqualSigned ∷ Plus ∷ Minus ∷ Star ∷ Caret ∷ At ∷ Ampersand ∷ Stroke ∷ Tilde ∷ ShiftLeft ∷ ShiftRight ∷ Arrow ∷ DoubleArrow ∷ FatArrow ∷ []
+every_kind = Identifier ∷ TypeVariable ∷ Wildcard ∷ Decimal ∷ Hexadecimal ∷ Binary ∷ StringLiteral ∷ LeftOut ∷ Order ∷ As ∷ Assert ∷ Bitone ∷ Bitzero ∷ By ∷
+    Catch ∷ Clause ∷ Constraint ∷ Dec ∷ Default ∷ Do ∷ Else ∷ End ∷ Enum ∷ Exit ∷ False ∷ Forall ∷ ForeachWord ∷ From ∷ Function ∷ IfWord ∷ In ∷ Inc ∷ Let ∷
+    Mapping ∷ MatchWord ∷ Not ∷ Operator ∷ Overload ∷ Register ∷ RepeatWord ∷ Return ∷ Scattered ∷ Sizeof ∷ Struct ∷ TerminationMeasure ∷ Then ∷ Throw ∷ To ∷
+    True ∷ TryWord ∷ TypeWord ∷ Union ∷ Until ∷ Val ∷ Var ∷ WhileWord ∷ With ∷ OpenParenthesis ∷ CloseParenthesis ∷ OpenBracket ∷ CloseBracket ∷ OpenBrace ∷
+    CloseBrace ∷ OpenVector ∷ CloseVector ∷ Comma ∷ Semicolon ∷ Colon ∷ DoubleColon ∷ Dot ∷ DoubleDot ∷ Equal ∷ DoubleEqual ∷ NotEqual ∷ Less ∷ LessEqual ∷
+    Greater ∷ GreaterEqual ∷ LessUnsigned ∷ LessEqualUnsigned ∷ GreaterUnsigned ∷ GreaterEqualUnsigned ∷ LessSigned ∷ LessEqualSigned ∷ GreaterSigned ∷
+    GreaterEqualSigned ∷ Plus ∷ Minus ∷ Star ∷ Caret ∷ At ∷ Ampersand ∷ Stroke ∷ Tilde ∷ ShiftLeft ∷ ShiftRight ∷ Arrow ∷ DoubleArrow ∷ FatArrow ∷ []
 
 -- the end of all tokens: none follows
 abbrev pub ending : Form
@@ -73,7 +80,8 @@ rule StructDefinition = word Struct then identifier then Row Parameters then wor
 rule UnionDefinition = word Union then (Row UnionClause or Row UnionWhole)
 rule UnionClause = word Clause then identifier then word Equal then Row Member
 rule UnionWhole = identifier then Row Parameters then word Equal then word OpenBrace then Row Members then word CloseBrace
-rule ValDefinition = word Val then identifier then word Colon then (Row Quantifier or nothing) then Row (Typ Full) then words (Arrow ∷ DoubleArrow ∷ []) then Row (Typ Full)
+rule ValDefinition = word Val then identifier then word Colon then (Row Quantifier or nothing) then Row (Typ Full) then words (Arrow ∷ DoubleArrow ∷ []) then
+    Row (Typ Full)
 rule FunctionDefinition =
     word Function then (word Clause or nothing) then identifier then Row (PatternGroup Full) then (word Arrow then Row (Typ Full) or nothing)
     then word Equal then Row (Exp Full)
@@ -169,7 +177,8 @@ rule While = word WhileWord then Row LoopMeasure then Row (Exp Full) then word D
 rule Repeat = word RepeatWord then Row LoopMeasure then Row (Exp Full) then word Until then Row (Exp Full)
 rule Leave = words (Return ∷ Throw ∷ Exit ∷ []) then Row (Exp Full)
 rule LoopMeasure = word TerminationMeasure then word OpenBrace then Row (Exp Limited) then word CloseBrace or nothing
-rule (Assignment Full) = Guard (Row (Infix Full)) is_target (code Equal ∷ []) then (word Equal then Row (Exp Full) or word Colon then Row (Typ Limited) or nothing)
+rule (Assignment Full) = Guard (Row (Infix Full)) is_target (code Equal ∷ []) then
+    (word Equal then Row (Exp Full) or word Colon then Row (Typ Limited) or nothing)
 rule (Assignment Limited) = Bar (Row (Infix Limited)) (λ t. not (is_target t)) (code Equal ∷ []) then (never or word Colon then Row (Typ Limited) or nothing)
 rule (Cases m) = word OpenBrace then Row (Case m) then Row (CasesTail m) then word CloseBrace
 rule (CasesTail m) = word Comma then Row (CasesMore m) or nothing
@@ -202,7 +211,8 @@ rule (Update m) = word With then Row (Infix m) then (word DoubleDot then Row (In
 rule (ListExp m) = word OpenVector then (Row (Exps m) or nothing) then word CloseVector
 rule (StructExp m) = word Struct then (identifier or nothing) then word OpenBrace then Row (FieldValues m) then word CloseBrace
 rule TypeQuestion = words (Sizeof ∷ Constraint ∷ []) then word OpenParenthesis then Row (Typ Full) then word CloseParenthesis
-rule (Assertion Full) = word Assert then word OpenParenthesis then Row (Exp Full) then (word Comma then word StringLiteral or nothing) then word CloseParenthesis
+rule (Assertion Full) = word Assert then word OpenParenthesis then Row (Exp Full) then (word Comma then word StringLiteral or nothing) then word
+    CloseParenthesis
 rule (Assertion Limited) = Forbid (code Assert ∷ [])
 rule (Exps m) = Row (Exp m) then Row (ExpsTail m)
 rule (ExpsTail m) = word Comma then Row (Exp m) then Row (ExpsTail m) or nothing
@@ -213,7 +223,8 @@ rule (Block Full) =
     then word CloseBrace
 rule (Block Limited) =
     Hold (word OpenBrace
-    then (Guard (Row (Statement Limited)) is_exp (code With ∷ []) then (Forbid (codes_of (Semicolon ∷ CloseBrace ∷ [])) or nothing) or Forbid (code CloseBrace ∷ [])))
+    then (Guard (Row (Statement Limited)) is_exp (code With ∷ []) then (Forbid (codes_of (Semicolon ∷ CloseBrace ∷ [])) or nothing) or Forbid
+    (code CloseBrace ∷ [])))
     then word With then Row (FieldValues Limited) then word CloseBrace
 rule Statements = Row (Statement Full) then (word Semicolon then Row Statements or nothing) or nothing
 rule (Statement m) = Row (LetStatement m) or Row (VarStatement m) or Row (ExpInner m)

@@ -33,7 +33,8 @@ arguments [] = None
 arguments es = Some (map (λ e. e.0) es)
 
 -- a form with its parts and what they are as targets, as a target: a name, a call with arguments, some targets in brackets, and a target with suffixes
-abbrev pub target_step : Exp-F (Exp × Option LExp) (LExp × Unit {0}) (Stmt × Unit {0}) (Suffix × Unit {0}) (Case × Unit {0}) (FieldValue × Unit {0}) (Index × Unit {0}) (Range × Unit {0}) (Target × Unit {0}) → Option LExp
+abbrev pub target_step : Exp-F (Exp × Option LExp) (LExp × Unit {0}) (Stmt × Unit {0}) (Suffix × Unit {0}) (Case × Unit {0}) (FieldValue × Unit {0})
+    (Index × Unit {0}) (Range × Unit {0}) (Target × Unit {0}) → Option LExp
 target_step (E.Variable name) = Some (T.ToName name)
 target_step (E.Call name es) = option_map (T.ToCall name) (arguments es)
 target_step (E.Group place Tuple es) = option_map (T.ToTuple place) (some_of es)
@@ -42,4 +43,5 @@ target_step form = None
 
 -- an expression as a target, where it is one
 abbrev pub target : Exp → Option LExp
-target = para-Exp (Option LExp) (Unit {0}) (Unit {0}) (Unit {0}) (Unit {0}) (Unit {0}) (Unit {0}) (Unit {0}) (Unit {0}) target_step (λ a. tt) (λ a. tt) (λ a. tt) (λ a. tt) (λ a. tt) (λ a. tt) (λ a. tt) (λ a. tt)
+target = para-Exp (Option LExp) (Unit {0}) (Unit {0}) (Unit {0}) (Unit {0}) (Unit {0}) (Unit {0}) (Unit {0}) (Unit {0}) target_step (λ a. tt) (λ a. tt)
+    (λ a. tt) (λ a. tt) (λ a. tt) (λ a. tt) (λ a. tt) (λ a. tt)
