@@ -12,3 +12,4 @@ pub mod Model
 pub mod Words
 pub mod Steps
 pub mod FilesJoined
+pub mod FirstToken

@@ -35,6 +35,11 @@ place_of_sign (Some s) = s.place
 abbrev pub first_place : Tree → Place
 first_place t = place_of_sign (first_sign t)
 
+-- where a list of tokens begins
+abbrev pub place_ahead : List Sign → Place
+place_ahead [] = nowhere
+place_ahead (s ∷ ss) = s.place
+
 -- where a token stands
 abbrev pub place_at : Tree → Place
 place_at (Leaf s) = s.place

@@ -14,7 +14,7 @@ pub use joining::join;
 pub use laws::one_answer;
 pub use lexeme::Lexeme;
 pub use mode::Mode;
-pub use value::{name, number};
+pub use value::{name, number, place};
 pub use word::{
     accept, accept_any, accept_identifier, accept_kind_name, accept_number, accept_two, expect,
     expect_any, expect_identifier, expect_kind_name, expect_number, expect_two, sees, sees_any,

@@ -1,7 +1,8 @@
 ghost use Rattle.std.specs.Prelude.{◌≡◌, IfOk};
-ghost use Rattle.sail_grammar.specs.Leaves.{number_of};
+ghost use Rattle.sail_grammar.specs.Leaves.{number_of, place_ahead};
 
 use crate::lexeme::Lexeme;
+use sail_base::Place;
 use sail_lex::decimal_value;
 use sail_syntax::Name;
 use std::alloc::AllocError;
@@ -24,5 +25,19 @@ pub fn number(token: &Lexeme) -> i128
     match decimal_value(token.text.as_bytes()) {
         Some(value) => value as i128,
         None => 0,
+    }
+}
+
+/// Where the first token stands; the place of nothing, where there is none.
+pub fn place(tokens: &[Lexeme]) -> Place
+    ensures { result ≡ place_ahead tokens.now }
+{
+    match tokens.split_first() {
+        Some((first, _)) => first.place,
+        None => Place {
+            file: 0,
+            line: 0,
+            column: 0,
+        },
     }
 }
