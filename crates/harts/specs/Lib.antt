@@ -1,0 +1,2 @@
+-- what follows from the folds of a run
+pub mod laws

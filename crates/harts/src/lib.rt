@@ -1,0 +1,13 @@
+//! The harts of a run: its start and its events, for whatever takes a hart's steps.
+//!
+//! [`start`] and [`run`] are the folds of `model_state` over a [`Stepper`](model_state::Stepper)'s meaning,
+//! for every list of hart numbers. What is proved of these folds alone stands in `specs/laws`.
+#![tactic(auto)]
+
+mod laws;
+mod running;
+mod starting;
+
+pub use laws::joined_schedules;
+pub use running::{Ending, run};
+pub use starting::start;
