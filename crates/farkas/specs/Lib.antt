@@ -1,0 +1,9 @@
+pub mod Keeping
+pub mod Elimination
+pub mod Pruning
+pub mod Points
+pub mod Ends
+pub mod Verdicts
+pub mod Validity
+pub mod Events
+pub mod laws

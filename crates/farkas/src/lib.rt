@@ -1,0 +1,20 @@
+//! Certificates of rows that can't all be true, found by elimination and checked row by row.
+#![tactic(auto)]
+
+mod certificate;
+mod checking;
+mod elimination;
+mod keeping;
+mod laws;
+mod points;
+mod pruning;
+mod refuting;
+mod verdict;
+
+pub use certificate::{Case, Cert, Step};
+pub use laws::a_valid_certificate_refutes;
+pub use points::Point;
+pub use verdict::{FarkasError, Verdict, check_cases, eliminate_cases};
+
+#[cfg(test)]
+mod tests;
