@@ -1,17 +1,17 @@
 -- Where a list shows a forbidden form, the reading with one token in hand says so, and from where.
-use Rattle.std.proofs.Common.{◌≡◌, ℕ, Bool, true, false, not, ◌&&◌, ◌||◌, List, [], ◌∷◌, ◌++◌, refl, sym, ap, ◌∙◌, subst, append_assoc, append-nil}
+use Rattle.std.proofs.Common.{◌≡◌, ℕ, Bool, true, false, List, [], ◌∷◌, ◌++◌, refl, sym, ap, ◌∙◌, subst, append_assoc}
 use Rattle.std.specs.Prelude.{Option, Some, None}
 use Rattle.std.proofs.lemmas.Bool.{true≢false, and_parts}
 use Rattle.sail_grammar.specs.Symbol.{Sign, symbol}
 use Rattle.sail_grammar.specs.RowName.{RowName}
-use Rattle.sail_grammar.specs.Form.{Form, Word, Empty, ◌or◌, ◌then◌, Guard, Row, Forbid, Bar, Hold, Tree, among, look, held, passes}
-use Rattle.sail_grammar.specs.Reads.{Reads, word, empty, left, right, both, guard, bar, hold, row, Bars, bars_word, bars_left, bars_right, bars_first, bars_next, bars_guard, bars_here, bars_in, bars_hold, bars_row}
+use Rattle.sail_grammar.specs.Form.{Form, ◌or◌, Tree, look, held, passes}
+use Rattle.sail_grammar.specs.Reads.{Reads, Bars, bars_word, bars_left, bars_right, bars_first, bars_next, bars_guard, bars_here, bars_in, bars_hold, bars_row}
 use Rattle.sail_grammar.specs.Test.{Grammar, kept, blank, starts, firsts, clear, IsClear, may_left, may_right}
 use Rattle.sail_grammar.specs.Ends.{Outcome, Ends, Done, Stop, word_read, word_stop, empty_read, empty_stop, left_read, left_stop, right_read, right_stop, first_stop, next_stop, both_read, guard_read, guard_shut, guard_stop, row_ends, forbid_stop, forbid_bar, bar_read, bar_bar, bar_stop, hold_read, hold_stop, hold_bar}
-use Rattle.sail_grammar.proofs.Test.{among_left, IsGood, good}
+use Rattle.sail_grammar.proofs.Test.{among_left, good}
 use Rattle.sail_grammar.proofs.Front.{shut_held, bars_front}
-use Rattle.sail_grammar.proofs.Frame.{same, Framed, frame}
-use Rattle.sail_grammar.proofs.Complete.{rest_of, ClearOr, clear_or, not_left, not_right, complete}
+use Rattle.sail_grammar.proofs.Frame.{same, frame}
+use Rattle.sail_grammar.proofs.Complete.{rest_of, clear_or, not_left, not_right, complete}
 use Rattle.sail_grammar.proofs.Reach.{whole_first}
 
 -- it stopped at a forbidden form that begins there

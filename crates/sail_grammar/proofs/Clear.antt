@@ -1,8 +1,8 @@
 -- The grammar of models passes its test.
-use Rattle.std.proofs.Common.{◌≡◌, true, refl}
+use Rattle.std.proofs.Common.{refl}
 use Rattle.sail_grammar.specs.declared.mode.Mode.TheVariants.{Full, Limited}
-use Rattle.sail_grammar.specs.RowName.{RowName, Definitions, Definition, OrderDefinition, TypeDefinition, EnumDefinition, EnumMembers, EnumBars, StructDefinition, UnionDefinition, UnionClause, UnionWhole, ValDefinition, FunctionDefinition, MeasureDefinition, MappingDefinition, MappingClauseDefinition, MappingWhole, LetDefinition, RegisterDefinition, OverloadDefinition, ScatteredDefinition, EndDefinition, Names, NamesTail, NamesMore, Members, MembersTail, MembersMore, Member, Parameters, ParametersTail, Parameter, KindMark, Quantifier, QuantifiedVariables, QuantifiedVariable, MappingClauses, MappingClausesTail, MappingClausesMore, MappingClause, MappingSide, Typ, TypeAnd, TypeComparison, TypeSet, NumbersTail, NumbersMore, TypeSum, TypeSumMore, TypeProduct, TypeProductMore, TypeAtom, TypeNamed, TypePower, TypeNegation, TypeNot, TypeGroup, TypeExists, TypeVariables, Types, TypesTail, Pattern, PatternAs, PatternConcat, PatternAppends, PatternTyped, PatternBase, PatternWildcard, PatternNegative, PatternNamed, PatternGroup, PatternVector, PatternList, Patterns, PatternsTail, Exp, LetIn, VarIn, ExpInner, If, Match, Control, Try, Foreach, While, Repeat, Leave, LoopMeasure, Assignment, Cases, CasesTail, CasesMore, Case, Infix, InfixAnd, InfixComparison, InfixAppend, InfixSum, InfixSumMore, InfixProduct, InfixProductMore, InfixPower, Unary, Negation, Power, Postfix, Suffixes, Suffix, Index, Atom, NamedExp, PrefixCall, GroupExp, VectorExp, Update, ListExp, StructExp, TypeQuestion, Assertion, Exps, ExpsTail, Block, Statements, Statement, LetStatement, VarStatement, FieldValues, FieldValuesTail, FieldValuesMore, FieldValue}
-use Rattle.sail_grammar.specs.Test.{row_good, IsClear}
+use Rattle.sail_grammar.specs.RowName.{Definitions, Definition, OrderDefinition, TypeDefinition, EnumDefinition, EnumMembers, EnumBars, StructDefinition, UnionDefinition, UnionClause, UnionWhole, ValDefinition, FunctionDefinition, MeasureDefinition, MappingDefinition, MappingClauseDefinition, MappingWhole, LetDefinition, RegisterDefinition, OverloadDefinition, ScatteredDefinition, EndDefinition, Names, NamesTail, NamesMore, Members, MembersTail, MembersMore, Member, Parameters, ParametersTail, Parameter, KindMark, Quantifier, QuantifiedVariables, QuantifiedVariable, MappingClauses, MappingClausesTail, MappingClausesMore, MappingClause, MappingSide, Typ, TypeAnd, TypeComparison, TypeSet, NumbersTail, NumbersMore, TypeSum, TypeSumMore, TypeProduct, TypeProductMore, TypeAtom, TypeNamed, TypePower, TypeNegation, TypeNot, TypeGroup, TypeExists, TypeVariables, Types, TypesTail, Pattern, PatternAs, PatternConcat, PatternAppends, PatternTyped, PatternBase, PatternWildcard, PatternNegative, PatternNamed, PatternGroup, PatternVector, PatternList, Patterns, PatternsTail, Exp, LetIn, VarIn, ExpInner, If, Match, Control, Try, Foreach, While, Repeat, Leave, LoopMeasure, Assignment, Cases, CasesTail, CasesMore, Case, Infix, InfixAnd, InfixComparison, InfixAppend, InfixSum, InfixSumMore, InfixProduct, InfixProductMore, InfixPower, Unary, Negation, Power, Postfix, Suffixes, Suffix, Index, Atom, NamedExp, PrefixCall, GroupExp, VectorExp, Update, ListExp, StructExp, TypeQuestion, Assertion, Exps, ExpsTail, Block, Statements, Statement, LetStatement, VarStatement, FieldValues, FieldValuesTail, FieldValuesMore, FieldValue}
+use Rattle.sail_grammar.specs.Test.{IsClear}
 use Rattle.sail_grammar.specs.Sets.{grammar}
 
 pub grammar_clear : IsClear grammar

@@ -1,14 +1,12 @@
 -- What a form reads, the reading with one token in hand finds.
-use Rattle.std.proofs.Common.{◌≡◌, ℕ, Bool, true, false, not, ◌&&◌, ◌||◌, List, [], ◌∷◌, ◌++◌, refl, sym, ap, ◌∙◌, subst, inl, inr, ◌⊎◌}
-use Rattle.std.specs.Prelude.{Option, Some, None}
-use Rattle.std.proofs.lemmas.Bool.{true≢false, and_parts, or_cases, not-true, not_from_true}
-use Rattle.sail_grammar.specs.Symbol.{Sign, symbol}
-use Rattle.sail_grammar.specs.RowName.{RowName}
-use Rattle.sail_grammar.specs.Form.{Form, Word, Empty, ◌or◌, ◌then◌, Guard, Row, Forbid, Bar, Hold, Tree, Pair, Left, Right, among, look, held, passes}
+use Rattle.std.proofs.Common.{◌≡◌, ℕ, Bool, true, false, not, ◌&&◌, ◌||◌, List, ◌++◌, refl, sym, ap, ◌∙◌, subst}
+use Rattle.std.proofs.lemmas.Bool.{true≢false, and_parts, not-true}
+use Rattle.sail_grammar.specs.Symbol.{Sign}
+use Rattle.sail_grammar.specs.Form.{Form, ◌or◌, Tree, Left, Right, among, look, passes}
 use Rattle.sail_grammar.specs.Reads.{Reads, word, empty, left, right, both, guard, bar, hold, row}
 use Rattle.sail_grammar.specs.Test.{Grammar, every, kept, blank, starts, firsts, one_way, clear, IsClear, may_left, may_right}
 use Rattle.sail_grammar.specs.Ends.{Outcome, Ends, Done, Stop, word_read, word_stop, empty_read, empty_stop, left_read, left_stop, right_read, right_stop, first_stop, next_stop, both_read, guard_read, guard_shut, guard_stop, row_ends, forbid_stop, forbid_bar, bar_read, bar_bar, bar_stop, hold_read, hold_stop, hold_bar}
-use Rattle.sail_grammar.proofs.Test.{every_at, among_left, among_right, among_kept, starts_firsts, IsGood, good}
+use Rattle.sail_grammar.proofs.Test.{every_at, among_left, among_right, among_kept, starts_firsts, good}
 use Rattle.sail_grammar.proofs.Front.{First, some, none, reads_first}
 
 abbrev changed : (Tree → Tree) → Outcome → Outcome

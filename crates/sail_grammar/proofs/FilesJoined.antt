@@ -1,6 +1,6 @@
 -- The tokens of one file more.
 use Prim.Native.Nat.{zero}
-use Rattle.std.proofs.Common.{◌≡◌, ℕ, suc, ◌+◌, ◌<◌, List, [], ◌∷◌, ◌++◌, length, take, get_or, refl, sym, ap, ◌∙◌, append-nil, append_assoc, add-one, arith}
+use Rattle.std.proofs.Common.{◌≡◌, ℕ, suc, ◌+◌, ◌<◌, List, [], ◌∷◌, ◌++◌, length, take, get_or, sym, ap, ◌∙◌, append-nil, append_assoc, add-one, arith}
 use Rattle.sail_lex.specs.declared.token.Tokens.{Tokens}
 use Rattle.sail_grammar.specs.Joined.{joined, with_texts}
 

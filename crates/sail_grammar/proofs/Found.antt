@@ -1,13 +1,12 @@
 -- What a form reads, some reading with one token in hand ends with; so a list has one tree.
-use Rattle.std.proofs.Common.{◌≡◌, ℕ, Bool, true, false, not, ◌&&◌, ◌||◌, List, [], ◌∷◌, ◌++◌, refl, sym, ap, ◌∙◌, subst}
+use Rattle.std.proofs.Common.{◌≡◌, ℕ, Bool, true, false, not, ◌&&◌, ◌||◌, List, ◌++◌, refl, sym, subst}
 use Rattle.std.proofs.lemmas.Bool.{true≢false, and_parts, or_left}
-use Rattle.sail_grammar.specs.Symbol.{Sign, symbol}
-use Rattle.sail_grammar.specs.RowName.{RowName}
-use Rattle.sail_grammar.specs.Form.{Form, Word, Empty, ◌or◌, ◌then◌, Guard, Row, Forbid, Bar, Hold, Tree, among, look, held, passes}
+use Rattle.sail_grammar.specs.Symbol.{Sign}
+use Rattle.sail_grammar.specs.Form.{Form, Tree, among, look}
 use Rattle.sail_grammar.specs.Reads.{Reads, word, empty, left, right, both, guard, bar, hold, row}
-use Rattle.sail_grammar.specs.Test.{Grammar, kept, blank, starts, firsts, one_way, clear, IsClear, may_left, may_right}
-use Rattle.sail_grammar.specs.Ends.{Outcome, Ends, Done, Stop, word_read, empty_read, left_read, right_read, both_read, guard_read, row_ends, bar_read, hold_read}
-use Rattle.sail_grammar.proofs.Test.{every_at, among_right, IsGood, good}
+use Rattle.sail_grammar.specs.Test.{Grammar, kept, blank, starts, firsts, clear, IsClear, may_left, may_right}
+use Rattle.sail_grammar.specs.Ends.{Ends, Done, word_read, empty_read, left_read, right_read, both_read, guard_read, row_ends, bar_read, hold_read}
+use Rattle.sail_grammar.proofs.Test.{every_at, among_right, good}
 use Rattle.sail_grammar.proofs.Front.{First, some, none, reads_first}
 use Rattle.sail_grammar.proofs.Complete.{ClearOr, clear_or, behind_first, complete}
 

@@ -1,10 +1,10 @@
 -- A reading hangs on what it reads and on the token behind it alone.
-use Rattle.std.proofs.Common.{◌≡◌, ℕ, Bool, true, false, not, ◌||◌, List, [], ◌∷◌, ◌++◌, refl, sym, ap, ◌∙◌, subst, append_assoc}
-use Rattle.std.proofs.lemmas.Bool.{or_right, not_from_false}
-use Rattle.sail_grammar.specs.Symbol.{Sign, symbol}
+use Rattle.std.proofs.Common.{◌≡◌, ℕ, Bool, true, false, List, [], ◌∷◌, ◌++◌, refl, sym, ap, ◌∙◌, subst, append_assoc}
+use Rattle.std.proofs.lemmas.Bool.{or_right}
+use Rattle.sail_grammar.specs.Symbol.{Sign}
 use Rattle.sail_grammar.specs.RowName.{RowName}
-use Rattle.sail_grammar.specs.Form.{Form, Word, Empty, ◌or◌, ◌then◌, Guard, Row, Forbid, Bar, Hold, Tree, Pair, Left, Right, among, look, held, passes}
-use Rattle.sail_grammar.specs.Reads.{Reads, word, empty, left, right, both, guard, bar, hold, row, Opens, opens_none, opens_word, opens_left, opens_right, opens_first, opens_next, opens_guard, opens_bar, opens_hold, opens_row}
+use Rattle.sail_grammar.specs.Form.{Form, ◌then◌, Tree, Pair, held, passes}
+use Rattle.sail_grammar.specs.Reads.{Reads, word, empty, left, right, both, guard, bar, hold, row, Opens, opens_none, opens_word, opens_left, opens_right, opens_next, opens_guard, opens_bar, opens_hold, opens_row}
 
 -- the second list ends here, or both begin with the same token
 pub data Alike : List Sign → List Sign → Type 0 where

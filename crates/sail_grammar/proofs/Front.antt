@@ -1,13 +1,13 @@
 -- What a form that reads, opens or bars begins with.
-use Rattle.std.proofs.Common.{◌≡◌, ℕ, Bool, true, false, not, ◌&&◌, ◌||◌, List, [], ◌∷◌, refl, sym, ap, ◌∙◌, subst, inl, inr, ◌⊎◌}
+use Rattle.std.proofs.Common.{◌≡◌, ℕ, Bool, true, false, not, ◌&&◌, List, [], ◌∷◌, refl, sym, ◌∙◌, subst}
 use Rattle.std.specs.Prelude.{◌==◌}
 use Rattle.std.proofs.lemmas.Bool.{and_from, or_left, or_right, or_parts, not_from_false, not-false}
 use Rattle.sail_grammar.specs.Symbol.{Sign, symbol}
 use Rattle.sail_grammar.specs.RowName.{RowName}
-use Rattle.sail_grammar.specs.Form.{Form, Word, Empty, ◌or◌, ◌then◌, Guard, Row, Forbid, Bar, Hold, Tree, among, look, held, passes}
+use Rattle.sail_grammar.specs.Form.{Form, Empty, ◌or◌, ◌then◌, Guard, Row, Bar, Hold, Tree, among, look, held, passes}
 use Rattle.sail_grammar.specs.Reads.{Reads, word, empty, left, right, both, guard, bar, hold, row, Opens, opens_none, opens_word, opens_left, opens_right, opens_first, opens_next, opens_guard, opens_bar, opens_hold, opens_row, Bars, bars_word, bars_left, bars_right, bars_first, bars_next, bars_guard, bars_here, bars_in, bars_hold, bars_row}
 use Rattle.sail_grammar.specs.Test.{Grammar, blank, starts, IsClear}
-use Rattle.sail_grammar.proofs.Test.{IsGood, good}
+use Rattle.sail_grammar.proofs.Test.{good}
 
 -- what a reading begins with: a token that the form starts with, or nothing of it
 pub data First (g : Grammar) (a : Form) (ss rest : List Sign) : Type 0 where

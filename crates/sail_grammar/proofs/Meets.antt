@@ -1,14 +1,13 @@
 -- What an ending says of the list: what is done is read, and what comes before a stop opens the form.
-use Rattle.std.proofs.Common.{◌≡◌, ℕ, Bool, true, false, not, ◌||◌, List, [], ◌∷◌, ◌++◌, refl, sym, ap, ◌∙◌, subst, append_assoc, append-nil}
-use Rattle.std.specs.Prelude.{Option, Some, None}
+use Rattle.std.proofs.Common.{◌≡◌, ℕ, Bool, false, List, [], ◌∷◌, ◌++◌, refl, sym, ap, ◌∙◌, subst, append_assoc, append-nil}
+use Rattle.std.specs.Prelude.{Option, Some}
 use Rattle.std.proofs.lemmas.Bool.{false≢true}
-use Rattle.sail_grammar.specs.Symbol.{Sign, symbol}
-use Rattle.sail_grammar.specs.RowName.{RowName}
-use Rattle.sail_grammar.specs.Form.{Form, Word, Empty, ◌or◌, ◌then◌, Guard, Row, Forbid, Bar, Hold, Tree, among, look, held, passes}
-use Rattle.sail_grammar.specs.Reads.{Reads, word, empty, left, right, both, guard, bar, hold, row, Opens, opens_none, opens_word, opens_left, opens_right, opens_first, opens_next, opens_guard, opens_bar, opens_hold, opens_row, Bars, bars_word, bars_left, bars_right, bars_first, bars_next, bars_guard, bars_here, bars_in, bars_hold, bars_row}
+use Rattle.sail_grammar.specs.Symbol.{Sign}
+use Rattle.sail_grammar.specs.Form.{Form, Word, Empty, ◌or◌, ◌then◌, Guard, Row, Forbid, Bar, Hold, Tree, passes}
+use Rattle.sail_grammar.specs.Reads.{Reads, word, empty, left, right, both, guard, bar, hold, row, Opens, opens_none, opens_left, opens_right, opens_first, opens_next, opens_guard, opens_bar, opens_hold, opens_row, Bars, bars_word, bars_left, bars_right, bars_first, bars_next, bars_guard, bars_here, bars_in, bars_hold, bars_row}
 use Rattle.sail_grammar.specs.Test.{Grammar}
 use Rattle.sail_grammar.specs.Ends.{Ends, Done, Stop, word_read, word_stop, empty_read, empty_stop, left_read, left_stop, right_read, right_stop, first_stop, next_stop, both_read, guard_read, guard_shut, guard_stop, row_ends, forbid_stop, forbid_bar, bar_read, bar_bar, bar_stop, hold_read, hold_stop, hold_bar}
-use Rattle.sail_grammar.proofs.Frame.{Alike, bare, same, Framed, frame, reads_open}
+use Rattle.sail_grammar.proofs.Frame.{Alike, bare, same, frame, reads_open}
 use Rattle.sail_grammar.proofs.Front.{shut_held}
 
 pub alike_front : (front rest : List Sign) → Alike (front ++ rest) front

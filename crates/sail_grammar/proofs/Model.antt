@@ -1,17 +1,17 @@
 -- What the reading of all definitions says of the tokens of a model.
-use Rattle.std.proofs.Common.{◌≡◌, ℕ, suc, ◌<◌, ◌≤◌, ◌-◌, ◌+◌, Bool, true, false, List, [], ◌∷◌, ◌++◌, length, take, drop, refl, sym, ap, ◌∙◌, subst, append_assoc, append-nil, arith, length-append, length-take, length-drop, inl, inr, ◌⊎◌}
+use Rattle.std.proofs.Common.{◌≡◌, ℕ, suc, ◌<◌, ◌≤◌, ◌-◌, ◌+◌, true, false, List, [], ◌∷◌, ◌++◌, length, take, drop, refl, sym, ap, ◌∙◌, subst, append_assoc, append-nil, arith, length-append, inl, inr}
 use Rattle.std.specs.Prelude.{Option, Some, None, slice_get}
 use Rattle.std.proofs.lemmas.Bool.{cases_lt, cases_order}
 use Rattle.std.proofs.lemmas.List.{take-append-drop, take-append-le}
-use Rattle.std.proofs.Math.Seq.{take-append_seam, drop-append_seam}
+use Rattle.std.proofs.Math.Seq.{take-append_seam}
 use Rattle.sail_base.specs.declared.place.Place.{Place}
 use Rattle.sail_syntax.specs.declared.definitions.Def.{Def}
 use Rattle.sail_grammar.specs.declared.error.ParseError.{ParseError}
 use Rattle.sail_grammar.specs.declared.error.ParseError.TheVariants as error
 use Rattle.sail_grammar.specs.Symbol.{Sign}
 use Rattle.sail_grammar.specs.RowName.{RowName, Definitions}
-use Rattle.sail_grammar.specs.Form.{Form, Row, Tree, ◌or◌, ◌then◌}
-use Rattle.sail_grammar.specs.Reads.{Reads, Opens, opens_none, Bars, bars_word, bars_left, bars_right, bars_first, bars_next, bars_guard, bars_here, bars_in, bars_hold, bars_row}
+use Rattle.sail_grammar.specs.Form.{Form, Row, Tree}
+use Rattle.sail_grammar.specs.Reads.{Reads, Opens, Bars, bars_word, bars_left, bars_right, bars_first, bars_next, bars_guard, bars_here, bars_in, bars_hold, bars_row}
 use Rattle.sail_grammar.specs.Test.{clear}
 use Rattle.sail_grammar.specs.Table.{rule}
 use Rattle.sail_grammar.specs.Sets.{grammar}
@@ -21,10 +21,10 @@ use Rattle.sail_grammar.specs.DefTrees.{defs_of}
 use Rattle.sail_grammar.specs.Levels.{deep}
 use Rattle.sail_grammar.specs.Model.{IsModel, IsShallow, IsRefused, forbidden, left_out, unfit, ended, too_deep, token_before, is_left_out}
 use Rattle.sail_grammar.proofs.Clear.{grammar_clear}
-use Rattle.sail_grammar.proofs.Frame.{frame, reads_open}
-use Rattle.sail_grammar.proofs.Meets.{meets_done, meets_stop, meets_bar, Stopped, Barred}
+use Rattle.sail_grammar.proofs.Frame.{reads_open}
+use Rattle.sail_grammar.proofs.Meets.{meets_done, meets_stop, meets_bar}
 use Rattle.sail_grammar.proofs.Reach.{shrinks}
-use Rattle.sail_grammar.proofs.BarsFound.{StopsFrom, bars_found, not_plain, empty_bars}
+use Rattle.sail_grammar.proofs.BarsFound.{bars_found, not_plain, empty_bars}
 use Rattle.sail_grammar.proofs.Found.{one_tree}
 use Rattle.sail_grammar.proofs.Whole.{first_unfit, opens_part}
 

@@ -1,17 +1,16 @@
 -- The reading with one token in hand stops neither before the end of what opens a form, nor before a forbidden form is shown.
-use Rattle.std.proofs.Common.{◌≡◌, ℕ, ◌≤◌, ◌+◌, Bool, true, false, not, ◌&&◌, ◌||◌, List, [], ◌∷◌, ◌++◌, length, refl, sym, ap, ◌∙◌, subst, append_assoc, arith, length-append}
-use Rattle.std.specs.Prelude.{Option, Some, None}
+use Rattle.std.proofs.Common.{◌≡◌, ℕ, ◌≤◌, true, List, [], ◌∷◌, ◌++◌, length, refl, sym, ap, ◌∙◌, subst, append_assoc, arith}
+use Rattle.std.specs.Prelude.{Option}
 use Rattle.std.proofs.lemmas.Bool.{true≢false, and_parts}
 use Rattle.sail_grammar.specs.Symbol.{Sign, symbol}
-use Rattle.sail_grammar.specs.RowName.{RowName}
-use Rattle.sail_grammar.specs.Form.{Form, Word, Empty, ◌or◌, ◌then◌, Guard, Row, Forbid, Bar, Hold, Tree, among, look, held, passes}
-use Rattle.sail_grammar.specs.Reads.{Reads, word, empty, left, right, both, guard, bar, hold, row, Opens, opens_none, opens_word, opens_left, opens_right, opens_first, opens_next, opens_guard, opens_bar, opens_hold, opens_row, Bars, bars_word, bars_left, bars_right, bars_first, bars_next, bars_guard, bars_here, bars_in, bars_hold, bars_row}
+use Rattle.sail_grammar.specs.Form.{Form, Tree, look, held}
+use Rattle.sail_grammar.specs.Reads.{Reads, Opens, opens_none, opens_word, opens_left, opens_right, opens_first, opens_next, opens_guard, opens_bar, opens_hold, opens_row}
 use Rattle.sail_grammar.specs.Test.{Grammar, kept, blank, starts, firsts, clear, IsClear, may_left, may_right}
 use Rattle.sail_grammar.specs.Ends.{Outcome, Ends, Done, Stop, word_read, word_stop, empty_read, empty_stop, left_read, left_stop, right_read, right_stop, first_stop, next_stop, both_read, guard_read, guard_shut, guard_stop, row_ends, forbid_stop, forbid_bar, bar_read, bar_bar, bar_stop, hold_read, hold_stop, hold_bar}
-use Rattle.sail_grammar.proofs.Test.{every_at, among_left, starts_firsts, IsGood, good}
-use Rattle.sail_grammar.proofs.Front.{Front, begun, bare, shut_held, opens_front, bars_front}
-use Rattle.sail_grammar.proofs.Frame.{Alike, same, Framed, frame, reads_open}
-use Rattle.sail_grammar.proofs.Complete.{rest_of, ClearOr, clear_or, side_left, side_right, not_left, not_right, complete}
+use Rattle.sail_grammar.proofs.Test.{among_left, starts_firsts, good}
+use Rattle.sail_grammar.proofs.Front.{Front, begun, bare, opens_front}
+use Rattle.sail_grammar.proofs.Frame.{same, frame, reads_open}
+use Rattle.sail_grammar.proofs.Complete.{rest_of, ClearOr, clear_or, not_left, not_right, complete}
 
 -- no reading leaves more than there was
 pub shrinks : (g : Grammar) {a : Form} {ss : List Sign} {r : Outcome} → Ends g a ss r → length (rest_of r) ≤ length ss

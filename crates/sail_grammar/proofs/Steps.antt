@@ -1,5 +1,5 @@
 -- What a step of the parser is as a step of a reading.
-use Rattle.std.proofs.Common.{◌≡◌, ℕ, Bool, true, false, List, [], ◌∷◌, refl, sym, ◌∙◌, ap, subst}
+use Rattle.std.proofs.Common.{◌≡◌, ℕ, Bool, true, false, List, [], ◌∷◌, refl, sym, ap, subst}
 use Rattle.std.specs.Result.{IfErr, IfOk, IsErrAnd}
 use Rattle.std.specs.Prelude.{Result, Ok, Err, Option, Some, None, not, ◌&&◌, ◌||◌, ◌==◌}
 use Rattle.std.proofs.lemmas.Bool.{true≢false}
@@ -8,7 +8,7 @@ use Rattle.sail_grammar.proofs.Test.{every_at}
 use Rattle.sail_grammar.specs.RowName.{RowName}
 use Rattle.sail_grammar.specs.Form.{Form, Word, Empty, ◌or◌, ◌then◌, Row, Tree, Nothing, Leaf, Pair, Left, Right, among, held, look}
 use Rattle.sail_grammar.specs.Test.{every, may_left, may_right, starts, blank}
-use Rattle.sail_grammar.specs.Ends.{word_read, empty_read, left_read, right_read, both_read, Ends, Outcome, Done, Stop, left_stop, right_stop, first_stop, next_stop, row_ends}
+use Rattle.sail_grammar.specs.Ends.{word_read, empty_read, left_read, right_read, both_read, Ends, Done, Stop, left_stop, right_stop, first_stop, next_stop, row_ends}
 use Rattle.sail_grammar.specs.Sets.{grammar}
 use Rattle.sail_grammar.specs.Parsing.{Reading, Stopping, Tells, StopsAt, Takes}
 use Rattle.sail_grammar.specs.declared.error.ReadError.{ReadError}

@@ -1,10 +1,10 @@
 -- What the test of a grammar says.
-use Rattle.std.proofs.Common.{◌≡◌, ℕ, Bool, true, false, not, ◌&&◌, ◌||◌, List, [], ◌∷◌, ◌++◌, refl, sym, ap, ◌∙◌, subst, inl, inr, ◌⊎◌}
+use Rattle.std.proofs.Common.{◌≡◌, ℕ, Bool, true, not, ◌&&◌, ◌||◌, List, [], ◌∷◌, ◌++◌, refl, sym, ap, ◌∙◌, subst, inl, inr}
 use Rattle.std.specs.Prelude.{◌==◌, cond}
-use Rattle.std.proofs.lemmas.Bool.{true≢false, and_parts, and_from, or_cases, or_left, or_right, not-true, eqb-true, not_from_true, not_from_false, cases_Bool}
+use Rattle.std.proofs.lemmas.Bool.{true≢false, and_parts, and_from, or_cases, or_left, or_right, not-true, eqb-true, cases_Bool}
 use Rattle.sail_grammar.specs.RowName.{RowName}
 use Rattle.sail_grammar.specs.Form.{Form, Word, Empty, ◌or◌, ◌then◌, Guard, Row, Forbid, Bar, Hold, among}
-use Rattle.sail_grammar.specs.Test.{Grammar, every, kept, blank, starts, empties, firsts, one_way, clear, row_good, IsClear, may_left, may_right}
+use Rattle.sail_grammar.specs.Test.{Grammar, every, kept, blank, starts, empties, firsts, clear, IsClear}
 
 pub every_at : (p : ℕ → Bool) (cs : List ℕ) (c : ℕ) → every p cs ≡ true → among cs c ≡ true → p c ≡ true
 every_at p [] c h m = absurd (true≢false (sym m))

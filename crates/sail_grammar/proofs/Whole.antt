@@ -1,18 +1,17 @@
 -- Whole lists: a tree of all their tokens, or the first unfit one.
-use Rattle.std.proofs.Common.{◌≡◌, ℕ, suc, ◌<◌, ◌≤◌, ◌-◌, ◌+◌, Bool, true, false, List, [], ◌∷◌, ◌++◌, length, take, drop, refl, sym, ap, ◌∙◌, subst, inl, inr, ◌⊎◌, append_assoc, append-nil, arith, length-append, length-take, length-drop}
-use Rattle.std.specs.Prelude.{Option, Some, None}
+use Rattle.std.proofs.Common.{◌≡◌, ℕ, suc, ◌≤◌, ◌-◌, ◌+◌, true, List, [], ◌∷◌, ◌++◌, length, take, drop, refl, sym, ap, ◌∙◌, subst, append-nil, arith, length-append, length-drop}
+use Rattle.std.specs.Prelude.{Option}
 use Rattle.std.proofs.lemmas.List.{take-append-drop, take-append-le}
 use Rattle.sail_grammar.specs.Symbol.{Sign, symbol}
 use Rattle.sail_grammar.specs.RowName.{RowName}
-use Rattle.sail_grammar.specs.Form.{Form, Word, Empty, ◌or◌, ◌then◌, Guard, Row, Forbid, Bar, Hold, Tree, among, look}
-use Rattle.sail_grammar.specs.Reads.{Reads, word, empty, left, right, both, guard, bar, hold, row, Opens, opens_none, opens_word, opens_left, opens_right, opens_first, opens_next, opens_guard, opens_bar, opens_hold, opens_row, Bars}
+use Rattle.sail_grammar.specs.Form.{Form, Word, Empty, ◌then◌, Row, Tree, among}
+use Rattle.sail_grammar.specs.Reads.{Reads, word, empty, left, right, both, guard, bar, hold, row, Opens, opens_none, opens_word, opens_left, opens_right, opens_first, opens_next, opens_guard, opens_bar, opens_hold, opens_row}
 use Rattle.sail_grammar.specs.Test.{Grammar, clear, IsClear}
-use Rattle.sail_grammar.specs.Ends.{Outcome, Ends, Done, Stop}
+use Rattle.sail_grammar.specs.Ends.{Ends, Done, Stop}
 use Rattle.sail_grammar.specs.Unfit.{IsFirstUnfit}
-use Rattle.sail_grammar.proofs.Test.{IsGood, good}
-use Rattle.sail_grammar.proofs.Frame.{Alike, Framed, frame}
-use Rattle.sail_grammar.proofs.Meets.{alike_front, Stopped, meets_stop, meets_done}
-use Rattle.sail_grammar.proofs.Complete.{rest_of, complete}
+use Rattle.sail_grammar.proofs.Frame.{Alike, frame}
+use Rattle.sail_grammar.proofs.Meets.{alike_front, meets_stop}
+use Rattle.sail_grammar.proofs.Complete.{complete}
 use Rattle.sail_grammar.proofs.Reach.{reach}
 
 -- one list cut twice

@@ -1,7 +1,7 @@
 -- What one token in hand is to the grammar.
 use Rattle.std.proofs.Common.{◌≡◌, ℕ, ◌+◌, ◌∙◌, map, drop, get_or, ◌<◌, ◌≤◌, Bool, true, false, List, [], ◌∷◌, length, refl, sym, ap, subst, arith, lit≤}
 use Rattle.std.proofs.lemmas.Bool.{true≢false, ne_eqb, eqb-false}
-use Rattle.std.proofs.lemmas.List.{length-map, drop_more}
+use Rattle.std.proofs.lemmas.List.{drop_more}
 use Rattle.sail_grammar.specs.declared.lexeme.Lexeme.{Lexeme}
 use Rattle.std.specs.Prelude.{◌==◌, ◌&&◌, ◌||◌, cond}
 use Rattle.sail_lex.specs.declared.kind.TokenKind.{TokenKind}

@@ -1,6 +1,5 @@
 -- What the trees of definitions stand for.
-use Rattle.std.specs.Prelude.{ℕ, Bool, true, false, List, [], ◌∷◌, Option, Some, None, bytes_eq, codes, if◌then◌else◌}
-use Rattle.sail_base.specs.declared.place.Place.{Place}
+use Rattle.std.specs.Prelude.{ℕ, List, [], ◌∷◌, Option, Some, None, bytes_eq, codes, if◌then◌else◌}
 use Rattle.sail_base.specs.declared.kind.Kind.{Kind}
 use Rattle.sail_base.specs.declared.kind.Kind.TheVariants as N
 use Rattle.sail_lex.specs.declared.kind.TokenKind.{TokenKind}
@@ -9,7 +8,6 @@ use Rattle.sail_syntax.specs.declared.name.Name.{Name}
 use Rattle.sail_syntax.specs.declared.words.Arrow.{Arrow}
 use Rattle.sail_syntax.specs.declared.words.Arrow.TheVariants as A
 use Rattle.sail_syntax.specs.declared.words.Extent.TheVariants.{Whole}
-use Rattle.sail_syntax.specs.declared.types.TyExp.{TyExp}
 use Rattle.sail_syntax.specs.declared.definitions.Def.{Def}
 use Rattle.sail_syntax.specs.declared.definitions.Def.TheVariants as V
 use Rattle.sail_syntax.specs.declared.definitions.Param.{Param}
@@ -21,7 +19,7 @@ use Rattle.sail_syntax.specs.declared.definitions.FunctionClause.{FunctionClause
 use Rattle.sail_syntax.specs.declared.definitions.MappingClause.{MappingClause}
 use Rattle.sail_syntax.specs.declared.definitions.Overloaded.{Overloaded}
 use Rattle.sail_syntax.specs.declared.definitions.Overloaded.TheVariants as O
-use Rattle.sail_grammar.specs.Form.{Tree, Nothing, Leaf, Pair, Left, Right}
+use Rattle.sail_grammar.specs.Form.{Tree, Pair, Left, Right}
 use Rattle.sail_grammar.specs.Leaves.{nowhere, first_place, place_at, kind_at, text_at, name_at}
 use Rattle.sail_grammar.specs.TypeTrees.{typ_of}
 use Rattle.sail_grammar.specs.PatternTrees.{pattern_of, pattern_list_of}

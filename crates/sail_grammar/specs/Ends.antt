@@ -1,5 +1,5 @@
 -- How the reading of a form ends, with one token in hand at each choice.
-use Rattle.std.specs.Prelude.{◌≡◌, ℕ, Bool, true, false, List, [], ◌∷◌, Option, Some, None}
+use Rattle.std.specs.Prelude.{◌≡◌, ℕ, Bool, true, false, List, ◌∷◌, Option, Some, None}
 use Rattle.sail_grammar.specs.Symbol.{Sign, symbol}
 use Rattle.sail_grammar.specs.RowName.{RowName}
 use Rattle.sail_grammar.specs.Form.{Form, Word, Empty, ◌or◌, ◌then◌, Guard, Row, Forbid, Bar, Hold, Tree, Nothing, Leaf, Pair, Left, Right, among, look, held, passes}

@@ -1,5 +1,5 @@
 -- What the trees of expressions stand for.
-use Rattle.std.specs.Prelude.{ℕ, ℤ, pos, Bool, true, false, List, [], ◌∷◌, Option, Some, None}
+use Rattle.std.specs.Prelude.{ℕ, Bool, true, false, List, [], ◌∷◌, Option, Some, None}
 use Rattle.sail_base.specs.declared.place.Place.{Place}
 use Rattle.sail_base.specs.declared.operators.Operator.{Operator}
 use Rattle.sail_base.specs.declared.operators.Operator.TheVariants as O
@@ -8,8 +8,6 @@ use Rattle.sail_base.specs.declared.operators.Prefix.TheVariants as P
 use Rattle.sail_lex.specs.declared.kind.TokenKind.{TokenKind}
 use Rattle.sail_lex.specs.declared.kind.TokenKind.TheVariants as K
 use Rattle.sail_syntax.specs.declared.name.Name.{Name}
-use Rattle.sail_syntax.specs.declared.name.Literal.{Literal}
-use Rattle.sail_syntax.specs.declared.name.Literal.TheVariants as L
 use Rattle.sail_syntax.specs.declared.words.Brackets.TheVariants as B
 use Rattle.sail_syntax.specs.declared.words.Leaving.{Leaving}
 use Rattle.sail_syntax.specs.declared.words.Leaving.TheVariants as W
@@ -35,7 +33,7 @@ use Rattle.sail_syntax.specs.declared.expressions.FieldValue.{FieldValue, roll-F
 use Rattle.sail_syntax.specs.declared.expressions.Index.{Index, roll-Index}
 use Rattle.sail_syntax.specs.declared.expressions.Range.{Range, roll-Range}
 use Rattle.sail_syntax.specs.declared.expressions.Target.{Target, roll-Target}
-use Rattle.sail_grammar.specs.Form.{Tree, Nothing, Leaf, Pair, Left, Right}
+use Rattle.sail_grammar.specs.Form.{Tree, Pair, Left, Right}
 use Rattle.sail_grammar.specs.Leaves.{nowhere, first_place, place_at, kind_at, text_at, name_at, literal_at, inner_text}
 use Rattle.sail_grammar.specs.Targets.{target}
 use Rattle.sail_grammar.specs.TypeTrees.{typ_of}

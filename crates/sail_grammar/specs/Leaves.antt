@@ -1,5 +1,5 @@
 -- What single tokens stand for, and where trees begin.
-use Rattle.std.specs.Prelude.{ℕ, ℤ, pos, ◌-◌, ◌^◌, ◌==◌, Bool, true, false, not, nat_lt, if◌then◌else◌, List, [], ◌∷◌, length, take, drop, Option, Some, None}
+use Rattle.std.specs.Prelude.{ℕ, ℤ, pos, ◌-◌, ◌^◌, Bool, true, false, nat_lt, if◌then◌else◌, List, [], length, take, drop, Option, Some, None}
 use Rattle.sail_base.specs.declared.place.Place.{Place}
 use Rattle.sail_base.specs.Bits.{bits_of}
 use Rattle.sail_lex.specs.declared.kind.TokenKind.{TokenKind}
@@ -8,7 +8,7 @@ use Rattle.sail_lex.specs.Literal.{decimal_value, literal_width, literal_bits, s
 use Rattle.sail_syntax.specs.declared.name.Name.{Name}
 use Rattle.sail_syntax.specs.declared.name.Literal.{Literal}
 use Rattle.sail_syntax.specs.declared.name.Literal.TheVariants as L
-use Rattle.sail_grammar.specs.Symbol.{Sign, code}
+use Rattle.sail_grammar.specs.Symbol.{Sign}
 use Rattle.sail_grammar.specs.Form.{Tree, Nothing, Leaf, Pair, Left, Right}
 
 -- the place of nothing

@@ -1,6 +1,6 @@
 -- What the tokens of all files are: one model, or refused.
 use Prim.Native.Nat.{zero}
-use Rattle.std.specs.Prelude.{◌≡◌, ℕ, suc, ◌≤◌, ◌==◌, Bool, true, false, ◌&&◌, ◌||◌, List, [], ◌∷◌, ◌++◌, length, take, slice_get, Option, Some, None}
+use Rattle.std.specs.Prelude.{◌≡◌, ℕ, suc, ◌≤◌, ◌==◌, Bool, true, false, ◌&&◌, ◌||◌, List, [], ◌∷◌, length, take, slice_get, Option, Some, None}
 use Rattle.sail_base.specs.declared.place.Place.{Place}
 use Rattle.sail_lex.specs.declared.kind.TokenKind.{TokenKind}
 use Rattle.sail_lex.specs.declared.kind.TokenKind.TheVariants as K
@@ -8,8 +8,8 @@ use Rattle.sail_syntax.specs.declared.definitions.Def.{Def}
 use Rattle.sail_grammar.specs.declared.error.ParseError.{ParseError}
 use Rattle.sail_grammar.specs.declared.error.ParseError.TheVariants as error
 use Rattle.sail_grammar.specs.Symbol.{Sign, code}
-use Rattle.sail_grammar.specs.RowName.{RowName, Definitions}
-use Rattle.sail_grammar.specs.Form.{Form, Row, Tree}
+use Rattle.sail_grammar.specs.RowName.{Definitions}
+use Rattle.sail_grammar.specs.Form.{Row, Tree}
 use Rattle.sail_grammar.specs.Reads.{Reads, Opens, Bars}
 use Rattle.sail_grammar.specs.Table.{rule}
 use Rattle.sail_grammar.specs.Unfit.{IsFirstUnfit}

@@ -1,11 +1,11 @@
 -- What the trees of patterns stand for, a function for each row.
-use Rattle.std.specs.Prelude.{ℤ, List, [], ◌∷◌, Option, Some, None}
+use Rattle.std.specs.Prelude.{List, [], ◌∷◌}
 use Rattle.sail_base.specs.declared.place.Place.{Place}
 use Rattle.sail_syntax.specs.declared.patterns.Pat.{Pat}
 use Rattle.sail_syntax.specs.declared.patterns.Pat.TheVariants as V
 use Rattle.sail_syntax.specs.declared.patterns.Joined.{Joined, roll-Joined}
 use Rattle.sail_syntax.specs.declared.words.Brackets.TheVariants as B
-use Rattle.sail_grammar.specs.Form.{Tree, Nothing, Leaf, Pair, Left, Right}
+use Rattle.sail_grammar.specs.Form.{Tree, Pair, Left, Right}
 use Rattle.sail_grammar.specs.Leaves.{nowhere, first_place, place_at, name_at, number_at, literal_at}
 use Rattle.sail_grammar.specs.TypeTrees.{typ_of}
 

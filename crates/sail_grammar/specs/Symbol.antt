@@ -1,6 +1,5 @@
 -- The tokens of a model as the grammar sees them.
-use Rattle.std.specs.Prelude.{ℕ, suc, ◌==◌, Bool, true, false, ◌&&◌, ◌||◌, if◌then◌else◌, List, [], ◌∷◌, bytes_eq, codes}
-use Rattle.sail_base.specs.declared.place.Place.{Place}
+use Rattle.std.specs.Prelude.{ℕ, suc, ◌==◌, Bool, ◌&&◌, ◌||◌, if◌then◌else◌, List, [], ◌∷◌, bytes_eq, codes}
 use Rattle.sail_lex.specs.declared.kind.TokenKind.{TokenKind}
 use Rattle.sail_lex.specs.declared.kind.TokenKind.TheVariants.{Identifier, Decimal}
 use Rattle.sail_lex.specs.contracts.kind.TokenKind.{the_type}

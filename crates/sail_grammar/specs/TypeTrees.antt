@@ -9,7 +9,7 @@ use Rattle.sail_syntax.specs.declared.types.TyExp.TheVariants as V
 use Rattle.sail_syntax.specs.declared.words.TypeOperator.{TypeOperator}
 use Rattle.sail_syntax.specs.declared.words.TypeOperator.TheVariants as O
 use Rattle.sail_syntax.specs.declared.words.TypePrefix.TheVariants as P
-use Rattle.sail_grammar.specs.Form.{Tree, Nothing, Leaf, Pair, Left, Right}
+use Rattle.sail_grammar.specs.Form.{Tree, Pair, Left, Right}
 use Rattle.sail_grammar.specs.Leaves.{nowhere, first_place, place_at, kind_at, name_at, number_at}
 
 -- a tree of no type

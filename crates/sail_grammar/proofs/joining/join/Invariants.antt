@@ -1,4 +1,4 @@
-use Rattle.std.proofs.Common.{◌≡◌, ◌++◌, take}
+use Rattle.std.proofs.Common.{◌≡◌, take}
 use Rattle.sail_grammar.specs.Joined.{joined}
 use Rattle.sail_grammar.proofs.joining.join.Given as goal
 

@@ -1,5 +1,4 @@
-use Rattle.std.proofs.Common.{◌≡◌, ℕ, ◌+◌, ◌==◌, Bool, true, false, suc, refl, sym, ◌∙◌, ap, arith}
-use Rattle.std.specs.Prelude.{◌||◌, ◌&&◌, if◌then◌else◌}
+use Rattle.std.proofs.Common.{sym}
 use Rattle.sail_grammar.proofs.word.is_of.Goals as goal
 use Rattle.sail_grammar.proofs.Words.{unlike}
 

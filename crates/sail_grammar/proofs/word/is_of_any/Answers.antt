@@ -1,4 +1,4 @@
-use Rattle.std.proofs.Common.{sym, ◌∙◌, arith}
+use Rattle.std.proofs.Common.{sym, ◌∙◌}
 use Rattle.sail_grammar.specs.Symbol.{symbol}
 use Rattle.sail_grammar.proofs.Words.{among_next, among_found}
 use Rattle.sail_grammar.proofs.word.is_of_any.Goals as goal
