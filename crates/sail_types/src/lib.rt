@@ -31,6 +31,7 @@ pub use shaping::{
     copy_shape, copy_shapes, may_share, parts_may_share, same_shape, same_shapes, shape_of,
     shapes_of,
 };
+pub use small::{is_small, small_power, small_product, small_sum};
 pub use substitution::{read_number, subst};
 pub use sums::{add, copy_atom, copy_num, multiply, plus, power, same_atom, same_num, subtract};
 pub use table::{Definition, Field, Form, Parameter, Types};
