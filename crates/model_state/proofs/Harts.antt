@@ -1,5 +1,5 @@
 -- A hart changed in its place, and a state whose harts are others.
-use Rattle.std.proofs.Common.{◌≡◌, ℕ, zero, suc, ◌<◌, List, [], ◌∷◌, length, get_or, slice_get, slice_set, IsSome, true, false, refl, ap, ◌∙◌, arith}
+use Rattle.std.proofs.Common.{◌≡◌, ℕ, zero, suc, ◌<◌, List, [], ◌∷◌, ◌++◌, map, take, drop, length, get_or, slice_get, slice_set, IsSome, true, false, refl, ap, ◌∙◌, arith}
 use Rattle.model_state.specs.declared.state.Hart.{Hart}
 use Rattle.model_state.specs.RunState.{RunState, values_of, changed}
 
@@ -25,3 +25,9 @@ pub hart_there : (harts : List Hart) (i index : ℕ) → IsSome (slice_get (valu
 hart_there [] i index h = let k : false ≡ true = h in absurd (cc)
 hart_there (hart ∷ harts) zero index h = omega arith
 hart_there (hart ∷ harts) (suc i) index h = omega (arith, hart_there harts i index h)
+
+-- the harts up to one more are changed
+pub set-mapped : (f : Hart → Hart) (harts : List Hart) (i : ℕ) (hart new : Hart) → i < length harts → hart ≡ get_or (map f (take i harts) ++ drop i harts) i hart → new ≡ f hart → slice_set (map f (take i harts) ++ drop i harts) i new ≡ map f (take (suc i) harts) ++ drop (suc i) harts
+set-mapped f [] i hart new h e n = absurd (omega arith)
+set-mapped f (first ∷ harts) zero hart new h e n = ap (λ x. x ∷ harts) (n ∙ ap f e)
+set-mapped f (first ∷ harts) (suc i) hart new h e n = ap (λ xs. f first ∷ xs) (set-mapped f harts i hart new (omega arith) e n)

@@ -1,2 +1,3 @@
 -- lemmas of the proofs
 pub mod Harts
+pub mod Reported

@@ -1,7 +1,9 @@
 -- The state of a run, what a part of a run comes to, and the accesses that it makes.
-use Rattle.std.specs.Prelude.{ℕ, zero, suc, Bool, List, [], ◌∷◌, Option, Some, None, slice_get, slice_set}
+use Rattle.std.specs.Prelude.{ℕ, zero, suc, Bool, false, List, [], ◌∷◌, map, replicate, Option, Some, None, unwrap_or, slice_get, slice_set}
 use Rattle.sail_types.specs.declared.table.Types.{Types}
 use Rattle.sail_types.specs.declared.values.Value.{Value}
+use Rattle.sail_types.specs.declared.values.Value.TheVariants as V
+use Rattle.sail_types.specs.Zero.{zero_of}
 use Rattle.model_state.specs.declared.cause.Ended.{Ended}
 use Rattle.model_state.specs.declared.state.Hart.{Hart}
 use Rattle.model_state.specs.declared.state.Register.{Register}
@@ -15,6 +17,30 @@ pub record RunState : Type 0 where
   pub base : ℕ
   pub bytes : List ℕ
   pub console : List ℕ
+
+-- the zero of a register's type
+abbrev pub zero_value : Types → Register → Value
+zero_value types register = unwrap_or (zero_of types register.typ) V.Unit
+
+-- a hart at the beginning: its registers are zero, it has no reservation and doesn't rest
+abbrev pub fresh_hart : Types → List Register → Hart
+fresh_hart types registers = record { registers = map (zero_value types) registers; reservation = None; rests = false }
+
+-- so many harts over these bytes, and an empty console
+abbrev pub fresh : Types → List Register → ℕ → ℕ → List ℕ → RunState
+fresh types registers harts base bytes = record {
+  types = types;
+  registers = registers;
+  harts = replicate harts (fresh_hart types registers);
+  base = base;
+  bytes = bytes;
+  console = [];
+}
+
+-- RAM as an image left it: the address of its first byte and its bytes
+pub record Placed : Type 0 where
+  pub base : ℕ
+  pub bytes : List ℕ
 
 -- what a hart does to memory or the console by a builtin that doesn't stop: it reads `w` bytes at address `a` as this word,
 -- reserves them too, writes this word there, writes it if its reservation stands and covers the bytes, asks whether the

@@ -1,6 +1,6 @@
 -- The eight builtins that read or write the state. A word of `w` bytes, 1 to 16, stands at an address `a` of 64 bits, and
 -- address sums are plain integers.
-use Rattle.std.specs.Prelude.{ℕ, ◌+◌, ◌-◌, ◌*◌, nat_eq, nat_le, nat_lt, Bool, true, false, ◌&&◌, if◌then◌else◌, List, [], ◌∷◌, ◌++◌, length, map, take, slice_get, Option, Some, None, Result, Ok, Err, pos}
+use Rattle.std.specs.Prelude.{◌≡◌, ℕ, ◌+◌, ◌-◌, ◌*◌, nat_eq, nat_le, nat_lt, Bool, true, false, ◌&&◌, if◌then◌else◌, List, [], ◌∷◌, ◌++◌, length, map, take, slice_get, Option, Some, None, option_map, Result, Ok, Err, pos}
 use Rattle.sail_base.specs.Bits.{value_of}
 use Rattle.mem_store.specs.Bytes.{is_mapped, span, word_of, word_bytes, overwritten}
 use Rattle.sail_types.specs.declared.rows.Row.{Row}
@@ -113,51 +113,84 @@ put_result state text = if nat_le (length text) (console_room state) then Ok tt 
 abbrev pub put_state : RunState → List ℕ → RunState
 put_state state text = record state { console = state.console ++ put_bytes state text }
 
+-- a text is put on the console, with this result; nothing is said where that wanted memory
+abbrev pub Puts : RunState → List ℕ → RunState → Result (Unit {0}) RowError → Type 0
+Puts before text after (Err error.OutOfMemory) = Unit {0}
+Puts before text after result = (result ≡ put_result before text) × (after ≡ put_state before text)
+
 -- ---- each as a part of a run
 
--- a result as an ending; want of memory is none
-abbrev pub as_ended : {A : Type 0} → (A → Value) → Result A RowError → Option Ended
-as_ended f (Ok x) = Some (ended.Value (f x))
-as_ended f (Err (error.Stop cause)) = Some (ended.Stop cause)
-as_ended f (Err error.OutOfMemory) = None
+-- a call of a builtin by a hart, with its arguments
+pub data Call : Type 0 where
+  reading : (hart w a : ℕ) → Call
+  reserving : (hart w a : ℕ) → Call
+  writing : (hart w a : ℕ) (word : List Bool) → Call
+  writing_cond : (hart w a : ℕ) (word : List Bool) → Call
+  asking : (hart w a : ℕ) → Call
+  putting : (hart : ℕ) (text : List ℕ) → Call
 
-abbrev pub unit_value : Unit {0} → Value
-unit_value x = value.Unit
+-- a value, or the stop `bad-address` where the bytes aren't there
+abbrev pub if_there : RunState → ℕ → ℕ → Value → Ended
+if_there state w a v = if is_there state w a then ended.Value v else ended.Stop (BadAddress a)
 
--- the accesses: none where the result is a stop
-abbrev pub if_ok : {A : Type 0} → (A → Access) → Result A RowError → List Access
-if_ok f (Ok x) = f x ∷ []
-if_ok f (Err e) = []
+abbrev pub ended_by : Call → RunState → Ended
+ended_by (reading hart w a) state = if_there state w a (value.Bits (word_at state w a))
+ended_by (reserving hart w a) state = if_there state w a (value.Bits (word_at state w a))
+ended_by (writing hart w a word) state = if_there state w a value.Unit
+ended_by (writing_cond hart w a word) state = if_there state w a (value.Truth (may_write hart state w a))
+ended_by (asking hart w a) state = ended.Value (value.Truth (is_there state w a))
+ended_by (putting hart text) state = if nat_le (length text) (console_room state) then ended.Value value.Unit else ended.Stop ConsoleFull
 
-abbrev pub ran : {A : Type 0} → (A → Value) → Result A RowError → RunState → List Access → Option Ran
-ran f (Ok x) state accesses = Some (record { ended = ended.Value (f x); state = state; accesses = accesses })
-ran f (Err (error.Stop cause)) state accesses = Some (record { ended = ended.Stop cause; state = state; accesses = accesses })
-ran f (Err error.OutOfMemory) state accesses = None
+abbrev pub state_after : Call → RunState → RunState
+state_after (reading hart w a) state = state
+state_after (reserving hart w a) state = reserve_state hart state w a
+state_after (writing hart w a word) state = write_state state w a word
+state_after (writing_cond hart w a word) state = write_cond_state hart state w a word
+state_after (asking hart w a) state = state
+state_after (putting hart text) state = put_state state text
 
-abbrev pub put_ran : ℕ → RunState → List ℕ → Option Ran
-put_ran hart state text = ran unit_value (put_result state text) (put_state state text) (put hart (put_bytes state text) ∷ [])
+-- the access that it makes; none where it stops before anything else
+abbrev pub access_of : Call → RunState → Option Access
+access_of (reading hart w a) state = if is_there state w a then Some (read hart w a (word_at state w a)) else None
+access_of (reserving hart w a) state = if is_there state w a then Some (reserve hart w a (word_at state w a)) else None
+access_of (writing hart w a word) state = if is_there state w a then Some (write hart w a word) else None
+access_of (writing_cond hart w a word) state = if is_there state w a then Some (write_cond hart w a word (may_write hart state w a)) else None
+access_of (asking hart w a) state = Some (mapped hart w a (is_there state w a))
+access_of (putting hart text) state = Some (put hart (put_bytes state text))
 
--- the width of a word and its address can be a builtin's
+-- an access, if there is one, before others
+abbrev pub then_accesses : Option Access → List Access → List Access
+then_accesses None accesses = accesses
+then_accesses (Some access) accesses = access ∷ accesses
+
+abbrev pub call_ran : Call → RunState → Ran
+call_ran call state = record { ended = ended_by call state; state = state_after call state; accesses = then_accesses (access_of call state) [] }
+
+-- ---- each by its name and values
+
+abbrev pub when : Bool → Call → Option Call
+when true call = Some call
+when false call = None
+
+-- a width and an address that a builtin takes, and a word of that width
 abbrev pub is_place : ℕ → List Bool → Bool
 is_place w a = nat_le 1 w && (nat_le w 16 && nat_eq (length a) 64)
 
-abbrev pub when : Bool → Option Ran → Option Ran
-when true r = r
-when false r = None
+abbrev pub is_placed : ℕ → List Bool → List Bool → Bool
+is_placed w a word = is_place w a && nat_eq (length word) (8 * w)
+
+-- the call that a hart makes with these values; none where the builtin's condition fails
+abbrev pub call_of : Row → ℕ → List Value → Option Call
+call_of row.MemRead hart (value.Integer (pos w) ∷ value.Bits a ∷ []) = when (is_place w a) (reading hart w (value_of a))
+call_of row.MemReserve hart (value.Integer (pos w) ∷ value.Bits a ∷ []) = when (is_place w a) (reserving hart w (value_of a))
+call_of row.MemWrite hart (value.Integer (pos w) ∷ value.Bits a ∷ value.Bits v ∷ []) = when (is_placed w a v) (writing hart w (value_of a) v)
+call_of row.MemWriteCond hart (value.Integer (pos w) ∷ value.Bits a ∷ value.Bits v ∷ []) = when (is_placed w a v) (writing_cond hart w (value_of a) v)
+call_of row.MemMapped hart (value.Integer (pos w) ∷ value.Bits a ∷ []) = when (is_place w a) (asking hart w (value_of a))
+call_of row.Print hart (value.String text ∷ []) = Some (putting hart text)
+call_of row.PrintEndline hart (value.String text ∷ []) = Some (putting hart (text ++ 10 ∷ []))
+call_of row.ConsolePut hart (value.Bits b ∷ []) = when (nat_eq (length b) 8) (putting hart (value_of b ∷ []))
+call_of row hart values = None
 
 -- a builtin of the state, called by a hart on values; none where its condition fails
 abbrev pub state_row : Row → ℕ → RunState → List Value → Option Ran
-state_row row.MemRead hart state (value.Integer (pos w) ∷ value.Bits a ∷ []) =
-    when (is_place w a) (ran value.Bits (read_result state w (value_of a)) state (if_ok (read hart w (value_of a)) (read_result state w (value_of a))))
-state_row row.MemReserve hart state (value.Integer (pos w) ∷ value.Bits a ∷ []) =
-    when (is_place w a) (ran value.Bits (read_result state w (value_of a)) (reserve_state hart state w (value_of a)) (if_ok (reserve hart w (value_of a)) (read_result state w (value_of a))))
-state_row row.MemWrite hart state (value.Integer (pos w) ∷ value.Bits a ∷ value.Bits v ∷ []) =
-    when (is_place w a && nat_eq (length v) (8 * w)) (ran unit_value (write_result state w (value_of a)) (write_state state w (value_of a) v) (if_ok (λ u. write hart w (value_of a) v) (write_result state w (value_of a))))
-state_row row.MemWriteCond hart state (value.Integer (pos w) ∷ value.Bits a ∷ value.Bits v ∷ []) =
-    when (is_place w a && nat_eq (length v) (8 * w)) (ran value.Truth (write_cond_result hart state w (value_of a)) (write_cond_state hart state w (value_of a) v) (if_ok (write_cond hart w (value_of a) v) (write_cond_result hart state w (value_of a))))
-state_row row.MemMapped hart state (value.Integer (pos w) ∷ value.Bits a ∷ []) =
-    when (is_place w a) (ran value.Truth (Ok (is_there state w (value_of a))) state (mapped hart w (value_of a) (is_there state w (value_of a)) ∷ []))
-state_row row.Print hart state (value.String text ∷ []) = put_ran hart state text
-state_row row.PrintEndline hart state (value.String text ∷ []) = put_ran hart state (text ++ 10 ∷ [])
-state_row row.ConsolePut hart state (value.Bits b ∷ []) = when (nat_eq (length b) 8) (put_ran hart state (value_of b ∷ []))
-state_row row hart state arguments = None
+state_row row hart state values = option_map (λ call. call_ran call state) (call_of row hart values)

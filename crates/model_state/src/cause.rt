@@ -3,6 +3,7 @@ ghost use Rattle.sail_types.specs.declared.values.Value.{Value};
 
 use sail_base::{Place, Text};
 use sail_types::Value;
+use std::alloc::AllocError;
 
 /// Why a run stops.
 pub enum Cause {
@@ -88,5 +89,16 @@ impl Drop for RowError {
             RowError::Stop(_) => {}
             RowError::OutOfMemory => {}
         }
+    }
+}
+
+impl From<AllocError> for RowError {
+    ghost use Rattle.std.specs.Prelude.{◌≡◌};
+    ghost use Rattle.model_state.specs.declared.cause.RowError.TheVariants as error;
+
+    ghost from_gives = { λ wanting refusal. refusal ≡ error.OutOfMemory };
+
+    fn from(_: AllocError) -> RowError {
+        RowError::OutOfMemory
     }
 }

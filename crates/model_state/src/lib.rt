@@ -10,5 +10,5 @@ mod state;
 mod stepper;
 
 pub use cause::{Cause, Ended, RowError};
-pub use state::{Hart, Register, Reservation, State};
+pub use state::{Hart, Register, Reservation, Start, State, report};
 pub use stepper::Stepper;

@@ -2,7 +2,12 @@ ghost use Rattle.std.specs.Prelude.{◌≡◌, ◌<◌, ◌≤◌, length, IsSom
 ghost use Rattle.model_state.specs.RunState.{register_value, with_register};
 ghost use Rattle.model_state.specs.Folds.{rests, set_rests, all_rest};
 
+mod fresh;
+mod reporting;
+mod rows;
+
 use mem_store::Memory;
+pub use reporting::{Start, report};
 use sail_base::{Items, Text};
 use sail_types::{Typ, Types, Value};
 use std::marker::Model;
@@ -80,7 +85,7 @@ impl<M: Memory> Model for State<M> {
       console = state.console.items;
     } };
 
-    ghost invariant = { λ state. length state.harts.items ≤ 8 };
+    ghost invariant = { λ state. record { few : length state.harts.items ≤ 8; fits : length state.console.items ≤ 1048576 } };
 }
 
 impl<M: Memory> State<M> {
