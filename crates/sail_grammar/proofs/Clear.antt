@@ -1,7 +1,7 @@
 -- The grammar of models passes its test.
 use Rattle.std.proofs.Common.{refl}
 use Rattle.sail_grammar.specs.declared.mode.Mode.TheVariants.{Full, Limited}
-use Rattle.sail_grammar.specs.RowName.{Definitions, Definition, OrderDefinition, TypeDefinition, EnumDefinition, EnumMembers, EnumBars, StructDefinition, UnionDefinition, UnionClause, UnionWhole, ValDefinition, FunctionDefinition, MeasureDefinition, MappingDefinition, MappingClauseDefinition, MappingWhole, LetDefinition, RegisterDefinition, OverloadDefinition, ScatteredDefinition, EndDefinition, Names, NamesTail, NamesMore, Members, MembersTail, MembersMore, Member, Parameters, ParametersTail, Parameter, KindMark, Quantifier, QuantifiedVariables, QuantifiedVariable, MappingClauses, MappingClausesTail, MappingClausesMore, MappingClause, MappingSide, Typ, TypeAnd, TypeComparison, TypeSet, NumbersTail, NumbersMore, TypeSum, TypeSumMore, TypeProduct, TypeProductMore, TypeAtom, TypeNamed, TypePower, TypeNegation, TypeNot, TypeGroup, TypeExists, TypeVariables, Types, TypesTail, Pattern, PatternAs, PatternConcat, PatternAppends, PatternTyped, PatternBase, PatternWildcard, PatternNegative, PatternNamed, PatternGroup, PatternVector, PatternList, Patterns, PatternsTail, Exp, LetIn, VarIn, ExpInner, If, Match, Control, Try, Foreach, While, Repeat, Leave, LoopMeasure, Assignment, Cases, CasesTail, CasesMore, Case, Infix, InfixAnd, InfixComparison, InfixAppend, InfixSum, InfixSumMore, InfixProduct, InfixProductMore, InfixPower, Unary, Negation, Power, Postfix, Suffixes, Suffix, Index, Atom, NamedExp, PrefixCall, GroupExp, VectorExp, Update, ListExp, StructExp, TypeQuestion, Assertion, Exps, ExpsTail, Block, Statements, Statement, LetStatement, VarStatement, FieldValues, FieldValuesTail, FieldValuesMore, FieldValue}
+use Rattle.sail_grammar.specs.RowName.{Definitions, Definition, OrderDefinition, TypeDefinition, EnumDefinition, EnumMembers, EnumBars, StructDefinition, UnionDefinition, UnionClause, UnionWhole, ValDefinition, FunctionDefinition, MeasureDefinition, MappingDefinition, MappingClauseDefinition, MappingWhole, LetDefinition, RegisterDefinition, OverloadDefinition, ScatteredDefinition, EndDefinition, Names, NamesTail, NamesMore, Members, MembersTail, MembersMore, Member, Parameters, ParametersTail, Parameter, KindMark, Quantifier, QuantifiedVariables, QuantifiedVariable, MappingClauses, MappingClausesTail, MappingClausesMore, MappingClause, MappingSide, Typ, TypeAnd, TypeComparison, TypeSet, NumbersTail, NumbersMore, TypeSum, TypeSumMore, TypeProduct, TypeProductMore, TypeAtom, TypeNamed, TypePower, TypeNegation, TypeNot, TypeGroup, TypeExists, TypeVariables, Types, TypesTail, Pattern, PatternAs, PatternConcat, PatternAppends, PatternTyped, PatternBase, PatternWildcard, PatternNegative, PatternNamed, PatternGroup, PatternVector, PatternList, Patterns, PatternsTail, Exp, LetIn, VarIn, ExpInner, If, Match, Control, Try, Foreach, While, Repeat, Leave, LoopMeasure, Assignment, Cases, CasesTail, CasesMore, Case, Infix, InfixAnd, InfixComparison, InfixAppend, InfixSum, InfixSumMore, InfixProduct, InfixProductMore, InfixPower, Unary, Negation, Power, Postfix, Suffixes, Suffix, Index, Atom, NamedExp, Arguments, PrefixCall, GroupExp, VectorExp, Update, ListExp, StructExp, TypeQuestion, Assertion, Exps, ExpsTail, Block, BlockBody, BlockMore, Statements, StatementsMore, Statement, LetStatement, VarStatement, FieldValues, FieldValuesTail, FieldValuesMore, FieldValue}
 use Rattle.sail_grammar.specs.Test.{IsClear}
 use Rattle.sail_grammar.specs.Sets.{grammar}
 
@@ -125,6 +125,7 @@ grammar_clear (Suffix m) = refl
 grammar_clear (Index m) = refl
 grammar_clear (Atom m) = refl
 grammar_clear (NamedExp m) = refl
+grammar_clear (Arguments m) = refl
 grammar_clear (PrefixCall m) = refl
 grammar_clear (GroupExp m) = refl
 grammar_clear (VectorExp m) = refl
@@ -138,7 +139,10 @@ grammar_clear (Exps m) = refl
 grammar_clear (ExpsTail m) = refl
 grammar_clear (Block Full) = refl
 grammar_clear (Block Limited) = refl
+grammar_clear BlockBody = refl
+grammar_clear BlockMore = refl
 grammar_clear Statements = refl
+grammar_clear StatementsMore = refl
 grammar_clear (Statement m) = refl
 grammar_clear (LetStatement m) = refl
 grammar_clear (VarStatement m) = refl

@@ -124,7 +124,7 @@ mapping_clause_of t = record { place = nowhere; left = side_of t; right = side_o
 
 -- row MappingClauses and its tails
 abbrev pub mapping_clauses_tail : Tree → List MappingClause
-mapping_clauses_tail (Left (Pair comma (Left (Pair next more)))) = mapping_clause_of next ∷ mapping_clauses_tail more
+mapping_clauses_tail (Left (Pair comma (Right (Pair next more)))) = mapping_clause_of next ∷ mapping_clauses_tail more
 mapping_clauses_tail t = []
 
 abbrev pub mapping_clauses_of : Tree → List MappingClause
@@ -197,7 +197,7 @@ measure_definition_of t = no_def
 -- row MappingDefinition
 abbrev pub mapping_of : Tree → Def
 mapping_of (Pair word (Left (Pair clause_word (Pair name (Pair equal clause))))) = V.MappingClause (place_at word) (name_at name) (mapping_clause_of clause)
-mapping_of (Pair word (Right (Pair name (Pair sides (Pair equal (Pair bracket (Pair clauses close))))))) =
+mapping_of (Pair word (Right (Pair name (Pair sides (Pair equal (Pair bracket clauses)))))) =
     V.Mapping (place_at word) (name_at name) (sides_if sides) (mapping_clauses_of clauses)
 mapping_of t = no_def
 

@@ -157,8 +157,8 @@ block place ss false = block_of_parts place (part_last ss)
 
 -- the last of some statements has a `;` behind it: there are none, or the list goes on behind a `;`
 abbrev pub is_closed : Tree → Bool
-is_closed (Left (Pair s (Left (Pair semicolon more)))) = is_closed more
-is_closed (Left (Pair s t)) = false
+is_closed (Right (Pair s (Left (Pair semicolon more)))) = is_closed more
+is_closed (Right (Pair s t)) = false
 is_closed t = true
 
 -- the expression that a statement is
@@ -276,11 +276,11 @@ abbrev mutual
 
   -- row Cases and its tails
   pub cases_of : Tree → List Case
-  cases_of (Pair open_bracket (Pair first (Pair more close))) = case_of first ∷ cases_tail more
+  cases_of (Pair open_bracket (Pair first more)) = case_of first ∷ cases_tail more
   cases_of t = []
 
   pub cases_tail : Tree → List Case
-  cases_tail (Left (Pair comma (Left (Pair next more)))) = case_of next ∷ cases_tail more
+  cases_tail (Left (Pair comma (Right (Pair next more)))) = case_of next ∷ cases_tail more
   cases_tail t = []
 
   -- row Case
@@ -378,7 +378,7 @@ abbrev mutual
 
   -- row NamedExp
   pub named_of : Tree → Exp
-  named_of (Pair name (Left (Pair open_bracket (Pair arguments close)))) = V.Call (name_at name) (exps_if arguments)
+  named_of (Pair name (Left (Pair bracket arguments))) = V.Call (name_at name) (arguments_of arguments)
   named_of (Pair name t) = V.Variable (name_at name)
   named_of t = no_exp
 
@@ -389,7 +389,7 @@ abbrev mutual
 
   -- row GroupExp
   pub group_of : Tree → Exp
-  group_of (Pair bracket (Pair es close)) = in_brackets (place_at bracket) (exps_if es)
+  group_of (Pair bracket es) = in_brackets (place_at bracket) (arguments_of es)
   group_of t = no_exp
 
   -- rows VectorExp and Update
@@ -414,7 +414,7 @@ abbrev mutual
 
   -- row ListExp
   pub list_of : Tree → Exp
-  list_of (Pair bracket (Pair es close)) = V.Group (place_at bracket) B.List (exps_if es)
+  list_of (Pair bracket es) = V.Group (place_at bracket) B.List (arguments_of es)
   list_of t = no_exp
 
   -- row StructExp
@@ -432,10 +432,15 @@ abbrev mutual
   assertion_of (Pair word (Pair open_bracket (Pair e (Pair text close)))) = V.Assert (place_at word) (exp_of e) (text_if text)
   assertion_of t = no_exp
 
-  -- some expressions, if they are there; rows Exps and ExpsTail
-  pub exps_if : Tree → List Exp
-  exps_if (Left (Pair first more)) = exp_of first ∷ exps_tail more
-  exps_if t = []
+  -- expressions up to a closing bracket, if there are any; row Arguments
+  pub arguments_of : Tree → List Exp
+  arguments_of (Right (Pair es close)) = exps_of es
+  arguments_of t = []
+
+  -- rows Exps and ExpsTail
+  pub exps_of : Tree → List Exp
+  exps_of (Pair first more) = exp_of first ∷ exps_tail more
+  exps_of t = []
 
   pub exps_tail : Tree → List Exp
   exps_tail (Left (Pair comma (Pair next more))) = exp_of next ∷ exps_tail more
@@ -443,26 +448,26 @@ abbrev mutual
 
   -- row Block, all of it, and the part of it that is plain
   pub block_of : Tree → Exp
-  block_of (Pair (Pair bracket (Left (Pair s t))) (Pair with_word (Pair values close))) =
+  block_of (Pair (Pair bracket (Right (Pair s t))) (Pair with_word (Pair values close))) =
       V.With (place_at bracket) (exp_of_statement (statement_of s)) (values_of values)
-  block_of (Pair bracket (Pair body close)) = body_of (place_at bracket) body
+  block_of (Pair bracket (Right t)) = body_of (place_at bracket) t
+  block_of (Pair bracket t) = block (place_at bracket) [] true
   block_of t = no_exp
 
-  -- what stands in the braces of a block
+  -- rows BlockBody and BlockMore, of a block at this place
   pub body_of : Place → Tree → Exp
-  body_of place (Left (Pair s t)) = body_more place (statement_of s) t
-  body_of place t = block place [] true
+  body_of place (Pair s t) = body_more place (statement_of s) t
+  body_of place t = no_exp
 
-  -- what stands behind its first statement
   pub body_more : Place → Stmt → Tree → Exp
-  body_more place s (Left (Pair with_word values)) = V.With place (exp_of_statement s) (values_of values)
+  body_more place s (Left (Pair with_word (Pair values close))) = V.With place (exp_of_statement s) (values_of values)
   body_more place s (Right (Left (Pair semicolon more))) = block place (s ∷ statements_of more) (is_closed more)
   body_more place s t = block place (s ∷ []) false
 
   -- row Statements
   pub statements_of : Tree → List Stmt
-  statements_of (Left (Pair s (Left (Pair semicolon more)))) = statement_of s ∷ statements_of more
-  statements_of (Left (Pair s t)) = statement_of s ∷ []
+  statements_of (Right (Pair s (Left (Pair semicolon more)))) = statement_of s ∷ statements_of more
+  statements_of (Right (Pair s t)) = statement_of s ∷ []
   statements_of t = []
 
   -- row Statement

@@ -120,6 +120,7 @@ pub data RowName : Type 0 where
   -- operands
   Atom : Mode → RowName
   NamedExp : Mode → RowName
+  Arguments : Mode → RowName
   PrefixCall : Mode → RowName
   GroupExp : Mode → RowName
   VectorExp : Mode → RowName
@@ -131,7 +132,10 @@ pub data RowName : Type 0 where
   Exps : Mode → RowName
   ExpsTail : Mode → RowName
   Block : Mode → RowName
+  BlockBody : RowName
+  BlockMore : RowName
   Statements : RowName
+  StatementsMore : RowName
   Statement : Mode → RowName
   LetStatement : Mode → RowName
   VarStatement : Mode → RowName

@@ -4,7 +4,7 @@ use Rattle.sail_lex.specs.declared.kind.TokenKind.{TokenKind}
 use Rattle.sail_lex.specs.declared.kind.TokenKind.TheVariants.{Identifier, TypeVariable, Wildcard, Decimal, Hexadecimal, Binary, StringLiteral, LeftOut, Order, As, Assert, Bitone, Bitzero, By, Catch, Clause, Constraint, Dec, Default, Do, Else, End, Enum, Exit, False, Forall, Foreach as ForeachWord, From, Function, If as IfWord, In, Inc, Let, Mapping, Match as MatchWord, Not, Operator, Overload, Register, Repeat as RepeatWord, Return, Scattered, Sizeof, Struct, TerminationMeasure, Then, Throw, To, True, Try as TryWord, TypeWord, Union, Until, Val, Var, While as WhileWord, With, OpenParenthesis, CloseParenthesis, OpenBracket, CloseBracket, OpenBrace, CloseBrace, OpenVector, CloseVector, Comma, Semicolon, Colon, DoubleColon, Dot, DoubleDot, Equal, DoubleEqual, NotEqual, Less, LessEqual, Greater, GreaterEqual, LessUnsigned, LessEqualUnsigned, GreaterUnsigned, GreaterEqualUnsigned, LessSigned, LessEqualSigned, GreaterSigned, GreaterEqualSigned, Plus, Minus, Star, Caret, At, Ampersand, Bar as Stroke, Tilde, ShiftLeft, ShiftRight, Arrow, DoubleArrow, FatArrow}
 use Rattle.sail_grammar.specs.declared.mode.Mode.TheVariants.{Full, Limited}
 use Rattle.sail_grammar.specs.Symbol.{code, two, kind_name}
-use Rattle.sail_grammar.specs.RowName.{RowName, Definitions, Definition, OrderDefinition, TypeDefinition, EnumDefinition, EnumMembers, EnumBars, StructDefinition, UnionDefinition, UnionClause, UnionWhole, ValDefinition, FunctionDefinition, MeasureDefinition, MappingDefinition, MappingClauseDefinition, MappingWhole, LetDefinition, RegisterDefinition, OverloadDefinition, ScatteredDefinition, EndDefinition, Names, NamesTail, NamesMore, Members, MembersTail, MembersMore, Member, Parameters, ParametersTail, Parameter, KindMark, Quantifier, QuantifiedVariables, QuantifiedVariable, MappingClauses, MappingClausesTail, MappingClausesMore, MappingClause, MappingSide, Typ, TypeAnd, TypeComparison, TypeSet, NumbersTail, NumbersMore, TypeSum, TypeSumMore, TypeProduct, TypeProductMore, TypeAtom, TypeNamed, TypePower, TypeNegation, TypeNot, TypeGroup, TypeExists, TypeVariables, Types, TypesTail, Pattern, PatternAs, PatternConcat, PatternAppends, PatternTyped, PatternBase, PatternWildcard, PatternNegative, PatternNamed, PatternGroup, PatternVector, PatternList, Patterns, PatternsTail, Exp, LetIn, VarIn, ExpInner, If, Match, Control, Try, Foreach, While, Repeat, Leave, LoopMeasure, Assignment, Cases, CasesTail, CasesMore, Case, Infix, InfixAnd, InfixComparison, InfixAppend, InfixSum, InfixSumMore, InfixProduct, InfixProductMore, InfixPower, Unary, Negation, Power, Postfix, Suffixes, Suffix, Index, Atom, NamedExp, PrefixCall, GroupExp, VectorExp, Update, ListExp, StructExp, TypeQuestion, Assertion, Exps, ExpsTail, Block, Statements, Statement, LetStatement, VarStatement, FieldValues, FieldValuesTail, FieldValuesMore, FieldValue}
+use Rattle.sail_grammar.specs.RowName.{RowName, Definitions, Definition, OrderDefinition, TypeDefinition, EnumDefinition, EnumMembers, EnumBars, StructDefinition, UnionDefinition, UnionClause, UnionWhole, ValDefinition, FunctionDefinition, MeasureDefinition, MappingDefinition, MappingClauseDefinition, MappingWhole, LetDefinition, RegisterDefinition, OverloadDefinition, ScatteredDefinition, EndDefinition, Names, NamesTail, NamesMore, Members, MembersTail, MembersMore, Member, Parameters, ParametersTail, Parameter, KindMark, Quantifier, QuantifiedVariables, QuantifiedVariable, MappingClauses, MappingClausesTail, MappingClausesMore, MappingClause, MappingSide, Typ, TypeAnd, TypeComparison, TypeSet, NumbersTail, NumbersMore, TypeSum, TypeSumMore, TypeProduct, TypeProductMore, TypeAtom, TypeNamed, TypePower, TypeNegation, TypeNot, TypeGroup, TypeExists, TypeVariables, Types, TypesTail, Pattern, PatternAs, PatternConcat, PatternAppends, PatternTyped, PatternBase, PatternWildcard, PatternNegative, PatternNamed, PatternGroup, PatternVector, PatternList, Patterns, PatternsTail, Exp, LetIn, VarIn, ExpInner, If, Match, Control, Try, Foreach, While, Repeat, Leave, LoopMeasure, Assignment, Cases, CasesTail, CasesMore, Case, Infix, InfixAnd, InfixComparison, InfixAppend, InfixSum, InfixSumMore, InfixProduct, InfixProductMore, InfixPower, Unary, Negation, Power, Postfix, Suffixes, Suffix, Index, Atom, NamedExp, Arguments, PrefixCall, GroupExp, VectorExp, Update, ListExp, StructExp, TypeQuestion, Assertion, Exps, ExpsTail, Block, BlockBody, BlockMore, Statements, StatementsMore, Statement, LetStatement, VarStatement, FieldValues, FieldValuesTail, FieldValuesMore, FieldValue}
 use Rattle.sail_grammar.specs.Form.{Form, Word, Empty, ◌or◌, ◌then◌, Guard, Row, Forbid, Bar, Hold}
 use Rattle.sail_grammar.specs.Shapes.{is_target, is_exp}
 
@@ -90,7 +90,7 @@ rule MappingDefinition = word Mapping then (Row MappingClauseDefinition or Row M
 rule MappingClauseDefinition = word Clause then identifier then word Equal then Row MappingClause
 rule MappingWhole =
     identifier then (word Colon then Row (Typ Full) then word DoubleArrow then Row (Typ Full) or nothing)
-    then word Equal then word OpenBrace then Row MappingClauses then word CloseBrace
+    then word Equal then word OpenBrace then Row MappingClauses
 rule LetDefinition = word Let then Row (Pattern Full) then word Equal then Row (Exp Limited)
 rule RegisterDefinition = word Register then identifier then word Colon then Row (Typ Full) then (word Equal then Row (Exp Limited) or nothing)
 rule OverloadDefinition =
@@ -113,8 +113,8 @@ rule Quantifier = word Forall then Row QuantifiedVariables then (word Comma then
 rule QuantifiedVariables = Row QuantifiedVariable then Row QuantifiedVariables or nothing
 rule QuantifiedVariable = word TypeVariable or word OpenParenthesis then word TypeVariable then word Colon then kind then word CloseParenthesis
 rule MappingClauses = Row MappingClause then Row MappingClausesTail
-rule MappingClausesTail = word Comma then Row MappingClausesMore or nothing
-rule MappingClausesMore = Row MappingClause then Row MappingClausesTail or nothing
+rule MappingClausesTail = word Comma then Row MappingClausesMore or word CloseBrace
+rule MappingClausesMore = word CloseBrace or Row MappingClause then Row MappingClausesTail
 rule MappingClause = Row MappingSide then word DoubleArrow then Row MappingSide
 rule MappingSide = Row (Pattern Limited) then (word IfWord then Row (Exp Full) or nothing)
 rule (Typ m) = Row (TypeAnd m) then (word Stroke then Row (Typ m) or nothing)
@@ -180,9 +180,9 @@ rule LoopMeasure = word TerminationMeasure then word OpenBrace then Row (Exp Lim
 rule (Assignment Full) = Guard (Row (Infix Full)) is_target (code Equal ∷ []) then
     (word Equal then Row (Exp Full) or word Colon then Row (Typ Limited) or nothing)
 rule (Assignment Limited) = Bar (Row (Infix Limited)) (λ t. not (is_target t)) (code Equal ∷ []) then (never or word Colon then Row (Typ Limited) or nothing)
-rule (Cases m) = word OpenBrace then Row (Case m) then Row (CasesTail m) then word CloseBrace
-rule (CasesTail m) = word Comma then Row (CasesMore m) or nothing
-rule (CasesMore m) = Row (Case m) then Row (CasesTail m) or nothing
+rule (Cases m) = word OpenBrace then Row (Case m) then Row (CasesTail m)
+rule (CasesTail m) = word Comma then Row (CasesMore m) or word CloseBrace
+rule (CasesMore m) = word CloseBrace or Row (Case m) then Row (CasesTail m)
 rule (Case m) = Row (Pattern Full) then (word IfWord then Row (Exp m) or nothing) then word FatArrow then Row (Exp m)
 rule (Infix m) = Row (InfixAnd m) then (word Stroke then Row (Infix m) or nothing)
 rule (InfixAnd m) = Row (InfixComparison m) then (word Ampersand then Row (InfixAnd m) or nothing)
@@ -203,30 +203,30 @@ rule (Index m) = word OpenBracket then Row (Exp m) then (word DoubleDot then Row
 rule (Atom m) =
     words literals or Row (NamedExp m) or Row (PrefixCall m) or Row (GroupExp m) or Row (Block m) or Row (VectorExp m) or Row (ListExp m)
     or Row (StructExp m) or Row TypeQuestion or Row (Assertion m)
-rule (NamedExp m) = identifier then (word OpenParenthesis then (Row (Exps m) or nothing) then word CloseParenthesis or nothing)
+rule (NamedExp m) = identifier then (word OpenParenthesis then Row (Arguments m) or nothing)
+rule (Arguments m) = word CloseParenthesis or Row (Exps m) then word CloseParenthesis
 rule (PrefixCall m) = words (Tilde ∷ Not ∷ []) then word OpenParenthesis then Row (Exp m) then word CloseParenthesis
-rule (GroupExp m) = word OpenParenthesis then (Row (Exps m) or nothing) then word CloseParenthesis
+rule (GroupExp m) = word OpenParenthesis then Row (Arguments m)
 rule (VectorExp m) = word OpenBracket then Row (Exp m) then (Row (Update m) or Row (ExpsTail m)) then word CloseBracket
 rule (Update m) = word With then Row (Infix m) then (word DoubleDot then Row (Infix m) or nothing) then word Equal then Row (Exp m)
-rule (ListExp m) = word OpenVector then (Row (Exps m) or nothing) then word CloseVector
+rule (ListExp m) = word OpenVector then (word CloseVector or Row (Exps m) then word CloseVector)
 rule (StructExp m) = word Struct then (identifier or nothing) then word OpenBrace then Row (FieldValues m) then word CloseBrace
 rule TypeQuestion = words (Sizeof ∷ Constraint ∷ []) then word OpenParenthesis then Row (Typ Full) then word CloseParenthesis
-rule (Assertion Full) = word Assert then word OpenParenthesis then Row (Exp Full) then (word Comma then word StringLiteral or nothing) then word
-    CloseParenthesis
+rule (Assertion Full) =
+    word Assert then word OpenParenthesis then Row (Exp Full) then (word Comma then word StringLiteral or nothing) then word CloseParenthesis
 rule (Assertion Limited) = Forbid (code Assert ∷ [])
 rule (Exps m) = Row (Exp m) then Row (ExpsTail m)
 rule (ExpsTail m) = word Comma then Row (Exp m) then Row (ExpsTail m) or nothing
-rule (Block Full) =
-    word OpenBrace
-    then (Guard (Row (Statement Full)) is_exp (code With ∷ []) then (word With then Row (FieldValues Full) or word Semicolon then Row Statements or nothing)
-    or nothing)
-    then word CloseBrace
+rule (Block Full) = word OpenBrace then (word CloseBrace or Row BlockBody)
 rule (Block Limited) =
     Hold (word OpenBrace
-    then (Guard (Row (Statement Limited)) is_exp (code With ∷ []) then (Forbid (codes_of (Semicolon ∷ CloseBrace ∷ [])) or nothing) or Forbid
-    (code CloseBrace ∷ [])))
+      then (Forbid (code CloseBrace ∷ [])
+        or Guard (Row (Statement Limited)) is_exp (code With ∷ []) then (Forbid (codes_of (Semicolon ∷ CloseBrace ∷ [])) or nothing)))
     then word With then Row (FieldValues Limited) then word CloseBrace
-rule Statements = Row (Statement Full) then (word Semicolon then Row Statements or nothing) or nothing
+rule BlockBody = Guard (Row (Statement Full)) is_exp (code With ∷ []) then Row BlockMore
+rule BlockMore = word With then Row (FieldValues Full) then word CloseBrace or word Semicolon then Row Statements or word CloseBrace
+rule Statements = word CloseBrace or Row (Statement Full) then Row StatementsMore
+rule StatementsMore = word Semicolon then Row Statements or word CloseBrace
 rule (Statement m) = Row (LetStatement m) or Row (VarStatement m) or Row (ExpInner m)
 rule (LetStatement m) = word Let then Row (Pattern Full) then word Equal then Row (Exp m) then (word In then Row (Exp m) or nothing)
 rule (VarStatement m) =
