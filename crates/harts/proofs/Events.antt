@@ -1,6 +1,6 @@
 -- The events of a schedule, one by one.
 use Rattle.std.proofs.Common.{◌≡◌, ℕ, suc, ◌+◌, ◌<◌, ◌≤◌, true, false, List, [], ◌∷◌, length, get_or, drop}
-use Rattle.std.proofs.Common.{refl, sym, ap, ◌∙◌, arith, add-one}
+use Rattle.std.proofs.Common.{refl, sym, ap, ◌∙◌, subst, arith, add-one}
 use Rattle.std.proofs.Math.ListN.{drop_of_length-le}
 use Rattle.std.proofs.Math.Seq.{drop-cons}
 use Rattle.sail_types.specs.declared.values.Value.{Value}
@@ -47,24 +47,6 @@ resting :
     → then_run (ended.Value v) after accesses rest ≡ ended_now cause.AllRest 1 after accesses
 resting accesses after rest v all = rw all refl
 
--- it doesn't stop, and not all harts rest
-pub event_goes_on :
-    {model : Meaning} {schedule : List ℕ} {first now : RunState} {count : ℕ} (hart : ℕ) (v : Value)
-    → RunSoFar model schedule first now count → count < length schedule → hart ≡ get_or schedule count 0
-    → (event model hart now).ended ≡ ended.Value v → all_rest (event model hart now).state ≡ false
-    → RunSoFar model schedule first (event model hart now).state (count + 1)
-event_goes_on {model} {schedule} {now} {count} hart v so_far there is same on =
-    let after = (event model hart now).state in
-    let accesses = (event model hart now).accesses in
-    let rest = run model (drop (count + 1) schedule) after in
-    let step : run model (drop count schedule) now ≡ one_step accesses rest =
-    next_event model schedule now count hart (ended.Value v) there is same ∙ going accesses after (run model (drop (count + 1) schedule)) v on in
-    record {
-      cause = sym (ap (λ r. r.cause) step) ∙ so_far.cause;
-      steps = omega (arith, ap (λ r. r.steps) step, so_far.steps);
-      state = sym (ap (λ r. r.state) step) ∙ so_far.state;
-    }
-
 ends_at :
     {model : Meaning} {schedule : List ℕ} {first now : RunState} {count : ℕ} (c : Cause) (more : ℕ) (after : RunState) (accesses : List Access)
     → RunSoFar model schedule first now count → run model (drop count schedule) now ≡ ended_now c more after accesses
@@ -75,30 +57,60 @@ ends_at {count} c more after accesses so_far same = record {
   there = sym (ap (λ r. r.state) same) ∙ so_far.state;
 }
 
--- it stops
-pub event_stops :
-    {model : Meaning} {schedule : List ℕ} {first now : RunState} {count : ℕ} (hart : ℕ) (c : Cause)
+-- an event ends so, in this state
+pub record Comes (model : Meaning) (hart : ℕ) (now : RunState) (e : Ended) (after : RunState) : Type 0 where
+  pub ending : (event model hart now).ended ≡ e
+  pub leads : (event model hart now).state ≡ after
+
+-- what an event comes to by a meaning that is the model's
+pub comes : (other model : Meaning) (hart : ℕ) (now : RunState) (e : Ended) (after : RunState)
+    → other ≡ model → e ≡ (event other hart now).ended → after ≡ (event other hart now).state → Comes model hart now e after
+comes other model hart now e after same ending leads =
+    subst (λ m. Comes m hart now e after) same (record { ending = sym ending; leads = sym leads })
+
+-- the event doesn't stop, and not all harts rest
+pub event_goes_on : {model : Meaning} {schedule : List ℕ} {first now : RunState} {count : ℕ} (hart : ℕ) (v : Value) (after : RunState)
     → RunSoFar model schedule first now count → count < length schedule → hart ≡ get_or schedule count 0
-    → (event model hart now).ended ≡ ended.Stop c
-    → EndsSo (run model schedule first) c (count + 0) (event model hart now).state
-event_stops {model} {schedule} {now} {count} hart c so_far there is same =
-    ends_at c 0 (event model hart now).state (event model hart now).accesses so_far
-    (next_event model schedule now count hart (ended.Stop c) there is same)
+    → Comes model hart now (ended.Value v) after → all_rest after ≡ false → RunSoFar model schedule first after (count + 1)
+event_goes_on {model} {schedule} {now} {count} hart v after so_far there is event_is on =
+    let accesses = (event model hart now).accesses in
+    let rest = run model (drop (count + 1) schedule) in
+    let step : run model (drop count schedule) now ≡ one_step accesses (rest after) =
+    next_event model schedule now count hart (ended.Value v) there is event_is.ending
+    ∙ ap (λ s. then_run (ended.Value v) s accesses rest) event_is.leads
+    ∙ going accesses after rest v on in
+    record {
+      cause = sym (ap (λ r. r.cause) step) ∙ so_far.cause;
+      steps = omega (arith, ap (λ r. r.steps) step, so_far.steps);
+      state = sym (ap (λ r. r.state) step) ∙ so_far.state;
+    }
+
+-- it stops
+pub event_stops : {model : Meaning} {schedule : List ℕ} {first now : RunState} {count : ℕ} (hart : ℕ) (c : Cause) (after : RunState)
+    → RunSoFar model schedule first now count → count < length schedule → hart ≡ get_or schedule count 0
+    → Comes model hart now (ended.Stop c) after → EndsSo (run model schedule first) c (count + 0) after
+event_stops {model} {schedule} {now} {count} hart c after so_far there is event_is =
+    let accesses = (event model hart now).accesses in
+    ends_at c 0 after accesses so_far
+    (next_event model schedule now count hart (ended.Stop c) there is event_is.ending
+    ∙ ap (λ s. ended_now c 0 s accesses) event_is.leads)
 
 -- it leaves all harts resting
-pub event_ends :
-    {model : Meaning} {schedule : List ℕ} {first now : RunState} {count : ℕ} (hart : ℕ) (v : Value)
+pub event_ends : {model : Meaning} {schedule : List ℕ} {first now : RunState} {count : ℕ} (hart : ℕ) (v : Value) (after : RunState)
     → RunSoFar model schedule first now count → count < length schedule → hart ≡ get_or schedule count 0
-    → (event model hart now).ended ≡ ended.Value v → all_rest (event model hart now).state ≡ true
-    → EndsSo (run model schedule first) cause.AllRest (count + 1) (event model hart now).state
-event_ends {model} {schedule} {now} {count} hart v so_far there is same all =
-    ends_at cause.AllRest 1 (event model hart now).state (event model hart now).accesses so_far
-    (next_event model schedule now count hart (ended.Value v) there is same
-    ∙ resting (event model hart now).accesses (event model hart now).state (run model (drop (count + 1) schedule)) v all)
+    → Comes model hart now (ended.Value v) after → all_rest after ≡ true
+    → EndsSo (run model schedule first) cause.AllRest (count + 1) after
+event_ends {model} {schedule} {now} {count} hart v after so_far there is event_is all =
+    let accesses = (event model hart now).accesses in
+    let rest = run model (drop (count + 1) schedule) in
+    ends_at cause.AllRest 1 after accesses so_far
+    (next_event model schedule now count hart (ended.Value v) there is event_is.ending
+    ∙ ap (λ s. then_run (ended.Value v) s accesses rest) event_is.leads
+    ∙ resting accesses after rest v all)
 
 -- it was the last
-pub events_done :
-    {model : Meaning} {schedule : List ℕ} {first now : RunState} {count : ℕ} → RunSoFar model schedule first now count
-    → length schedule ≤ count → EndsSo (run model schedule first) cause.StepsDone (count + 0) now
+pub events_done : {model : Meaning} {schedule : List ℕ} {first now : RunState} {count : ℕ}
+    → RunSoFar model schedule first now count → length schedule ≤ count
+    → EndsSo (run model schedule first) cause.StepsDone (count + 0) now
 events_done {model} {schedule} {now} so_far past =
     ends_at cause.StepsDone 0 now [] so_far (ap (λ hs. run model hs now) (drop_of_length-le schedule past))

@@ -1,8 +1,11 @@
 -- What every part of a run leaves as it is, over parts one after another.
-use Rattle.std.proofs.Common.{◌≡◌, ℕ, zero, suc, List, [], ◌∷◌, ◌++◌, length, ap, sym, refl, ◌∙◌, arith, append_assoc, append-nil}
+use Rattle.std.proofs.Common.{◌≡◌, ℕ, zero, suc, false, List, [], ◌∷◌, ◌++◌, length, ap, sym, refl, ◌∙◌, arith, append_assoc, append-nil}
+use Rattle.sail_types.specs.declared.values.Value.TheVariants as value
+use Rattle.model_state.specs.declared.cause.Ended.{Ended}
+use Rattle.model_state.specs.declared.cause.Ended.TheVariants as ended
 use Rattle.model_state.specs.declared.state.Hart.{Hart}
 use Rattle.model_state.specs.RunState.{RunState, changed}
-use Rattle.model_state.specs.Folds.{Keeps, resting, set_rests}
+use Rattle.model_state.specs.Folds.{Keeps, resting, set_rests, after_step}
 
 pub keeps_all : (state : RunState) → Keeps state state
 keeps_all state = record {
@@ -32,7 +35,7 @@ length-changed f zero (hart ∷ harts) = refl
 length-changed f (suc index) (hart ∷ harts) = grind (arith, length-changed f index harts)
 
 -- a hart rests
-pub keeps_rests : (hart : ℕ) (state : RunState) → Keeps state (set_rests hart state)
+keeps_rests : (hart : ℕ) (state : RunState) → Keeps state (set_rests hart state)
 keeps_rests hart state = record {
   types = refl;
   registers = refl;
@@ -42,3 +45,8 @@ keeps_rests hart state = record {
   more = [];
   console = sym (append-nil state.console);
 }
+
+-- a hart rests where its step gave `false`
+pub keeps_after : (hart : ℕ) (e : Ended) (state : RunState) → Keeps state (after_step hart e state)
+keeps_after hart (ended.Value (value.Truth false)) state = keeps_rests hart state
+keeps_after hart _ state = keeps_all state

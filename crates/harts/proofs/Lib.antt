@@ -2,3 +2,4 @@ pub mod Events
 pub mod Joined
 pub mod Keeping
 pub mod Resets
+pub mod Schedules

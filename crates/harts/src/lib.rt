@@ -1,7 +1,7 @@
 //! The harts of a run: its start and its events, for whatever takes a hart's steps.
 //!
-//! [`start`] and [`run`] are the folds of `model_state` over a [`Stepper`](model_state::Stepper)'s meaning,
-//! for every list of hart numbers. What is proved of these folds alone stands in `specs/laws`.
+//! [`start`], [`run`] and [`run_order`] are the folds of `model_state` over a [`Stepper`](model_state::Stepper)'s meaning,
+//! for every list of hart numbers and every order that is repeated. What is proved of these folds alone stands in `specs/laws`.
 #![tactic(auto)]
 
 mod laws;
@@ -9,5 +9,5 @@ mod running;
 mod starting;
 
 pub use laws::joined_schedules;
-pub use running::{Ending, run};
+pub use running::{Ending, run, run_order};
 pub use starting::start;

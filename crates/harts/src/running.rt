@@ -1,4 +1,5 @@
 ghost use Rattle.std.specs.Prelude.{◌≡◌, ◌<◌, ◌^◌, length, All, IfOk, OnOk};
+ghost use Rattle.harts.specs.Schedule.{schedule};
 ghost use Rattle.model_state.specs.Folds as folds;
 ghost use Rattle.model_state.specs.Folds.{Keeps, IsNotDone};
 
@@ -21,11 +22,7 @@ impl Drop for Ending {
     }
 }
 
-/// Runs the events of a schedule, a list of the numbers of harts that are there, in order: each is a whole
-/// step of its hart, or nothing where the hart rests. The run ends at the first stop inside an event, after
-/// an event that leaves all harts resting, or after the last one.
-///
-/// The one error is want of memory; the run is over then.
+/// Runs the events of a schedule, a list of the numbers of harts that are there, as [`run_order`] does.
 pub fn run<P: Stepper, M: Memory>(
     alloc: Global,
     stepper: &mut P,
@@ -41,23 +38,47 @@ pub fn run<P: Stepper, M: Memory>(
     ensures keeps { OnOk result (Keeps state.old state.new) }
     ensures same { P.meaning stepper.new ≡ P.meaning stepper.old }
 {
-    let mut steps = 0;
-    for hart in schedule {
-        let ended = event(alloc, stepper, state, *hart)?;
+    run_order(alloc, stepper, state, schedule, schedule.len() as u32)
+}
+
+/// Runs so many events of the harts of an order, a list of the numbers of harts that are there, which begins
+/// again as often as is needed. An event is a whole step of its hart, or nothing where the hart rests. The run
+/// ends at the first stop inside an event, after an event that leaves all harts resting, or after the last
+/// one. It takes no memory but the stepper's.
+///
+/// The one error is want of memory; the run is over then.
+pub fn run_order<P: Stepper, M: Memory>(
+    alloc: Global,
+    stepper: &mut P,
+    state: &mut State<M>,
+    order: &[u8],
+    events: u32,
+) -> Result<Ending, AllocError>
+    requires registers { state.old.registers ≡ (P.meaning stepper.old).registers }
+    requires there { All (λ hart. hart < length state.old.harts) order.now }
+    requires some { 0 < events → 0 < length order.now }
+    ensures cause { IfOk result (λ ending. ending.cause ≡ (folds.run (P.meaning stepper.old) (schedule order.now events) state.old).cause) }
+    ensures steps { IfOk result (λ ending. ending.steps ≡ (folds.run (P.meaning stepper.old) (schedule order.now events) state.old).steps) }
+    ensures state { OnOk result (state.new ≡ (folds.run (P.meaning stepper.old) (schedule order.now events) state.old).state) }
+    ensures keeps { OnOk result (Keeps state.old state.new) }
+    ensures same { P.meaning stepper.new ≡ P.meaning stepper.old }
+{
+    for steps in 0..events {
+        let hart = order[steps as usize % order.len()];
+        let ended = event(alloc, stepper, state, hart)?;
         if let Some(cause) = ended.into_stop() {
             return Ok(Ending { cause, steps });
         }
-        steps += 1;
         if state.all_rest() {
             return Ok(Ending {
                 cause: Cause::AllRest,
-                steps,
+                steps: steps + 1,
             });
         }
     }
     Ok(Ending {
         cause: Cause::StepsDone,
-        steps,
+        steps: events,
     })
 }
 
@@ -79,8 +100,16 @@ fn event<P: Stepper, M: Memory>(
         return Ok(Ended::Value(Value::Unit));
     }
     let ended = stepper.step(alloc, state, hart)?;
-    if let Ended::Value(Value::Truth(false)) = &ended {
+    rest_after(state, hart, &ended);
+    Ok(ended)
+}
+
+/// Lets a hart that is there rest where its step gave `false`.
+fn rest_after<M: Memory>(state: &mut State<M>, hart: u8, ended: &Ended)
+    requires { hart < length state.old.harts }
+    ensures { state.new ≡ folds.after_step hart ended.now state.old }
+{
+    if let Ended::Value(Value::Truth(false)) = ended {
         state.set_rests(hart);
     }
-    Ok(ended)
 }
