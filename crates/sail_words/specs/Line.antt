@@ -1,0 +1,69 @@
+-- What the words of a command line ask for.
+use Rattle.std.specs.Prelude.{ℕ, ◌+◌, ◌^◌, ◌<◌, ◌≤◌, ◌&&◌, nat_le, ◌==◌, All, List, length, codes, Option, Some, None}
+use Rattle.std.specs.Prelude.{if◌then◌else◌, option_and_then, option_map}
+use Rattle.std.specs.Option.{option_map_or}
+use Rattle.clap.specs.Words.{Row, fault_of, subcommand_of, first_of, all_of}
+use Rattle.sail_words.specs.declared.numbers.Numbers.{Numbers}
+use Rattle.sail_words.specs.declared.run.Run.{Run}
+use Rattle.sail_words.specs.Numbers.{number_in, order_in, all_harts}
+use Rattle.sail_words.specs.Program.{program}
+
+-- what is there, handed on
+abbrev ◌>>=◌ : {A B : Type 0} → Option A → (A → Option B) → Option B
+◌>>=◌ found next = option_and_then next found
+
+-- the number of an option, or the default where it isn't given
+abbrev pub number_of : List ℕ → ℕ → ℕ → ℕ → List Row → Option ℕ
+number_of name default least most rows = option_map_or (number_in least most) (first_of name rows) (Some default)
+
+-- the order of the harts, or from 0 on where none is given
+abbrev pub order_of : ℕ → List Row → Option (List ℕ)
+order_of harts rows = option_map_or (order_in harts) (first_of (codes "order") rows) (Some (all_harts harts))
+
+-- the numbers of the options
+abbrev pub numbers_of : List Row → Option Numbers
+numbers_of rows = do
+  steps ← number_of (codes "steps") 1000 0 4294967295 rows
+  harts ← number_of (codes "harts") 1 1 8 rows
+  ram_base ← number_of (codes "ram-base") 2147483648 0 18446744073709551615 rows
+  ram_size ← number_of (codes "ram-size") 1048576 1 67108864 rows
+  Some (record { steps = steps; harts = harts; ram_base = ram_base; ram_size = ram_size })
+
+-- a run with 1 to 64 models and a RAM that doesn't pass the address space
+abbrev pub within_limits : Run → Option Run
+within_limits run =
+    if nat_le 1 (length run.models) && (nat_le (length run.models) 64 && nat_le (run.ram_base + run.ram_size) (2 ^ 64))
+    then Some run
+    else None
+
+-- what `run` asks for, by the values that clap found for its options and models
+abbrev pub run_of : List Row → Option Run
+run_of rows = do
+  elf ← first_of (codes "elf") rows
+  models ← all_of (codes "model") rows
+  numbers ← numbers_of rows
+  order ← order_of numbers.harts rows
+  within_limits (record {
+    elf = elf;
+    models = models;
+    steps = numbers.steps;
+    harts = numbers.harts;
+    order = order;
+    ram_base = numbers.ram_base;
+    ram_size = numbers.ram_size;
+  })
+
+-- what every run that words ask for keeps to
+pub record IsWithinLimits (run : Run) : Type 0 where
+  pub models : (1 ≤ length run.models) × (length run.models ≤ 64)
+  pub harts : (1 ≤ run.harts) × (run.harts ≤ 8)
+  pub order : (0 < length run.order) × All (λ hart. hart < run.harts) run.order
+  pub size : (1 ≤ run.ram_size) × (run.ram_size ≤ 67108864)
+  pub space : run.ram_base + run.ram_size ≤ 2 ^ 64
+
+-- the words without the program's name: none where clap finds a fault, or a number or an order is none
+abbrev pub line_of : List (List ℕ) → Option Run
+line_of words =
+    if length (fault_of program words) == 0
+    then option_and_then (λ named. run_of named.1) (subcommand_of program words)
+    else None

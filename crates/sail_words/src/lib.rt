@@ -1,0 +1,17 @@
+//! The command line: what the words behind the program's name ask for.
+//!
+//! [`line`] reads them by `clap`. Its contract speaks of the definition in `specs/Line`, which stands on
+//! clap's own definition of a parse, of the command written out in `specs/Program`.
+#![tactic(auto)]
+
+mod numbers;
+mod order;
+mod program;
+mod reading;
+mod run;
+#[cfg(test)]
+mod tests;
+mod values;
+
+pub use reading::{LineError, line};
+pub use run::Run;

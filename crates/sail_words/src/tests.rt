@@ -1,0 +1,131 @@
+use crate::{LineError, Run, line};
+use std::alloc::{AllocError, Global};
+use std::test::Fail;
+
+/// What a run asks for, as text.
+fn told(alloc: Global, run: &Run) -> Result<String, AllocError> {
+    let mut models = String::new(alloc);
+    for model in run.models.as_slice() {
+        models.push_str(model.as_str())?;
+        models.push_str(" ")?;
+    }
+    format!(in alloc;
+        "{} {}{} {} {:?} {} {}",
+        run.elf.as_str(),
+        models,
+        run.steps,
+        run.harts,
+        run.order.as_slice(),
+        run.ram_base,
+        run.ram_size
+    )
+}
+
+/// The answer to words, as text.
+fn answer(alloc: Global, words: &[&str]) -> Result<String, AllocError> {
+    let mut list = Vec::new(alloc);
+    for word in words {
+        list.push(String::from_str(alloc, word)?)?;
+    }
+    match line(alloc, list.as_slice()) {
+        Ok(run) => told(alloc, &run),
+        Err(LineError::Usage) => String::from_str(alloc, "usage"),
+        Err(LineError::OutOfMemory) => Err(AllocError),
+    }
+}
+
+#[test]
+fn words_ask_for_runs(rt: HostRuntime) -> Result<(), Fail> {
+    let alloc = rt.alloc();
+    let rows: [(&[&str], &str); 36] = [
+        (
+            &["run", "--elf", "Q", "M"],
+            "Q M 1000 1 [0] 2147483648 1048576",
+        ),
+        (
+            &["run", "M", "--elf=Q", "N"],
+            "Q M N 1000 1 [0] 2147483648 1048576",
+        ),
+        (&["run", "--elf=", "M"], " M 1000 1 [0] 2147483648 1048576"),
+        (
+            &["run", "--elf", "-", "-"],
+            "- - 1000 1 [0] 2147483648 1048576",
+        ),
+        (
+            &["run", "--elf=-Q", "--", "-M", "--", "run"],
+            "-Q -M -- run 1000 1 [0] 2147483648 1048576",
+        ),
+        (
+            &["run", "--order=10", "--harts", "002", "--elf=Q", "help"],
+            "Q help 1000 2 [1, 0] 2147483648 1048576",
+        ),
+        (
+            &["run", "--harts", "8", "--elf=Q", "M"],
+            "Q M 1000 8 [0, 1, 2, 3, 4, 5, 6, 7] 2147483648 1048576",
+        ),
+        (
+            &["run", "--steps=4294967295", "--elf=Q", "M"],
+            "Q M 4294967295 1 [0] 2147483648 1048576",
+        ),
+        (
+            &["run", "--steps=0", "--elf=Q", "M", "--order", "000"],
+            "Q M 0 1 [0, 0, 0] 2147483648 1048576",
+        ),
+        (
+            &[
+                "run",
+                "--ram-base=18446744073709551615",
+                "--ram-size=1",
+                "--elf=Q",
+                "M",
+            ],
+            "Q M 1000 1 [0] 18446744073709551615 1",
+        ),
+        (
+            &["run", "--ram-base=0", "--ram-size=67108864", "--elf=Q", "M"],
+            "Q M 1000 1 [0] 0 67108864",
+        ),
+        (&[], "usage"),
+        (&["run"], "usage"),
+        (&["help"], "usage"),
+        (&["--help"], "usage"),
+        (&["check", "M"], "usage"),
+        (&["M", "run", "--elf=Q"], "usage"),
+        (&["--", "run", "--elf=Q", "M"], "usage"),
+        (&["run", "--elf=Q"], "usage"),
+        (&["run", "M"], "usage"),
+        (&["run", "--elf=Q", "--elf=Q", "M"], "usage"),
+        (&["run", "--elf", "-Q", "M"], "usage"),
+        (&["run", "--elf", "--", "Q", "M"], "usage"),
+        (&["run", "--elf=Q", "-M"], "usage"),
+        (&["run", "--elf=Q", "--step", "1", "M"], "usage"),
+        (&["run", "--elf=Q", "--steps=+5", "M"], "usage"),
+        (&["run", "--elf=Q", "--steps=", "M"], "usage"),
+        (&["run", "--elf=Q", "--steps=4294967296", "M"], "usage"),
+        (&["run", "--elf=Q", "--harts=0", "M"], "usage"),
+        (&["run", "--elf=Q", "--harts=9", "M"], "usage"),
+        (&["run", "--elf=Q", "--order=", "M"], "usage"),
+        (&["run", "--elf=Q", "--harts=2", "--order=02", "M"], "usage"),
+        (&["run", "--elf=Q", "--ram-size=0", "M"], "usage"),
+        (&["run", "--elf=Q", "--ram-size=67108865", "M"], "usage"),
+        (
+            &["run", "--elf=Q", "--ram-base=18446744073708503041", "M"],
+            "usage",
+        ),
+        (
+            &["run", "--elf=Q", "--ram-base=18446744073709551616", "M"],
+            "usage",
+        ),
+    ];
+    for (words, want) in rows {
+        assert_eq!(rt; answer(alloc, words)?.as_str(), want, "{words:?}");
+    }
+    let mut words = vec![in alloc; "run", "--elf=Q"]?;
+    for _ in 0..64 {
+        words.push("M")?;
+    }
+    assert!(rt; answer(alloc, words.as_slice())?.len() > 128);
+    words.push("M")?;
+    assert_eq!(rt; answer(alloc, words.as_slice())?.as_str(), "usage");
+    Ok(())
+}
