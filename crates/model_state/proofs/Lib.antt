@@ -1,3 +1,6 @@
 -- lemmas of the proofs
 pub mod Harts
 pub mod Reported
+pub mod Calling
+pub mod Kept
+pub mod Bytes

@@ -1,6 +1,6 @@
 -- what contracts say of a state, of the builtins that read or write it, and of runs
-pub mod Accesses
 pub mod Folds
+pub mod laws
 pub mod Report
 pub mod RunState
 pub mod StateRows

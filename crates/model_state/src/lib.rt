@@ -6,9 +6,11 @@
 #![tactic(auto)]
 
 mod cause;
+mod laws;
 mod state;
 mod stepper;
 
 pub use cause::{Cause, Ended, RowError};
+pub use laws::{reads_hold, reservations_hold};
 pub use state::{Hart, Register, Reservation, Start, State, report};
 pub use stepper::Stepper;
