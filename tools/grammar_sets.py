@@ -263,8 +263,9 @@ def main():
              "-- what may begin each row, whether it may be empty, and what may follow it", "abbrev pub sets : RowName → Sets"]
     for name in set_names:
         head = f"({name})" if " " in name else f"({name} m)" if name in moded else name
-        lines += [f"sets {head} = record {{", f"  first = {listed(sets.first[name])};", f"  nullable = {str(sets.nullable[name]).lower()};",
-                  f"  follow = {listed(sets.follow[name])};", "}"]
+        fields = [f"first = {listed(sets.first[name])}", f"nullable = {str(sets.nullable[name]).lower()}", f"follow = {listed(sets.follow[name])}"]
+        line = f"sets {head} = record {{ {'; '.join(' '.join(field.split()) for field in fields)} }}"
+        lines += [line] if len(line) <= 150 else [f"sets {head} = record {{"] + [f"  {field};" for field in fields] + ["}"]
     lines += ["", "-- the grammar of models", "abbrev pub grammar : Grammar", "grammar = record { rule = rule; sets = sets }"]
     open(os.path.join(CRATE, "specs/Sets.antt"), "w").write("\n".join(lines) + "\n")
     print(len(names), "rows,", len(rules), "rules")

@@ -220,8 +220,8 @@ rule (ExpsTail m) = word Comma then Row (Exp m) then Row (ExpsTail m) or nothing
 rule (Block Full) = word OpenBrace then (word CloseBrace or Row BlockBody)
 rule (Block Limited) =
     Hold (word OpenBrace
-      then (Forbid (code CloseBrace ∷ [])
-        or Guard (Row (Statement Limited)) is_exp (code With ∷ []) then (Forbid (codes_of (Semicolon ∷ CloseBrace ∷ [])) or nothing)))
+    then (Forbid (code CloseBrace ∷ [])
+    or Guard (Row (Statement Limited)) is_exp (code With ∷ []) then (Forbid (codes_of (Semicolon ∷ CloseBrace ∷ [])) or nothing)))
     then word With then Row (FieldValues Limited) then word CloseBrace
 rule BlockBody = Guard (Row (Statement Full)) is_exp (code With ∷ []) then Row BlockMore
 rule BlockMore = word With then Row (FieldValues Full) then word CloseBrace or word Semicolon then Row Statements or word CloseBrace
