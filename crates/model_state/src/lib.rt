@@ -9,6 +9,8 @@ mod cause;
 mod laws;
 mod state;
 mod stepper;
+#[cfg(test)]
+mod tests;
 
 pub use cause::{Cause, Ended, RowError};
 pub use laws::{reads_hold, reservations_hold};
