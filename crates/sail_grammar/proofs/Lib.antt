@@ -13,3 +13,4 @@ pub mod Words
 pub mod Steps
 pub mod FilesJoined
 pub mod FirstToken
+pub mod Ascii

@@ -1,5 +1,5 @@
 -- What single tokens stand for, and where trees begin.
-use Rattle.std.specs.Prelude.{ℕ, ℤ, pos, ◌-◌, ◌^◌, Bool, true, false, nat_lt, if◌then◌else◌, List, [], ◌∷◌, length, take, drop, Option, Some, None}
+use Rattle.std.specs.Prelude.{ℕ, ℤ, pos, ◌-◌, ◌^◌, ◌&&◌, Bool, true, false, nat_lt, if◌then◌else◌, List, [], ◌∷◌, length, take, drop, Option, Some, None}
 use Rattle.sail_base.specs.declared.place.Place.{Place}
 use Rattle.sail_base.specs.Bits.{bits_of}
 use Rattle.sail_lex.specs.declared.kind.TokenKind.{TokenKind}
@@ -68,11 +68,20 @@ number_at t = number_of (text_at t)
 abbrev pub bits_at : List ℕ → List Bool
 bits_at text = if nat_lt (length text) 2 then [] else (if nat_lt 128 (literal_width text) then [] else bits_of (literal_width text) (literal_bits text))
 
+-- all bytes are ASCII
+abbrev pub all_ascii : List ℕ → Bool
+all_ascii [] = true
+all_ascii (b ∷ bs) = nat_lt b 128 && all_ascii bs
+
+-- what a string stands for; no token is one without its quote, or with other bytes
+abbrev pub text_value : List ℕ → List ℕ
+text_value text = if nat_lt (length text) 1 then [] else (if all_ascii (string_value text) then string_value text else [])
+
 -- what a literal of this kind and text stands for
 abbrev pub literal_of : TokenKind → List ℕ → Literal
 literal_of K.Hexadecimal text = L.Bits (bits_at text)
 literal_of K.Binary text = L.Bits (bits_at text)
-literal_of K.StringLiteral text = L.String (string_value text)
+literal_of K.StringLiteral text = L.String (text_value text)
 literal_of K.True text = L.Bool true
 literal_of K.False text = L.Bool false
 literal_of K.Bitone text = L.Bit true

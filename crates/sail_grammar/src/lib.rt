@@ -5,6 +5,7 @@ mod error;
 mod joining;
 mod laws;
 mod lexeme;
+mod literals;
 mod mode;
 mod value;
 mod word;
@@ -13,6 +14,7 @@ pub use error::{ParseError, Read, ReadError};
 pub use joining::join;
 pub use laws::one_answer;
 pub use lexeme::Lexeme;
+pub use literals::literal;
 pub use mode::Mode;
 pub use value::{name, number, place};
 pub use word::{
