@@ -1,5 +1,29 @@
 -- Going back over the variables.
-use Rattle.std.proofs.Common.{◌≡◌, ℕ, ◌+◌, ◌<◌, ◌≤◌, Option, Some, None, List, [], ◌∷◌, ◌++◌, length, get_or, take, drop, reverse, sym, ap, ◌∙◌, refl, arith, ℤ}
+use Rattle.std.proofs.Common.{
+  ◌≡◌,
+  ℕ,
+  ◌+◌,
+  ◌<◌,
+  ◌≤◌,
+  Option,
+  Some,
+  None,
+  List,
+  [],
+  ◌∷◌,
+  ◌++◌,
+  length,
+  get_or,
+  take,
+  drop,
+  reverse,
+  sym,
+  ap,
+  ◌∙◌,
+  refl,
+  arith,
+  ℤ,
+}
 use Rattle.std.proofs.lemmas.List.{take_more, drop_all, reverse-append, length-reverse, length-take-le}
 use Rattle.farkas.specs.declared.elimination.Held.{Held}
 use Rattle.farkas.specs.declared.points.Point.{Point}

@@ -82,7 +82,8 @@ next_keeps : (marks : List Bool) (step : Step) (flag : Bool) (q : ℕ) → Marke
 next_keeps marks step true q h = set_keeps (set marks step.first true) step.second q (set_keeps marks step.first q h)
 next_keeps marks step false q h = h
 
-next_length : (marks : List Bool) (step : Step) (flag : Bool) → length (if flag then set (set marks step.first true) step.second true else marks) ≡ length marks
+next_length : (marks : List Bool) (step : Step) (flag : Bool) →
+    length (if flag then set (set marks step.first true) step.second true else marks) ≡ length marks
 next_length marks step true = length-set (set marks step.first true) step.second true ∙ length-set marks step.first true
 next_length marks step false = refl
 
@@ -343,7 +344,8 @@ up_to_at zero (suc i) h = absurd (omega arith)
 up_to_at (suc n) i h =
     elim (cases_eq i (suc n)) [
       | inl e ↦ get_or_at (up_to n) (suc n) [] 0 i (up_to_length n ∙ sym e) ∙ sym e
-      | inr ne ↦ get_or_append_left (up_to n) (suc n ∷ []) 0 i (let l : i < length (up_to n) = omega (arith, up_to_length n) in l) ∙ up_to_at n i (omega arith)
+      | inr ne ↦ get_or_append_left (up_to n) (suc n ∷ []) 0 i (let l : i < length (up_to n) = omega (arith, up_to_length n) in l) ∙
+          up_to_at n i (omega arith)
     ]
 
 last_is_marked : (count : ℕ) (steps : List Step) → Marked (last_marked count steps) (count + length steps)

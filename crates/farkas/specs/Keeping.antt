@@ -15,7 +15,8 @@ most_rows = 4096
 -- what becomes of a row that names a variable beside kept rows, the first of which is at place i
 abbrev pub against : Row → ℕ → List Row → Fate
 against row i [] = Joins
-against row i (k ∷ ks) = if are_same k.coefficients row.coefficients then (if int_lt row.bound k.bound then Replaces i else Drops) else against row (suc i) ks
+against row i (k ∷ ks) = if are_same k.coefficients row.coefficients then (if int_lt row.bound k.bound then Replaces i else Drops) else against row
+    (suc i) ks
 
 -- what becomes of a row beside the kept ones
 abbrev pub fate : List Row → Row → Fate

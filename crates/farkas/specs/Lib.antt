@@ -4,6 +4,7 @@ pub mod Pruning
 pub mod Points
 pub mod Ends
 pub mod Verdicts
+pub mod Problems
 pub mod Validity
 pub mod Events
 pub mod laws

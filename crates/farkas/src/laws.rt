@@ -1,11 +1,22 @@
 //! What a certificate is worth.
 ghost use Rattle.std.specs.Prelude.{ℕ, ℤ, List};
+ghost use Rattle.linear.specs.declared.problem.Problem.{Problem};
 ghost use Rattle.linear.specs.declared.row.Row.{Row};
+ghost use Rattle.linear.specs.laws.Alternatives.{SomeTrue};
+ghost use Rattle.linear.specs.laws.Entailment.{IsImplied};
 ghost use Rattle.farkas.specs.declared.certificate.Case.{Case};
+ghost use Rattle.farkas.specs.declared.certificate.Cert.{Cert};
+ghost use Rattle.farkas.specs.Problems.{IsValid};
 ghost use Rattle.farkas.specs.Validity.{AreValid};
-ghost use Rattle.farkas.specs.laws.Soundness.{SomeCaseTrue};
+
+/// A law: where a problem has a valid certificate, each assignment that makes its facts true makes its goal true. An assignment
+/// gives each variable an integer, a Bool variable one that is 1 or more where it is true, and each power of two its power or, where
+/// its exponent isn't from 0 to 126, any integer from 1 to 2^126.
+pub fn a_valid_certificate_proves()
+    ensures { (problem : Problem) (certificate : Cert) → IsValid problem certificate → IsImplied problem }
+{}
 
 /// A law: where cases have a valid certificate, no integers for the variables make all rows of any of them true.
 pub fn a_valid_certificate_refutes()
-    ensures { (value : ℕ → ℤ) (cases : List (List Row)) (certificates : List Case) → AreValid cases certificates → SomeCaseTrue value cases → ⊥ }
+    ensures { (value : ℕ → ℤ) (cases : List (List Row)) (certificates : List Case) → AreValid cases certificates → SomeTrue value cases → ⊥ }
 {}

@@ -7,13 +7,15 @@ mod elimination;
 mod keeping;
 mod laws;
 mod points;
+mod problems;
 mod pruning;
 mod refuting;
 mod verdict;
 
 pub use certificate::{Case, Cert, Step};
-pub use laws::a_valid_certificate_refutes;
+pub use laws::{a_valid_certificate_proves, a_valid_certificate_refutes};
 pub use points::Point;
+pub use problems::{check_cert, discharge};
 pub use verdict::{FarkasError, Verdict, check_cases, eliminate_cases};
 
 #[cfg(test)]

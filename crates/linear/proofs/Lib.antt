@@ -1,3 +1,4 @@
 pub mod Divisors
 pub mod Additions
 pub mod Same
+pub mod Counts

@@ -39,12 +39,14 @@ module _ (xs ys : List ℤ) (i : ℕ) (a b : ℤ) (t : Bool) (first : a ≡ get_
   here = same_from xs ys i ∙ (λ j. sym (test ∙ (λ k. is_zero (first k -ℤ second k))) j && are_same (drop (suc i) xs) (drop (suc i) ys))
 
   pub same_more : t ≡ true → are_same (drop (i + 1) xs) (drop (i + 1) ys) ≡ are_same xs ys
-  same_more h = ap (λ k. are_same (drop k xs) (drop k ys)) (add-one i) ∙ (sym (here ∙ ap (λ b. b && are_same (drop (suc i) xs) (drop (suc i) ys)) h) ∙ so_far)
+  same_more h = ap (λ k. are_same (drop k xs) (drop k ys)) (add-one i) ∙ (sym (here ∙
+      ap (λ b. b && are_same (drop (suc i) xs) (drop (suc i) ys)) h) ∙ so_far)
 
   pub same_refused : t ≡ false → false ≡ are_same xs ys
   same_refused h = sym (here ∙ ap (λ b. b && are_same (drop (suc i) xs) (drop (suc i) ys)) h) ∙ so_far
 
-pub same_end : (xs ys : List ℤ) (i n : ℕ) → n ≡ max (length xs) (length ys) → n ≤ i → are_same (drop i xs) (drop i ys) ≡ are_same xs ys → true ≡ are_same xs ys
+pub same_end : (xs ys : List ℤ) (i n : ℕ) → n ≡ max (length xs) (length ys) → n ≤ i → are_same (drop i xs) (drop i ys) ≡ are_same xs ys →
+    true ≡ are_same xs ys
 same_end xs ys i n count past e =
     let p : length xs ≤ i = omega arith in
     let q : length ys ≤ i = omega arith in

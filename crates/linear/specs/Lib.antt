@@ -1,3 +1,5 @@
 pub mod Numbers
 pub mod Rows
+pub mod Choices
+pub mod Cases
 pub mod laws

@@ -74,7 +74,7 @@ fn scaled(
 }
 
 /// The sums of two lists of numbers, number by number, where each is within the limit; a number that is missing at the end is 0.
-fn added(
+pub fn added(
     alloc: Global,
     first: &[Number],
     second: &[Number],

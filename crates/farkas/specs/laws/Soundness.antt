@@ -8,6 +8,7 @@ use Rattle.std.proofs.lemmas.Bool.{and_parts, false≢true}
 use Rattle.linear.specs.declared.row.Row.{Row}
 use Rattle.linear.specs.Rows.{IsTrueOf, quotient_row, is_constant, reduced}
 use Rattle.linear.specs.laws.Totals.{combination_true, quotient_true, never_true, reduced_true}
+use Rattle.linear.specs.laws.Alternatives.{AllTrue, SomeTrue}
 use Rattle.farkas.specs.declared.certificate.Step.{Step}
 use Rattle.farkas.specs.declared.certificate.Case.{Case}
 use Rattle.farkas.specs.declared.keeping.Starts.{Starts}
@@ -17,16 +18,6 @@ use Rattle.farkas.specs.declared.keeping.Fate.TheVariants.{Closes, Drops, Replac
 use Rattle.farkas.specs.Keeping.{starts, started, settled, fate, most_rows}
 use Rattle.farkas.specs.Validity.{row_at, made_by, made_of, then_do, replayed, is_exact, sum_by, closing}
 use Rattle.farkas.specs.Validity.{ends_closing, closes, starting_rows, IsValidCase, AreValid}
-
--- all rows of a list are true
-abbrev pub AllTrue : (ℕ → ℤ) → List Row → Type 0
-AllTrue value [] = Unit {0}
-AllTrue value (row ∷ rows) = IsTrueOf value row × AllTrue value rows
-
--- all rows of some case are true
-abbrev pub SomeCaseTrue : (ℕ → ℤ) → List (List Row) → Type 0
-SomeCaseTrue value [] = ⊥
-SomeCaseTrue value (case ∷ cases) = AllTrue value case ⊎ SomeCaseTrue value cases
 
 module _ (value : ℕ → ℤ) where
   -- a row that is there is one of them
@@ -145,7 +136,7 @@ module _ (value : ℕ → ℤ) where
       (replay_true case.starts case.steps (standing_rows (starts rows) case.starts valid.0 (starts_true rows (Kept []) tt h)))
       valid.1
 
-  pub cases_refuted : (cases : List (List Row)) (certificates : List Case) → AreValid cases certificates → SomeCaseTrue value cases → ⊥
+  pub cases_refuted : (cases : List (List Row)) (certificates : List Case) → AreValid cases certificates → SomeTrue value cases → ⊥
   cases_refuted [] certificates valid h = h
   cases_refuted (case ∷ cases) [] valid h = elim valid [ ]
   cases_refuted (case ∷ cases) (certificate ∷ certificates) valid (inl h) = case_refuted case certificate valid.0 h

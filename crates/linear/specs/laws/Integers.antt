@@ -42,7 +42,8 @@ minus : (a b : ℤ) → a -ℤ b ≡ a +ℤ neg_ℤ b
 minus a b = omega (arith, ints)
 
 pub difference_times : (a b m : ℤ) → (a -ℤ b) *ℤ m ≡ (a *ℤ m) -ℤ (b *ℤ m)
-difference_times a b m = ap (λ z. z *ℤ m) (minus a b) ∙ (sum_times a (neg_ℤ b) m ∙ (ap (λ z. (a *ℤ m) +ℤ z) (neg_times b m) ∙ sym (minus (a *ℤ m) (b *ℤ m))))
+difference_times a b m = ap (λ z. z *ℤ m) (minus a b) ∙ (sum_times a (neg_ℤ b) m ∙ (ap (λ z. (a *ℤ m) +ℤ z) (neg_times b m) ∙
+    sym (minus (a *ℤ m) (b *ℤ m))))
 
 pub times_assoc : (m a b : ℤ) → (m *ℤ a) *ℤ b ≡ m *ℤ (a *ℤ b)
 times_assoc m a b =
