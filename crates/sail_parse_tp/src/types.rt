@@ -1,13 +1,18 @@
 ghost use Rattle.std.specs.Prelude.{◌≡◌, [], ◌∷◌, ◌++◌, ◌<◌, ◌≤◌, length, IfOk, IfErr, OnOk};
 ghost use Rattle.sail_lex.specs.declared.kind.TokenKind.TheVariants as K;
 ghost use Rattle.sail_grammar.specs.declared.mode.Mode.TheVariants.{Full};
-ghost use Rattle.sail_grammar.specs.RowName.{Typ, TypeAnd, TypeComparison, TypeSet, NumbersTail, TypeSum, TypeSumMore, TypeProduct, TypeProductMore, TypeAtom, TypeNamed, TypePower, TypeNegation, TypeNot, TypeGroup, TypeExists, TypeVariables, Types, TypesTail};
+ghost use Rattle.sail_grammar.specs.RowName.{Typ, TypeAnd, TypeComparison, TypeSet, NumbersTail, TypeSum, TypeSumMore, TypeProduct};
+ghost use Rattle.sail_grammar.specs.RowName.{TypeProductMore, TypeAtom, TypeNamed, TypePower, TypeNegation, TypeNot, TypeGroup, TypeExists};
+ghost use Rattle.sail_grammar.specs.RowName.{TypeVariables, Types, TypesTail};
 ghost use Rattle.sail_grammar.specs.Form.{Row, ◌or◌, ◌then◌};
 ghost use Rattle.sail_grammar.specs.Table.{nothing, word, words};
 ghost use Rattle.sail_syntax.specs.declared.types.TyExp.TheVariants as V;
 ghost use Rattle.sail_grammar.specs.Leaves.{number_of};
 ghost use Rattle.sail_grammar.specs.Parsing.{Reading, StopsAt};
-ghost use Rattle.sail_grammar.specs.TypeTrees.{typ_of, type_and_of, type_operator, type_comparison_of, in_set_of, in_some_set_of, type_sum_of, type_sum_more_of, type_product_of, type_product_more_of, type_atom_of, type_named_of, type_power_of, type_negation_of, type_not_of, type_group_of, type_exists_of, type_variable_of, type_decimal_of, type_truth_of, type_constraint_of, grouped_type, types_of};
+ghost use Rattle.sail_grammar.specs.TypeTrees.{typ_of, type_and_of, type_operator, type_comparison_of, in_set_of, in_some_set_of, type_sum_of};
+ghost use Rattle.sail_grammar.specs.TypeTrees.{type_sum_more_of, type_product_of, type_product_more_of, type_atom_of, type_named_of, type_power_of};
+ghost use Rattle.sail_grammar.specs.TypeTrees.{type_negation_of, type_not_of, type_group_of, type_exists_of, type_variable_of, type_decimal_of};
+ghost use Rattle.sail_grammar.specs.TypeTrees.{type_truth_of, type_constraint_of, grouped_type, types_of};
 ghost use Rattle.sail_parse_tp.specs.Behind.{numbers_behind, variables_behind, types_behind};
 
 use sail_base::{Boxed, Items, Place};

@@ -7,7 +7,10 @@ use Rattle.sail_parse_tp.proofs.types.+types.Given as goal
 
 -- what is read from here on is read from the start on
 abbrev pub invariant-types_tail-types : goal.invariant-types_tail-types
-invariant-types_tail-types l = record { onward : Onward (Row TypesTail) types_behind l.tokens l.fn.list l.rest l.list; fewer : length l.rest ≤ length l.tokens }
+invariant-types_tail-types l = record {
+  onward : Onward (Row TypesTail) types_behind l.tokens l.fn.list l.rest l.list;
+  fewer : length l.rest ≤ length l.tokens;
+}
 
 abbrev pub decreases-types_tail-types : goal.decreases-types_tail-types
 decreases-types_tail-types l = length l.rest

@@ -9,7 +9,8 @@ returns-in_err-word-clause-stop c = exit_stop _ c.from_residual.ensures.1 (stops
 
 pub returns-in_err-after_bracket-clause-stop : goal.returns-in_err-after_bracket-clause-stop
 returns-in_err-after_bracket-clause-stop c =
-    exit_stop _ c.from_residual-in_err-after_bracket.ensures.1 (stops_row (stops_next c.in_ok-word.ensures.read (stops_first c.in_err-after_bracket.ensures.stop)))
+    exit_stop _ c.from_residual-in_err-after_bracket.ensures.1 (stops_row (stops_next c.in_ok-word.ensures.read (stops_first
+    c.in_err-after_bracket.ensures.stop)))
 
 pub returns-in_err-first-clause-stop : goal.returns-in_err-first-clause-stop
 returns-in_err-first-clause-stop c =

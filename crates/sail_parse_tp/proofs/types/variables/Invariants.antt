@@ -7,7 +7,10 @@ use Rattle.sail_parse_tp.proofs.types.variables.Given as goal
 
 -- what is read from here on is read from the start on
 abbrev pub invariant-variables : goal.invariant-variables
-invariant-variables l = record { onward : Onward (Row TypeVariables) variables_behind l.tokens l.fn.list l.rest l.list; fewer : length l.rest ≤ length l.tokens }
+invariant-variables l = record {
+  onward : Onward (Row TypeVariables) variables_behind l.tokens l.fn.list l.rest l.list;
+  fewer : length l.rest ≤ length l.tokens;
+}
 
 abbrev pub decreases-variables : goal.decreases-variables
 decreases-variables l = length l.rest
