@@ -45,4 +45,4 @@ bits_short text h = no_bits ∙ sym (ap (λ b. cond b [] (cond (nat_lt 128 (lite
 pub bits_wide : (text : List ℕ) → 2 ≤ length text → 128 < literal_width text → bits_of 0 0 ≡ bits_at text
 bits_wide text l h =
     no_bits ∙ sym (ap (λ b. cond b [] (cond (nat_lt 128 (literal_width text)) [] (bits_of (literal_width text) (literal_bits text)))) (not_less (length text) 2 l)
-        ∙ ap (λ b. cond b [] (bits_of (literal_width text) (literal_bits text))) (lt-ltb 128 (literal_width text) h))
+    ∙ ap (λ b. cond b [] (bits_of (literal_width text) (literal_bits text))) (lt-ltb 128 (literal_width text) h))
