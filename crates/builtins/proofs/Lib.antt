@@ -1,0 +1,4 @@
+pub mod Ascii
+pub mod Counts
+pub mod Past
+pub mod Wide

@@ -1,0 +1,14 @@
+//! What the builtins without state compute.
+#![tactic(auto)]
+
+mod integers;
+mod made;
+mod mixed;
+mod row;
+mod texts;
+mod words;
+
+pub use row::{apply, row_value};
+
+#[cfg(test)]
+mod tests;
