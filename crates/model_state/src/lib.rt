@@ -9,8 +9,6 @@ mod cause;
 mod laws;
 mod state;
 mod stepper;
-#[cfg(test)]
-mod tests;
 
 pub use cause::{Cause, Ended, RowError};
 pub use laws::{reads_hold, reservations_hold};
