@@ -1,3 +1,4 @@
 pub mod Choices
+pub mod PatternRows
 pub mod SetRows
 pub mod TypeRows
