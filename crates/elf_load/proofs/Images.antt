@@ -19,7 +19,9 @@ pub image_fits : (file : List ℕ) → SegmentsWithin file (e_phnum file) → Fi
 image_fits file h = all_held (segment_at file) (is_load file) 0 (e_phnum file) (λ i b l. held file i (h i (omega arith) (loaded file i l)).1)
 
 -- the table of headers is refused where the tests before pass
-pub table_refused : (file : List ℕ) (wanted : Option ℤ) (refusal : ElfRefusal) → first_failed (identity_tests file) ≡ None → first_failed (machine_tests file wanted) ≡ None → first_failed (table_tests file) ≡ Some refusal → elf_refusal file wanted ≡ Some refusal
+pub table_refused : (file : List ℕ) (wanted : Option ℤ) (refusal : ElfRefusal) → first_failed (identity_tests file) ≡
+    None → first_failed (machine_tests file wanted) ≡ None → first_failed (table_tests file) ≡ Some refusal →
+    elf_refusal file wanted ≡ Some refusal
 table_refused file wanted refusal h k f =
     let programs = flat_map (program_tests file) (indices file) in
     passed_two (identity_tests file) (machine_tests file wanted) (table_tests file) programs h k ∙ first_failed-failed (table_tests file) programs refusal f

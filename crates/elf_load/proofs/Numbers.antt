@@ -10,7 +10,8 @@ little_from-whole [] = refl
 little_from-whole (byte ∷ bytes) = ap (λ n. byte + 256 * n) (little_from-cons 0 (length bytes) byte bytes ∙ little_from-whole bytes)
 
 -- the number that is read is that of the field
-pub field_number : (file : List ℕ) (at width n : ℕ) → at + width ≤ length file → n ≡ little_from 0 width (take (length file - at) (drop at file)) → n ≡ number_at file at width
+pub field_number : (file : List ℕ) (at width n : ℕ) → at + width ≤ length file → n ≡ little_from 0 width
+    (take (length file - at) (drop at file)) → n ≡ number_at file at width
 unfolding number_at
 field_number file at width n h e =
     let k : length (take width (drop at file)) ≡ width = omega (arith, length-take width (drop at file), length-drop at file) in

@@ -7,10 +7,13 @@ use Rattle.mem_store.specs.laws.Overwritten.{length-overwritten, overwritten-mor
 
 -- the byte of a word of one
 one_byte : (byte : ℕ) → byte < 256 → word_bytes 1 (bits_of 8 byte) ≡ byte ∷ []
-one_byte byte h = ap (λ bits. value_of bits ∷ []) (take_all 8 (bits_of 8 byte) (omega (arith, length-bits_of 8 byte))) ∙ ap (λ b. b ∷ []) (value_of-bits_of_fits 8 byte h)
+one_byte byte h = ap (λ bits. value_of bits ∷ []) (take_all 8 (bits_of 8 byte) (omega (arith, length-bits_of 8 byte)))
+    ∙ ap (λ b. b ∷ []) (value_of-bits_of_fits 8 byte h)
 
 -- one more byte behind others
-pub put_more : (old now new word : List ℕ) (start at n byte : ℕ) (bytes : List ℕ) → start ≤ length old → byte < 256 → now ≡ overwritten old start bytes → n ≡ length bytes → at ≡ start + n → word ≡ word_bytes 1 (bits_of 8 byte) → new ≡ overwritten now at word → new ≡ overwritten old start (bytes ++ byte ∷ [])
+pub put_more : (old now new word : List ℕ) (start at n byte : ℕ) (bytes : List ℕ) → start ≤ length old → byte < 256 →
+    now ≡ overwritten old start bytes → n ≡ length bytes → at ≡ start + n → word ≡ word_bytes 1 (bits_of 8 byte) → new
+    ≡ overwritten now at word → new ≡ overwritten old start (bytes ++ byte ∷ [])
 put_more old now new word start at n byte bytes h b e k a w f =
     f ∙ (λ i. overwritten (e i) ((a ∙ ap (λ m. start + m) k) i) ((w ∙ one_byte byte b) i)) ∙ overwritten-more old start bytes (byte ∷ []) h
 
@@ -23,6 +26,8 @@ pub put_keeps : (now new word : List ℕ) (at n : ℕ) → new ≡ overwritten n
 put_keeps now new word at n e k h = ap length e ∙ length-overwritten now at word (omega arith)
 
 -- the bytes of a segment and the zeros behind them are one write
-pub put_segment : (old now new bytes : List ℕ) (start from at size : ℕ) → start ≤ length old → now ≡ overwritten old start bytes → from ≡ length bytes → at ≡ start → new ≡ overwritten now (at + from) (replicate (size - from) 0) → new ≡ overwritten old start (bytes ++ replicate (size - length bytes) 0)
+pub put_segment : (old now new bytes : List ℕ) (start from at size : ℕ) → start ≤ length old → now ≡ overwritten old
+    start bytes → from ≡ length bytes → at ≡ start → new ≡ overwritten now (at + from) (replicate (size - from) 0) →
+    new ≡ overwritten old start (bytes ++ replicate (size - length bytes) 0)
 put_segment old now new bytes start from at size h e k a f =
     f ∙ (λ i. overwritten (e i) (a i + k i) (replicate (size - k i) 0)) ∙ overwritten-more old start bytes (replicate (size - length bytes) 0) h

@@ -1,12 +1,14 @@
 -- What a file is read as: its image, or the first of the tests, in their order, that it fails.
-use Rattle.std.specs.Prelude.{ℕ, ◌+◌, ◌*◌, Bool, not, ◌&&◌, ◌||◌, ◌==◌, nat_eq, nat_lt, if◌then◌else◌, List, [], ◌∷◌, ◌++◌, length, take, drop, map, filter, Option, Some, None, ℤ, pos}
+use Rattle.std.specs.Prelude.{ℕ, ◌+◌, ◌*◌, Bool, not, ◌&&◌, ◌||◌, ◌==◌, nat_eq, nat_lt, if◌then◌else◌, List, [], ◌∷◌}
+use Rattle.std.specs.Prelude.{◌++◌, length, take, drop, map, filter, Option, Some, None, ℤ, pos}
 use Rattle.std.specs.Ordering.{int_eq}
 use Rattle.std.specs.List.{starts_with, flat_map, range_with_len}
 use Rattle.sail_base.specs.declared.elf_refusal.ElfRefusal.{ElfRefusal}
 use Rattle.sail_base.specs.declared.elf_refusal.ElfRefusal.TheVariants as refusal
 use Rattle.elf_load.specs.declared.image.Image.{Image}
 use Rattle.elf_load.specs.declared.image.Segment.{Segment}
-use Rattle.elf_load.specs.Fields.{e_class, e_data, e_ident_version, e_type, e_machine, e_version, e_entry, e_phoff, e_phentsize, e_phnum, p_type, p_offset, p_paddr, p_filesz, p_memsz}
+use Rattle.elf_load.specs.Fields.{e_class, e_data, e_ident_version, e_type, e_machine, e_version, e_entry, e_phoff}
+use Rattle.elf_load.specs.Fields.{e_phentsize, e_phnum, p_type, p_offset, p_paddr, p_filesz, p_memsz}
 
 -- a test: whether it fails, and what is answered then
 abbrev pub Test : Type 0

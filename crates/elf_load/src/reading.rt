@@ -2,7 +2,8 @@
 ghost use Rattle.std.specs.Prelude.{◌≡◌, ◌+◌, ◌*◌, ◌<◌, ◌≤◌, ◌≢◌, ◌↔◌, length, take, drop, map, filter, Some, None, OnOk, IfOk, IfErr, IsTrue};
 ghost use Rattle.std.specs.List.{flat_map};
 ghost use Rattle.elf_load.specs.Fields.{e_phnum, p_type, header_at};
-ghost use Rattle.elf_load.specs.Reading.{elf_refusal, image_of, first_failed, identity_tests, machine_tests, table_tests, program_tests, segment_at, is_load, indices};
+ghost use Rattle.elf_load.specs.Reading.{elf_refusal, image_of, first_failed, identity_tests, machine_tests};
+ghost use Rattle.elf_load.specs.Reading.{table_tests, program_tests, segment_at, is_load, indices};
 ghost use Rattle.elf_load.specs.Placed.{Fits};
 ghost use Rattle.elf_load.specs.Refused.{IfRefused, HeadersWithin, SegmentWithin, SegmentsWithin};
 

@@ -1,5 +1,7 @@
 -- A word's bytes as one number, the lowest byte first, and a write as a list of three parts.
-use Rattle.std.proofs.Common.{◌≡◌, ℕ, zero, suc, ◌+◌, ◌-◌, ◌*◌, ◌/◌, ◌%◌, ◌^◌, ◌<◌, ◌≤◌, Bool, List, [], ◌∷◌, ◌++◌, length, take, drop, get_or, slice_index, All, refl, sym, ap, ◌∙◌, arith, length-take, length-drop, append_assoc, take_all, drop-drop, append-nil, pow-add, pow-suc}
+use Rattle.std.proofs.Common.{◌≡◌, ℕ, zero, suc, ◌+◌, ◌-◌, ◌*◌, ◌/◌, ◌%◌, ◌^◌, ◌<◌, ◌≤◌, Bool, List, [], ◌∷◌, ◌++◌}
+use Rattle.std.proofs.Common.{length, take, drop, get_or, slice_index, All, refl, sym, ap, ◌∙◌, arith, length-take}
+use Rattle.std.proofs.Common.{length-drop, append_assoc, take_all, drop-drop, append-nil, pow-add, pow-suc}
 use Rattle.std.proofs.Math.Nat.{div-one, div-div-eq-div-mul}
 use Rattle.std.proofs.lemmas.List.{drop_all, get_or-drop}
 use Rattle.std.specs.Int.{byte_at, bytes_low_first}
@@ -20,7 +22,15 @@ value_of-word_of (byte ∷ bytes) fits =
     let low : byte < 256 = fits 0 in
     let rest = value_of-word_of bytes (λ k. fits (suc k)) in
     let moved = little_from-cons 0 (length bytes) byte bytes in
-    omega (arith, value_of-append (bits_of 8 byte) (word_of bytes), ap (λ n. value_of (word_of bytes) * 2 ^ n) (length-bits_of 8 byte), value_of-bits_of 8 byte, rest, moved)
+    omega (
+      arith,
+      value_of-append (bits_of 8 byte) (word_of bytes),
+      ap (λ n. value_of (word_of bytes) * 2 ^ n)
+          (length-bits_of 8 byte),
+      value_of-bits_of 8 byte,
+      rest,
+      moved,
+    )
 
 pub span_fits : (bytes : List ℕ) (at w : ℕ) → AreBytes bytes → All (λ byte. byte < 256) (span bytes at w)
 span_fits bytes at w fits = All-AreBytes (take w (drop at bytes)) (AreBytes-take w (drop at bytes) (AreBytes-drop at bytes fits))
@@ -29,7 +39,8 @@ length-span : (bytes : List ℕ) (at w : ℕ) → at + w ≤ length bytes → le
 length-span bytes at w h = omega (arith, length-take w (drop at bytes), length-drop at bytes)
 
 -- the number that is read is that of the word
-pub read_number : (bytes : List ℕ) (at w : ℕ) → AreBytes bytes → at + w ≤ length bytes → little_from 0 w (take (length bytes - at) (drop at bytes)) ≡ value_of (word_of (span bytes at w))
+pub read_number : (bytes : List ℕ) (at w : ℕ) → AreBytes bytes → at + w ≤ length bytes → little_from 0 w
+    (take (length bytes - at) (drop at bytes)) ≡ value_of (word_of (span bytes at w))
 read_number bytes at w fits h =
     let n : length (span bytes at w) ≡ w = length-span bytes at w h in
     little_from-take 0 w (length bytes - at) (drop at bytes) (omega arith)
@@ -37,7 +48,8 @@ read_number bytes at w fits h =
     ∙ sym (value_of-word_of (span bytes at w) (AreBytes-take w (drop at bytes) (AreBytes-drop at bytes fits)) ∙ ap (λ k. little_from 0 k (span bytes at w)) n)
 
 -- the bits of that number are the word
-pub read_word : (bytes : List ℕ) (at w number : ℕ) → at + w ≤ length bytes → number ≡ value_of (word_of (span bytes at w)) → bits_of (8 * w) number ≡ word_of (span bytes at w)
+pub read_word : (bytes : List ℕ) (at w number : ℕ) → at + w ≤ length bytes → number ≡ value_of
+    (word_of (span bytes at w)) → bits_of (8 * w) number ≡ word_of (span bytes at w)
 read_word bytes at w number h e =
     let n : length (word_of (span bytes at w)) ≡ 8 * w = length-word_of (span bytes at w) ∙ ap (λ k. 8 * k) (length-span bytes at w h) in
     (λ i. bits_of (sym n i) (e i)) ∙ bits_of-value_of (word_of (span bytes at w))
@@ -75,7 +87,9 @@ pub written_bytes : (w : ℕ) (v : List Bool) → length v ≡ 8 * w → bytes_l
 written_bytes w v h = low_first w 0 (value_of v) ∙ ap (word_bytes w) ((λ i. bits_of (sym h i) (div-one (value_of v) i)) ∙ bits_of-value_of v)
 
 -- bytes put at the front of what stands from an index on
-pub put_bytes : (bytes new raw part : List ℕ) (at w : ℕ) → at + w ≤ length bytes → length new ≡ w → raw ≡ new → part ≡ raw ++ drop w (take (length bytes - at) (drop at bytes)) → put_mid at (length bytes - at) bytes part ≡ overwritten bytes at new
+pub put_bytes : (bytes new raw part : List ℕ) (at w : ℕ) → at + w ≤ length bytes → length new ≡ w → raw ≡ new → part ≡
+    raw ++ drop w (take (length bytes - at) (drop at bytes)) → put_mid at (length bytes - at) bytes part ≡ overwritten
+    bytes at new
 put_bytes bytes new raw part at w h n r e =
     let rest : drop (length bytes - at) (drop at bytes) ≡ [] = drop_all (length bytes - at) (drop at bytes) (omega (arith, length-drop at bytes)) in
     let whole : take (length bytes - at) (drop at bytes) ≡ drop at bytes = take_all (length bytes - at) (drop at bytes) (omega (arith, length-drop at bytes)) in

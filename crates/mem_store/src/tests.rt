@@ -35,7 +35,7 @@ fn words_are_little_endian(rt: HostRuntime) -> Result<(), Fail> {
     ];
     for (w, a, number) in words {
         let read = written(&mut memory, w, a, number).ok_or("mapped")?;
-        assert_eq!(rt; read.bits(), number);
+        assert!(rt; read.bits() == number);
     }
     let bytes = [
         (top, 0xa5),
@@ -46,9 +46,9 @@ fn words_are_little_endian(rt: HostRuntime) -> Result<(), Fail> {
         (top + 31, 0x0f),
     ];
     for (a, byte) in bytes {
-        assert_eq!(rt; byte_at(&memory, a), Some(byte));
+        assert!(rt; byte_at(&memory, a) == Some(byte));
     }
-    assert_eq!(rt; (memory.base(), memory.size()), (top, 32));
+    assert!(rt; (memory.base(), memory.size()) == (top, 32));
     Ok(())
 }
 
@@ -65,7 +65,7 @@ fn words_outside_are_not_mapped(rt: HostRuntime) -> Result<(), Fail> {
         (2, u64::MAX - 1, false),
     ];
     for (w, a, there) in places {
-        assert_eq!(rt; memory.mapped(w, a), there);
+        assert!(rt; memory.mapped(w, a) == there);
     }
     Ok(())
 }

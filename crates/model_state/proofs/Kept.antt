@@ -1,5 +1,7 @@
 -- The reservation of a hart, access by access.
-use Rattle.std.proofs.Common.{◌≡◌, ℕ, zero, suc, ◌+◌, ◌-◌, ◌<◌, ◌≤◌, nat_eq, Bool, true, false, not, ◌&&◌, ◌||◌, ◌⊎◌, inl, inr, List, [], ◌∷◌, ◌++◌, length, map, slice_get, Option, Some, None, refl, sym, ap, ◌∙◌, arith}
+use Rattle.std.proofs.Common.{◌≡◌, ℕ, zero, suc, ◌+◌, ◌-◌, ◌<◌, ◌≤◌, nat_eq, Bool, true, false, not, ◌&&◌, ◌||◌, ◌⊎◌}
+use Rattle.std.proofs.Common.{inl, inr, List, [], ◌∷◌, ◌++◌, length, map, slice_get, Option, Some, None, refl, sym}
+use Rattle.std.proofs.Common.{ap, ◌∙◌, arith}
 use Rattle.std.specs.Bool.{if◌then◌else◌}
 use Rattle.std.specs.List.{fold, list_all}
 use Rattle.std.proofs.lemmas.Bool.Decides.{nat_tests}
@@ -29,7 +31,8 @@ suc_suc : (i j : ℕ) → nat_eq i j ≡ nat_eq (suc i) (suc j)
 suc_suc i j = grind (arith, nat_tests)
 
 -- one hart's reservation set
-pub set_kept : (k : Option Reservation) (harts : List Hart) (i j : ℕ) → i < length harts → kept_by (slice_get (changed (hart_with k) i harts) j) ≡ (if nat_eq i j then k else kept_by (slice_get harts j))
+pub set_kept : (k : Option Reservation) (harts : List Hart) (i j : ℕ) → i < length harts → kept_by
+    (slice_get (changed (hart_with k) i harts) j) ≡ (if nat_eq i j then k else kept_by (slice_get harts j))
 set_kept k [] i j h = absurd (omega arith)
 set_kept k (hart ∷ harts) zero zero h = refl
 set_kept k (hart ∷ harts) zero (suc j) h = ap (λ b. if b then k else kept_by (slice_get harts j)) (sym (zero_suc j))
@@ -37,7 +40,8 @@ set_kept k (hart ∷ harts) (suc i) zero h = ap (λ b. if b then k else hart.res
 set_kept k (hart ∷ harts) (suc i) (suc j) h = set_kept k harts i j (omega arith) ∙ ap (λ b. if b then k else kept_by (slice_get harts j)) (suc_suc i j)
 
 -- each hart's reservation ended where a write touches it
-pub written_kept : (w a : ℕ) (harts : List Hart) (j : ℕ) → kept_by (slice_get (map (after_write w a) harts) j) ≡ (if touches w a (kept_by (slice_get harts j)) then None else kept_by (slice_get harts j))
+pub written_kept : (w a : ℕ) (harts : List Hart) (j : ℕ) → kept_by (slice_get (map (after_write w a) harts) j) ≡
+    (if touches w a (kept_by (slice_get harts j)) then None else kept_by (slice_get harts j))
 written_kept w a [] j = refl
 written_kept w a (hart ∷ harts) zero = refl
 written_kept w a (hart ∷ harts) (suc j) = written_kept w a harts j
@@ -85,7 +89,8 @@ not_true true h = absurd (cc)
 not_true false h = refl
 
 -- no access ends it
-since_kept : (hart : ℕ) (kept : Reservation) (xs : List Access) → list_all (λ x. not (ends hart kept x)) xs ≡ true → fold (kept_after hart) (Some kept) xs ≡ Some kept
+since_kept : (hart : ℕ) (kept : Reservation) (xs : List Access) → list_all (λ x. not (ends hart kept x)) xs ≡ true →
+    fold (kept_after hart) (Some kept) xs ≡ Some kept
 since_kept hart kept [] h = refl
 since_kept hart kept (x ∷ xs) h =
     let p = both_true (not (ends hart kept x)) (list_all (λ x. not (ends hart kept x)) xs) h in
@@ -95,7 +100,8 @@ itself : (n : ℕ) → nat_eq n n ≡ true
 itself n = grind (arith, nat_tests)
 
 -- a reservation that stands is the hart's, whatever it had before
-pub stands_kept : (hart : ℕ) (kept : Reservation) (xs : List Access) (start : Option Reservation) → Stands hart kept xs → fold (kept_after hart) start xs ≡ Some kept
+pub stands_kept : (hart : ℕ) (kept : Reservation) (xs : List Access) (start : Option Reservation) → Stands hart kept
+    xs → fold (kept_after hart) start xs ≡ Some kept
 stands_kept hart kept xs start st =
     let made = reserve hart kept.width kept.place st.word in
     let old = fold (kept_after hart) start st.earlier in
@@ -106,7 +112,9 @@ stands_kept hart kept xs start st =
 Back : ℕ → Reservation → Option Reservation → Access → Type 0
 Back hart kept o x = ((o ≡ Some kept) × (ends hart kept x ≡ false)) ⊎ ((word : List Bool) × (x ≡ reserve hart kept.width kept.place word))
 
-back_reserve : (hart h w a : ℕ) (word : List Bool) (kept : Reservation) (o : Option Reservation) (b : Bool) → nat_eq h hart ≡ b → (if b then Some (record { place = a; width = w }) else o) ≡ Some kept → Back hart kept o (reserve h w a word)
+back_reserve : (hart h w a : ℕ) (word : List Bool) (kept : Reservation) (o : Option Reservation) (b : Bool) → nat_eq h
+    hart ≡ b → (if b then Some (record { place = a; width = w }) else o) ≡ Some kept → Back hart kept o
+    (reserve h w a word)
 unfolding Back
 back_reserve hart h w a word kept o true e n =
     let same : h ≡ hart = grind (arith, nat_tests) in
@@ -115,12 +123,15 @@ back_reserve hart h w a word kept o true e n =
     inr (word, λ i. reserve (same i) (r i).width (r i).place word)
 back_reserve hart h w a word kept o false e n = inl (n, e)
 
-back_write : (hart h w a : ℕ) (word : List Bool) (kept : Reservation) (o : Option Reservation) (b : Bool) → touches w a o ≡ b → (if b then None else o) ≡ Some kept → Back hart kept o (write h w a word)
+back_write : (hart h w a : ℕ) (word : List Bool) (kept : Reservation) (o : Option Reservation) (b : Bool) → touches w
+    a o ≡ b → (if b then None else o) ≡ Some kept → Back hart kept o (write h w a word)
 unfolding Back
 back_write hart h w a word kept o true e n = absurd (cc)
 back_write hart h w a word kept o false e n = inl (n, ap (touches w a) (sym n) ∙ e)
 
-back_cond : (hart h w a : ℕ) (word : List Bool) (done : Bool) (kept : Reservation) (o : Option Reservation) (b hit : Bool) → nat_eq h hart ≡ b → (done && touches w a o) ≡ hit → (if b then None else (if hit then None else o)) ≡ Some kept → Back hart kept o (write_cond h w a word done)
+back_cond : (hart h w a : ℕ) (word : List Bool) (done : Bool) (kept : Reservation) (o : Option Reservation)
+    (b hit : Bool) → nat_eq h hart ≡ b → (done && touches w a o) ≡ hit →
+    (if b then None else (if hit then None else o)) ≡ Some kept → Back hart kept o (write_cond h w a word done)
 unfolding Back
 back_cond hart h w a word done kept o true hit e f n = absurd (cc)
 back_cond hart h w a word done kept o false true e f n = absurd (cc)
@@ -140,15 +151,18 @@ step_back hart kept o (put h bytes) n = inl (n, refl)
 Backs : ℕ → Reservation → Option Reservation → List Access → Type 0
 Backs hart kept o xs = ((o ≡ Some kept) × (list_all (λ x. not (ends hart kept x)) xs ≡ true)) ⊎ Stands hart kept xs
 
-one_back : (hart : ℕ) (kept : Reservation) (o : Option Reservation) (x : Access) (xs : List Access) → list_all (λ x. not (ends hart kept x)) xs ≡ true → Back hart kept o x → Backs hart kept o (x ∷ xs)
+one_back : (hart : ℕ) (kept : Reservation) (o : Option Reservation) (x : Access) (xs : List Access) → list_all
+    (λ x. not (ends hart kept x)) xs ≡ true → Back hart kept o x → Backs hart kept o (x ∷ xs)
 unfolding Back Backs
 one_back hart kept o x xs all (inl p) = inl (p.0, ap (λ b. not b && list_all (λ x. not (ends hart kept x)) xs) p.1 ∙ all)
 one_back hart kept o x xs all (inr p) = inr (record { earlier = []; word = p.0; since = xs; made = ap (λ y. y ∷ xs) p.1; unended = all })
 
-more_back : (hart : ℕ) (kept : Reservation) (o : Option Reservation) (x : Access) (xs : List Access) → Backs hart kept (kept_after hart o x) xs → Backs hart kept o (x ∷ xs)
+more_back : (hart : ℕ) (kept : Reservation) (o : Option Reservation) (x : Access) (xs : List Access) → Backs hart kept
+    (kept_after hart o x) xs → Backs hart kept o (x ∷ xs)
 unfolding Backs
 more_back hart kept o x xs (inl p) = one_back hart kept o x xs p.1 (step_back hart kept o x p.0)
-more_back hart kept o x xs (inr st) = inr (record { earlier = x ∷ st.earlier; word = st.word; since = st.since; made = ap (λ ys. x ∷ ys) st.made; unended = st.unended })
+more_back hart kept o x xs (inr st) = inr (record { earlier = x ∷ st.earlier; word = st.word; since = st.since; made =
+    ap (λ ys. x ∷ ys) st.made; unended = st.unended })
 
 all_back : (hart : ℕ) (kept : Reservation) (o : Option Reservation) (xs : List Access) → fold (kept_after hart) o xs ≡ Some kept → Backs hart kept o xs
 unfolding Backs

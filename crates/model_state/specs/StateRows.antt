@@ -1,6 +1,8 @@
 -- The eight builtins that read or write the state. A word of `w` bytes, 1 to 16, stands at an address `a` of 64 bits, and
 -- address sums are plain integers.
-use Rattle.std.specs.Prelude.{◌≡◌, ℕ, ◌+◌, ◌-◌, ◌*◌, nat_eq, nat_le, nat_lt, Bool, true, false, ◌&&◌, if◌then◌else◌, List, [], ◌∷◌, ◌++◌, length, map, take, slice_get, Option, Some, None, option_map, Result, Ok, Err, pos}
+use Rattle.std.specs.Prelude.{◌≡◌, ℕ, ◌+◌, ◌-◌, ◌*◌, nat_eq, nat_le, nat_lt, Bool, true, false, ◌&&◌, if◌then◌else◌}
+use Rattle.std.specs.Prelude.{List, [], ◌∷◌, ◌++◌, length, map, take, slice_get, Option, Some, None, option_map}
+use Rattle.std.specs.Prelude.{Result, Ok, Err, pos}
 use Rattle.sail_base.specs.Bits.{value_of}
 use Rattle.mem_store.specs.Bytes.{is_mapped, span, word_of, word_bytes, overwritten}
 use Rattle.sail_types.specs.declared.rows.Row.{Row}

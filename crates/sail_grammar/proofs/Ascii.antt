@@ -40,9 +40,12 @@ unfolding bits_of
 no_bits = refl
 
 pub bits_short : (text : List ℕ) → length text < 2 → bits_of 0 0 ≡ bits_at text
-bits_short text h = no_bits ∙ sym (ap (λ b. cond b [] (cond (nat_lt 128 (literal_width text)) [] (bits_of (literal_width text) (literal_bits text)))) (lt-ltb (length text) 2 h))
+bits_short text h = no_bits ∙ sym
+    (ap (λ b. cond b [] (cond (nat_lt 128 (literal_width text)) [] (bits_of (literal_width text)
+    (literal_bits text)))) (lt-ltb (length text) 2 h))
 
 pub bits_wide : (text : List ℕ) → 2 ≤ length text → 128 < literal_width text → bits_of 0 0 ≡ bits_at text
 bits_wide text l h =
-    no_bits ∙ sym (ap (λ b. cond b [] (cond (nat_lt 128 (literal_width text)) [] (bits_of (literal_width text) (literal_bits text)))) (not_less (length text) 2 l)
+    no_bits ∙ sym (ap (λ b. cond b [] (cond (nat_lt 128 (literal_width text)) [] (bits_of (literal_width text)
+    (literal_bits text)))) (not_less (length text) 2 l)
     ∙ ap (λ b. cond b [] (bits_of (literal_width text) (literal_bits text))) (lt-ltb 128 (literal_width text) h))

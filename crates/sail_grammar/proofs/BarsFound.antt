@@ -7,7 +7,10 @@ use Rattle.sail_grammar.specs.RowName.{RowName}
 use Rattle.sail_grammar.specs.Form.{Form, ◌or◌, Tree, look, held, passes}
 use Rattle.sail_grammar.specs.Reads.{Reads, Bars, bars_word, bars_left, bars_right, bars_first, bars_next, bars_guard, bars_here, bars_in, bars_hold, bars_row}
 use Rattle.sail_grammar.specs.Test.{Grammar, kept, blank, starts, firsts, clear, IsClear, may_left, may_right}
-use Rattle.sail_grammar.specs.Ends.{Outcome, Ends, Done, Stop, word_read, word_stop, empty_read, empty_stop, left_read, left_stop, right_read, right_stop, first_stop, next_stop, both_read, guard_read, guard_shut, guard_stop, row_ends, forbid_stop, forbid_bar, bar_read, bar_bar, bar_stop, hold_read, hold_stop, hold_bar}
+use Rattle.sail_grammar.specs.Ends.{Outcome, Ends, Done, Stop, word_read, word_stop, empty_read, empty_stop}
+use Rattle.sail_grammar.specs.Ends.{left_read, left_stop, right_read, right_stop, first_stop, next_stop, both_read}
+use Rattle.sail_grammar.specs.Ends.{guard_read, guard_shut, guard_stop, row_ends, forbid_stop, forbid_bar, bar_read}
+use Rattle.sail_grammar.specs.Ends.{bar_bar, bar_stop, hold_read, hold_stop, hold_bar}
 use Rattle.sail_grammar.proofs.Test.{among_left, good}
 use Rattle.sail_grammar.proofs.Front.{shut_held, bars_front}
 use Rattle.sail_grammar.proofs.Frame.{same, frame}

@@ -6,7 +6,10 @@ use Rattle.sail_grammar.specs.Symbol.{Sign}
 use Rattle.sail_grammar.specs.Form.{Form, Tree, Nothing, Leaf, Pair, Left, Right}
 use Rattle.sail_grammar.specs.Leaves.{either, first_sign, first_place, place_of_sign, place_ahead}
 use Rattle.sail_grammar.specs.Test.{Grammar}
-use Rattle.sail_grammar.specs.Ends.{Ends, Outcome, Done, Stop, word_read, word_stop, empty_read, empty_stop, left_read, left_stop, right_read, right_stop, first_stop, next_stop, both_read, guard_read, guard_shut, guard_stop, row_ends, forbid_stop, forbid_bar, bar_read, bar_bar, bar_stop, hold_read, hold_stop, hold_bar}
+use Rattle.sail_grammar.specs.Ends.{Ends, Outcome, Done, Stop, word_read, word_stop, empty_read, empty_stop}
+use Rattle.sail_grammar.specs.Ends.{left_read, left_stop, right_read, right_stop, first_stop, next_stop, both_read}
+use Rattle.sail_grammar.specs.Ends.{guard_read, guard_shut, guard_stop, row_ends, forbid_stop, forbid_bar, bar_read}
+use Rattle.sail_grammar.specs.Ends.{bar_bar, bar_stop, hold_read, hold_stop, hold_bar}
 
 -- a tree of no token, or one that begins with the first
 pub data FirstOf (t : Tree) (ss rest : List Sign) : Type 0 where
@@ -60,5 +63,6 @@ by_first : (t : Tree) (ss rest : List Sign) → FirstOf t ss rest → length res
 by_first t ss rest (empty e p) h = absurd (let same : length ss ≡ length rest = ap length p in omega (arith, h, same))
 by_first t ss rest (begun s tail p e) h = ap place_of_sign e ∙ sym (ap place_ahead p)
 
-pub first_place_ahead : {g : Grammar} {f : Form} {t : Tree} {ss rest : List Sign} → Ends g f ss (Done t rest) → length rest < length ss → first_place t ≡ place_ahead ss
+pub first_place_ahead : {g : Grammar} {f : Form} {t : Tree} {ss rest : List Sign} → Ends g f ss (Done t rest) → length
+    rest < length ss → first_place t ≡ place_ahead ss
 first_place_ahead {t = t} {ss = ss} {rest = rest} e h = by_first t ss rest (first_in e) h

@@ -4,7 +4,9 @@ use Rattle.std.proofs.lemmas.Bool.{or_right}
 use Rattle.sail_grammar.specs.Symbol.{Sign}
 use Rattle.sail_grammar.specs.RowName.{RowName}
 use Rattle.sail_grammar.specs.Form.{Form, ◌then◌, Tree, Pair, held, passes}
-use Rattle.sail_grammar.specs.Reads.{Reads, word, empty, left, right, both, guard, bar, hold, row, Opens, opens_none, opens_word, opens_left, opens_right, opens_next, opens_guard, opens_bar, opens_hold, opens_row}
+use Rattle.sail_grammar.specs.Reads.{Reads, word, empty, left, right, both, guard, bar, hold, row, Opens, opens_none}
+use Rattle.sail_grammar.specs.Reads.{opens_word, opens_left, opens_right, opens_next, opens_guard, opens_bar}
+use Rattle.sail_grammar.specs.Reads.{opens_hold, opens_row}
 
 -- the second list ends here, or both begin with the same token
 pub data Alike : List Sign → List Sign → Type 0 where

@@ -5,7 +5,10 @@ use Rattle.std.proofs.lemmas.Bool.{and_from, or_left, or_right, or_parts, not_fr
 use Rattle.sail_grammar.specs.Symbol.{Sign, symbol}
 use Rattle.sail_grammar.specs.RowName.{RowName}
 use Rattle.sail_grammar.specs.Form.{Form, Empty, ◌or◌, ◌then◌, Guard, Row, Bar, Hold, Tree, among, look, held, passes}
-use Rattle.sail_grammar.specs.Reads.{Reads, word, empty, left, right, both, guard, bar, hold, row, Opens, opens_none, opens_word, opens_left, opens_right, opens_first, opens_next, opens_guard, opens_bar, opens_hold, opens_row, Bars, bars_word, bars_left, bars_right, bars_first, bars_next, bars_guard, bars_here, bars_in, bars_hold, bars_row}
+use Rattle.sail_grammar.specs.Reads.{Reads, word, empty, left, right, both, guard, bar, hold, row, Opens, opens_none}
+use Rattle.sail_grammar.specs.Reads.{opens_word, opens_left, opens_right, opens_first, opens_next, opens_guard}
+use Rattle.sail_grammar.specs.Reads.{opens_bar, opens_hold, opens_row, Bars, bars_word, bars_left, bars_right}
+use Rattle.sail_grammar.specs.Reads.{bars_first, bars_next, bars_guard, bars_here, bars_in, bars_hold, bars_row}
 use Rattle.sail_grammar.specs.Test.{Grammar, blank, starts, IsClear}
 use Rattle.sail_grammar.proofs.Test.{good}
 

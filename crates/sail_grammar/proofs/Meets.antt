@@ -4,9 +4,15 @@ use Rattle.std.specs.Prelude.{Option, Some}
 use Rattle.std.proofs.lemmas.Bool.{false≢true}
 use Rattle.sail_grammar.specs.Symbol.{Sign}
 use Rattle.sail_grammar.specs.Form.{Form, Word, Empty, ◌or◌, ◌then◌, Guard, Row, Forbid, Bar, Hold, Tree, passes}
-use Rattle.sail_grammar.specs.Reads.{Reads, word, empty, left, right, both, guard, bar, hold, row, Opens, opens_none, opens_left, opens_right, opens_first, opens_next, opens_guard, opens_bar, opens_hold, opens_row, Bars, bars_word, bars_left, bars_right, bars_first, bars_next, bars_guard, bars_here, bars_in, bars_hold, bars_row}
+use Rattle.sail_grammar.specs.Reads.{Reads, word, empty, left, right, both, guard, bar, hold, row, Opens, opens_none}
+use Rattle.sail_grammar.specs.Reads.{opens_left, opens_right, opens_first, opens_next, opens_guard, opens_bar}
+use Rattle.sail_grammar.specs.Reads.{opens_hold, opens_row, Bars, bars_word, bars_left, bars_right, bars_first}
+use Rattle.sail_grammar.specs.Reads.{bars_next, bars_guard, bars_here, bars_in, bars_hold, bars_row}
 use Rattle.sail_grammar.specs.Test.{Grammar}
-use Rattle.sail_grammar.specs.Ends.{Ends, Done, Stop, word_read, word_stop, empty_read, empty_stop, left_read, left_stop, right_read, right_stop, first_stop, next_stop, both_read, guard_read, guard_shut, guard_stop, row_ends, forbid_stop, forbid_bar, bar_read, bar_bar, bar_stop, hold_read, hold_stop, hold_bar}
+use Rattle.sail_grammar.specs.Ends.{Ends, Done, Stop, word_read, word_stop, empty_read, empty_stop, left_read}
+use Rattle.sail_grammar.specs.Ends.{left_stop, right_read, right_stop, first_stop, next_stop, both_read, guard_read}
+use Rattle.sail_grammar.specs.Ends.{guard_shut, guard_stop, row_ends, forbid_stop, forbid_bar, bar_read, bar_bar}
+use Rattle.sail_grammar.specs.Ends.{bar_stop, hold_read, hold_stop, hold_bar}
 use Rattle.sail_grammar.proofs.Frame.{Alike, bare, same, frame, reads_open}
 use Rattle.sail_grammar.proofs.Front.{shut_held}
 

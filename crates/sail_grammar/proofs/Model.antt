@@ -1,5 +1,6 @@
 -- What the reading of all definitions says of the tokens of a model.
-use Rattle.std.proofs.Common.{◌≡◌, ℕ, suc, ◌<◌, ◌≤◌, ◌-◌, ◌+◌, true, false, List, [], ◌∷◌, ◌++◌, length, take, drop, refl, sym, ap, ◌∙◌, subst, append_assoc, append-nil, arith, length-append, inl, inr}
+use Rattle.std.proofs.Common.{◌≡◌, ℕ, suc, ◌<◌, ◌≤◌, ◌-◌, ◌+◌, true, false, List, [], ◌∷◌, ◌++◌, length, take, drop}
+use Rattle.std.proofs.Common.{refl, sym, ap, ◌∙◌, subst, append_assoc, append-nil, arith, length-append, inl, inr}
 use Rattle.std.specs.Prelude.{Option, Some, None, slice_get}
 use Rattle.std.proofs.lemmas.Bool.{cases_lt, cases_order}
 use Rattle.std.proofs.lemmas.List.{take-append-drop, take-append-le}
@@ -11,7 +12,8 @@ use Rattle.sail_grammar.specs.declared.error.ParseError.TheVariants as error
 use Rattle.sail_grammar.specs.Symbol.{Sign}
 use Rattle.sail_grammar.specs.RowName.{RowName, Definitions}
 use Rattle.sail_grammar.specs.Form.{Form, Row, Tree}
-use Rattle.sail_grammar.specs.Reads.{Reads, Opens, Bars, bars_word, bars_left, bars_right, bars_first, bars_next, bars_guard, bars_here, bars_in, bars_hold, bars_row}
+use Rattle.sail_grammar.specs.Reads.{Reads, Opens, Bars, bars_word, bars_left, bars_right, bars_first, bars_next}
+use Rattle.sail_grammar.specs.Reads.{bars_guard, bars_here, bars_in, bars_hold, bars_row}
 use Rattle.sail_grammar.specs.Test.{clear}
 use Rattle.sail_grammar.specs.Table.{rule}
 use Rattle.sail_grammar.specs.Sets.{grammar}

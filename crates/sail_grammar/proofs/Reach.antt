@@ -4,9 +4,13 @@ use Rattle.std.specs.Prelude.{Option}
 use Rattle.std.proofs.lemmas.Bool.{true≢false, and_parts}
 use Rattle.sail_grammar.specs.Symbol.{Sign, symbol}
 use Rattle.sail_grammar.specs.Form.{Form, Tree, look, held}
-use Rattle.sail_grammar.specs.Reads.{Reads, Opens, opens_none, opens_word, opens_left, opens_right, opens_first, opens_next, opens_guard, opens_bar, opens_hold, opens_row}
+use Rattle.sail_grammar.specs.Reads.{Reads, Opens, opens_none, opens_word, opens_left, opens_right, opens_first}
+use Rattle.sail_grammar.specs.Reads.{opens_next, opens_guard, opens_bar, opens_hold, opens_row}
 use Rattle.sail_grammar.specs.Test.{Grammar, kept, blank, starts, firsts, clear, IsClear, may_left, may_right}
-use Rattle.sail_grammar.specs.Ends.{Outcome, Ends, Done, Stop, word_read, word_stop, empty_read, empty_stop, left_read, left_stop, right_read, right_stop, first_stop, next_stop, both_read, guard_read, guard_shut, guard_stop, row_ends, forbid_stop, forbid_bar, bar_read, bar_bar, bar_stop, hold_read, hold_stop, hold_bar}
+use Rattle.sail_grammar.specs.Ends.{Outcome, Ends, Done, Stop, word_read, word_stop, empty_read, empty_stop}
+use Rattle.sail_grammar.specs.Ends.{left_read, left_stop, right_read, right_stop, first_stop, next_stop, both_read}
+use Rattle.sail_grammar.specs.Ends.{guard_read, guard_shut, guard_stop, row_ends, forbid_stop, forbid_bar, bar_read}
+use Rattle.sail_grammar.specs.Ends.{bar_bar, bar_stop, hold_read, hold_stop, hold_bar}
 use Rattle.sail_grammar.proofs.Test.{among_left, starts_firsts, good}
 use Rattle.sail_grammar.proofs.Front.{Front, begun, bare, opens_front}
 use Rattle.sail_grammar.proofs.Frame.{same, frame, reads_open}

@@ -8,7 +8,8 @@ use Rattle.sail_grammar.proofs.Test.{every_at}
 use Rattle.sail_grammar.specs.RowName.{RowName}
 use Rattle.sail_grammar.specs.Form.{Form, Word, Empty, ◌or◌, ◌then◌, Row, Tree, Nothing, Leaf, Pair, Left, Right, among, held, look}
 use Rattle.sail_grammar.specs.Test.{every, may_left, may_right, starts, blank}
-use Rattle.sail_grammar.specs.Ends.{word_read, empty_read, left_read, right_read, both_read, Ends, Done, Stop, left_stop, right_stop, first_stop, next_stop, row_ends}
+use Rattle.sail_grammar.specs.Ends.{word_read, empty_read, left_read, right_read, both_read, Ends, Done, Stop}
+use Rattle.sail_grammar.specs.Ends.{left_stop, right_stop, first_stop, next_stop, row_ends}
 use Rattle.sail_grammar.specs.Sets.{grammar}
 use Rattle.sail_grammar.specs.Parsing.{Reading, Stopping, Tells, StopsAt, Takes}
 use Rattle.sail_grammar.specs.declared.error.ReadError.{ReadError}

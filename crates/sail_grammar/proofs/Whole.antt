@@ -1,11 +1,14 @@
 -- Whole lists: a tree of all their tokens, or the first unfit one.
-use Rattle.std.proofs.Common.{◌≡◌, ℕ, suc, ◌≤◌, ◌-◌, ◌+◌, true, List, [], ◌∷◌, ◌++◌, length, take, drop, refl, sym, ap, ◌∙◌, subst, append-nil, arith, length-append, length-drop}
+use Rattle.std.proofs.Common.{◌≡◌, ℕ, suc, ◌≤◌, ◌-◌, ◌+◌, true, List, [], ◌∷◌, ◌++◌, length, take, drop, refl, sym}
+use Rattle.std.proofs.Common.{ap, ◌∙◌, subst, append-nil, arith, length-append, length-drop}
 use Rattle.std.specs.Prelude.{Option}
 use Rattle.std.proofs.lemmas.List.{take-append-drop, take-append-le}
 use Rattle.sail_grammar.specs.Symbol.{Sign, symbol}
 use Rattle.sail_grammar.specs.RowName.{RowName}
 use Rattle.sail_grammar.specs.Form.{Form, Word, Empty, ◌then◌, Row, Tree, among}
-use Rattle.sail_grammar.specs.Reads.{Reads, word, empty, left, right, both, guard, bar, hold, row, Opens, opens_none, opens_word, opens_left, opens_right, opens_first, opens_next, opens_guard, opens_bar, opens_hold, opens_row}
+use Rattle.sail_grammar.specs.Reads.{Reads, word, empty, left, right, both, guard, bar, hold, row, Opens, opens_none}
+use Rattle.sail_grammar.specs.Reads.{opens_word, opens_left, opens_right, opens_first, opens_next, opens_guard}
+use Rattle.sail_grammar.specs.Reads.{opens_bar, opens_hold, opens_row}
 use Rattle.sail_grammar.specs.Test.{Grammar, clear, IsClear}
 use Rattle.sail_grammar.specs.Ends.{Ends, Done, Stop}
 use Rattle.sail_grammar.specs.Unfit.{IsFirstUnfit}

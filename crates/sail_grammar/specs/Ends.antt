@@ -2,7 +2,8 @@
 use Rattle.std.specs.Prelude.{◌≡◌, ℕ, Bool, true, false, List, ◌∷◌, Option, Some, None}
 use Rattle.sail_grammar.specs.Symbol.{Sign, symbol}
 use Rattle.sail_grammar.specs.RowName.{RowName}
-use Rattle.sail_grammar.specs.Form.{Form, Word, Empty, ◌or◌, ◌then◌, Guard, Row, Forbid, Bar, Hold, Tree, Nothing, Leaf, Pair, Left, Right, among, look, held, passes}
+use Rattle.sail_grammar.specs.Form.{Form, Word, Empty, ◌or◌, ◌then◌, Guard, Row, Forbid, Bar, Hold, Tree, Nothing}
+use Rattle.sail_grammar.specs.Form.{Leaf, Pair, Left, Right, among, look, held, passes}
 use Rattle.sail_grammar.specs.Test.{Grammar, may_left, may_right}
 
 -- a tree and what is left, or the list from the token on that doesn't fit, and from where a form is forbidden

@@ -1,10 +1,51 @@
 -- The grammar of models, a rule for each row.
 use Rattle.std.specs.Prelude.{ℕ, not, List, [], ◌∷◌, map}
 use Rattle.sail_lex.specs.declared.kind.TokenKind.{TokenKind}
-use Rattle.sail_lex.specs.declared.kind.TokenKind.TheVariants.{Identifier, TypeVariable, Wildcard, Decimal, Hexadecimal, Binary, StringLiteral, LeftOut, Order, As, Assert, Bitone, Bitzero, By, Catch, Clause, Constraint, Dec, Default, Do, Else, End, Enum, Exit, False, Forall, Foreach as ForeachWord, From, Function, If as IfWord, In, Inc, Let, Mapping, Match as MatchWord, Not, Operator, Overload, Register, Repeat as RepeatWord, Return, Scattered, Sizeof, Struct, TerminationMeasure, Then, Throw, To, True, Try as TryWord, TypeWord, Union, Until, Val, Var, While as WhileWord, With, OpenParenthesis, CloseParenthesis, OpenBracket, CloseBracket, OpenBrace, CloseBrace, OpenVector, CloseVector, Comma, Semicolon, Colon, DoubleColon, Dot, DoubleDot, Equal, DoubleEqual, NotEqual, Less, LessEqual, Greater, GreaterEqual, LessUnsigned, LessEqualUnsigned, GreaterUnsigned, GreaterEqualUnsigned, LessSigned, LessEqualSigned, GreaterSigned, GreaterEqualSigned, Plus, Minus, Star, Caret, At, Ampersand, Bar as Stroke, Tilde, ShiftLeft, ShiftRight, Arrow, DoubleArrow, FatArrow}
+use Rattle.sail_lex.specs.declared.kind.TokenKind.TheVariants.{Identifier, TypeVariable, Wildcard, Decimal}
+use Rattle.sail_lex.specs.declared.kind.TokenKind.TheVariants.{Hexadecimal, Binary, StringLiteral, LeftOut, Order, As}
+use Rattle.sail_lex.specs.declared.kind.TokenKind.TheVariants.{Assert, Bitone, Bitzero, By, Catch, Clause, Constraint}
+use Rattle.sail_lex.specs.declared.kind.TokenKind.TheVariants.{Dec, Default, Do, Else, End, Enum, Exit, False, Forall}
+use Rattle.sail_lex.specs.declared.kind.TokenKind.TheVariants.{Foreach as ForeachWord, From, Function, If as IfWord}
+use Rattle.sail_lex.specs.declared.kind.TokenKind.TheVariants.{In, Inc, Let, Mapping, Match as MatchWord, Not}
+use Rattle.sail_lex.specs.declared.kind.TokenKind.TheVariants.{Operator, Overload, Register, Repeat as RepeatWord}
+use Rattle.sail_lex.specs.declared.kind.TokenKind.TheVariants.{Return, Scattered, Sizeof, Struct, TerminationMeasure}
+use Rattle.sail_lex.specs.declared.kind.TokenKind.TheVariants.{Then, Throw, To, True, Try as TryWord, TypeWord, Union}
+use Rattle.sail_lex.specs.declared.kind.TokenKind.TheVariants.{Until, Val, Var, While as WhileWord, With}
+use Rattle.sail_lex.specs.declared.kind.TokenKind.TheVariants.{OpenParenthesis, CloseParenthesis, OpenBracket}
+use Rattle.sail_lex.specs.declared.kind.TokenKind.TheVariants.{CloseBracket, OpenBrace, CloseBrace, OpenVector}
+use Rattle.sail_lex.specs.declared.kind.TokenKind.TheVariants.{CloseVector, Comma, Semicolon, Colon, DoubleColon, Dot}
+use Rattle.sail_lex.specs.declared.kind.TokenKind.TheVariants.{DoubleDot, Equal, DoubleEqual, NotEqual, Less}
+use Rattle.sail_lex.specs.declared.kind.TokenKind.TheVariants.{LessEqual, Greater, GreaterEqual, LessUnsigned}
+use Rattle.sail_lex.specs.declared.kind.TokenKind.TheVariants.{LessEqualUnsigned, GreaterUnsigned}
+use Rattle.sail_lex.specs.declared.kind.TokenKind.TheVariants.{GreaterEqualUnsigned, LessSigned, LessEqualSigned}
+use Rattle.sail_lex.specs.declared.kind.TokenKind.TheVariants.{GreaterSigned, GreaterEqualSigned, Plus, Minus, Star}
+use Rattle.sail_lex.specs.declared.kind.TokenKind.TheVariants.{Caret, At, Ampersand, Bar as Stroke, Tilde, ShiftLeft}
+use Rattle.sail_lex.specs.declared.kind.TokenKind.TheVariants.{ShiftRight, Arrow, DoubleArrow, FatArrow}
 use Rattle.sail_grammar.specs.declared.mode.Mode.TheVariants.{Full, Limited}
 use Rattle.sail_grammar.specs.Symbol.{code, two, kind_name}
-use Rattle.sail_grammar.specs.RowName.{RowName, Definitions, Definition, OrderDefinition, TypeDefinition, EnumDefinition, EnumMembers, EnumBars, StructDefinition, UnionDefinition, UnionClause, UnionWhole, ValDefinition, FunctionDefinition, MeasureDefinition, MappingDefinition, MappingClauseDefinition, MappingWhole, LetDefinition, RegisterDefinition, OverloadDefinition, ScatteredDefinition, EndDefinition, Names, NamesTail, NamesMore, Members, MembersTail, MembersMore, Member, Parameters, ParametersTail, Parameter, KindMark, Quantifier, QuantifiedVariables, QuantifiedVariable, MappingClauses, MappingClausesTail, MappingClausesMore, MappingClause, MappingSide, Typ, TypeAnd, TypeComparison, TypeSet, NumbersTail, NumbersMore, TypeSum, TypeSumMore, TypeProduct, TypeProductMore, TypeAtom, TypeNamed, TypePower, TypeNegation, TypeNot, TypeGroup, TypeExists, TypeVariables, Types, TypesTail, Pattern, PatternAs, PatternConcat, PatternAppends, PatternTyped, PatternBase, PatternWildcard, PatternNegative, PatternNamed, PatternGroup, PatternVector, PatternList, Patterns, PatternsTail, Exp, LetIn, VarIn, ExpInner, If, Match, Control, Try, Foreach, While, Repeat, Leave, LoopMeasure, Assignment, Cases, CasesTail, CasesMore, Case, Infix, InfixAnd, InfixComparison, InfixAppend, InfixSum, InfixSumMore, InfixProduct, InfixProductMore, InfixPower, Unary, Negation, Power, Postfix, Suffixes, Suffix, Index, Atom, NamedExp, Arguments, PrefixCall, GroupExp, VectorExp, Update, ListExp, StructExp, TypeQuestion, Assertion, Exps, ExpsTail, Block, BlockBody, BlockMore, Statements, StatementsMore, Statement, LetStatement, VarStatement, FieldValues, FieldValuesTail, FieldValuesMore, FieldValue}
+use Rattle.sail_grammar.specs.RowName.{RowName, Definitions, Definition, OrderDefinition, TypeDefinition}
+use Rattle.sail_grammar.specs.RowName.{EnumDefinition, EnumMembers, EnumBars, StructDefinition, UnionDefinition}
+use Rattle.sail_grammar.specs.RowName.{UnionClause, UnionWhole, ValDefinition, FunctionDefinition, MeasureDefinition}
+use Rattle.sail_grammar.specs.RowName.{MappingDefinition, MappingClauseDefinition, MappingWhole, LetDefinition}
+use Rattle.sail_grammar.specs.RowName.{RegisterDefinition, OverloadDefinition, ScatteredDefinition, EndDefinition}
+use Rattle.sail_grammar.specs.RowName.{Names, NamesTail, NamesMore, Members, MembersTail, MembersMore, Member}
+use Rattle.sail_grammar.specs.RowName.{Parameters, ParametersTail, Parameter, KindMark, Quantifier}
+use Rattle.sail_grammar.specs.RowName.{QuantifiedVariables, QuantifiedVariable, MappingClauses, MappingClausesTail}
+use Rattle.sail_grammar.specs.RowName.{MappingClausesMore, MappingClause, MappingSide, Typ, TypeAnd, TypeComparison}
+use Rattle.sail_grammar.specs.RowName.{TypeSet, NumbersTail, NumbersMore, TypeSum, TypeSumMore, TypeProduct}
+use Rattle.sail_grammar.specs.RowName.{TypeProductMore, TypeAtom, TypeNamed, TypePower, TypeNegation, TypeNot}
+use Rattle.sail_grammar.specs.RowName.{TypeGroup, TypeExists, TypeVariables, Types, TypesTail, Pattern, PatternAs}
+use Rattle.sail_grammar.specs.RowName.{PatternConcat, PatternAppends, PatternTyped, PatternBase, PatternWildcard}
+use Rattle.sail_grammar.specs.RowName.{PatternNegative, PatternNamed, PatternGroup, PatternVector, PatternList}
+use Rattle.sail_grammar.specs.RowName.{Patterns, PatternsTail, Exp, LetIn, VarIn, ExpInner, If, Match, Control, Try}
+use Rattle.sail_grammar.specs.RowName.{Foreach, While, Repeat, Leave, LoopMeasure, Assignment, Cases, CasesTail}
+use Rattle.sail_grammar.specs.RowName.{CasesMore, Case, Infix, InfixAnd, InfixComparison, InfixAppend, InfixSum}
+use Rattle.sail_grammar.specs.RowName.{InfixSumMore, InfixProduct, InfixProductMore, InfixPower, Unary, Negation}
+use Rattle.sail_grammar.specs.RowName.{Power, Postfix, Suffixes, Suffix, Index, Atom, NamedExp, Arguments, PrefixCall}
+use Rattle.sail_grammar.specs.RowName.{GroupExp, VectorExp, Update, ListExp, StructExp, TypeQuestion, Assertion, Exps}
+use Rattle.sail_grammar.specs.RowName.{ExpsTail, Block, BlockBody, BlockMore, Statements, StatementsMore, Statement}
+use Rattle.sail_grammar.specs.RowName.{LetStatement, VarStatement, FieldValues, FieldValuesTail, FieldValuesMore}
+use Rattle.sail_grammar.specs.RowName.{FieldValue}
 use Rattle.sail_grammar.specs.Form.{Form, Word, Empty, ◌or◌, ◌then◌, Guard, Row, Forbid, Bar, Hold}
 use Rattle.sail_grammar.specs.Shapes.{is_target, is_exp}
 

@@ -209,7 +209,7 @@ const ANSWERS: [(&[u8], &str); 62] = [
 fn answers_by_the_tables(rt: HostRuntime) -> Result<(), Fail> {
     for (source, answer) in &ANSWERS {
         let found = shown(rt.alloc(), source, 0)?;
-        assert_eq!(rt; found.as_str(), *answer);
+        assert!(rt; found.as_str() == *answer);
     }
     Ok(())
 }
@@ -238,17 +238,17 @@ fn limits_are_exact(rt: HostRuntime) -> Result<(), Fail> {
     for (first, n, last, good) in cases {
         let text = between(alloc, first, n, last)?;
         let found = shown(alloc, &text, 0)?;
-        assert_eq!(rt; found.as_str() != "BadLiteral 1:1 0", good);
+        assert!(rt; (found.as_str() != "BadLiteral 1:1 0") == good);
     }
     let mut bits = between(alloc, b'0', 128, b' ')?;
-    assert_eq!(rt; bits.len(), 130);
+    assert!(rt; bits.len() == 130);
     bits[1] = b'b';
     let found = shown(alloc, &bits, 0)?;
     assert!(rt; found.as_str().starts_with("Binary 1:1 0b1"));
     bits[129] = b'0';
     bits.push(b'1')?;
     let found = shown(alloc, &bits, 0)?;
-    assert_eq!(rt; found.as_str(), "NumberTooLarge 1:1 0");
+    assert!(rt; found.as_str() == "NumberTooLarge 1:1 0");
     Ok(())
 }
 
@@ -283,12 +283,12 @@ fn sources_at_the_limits_of_bytes_and_tokens(rt: HostRuntime) -> Result<(), Fail
     for (byte, n, last, before, answer) in cases {
         let source = filled(alloc, byte, n, last)?;
         let found = shown(alloc, &source, before)?;
-        assert_eq!(rt; found.as_str(), answer);
+        assert!(rt; found.as_str() == answer);
     }
     let source = filled(alloc, b'"', 1_999_999, b'"')?;
-    assert_eq!(rt; counted(alloc, &source, 2_000_000, 0), Some(1_000_000));
-    assert_eq!(rt; counted(alloc, &source, 2_000_000, 1), None);
-    assert_eq!(rt; counted(alloc, &source, 0, 1_000_000), Some(0));
+    assert!(rt; counted(alloc, &source, 2_000_000, 0) == Some(1_000_000));
+    assert!(rt; counted(alloc, &source, 2_000_000, 1) == None);
+    assert!(rt; counted(alloc, &source, 0, 1_000_000) == Some(0));
     Ok(())
 }
 
@@ -308,7 +308,7 @@ fn a_source_ends_one_past_its_last_byte(rt: HostRuntime) -> Result<(), Fail> {
                 line,
                 column,
             };
-            assert_eq!(rt; found.end, end);
+            assert!(rt; found.end == end);
         }
     }
     Ok(())
@@ -316,23 +316,16 @@ fn a_source_ends_one_past_its_last_byte(rt: HostRuntime) -> Result<(), Fail> {
 
 #[test]
 fn values_by_the_tables(rt: HostRuntime) -> Result<(), Fail> {
-    assert_eq!(rt; decimal_value(b"1_0_"), Some(10));
-    assert_eq!(rt;
-        decimal_value(b"85070591730234615865843651857942052864"),
-        Some(1 << 126)
-    );
-    assert_eq!(rt;
-        decimal_value(b"85070591730234615865843651857942052865"),
-        None
-    );
+    let separated = decimal_value(b"1_0_") == Some(10);
+    let largest = decimal_value(b"85070591730234615865843651857942052864") == Some(1 << 126);
+    let larger = decimal_value(b"85070591730234615865843651857942052865") == None;
+    assert!(rt; separated && largest && larger);
     let word = literal_word(b"0xF_f1").ok_or("no word")?;
-    assert_eq!(rt; word.width(), 12);
-    assert_eq!(rt; word.bits(), 0xff1);
+    assert!(rt; word.width() == 12 && word.bits() == 0xff1);
     let word = literal_word(b"0b0_01").ok_or("no word")?;
-    assert_eq!(rt; word.width(), 3);
-    assert_eq!(rt; word.bits(), 1);
+    assert!(rt; word.width() == 3 && word.bits() == 1);
     assert!(rt; literal_word(b"0x000000000000000000000000000000000").is_none());
     let bytes = string_value(rt.alloc(), b"\"a\\n\\t\\\\\\\"\"")?;
-    assert_eq!(rt; bytes.as_slice(), b"a\n\t\\\"".as_slice());
+    assert!(rt; bytes.as_slice() == b"a\n\t\\\"".as_slice());
     Ok(())
 }

@@ -31,10 +31,10 @@ fn a_shelf_that_fails_at_each_call_in_turn_is_at_fault(rt: HostRuntime) -> Resul
     for call in 0..5 {
         let mut shelf = MemShelf::new(files(alloc, 5)?, vec![in alloc; call]?, 2);
         let answer = read_file(alloc, &mut shelf, "a", 5);
-        assert_eq!(rt; answer.err(), Some(ReadError::Fault), "{call}");
-        assert_eq!(rt; (shelf.calls(), shelf.faults()), (call + 1, 1), "{call}");
+        let counts = shelf.calls() == call + 1 && shelf.faults() == 1;
+        assert!(rt; counts && answer.err() == Some(ReadError::Fault), "{call}");
         // The next file is read as if nothing had been.
-        assert_eq!(rt; read_file(alloc, &mut shelf, "b", 0)?.len(), 0, "{call}");
+        assert!(rt; read_file(alloc, &mut shelf, "b", 0)?.len() == 0, "{call}");
     }
     Ok(())
 }
@@ -46,9 +46,12 @@ fn pieces_are_written_up_to_the_failing_call(rt: HostRuntime) -> Result<(), Fail
     for (piece, call, there) in [(5, 2, 10), (12, 0, 0), (0, 3, 3)] {
         let mut sink = MemSink::new(alloc, vec![in alloc; call]?, piece);
         let answer = write_all(&mut sink, b"twelve bytes");
-        assert_eq!(rt; answer, Err(WriteError::Fault), "{piece}");
-        assert_eq!(rt; sink.bytes(), &b"twelve bytes"[..there], "{piece}");
-        assert_eq!(rt; (sink.calls(), sink.faults()), (call + 1, 1), "{piece}");
+        let counts = sink.calls() == call + 1 && sink.faults() == 1;
+        let written = sink.bytes() == &b"twelve bytes"[..there];
+        assert!(rt;
+            counts && written && answer == Err(WriteError::Fault),
+            "{piece}"
+        );
     }
     Ok(())
 }
@@ -59,8 +62,8 @@ fn a_sure_shelf_and_a_sure_sink_carry_the_bytes(rt: HostRuntime) -> Result<(), F
     let mut shelf = SureShelf::new(files(alloc, 5000)?);
     let bytes = read_file(alloc, &mut shelf, "a", 5000)?;
     let mut sink = SureSink::new(alloc);
-    assert_eq!(rt; write_all(&mut sink, bytes.as_slice()), Ok(()));
-    assert_eq!(rt; sink.bytes(), sample(alloc, 5000)?.as_slice());
+    let answer = write_all(&mut sink, bytes.as_slice());
+    assert!(rt; answer == Ok(()) && sink.bytes() == sample(alloc, 5000)?.as_slice());
     Ok(())
 }
 
@@ -100,16 +103,16 @@ fn the_real_output_takes_the_bytes(rt: HostRuntime) -> Result<(), Fail> {
         most: 1700,
     };
     let mut sink = StdSink::new(&output);
-    assert_eq!(rt; sink.put(b""), Ok(0));
-    assert_eq!(rt; write_all(&mut sink, all.as_slice()), Ok(()));
-    assert_eq!(rt; sink.faults(), 0);
+    let nothing = sink.put(b"") == Ok(0);
+    let written = write_all(&mut sink, all.as_slice()) == Ok(());
+    assert!(rt; nothing && written && sink.faults() == 0);
     drop(sink);
     let Output { file, most: _ } = output;
     let stuck = Output { file, most: 0 };
     let mut sink = StdSink::new(&stuck);
-    assert_eq!(rt; write_all(&mut sink, b"x"), Err(WriteError::Fault));
-    assert_eq!(rt; sink.faults(), 1);
-    assert_eq!(rt; fs::read(&rt, name)?.as_slice(), all.as_slice());
+    let stopped = write_all(&mut sink, b"x") == Err(WriteError::Fault);
+    assert!(rt; stopped && sink.faults() == 1);
+    assert!(rt; fs::read(&rt, name)?.as_slice() == all.as_slice());
     fs::remove_file(&rt, name)?;
     Ok(())
 }
@@ -122,11 +125,11 @@ fn real_files_are_read_and_refused(rt: HostRuntime) -> Result<(), Fail> {
     fs::write(&rt, name, all.as_slice())?;
     let mut shelf = StdShelf::new(&rt);
     let mut buffer = [0u8; 2];
-    assert_eq!(rt; shelf.take(&mut buffer), Ok(0));
+    let nothing = shelf.take(&mut buffer) == Ok(0);
     let read = read_file(alloc, &mut shelf, name, 5000)?;
-    assert_eq!(rt; read.as_slice(), all.as_slice());
-    let long = read_file(alloc, &mut shelf, name, 4999);
-    assert_eq!(rt; long.err(), Some(ReadError::TooLong { limit: 4999 }));
+    let long = read_file(alloc, &mut shelf, name, 4999).err();
+    let refused = long == Some(ReadError::TooLong { limit: 4999 });
+    assert!(rt; nothing && refused && read.as_slice() == all.as_slice());
     // a name, its refusal, the faults that are then counted
     let refused = [
         ("sail_outside_none.tmp", BeginError::Missing, 0),
@@ -134,16 +137,18 @@ fn real_files_are_read_and_refused(rt: HostRuntime) -> Result<(), Fail> {
         ("sail_outside\0.tmp", BeginError::Failed, 2),
     ];
     for (other, refusal, faults) in refused {
-        assert_eq!(rt; shelf.begin(name), Ok(()));
-        assert_eq!(rt; shelf.begin(other), Err(refusal), "{other}");
-        assert_eq!(rt; shelf.faults(), faults, "{other}");
+        let begun = shelf.begin(name) == Ok(());
+        let refused = shelf.begin(other) == Err(refusal);
         // Nothing is left of the file begun before.
-        assert_eq!(rt; shelf.take(&mut buffer), Ok(0), "{other}");
+        let nothing = shelf.take(&mut buffer) == Ok(0);
+        assert!(rt;
+            begun && refused && nothing && shelf.faults() == faults,
+            "{other}"
+        );
     }
     fs::remove_file(&rt, name)?;
     // A directory is opened, and its read is at fault.
-    let folder = read_file(alloc, &mut shelf, ".", 5000);
-    assert_eq!(rt; folder.err(), Some(ReadError::Fault));
-    assert_eq!(rt; shelf.faults(), 3);
+    let folder = read_file(alloc, &mut shelf, ".", 5000).err();
+    assert!(rt; folder == Some(ReadError::Fault) && shelf.faults() == 3);
     Ok(())
 }

@@ -40,7 +40,7 @@ fn the_exit_status_is_that_of_the_answer(rt: HostRuntime) -> Result<(), Fail> {
         (&[b"sail-run", b"run", b"--elf", b"no.elf", b"no.sail"], 9),
     ];
     for (words, status) in rows {
-        assert_eq!(rt; answer(&rt, &Line { words }), ExitCode::from(status));
+        assert!(rt; answer(&rt, &Line { words }) == ExitCode::from(status));
     }
     Ok(())
 }

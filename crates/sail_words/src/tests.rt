@@ -118,7 +118,7 @@ fn words_ask_for_runs(rt: HostRuntime) -> Result<(), Fail> {
         ),
     ];
     for (words, want) in rows {
-        assert_eq!(rt; answer(alloc, words)?.as_str(), want, "{words:?}");
+        assert!(rt; answer(alloc, words)?.as_str() == want, "{words:?}");
     }
     let mut words = vec![in alloc; "run", "--elf=Q"]?;
     for _ in 0..64 {
@@ -126,6 +126,6 @@ fn words_ask_for_runs(rt: HostRuntime) -> Result<(), Fail> {
     }
     assert!(rt; answer(alloc, words.as_slice())?.len() > 128);
     words.push("M")?;
-    assert_eq!(rt; answer(alloc, words.as_slice())?.as_str(), "usage");
+    assert!(rt; answer(alloc, words.as_slice())?.as_str() == "usage");
     Ok(())
 }

@@ -18,4 +18,5 @@ AreBytes-take (suc n) (byte ∷ bytes) fits =
 pub All-AreBytes : (bytes : List ℕ) → AreBytes bytes → All (λ byte. byte < 256) bytes
 All-AreBytes [] fits = λ k d h. absurd (omega arith)
 All-AreBytes (byte ∷ bytes) fits =
-    λ k. elim k as (λ k. (d : ℕ) → k < length (byte ∷ bytes) → get_or (byte ∷ bytes) k d < 256) [ zero ↦ λ d h. fits 0 | suc (k → ih) ↦ λ d h. All-AreBytes bytes (λ j. fits (suc j)) k d (omega arith) ]
+    λ k. elim k as (λ k. (d : ℕ) → k < length (byte ∷ bytes) → get_or (byte ∷ bytes) k d < 256)
+    [ zero ↦ λ d h. fits 0 | suc (k → ih) ↦ λ d h. All-AreBytes bytes (λ j. fits (suc j)) k d (omega arith) ]

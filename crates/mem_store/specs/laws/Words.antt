@@ -1,5 +1,7 @@
 -- How wide a word is, how many bytes it has, and that bytes and word give each other back.
-use Rattle.std.proofs.Common.{◌≡◌, ℕ, zero, suc, ◌*◌, ◌<◌, Bool, List, [], ◌∷◌, ◌++◌, length, take, drop, slice_index, refl, sym, ap, ◌∙◌, arith, length-append, length-take, length-drop, take_at, drop_at, take-append-drop}
+use Rattle.std.proofs.Common.{◌≡◌, ℕ, zero, suc, ◌*◌, ◌<◌, Bool, List, [], ◌∷◌, ◌++◌, length, take, drop, slice_index}
+use Rattle.std.proofs.Common.{refl, sym, ap, ◌∙◌, arith, length-append, length-take, length-drop, take_at, drop_at}
+use Rattle.std.proofs.Common.{take-append-drop}
 use Rattle.sail_base.specs.Bits.{bits_of, value_of}
 use Rattle.sail_base.specs.laws.BitLaws.{length-bits_of, value_of-bits_of_fits, bits_of-value_of}
 use Rattle.mem_store.specs.Bytes.{word_of, word_bytes}

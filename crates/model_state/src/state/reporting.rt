@@ -1,7 +1,10 @@
 //! The report of a run, and RAM as it was placed.
 ghost use Rattle.std.specs.Prelude.{◌≡◌, ◌+◌, ◌-◌, ◌≤◌, ◌++◌, ◌^◌, length, slice_get, Some, OnOk, IfOk};
 ghost use Rattle.mem_store.specs.Bytes.{IsMapped};
-ghost use Rattle.model_state.specs.Report.{report_text, cause_text, place_text, number_text, string_text, head_text, stop_line, count_line, address_text, bytes_text, register_text, registers_text, hart_text, harts_text, byte_at, same_byte, byte_text, is_changed, row_text, memory_text};
+ghost use Rattle.model_state.specs.Report.{report_text, cause_text, place_text, number_text, string_text, head_text};
+ghost use Rattle.model_state.specs.Report.{stop_line, count_line, address_text, bytes_text, register_text};
+ghost use Rattle.model_state.specs.Report.{registers_text, hart_text, harts_text, byte_at, same_byte, byte_text};
+ghost use Rattle.model_state.specs.Report.{is_changed, row_text, memory_text};
 
 use super::{Hart, Register, State};
 use crate::cause::Cause;

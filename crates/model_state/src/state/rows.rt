@@ -1,7 +1,9 @@
 //! The builtins that read or write the state.
 ghost use Rattle.std.specs.Prelude.{◌≡◌, ◌+◌, ◌*◌, ◌<◌, ◌≤◌, ◌++◌, [], ◌∷◌, length, map};
 ghost use Rattle.sail_base.specs.Bits.{value_of};
-ghost use Rattle.model_state.specs.StateRows.{reservation, touches, covers, after_write, with_reservation, is_there, read_result, reserve_state, write_result, write_state, write_cond_result, write_cond_state, Puts};
+ghost use Rattle.model_state.specs.StateRows.{reservation, touches, covers, after_write, with_reservation, is_there};
+ghost use Rattle.model_state.specs.StateRows.{read_result, reserve_state, write_result, write_state};
+ghost use Rattle.model_state.specs.StateRows.{write_cond_result, write_cond_state, Puts};
 
 use super::{Hart, Reservation, State};
 use crate::cause::{Cause, RowError};

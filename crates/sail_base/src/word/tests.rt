@@ -308,18 +308,16 @@ fn operations(rt: HostRuntime) {
     for (operation, width, a, b, to, want) in TWO {
         assert!(rt; width <= 128 && to <= 128);
         let found = of_two(operation, Word::low(width, a), Word::low(width, b));
-        assert_eq!(rt;
-            found,
-            Some(Word::low(to, want)),
+        assert!(rt;
+            found == Some(Word::low(to, want)),
             "{width} bits: {a} and {b}"
         );
     }
     for (operation, width, a, number, to, want) in ONE {
         assert!(rt; width <= 128 && to <= 128);
         let found = of_one(operation, Word::low(width, a), number);
-        assert_eq!(rt;
-            found,
-            Some(Word::low(to, want)),
+        assert!(rt;
+            found == Some(Word::low(to, want)),
             "{width} bits: {a} and {number}"
         );
     }
@@ -331,9 +329,8 @@ fn parts(rt: HostRuntime) {
     for (width, a, low, b, want) in APPENDED {
         assert!(rt; width <= 128 && low <= 128 - width);
         let found = Word::low(width, a).append(Word::low(low, b));
-        assert_eq!(rt;
-            found,
-            Word::low(width + low, want),
+        assert!(rt;
+            found == Word::low(width + low, want),
             "{width} and {low} bits: {a} and {b}"
         );
     }
@@ -341,12 +338,11 @@ fn parts(rt: HostRuntime) {
         assert!(rt; width <= 128 && high < width && low <= high);
         let word = Word::low(width, a);
         let found = word.slice(high, low);
-        assert_eq!(rt;
-            found,
-            Word::low(high - low + 1, want),
+        let is_cut = found == Word::low(high - low + 1, want);
+        assert!(rt;
+            is_cut && word.bit(low) == (want % 2 == 1),
             "{width} bits: {a} to {low}"
         );
-        assert_eq!(rt; word.bit(low), want % 2 == 1, "{width} bits: {a} at {low}");
     }
 }
 
@@ -355,18 +351,16 @@ fn readings(rt: HostRuntime) {
     for (width, a, turned, zeros, top, number) in READ {
         assert!(rt; width <= 128);
         let word = Word::low(width, a);
-        assert_eq!(rt; word.bits(), a);
-        assert_eq!(rt; word.not(), Word::low(width, turned), "{width} bits: {a}");
-        assert_eq!(rt; word.count_leading_zeros(), zeros, "{width} bits: {a}");
-        assert_eq!(rt; word.top(), top, "{width} bits: {a}");
-        assert_eq!(rt; word.signed(), number, "{width} bits: {a}");
-        assert_eq!(rt; Word::of_int(width, number), word, "{width} bits: {number}");
+        let reads = word.bits() == a && word.top() == top && word.signed() == number;
+        let counts = word.count_leading_zeros() == zeros;
+        let turns = word.not() == Word::low(width, turned);
+        let returns = Word::of_int(width, number) == word;
+        assert!(rt; reads && counts && turns && returns, "{width} bits: {a}");
     }
     for (width, number, want) in LOWEST {
         assert!(rt; width <= 128);
-        assert_eq!(rt;
-            Word::of_int(width, number),
-            Word::low(width, want),
+        assert!(rt;
+            Word::of_int(width, number) == Word::low(width, want),
             "{number}"
         );
     }
@@ -375,7 +369,6 @@ fn readings(rt: HostRuntime) {
 #[test]
 fn sums_and_divisors(rt: HostRuntime) {
     for (a, b, total, divisor) in SUMS {
-        assert_eq!(rt; sum(a, b), total, "{a} and {b}");
-        assert_eq!(rt; gcd(a, b), divisor, "{a} and {b}");
+        assert!(rt; sum(a, b) == total && gcd(a, b) == divisor, "{a} and {b}");
     }
 }

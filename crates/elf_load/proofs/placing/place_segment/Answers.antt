@@ -10,6 +10,7 @@ returns-clause-placed g c =
     let place = c.args.segment.now.place in
     let size = c.args.segment.now.size in
     let within = c.requires.within c.if-segment-eq0.false in
-    put_segment old (g.M.Memory.bytes c.put_bytes.new.memory) _ c.as_slice-bytes.result.now (place - base) (length c.as_slice-bytes.result.now) (place - g.M.Memory.base c.put_bytes.new.memory) size
+    put_segment old (g.M.Memory.bytes c.put_bytes.new.memory) _ c.as_slice-bytes.result.now (place - base)
+    (length c.as_slice-bytes.result.now) (place - g.M.Memory.base c.put_bytes.new.memory) size
     (omega (arith, within.0, within.1)) c.put_bytes.ensures.put refl (ap (λ b. place - b) c.put_bytes.ensures.same) c.put_zeros.ensures.put
     ∙ ap (λ bytes. overwritten old (place - base) (bytes ++ replicate (size - length bytes) 0)) c.as_slice-bytes.ensures

@@ -14,8 +14,18 @@ loop-i-preserved g c =
     let here : c.args.at + i - g.M.Memory.base c.loop-i.memory ≡ c.args.at - base + i = omega (arith, c.loop-i.invariant.same, c.requires.within.0) in
     record {
       same = c.write.ensures.same ∙ c.loop-i.invariant.same;
-      size = put_keeps (g.M.Memory.bytes c.loop-i.memory) _ (word_bytes 1 c.new.result) _ 1 c.write.ensures.written refl (omega (arith, here, c.loop-i.invariant.size, c.requires.within.0, c.requires.within.1, c.loop-i-test.true)) ∙ c.loop-i.invariant.size;
+      size = put_keeps (g.M.Memory.bytes c.loop-i.memory) _ (word_bytes 1 c.new.result) _ 1 c.write.ensures.written
+          refl (omega (
+            arith,
+            here,
+            c.loop-i.invariant.size,
+            c.requires.within.0,
+            c.requires.within.1,
+            c.loop-i-test.true,
+          )) ∙ c.loop-i.invariant.size;
       put = put_more old (g.M.Memory.bytes c.loop-i.memory) _ (word_bytes 1 c.new.result) (c.args.at - base) _ i (get_or bytes i 0) (take i bytes)
-          (omega (arith, c.requires.within.0, c.requires.within.1)) (c.type_inv.bytes i).fits c.loop-i.invariant.put (omega (arith, length-take i bytes, c.loop-i-test.true)) here (ap (word_bytes 1) c.new.ensures) c.write.ensures.written
+          (omega (arith, c.requires.within.0, c.requires.within.1)) (c.type_inv.bytes i).fits c.loop-i.invariant.put
+          (omega (arith, length-take i bytes, c.loop-i-test.true)) here (ap (word_bytes 1) c.new.ensures)
+          c.write.ensures.written
           ∙ ap (overwritten old (c.args.at - base)) (sym next);
     }

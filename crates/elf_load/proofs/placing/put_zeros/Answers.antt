@@ -12,11 +12,23 @@ loop-i-preserved g c =
     let from = c.args.from in
     let start = c.args.at - base + from in
     let count : suc (i - from) ≡ i + 1 - from = omega (arith, c.loop-i.auto.i) in
-    let here : c.args.at + i - g.M.Memory.base c.loop-i.memory ≡ start + (i - from) = omega (arith, c.loop-i.invariant.same, c.requires.within.0, c.loop-i.auto.i) in
+    let here : c.args.at + i - g.M.Memory.base c.loop-i.memory ≡ start + (i - from) = omega
+    (arith, c.loop-i.invariant.same, c.requires.within.0, c.loop-i.auto.i) in
     record {
       same = c.write.ensures.same ∙ c.loop-i.invariant.same;
-      size = put_keeps (g.M.Memory.bytes c.loop-i.memory) _ (word_bytes 1 c.new.result) _ 1 c.write.ensures.written refl (omega (arith, here, c.loop-i.invariant.size, c.requires.within.0, c.requires.within.1, c.loop-i-test.true, c.loop-i.auto.i)) ∙ c.loop-i.invariant.size;
+      size = put_keeps (g.M.Memory.bytes c.loop-i.memory) _ (word_bytes 1 c.new.result) _ 1 c.write.ensures.written
+          refl (omega (
+            arith,
+            here,
+            c.loop-i.invariant.size,
+            c.requires.within.0,
+            c.requires.within.1,
+            c.loop-i-test.true,
+            c.loop-i.auto.i,
+          )) ∙ c.loop-i.invariant.size;
       put = put_more old (g.M.Memory.bytes c.loop-i.memory) _ (word_bytes 1 c.new.result) start _ (i - from) 0 (replicate (i - from) 0)
-          (omega (arith, c.requires.within.0, c.requires.within.1, c.requires.order)) (omega arith) c.loop-i.invariant.put (sym (length-replicate (i - from) 0)) here (ap (word_bytes 1) c.new.ensures) c.write.ensures.written
+          (omega (arith, c.requires.within.0, c.requires.within.1, c.requires.order)) (omega arith)
+          c.loop-i.invariant.put (sym (length-replicate (i - from) 0)) here (ap (word_bytes 1) c.new.ensures)
+          c.write.ensures.written
           ∙ ap (overwritten old start) (replicate-more (i - from) 0 ∙ ap (λ n. replicate n 0) count);
     }

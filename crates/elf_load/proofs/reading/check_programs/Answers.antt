@@ -10,7 +10,8 @@ use Rattle.elf_load.proofs.reading.check_programs.Goals as goal
 pub returns-in_err-check_program-clause-failed : goal.returns-in_err-check_program-clause-failed
 returns-in_err-check_program-clause-failed c =
     let p = err_from_is_err_and c.from_residual.result c.from_residual.ensures.1 in
-    rw (p.1, p.2) (index_failed (program_tests c.args.file.now) c.loop-index.index (e_phnum c.args.file.now) _ (omega arith) c.loop-index.invariant.passed c.in_err-check_program.ensures.failed)
+    rw (p.1, p.2) (index_failed (program_tests c.args.file.now) c.loop-index.index (e_phnum c.args.file.now) _
+    (omega arith) c.loop-index.invariant.passed c.in_err-check_program.ensures.failed)
 
 pub loop-index-preserved : goal.loop-index-preserved
 loop-index-preserved c = record {
