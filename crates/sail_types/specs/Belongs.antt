@@ -1,15 +1,19 @@
 -- Which values belong to a type: those of its shape that have its numbers.
 use Rattle.std.specs.Bool.{beq}
-use Rattle.std.specs.Prelude.{nat_eq, nat_lt, ℤ, pos, int_le, Bool, true, false, ◌&&◌, List, [], ◌∷◌, map, length, slice_index_or, Option, Some, None}
+use Rattle.std.specs.Prelude.{ℕ, zero, suc, nat_eq, nat_lt, ℤ, pos, int_le, Bool, true, false, ◌&&◌, List, [], ◌∷◌, map, length}
+use Rattle.std.specs.Prelude.{slice_index_or, Option, Some, None}
 use Rattle.std.specs.Ordering.{int_eq}
 use Rattle.std.specs.List.{list_all}
+use Rattle.sail_types.specs.Before.{beyond_of}
 use Rattle.sail_types.specs.Limits.{is_small, is_width, is_length}
-use Rattle.sail_types.specs.Numbers.{Assignment, number, true_in, under}
+use Rattle.sail_types.specs.Numbers.{Assignment, number, true_in}
 use Rattle.sail_types.specs.Named.{fields, field_types, members, payload}
 use Rattle.sail_types.specs.Places.{Given, an_int, placed}
+use Rattle.sail_types.specs.Readings.{truth_at}
+use Rattle.sail_types.specs.Sums.{constant, number_at, read, substituted, variable}
 use Rattle.sail_types.specs.declared.numbers.Con.{Con}
 use Rattle.sail_types.specs.declared.numbers.Index.{Index}
-use Rattle.sail_types.specs.declared.numbers.Index.TheVariants as I
+use Rattle.sail_types.specs.declared.numbers.Num.{Num}
 use Rattle.sail_types.specs.declared.table.Field.{Field}
 use Rattle.sail_types.specs.declared.table.Types.{Types}
 use Rattle.sail_types.specs.declared.types.Typ.{Typ, Typ-F}
@@ -29,22 +33,34 @@ mutual
     no_readings : Readings
     more_readings : Reading → Readings → Readings
 
--- ---- a named type's arguments, read where they are written
+-- ---- what the variables further in stand for
 
-abbrev pub index_int : Assignment → Index → ℤ
-index_int nu (I.Number t) = number nu t
-index_int nu (I.Truth c) = pos 0
-
-abbrev pub index_bool : Assignment → Index → Bool
-index_bool nu (I.Number t) = false
-index_bool nu (I.Truth c) = true_in nu c
-
--- what the Int and Bool parameters stand for
+-- what the Int and Bool parameters of a named type stand for: its arguments, as the assignment before a substitution has it
 abbrev pub assigned : Assignment → List Index → Assignment
 assigned nu indices = record {
-  int = λ i. slice_index_or (map (index_int nu) indices) i (pos 0);
-  bool = λ i. slice_index_or (map (index_bool nu) indices) i false;
-  beyond = nu.beyond;
+  int = λ i. number nu (number_at indices i);
+  bool = λ i. true_in nu (truth_at indices i);
+  beyond = λ t. beyond_of nu (read indices t);
+}
+
+abbrev pub int_under : ℤ → (ℕ → ℤ) → ℕ → ℤ
+int_under z f zero = z
+int_under z f (suc i) = f i
+
+abbrev pub bool_under : (ℕ → Bool) → ℕ → Bool
+bool_under f zero = false
+bool_under f (suc i) = f i
+
+abbrev pub number_under : ℤ → ℕ → Num
+number_under z zero = constant z
+number_under z (suc i) = variable i
+
+-- one binder further in: variable 0 is what it binds, and the others are one less outside
+abbrev pub under : ℤ → Assignment → Assignment
+under z nu = record {
+  int = int_under z nu.int;
+  bool = bool_under nu.bool;
+  beyond = λ t. beyond_of nu (substituted (number_under z) t);
 }
 
 -- what the Type parameters stand for

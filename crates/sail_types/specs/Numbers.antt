@@ -1,6 +1,6 @@
 -- What numbers of types are and when constraints are true, under an assignment to their variables, over
 -- unbounded integers (Sail language manual, "Numeric types" and "Type variables").
-use Rattle.std.specs.Prelude.{unwrap_or, ℕ, zero, suc, ℤ, pos, ◌+ℤ◌, ◌*ℤ◌, ◌≤ℤ◌, int_le, int_lt, Bool, false, not, List, [], ◌∷◌, map}
+use Rattle.std.specs.Prelude.{unwrap_or, ℕ, ℤ, pos, ◌+ℤ◌, ◌*ℤ◌, ◌≤ℤ◌, int_le, int_lt, Bool, not, List, [], ◌∷◌, map}
 use Rattle.std.specs.Ordering.{int_eq}
 use Rattle.std.specs.List.{list_all, list_any}
 use Rattle.sail_types.specs.Limits.{largest, small_power}
@@ -75,15 +75,3 @@ form_true nu (C.Any bs) = list_any (λ b. b) bs
 -- whether a constraint is true
 abbrev pub true_in : Assignment → Con → Bool
 true_in nu = fold-Con Bool (form_true nu)
-
--- the variables of a type one binder further in: variable 0 is what it binds
-abbrev pub int_under : ℤ → (ℕ → ℤ) → ℕ → ℤ
-int_under z f zero = z
-int_under z f (suc i) = f i
-
-abbrev pub bool_under : (ℕ → Bool) → ℕ → Bool
-bool_under f zero = false
-bool_under f (suc i) = f i
-
-abbrev pub under : ℤ → Assignment → Assignment
-under z nu = record { int = int_under z nu.int; bool = bool_under nu.bool; beyond = nu.beyond }

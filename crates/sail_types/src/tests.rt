@@ -3,7 +3,8 @@ use sail_base::{Boxed, Items, Text, Word};
 use std::alloc::{AllocError, Global};
 use std::test::Fail;
 
-/// A table: `option`, a struct `pair` of the fields `f` and `g`, and an enum `color` of `Red` and `Green`.
+/// A table: `option`, a struct `pair` of the fields `f` and `g`, an enum `color` of `Red` and `Green`, and a
+/// struct `flags` of the field `bits`.
 fn table(alloc: Global) -> Result<Types, AllocError> {
     let mut constructors = Items::new(alloc);
     constructors.push(field(alloc, "Some", Typ::Variable(0))?)?;
@@ -18,6 +19,11 @@ fn table(alloc: Global) -> Result<Types, AllocError> {
     definitions.push(definition(alloc, "option", Form::Union(constructors))?)?;
     definitions.push(definition(alloc, "pair", Form::Struct(fields))?)?;
     definitions.push(definition(alloc, "color", Form::Enum(members))?)?;
+    let bits = one_of(
+        alloc,
+        field(alloc, "bits", Typ::Bits(Num::constant(alloc, 8)))?,
+    )?;
+    definitions.push(definition(alloc, "flags", Form::Struct(bits))?)?;
     Ok(Types { definitions })
 }
 
@@ -72,7 +78,7 @@ fn shapes_print_as_the_manual_writes_types(rt: HostRuntime) -> Result<(), Fail> 
     for (shape, text) in &shapes {
         let mut out = Vec::new(alloc);
         push_shape(&mut out, &types, names.as_slice(), shape)?;
-        assert_eq!(rt; out.as_slice(), text.as_bytes());
+        assert!(rt; out.as_slice() == text.as_bytes());
     }
     Ok(())
 }
@@ -105,7 +111,7 @@ fn numbers_print_in_normal_form(rt: HostRuntime) -> Result<(), Fail> {
     for (number, text) in &numbers {
         let mut out = Vec::new(alloc);
         push_number(&mut out, names.as_slice(), number)?;
-        assert_eq!(rt; out.as_slice(), text.as_bytes());
+        assert!(rt; out.as_slice() == text.as_bytes());
     }
     Ok(())
 }
@@ -121,7 +127,16 @@ fn values_print_as_in_the_report(rt: HostRuntime) -> Result<(), Fail> {
         (Value::Bits(Word::zeros(0)), "0b"),
         (Value::Bit(false), "bitzero"),
         (Value::Truth(true), "true"),
+        (Value::Bit(true), "bitone"),
         (Value::Integer(-5), "-5"),
+        (
+            Value::Integer(1 << 126),
+            "85070591730234615865843651857942052864",
+        ),
+        (
+            Value::Integer(-(1 << 126)),
+            "-85070591730234615865843651857942052864",
+        ),
         (Value::Unit, "()"),
         (Value::Member(2, 1), "Green"),
         (
@@ -131,6 +146,18 @@ fn values_print_as_in_the_report(rt: HostRuntime) -> Result<(), Fail> {
         (
             Value::Vector(pair_of(alloc, Value::Integer(1), Value::Integer(2))?),
             "[1, 2]",
+        ),
+        (
+            Value::Vector(pair_of(
+                alloc,
+                Value::Bits(Word::new(8, 1)),
+                Value::Bits(Word::new(8, 2)),
+            )?),
+            "[0x01, 0x02]",
+        ),
+        (
+            Value::Struct(3, one_of(alloc, Value::Bits(Word::new(8, 0xa8)))?),
+            "{bits = 0xa8}",
         ),
         (
             zero_of(
@@ -154,7 +181,7 @@ fn values_print_as_in_the_report(rt: HostRuntime) -> Result<(), Fail> {
     for (value, text) in &values {
         let mut out = Vec::new(alloc);
         push_value(&mut out, &types, value)?;
-        assert_eq!(rt; out.as_slice(), text.as_bytes());
+        assert!(rt; out.as_slice() == text.as_bytes());
     }
     Ok(())
 }
