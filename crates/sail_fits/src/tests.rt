@@ -1,0 +1,203 @@
+use super::*;
+use sail_base::{Boxed, Items, Text};
+use sail_types::{Con, Definition, Field, Form, Index, Num, Shape, Typ, Types, Value};
+use std::alloc::{AllocError, Global};
+use std::test::Fail;
+
+const OPTION: u32 = 0;
+
+const PAIR: u32 = 1;
+
+const COLOR: u32 = 2;
+
+const SHADE: u32 = 3;
+
+const WRAPPED: u32 = 4;
+
+/// A table: `option`, a struct `pair` of a bool and a bit, enums `color` of two members and `shade` of one, and
+/// a struct `wrapped('a)` with one field of `option('a)`.
+fn table(alloc: Global) -> Result<Types, AllocError> {
+    let mut constructors = Items::new(alloc);
+    constructors.push(field(alloc, "Some", Typ::Variable(0))?)?;
+    constructors.push(field(alloc, "None", Typ::Unit)?)?;
+    let mut fields = Items::new(alloc);
+    fields.push(field(alloc, "f", Typ::Bool)?)?;
+    fields.push(field(alloc, "g", Typ::Bit)?)?;
+    let mut colors = Items::new(alloc);
+    colors.push(Text::new(alloc, "Red")?)?;
+    colors.push(Text::new(alloc, "Green")?)?;
+    let shades = one_of(alloc, Text::new(alloc, "Dark")?)?;
+    let inside = Typ::Named(OPTION, Items::new(alloc), one_of(alloc, Typ::Variable(0))?);
+    let wrapped = one_of(alloc, field(alloc, "inside", inside)?)?;
+    let mut definitions = Items::new(alloc);
+    definitions.push(definition(alloc, "option", Form::Union(constructors))?)?;
+    definitions.push(definition(alloc, "pair", Form::Struct(fields))?)?;
+    definitions.push(definition(alloc, "color", Form::Enum(colors))?)?;
+    definitions.push(definition(alloc, "shade", Form::Enum(shades))?)?;
+    definitions.push(definition(alloc, "wrapped", Form::Struct(wrapped))?)?;
+    Ok(Types { definitions })
+}
+
+fn field(alloc: Global, name: &str, typ: Typ) -> Result<Field, AllocError> {
+    let name = Text::new(alloc, name)?;
+    Ok(Field { name, typ })
+}
+
+fn definition(alloc: Global, name: &str, form: Form) -> Result<Definition, AllocError> {
+    let name = Text::new(alloc, name)?;
+    Ok(Definition {
+        name,
+        parameters: Items::new(alloc),
+        form,
+    })
+}
+
+fn one_of<T: Drop>(alloc: Global, a: T) -> Result<Items<T>, AllocError> {
+    let mut items = Items::new(alloc);
+    items.push(a)?;
+    Ok(items)
+}
+
+fn pair_of<T: Drop>(alloc: Global, a: T, b: T) -> Result<Items<T>, AllocError> {
+    let mut items = one_of(alloc, a)?;
+    items.push(b)?;
+    Ok(items)
+}
+
+/// `Some(value)`
+fn some(alloc: Global, value: Value) -> Result<Value, AllocError> {
+    Ok(Value::Union(OPTION, 0, Boxed::new(alloc, value)?))
+}
+
+/// `option(item)`
+fn option(alloc: Global, item: Shape) -> Result<Shape, AllocError> {
+    Ok(Shape::Named(OPTION, one_of(alloc, item)?))
+}
+
+fn list(alloc: Global, item: Shape) -> Result<Shape, AllocError> {
+    Ok(Shape::List(Boxed::new(alloc, item)?))
+}
+
+#[test]
+fn values_fit_their_shapes(rt: HostRuntime) -> Result<(), Fail> {
+    let alloc = rt.alloc();
+    let types = table(alloc)?;
+    let int_list = Value::List(one_of(alloc, Value::Integer(1))?);
+    let wrapped = Value::Struct(WRAPPED, one_of(alloc, some(alloc, Value::Truth(true))?)?);
+    let short = Value::Struct(PAIR, one_of(alloc, Value::Truth(true))?);
+    let pair = Value::Struct(PAIR, pair_of(alloc, Value::Truth(true), Value::Bit(true))?);
+    let crossed = Value::Struct(PAIR, pair_of(alloc, Value::Bit(true), Value::Truth(true))?);
+    let two = Value::Tuple(pair_of(alloc, Value::Integer(1), Value::Unit)?);
+    let two_shapes = pair_of(alloc, Shape::Int, Shape::Unit)?;
+    let cases = [
+        (
+            Value::List(Items::new(alloc)),
+            list(alloc, Shape::Int)?,
+            true,
+        ),
+        (
+            Value::List(Items::new(alloc)),
+            list(alloc, Shape::Hole)?,
+            true,
+        ),
+        (
+            Value::List(Items::new(alloc)),
+            Shape::Vector(Boxed::new(alloc, Shape::Int)?),
+            false,
+        ),
+        (int_list, list(alloc, Shape::Bool)?, false),
+        (
+            some(alloc, Value::Truth(true))?,
+            option(alloc, Shape::Bool)?,
+            true,
+        ),
+        (
+            some(alloc, Value::Truth(true))?,
+            option(alloc, Shape::Int)?,
+            false,
+        ),
+        (
+            some(alloc, Value::Unit)?,
+            Shape::Named(COLOR, Items::new(alloc)),
+            false,
+        ),
+        (
+            wrapped,
+            Shape::Named(WRAPPED, one_of(alloc, Shape::Bool)?),
+            true,
+        ),
+        (pair, Shape::Named(PAIR, Items::new(alloc)), true),
+        (crossed, Shape::Named(PAIR, Items::new(alloc)), false),
+        (short, Shape::Named(PAIR, Items::new(alloc)), false),
+        (
+            Value::Member(COLOR, 1),
+            Shape::Named(COLOR, Items::new(alloc)),
+            true,
+        ),
+        (
+            Value::Member(COLOR, 2),
+            Shape::Named(COLOR, Items::new(alloc)),
+            false,
+        ),
+        (
+            Value::Member(COLOR, 0),
+            Shape::Named(SHADE, Items::new(alloc)),
+            false,
+        ),
+        (two, Shape::Tuple(two_shapes), true),
+        (Value::Integer(-1), Shape::Variable(0), true),
+        (Value::Unit, Shape::Hole, false),
+        (Value::Unit, Shape::Never, false),
+    ];
+    for (value, shape, fit) in &cases {
+        assert!(rt; value_fits(&types, value, shape) == *fit);
+    }
+    Ok(())
+}
+
+/// `{name, true. int(name)}`
+fn some_int(alloc: Global, name: &str) -> Result<Typ, AllocError> {
+    let number = Num::variable(alloc, 0)?;
+    let typ = Boxed::new(alloc, Typ::Int(number))?;
+    Ok(Typ::Exists(Text::new(alloc, name)?, Con::Truth(true), typ))
+}
+
+fn range(alloc: Global, low: i128, high: i128) -> Typ {
+    Typ::Range(Num::constant(alloc, low), Num::constant(alloc, high))
+}
+
+fn named(alloc: Global, index: i128, argument: Typ) -> Result<Typ, AllocError> {
+    let indices = one_of(alloc, Index::Number(Num::constant(alloc, index)))?;
+    Ok(Typ::Named(WRAPPED, indices, one_of(alloc, argument)?))
+}
+
+#[test]
+fn types_are_the_same_but_for_names(rt: HostRuntime) -> Result<(), Fail> {
+    let alloc = rt.alloc();
+    let cases = [
+        (some_int(alloc, "'n")?, some_int(alloc, "'m")?, true),
+        (
+            some_int(alloc, "'n")?,
+            Typ::Int(Num::variable(alloc, 0)?),
+            false,
+        ),
+        (range(alloc, 0, 1), range(alloc, 0, 1), true),
+        (range(alloc, 0, 1), range(alloc, 0, 2), false),
+        (named(alloc, 3, Typ::Bit)?, named(alloc, 3, Typ::Bit)?, true),
+        (
+            named(alloc, 3, Typ::Bit)?,
+            named(alloc, 4, Typ::Bit)?,
+            false,
+        ),
+        (
+            named(alloc, 3, Typ::Bit)?,
+            named(alloc, 3, Typ::Bool)?,
+            false,
+        ),
+        (Typ::Variable(0), Typ::Variable(1), false),
+    ];
+    for (a, b, same) in &cases {
+        assert!(rt; same_type(a, b) == *same);
+    }
+    Ok(())
+}
