@@ -1,4 +1,5 @@
 ghost use Rattle.std.specs.Prelude.{◌≡◌, ◌<◌, ◌≤◌, length, IsSome, Some};
+ghost use Rattle.std.specs.Option.{option_copied};
 ghost use Rattle.model_state.specs.RunState.{register_value, with_register};
 ghost use Rattle.model_state.specs.Folds.{rests, set_rests, all_rest};
 
@@ -104,6 +105,14 @@ impl<M: Memory> State<M> {
     {
         let hart = &self.harts[hart as usize];
         &hart.registers.as_slice()[index as usize]
+    }
+
+    /// The value of a register of a hart, both by their places from 0; none where it isn't there.
+    pub fn find_register(&self, hart: u8, index: u32) -> Option<&Value>
+        ensures { option_copied result ≡ register_value self.now hart index }
+    {
+        let hart = self.harts.get(hart as usize)?;
+        hart.registers.get(index as usize)
     }
 
     /// Gives a register of a hart a value, both by their places from 0; they are there. Nothing else changes.

@@ -4,50 +4,63 @@ use Rattle.sail_outside.specs.Files.{Files}
 use Rattle.sail_outside.specs.Faults.{Rose}
 use Rattle.sail_outside.specs.Bytes.{Sent}
 use Rattle.sail_base.specs.declared.elf_refusal.ElfRefusal.{ElfRefusal}
-use Rattle.sail_top.specs.Answer.{Judges, AnswersFiles, AnswersEnd, AnswersCommand, AnswersLine, IsAnswer, answer_for, model_refused}
-use Rattle.sail_top.specs.Command.{Command, command_of}
+use Rattle.sail_top.specs.Answer.{Judges, AnswersFiles, AnswersEnd, AnswersCommand, AnswersLine, IsAnswer}
+use Rattle.sail_top.specs.Answer.{answer_for, image_unless, run_unless, model_refused}
+use Rattle.elf_load.specs.Placed.{place_refusal}
+use Rattle.elf_load.specs.Reading.{elf_refusal, image_of}
+use Rattle.elf_load.specs.declared.image.Image.{Image}
+use Rattle.sail_words.specs.Line.{line_of}
+use Rattle.sail_words.specs.declared.run.Run.{Run}
 use Rattle.sail_top.specs.Ending.{IsPlain, Answered, AnsweredPart, Completes}
-use Rattle.sail_top.specs.Image.{image_refusal}
 use Rattle.sail_top.specs.Reading.{ReadEnd, whole, absent, long, contents_at, wanted_by, reading}
 use Rattle.sail_top.specs.parts.Finished.{Finished, all, fault, wanting}
-use Rattle.sail_top.specs.declared.model.Model.{Model}
+use Rattle.sail_fragment.specs.declared.model.Model.{Model}
 use Rattle.sail_top.specs.declared.status.Answer.{Answer}
 use Rattle.sail_top.specs.declared.status.Status.{Status}
 use Rattle.sail_top.specs.declared.status.Status.TheVariants as status
-use Rattle.sail_top.proofs.Unique.{one_of_texts}
+use Rattle.sail_fragment.proofs.Unique.{one_of_texts}
 
-plain_for : (events : ℕ) (model : Model) (refused : Option ElfRefusal) → IsPlain (answer_for events model refused).status
-plain_for events model None = tt
-plain_for events model (Some refusal) = tt
+plain_run : (command : Run) (model : Model) (image : Image) (refused : Option ElfRefusal)
+    → IsPlain (run_unless command model image refused).status
+plain_run command model image None = tt
+plain_run command model image (Some refusal) = tt
 
-plain_judged : (events : ℕ) (texts : List (List ℕ)) (image : List ℕ) (answer : Answer) → Judges events texts image answer → IsPlain answer.status
-plain_judged events texts image answer (inl refused) = subst (λ a. IsPlain a.status) (sym refused.2) tt
-plain_judged events texts image answer (inr read) = subst (λ a. IsPlain a.status) (sym read.2) (plain_for events read.0 (image_refusal image))
+plain_image : (command : Run) (model : Model) (image : Image) (refused : Option ElfRefusal)
+    → IsPlain (image_unless command model image refused).status
+plain_image command model image None = plain_run command model image (place_refusal image command.ram_base command.ram_size)
+plain_image command model image (Some refusal) = tt
 
-plain_end : (events : ℕ) (end : ReadEnd) (answer : Answer) → AnswersEnd events end answer → IsPlain answer.status
-plain_end events (absent number name) answer is = subst (λ a. IsPlain a.status) (sym is) tt
-plain_end events (long number name limit) answer is = subst (λ a. IsPlain a.status) (sym is) tt
-plain_end events (whole files) answer is = plain_judged events is.0 is.1 answer is.3
+plain_judged : (command : Run) (texts : List (List ℕ)) (image : List ℕ) (answer : Answer)
+    → Judges command texts image answer → IsPlain answer.status
+plain_judged command texts image answer (inl refused) = subst (λ a. IsPlain a.status) (sym refused.2) tt
+plain_judged command texts image answer (inr read) =
+    subst (λ a. IsPlain a.status) (sym read.2) (plain_image command read.0 (image_of image) (elf_refusal image None))
 
-plain_command : (command : Command) (held : Option Files) (answer : Answer) → AnswersCommand command held answer → IsPlain answer.status
-plain_command command None answer is = plain_end command.events (reading 0 (wanted_by command) is.0) answer is.1
+plain_end : (command : Run) (end : ReadEnd) (answer : Answer) → AnswersEnd command end answer → IsPlain answer.status
+plain_end command (absent number name) answer is = subst (λ a. IsPlain a.status) (sym is) tt
+plain_end command (long number name limit) answer is = subst (λ a. IsPlain a.status) (sym is) tt
+plain_end command (whole files) answer is = plain_judged command is.0 is.1 answer is.3
+
+plain_command : (command : Run) (held : Option Files) (answer : Answer) → AnswersCommand command held answer → IsPlain answer.status
+plain_command command None answer is = plain_end command (reading 0 (wanted_by command) is.0) answer is.1
 plain_command command (Some files) answer is =
-    plain_end command.events (reading 0 (wanted_by command) (contents_at files (wanted_by command))) answer is
+    plain_end command (reading 0 (wanted_by command) (contents_at files (wanted_by command))) answer is
 
-plain_line : (l : Option Command) (held : Option Files) (answer : Answer) → AnswersLine l held answer → IsPlain answer.status
+plain_line : (l : Option Run) (held : Option Files) (answer : Answer) → AnswersLine l held answer → IsPlain answer.status
 plain_line None held answer is = subst (λ a. IsPlain a.status) (sym is) tt
 plain_line (Some command) held answer is = plain_command command held answer is
 
 -- an answer's status is none of a fault
 pub plain_answer : (words : List (List ℕ)) (held : Option Files) (answer : Answer) → IsAnswer words held answer → IsPlain answer.status
-plain_answer words held answer is = plain_line (command_of words) held answer is
+plain_answer words held answer is = plain_line (line_of words) held answer is
 
-one_judged : (events : ℕ) (texts : List (List ℕ)) (image : List ℕ) (a b : Answer) → Judges events texts image a → Judges events texts image b → a ≡ b
-one_judged events texts image a b (inl p) (inl q) = p.2 ∙ ap model_refused (p.1.1 ∙ sym q.1.1) ∙ sym q.2
-one_judged events texts image a b (inl p) (inr q) = absurd (p.1.0 q.0 q.1)
-one_judged events texts image a b (inr p) (inl q) = absurd (q.1.0 p.0 p.1)
-one_judged events texts image a b (inr p) (inr q) =
-    p.2 ∙ ap (λ m. answer_for events m (image_refusal image)) (one_of_texts texts p.0 q.0 p.1 q.1) ∙ sym q.2
+one_judged : (command : Run) (texts : List (List ℕ)) (image : List ℕ) (a b : Answer)
+    → Judges command texts image a → Judges command texts image b → a ≡ b
+one_judged command texts image a b (inl p) (inl q) = p.2 ∙ ap model_refused (p.1.1 ∙ sym q.1.1) ∙ sym q.2
+one_judged command texts image a b (inl p) (inr q) = absurd (p.1.0 q.0 q.1)
+one_judged command texts image a b (inr p) (inl q) = absurd (q.1.0 p.0 p.1)
+one_judged command texts image a b (inr p) (inr q) =
+    p.2 ∙ ap (λ m. answer_for command m image) (one_of_texts texts p.0 q.0 p.1 q.1) ∙ sym q.2
 
 -- lists with one more item at their ends
 one_last : (xs ys : List (List ℕ)) (x y : List ℕ) → xs ++ x ∷ [] ≡ ys ++ y ∷ [] → (xs ≡ ys) × (x ≡ y)
@@ -62,23 +75,23 @@ one_last (a ∷ xs) (b ∷ ys) x y same =
     let rest = one_last xs ys x y more in
     ((λ i. first i ∷ rest.0 i), rest.1)
 
-one_of_files : (events : ℕ) (files : List (List ℕ)) (a b : Answer) → AnswersFiles events files a → AnswersFiles events files b → a ≡ b
-one_of_files events files a b p q =
+one_of_files : (command : Run) (files : List (List ℕ)) (a b : Answer) → AnswersFiles command files a → AnswersFiles command files b → a ≡ b
+one_of_files command files a b p q =
     let parts = one_last p.0 q.0 p.1 q.1 (sym p.2 ∙ q.2) in
-    one_judged events q.0 q.1 a b (subst (λ t. Judges events t q.1 a) parts.0 (subst (λ i. Judges events p.0 i a) parts.1 p.3)) q.3
+    one_judged command q.0 q.1 a b (subst (λ t. Judges command t q.1 a) parts.0 (subst (λ i. Judges command p.0 i a) parts.1 p.3)) q.3
 
-one_end : (events : ℕ) (end : ReadEnd) (a b : Answer) → AnswersEnd events end a → AnswersEnd events end b → a ≡ b
-one_end events (absent number name) a b p q = p ∙ sym q
-one_end events (long number name limit) a b p q = p ∙ sym q
-one_end events (whole files) a b p q = one_of_files events files a b p q
+one_end : (command : Run) (end : ReadEnd) (a b : Answer) → AnswersEnd command end a → AnswersEnd command end b → a ≡ b
+one_end command (absent number name) a b p q = p ∙ sym q
+one_end command (long number name limit) a b p q = p ∙ sym q
+one_end command (whole files) a b p q = one_of_files command files a b p q
 
-one_line : (l : Option Command) (files : Files) (a b : Answer) → AnswersLine l (Some files) a → AnswersLine l (Some files) b → a ≡ b
+one_line : (l : Option Run) (files : Files) (a b : Answer) → AnswersLine l (Some files) a → AnswersLine l (Some files) b → a ≡ b
 one_line None files a b p q = p ∙ sym q
-one_line (Some command) files a b p q = one_end command.events (reading 0 (wanted_by command) (contents_at files (wanted_by command))) a b p q
+one_line (Some command) files a b p q = one_end command (reading 0 (wanted_by command) (contents_at files (wanted_by command))) a b p q
 
 -- words have one answer over files that are told
 pub one_answer : (words : List (List ℕ)) (files : Files) (a b : Answer) → IsAnswer words (Some files) a → IsAnswer words (Some files) b → a ≡ b
-one_answer words files a b p q = one_line (command_of words) files a b p q
+one_answer words files a b p q = one_line (line_of words) files a b p q
 
 -- a plain status is the answer's, and all was written
 pub answered : (words : List (List ℕ)) (held : Option Files) {answer : Answer} {ended : Status} {given now : Option (List ℕ)} {before after : ℕ}

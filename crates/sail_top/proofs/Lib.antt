@@ -1,13 +1,5 @@
 pub mod AnswerLemmas
-pub mod Decided
+pub mod Answered
 pub mod EndingLemmas
-pub mod Numbers
-pub mod ParseLemmas
 pub mod ReadingLemmas
-pub mod ReportLemmas
-pub mod RowLemmas
 pub mod RunLemmas
-pub mod SpellingLemmas
-pub mod EventCounts
-pub mod EventLemmas
-pub mod Unique

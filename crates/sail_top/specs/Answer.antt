@@ -3,14 +3,16 @@ use Rattle.std.specs.Prelude.{◌≡◌, ℕ, List, [], ◌∷◌, ◌++◌, ◌
 use Rattle.sail_base.specs.declared.refusal.Refusal.{Refusal}
 use Rattle.sail_base.specs.declared.elf_refusal.ElfRefusal.{ElfRefusal}
 use Rattle.sail_outside.specs.Files.{Files}
-use Rattle.sail_top.specs.Command.{Command, command_of}
-use Rattle.sail_top.specs.Grammar.{AreModel, HaveNoModel}
-use Rattle.sail_top.specs.Image.{image_refusal}
+use Rattle.elf_load.specs.Placed.{place_refusal}
+use Rattle.elf_load.specs.Reading.{elf_refusal, image_of}
+use Rattle.elf_load.specs.declared.image.Image.{Image}
+use Rattle.sail_words.specs.Line.{line_of}
+use Rattle.sail_words.specs.declared.run.Run.{Run}
+use Rattle.sail_fragment.specs.Grammar.{AreModel, HaveNoModel}
+use Rattle.sail_fragment.specs.declared.model.Model.{Model}
 use Rattle.sail_top.specs.Lines.{usage_line, no_file_line, too_long_line, refusal_line, elf_line}
 use Rattle.sail_top.specs.Reading.{ReadEnd, whole, absent, long, Contents, contents_at, wanted_by, reading}
-use Rattle.sail_top.specs.Report.{report}
-use Rattle.sail_top.specs.Run.{run}
-use Rattle.sail_top.specs.declared.model.Model.{Model}
+use Rattle.sail_top.specs.Run.{ram, run_text}
 use Rattle.sail_top.specs.declared.status.Answer.{Answer}
 use Rattle.sail_top.specs.declared.status.Status.TheVariants as status
 
@@ -28,24 +30,38 @@ model_refused refusal = record { status = status.ModelRefused refusal; bytes = r
 abbrev pub image_refused : ElfRefusal → Answer
 image_refused refusal = record { status = status.ElfRefused refusal; bytes = elf_line refusal }
 
-abbrev pub done : ℕ → Model → Answer
-done events model = record { status = status.Done; bytes = report events (run model events) }
+-- a run from an entry, over RAM of these bytes
+abbrev pub done : Run → Model → ℕ → List ℕ → Answer
+done command model entry bytes = record { status = status.Done; bytes = run_text command model entry bytes }
 
--- the answer for a model, by what its image is refused for
-abbrev pub answer_for : ℕ → Model → Option ElfRefusal → Answer
-answer_for events model (Some refusal) = image_refused refusal
-answer_for events model None = done events model
+-- a run over RAM with the image, by why the image can't be placed there
+abbrev pub run_unless : Run → Model → Image → Option ElfRefusal → Answer
+run_unless command model image (Some refusal) = image_refused refusal
+run_unless command model image None = done command model image.entry (ram command image)
+
+-- the answer for a model and an image
+abbrev pub image_answer : Run → Model → Image → Answer
+image_answer command model image = run_unless command model image (place_refusal image command.ram_base command.ram_size)
+
+-- the same, by why the image's file is refused
+abbrev pub image_unless : Run → Model → Image → Option ElfRefusal → Answer
+image_unless command model image (Some refusal) = image_refused refusal
+image_unless command model image None = image_answer command model image
+
+-- the answer for a model and a program's file, of whatever machine the file is
+abbrev pub answer_for : Run → Model → List ℕ → Answer
+answer_for command model file = image_unless command model (image_of file) (elf_refusal file None)
 
 -- the answer for the models' texts and the program's file
-abbrev pub Judges : ℕ → List (List ℕ) → List ℕ → Answer → Type 0
-Judges events texts image answer =
+abbrev pub Judges : Run → List (List ℕ) → List ℕ → Answer → Type 0
+Judges command texts file answer =
     ((refusal : Refusal) × AreRefused texts refusal × (answer ≡ model_refused refusal))
-    ⊎ ((model : Model) × AreModel texts model × (answer ≡ answer_for events model (image_refusal image)))
+    ⊎ ((model : Model) × AreModel texts model × (answer ≡ answer_for command model file))
 
 -- the answer where all files are read: the models' texts, and the program's file behind them
-abbrev pub AnswersFiles : ℕ → List (List ℕ) → Answer → Type 0
-AnswersFiles events files answer =
-    (texts : List (List ℕ)) × (image : List ℕ) × (files ≡ texts ++ image ∷ []) × Judges events texts image answer
+abbrev pub AnswersFiles : Run → List (List ℕ) → Answer → Type 0
+AnswersFiles command files answer =
+    (texts : List (List ℕ)) × (file : List ℕ) × (files ≡ texts ++ file ∷ []) × Judges command texts file answer
 
 -- the file of this number isn't held
 abbrev pub no_file : ℕ → List ℕ → Answer
@@ -60,25 +76,25 @@ abbrev pub usage : Answer
 usage = record { status = status.Usage; bytes = usage_line }
 
 -- the answer to a command, by how the reading of its files ends
-abbrev pub AnswersEnd : ℕ → ReadEnd → Answer → Type 0
-AnswersEnd events (absent number name) answer = answer ≡ no_file number name
-AnswersEnd events (long number name limit) answer = answer ≡ too_long number name limit
-AnswersEnd events (whole files) answer = AnswersFiles events files answer
+abbrev pub AnswersEnd : Run → ReadEnd → Answer → Type 0
+AnswersEnd command (absent number name) answer = answer ≡ no_file number name
+AnswersEnd command (long number name limit) answer = answer ≡ too_long number name limit
+AnswersEnd command (whole files) answer = AnswersFiles command files answer
 
 -- the answer to a command, over what is held at its files
-abbrev pub AnswersOver : Command → Contents → Answer → Type 0
-AnswersOver command contents answer = AnswersEnd command.events (reading 0 (wanted_by command) contents) answer
+abbrev pub AnswersOver : Run → Contents → Answer → Type 0
+AnswersOver command contents answer = AnswersEnd command (reading 0 (wanted_by command) contents) answer
 
 -- the answer to a command over the files that are held; where these aren't told, over some contents
-abbrev pub AnswersCommand : Command → Option Files → Answer → Type 0
+abbrev pub AnswersCommand : Run → Option Files → Answer → Type 0
 AnswersCommand command (Some files) answer = AnswersOver command (contents_at files (wanted_by command)) answer
 AnswersCommand command None answer = (contents : Contents) × AnswersOver command contents answer
 
 -- the answer to what the words say, likewise
-abbrev pub AnswersLine : Option Command → Option Files → Answer → Type 0
+abbrev pub AnswersLine : Option Run → Option Files → Answer → Type 0
 AnswersLine None held answer = answer ≡ usage
 AnswersLine (Some command) held answer = AnswersCommand command held answer
 
 -- the answer to the words over the files that are held; where these aren't told, over some contents
 abbrev pub IsAnswer : List (List ℕ) → Option Files → Answer → Type 0
-IsAnswer words held answer = AnswersLine (command_of words) held answer
+IsAnswer words held answer = AnswersLine (line_of words) held answer

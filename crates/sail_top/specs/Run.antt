@@ -1,40 +1,50 @@
--- A run: the state, one event, and as many events as the command says.
-use Rattle.std.specs.Prelude.{ℕ, Bool, false, if◌then◌else◌, List, [], ◌∷◌, map, replicate}
-use Rattle.std.specs.Str.{bytes_eq}
-use Rattle.std.specs.List.{fold}
-use Rattle.std.specs.Fn.{iterate}
-use Rattle.sail_base.specs.Bits.{add_bits}
-use Rattle.sail_top.specs.declared.model.Assignment.{Assignment}
-use Rattle.sail_top.specs.declared.model.Model.{Model}
+-- A run: RAM with the image placed, the start, the events, and the report.
+use Rattle.std.specs.Prelude.{ℕ, List, ◌++◌, replicate, Option, Some, None}
+use Rattle.elf_load.specs.Placed.{placed}
+use Rattle.elf_load.specs.declared.image.Image.{Image}
+use Rattle.harts.specs.Schedule.{schedule}
+use Rattle.model_state.specs.Folds.{Meaning, RunEnd, ended_now, start, run}
+use Rattle.model_state.specs.Report.{report_text}
+use Rattle.model_state.specs.RunState.{RunState, Access, fresh}
+use Rattle.model_state.specs.declared.cause.Cause.{Cause}
+use Rattle.sail_fragment.specs.Meaning.{meaning, no_types}
+use Rattle.sail_fragment.specs.declared.model.Model.{Model}
+use Rattle.sail_words.specs.declared.run.Run.{Run}
 
--- each register's name with its bits, the lowest first, in text order
-abbrev pub State : Type 0
-State = List (List ℕ × List Bool)
+-- RAM, zeros at first, once the image is placed
+abbrev pub ram : Run → Image → List ℕ
+ram command image = placed image command.ram_base (replicate command.ram_size 0)
 
--- every register zero
-abbrev pub initial : Model → State
-initial model = map (λ register. (register.name, replicate register.width false)) model.registers
+-- the state at the beginning, over RAM of these bytes
+abbrev pub beginning : Run → Model → List ℕ → RunState
+beginning command model bytes = fresh no_types (meaning model).registers command.harts command.ram_base bytes
 
--- the bits of the register of this name
-abbrev pub read : List ℕ → State → List Bool
-read name [] = []
-read name (register ∷ state) = if bytes_eq register.0 name then register.1 else read name state
+-- these accesses were made before
+abbrev pub behind : List Access → RunEnd → RunEnd
+behind accesses end = record end { accesses = accesses ++ end.accesses }
 
--- the state with these bits in the register of this name
-abbrev pub written : List ℕ → List Bool → State → State
-written name bits [] = []
-written name bits (register ∷ state) =
-    if bytes_eq register.0 name then (register.0, bits) ∷ state else register ∷ written name bits state
+-- a start's stop ends the run before its first event
+abbrev pub then_events : Option Cause → RunState → List Access → (RunState → RunEnd) → RunEnd
+then_events (Some cause) state accesses events = ended_now cause 0 state accesses
+then_events None state accesses events = behind accesses (events state)
 
--- the target becomes the sum of the source and the literal, modulo 2 to the width
-abbrev pub assigned : State → Assignment → State
-assigned state assignment =
-    written assignment.target (add_bits (read assignment.source state) assignment.literal) state
+-- the start at an entry, and then the events of a schedule unless it stopped
+abbrev pub started_run : Meaning → ℕ → List ℕ → RunState → RunEnd
+started_run model entry events state =
+    let first = start model entry state in then_events first.stop first.state first.accesses (run model events)
 
--- one event: the assignments in order
-abbrev pub event : Model → State → State
-event model state = fold assigned state model.assignments
+-- how the run of a command ends from a state
+abbrev pub end_from : Run → Meaning → ℕ → RunState → RunEnd
+end_from command model entry state = started_run model entry (schedule command.order command.steps) state
 
--- the state after that many events
-abbrev pub run : Model → ℕ → State
-run model events = iterate (event model) events (initial model)
+-- and from the beginning, over RAM of these bytes
+abbrev pub end_of : Run → Model → ℕ → List ℕ → RunEnd
+end_of command model entry bytes = end_from command (meaning model) entry (beginning command model bytes)
+
+-- the report of an ending, over RAM of these bytes
+abbrev pub report_of : List ℕ → RunEnd → List ℕ
+report_of bytes end = report_text end.state bytes end.cause end.steps
+
+-- what a run writes
+abbrev pub run_text : Run → Model → ℕ → List ℕ → List ℕ
+run_text command model entry bytes = report_of bytes (end_of command model entry bytes)

@@ -1,24 +1,22 @@
 ghost use Rattle.std.specs.Prelude.{◌≡◌, ◌<◌, ◌≤◌, Err, IfOk, Some, length, true};
 ghost use Rattle.sail_outside.specs.Faults.{Rose};
+ghost use Rattle.elf_load.specs.Placed.{Fits};
+ghost use Rattle.sail_fragment.specs.Grammar.{is_well_formed};
+ghost use Rattle.sail_words.specs.Line.{IsWithinLimits};
 ghost use Rattle.sail_top.specs.Answer as spec;
 ghost use Rattle.sail_top.specs.Ending.{Leaves};
-ghost use Rattle.sail_top.specs.Grammar.{is_well_formed};
-ghost use Rattle.sail_top.specs.Image.{image_refusal};
-ghost use Rattle.sail_top.specs.parts.Borrowed.{as_command};
-ghost use Rattle.sail_top.specs.parts.Indices.{AreWidths};
 ghost use Rattle.sail_top.specs.parts.Unread.{AnswersUnread};
 
-use crate::command::Command;
-use crate::evaluate::evaluate;
-use crate::image::image_refusal;
 use crate::lines::{elf_line, named_line, refusal_line};
-use crate::model::Model;
-use crate::parse::read_models;
 use crate::reading::{Unread, read_files, wanted_by};
-use crate::report::report;
+use crate::run::run_text;
 use crate::status::{Answer, Status};
+use elf_load::{ElfError, Image, place, read_elf};
+use mem_store::{Flat, Memory};
 use sail_base::{ElfRefusal, Items, Place, Refusal, Text};
+use sail_fragment::{Model, read_models};
 use sail_outside::{ReadError, Shelf};
+use sail_words::Run;
 use std::alloc::{AllocError, Global};
 
 /// Why there is no answer.
@@ -45,18 +43,18 @@ impl From<AllocError> for Unanswered {
 /// that isn't held or is too long decides.
 pub fn answer_command<S: Shelf>(
     alloc: Global,
-    command: &Command<'_>,
+    command: &Run,
     shelf: &mut S,
 ) -> Result<Answer, Unanswered>
-    requires { length command.now.models.now ≤ 64 }
-    ensures answer { IfOk result (spec.AnswersCommand (as_command command.now) (S.holds shelf.old)) }
-    ensures left { IfOk result (λ _. Leaves (Some (as_command command.now)) (S.holds shelf.old) (S.left shelf.new)) }
+    requires { IsWithinLimits command.now }
+    ensures answer { IfOk result (spec.AnswersCommand command.now (S.holds shelf.old)) }
+    ensures left { IfOk result (λ _. Leaves (Some command.now) (S.holds shelf.old) (S.left shelf.new)) }
     ensures fault { result ≡ Err Unanswered.Fault → Rose (S.faults shelf.old) (S.faults shelf.new) }
 {
     let wanted = wanted_by(alloc, command)?;
     match read_files(alloc, shelf, wanted.as_slice()) {
         Ok(files) => {
-            let answer = answer_files(alloc, command.events, files)?;
+            let answer = answer_files(alloc, command, files)?;
             Ok(answer)
         }
         Err(unread) => answer_unread(alloc, unread),
@@ -92,47 +90,64 @@ fn answer_unread(alloc: Global, unread: Unread<'_>) -> Result<Answer, Unanswered
 /// The answer where all files are read: the models' texts, and the program's file behind them.
 fn answer_files(
     alloc: Global,
-    events: u32,
+    command: &Run,
     mut files: Items<Items<u8>>,
 ) -> Result<Answer, AllocError>
-    requires { 0 < length files }
-    ensures { IfOk result (spec.AnswersFiles events files) }
+    requires limits { IsWithinLimits command.now }
+    requires some { 0 < length files }
+    ensures { IfOk result (spec.AnswersFiles command.now files) }
 {
-    let Some(image) = files.pop() else {
+    let Some(file) = files.pop() else {
         unreachable!()
     };
-    judge(alloc, events, files.as_slice(), image.as_slice())
+    judge(alloc, command, files.as_slice(), file.as_slice())
 }
 
 /// The answer for the models' texts and the program's file.
 fn judge(
     alloc: Global,
-    events: u32,
+    command: &Run,
     texts: &[Items<u8>],
-    image: &[u8],
+    file: &[u8],
 ) -> Result<Answer, AllocError>
-    ensures { IfOk result (spec.Judges events texts.now image.now) }
+    requires { IsWithinLimits command.now }
+    ensures { IfOk result (spec.Judges command.now texts.now file.now) }
 {
-    let Some(model) = read_models(alloc, texts)? else {
-        return refuse_model(alloc);
-    };
-    judge_image(alloc, events, &model, image)
+    match read_models(alloc, texts)? {
+        Some(model) => judge_file(alloc, command, model, file),
+        None => refuse_model(alloc),
+    }
 }
 
 /// The answer for a model and a program's file.
+fn judge_file(alloc: Global, command: &Run, model: Model, file: &[u8]) -> Result<Answer, AllocError>
+    requires limits { IsWithinLimits command.now }
+    requires well_formed { is_well_formed model ≡ true }
+    ensures { IfOk result (λ answer. answer ≡ spec.answer_for command.now model file.now) }
+{
+    match read_elf(alloc, file, None) {
+        Ok(image) => judge_image(alloc, command, model, &image),
+        Err(ElfError::Refused(refusal)) => refuse_image(alloc, refusal),
+        Err(ElfError::OutOfMemory) => Err(AllocError),
+    }
+}
+
+/// The answer for a model and an image.
 fn judge_image(
     alloc: Global,
-    events: u32,
-    model: &Model,
-    image: &[u8],
+    command: &Run,
+    model: Model,
+    image: &Image,
 ) -> Result<Answer, AllocError>
-    requires widths { AreWidths model.now.registers }
-    requires well_formed { is_well_formed model.now ≡ true }
-    ensures { IfOk result (λ answer. answer ≡ spec.answer_for events model.now (image_refusal image.now)) }
+    requires limits { IsWithinLimits command.now }
+    requires well_formed { is_well_formed model ≡ true }
+    requires fits { Fits image.now }
+    ensures { IfOk result (λ answer. answer ≡ spec.image_answer command.now model image.now) }
 {
-    match image_refusal(image) {
-        Some(refusal) => refuse_image(alloc, refusal),
-        None => run_model(alloc, events, model),
+    let mut memory = Flat::new(alloc, command.ram_base, command.ram_size)?;
+    match place(image, &mut memory) {
+        Ok(()) => run_model(alloc, command, model, image.entry, memory),
+        Err(refusal) => refuse_image(alloc, refusal),
     }
 }
 
@@ -168,14 +183,20 @@ fn refuse_image(alloc: Global, refusal: ElfRefusal) -> Result<Answer, AllocError
     })
 }
 
-/// The answer of a run.
-fn run_model(alloc: Global, events: u32, model: &Model) -> Result<Answer, AllocError>
-    requires widths { AreWidths model.now.registers }
-    requires well_formed { is_well_formed model.now ≡ true }
-    ensures { IfOk result (λ answer. answer ≡ spec.done events model.now) }
+/// The answer of a run over a memory in which the image is placed.
+fn run_model(
+    alloc: Global,
+    command: &Run,
+    model: Model,
+    entry: u64,
+    memory: Flat,
+) -> Result<Answer, AllocError>
+    requires limits { IsWithinLimits command.now }
+    requires well_formed { is_well_formed model ≡ true }
+    requires base { ⟦<Flat as Memory>⟧.base memory ≡ command.now.ram_base }
+    ensures { IfOk result (λ answer. answer ≡ spec.done command.now model entry (⟦<Flat as Memory>⟧.bytes memory)) }
 {
-    let values = evaluate(alloc, model, events)?;
-    let text = report(alloc, events, model.registers.as_slice(), values.as_slice())?;
+    let text = run_text(alloc, command, model, entry, memory)?;
     Ok(Answer {
         status: Status::Done,
         bytes: Items::from_vec(text),

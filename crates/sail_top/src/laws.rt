@@ -1,9 +1,4 @@
-ghost use Rattle.sail_top.specs.laws.OneAnswer.{SpellOneModel, HaveAnswer, HaveNoOtherAnswer};
-
-/// A law: texts spell at most one model.
-pub fn texts_spell_one_model()
-    ensures { SpellOneModel }
-{}
+ghost use Rattle.sail_top.specs.laws.OneAnswer.{HaveAnswer, HaveNoOtherAnswer};
 
 /// A law: words have exactly one answer over files that are told.
 pub fn words_have_one_answer()

@@ -1,12 +1,12 @@
 ghost use Rattle.std.specs.Prelude.{◌≡◌, ◌<◌, ◌≤◌, length, map, IfOk, IfErr};
 ghost use Rattle.sail_top.specs.Reading as spec;
 ghost use Rattle.sail_top.specs.Reading.{whole};
-ghost use Rattle.sail_top.specs.parts.Borrowed.{as_command, as_wanted};
+ghost use Rattle.sail_top.specs.parts.Borrowed.{as_wanted};
 ghost use Rattle.sail_top.specs.parts.Unread.{Ends, StopsAt};
 
-use crate::command::Command;
 use sail_base::Items;
 use sail_outside::{ReadError, Shelf, read_file};
+use sail_words::Run;
 use std::alloc::{AllocError, Global};
 
 // How many bytes a model may have.
@@ -34,20 +34,19 @@ pub struct Unread<'a> {
     pub error: ReadError,
 }
 
-/// The files of a command in the order of reading: the models in the order of the words, then the
-/// program.
-pub fn wanted_by<'a>(alloc: Global, command: &Command<'a>) -> Result<Vec<Wanted<'a>>, AllocError>
-    ensures { IfOk result (λ files. map as_wanted files.items ≡ spec.wanted_by (as_command command.now)) }
+/// The files of a run in the order of reading: the models in the order of the words, then the program.
+pub fn wanted_by(alloc: Global, command: &Run) -> Result<Vec<Wanted<'_>>, AllocError>
+    ensures { IfOk result (λ files. map as_wanted files.items ≡ spec.wanted_by command.now) }
 {
     let mut files = Vec::new(alloc);
-    for name in command.models {
+    for name in command.models.as_slice() {
         files.push(Wanted {
             name: name.as_str(),
             limit: MODEL_LIMIT,
         })?;
     }
     files.push(Wanted {
-        name: command.elf,
+        name: command.elf.as_str(),
         limit: ELF_LIMIT,
     })?;
     Ok(files)

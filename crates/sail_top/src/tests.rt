@@ -7,7 +7,7 @@ use std::test::Fail;
 const RESET: &str =
     "val reset : (range(0, 7), bits(64)) -> unit\nfunction reset(h, e) = ()\nval step : unit -> bool\nfunction step() = ";
 
-// An image in hexadecimal digits: its header, its one program header and its eight bytes of code.
+// An image in hexadecimal digits: its header, its one program header and its eight bytes of code at 0x80000000.
 const IMAGE: &str = concat!(
     "7f454c460201010000000000000000000200f300010000000000008000000000",
     "4000000000000000000000000000000000000000400038000100000000000000",
@@ -15,301 +15,274 @@ const IMAGE: &str = concat!(
     "08000000000000000800000000000000040000000000000093005000b3812000",
 );
 
+// The same code, a note, and a second segment of 32 bytes at 0x80001000, four of them from the file.
+const SEGMENTS: &str = concat!(
+    "7f454c460201010000000000000000000200f300010000000000008000000000",
+    "4000000000000000000000000000000000000000400038000300000000000000",
+    "0100000005000000e80000000000000000000080000000000000008000000000",
+    "0800000000000000080000000000000004000000000000000400000004000000",
+    "0000000000000000000000000000000000000000000000000000000000000000",
+    "000000000000000004000000000000000100000006000000f000000000000000",
+    "0010008000000000001000800000000004000000000000002000000000000000",
+    "040000000000000093005000b381200078563412",
+);
+
 const COUNTER: &str = "register PC : bits(8)\n";
 
 const COUNT: &str = "{ PC = PC + 0x01; true }";
 
-// Runs: the number of events, the registers, the body of the step, and the lines from the number on.
-const RUNS: &[(&str, &str, &str, &str)] = &[
-    ("3", COUNTER, COUNT, "3\nconsole 0\nhart 0\nPC = 0x03\n"),
-    ("256", COUNTER, COUNT, "256\nconsole 0\nhart 0\nPC = 0x00\n"),
-    ("0", COUNTER, COUNT, "0\nconsole 0\nhart 0\nPC = 0x00\n"),
+// The words with blanks between, the registers of the model M, the body of its step, and what is written, the
+// status first. The image Q has one segment, S has two, and P is cut short.
+const ROWS: &[(&str, &str, &str, &str)] = &[
+    // what runs, by words
     (
-        "000001",
+        "run --elf Q --ram-size 4096 --steps 3 M",
         COUNTER,
         COUNT,
-        "1\nconsole 0\nhart 0\nPC = 0x01\n",
+        "0 == report\nstop steps-done\nsteps 3\nconsole 0\nhart 0\nPC = 0x03\n== end\n",
     ),
-    ("1", "", "{ true }", "1\nconsole 0\nhart 0\n"),
     (
-        "1",
+        "run M --steps=000256 --elf=Q --ram-size 8",
+        COUNTER,
+        COUNT,
+        "0 == report\nstop steps-done\nsteps 256\nconsole 0\nhart 0\nPC = 0x00\n== end\n",
+    ),
+    (
+        "run --elf Q M",
+        COUNTER,
+        COUNT,
+        "0 == report\nstop steps-done\nsteps 1000\nconsole 0\nhart 0\nPC = 0xe8\n== end\n",
+    ),
+    (
+        "run --steps 0 --ram-size=0008 --elf Q -- M",
+        COUNTER,
+        COUNT,
+        "0 == report\nstop steps-done\nsteps 0\nconsole 0\nhart 0\nPC = 0x00\n== end\n",
+    ),
+    (
+        "run --elf Q --ram-size 32 --steps 5 --harts 2 M",
+        COUNTER,
+        COUNT,
+        "0 == report\nstop steps-done\nsteps 5\nconsole 0\nhart 0\nPC = 0x03\nhart 1\nPC = 0x02\n== end\n",
+    ),
+    (
+        "run --elf Q --order 110 --steps 7 --harts 3 --ram-size 9 M",
+        COUNTER,
+        COUNT,
+        "0 == report\nstop steps-done\nsteps 7\nconsole 0\nhart 0\nPC = 0x02\nhart 1\nPC = 0x05\nhart 2\nPC = 0x00\n== end\n",
+    ),
+    (
+        "run --elf S --ram-size 4128 --steps 1 M",
+        COUNTER,
+        COUNT,
+        "0 == report\nstop steps-done\nsteps 1\nconsole 0\nhart 0\nPC = 0x01\n== end\n",
+    ),
+    (
+        "run --elf Q --ram-base 2147483640 --ram-size 16 --steps 1 M",
+        COUNTER,
+        COUNT,
+        "0 == report\nstop steps-done\nsteps 1\nconsole 0\nhart 0\nPC = 0x01\n== end\n",
+    ),
+    // what runs, by models
+    (
+        "run --elf Q --ram-size 8 --steps 1 M",
+        "",
+        "{ true }",
+        "0 == report\nstop steps-done\nsteps 1\nconsole 0\nhart 0\n== end\n",
+    ),
+    (
+        "run --elf Q --ram-size 8 --steps 1 M",
         "register R:bits(3)",
         "{R=R+0b111;true}",
-        "1\nconsole 0\nhart 0\nR = 0b111\n",
+        "0 == report\nstop steps-done\nsteps 1\nconsole 0\nhart 0\nR = 0b111\n== end\n",
     ),
     (
-        "2",
+        "run --elf Q --ram-size 8 --steps 2 M",
         "register R : bits(012)\r\n",
         "{ R = R + 0x00F; true }",
-        "2\nconsole 0\nhart 0\nR = 0x01e\n",
+        "0 == report\nstop steps-done\nsteps 2\nconsole 0\nhart 0\nR = 0x01e\n== end\n",
     ),
     (
-        "1",
+        "run --elf Q --ram-size 8 --steps 1 M",
         "register A : bits(8) register B : bits(8)\t",
         "{ A = B + 0x01; B = A + 0x01; A = B + 0xff; true }",
-        "1\nconsole 0\nhart 0\nA = 0x01\nB = 0x02\n",
+        "0 == report\nstop steps-done\nsteps 1\nconsole 0\nhart 0\nA = 0x01\nB = 0x02\n== end\n",
     ),
     (
-        "1",
+        "run --elf Q --ram-size 8 --steps 1 M",
         "register W : bits(128)\n",
         "{ W = W + 0xffffffffffffffffffffffffffffffff; true }",
-        "1\nconsole 0\nhart 0\nW = 0xffffffffffffffffffffffffffffffff\n",
+        "0 == report\nstop steps-done\nsteps 1\nconsole 0\nhart 0\nW = 0xffffffffffffffffffffffffffffffff\n== end\n",
     ),
+    // words that are no command
+    ("", COUNTER, COUNT, "2 sail-run: usage\n"),
+    ("--help", COUNTER, COUNT, "2 sail-run: usage\n"),
+    ("check M", COUNTER, COUNT, "2 sail-run: usage\n"),
+    ("run --elf Q", COUNTER, COUNT, "2 sail-run: usage\n"),
+    ("run --elf -Q M", COUNTER, COUNT, "2 sail-run: usage\n"),
     (
-        "1",
-        "register B1 : bits(1)\n",
-        "{ B1 = B1 + 0b1; true }",
-        "1\nconsole 0\nhart 0\nB1 = 0b1\n",
-    ),
-];
-
-// What is refused: the words with blanks between, the registers, the body, how many bytes of the image
-// are held, the exit status and the line.
-const REFUSED: &[(&str, &str, &str, usize, u8, &str)] = &[
-    ("", COUNTER, COUNT, 128, 2, "sail-run: usage\n"),
-    ("run M", COUNTER, COUNT, 128, 2, "sail-run: usage\n"),
-    ("--help", COUNTER, COUNT, 128, 2, "sail-run: usage\n"),
-    (
-        "check --elf Q M",
+        "run --elf Q --steps +3 M",
         COUNTER,
         COUNT,
-        128,
-        2,
-        "sail-run: usage\n",
-    ),
-    ("run --elf=Q M", COUNTER, COUNT, 128, 2, "sail-run: usage\n"),
-    ("run --elf Q", COUNTER, COUNT, 128, 2, "sail-run: usage\n"),
-    (
-        "run --elf Q M M",
-        COUNTER,
-        COUNT,
-        128,
-        2,
-        "sail-run: usage\n",
-    ),
-    (
-        "run --elf -Q M",
-        COUNTER,
-        COUNT,
-        128,
-        2,
-        "sail-run: usage\n",
-    ),
-    (
-        "run --elf Q --",
-        COUNTER,
-        COUNT,
-        128,
-        2,
-        "sail-run: usage\n",
-    ),
-    (
-        "run --steps 3 --elf Q M",
-        COUNTER,
-        COUNT,
-        128,
-        2,
-        "sail-run: usage\n",
+        "2 sail-run: usage\n",
     ),
     (
         "run --elf Q --steps 4294967296 M",
         COUNTER,
         COUNT,
-        128,
-        2,
-        "sail-run: usage\n",
+        "2 sail-run: usage\n",
     ),
     (
-        "run --elf Q --steps  M",
+        "run --elf Q --harts 9 M",
         COUNTER,
         COUNT,
-        128,
-        2,
-        "sail-run: usage\n",
+        "2 sail-run: usage\n",
     ),
     (
-        "run --elf Q --steps +3 M",
+        "run --elf Q --harts 2 --order 012 M",
         COUNTER,
         COUNT,
-        128,
-        2,
-        "sail-run: usage\n",
+        "2 sail-run: usage\n",
     ),
     (
-        "run --elf Q --steps 0x3 M",
+        "run --elf Q --ram-size 67108865 M",
         COUNTER,
         COUNT,
-        128,
-        2,
-        "sail-run: usage\n",
+        "2 sail-run: usage\n",
     ),
     (
-        "run --elf Q --harts 1 M",
+        "run --elf Q --ram-base 18446744073709551615 --ram-size 2 M",
         COUNTER,
         COUNT,
-        128,
-        2,
-        "sail-run: usage\n",
+        "2 sail-run: usage\n",
     ),
+    // files that aren't there; the first decides, before any model
+    ("run --elf NONE M", COUNTER, "", "9 no file: NONE\n"),
+    ("run --elf NONE M X", COUNTER, COUNT, "9 no file: X\n"),
+    ("run --elf Q ", COUNTER, COUNT, "9 no file: \n"),
+    // images, behind the models
+    ("run --elf P M", COUNTER, "", "1 M05 1:1:1\n"),
+    ("run --elf P M", COUNTER, COUNT, "6 E11 0\n"),
+    ("run --elf M M", COUNTER, COUNT, "6 E2\n"),
+    ("run --elf Q --ram-size 7 M", COUNTER, COUNT, "6 E13 0\n"),
     (
-        "run --elf Q --steps 3 M M",
+        "run --elf Q --ram-base 2147483649 M",
         COUNTER,
         COUNT,
-        128,
-        2,
-        "sail-run: usage\n",
+        "6 E13 0\n",
     ),
+    ("run --elf S --ram-size 4127 M", COUNTER, COUNT, "6 E13 2\n"),
+    // models
+    ("run --elf Q M M", COUNTER, COUNT, "1 M05 1:1:1\n"),
     (
         "run --elf Q M",
         "registerPC : bits(8)\n",
         COUNT,
-        128,
-        1,
-        "M05 1:1:1\n",
+        "1 M05 1:1:1\n",
     ),
     (
         "run --elf Q M",
         "register PC : bits(0)\n",
         "{ true }",
-        128,
-        1,
-        "M05 1:1:1\n",
+        "1 M05 1:1:1\n",
     ),
     (
         "run --elf Q M",
         "register PC : bits(129)\n",
         "{ true }",
-        128,
-        1,
-        "M05 1:1:1\n",
+        "1 M05 1:1:1\n",
     ),
     (
         "run --elf Q M",
         "register PC : bits(0008)\n",
         COUNT,
-        128,
-        1,
-        "M05 1:1:1\n",
+        "1 M05 1:1:1\n",
     ),
     (
         "run --elf Q M",
         "register pc : bits(8)\n",
         "{ true }",
-        128,
-        1,
-        "M05 1:1:1\n",
+        "1 M05 1:1:1\n",
     ),
     (
         "run --elf Q M",
         "register 0P : bits(8)\n",
         "{ true }",
-        128,
-        1,
-        "M05 1:1:1\n",
+        "1 M05 1:1:1\n",
     ),
     (
         "run --elf Q M",
         "register PC : bits(8) register PC : bits(8)",
         COUNT,
-        128,
-        1,
-        "M05 1:1:1\n",
+        "1 M05 1:1:1\n",
     ),
     (
         "run --elf Q M",
         "register PC : bits(8)\x0c",
         COUNT,
-        128,
-        1,
-        "M05 1:1:1\n",
+        "1 M05 1:1:1\n",
     ),
     (
         "run --elf Q M",
         "/**/ register PC : bits(8)\n",
         COUNT,
-        128,
-        1,
-        "M05 1:1:1\n",
+        "1 M05 1:1:1\n",
     ),
-    ("run --elf Q M", COUNTER, "true", 128, 1, "M05 1:1:1\n"),
+    ("run --elf Q M", COUNTER, "true", "1 M05 1:1:1\n"),
     (
         "run --elf Q M",
         COUNTER,
         "{ PC = PC + 0x001; true }",
-        128,
-        1,
-        "M05 1:1:1\n",
+        "1 M05 1:1:1\n",
     ),
     (
         "run --elf Q M",
         COUNTER,
         "{ PC = PC + 0X01; true }",
-        128,
-        1,
-        "M05 1:1:1\n",
+        "1 M05 1:1:1\n",
     ),
     (
         "run --elf Q M",
         COUNTER,
         "{ PC = PC + 0x0_1; true }",
-        128,
-        1,
-        "M05 1:1:1\n",
+        "1 M05 1:1:1\n",
     ),
     (
         "run --elf Q M",
         COUNTER,
         "{ PC = PC - 0x01; true }",
-        128,
-        1,
-        "M05 1:1:1\n",
+        "1 M05 1:1:1\n",
     ),
     (
         "run --elf Q M",
         COUNTER,
         "{ PC = 0x01 + PC; true }",
-        128,
-        1,
-        "M05 1:1:1\n",
+        "1 M05 1:1:1\n",
     ),
     (
         "run --elf Q M",
         COUNTER,
         "{ PC = Q + 0x01; true }",
-        128,
-        1,
-        "M05 1:1:1\n",
+        "1 M05 1:1:1\n",
     ),
     (
         "run --elf Q M",
         COUNTER,
         "{ PC = PC + 0x01 true }",
-        128,
-        1,
-        "M05 1:1:1\n",
+        "1 M05 1:1:1\n",
     ),
     (
         "run --elf Q M",
         COUNTER,
         "{ PC = PC + 0x01; true } true",
-        128,
-        1,
-        "M05 1:1:1\n",
+        "1 M05 1:1:1\n",
     ),
     (
         "run --elf Q M",
         COUNTER,
         "{ PC = PC + 0x01; false }",
-        128,
-        1,
-        "M05 1:1:1\n",
+        "1 M05 1:1:1\n",
     ),
-    ("run --elf Q M", COUNTER, COUNT, 127, 6, "E2\n"),
-    ("run --elf M M", COUNTER, COUNT, 128, 6, "E2\n"),
-    ("run --elf Q M", COUNTER, "", 127, 1, "M05 1:1:1\n"),
-    ("run --elf NONE M", COUNTER, "", 128, 9, "no file: NONE\n"),
-    ("run --elf Q ", COUNTER, COUNT, 128, 9, "no file: \n"),
-    ("run --elf Y X", COUNTER, COUNT, 128, 9, "no file: X\n"),
 ];
 
 // The model's text from its registers and the body of its step.
@@ -320,69 +293,59 @@ fn model(alloc: Global, registers: &str, body: &str) -> Result<Vec<u8>, AllocErr
     Ok(text)
 }
 
-// The exit status and what is written for words with blanks between, over the model M and the image Q.
-// The calls of the shelf and the sink whose numbers are listed fail, and each moves at most `piece` bytes.
+// A file of a name.
+fn file(alloc: Global, name: &str, bytes: Vec<u8>) -> Result<(String, Vec<u8>), AllocError> {
+    Ok((String::from_str(alloc, name)?, bytes))
+}
+
+// The words of a line with blanks between.
+fn words_of(alloc: Global, line: &str) -> Result<Vec<String>, AllocError> {
+    let mut words = Vec::new(alloc);
+    for word in line.split(' ') {
+        words.push(String::from_str(alloc, word)?)?;
+    }
+    Ok(words)
+}
+
+// The model M, and the images.
+fn files_of(alloc: Global, text: Vec<u8>) -> Result<Vec<(String, Vec<u8>)>, Fail> {
+    let mut short = hex::decode(alloc, IMAGE)?;
+    short.truncate(127);
+    let mut files = Vec::new(alloc);
+    files.push(file(alloc, "M", text)?)?;
+    files.push(file(alloc, "Q", hex::decode(alloc, IMAGE)?)?)?;
+    files.push(file(alloc, "S", hex::decode(alloc, SEGMENTS)?)?)?;
+    files.push(file(alloc, "P", short)?)?;
+    Ok(files)
+}
+
+// What is written for words over these files, behind the status and a blank. The calls of the shelf and the sink
+// whose numbers are listed fail, and each moves at most `piece` bytes.
 fn answer(
     alloc: Global,
-    words: &str,
+    line: &str,
     text: Vec<u8>,
-    image: usize,
     fails: (Vec<u64>, Vec<u64>),
     piece: usize,
-) -> Result<(u8, Vec<u8>), Fail> {
-    let mut list = Vec::new(alloc);
-    for word in words.split(' ') {
-        list.push(String::from_str(alloc, word)?)?;
-    }
-    let mut bytes = hex::decode(alloc, IMAGE)?;
-    bytes.truncate(image);
-    let mut files = Vec::new(alloc);
-    files.push((String::from_str(alloc, "M")?, text))?;
-    files.push((String::from_str(alloc, "Q")?, bytes))?;
-    let mut shelf = MemShelf::new(files, fails.0, piece);
+) -> Result<Vec<u8>, Fail> {
+    let words = words_of(alloc, line)?;
+    let mut shelf = MemShelf::new(files_of(alloc, text)?, fails.0, piece);
     let mut sink = MemSink::new(alloc, fails.1, piece);
-    let status = run_words(alloc, list.as_slice(), &mut shelf, &mut sink);
-    Ok((status.code(), Vec::from_slice(alloc, sink.bytes())?))
+    let status = run_words(alloc, words.as_slice(), &mut shelf, &mut sink);
+    let mut answer = Vec::from_slice(alloc, &[b'0' + status.code() % 10, b' '])?;
+    answer.extend_from_slice(sink.bytes())?;
+    Ok(answer)
 }
 
 #[test]
-fn runs_write_their_reports(rt: HostRuntime) -> Result<(), Fail> {
+fn words_are_answered(rt: HostRuntime) -> Result<(), Fail> {
     let alloc = rt.alloc();
-    for (steps, registers, body, lines) in RUNS {
-        let words = format!(in alloc; "run --elf Q --steps {steps} M")?;
+    for (words, registers, body, wanted) in ROWS {
+        let text = model(alloc, registers, body)?;
         let fails = (Vec::new(alloc), Vec::new(alloc));
-        let (status, written) = answer(
-            alloc,
-            words.as_str(),
-            model(alloc, registers, body)?,
-            128,
-            fails,
-            7,
-        )?;
-        let report = format!(in alloc; "== report\nstop steps-done\nsteps {lines}== end\n")?;
-        assert_eq!(rt; status, 0, "{body}");
-        assert_eq!(rt; written.as_slice(), report.as_bytes(), "{body}");
-    }
-    Ok(())
-}
-
-#[test]
-fn what_is_refused_is_told_in_a_line(rt: HostRuntime) -> Result<(), Fail> {
-    let alloc = rt.alloc();
-    for (words, registers, body, image, wanted, line) in REFUSED {
-        let fails = (Vec::new(alloc), Vec::new(alloc));
-        let (status, written) = answer(
-            alloc,
-            words,
-            model(alloc, registers, body)?,
-            *image,
-            fails,
-            1000,
-        )?;
-        assert_eq!(rt; status, *wanted, "{words}: {registers}{body}");
-        assert_eq!(rt;
-            written.as_slice(),
-            line.as_bytes(),
+        let written = answer(alloc, words, text, fails, 7)?;
+        assert!(rt;
+            written.as_slice() == wanted.as_bytes(),
             "{words}: {registers}{body}"
         );
     }
@@ -392,11 +355,11 @@ fn what_is_refused_is_told_in_a_line(rt: HostRuntime) -> Result<(), Fail> {
 #[test]
 fn a_text_of_blanks_is_read_up_to_its_limit(rt: HostRuntime) -> Result<(), Fail> {
     let alloc = rt.alloc();
-    for (length, wanted) in [(4_194_304, 1), (4_194_305, 7)] {
+    for (length, wanted) in [(4_194_304, b'1'), (4_194_305, b'7')] {
         let fails = (Vec::new(alloc), Vec::new(alloc));
         let text = vec![in alloc; b' '; length]?;
-        let (status, _line) = answer(alloc, "run --elf Q M", text, 128, fails, 1_000_000)?;
-        assert_eq!(rt; status, wanted);
+        let written = answer(alloc, "run --elf Q M", text, fails, 1_000_000)?;
+        assert!(rt; written[0] == wanted);
     }
     Ok(())
 }
@@ -409,16 +372,17 @@ fn a_failing_call_is_a_fault(rt: HostRuntime) -> Result<(), Fail> {
     for call in 0..9 {
         let text = model(alloc, COUNTER, COUNT)?;
         let fails = (vec![in alloc; call]?, Vec::new(alloc));
-        let (status, written) = answer(alloc, "run --elf Q M", text, 128, fails, 64)?;
-        assert_eq!(rt; status, 3, "call {call}");
-        assert_eq!(rt; written.len(), 0, "call {call}");
+        let written = answer(alloc, "run --elf Q --ram-size 8 M", text, fails, 64)?;
+        assert!(rt; written.as_slice() == b"3 ".as_slice(), "call {call}");
     }
     for call in 0..3 {
         let text = model(alloc, COUNTER, COUNT)?;
         let fails = (Vec::new(alloc), vec![in alloc; call]?);
-        let (status, written) = answer(alloc, "run --elf Q M", text, 128, fails, 10)?;
-        assert_eq!(rt; status, 4, "call {call}");
-        assert_eq!(rt; written.len() as u64, 10 * call, "call {call}");
+        let written = answer(alloc, "run --elf Q --ram-size 8 M", text, fails, 10)?;
+        assert!(rt;
+            written[0] == b'4' && written.len() as u64 == 10 * call + 2,
+            "call {call}"
+        );
     }
     Ok(())
 }

@@ -5,23 +5,23 @@ ghost use Rattle.sail_outside.specs.Faults.{Rose};
 ghost use Rattle.sail_top.specs.declared.status.Answer.{Answer};
 ghost use Rattle.sail_top.specs.Answer as spec;
 ghost use Rattle.sail_top.specs.Answer.{IsAnswer};
-ghost use Rattle.sail_top.specs.Command.{command_of};
+ghost use Rattle.sail_words.specs.Line.{line_of};
 ghost use Rattle.sail_top.specs.Ending.{IsPlain, Answered, AnsweredPart, Completes, Leaves};
 ghost use Rattle.sail_top.specs.parts.Finished.{Finished};
 
 use crate::answer::{Unanswered, answer_command};
-use crate::command::read_command;
 use crate::status::{Answer, Status};
 use sail_base::Items;
 use sail_outside::{Shelf, Sink, WriteError, write_all};
+use sail_words::{LineError, line};
 use std::alloc::{AllocError, Global};
 
 /// Does what the program does: answers its words, with its files on a shelf and its output to a sink.
 ///
-/// The words are those behind the program's name. The one command is
-/// `run --elf FILE [--steps N] MODEL`; every other list of words is `Usage`. The statuses and when they
-/// come stand at [`Status`]; each but `ReadFault`, `WriteFault` and `OutOfMemory` is answered only where
-/// all that it has to say was written.
+/// The words are those behind the program's name. The one command is `run --elf FILE [--steps N] [--harts N]
+/// [--order DIGITS] [--ram-base N] [--ram-size N] MODEL..`, its options in any order; every other list of words is
+/// `Usage`. The statuses and when they come stand at [`Status`]; each but `ReadFault`, `WriteFault` and
+/// `OutOfMemory` is answered only where all that it has to say was written.
 pub fn run_words<S: Shelf, K: Sink>(
     alloc: Global,
     words: &[String],
@@ -40,8 +40,8 @@ pub fn run_words<S: Shelf, K: Sink>(
     ensures front_written { result ≡ Status.WriteFault → AnsweredPart (map string_bytes words.now) (S.holds files.old) (K.given out.old) (K.given out.new) }
 
     // How far the files were read: not at all where the words are no command.
-    ensures left { IsPlain result → Leaves (command_of (map string_bytes words.now)) (S.holds files.old) (S.left files.new) }
-    ensures untouched { command_of (map string_bytes words.now) ≡ None → files.new ≡ files.old }
+    ensures left { IsPlain result → Leaves (line_of (map string_bytes words.now)) (S.holds files.old) (S.left files.new) }
+    ensures untouched { line_of (map string_bytes words.now) ≡ None → files.new ≡ files.old }
 {
     match answer_words(alloc, words, files) {
         Ok(answer) => finish(answer, out),
@@ -57,16 +57,17 @@ fn answer_words<S: Shelf>(
     files: &mut S,
 ) -> Result<Answer, Unanswered>
     ensures answer { IfOk result (IsAnswer (map string_bytes words.now) (S.holds files.old)) }
-    ensures left { IfOk result (λ _. Leaves (command_of (map string_bytes words.now)) (S.holds files.old) (S.left files.new)) }
+    ensures left { IfOk result (λ _. Leaves (line_of (map string_bytes words.now)) (S.holds files.old) (S.left files.new)) }
     ensures fault { result ≡ Err Unanswered.Fault → Rose (S.faults files.old) (S.faults files.new) }
-    ensures untouched { command_of (map string_bytes words.now) ≡ None → files.new ≡ files.old }
+    ensures untouched { line_of (map string_bytes words.now) ≡ None → files.new ≡ files.old }
 {
-    match read_command(words) {
-        Some(command) => answer_command(alloc, &command, files),
-        None => {
+    match line(alloc, words) {
+        Ok(command) => answer_command(alloc, &command, files),
+        Err(LineError::Usage) => {
             let answer = refuse_words(alloc)?;
             Ok(answer)
         }
+        Err(LineError::OutOfMemory) => Err(Unanswered::OutOfMemory),
     }
 }
 

@@ -1,14 +1,8 @@
--- Texts spell one model at most, and words have one answer over files that are told.
+-- Words have one answer over files that are told.
 use Rattle.std.specs.Prelude.{◌≡◌, ℕ, List, Some}
 use Rattle.sail_outside.specs.Files.{Files}
 use Rattle.sail_top.specs.Answer.{IsAnswer}
-use Rattle.sail_top.specs.Grammar.{AreModel}
-use Rattle.sail_top.specs.declared.model.Model.{Model}
 use Rattle.sail_top.specs.declared.status.Answer.{Answer}
-
--- texts spell at most one model
-abbrev pub SpellOneModel : Type 0
-SpellOneModel = (texts : List (List ℕ)) (model other : Model) → AreModel texts model → AreModel texts other → model ≡ other
 
 -- words have an answer over files that are told
 abbrev pub HaveAnswer : Type 0

@@ -1,4 +1,4 @@
-use Rattle.sail_top.proofs.Decided.{some_answer}
+use Rattle.sail_top.proofs.Answered.{some_answer}
 use Rattle.sail_top.proofs.EndingLemmas.{one_answer}
 use Rattle.sail_top.proofs.laws.words_have_one_answer.Goals as goal
 

@@ -1,8 +1,7 @@
 use Rattle.std.proofs.Common.{◌≡◌, map, take}
-use Rattle.std.specs.String.{string_bytes}
 use Rattle.sail_top.specs.Reading.{wanted_model}
 use Rattle.sail_top.specs.parts.Borrowed.{as_wanted}
 use Rattle.sail_top.proofs.reading.wanted_by.Given as goal
 
 abbrev pub invariant-loop-name : goal.invariant-loop-name
-invariant-loop-name l = map as_wanted l.files.items ≡ map wanted_model (map string_bytes (take l.name-index l.name-items))
+invariant-loop-name l = map as_wanted l.files.items ≡ map wanted_model (take l.name-index l.name-items)
