@@ -5,3 +5,4 @@ pub mod Ledger
 pub mod Backward
 pub mod Marking
 pub mod Certified
+pub mod Discharged

@@ -12,7 +12,7 @@ use Rattle.farkas.specs.declared.keeping.Fate.{Fate}
 use Rattle.farkas.specs.declared.keeping.Fate.TheVariants.{Closes, Drops, Replaces, Joins}
 use Rattle.farkas.specs.declared.keeping.Starts.{Starts}
 use Rattle.farkas.specs.declared.keeping.Starts.TheVariants.{Kept, Contradiction, TooMany}
-use Rattle.farkas.specs.Keeping.{starts, started, settled, fate, most_rows}
+use Rattle.farkas.specs.Keeping.{starts, started, settled, fate, most_rows, IsFew}
 use Rattle.farkas.specs.Pruning.{marked}
 
 pub marked_more : (count : ℕ) (steps : List Step) (left n number : ℕ) (step : Step) (marks next whole : List Bool) →
@@ -30,28 +30,24 @@ marked_more count steps left n number step marks next whole within read one plac
     ∙ (ap (λ s. marked count s marks) (sym turned) ∙ same))
 
 -- at most 4,096 rows are kept
-abbrev Few : Starts → Type 0
-Few (Kept rows) = length rows ≤ 4096
-Few s = Unit {0}
-
-joins_few : (kept : List Row) (row : Row) (t : Bool) → nat_lt (length kept) most_rows ≡ t → Few (if t then Kept (kept ++ row ∷ []) else TooMany)
+joins_few : (kept : List Row) (row : Row) (t : Bool) → nat_lt (length kept) most_rows ≡ t → IsFew (if t then Kept (kept ++ row ∷ []) else TooMany)
 joins_few kept row true e = let l : length kept < 4096 = ltb-true (length kept) 4096 e in omega (arith, length_push kept row)
 joins_few kept row false e = tt
 
-settled_few : (kept : List Row) (row : Row) (f : Fate) → length kept ≤ 4096 → Few (settled kept row f)
+settled_few : (kept : List Row) (row : Row) (f : Fate) → length kept ≤ 4096 → IsFew (settled kept row f)
 settled_few kept row Closes h = tt
 settled_few kept row Drops h = h
 settled_few kept row (Replaces i) h = omega (arith, length-set kept i row)
 settled_few kept row Joins h = joins_few kept row (nat_lt (length kept) most_rows) refl
 
-started_few : (s : Starts) (row : Row) → Few s → Few (started s row)
+started_few : (s : Starts) (row : Row) → IsFew s → IsFew (started s row)
 started_few (Kept kept) row h = settled_few kept (reduced row) (fate kept (reduced row)) h
 started_few (Contradiction kept) row h = tt
 started_few TooMany row h = tt
 
-fold_few : (rows : List Row) (s : Starts) → Few s → Few (fold started s rows)
+pub fold_few : (rows : List Row) (s : Starts) → IsFew s → IsFew (fold started s rows)
 fold_few [] s h = h
 fold_few (row ∷ rows) s h = fold_few rows (started s row) (started_few s row h)
 
 pub few_kept : (rows : List Row) (s : Starts) (kept : List Row) → s ≡ starts rows → s ≡ Kept kept → length kept ≤ 4096
-few_kept rows s kept e h = subst Few (sym e ∙ h) (fold_few rows (Kept []) (omega arith))
+few_kept rows s kept e h = subst IsFew (sym e ∙ h) (fold_few rows (Kept []) (omega arith))

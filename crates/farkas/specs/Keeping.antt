@@ -1,5 +1,5 @@
 -- Which rows are kept: none that is true of all values, and of rows with the same coefficients the one with the least bound.
-use Rattle.std.specs.Prelude.{ℕ, suc, List, [], ◌∷◌, ◌++◌, length, set, pos, if◌then◌else◌, int_lt, nat_lt}
+use Rattle.std.specs.Prelude.{ℕ, suc, ◌≤◌, List, [], ◌∷◌, ◌++◌, length, set, pos, if◌then◌else◌, int_lt, nat_lt}
 use Rattle.std.specs.List.{fold}
 use Rattle.linear.specs.declared.row.Row.{Row}
 use Rattle.linear.specs.Rows.{is_constant, are_same, reduced}
@@ -37,3 +37,12 @@ started ended row = ended
 -- the rows that are kept of a case, up to the first contradiction
 abbrev pub starts : List Row → Starts
 starts rows = fold started (Kept []) rows
+
+-- at most so many rows are kept of a case, and of each of several
+abbrev pub IsFew : Starts → Type 0
+IsFew (Kept rows) = length rows ≤ most_rows
+IsFew ended = Unit {0}
+
+abbrev pub AreFew : List Starts → Type 0
+AreFew [] = Unit {0}
+AreFew (first ∷ rest) = IsFew first × AreFew rest

@@ -7,7 +7,7 @@ use Rattle.linear.specs.declared.row.Row.{Row}
 use Rattle.linear.specs.Cases.{cases_of, variables_of}
 use Rattle.farkas.specs.declared.certificate.Cert.{Cert}
 use Rattle.farkas.specs.declared.verdict.Verdict.{Verdict}
-use Rattle.farkas.specs.declared.verdict.Verdict.TheVariants.{Closed, Open}
+use Rattle.farkas.specs.declared.verdict.Verdict.TheVariants.{Closed}
 use Rattle.farkas.specs.declared.verdict.FarkasError.{FarkasError}
 use Rattle.farkas.specs.declared.verdict.FarkasError.TheVariants.{NumberLimit, CaseLimit, OutOfMemory}
 use Rattle.farkas.specs.Validity.{AreValid}

@@ -8,7 +8,8 @@ use Rattle.farkas.specs.declared.verdict.Verdict.{Verdict}
 use Rattle.farkas.specs.declared.verdict.Verdict.TheVariants.{Closed, Open}
 use Rattle.farkas.specs.declared.verdict.FarkasError.{FarkasError}
 use Rattle.farkas.specs.declared.verdict.FarkasError.TheVariants.{RowLimit, NumberLimit, OutOfMemory}
-use Rattle.farkas.specs.Ends.{case_end}
+use Rattle.farkas.specs.declared.keeping.Starts.{Starts}
+use Rattle.farkas.specs.Ends.{case_end, end_from}
 use Rattle.farkas.specs.Validity.{AreValid}
 
 -- the answer after a case with this end, where these certificates stand before it and `rest` goes on with one more
@@ -26,6 +27,14 @@ eliminated_from variables (rows ∷ more) before = answer_of before (case_end va
 -- the answer to cases of so many variables: a certificate for each, or the first that is open or at a limit
 abbrev pub eliminated : ℕ → List (List Row) → Result Verdict FarkasError
 eliminated variables cases = eliminated_from variables cases []
+
+-- the same where the rows are given that are kept of each case
+abbrev pub eliminated_starts_from : ℕ → List Starts → List Case → Result Verdict FarkasError
+eliminated_starts_from variables [] before = Ok (Closed (record { cases = before }))
+eliminated_starts_from variables (starts ∷ more) before = answer_of before (end_from variables starts) (eliminated_starts_from variables more)
+
+abbrev pub eliminated_starts : ℕ → List Starts → Result Verdict FarkasError
+eliminated_starts variables cases = eliminated_starts_from variables cases []
 
 -- an answer is that of a definition, or memory is wanting
 abbrev pub IsAnswer : Result Verdict FarkasError → Result Verdict FarkasError → Type 0

@@ -152,6 +152,31 @@ pub fn more_starts(alloc: Global, first: Items<Row>, rows: &[Row]) -> Result<Sta
     Ok(Starts::Kept(kept))
 }
 
+/// The rows that are kept where more rows come behind those of which some are kept: those behind a row that can't be true change
+/// nothing, nor do those behind too many. The one error is want of memory.
+pub fn starts_with(alloc: Global, first: &Starts, rows: &[Row]) -> Result<Starts, AllocError>
+    ensures { IfOk result (λ s. s ≡ fold started first.now rows.now) }
+{
+    match first {
+        Starts::Kept(kept) => more_starts(alloc, copy_rows(alloc, kept.as_slice())?, rows),
+        Starts::Contradiction(kept) => {
+            Ok(Starts::Contradiction(copy_rows(alloc, kept.as_slice())?))
+        }
+        Starts::TooMany => Ok(Starts::TooMany),
+    }
+}
+
+/// Rows once more.
+pub fn copy_rows(alloc: Global, rows: &[Row]) -> Result<Items<Row>, AllocError>
+    ensures { IfOk result (λ copies. copies ≡ rows.now) }
+{
+    let mut copies = Items::new(alloc);
+    for row in rows {
+        copies.push(copy_row(alloc, row)?)?;
+    }
+    Ok(copies)
+}
+
 /// The rows that are kept of a case.
 pub fn starts_of_case(alloc: Global, rows: &[Row]) -> Result<Starts, AllocError>
     ensures { IfOk result (λ s. s ≡ starts rows.now) }

@@ -13,10 +13,13 @@ mod refuting;
 mod verdict;
 
 pub use certificate::{Case, Cert, Step};
+pub use keeping::{Starts, starts_with};
 pub use laws::{a_valid_certificate_proves, a_valid_certificate_refutes};
 pub use points::Point;
 pub use problems::{check_cert, discharge};
-pub use verdict::{FarkasError, Verdict, check_cases, eliminate_cases};
+pub use verdict::{FarkasError, Verdict, check_cases, eliminate_cases, eliminate_starts};
 
+#[cfg(test)]
+mod problem_tests;
 #[cfg(test)]
 mod tests;

@@ -1,11 +1,12 @@
 //! Cases, eliminated one by one.
 ghost use Rattle.std.specs.Prelude.{◌≡◌, ◌≤◌, [], IfOk, length};
-ghost use Rattle.farkas.specs.Ends.{case_end, ended, pointed};
+ghost use Rattle.farkas.specs.Keeping.{IsFew};
+ghost use Rattle.farkas.specs.Ends.{case_end, end_from, ended, pointed};
 ghost use Rattle.farkas.specs.Elimination.{solved, numbered};
 
 use crate::certificate::Case;
 use crate::elimination::{Held, Solved, solve};
-use crate::keeping::{Starts, starts_of_case};
+use crate::keeping::{Starts, copy_rows, starts_of_case};
 use crate::points::{Point, point_from};
 use crate::pruning::stood_on_by_last;
 use linear::Row;
@@ -36,6 +37,21 @@ pub fn case_ends(alloc: Global, rows: &[Row], variables: usize) -> Result<End, A
         })),
         Starts::TooMany => Ok(End::RowsPast(0)),
         Starts::Kept(starts) => kept_ends(alloc, starts, variables),
+    }
+}
+
+/// How a case ends of which these rows are kept.
+pub fn starts_end(alloc: Global, starts: &Starts, variables: usize) -> Result<End, AllocError>
+    requires { IsFew starts.now }
+    ensures { IfOk result (λ e. e ≡ end_from variables starts.now) }
+{
+    match starts {
+        Starts::Contradiction(kept) => Ok(End::Closed(Case {
+            starts: copy_rows(alloc, kept.as_slice())?,
+            steps: Items::new(alloc),
+        })),
+        Starts::TooMany => Ok(End::RowsPast(0)),
+        Starts::Kept(kept) => kept_ends(alloc, copy_rows(alloc, kept.as_slice())?, variables),
     }
 }
 

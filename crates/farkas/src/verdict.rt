@@ -1,12 +1,14 @@
 //! Cases, all of them refuted or the first that isn't shown open.
 ghost use Rattle.std.specs.Prelude.{◌≡◌, ◌↔◌, IfOk, IsTrue};
-ghost use Rattle.farkas.specs.Verdicts.{eliminated, IsAnswer, IsCertified};
+ghost use Rattle.farkas.specs.Keeping.{AreFew};
+ghost use Rattle.farkas.specs.Verdicts.{eliminated, eliminated_starts, IsAnswer, IsCertified};
 ghost use Rattle.farkas.specs.Validity.{AreValid};
 
 use crate::certificate::{Case, Cert};
 use crate::checking::is_valid_case;
+use crate::keeping::Starts;
 use crate::points::Point;
-use crate::refuting::{End, case_ends};
+use crate::refuting::{End, case_ends, starts_end};
 use linear::Row;
 use sail_base::Items;
 use std::alloc::{AllocError, Global};
@@ -57,6 +59,29 @@ pub fn eliminate_cases(
     let mut certificates = Items::new(alloc);
     for case in cases {
         match case_ends(alloc, case.as_slice(), variables)? {
+            End::Closed(certificate) => certificates.push(certificate)?,
+            End::Open(point) => return Ok(Verdict::Open(point)),
+            End::RowsPast(variable) => return Err(FarkasError::RowLimit { variable }),
+            End::NumbersPast => return Err(FarkasError::NumberLimit),
+        }
+    }
+    Ok(Verdict::Closed(Cert {
+        cases: certificates,
+    }))
+}
+
+/// The answer of [`eliminate_cases`] to cases of each of which the rows that are kept are given.
+pub fn eliminate_starts(
+    alloc: Global,
+    cases: &[Starts],
+    variables: usize,
+) -> Result<Verdict, FarkasError>
+    requires { AreFew cases.now }
+    ensures { IsAnswer result (eliminated_starts variables cases.now) }
+{
+    let mut certificates = Items::new(alloc);
+    for starts in cases {
+        match starts_end(alloc, starts, variables)? {
             End::Closed(certificate) => certificates.push(certificate)?,
             End::Open(point) => return Ok(Verdict::Open(point)),
             End::RowsPast(variable) => return Err(FarkasError::RowLimit { variable }),

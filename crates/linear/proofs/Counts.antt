@@ -128,7 +128,7 @@ one_capped : 1 ≡ capped 1
 unfolding capped
 one_capped = refl
 
-none_capped : 0 ≡ capped 0
+pub none_capped : 0 ≡ capped 0
 unfolding capped
 none_capped = refl
 
@@ -174,7 +174,7 @@ module _ (cut : Bool) (parts : List Choice) (i : ℕ) (part : Choice) (found cou
       ∙ (ap (λ k. capped (found + k)) (sym (length-append (alternatives cut part) (joined (map (alternatives cut) (drop (i + 1) parts)))))
       ∙ (ap (λ lists. capped (found + length (joined lists))) (sym here) ∙ same)))
 
-capped_small : (n : ℕ) → n < 2 ^ 64 → n ≡ capped n
+pub capped_small : (n : ℕ) → n < 2 ^ 64 → n ≡ capped n
 unfolding capped
 capped_small n h = omega arith
 
@@ -254,7 +254,7 @@ any_chosen atoms truth cons con o r is found joined =
 
 -- ---- cases
 
-capped_both : (a b : ℕ) → capped (capped a * capped b) ≡ capped (a * b)
+pub capped_both : (a b : ℕ) → capped (capped a * capped b) ≡ capped (a * b)
 capped_both a b =
     capped_times a (capped b) ∙ (let e : a * capped b ≡ capped b * a = omega arith in ap capped e ∙ (capped_times b a ∙
     (let f : b * a ≡ a * b = omega arith in ap capped f)))
@@ -265,11 +265,11 @@ total_is facts goal a b total p q e =
     e ∙ (sym (capped_is (a * b)) ∙ ((λ j. capped (p j * q j)) ∙ (capped_both _ _ ∙
     ap capped (sym (behind_length (product (map (alternatives false) facts)) (alternatives true goal))))))
 
-more_than : (n total : ℕ) → total ≡ capped n → 64 < total → 64 < n
+pub more_than : (n total : ℕ) → total ≡ capped n → 64 < total → 64 < n
 unfolding capped
 more_than n total e h = omega arith
 
-no_more_than : (n total : ℕ) → total ≡ capped n → total ≤ 64 → n ≤ 64
+pub no_more_than : (n total : ℕ) → total ≡ capped n → total ≤ 64 → n ≤ 64
 unfolding capped
 no_more_than n total e h = omega arith
 

@@ -366,7 +366,8 @@ fn among(
     }
 }
 
-/// What makes a constraint true, or false, or `None` where a number of a row is past the limit.
+/// What makes a constraint over these variables true, or false where not `truth`, or `None` where a number of a row is past
+/// 2^127 - 1 in size, on the way too. The one error is want of memory.
 #[cycle(choosing)]
 pub fn choose(
     alloc: Global,

@@ -31,7 +31,7 @@ fn has_false(rows: &[Row]) -> bool
     false
 }
 
-/// How many alternatives a choice has, cut off at 2^64 - 1.
+/// How many alternatives a choice has, cut off at 2^64 - 1; where `cut`, those with a row that is never true are left out.
 #[cycle(counting)]
 pub fn count(cut: bool, choice: &Choice) -> u64
     ensures { result ≡ capped (length (alternatives cut choice.now)) }

@@ -11,11 +11,13 @@ mod row;
 mod variables;
 
 pub use choice::Choice;
-pub use listing::cases;
+pub use choosing::choose;
+pub use counting::count;
+pub use listing::{cases, list};
 pub use numbers::Number;
 pub use problem::{LinearError, Problem};
 pub use row::{
     Row, coefficient, combination, copy_row, divisor_of, have_same_coefficients, is_constant,
     is_multiple, quotient_row, reduced, same_rows,
 };
-pub use variables::list_variables;
+pub use variables::{list_variables, push_variables};

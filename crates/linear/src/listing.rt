@@ -66,9 +66,10 @@ fn together(
     Ok(all)
 }
 
-/// The alternatives of a choice.
+/// The alternatives of a choice, each as a list of rows; where `cut`, those with a row that is never true are left out. There are
+/// as many as [`crate::count`] says, which a caller looks at first.
 #[cycle(listing)]
-fn list(alloc: Global, cut: bool, choice: &Choice) -> Result<Items<Items<Row>>, AllocError>
+pub fn list(alloc: Global, cut: bool, choice: &Choice) -> Result<Items<Items<Row>>, AllocError>
     ensures { IfOk result (λ all. all ≡ alternatives cut choice.now) }
 {
     if count(cut, choice) == 0 {

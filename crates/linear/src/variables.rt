@@ -63,9 +63,9 @@ fn push_atoms(alloc: Global, atoms: &mut Items<Atom>, number: &Num) -> Result<()
     Ok(())
 }
 
-/// Puts the variables of a constraint.
+/// Puts the variables of a constraint that aren't there at the end, in order of first appearance. The one error is want of memory.
 #[cycle(variables)]
-fn push_variables(alloc: Global, atoms: &mut Items<Atom>, con: &Con) -> Result<(), AllocError>
+pub fn push_variables(alloc: Global, atoms: &mut Items<Atom>, con: &Con) -> Result<(), AllocError>
     ensures { OnOk result (atoms.new ≡ fold with_atom atoms.old (variables_in con.now)) }
 {
     match con {

@@ -1,5 +1,5 @@
 -- A problem with a valid certificate: its facts imply its goal.
-use Rattle.std.proofs.Common.{◌≡◌, true, false, inl, inr}
+use Rattle.std.proofs.Common.{inl, inr}
 use Rattle.std.proofs.lemmas.Bool.{cases_Bool}
 use Rattle.sail_types.specs.Numbers.{true_in}
 use Rattle.linear.specs.declared.problem.Problem.{Problem}

@@ -1,6 +1,6 @@
 -- A case with a valid certificate can't be: no values of its variables make all of its rows true.
 use Rattle.std.proofs.Common.{◌≡◌, ℕ, zero, suc, ◌-◌, List, [], ◌∷◌, ◌++◌, Bool, true, false, Option, Some, None}
-use Rattle.std.proofs.Common.{subst, refl, arith, ℤ, pos, ◌<ℤ◌, length, set, ◌⊎◌, inl, inr}
+use Rattle.std.proofs.Common.{subst, refl, arith, ℤ, pos, ◌<ℤ◌, length, set, inl, inr}
 use Rattle.std.specs.Prelude.{int_lt, slice_get, if◌then◌else◌, nat_lt}
 use Rattle.std.specs.List.{fold}
 use Rattle.std.proofs.lemmas.Int.{ints}

@@ -1,0 +1,4 @@
+pub mod Stable
+pub mod Growing
+pub mod Asking
+pub mod Prefixes
