@@ -44,13 +44,13 @@ write_byte bytes base w a at word h k l =
     let n : length new ≡ w = length-word_bytes w word in
     ⊎_elim
     (λ (lt : at < a). get_or-overwritten_below bytes (a - base) new (at - base) 0 (omega arith) (omega arith) ∙
-        left_below a w at (slice_index new (at - a)) (slice_index bytes (at - base)) lt)
+    left_below a w at (slice_index new (at - a)) (slice_index bytes (at - base)) lt)
     (λ (le : a ≤ at). ⊎_elim
     (λ (lt : at < a + w). get_or-overwritten_within bytes (a - base) new (at - base) 0 (omega arith) (omega arith)
-        (omega arith) ∙ ap (slice_index new) (omega arith) ∙ chosen a w at (slice_index new (at - a))
-        (slice_index bytes (at - base)) le lt)
+    (omega arith) ∙ ap (slice_index new) (omega arith) ∙ chosen a w at (slice_index new (at - a))
+    (slice_index bytes (at - base)) le lt)
     (λ (past : a + w ≤ at). get_or-overwritten_behind bytes (a - base) new (at - base) 0 (omega arith) (omega arith) ∙
-        left_behind a w at (slice_index new (at - a)) (slice_index bytes (at - base)) past)
+    left_behind a w at (slice_index new (at - a)) (slice_index bytes (at - base)) past)
     (cases_lt at (a + w)))
     (cases_lt at a)
 
@@ -105,8 +105,11 @@ done_byte true u h w a at word t k = written_byte u w a at word t k
 done_byte false u h w a at word t k = refl
 
 made_by : (call : Call) (u : RunState) → Made call u
-made_by (reading h w a) u = record { alike = record { base = refl; size = refl }; byte = λ at k. same_if
-    (is_there u w a) (Byte u at) at (read h w a (word_at u w a)) refl }
+made_by (reading h w a) u = record {
+  alike = record { base = refl; size = refl };
+  byte = λ at k. same_if
+      (is_there u w a) (Byte u at) at (read h w a (word_at u w a)) refl;
+}
 made_by (reserving h w a) u = record {
   alike = reserve_alike (is_there u w a) u (with_reservation h (Some (record { place = a; width = w })) u) refl refl;
   byte = λ at k. byte_if (is_there u w a) u (with_reservation h (Some (record { place = a; width = w })) u) at (reserve h w a (word_at u w a)) (λ t. refl);

@@ -32,7 +32,7 @@ done_kept : (done : Bool) (u : RunState) (h w a j : ℕ) (word : List Bool) → 
     (write_cond h w a word done)
 done_kept true u h w a j word k =
     set_kept None (map (after_write w a) u.harts) h j (omega (arith, length-written w a u.harts)) ∙ ap
-        (λ kept. if nat_eq h j then None else kept) (written_kept w a u.harts j)
+    (λ kept. if nat_eq h j then None else kept) (written_kept w a u.harts j)
 done_kept false u h w a j word k = set_kept None u.harts h j k
 
 cond_kept : (there done : Bool) (u : RunState) (h w a j : ℕ) (word : List Bool) → h < length u.harts → reservation
@@ -69,7 +69,7 @@ calls_kept [] s t xs j c = same_kept s t j c.0 ∙ ap (fold (kept_after j) (rese
 calls_kept (call ∷ calls) s t xs j (u, same, is_call, (rest, e, more)) =
     calls_kept calls (state_after call u) t rest j more
     ∙ ap (λ kept. fold (kept_after j) kept rest) (call_kept call u j is_call ∙ ap (λ kept. fold (kept_after j) kept
-        (then_accesses (access_of call u) [])) (same_kept s u j same))
+    (then_accesses (access_of call u) [])) (same_kept s u j same))
     ∙ sym (fold_then (kept_after j) (reservation s j) (access_of call u) rest) ∙ ap (fold (kept_after j) (reservation s j)) (sym e)
 
 -- an access among those of calls: the calls before it, the state then and the call that makes it
@@ -116,7 +116,7 @@ pub located : (calls : List Call) (s t : RunState) (xs before after : List Acces
 located [] s t xs before after x c e = absurd (not_empty before after x (sym c.1 ∙ e))
 located (call ∷ calls) s t xs before after x (u, same, is_call, (rest, e, more)) h =
     at_call call s u rest xs before after x (access_of call u) same is_call refl e h (λ before after f. located calls
-        (state_after call u) t rest before after x more f)
+    (state_after call u) t rest before after x more f)
 
 -- ---- the law
 

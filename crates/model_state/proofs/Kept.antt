@@ -161,8 +161,14 @@ more_back : (hart : ℕ) (kept : Reservation) (o : Option Reservation) (x : Acce
     (kept_after hart o x) xs → Backs hart kept o (x ∷ xs)
 unfolding Backs
 more_back hart kept o x xs (inl p) = one_back hart kept o x xs p.1 (step_back hart kept o x p.0)
-more_back hart kept o x xs (inr st) = inr (record { earlier = x ∷ st.earlier; word = st.word; since = st.since; made =
-    ap (λ ys. x ∷ ys) st.made; unended = st.unended })
+more_back hart kept o x xs (inr st) = inr (record {
+  earlier = x ∷ st.earlier;
+  word = st.word;
+  since = st.since;
+  made =
+      ap (λ ys. x ∷ ys) st.made;
+  unended = st.unended;
+})
 
 all_back : (hart : ℕ) (kept : Reservation) (o : Option Reservation) (xs : List Access) → fold (kept_after hart) o xs ≡ Some kept → Backs hart kept o xs
 unfolding Backs

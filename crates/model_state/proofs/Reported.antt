@@ -144,7 +144,7 @@ pub rows_step : (f : ℕ → List ℕ) (row end : ℕ) (out new whole : List ℕ
 rows_step f row end out new whole h n e =
     let k : end - row ≡ suc (end - (row + 1)) = omega arith in
     ap (λ xs. xs ++ flat_map f (range_with_len (row + 1) (end - (row + 1)))) n ∙ append_assoc out (f row)
-        (flat_map f (range_with_len (row + 1) (end - (row + 1))))
+    (flat_map f (range_with_len (row + 1) (end - (row + 1))))
     ∙ ap (λ m. out ++ flat_map f (range_with_len row m)) (sym k) ∙ e
 
 -- the text of a row that is changed, and of one that isn't

@@ -6,5 +6,5 @@ pub returns : goal.returns
 returns g c =
     let old = c.index_mut-hart.result.now in
     state-changed (hart_with_register c.args.index c.args.value) c.args.self.now _ c.args.hart old _ c.self.view_is
-        (hart_there _ _ _ c.requires) c.index_mut-hart.ensures.value
+    (hart_there _ _ _ c.requires) c.index_mut-hart.ensures.value
     (λ i. record { registers = c.set.ensures i; reservation = old.reservation; rests = old.rests })

@@ -9,4 +9,4 @@ loop-i-preserved g c =
     let here : c.base-base.result + i - g.M.Memory.base c.args.memory.now ≡ i = omega (arith, c.base-base.ensures) in
     let byte : slice_get bytes i ≡ Some c.byte_in.result = ap (slice_get bytes) (sym here) ∙ c.byte_in.ensures in
     c.in_ok-push.ensures.items ∙ ap (λ xs. xs ++ c.byte_in.result ∷ []) c.loop-i.invariant ∙ sym
-        (take_more bytes i c.byte_in.result byte) ∙ ap (λ n. take n bytes) (sym (add-one i))
+    (take_more bytes i c.byte_in.result byte) ∙ ap (λ n. take n bytes) (sym (add-one i))

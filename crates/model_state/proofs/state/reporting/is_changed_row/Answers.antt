@@ -16,7 +16,7 @@ loop-k-preserved g c =
     let same : c.is_same.result ≡ same_byte (byte_at base now at) (byte_at base placed at) =
     c.is_same.ensures ∙ (λ i. same_byte (c.byte_of.ensures i) ((c.byte.ensures ∙ ap (λ b. byte_at b placed at) c.requires.base) i)) in
     any_step (λ at. not (same_byte (byte_at base now at) (byte_at base placed at))) c.args.row c.loop-k.k _
-        c.loop-k-test.true (ap not (sym same ∙ c.if-not-is_same.false)) c.loop-k.invariant
+    c.loop-k-test.true (ap not (sym same ∙ c.if-not-is_same.false)) c.loop-k.invariant
 
 pub returns-then-not-is_same : goal.returns-then-not-is_same
 returns-then-not-is_same g c =
@@ -25,10 +25,10 @@ returns-then-not-is_same g c =
     let same : c.is_same.result ≡ same_byte (byte_at base now at) (byte_at base placed at) =
     c.is_same.ensures ∙ (λ i. same_byte (c.byte_of.ensures i) ((c.byte.ensures ∙ ap (λ b. byte_at b placed at) c.requires.base) i)) in
     any_found (λ at. not (same_byte (byte_at base now at) (byte_at base placed at))) c.args.row c.loop-k.k _
-        c.loop-k-test.true (ap not (sym same ∙ c.if-not-is_same.true)) c.loop-k.invariant
+    c.loop-k-test.true (ap not (sym same ∙ c.if-not-is_same.true)) c.loop-k.invariant
 
 pub returns : goal.returns
 returns g c =
     let base = g.M.Memory.base c.args.memory.now in let now = g.M.Memory.bytes c.args.memory.now in
     any_end (λ at. not (same_byte (byte_at base now at) (byte_at base c.args.start.now.bytes at))) c.args.row
-        c.loop-k.k _ (omega (arith, c.loop-k-test.false)) c.loop-k.invariant
+    c.loop-k.k _ (omega (arith, c.loop-k-test.false)) c.loop-k.invariant

@@ -13,7 +13,7 @@ pub loop-k-preserved : goal.loop-k-preserved
 loop-k-preserved g c =
     let base = g.M.Memory.base c.args.memory.now in let now = g.M.Memory.bytes c.args.memory.now in
     texts_step (λ at. byte_text (byte_at base now at)) c.args.row c.loop-k.k c.loop-k.out.items _ _ c.loop-k-test.true
-        (c.in_ok-push_byte.ensures ∙ ap (λ b. c.loop-k.out.items ++ byte_text b) c.byte_of.ensures) c.loop-k.invariant
+    (c.in_ok-push_byte.ensures ∙ ap (λ b. c.loop-k.out.items ++ byte_text b) c.byte_of.ensures) c.loop-k.invariant
 
 pub returns : goal.returns
 returns g c =

@@ -14,8 +14,8 @@ loop-row-preserved g c =
     elim c.if-is_changed_row.branch [
       | then-is_changed_row+in_ok-push_row w ↦ rows_step (λ row. changed_row_text base placed now (16 * row)) row _ out _ _ c.loop-row-test.true
           (ap (λ v. v.items) w.out-is ∙ row_put base placed now (16 * row) c.is_changed_row.result out _
-              c.is_changed_row.ensures w.if-is_changed_row.true w.in_ok-push_row.ensures) c.loop-row.invariant
+          c.is_changed_row.ensures w.if-is_changed_row.true w.in_ok-push_row.ensures) c.loop-row.invariant
       | else-is_changed_row w ↦ rows_step (λ row. changed_row_text base placed now (16 * row)) row _ out _ _ c.loop-row-test.true
           (ap (λ v. v.items) w.out-is ∙ row_left base placed now (16 * row) c.is_changed_row.result out
-              c.is_changed_row.ensures w.if-is_changed_row.false) c.loop-row.invariant
+          c.is_changed_row.ensures w.if-is_changed_row.false) c.loop-row.invariant
     ]

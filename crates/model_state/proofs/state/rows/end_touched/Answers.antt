@@ -12,5 +12,5 @@ loop-hart-preserved c =
     let f = after_write c.args.w c.args.a in
     ap (λ hs. slice_set hs i new) c.loop-hart.invariant
     ∙ set-mapped f harts i hart new c.loop-hart-test.true (c.hart-item.is ∙ ap (λ hs. get_or hs i hart)
-        c.loop-hart.invariant) (c.end_if_touched.ensures ∙ ap f (sym c.hart-item.is))
+    c.loop-hart.invariant) (c.end_if_touched.ensures ∙ ap f (sym c.hart-item.is))
     ∙ (λ j. map f (take (sym (add-one i) j) harts) ++ drop (sym (add-one i) j) harts)
