@@ -359,7 +359,7 @@ fn a_text_of_blanks_is_read_up_to_its_limit(rt: HostRuntime) -> Result<(), Fail>
         let fails = (Vec::new(alloc), Vec::new(alloc));
         let text = vec![in alloc; b' '; length]?;
         let written = answer(alloc, "run --elf Q M", text, fails, 1_000_000)?;
-        assert!(rt; written[0] == wanted);
+        assert!(rt; written.as_slice().starts_with(&[wanted]));
     }
     Ok(())
 }
@@ -380,7 +380,7 @@ fn a_failing_call_is_a_fault(rt: HostRuntime) -> Result<(), Fail> {
         let fails = (Vec::new(alloc), vec![in alloc; call]?);
         let written = answer(alloc, "run --elf Q --ram-size 8 M", text, fails, 10)?;
         assert!(rt;
-            written[0] == b'4' && written.len() as u64 == 10 * call + 2,
+            written.as_slice().starts_with(b"4 ") && written.len() as u64 == 10 * call + 2,
             "call {call}"
         );
     }
