@@ -5,4 +5,12 @@ pub mod Ledger
 pub mod Backward
 pub mod Marking
 pub mod Certified
+pub mod PointNumbers
+pub mod PointRows
+pub mod PointSteps
+pub mod PointBounds
 pub mod Discharged
+pub mod PointEnd
+pub mod PointShown
+pub mod Over
+pub mod Opened

@@ -6,5 +6,6 @@ pub mod Ends
 pub mod Verdicts
 pub mod Problems
 pub mod Validity
+pub mod Shown
 pub mod Events
 pub mod laws
