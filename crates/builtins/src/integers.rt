@@ -1,12 +1,15 @@
 //! Rows of integers and of truths.
-ghost use Rattle.std.specs.Prelude.{◌≡◌, ◌+ℤ◌, ◌-ℤ◌, ◌*ℤ◌, neg_ℤ, unsigned_abs, pos, false, true, replicate, IfOk, int_div, int_rem, int_le, if◌then◌else◌};
+ghost use Rattle.std.specs.Prelude.{◌≡◌, ◌+ℤ◌, ◌-ℤ◌, ◌*ℤ◌, neg_ℤ, unsigned_abs, pos, false, true, replicate, IfOk};
+ghost use Rattle.std.specs.Prelude.{int_div, int_rem, int_le, if◌then◌else◌};
 ghost use Rattle.std.specs.Int.{int_div_euclid, int_rem_euclid};
 ghost use Rattle.std.specs.Ordering.{int_eq};
 ghost use Rattle.std.specs.Prelude.{not};
 ghost use Rattle.sail_base.specs.Bits.{bits_of_int};
 ghost use Rattle.sail_types.specs.Limits.{small_power as small_power_of};
 ghost use Rattle.sail_types.specs.Sums.{and_then};
-ghost use Rattle.builtins.specs.RowValues.{an_integer as an_integer_of, a_word as a_word_of, natural, where_, on_integer as on_integer_of, on_integers as on_integers_of, on_truth as on_truth_of};
+ghost use Rattle.builtins.specs.RowValues.{an_integer as an_integer_of, a_word as a_word_of, natural, where_};
+ghost use Rattle.builtins.specs.RowValues.{on_integer as on_integer_of, on_integers as on_integers_of};
+ghost use Rattle.builtins.specs.RowValues.{on_truth as on_truth_of};
 
 use crate::made::{a_word, an_integer, natural_integer};
 use crate::texts::decimal;

@@ -1,7 +1,10 @@
 //! Rows of a word and an integer.
 ghost use Rattle.std.specs.Prelude.{◌≡◌, length, nat_le, take};
-ghost use Rattle.sail_base.specs.Bits.{bits_of_int, add_bits, sub_bits, shl_bits, shr_bits, sar_bits, copies, zext_bits, sext_bits};
-ghost use Rattle.builtins.specs.RowValues.{a_word as a_word_of, natural, where_, on_word_integer as on_word_integer_of, on_integer_word as on_integer_word_of};
+ghost use Rattle.sail_base.specs.Bits.{bits_of_int, add_bits, sub_bits, shl_bits, shr_bits, sar_bits, copies};
+ghost use Rattle.sail_base.specs.Bits.{zext_bits, sext_bits};
+ghost use Rattle.builtins.specs.RowValues.{a_word as a_word_of, natural, where_};
+ghost use Rattle.builtins.specs.RowValues.{on_word_integer as on_word_integer_of};
+ghost use Rattle.builtins.specs.RowValues.{on_integer_word as on_integer_word_of};
 
 use crate::made::a_word;
 use sail_base::Word;

@@ -2,7 +2,9 @@
 ghost use Rattle.std.specs.Prelude.{◌≡◌, IfOk, IsSome, Some, map, not, replicate, option_map};
 ghost use Rattle.sail_types.specs.declared.values.Value.TheVariants as V;
 ghost use Rattle.sail_types.specs.declared.values.Value.{out-Value};
-ghost use Rattle.builtins.specs.RowValues.{row, by_shape as by_shape_of, of_one as of_one_of, of_two as of_two_of, on_texts as on_texts_of, on_vector as on_vector_of, same as same_of, same_two as same_two_of, repeated as repeated_of};
+ghost use Rattle.builtins.specs.RowValues.{row, by_shape as by_shape_of, of_one as of_one_of, of_two as of_two_of};
+ghost use Rattle.builtins.specs.RowValues.{on_texts as on_texts_of, on_vector as on_vector_of, same as same_of};
+ghost use Rattle.builtins.specs.RowValues.{same_two as same_two_of, repeated as repeated_of};
 
 use crate::integers::{on_integer, on_integers, on_truth};
 use crate::made::an_integer;

@@ -1,6 +1,7 @@
 //! Rows against values from outside: Python computed each with its own integers.
 mod integer_tables;
 mod mixed_tables;
+mod text_tables;
 mod word_tables;
 
 use super::*;
@@ -8,7 +9,10 @@ use integer_tables::{COMPARED_INTEGERS, DECIMALS, ONE_INTEGER, TWO_INTEGERS};
 use mixed_tables::{BIT_TEXTS, INTEGER_AND_WORD, MADE_BITS, ONE_WORD, TURNED, WORD_AND_INTEGER};
 use sail_base::{Text, Word};
 use sail_types::{Row, Value};
+use std::alloc::Global;
+use std::process::Abort;
 use std::test::Fail;
+use text_tables::{COMPARED_MEMBERS, COMPARED_TEXTS, COMPARED_TRUTHS, JOINED, REPEATED};
 use word_tables::{COMPARED_WORDS, TWO_WORDS};
 
 /// Whether a result is this integer, or none.
@@ -128,28 +132,109 @@ fn rows_of_texts_and_truths(rt: HostRuntime) -> Result<(), Fail> {
     for (w, a, expected) in &BIT_TEXTS {
         assert!(rt; is_text(&row_value(alloc, Row::BitsStr, &[word(*w, *a)])?, expected));
     }
-    let hi = Value::String(Text::new(alloc, "hi")?);
-    let no = Value::String(Text::new(alloc, "")?);
-    assert!(rt; is_text(&row_value(alloc, Row::ConcatStr, &[hi, no])?, "hi"));
-    assert!(rt;
-        is_truth(
-            &row_value(alloc, Row::NotBool, &[Value::Truth(true)])?,
-            false
-        )
-    );
-    assert!(rt;
-        is_word(
-            &row_value(alloc, Row::BoolToBits, &[Value::Truth(true)])?,
-            Some((1, 1))
-        )
-    );
-    let made = row_value(alloc, Row::VectorInit, &[Value::Integer(3), Value::Unit])?;
-    assert!(rt;
-        is_integer(
-            &row_value(alloc, Row::Length, &[made.ok_or("a vector")?])?,
-            Some(3)
-        )
-    );
-    assert!(rt; row_value(alloc, Row::VectorInit, &[Value::Integer(4097), Value::Unit])?.is_none());
+    for (first, second, expected) in &JOINED {
+        let first = Value::String(Text::new(alloc, first)?);
+        let second = Value::String(Text::new(alloc, second)?);
+        assert!(rt;
+            is_text(
+                &row_value(alloc, Row::ConcatStr, &[first, second])?,
+                expected
+            )
+        );
+    }
+    Ok(())
+}
+
+#[test]
+fn vectors_of_an_item(rt: HostRuntime) -> Result<(), Fail> {
+    let alloc = rt.alloc();
+    for (count, expected) in &REPEATED {
+        match row_value(
+            alloc,
+            Row::VectorInit,
+            &[Value::Integer(*count), Value::Unit],
+        )? {
+            None => assert!(rt; expected.is_none(), "{count}"),
+            Some(made) => {
+                assert!(rt; is_integer(&row_value(alloc, Row::Length, &[made])?, *expected));
+            }
+        }
+    }
+    Ok(())
+}
+
+#[test]
+fn rows_of_truths(rt: HostRuntime) -> Result<(), Fail> {
+    let alloc = rt.alloc();
+    for truth in &[false, true] {
+        let turned = row_value(alloc, Row::NotBool, &[Value::Truth(*truth)])?;
+        assert!(rt; is_truth(&turned, !*truth));
+        let bits = row_value(alloc, Row::BoolToBits, &[Value::Truth(*truth)])?;
+        assert!(rt; is_word(&bits, Some((1, *truth as u128))));
+    }
+    for row in &[Row::NotBool, Row::BoolToBits] {
+        assert!(rt; row_value(alloc, *row, &[])?.is_none());
+        assert!(rt; row_value(alloc, *row, &[Value::Integer(1)])?.is_none());
+        assert!(rt; row_value(alloc, *row, &[Value::Bit(true)])?.is_none());
+        assert!(rt; row_value(alloc, *row, &[Value::Truth(true), Value::Truth(true)])?.is_none());
+    }
+    Ok(())
+}
+
+/// Whether two values are the same, and whether they are not, are these truths.
+fn compare(
+    rt: &impl Abort,
+    alloc: Global,
+    args: &[Value],
+    expected: Option<bool>,
+) -> Result<(), Fail> {
+    let same = row_value(alloc, Row::Eq, args)?;
+    let other = row_value(alloc, Row::Neq, args)?;
+    match expected {
+        None => assert!(rt; same.is_none() && other.is_none()),
+        Some(expected) => {
+            assert!(rt; is_truth(&same, expected) && is_truth(&other, !expected));
+        }
+    }
+    Ok(())
+}
+
+#[test]
+fn values_are_compared(rt: HostRuntime) -> Result<(), Fail> {
+    let alloc = rt.alloc();
+    for (first, second, expected) in &COMPARED_TEXTS {
+        let first = Value::String(Text::new(alloc, first)?);
+        let second = Value::String(Text::new(alloc, second)?);
+        compare(&rt, alloc, &[first, second], Some(*expected))?;
+    }
+    for (first, second, expected) in &COMPARED_TRUTHS {
+        compare(
+            &rt,
+            alloc,
+            &[Value::Truth(*first), Value::Truth(*second)],
+            Some(*expected),
+        )?;
+        compare(
+            &rt,
+            alloc,
+            &[Value::Bit(*first), Value::Bit(*second)],
+            Some(*expected),
+        )?;
+        compare(
+            &rt,
+            alloc,
+            &[Value::Bit(*first), Value::Truth(*second)],
+            None,
+        )?;
+    }
+    for (place, member, other, second, expected) in &COMPARED_MEMBERS {
+        let args = [
+            Value::Member(*place, *member),
+            Value::Member(*other, *second),
+        ];
+        compare(&rt, alloc, &args, *expected)?;
+    }
+    compare(&rt, alloc, &[Value::Unit, Value::Unit], Some(true))?;
+    compare(&rt, alloc, &[word(8, 1), word(9, 1)], None)?;
     Ok(())
 }

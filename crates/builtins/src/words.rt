@@ -1,7 +1,9 @@
 //! Rows of words of bits.
 ghost use Rattle.std.specs.Prelude.{◌≡◌, IfOk, length, nat_eq, nat_le, pos, ◌&&◌};
-ghost use Rattle.sail_base.specs.Bits.{append_bits, value_of, signed_of, mul_wide_unsigned, mul_wide_signed, mul_wide_mixed};
-ghost use Rattle.builtins.specs.RowValues.{an_integer as an_integer_of, a_word as a_word_of, where_, on_word as on_word_of, on_alike as on_alike_of, on_words as on_words_of};
+ghost use Rattle.sail_base.specs.Bits.{append_bits, value_of, signed_of, mul_wide_unsigned, mul_wide_signed};
+ghost use Rattle.sail_base.specs.Bits.{mul_wide_mixed};
+ghost use Rattle.builtins.specs.RowValues.{an_integer as an_integer_of, a_word as a_word_of, where_};
+ghost use Rattle.builtins.specs.RowValues.{on_word as on_word_of, on_alike as on_alike_of, on_words as on_words_of};
 
 use crate::made::{a_word, an_integer};
 use crate::texts::bits_text;
