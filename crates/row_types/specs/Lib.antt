@@ -1,0 +1,5 @@
+pub mod Formulas
+pub mod RowTypes
+pub mod Calls
+pub mod Goals
+pub mod laws

@@ -1,0 +1,12 @@
+pub mod Formulas
+pub mod Results
+pub mod IntegerRows
+pub mod DivisionRows
+pub mod WordRows
+pub mod WidthRows
+pub mod OtherRows
+pub mod Shapes
+pub mod Rows
+pub mod Owed
+pub mod RowsOwe
+pub mod Goals
