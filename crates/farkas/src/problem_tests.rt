@@ -311,3 +311,59 @@ fn problems_have_their_answers(rt: HostRuntime) -> Result<(), Fail> {
     }
     Ok(())
 }
+
+/// Whether a number that isn't one of the first so many is below the count of them.
+fn unequal(alloc: Global, count: u32) -> Result<Problem, AllocError> {
+    let mut facts = Items::new(alloc);
+    for value in 0..count {
+        facts.push(compare(alloc, Comparison::NotEqual, 1, 0, value as i128)?)?;
+    }
+    Ok(Problem {
+        facts,
+        goal: compare(alloc, Comparison::Less, 1, 0, 6)?,
+    })
+}
+
+/// 64 rows in which x has the coefficient 1 and 64 in which it has -1, behind a variable that stands alone, and perhaps one
+/// without x: 4,096 rows are left as x goes, or 4,097.
+fn crossing(alloc: Global, one_more: bool) -> Result<Problem, AllocError> {
+    let mut facts = Items::new(alloc);
+    facts.push(Con::Holds(2))?;
+    for place in 0..64u8 {
+        let y = place as i128;
+        facts.push(compare(alloc, Comparison::LessEqual, 1, 64 * y, 1)?)?;
+        facts.push(compare(alloc, Comparison::LessEqual, -1, 1 + y, 0)?)?;
+    }
+    if one_more {
+        facts.push(compare(alloc, Comparison::LessEqual, 0, 5000, 1)?)?;
+    }
+    Ok(Problem {
+        facts,
+        goal: Con::Truth(false),
+    })
+}
+
+#[test]
+fn the_limits_of_cases_and_rows_are_kept_to_one(rt: HostRuntime) -> Result<(), Fail> {
+    let alloc = rt.alloc();
+    // so many facts of two alternatives each: 64 cases, 128, 2^63, and 2^64, which is cut off
+    let counts: [(u32, &[i128]); 4] = [
+        (6, &[0, 1, 6]),
+        (7, &[-3, 128]),
+        (63, &[-3, 9223372036854775808]),
+        (64, &[-3, 18446744073709551615]),
+    ];
+    for (count, numbers) in counts {
+        let answer = discharge(alloc, &unequal(alloc, count)?);
+        let found = numbers_of(alloc, &answer)?;
+        assert!(rt; found.as_slice() == numbers);
+    }
+    let few = discharge(alloc, &crossing(alloc, false)?);
+    let many = discharge(alloc, &crossing(alloc, true)?);
+    let first = numbers_of(alloc, &few)?;
+    let second = numbers_of(alloc, &many)?;
+    let few_numbers: &[i128] = &[0, 4096, 4096, 64, 1];
+    let many_numbers: &[i128] = &[-2, 1];
+    assert!(rt; first.as_slice() == few_numbers && second.as_slice() == many_numbers);
+    Ok(())
+}
