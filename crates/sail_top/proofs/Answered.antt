@@ -5,17 +5,26 @@ use Rattle.sail_outside.specs.Files.{Files}
 use Rattle.sail_words.specs.Line.{line_of}
 use Rattle.sail_words.specs.declared.run.Run.{Run}
 use Rattle.sail_fragment.proofs.Decided.{decided}
-use Rattle.sail_top.specs.Answer.{Judges, AnswersFiles, AnswersEnd, AnswersLine, IsAnswer}
-use Rattle.sail_top.specs.Answer.{answer_for, model_refused, outside, usage, no_file, too_long}
+use Rattle.model_tokens.proofs.OneAnswer.{answered}
+use Rattle.sail_top.specs.Refusals.{token_refusal, outside}
+use Rattle.sail_top.specs.Answer.{Judges, JudgesLexed, AnswersFiles, AnswersEnd, AnswersLine, IsAnswer}
+use Rattle.sail_top.specs.Answer.{answer_for, model_refused, usage, no_file, too_long}
 use Rattle.sail_top.specs.Reading.{Wanted, wanted_model, wanted_elf, wanted_by, Contents, contents_at}
 use Rattle.sail_top.specs.Reading.{ReadEnd, whole, absent, long, behind, reading}
 use Rattle.sail_top.specs.declared.status.Answer.{Answer}
 
-judged : (command : Run) (texts : List (List ℕ)) (file : List ℕ) → (a : Answer) × Judges command texts file a
-judged command texts file =
+lexed_judged : (command : Run) (texts : List (List ℕ)) (file : List ℕ) → (a : Answer) × JudgesLexed command texts file a
+lexed_judged command texts file =
     elim (decided texts) [
       | inl model ↦ (answer_for command model.0 file, inr (model.0, model.1, refl))
-      | inr none ↦ (model_refused outside, inl (outside, (none, refl), refl))
+      | inr none ↦ (model_refused outside, inl (none, refl))
+    ]
+
+judged : (command : Run) (texts : List (List ℕ)) (file : List ℕ) → (a : Answer) × Judges command texts file a
+judged command texts file =
+    elim (answered texts 1 0) [
+      | inl lexed ↦ let a = lexed_judged command texts file in (a.0, inr (lexed.0, lexed.1, a.1))
+      | inr refused ↦ (model_refused (token_refusal refused.0), inl (refused.0, refused.1, refl))
     ]
 
 -- files of which one at least was read

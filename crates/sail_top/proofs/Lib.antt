@@ -3,3 +3,4 @@ pub mod Answered
 pub mod EndingLemmas
 pub mod ReadingLemmas
 pub mod RunLemmas
+pub mod TokenLemmas

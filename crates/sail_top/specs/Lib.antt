@@ -4,6 +4,7 @@ pub mod Ending
 pub mod Exit
 pub mod Lines
 pub mod Reading
+pub mod Refusals
 pub mod Run
 -- what follows from it
 pub mod laws

@@ -1,3 +1,5 @@
 pub mod Borrowed
 pub mod Finished
+pub mod Short
+pub mod Told
 pub mod Unread

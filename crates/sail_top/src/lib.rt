@@ -11,6 +11,7 @@ mod answer;
 mod laws;
 mod lines;
 mod reading;
+mod refusals;
 mod run;
 mod status;
 #[cfg(test)]
