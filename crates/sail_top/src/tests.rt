@@ -172,7 +172,16 @@ const ROWS: &[(&str, &str, &str, &str)] = &[
         "6 E13 0\n",
     ),
     ("run --elf S --ram-size 4127 M", COUNTER, COUNT, "6 E13 2\n"),
-    // models
+    // models: their tokens first, then whether they spell one
+    ("run --elf P M Q", COUNTER, "", "1 M01 2:1:1 7f\n"),
+    ("run --elf P Q M", "/*", "", "1 M01 1:1:1 7f\n"),
+    ("run --elf Q M", "\n /* /* */", COUNT, "1 M03 1:2:2\n"),
+    (
+        "run --elf Q M",
+        COUNTER,
+        "85070591730234615865843651857942052865",
+        "1 M04 1:5:19\n",
+    ),
     ("run --elf Q M M", COUNTER, COUNT, "1 M05 1:1:1\n"),
     (
         "run --elf Q M",
@@ -208,7 +217,7 @@ const ROWS: &[(&str, &str, &str, &str)] = &[
         "run --elf Q M",
         "register 0P : bits(8)\n",
         "{ true }",
-        "1 M05 1:1:1\n",
+        "1 M02 1:1:10\n",
     ),
     (
         "run --elf Q M",
@@ -220,7 +229,7 @@ const ROWS: &[(&str, &str, &str, &str)] = &[
         "run --elf Q M",
         "register PC : bits(8)\x0c",
         COUNT,
-        "1 M05 1:1:1\n",
+        "1 M01 1:1:22 0c\n",
     ),
     (
         "run --elf Q M",
@@ -239,7 +248,7 @@ const ROWS: &[(&str, &str, &str, &str)] = &[
         "run --elf Q M",
         COUNTER,
         "{ PC = PC + 0X01; true }",
-        "1 M05 1:1:1\n",
+        "1 M02 1:5:31\n",
     ),
     (
         "run --elf Q M",

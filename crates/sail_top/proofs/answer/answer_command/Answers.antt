@@ -7,6 +7,6 @@ use Rattle.sail_top.proofs.answer.answer_command.Goals as goal
 
 pub answer_files-requires-clause-short : goal.answer_files-requires-clause-short
 answer_files-requires-clause-short g c =
-    files_short (g.S.Shelf.holds c.args.shelf.now) c.args.command.now c.in-Ok.files (g.S.Shelf.left c.read_files.new.shelf) 
+    files_short (g.S.Shelf.holds c.args.shelf.now) c.args.command.now c.in-Ok.files (g.S.Shelf.left c.read_files.new.shelf)
     (subst (λ (wanted : List Wanted). Ends (g.S.Shelf.holds c.args.shelf.now) wanted (whole c.in-Ok.files) (g.S.Shelf.left c.read_files.new.shelf))
     (ap (map as_wanted) c.as_slice.ensures.value ∙ c.in_ok-wanted.ensures) c.in-Ok.ensures.whole)
