@@ -1,7 +1,9 @@
 -- What the builtins without state compute, on lists of bits and plain integers (Sail language manual, "Integers" and
 -- "Bitvectors"). There is nothing where a row's condition fails, a value has another shape, or what it makes passes a limit.
 use Rattle.std.specs.Bool.{beq}
-use Rattle.std.specs.Prelude.{ℕ, nat_eq, nat_le, ℤ, pos, negsuc, ◌+ℤ◌, ◌-ℤ◌, ◌*ℤ◌, neg_ℤ, unsigned_abs, int_le, int_lt, int_div, int_rem, Bool, true, false, not, ◌&&◌, List, [], ◌∷◌, ◌++◌, length, take, replicate, map, bytes_eq, Option, Some, None, option_map, if◌then◌else◌}
+use Rattle.std.specs.Prelude.{ℕ, nat_eq, nat_le, ℤ, pos, negsuc, ◌+ℤ◌, ◌-ℤ◌, ◌*ℤ◌, neg_ℤ, unsigned_abs, int_le}
+use Rattle.std.specs.Prelude.{int_lt, int_div, int_rem, Bool, true, false, not, ◌&&◌, List, [], ◌∷◌, ◌++◌, length}
+use Rattle.std.specs.Prelude.{take, replicate, map, bytes_eq, Option, Some, None, option_map, if◌then◌else◌}
 use Rattle.std.specs.Int.{int_div_euclid, int_rem_euclid}
 use Rattle.std.specs.Ordering.{int_eq}
 use Rattle.std.specs.Fmt.{signed_decimal}

@@ -22,8 +22,11 @@ use Rattle.linear.specs.declared.row.Row.{Row}
 use Rattle.linear.specs.Numbers.{are_within}
 use Rattle.linear.specs.Rows.{added}
 use Rattle.linear.specs.laws.Truths.{Known, AllKnown, fold_has, known_front, known_back}
-use Rattle.linear.specs.Choices.{then_do, all_of, limited, joined, occurring, variables_in, atoms_of, place_of, only, with_term, with_terms, at_most, bound_of, row_choice, two_rows, either_row, compared, opposite, truth_row, holds_row, joined_choice, among, choice_step, choice_of}
-use Rattle.linear.specs.Cases.{is_false, together, product, alternatives_step, alternatives, variables_of, fact_choices, goal_choice, behind, combined, most_cases, cases_from, cases_of}
+use Rattle.linear.specs.Choices.{then_do, all_of, limited, joined, occurring, variables_in, atoms_of, place_of, only}
+use Rattle.linear.specs.Choices.{with_term, with_terms, at_most, bound_of, row_choice, two_rows, either_row, compared}
+use Rattle.linear.specs.Choices.{opposite, truth_row, holds_row, joined_choice, among, choice_step, choice_of}
+use Rattle.linear.specs.Cases.{is_false, together, product, alternatives_step, alternatives, variables_of}
+use Rattle.linear.specs.Cases.{fact_choices, goal_choice, behind, combined, most_cases, cases_from, cases_of}
 use Rattle.farkas.specs.Shown.{AreOver}
 
 place_step : (a x : Atom) (xs : List Atom) (t : Bool) → (t || list_any (eq_atom a) xs) ≡ true → (list_any (eq_atom a) xs ≡ true →

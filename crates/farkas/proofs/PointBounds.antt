@@ -20,7 +20,8 @@ use Rattle.farkas.specs.declared.points.Bounds.{Bounds}
 use Rattle.farkas.specs.declared.points.Point.{Point}
 use Rattle.farkas.specs.Validity.{then_do}
 use Rattle.farkas.specs.Elimination.{sum_of}
-use Rattle.farkas.specs.Points.{limited, part, lowest, lessened, spent, bound_of, is_under, greatest_of, least_of, tightened, bounded, no_bounds, value_of, value_within, all_limited, extended}
+use Rattle.farkas.specs.Points.{limited, part, lowest, lessened, spent, bound_of, is_under, greatest_of, least_of}
+use Rattle.farkas.specs.Points.{tightened, bounded, no_bounds, value_of, value_within, all_limited, extended}
 use Rattle.farkas.proofs.Goings.{fold_stays}
 use Rattle.farkas.proofs.PointNumbers.{swap, weak, sat_lower, sat_upper, times_difference, pair_sat, value_sat}
 use Rattle.farkas.proofs.PointRows.{dot, dot_scaled, dot_added, dot_values, dot_first, drop_mapped, drop_added, Holds}

@@ -23,7 +23,9 @@ use Rattle.farkas.specs.declared.keeping.Fate.TheVariants.{Closes, Drops, Replac
 use Rattle.farkas.specs.declared.points.Point.{Point}
 use Rattle.farkas.specs.Validity.{then_do}
 use Rattle.farkas.specs.Keeping.{against, fate, most_rows}
-use Rattle.farkas.specs.Elimination.{Progress, Going, Closed, RowsPast, NumbersPast, ups, downs, others, up_times, down_times, sum_of, can_sum, step_of, made, taken, row_of, fate_of, paired, met_all, eliminated, continued, solved}
+use Rattle.farkas.specs.Elimination.{Progress, Going, Closed, RowsPast, NumbersPast, ups, downs, others, up_times}
+use Rattle.farkas.specs.Elimination.{down_times, sum_of, can_sum, step_of, made, taken, row_of, fate_of, paired}
+use Rattle.farkas.specs.Elimination.{met_all, eliminated, continued, solved}
 use Rattle.farkas.specs.Points.{extended, went_back, no_point}
 use Rattle.farkas.proofs.PointRows.{Holds, HoldAll}
 use Rattle.farkas.proofs.PointSteps.{In, eliminated_back}

@@ -1,7 +1,9 @@
 //! What makes constraints true or false, as rows.
 ghost use Rattle.std.specs.Prelude.{◌≡◌, ◌∷◌, [], ◌+ℤ◌, ◌-ℤ◌, IfOk, map, if◌then◌else◌};
 ghost use Rattle.sail_types.specs.Sums.{num};
-ghost use Rattle.linear.specs.Choices.{limited, only, with_term, with_terms, at_most, place_of, row_choice, two_rows, either_row, compared, opposite, truth_row, holds_row, choice_of, all_of, all_parts, any_part, sign_of, gap_of, bound_of, among};
+ghost use Rattle.linear.specs.Choices.{limited, only, with_term, with_terms, at_most, place_of, row_choice, two_rows};
+ghost use Rattle.linear.specs.Choices.{either_row, compared, opposite, truth_row, holds_row, choice_of, all_of};
+ghost use Rattle.linear.specs.Choices.{all_parts, any_part, sign_of, gap_of, bound_of, among};
 
 use crate::choice::Choice;
 use crate::numbers::Number;
