@@ -14,3 +14,6 @@ pub use cause::{Cause, Ended, RowError};
 pub use laws::{reads_hold, reservations_hold};
 pub use state::{Hart, Register, Reservation, Start, State, report};
 pub use stepper::Stepper;
+
+#[cfg(test)]
+mod tests;
