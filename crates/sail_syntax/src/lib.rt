@@ -10,8 +10,6 @@ mod names;
 mod patterns;
 mod places;
 mod plain;
-#[cfg(test)]
-mod tests;
 mod types;
 mod words;
 
