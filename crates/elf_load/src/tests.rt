@@ -1,6 +1,9 @@
 ghost use Rattle.std.specs.Prelude.{◌^◌, ◌<◌};
 
+mod linked;
+
 use super::*;
+use linked::SUMS;
 use mem_store::{Flat, Memory};
 use sail_base::Word;
 use std::alloc::{AllocError, Global};
@@ -173,5 +176,45 @@ fn segments_are_placed_whole(rt: HostRuntime) -> Result<(), Fail> {
     for (edits, base, wanted) in cases {
         assert!(rt; placed(alloc, edits, base)? == wanted);
     }
+    Ok(())
+}
+
+/// The index, the address and the count of bytes in the file and in memory of each `PT_LOAD` of the linked program, as
+/// `readelf -lW` prints them.
+const LOADS: [(u32, u64, usize, u64); 2] = [
+    (1, 0x8000_0000, 0x120, 0x120),
+    (2, 0x8000_0120, 0xc, 0x20),
+];
+
+/// The number of 16 bytes of memory.
+fn number_at(memory: &Flat, at: u64) -> Result<u128, Fail> {
+    if !memory.mapped(16, at) {
+        return Err("not mapped".into());
+    }
+    Ok(memory.read(16, at).bits())
+}
+
+#[test]
+fn a_linked_program_is_loaded(rt: HostRuntime) -> Result<(), Fail> {
+    let alloc = rt.alloc();
+    let image = read_elf(alloc, &SUMS, Some(243))?;
+    assert!(rt; image.entry == 0x8000_00e8 && image.segments.len() == LOADS.len());
+    for (segment, load) in image.segments.as_slice().iter().zip(LOADS) {
+        let found = (
+            segment.index,
+            segment.place,
+            segment.bytes.len(),
+            segment.size,
+        );
+        assert!(rt; found == load);
+    }
+    let mut memory = Flat::new(alloc, 0x8000_0000, 0x140)?;
+    if memory.mapped(16, 0x8000_0130) {
+        memory.write(16, 0x8000_0130, Word::ones(128));
+    }
+    assert!(rt; place(&image, &mut memory) == Ok(()));
+    let terms = number_at(&memory, 0x8000_0120)?;
+    let sums = number_at(&memory, 0x8000_0130)?;
+    assert!(rt; terms == 0x3_ffff_ffff_0000_0028 && sums == 0);
     Ok(())
 }

@@ -35,7 +35,7 @@ length-changed f zero (hart ∷ harts) = refl
 length-changed f (suc index) (hart ∷ harts) = grind (arith, length-changed f index harts)
 
 -- a hart rests
-keeps_rests : (hart : ℕ) (state : RunState) → Keeps state (set_rests hart state)
+pub keeps_rests : (hart : ℕ) (state : RunState) → Keeps state (set_rests hart state)
 keeps_rests hart state = record {
   types = refl;
   registers = refl;

@@ -8,6 +8,9 @@ mod laws;
 mod running;
 mod starting;
 
-pub use laws::joined_schedules;
+pub use laws::{invariants_hold, joined_schedules, registers_hold};
 pub use running::{Ending, run, run_order};
 pub use starting::start;
+
+#[cfg(test)]
+mod tests;

@@ -1,4 +1,4 @@
-ghost use Rattle.std.specs.Prelude.{◌≡◌, ◌<◌, ◌^◌, length, All, IfOk, OnOk};
+ghost use Rattle.std.specs.Prelude.{◌≡◌, ◌<◌, ◌+◌, ◌%◌, ◌^◌, length, All, IfOk, OnOk};
 ghost use Rattle.harts.specs.Schedule.{schedule};
 ghost use Rattle.model_state.specs.Folds as folds;
 ghost use Rattle.model_state.specs.Folds.{Keeps, IsNotDone};
@@ -63,8 +63,10 @@ pub fn run_order<P: Stepper, M: Memory>(
     ensures keeps { OnOk result (Keeps state.old state.new) }
     ensures same { P.meaning stepper.new ≡ P.meaning stepper.old }
 {
+    let mut place = 0;
     for steps in 0..events {
-        let hart = order[steps as usize % order.len()];
+        let hart = order[place];
+        place = next_place(place, order.len());
         let ended = event(alloc, stepper, state, hart)?;
         if let Some(cause) = ended.into_stop() {
             return Ok(Ending { cause, steps });
@@ -80,6 +82,14 @@ pub fn run_order<P: Stepper, M: Memory>(
         cause: Cause::StepsDone,
         steps: events,
     })
+}
+
+/// The place behind one of so many, which is the first behind the last.
+fn next_place(place: usize, count: usize) -> usize
+    requires { place < count }
+    ensures { result ≡ (place + 1) % count }
+{
+    if place + 1 == count { 0 } else { place + 1 }
 }
 
 /// One event of a hart that is there: nothing where it rests, else a whole step of it.

@@ -4,3 +4,4 @@ pub mod Reported
 pub mod Calling
 pub mod Kept
 pub mod Bytes
+pub mod Ending

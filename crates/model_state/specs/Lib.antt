@@ -4,3 +4,5 @@ pub mod laws
 pub mod Report
 pub mod RunState
 pub mod StateRows
+-- what the contracts of private functions say
+pub mod parts

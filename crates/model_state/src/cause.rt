@@ -1,6 +1,7 @@
-ghost use Rattle.std.specs.Prelude.{◌≡◌, MatchOption};
+ghost use Rattle.std.specs.Prelude.{◌≡◌, MatchOption, IfOk, OnErr};
 ghost use Rattle.sail_types.specs.declared.values.Value.{Value};
 
+use crate::letting::let_go;
 use sail_base::{Place, Text};
 use sail_types::Value;
 use std::alloc::AllocError;
@@ -69,7 +70,10 @@ impl Ended {
         ensures { MatchOption result ((value : Value) × (self ≡ Ended.Value value)) (λ cause. self ≡ Ended.Stop cause) }
     {
         match self {
-            Ended::Value(_) => None,
+            Ended::Value(value) => {
+                let_go(value);
+                None
+            }
             Ended::Stop(cause) => Some(cause),
         }
     }
@@ -88,6 +92,19 @@ impl Drop for RowError {
         match self {
             RowError::Stop(_) => {}
             RowError::OutOfMemory => {}
+        }
+    }
+}
+
+impl RowError {
+    /// The cause of the stop. The one error is want of memory, where the builtin has wanted it.
+    pub fn into_stop(self) -> Result<Cause, AllocError>
+        ensures stop { IfOk result (λ cause. self ≡ RowError.Stop cause) }
+        ensures wanting { OnErr result (self ≡ RowError.OutOfMemory) }
+    {
+        match self {
+            RowError::Stop(cause) => Ok(cause),
+            RowError::OutOfMemory => Err(AllocError),
         }
     }
 }

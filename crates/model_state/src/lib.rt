@@ -7,12 +7,13 @@
 
 mod cause;
 mod laws;
+mod letting;
 mod state;
 mod stepper;
 
 pub use cause::{Cause, Ended, RowError};
-pub use laws::{reads_hold, reservations_hold};
-pub use state::{Hart, Register, Reservation, Start, State, report};
+pub use laws::{reads_hold, reservations_hold, results_end};
+pub use state::{Hart, Register, Registers, Reservation, Start, State, report};
 pub use stepper::Stepper;
 
 #[cfg(test)]

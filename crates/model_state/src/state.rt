@@ -2,14 +2,17 @@ ghost use Rattle.std.specs.Prelude.{◌≡◌, ◌<◌, ◌≤◌, length, IsSom
 ghost use Rattle.std.specs.Option.{option_copied};
 ghost use Rattle.model_state.specs.RunState.{register_value, with_register};
 ghost use Rattle.model_state.specs.Folds.{rests, set_rests, all_rest};
+ghost use Rattle.sail_types.specs.declared.values.Value.TheVariants as V;
 
 mod fresh;
+mod registers;
 mod reporting;
 mod rows;
 
 use mem_store::Memory;
+pub use registers::Registers;
 pub use reporting::{Start, report};
-use sail_base::{Items, Text};
+use sail_base::{Items, Text, Word};
 use sail_types::{Typ, Types, Value};
 use std::marker::Model;
 
@@ -39,7 +42,7 @@ pub struct Reservation {
 /// What each hart has for itself.
 pub struct Hart {
     /// The values of the registers, in the order of the model's text.
-    pub registers: Items<Value>,
+    pub registers: Registers,
     /// Its reservation, if it has one.
     pub reservation: Option<Reservation>,
     /// Whether it rests.
@@ -122,6 +125,16 @@ impl<M: Memory> State<M> {
     {
         let hart = &mut self.harts[hart as usize];
         hart.registers.set(index as usize, value);
+    }
+
+    /// Gives a register of a hart these bits, both by their places from 0; they are there. Nothing else changes. It is
+    /// what [`State::set_register`] does with the value of these bits, in less time.
+    pub fn set_bits(&mut self, hart: u8, index: u32, bits: Word)
+        requires { IsSome (register_value self.old hart index) }
+        ensures { self.new ≡ with_register hart index (V.Bits bits) self.old }
+    {
+        let hart = &mut self.harts[hart as usize];
+        hart.registers.set_bits(index as usize, bits);
     }
 
     /// Whether a hart that is there rests.

@@ -3,7 +3,7 @@ ghost use Rattle.std.specs.Prelude.{◌≡◌, ◌↔◌, ◌<◌, ◌≤◌, le
 use crate::{Cause, Register, RowError, Start, State, report};
 use mem_store::{Flat, Memory};
 use sail_base::{Items, Place, Text, Word};
-use sail_types::{Typ, Types, Value};
+use sail_types::{Num, Typ, Types, Value};
 use std::alloc::{AllocError, Global};
 use std::test::Fail;
 
@@ -421,7 +421,7 @@ fn a_conditional_write_needs_its_reservation(rt: HostRuntime) -> Result<(), Fail
     Ok(())
 }
 
-/// A boolean and a bit, their names not in the order of letters.
+/// A boolean, a bit and four bits, their names not in the order of letters.
 fn registers(alloc: Global) -> Result<Items<Register>, AllocError> {
     let mut registers = Items::new(alloc);
     let name = Text::new(alloc, "Z")?;
@@ -434,6 +434,11 @@ fn registers(alloc: Global) -> Result<Items<Register>, AllocError> {
         name,
         typ: Typ::Bit,
     })?;
+    let name = Text::new(alloc, "B")?;
+    registers.push(Register {
+        name,
+        typ: Typ::Bits(Num::constant(alloc, 4)),
+    })?;
     Ok(registers)
 }
 
@@ -444,11 +449,19 @@ fn set(state: &mut State<Flat>, hart: u8, index: u32, value: Value) {
     }
 }
 
+/// Sets a register of a hart to bits, if it is there.
+fn set_bits(state: &mut State<Flat>, hart: u8, index: u32, bits: Word) {
+    if state.find_register(hart, index).is_some() {
+        state.set_bits(hart, index, bits);
+    }
+}
+
 /// The report of two harts with registers, which stopped for a cause.
 fn stopped(alloc: Global, cause: &Cause) -> Result<Vec<u8>, Fail> {
     let (mut state, start, base, size) = begin(alloc, 0, 1, registers(alloc)?)?;
     set(&mut state, 1, 0, Value::Truth(true));
     set(&mut state, 0, 1, Value::Bit(true));
+    set_bits(&mut state, 1, 2, Word::low(4, 11));
     let _ = state.print_endline(b"a\n\xff");
     let _ = state.print(b"b");
     text(alloc, &state, (&start, base, size), cause)
@@ -458,7 +471,7 @@ fn stopped(alloc: Global, cause: &Cause) -> Result<Vec<u8>, Fail> {
 fn a_report_has_the_console_and_the_registers_of_each_hart(rt: HostRuntime) -> Result<(), Fail> {
     let written = stopped(rt.alloc(), &Cause::AllRest)?;
     let wanted =
-        b"a\n\xff\nb== report\nstop all-rest\nsteps 3\nconsole 5\nhart 0\nZ = false\nA = bitone\nhart 1\nZ = true\nA = bitzero\n== end\n";
+        b"a\n\xff\nb== report\nstop all-rest\nsteps 3\nconsole 5\nhart 0\nZ = false\nA = bitone\nB = 0x0\nhart 1\nZ = true\nA = bitzero\nB = 0xb\n== end\n";
     assert!(rt; written.as_slice() == wanted.as_slice());
     Ok(())
 }

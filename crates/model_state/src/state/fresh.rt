@@ -2,7 +2,7 @@
 ghost use Rattle.std.specs.Prelude.{◌≡◌, ◌≤◌, map, replicate, IfOk};
 ghost use Rattle.model_state.specs.RunState.{fresh, fresh_hart, zero_value};
 
-use super::{Hart, Register, State};
+use super::{Hart, Register, Registers, State};
 use mem_store::Memory;
 use sail_base::Items;
 use sail_types::{Types, Value, zero_of};
@@ -48,7 +48,7 @@ fn fresh_harts(
     for _ in 0..count {
         let registers = zeros(alloc, types, registers)?;
         harts.push(Hart {
-            registers,
+            registers: Registers::new(registers),
             reservation: None,
             rests: false,
         })?;
