@@ -1,0 +1,9 @@
+pub mod AssignmentRows
+pub mod AtomRows
+pub mod BlockRows
+pub mod ControlRows
+pub mod ExpressionRows
+pub mod LeafRows
+pub mod Loops
+pub mod OperatorRows
+pub mod TargetRows
