@@ -1,0 +1,13 @@
+use Rattle.sail_grammar.proofs.Steps.{exit_stop, more_stops}
+use Rattle.sail_definitions.proofs.LeafRows.{exp_some, exp_none}
+use Rattle.sail_definitions.proofs.leaves.exp_behind.Goals as goal
+
+pub returns-in_err-value-in-Some-clause-stop : goal.returns-in_err-value-in-Some-clause-stop
+returns-in_err-value-in-Some-clause-stop c =
+    exit_stop _ c.from_residual.ensures.1 (more_stops c.in-Some.ensures.read c.in_err-value-in-Some.ensures.stop)
+
+pub returns-in_ok-value-in-Some-clause-read : goal.returns-in_ok-value-in-Some-clause-read
+returns-in_ok-value-in-Some-clause-read c = exp_some c.args.mode c.args.sign c.in-Some.ensures.read c.in_ok-value-in-Some.ensures.read
+
+pub returns-in-None-clause-read : goal.returns-in-None-clause-read
+returns-in-None-clause-read c = exp_none c.args.mode c.args.sign c.in-None.ensures.read

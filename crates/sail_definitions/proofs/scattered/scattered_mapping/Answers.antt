@@ -1,0 +1,13 @@
+use Rattle.sail_grammar.proofs.Steps.{exit_stop, stops_first, stops_next}
+use Rattle.sail_definitions.proofs.ScatteredRows.{scattered_mapping_all}
+use Rattle.sail_definitions.proofs.scattered.scattered_mapping.Goals as goal
+
+pub returns-in_err-after_mapping-clause-stop : goal.returns-in_err-after_mapping-clause-stop
+returns-in_err-after_mapping-clause-stop c = exit_stop _ c.from_residual.ensures.1 (stops_first c.in_err-after_mapping.ensures.stop)
+
+pub returns-in_err-token-clause-stop : goal.returns-in_err-token-clause-stop
+returns-in_err-token-clause-stop c =
+    exit_stop _ c.from_residual-in_err-token.ensures.1 (stops_next c.in_ok-after_mapping.ensures.read c.in_err-token.ensures.stop)
+
+pub returns-clause-read : goal.returns-clause-read
+returns-clause-read c = scattered_mapping_all c.args.first.now c.in_ok-after_mapping.ensures.read c.in_ok-token.ensures.read c.in_ok-name.ensures
