@@ -2,7 +2,7 @@
 use Rattle.std.proofs.Common.{◌≡◌, ℕ, ◌+◌, ◌<◌, List, [], ◌∷◌, ◌++◌, length, map, drop, get_or, refl, ap, subst, inl, inr, add-one}
 use Rattle.std.proofs.Math.Seq.{drop-cons}
 use Rattle.sail_lex.specs.declared.token.Tokens.{Tokens}
-use Rattle.model_tokens.specs.Parts.{tokens_of}
+use Rattle.model_tokens.specs.Parts.{AreOf, IsOf, tokens_of}
 use Rattle.sail_lex.specs.declared.token.LexError.{LexError}
 use Rattle.sail_lex.specs.declared.token.LexError.TheVariants as error
 use Rattle.sail_lex.specs.declared.token.Token.{Token}
@@ -18,7 +18,7 @@ pub record LexedSoFar (texts : List (List ℕ)) (all : List (List Token)) (file 
 pub none_lexed : (texts : List (List ℕ)) → LexedSoFar texts [] 1 0 texts
 none_lexed texts = record { lexed = λ more is. is; refused = λ e is. is }
 
-append_one : (all more : List (List Token)) (tokens : List Token) → all ++ tokens ∷ more ≡ (all ++ tokens ∷ []) ++ more
+append_one : {A : Type 0} (all more : List A) (tokens : A) → all ++ tokens ∷ more ≡ (all ++ tokens ∷ []) ++ more
 append_one [] more tokens = refl
 append_one (first ∷ all) more tokens = ap (λ rest. first ∷ rest) (append_one all more tokens)
 
@@ -30,13 +30,29 @@ one_more_lexed {texts} {all} {file} {before} {text} {others} tokens so_far reads
   refused = λ e is. so_far.refused e (inr (tokens, reads, is));
 }
 
-append_none : (all : List (List Token)) → all ++ [] ≡ all
+append_none : {A : Type 0} (all : List A) → all ++ [] ≡ all
 append_none [] = refl
 append_none (first ∷ all) = ap (λ rest. first ∷ rest) (append_none all)
 
 pub all_lexed : {texts : List (List ℕ)} {all : List (List Token)} {file before : ℕ}
     → LexedSoFar texts all file before [] → AreLexed 1 0 texts all
 all_lexed {texts} {all} so_far = subst (AreLexed 1 0 texts) (append_none all) (so_far.lexed [] refl)
+
+-- the files before the others have these tokens, and the number of a file is that of the first of the others
+pub record FilesSoFar (texts : List (List ℕ)) (found : List Tokens) (file : ℕ) (others : List (List ℕ)) : Type 0 where
+  pub are : (more : List Tokens) → AreOf file others more → AreOf 1 texts (found ++ more)
+
+pub none_found : (texts : List (List ℕ)) → FilesSoFar texts [] 1 texts
+none_found texts = record { are = λ more is. is }
+
+pub one_more_found : {texts : List (List ℕ)} {found : List Tokens} {file : ℕ} {text : List ℕ} {others : List (List ℕ)}
+    (last : Tokens) → FilesSoFar texts found file (text ∷ others) → IsOf file text last → FilesSoFar texts (found ++ last ∷ []) (file + 1) others
+one_more_found {texts} {found} {file} {text} {others} last so_far here = record {
+  are = λ more is. subst (AreOf 1 texts) (append_one found more last) (so_far.are (last ∷ more) (here, is));
+}
+
+pub all_found : {texts : List (List ℕ)} {found : List Tokens} {file : ℕ} → FilesSoFar texts found file [] → AreOf 1 texts found
+all_found {texts} {found} so_far = subst (AreOf 1 texts) (append_none found) (so_far.are [] refl)
 
 pub refused_here : {texts : List (List ℕ)} {all : List (List Token)} {file before : ℕ} {text : List ℕ} {others : List (List ℕ)}
     (e : LexError) → LexedSoFar texts all file before (text ∷ others) → IsRefusalOfOne file text 0 before e → IsRefusal texts e

@@ -1,7 +1,3 @@
-pub mod Decided
+pub mod Each
 pub mod MachineLemmas
-pub mod Numbers
-pub mod ParseLemmas
-pub mod RowLemmas
-pub mod SpellingLemmas
-pub mod Unique
+pub mod Signed

@@ -1,20 +1,18 @@
-//! The first fragment of the language: registers of bits, and a `step` that adds constants to them.
+//! The models that run today: registers of bits, and a `step` that adds literals to them.
 //!
-//! [`read_models`] reads the model of texts by the grammar of `specs/Grammar`; a [`Machine`] takes the steps of a
-//! model's harts, by the meaning of `specs/Meaning`. What follows from the definitions stands in `specs/laws`.
+//! [`read_model`] reads the model that definitions are, by the conditions of `specs/Fragment`; a [`Machine`] takes the
+//! steps of a model's harts, by the meaning of `specs/Meaning`.
 #![tactic(auto)]
 
-mod atoms;
+mod assignments;
 mod conditions;
-mod digits;
-mod laws;
+mod fragment;
+mod functions;
 mod machine;
 mod model;
-mod parse;
-mod rows;
-mod spelling;
+mod registers;
+mod signatures;
 
-pub use laws::{texts_are_decided, texts_spell_one_model};
+pub use fragment::read_model;
 pub use machine::{Machine, no_types};
 pub use model::{Assignment, Model, Register};
-pub use parse::read_models;

@@ -130,7 +130,7 @@ fn put<M: Memory>(state: &mut State<M>, hart: u8, place: u32, bits: Word)
     ensures { state.new ≡ with_register hart place (V.Bits bits) state.old }
 {
     if state.find_register(hart, place).is_some() {
-        state.set_register(hart, place, Value::Bits(bits));
+        state.set_bits(hart, place, bits);
     }
 }
 

@@ -4,9 +4,8 @@ use Rattle.sail_outside.specs.Files.{Files}
 use Rattle.sail_outside.specs.Faults.{Rose}
 use Rattle.sail_outside.specs.Bytes.{Sent}
 use Rattle.sail_base.specs.declared.elf_refusal.ElfRefusal.{ElfRefusal}
-use Rattle.model_tokens.proofs.OneAnswer.{one_refused, never_both}
-use Rattle.sail_top.specs.Refusals.{token_refusal}
-use Rattle.sail_top.specs.Answer.{Judges, JudgesLexed, AnswersFiles, AnswersEnd, AnswersCommand, AnswersLine, IsAnswer}
+use Rattle.sail_top.proofs.ModelLemmas.{one_model_of, one_refusal_of, model_not_refused}
+use Rattle.sail_top.specs.Answer.{Judges, AnswersFiles, AnswersEnd, AnswersCommand, AnswersLine, IsAnswer}
 use Rattle.sail_top.specs.Answer.{answer_for, image_unless, run_unless, model_refused}
 use Rattle.elf_load.specs.Placed.{place_refusal}
 use Rattle.elf_load.specs.Reading.{elf_refusal, image_of}
@@ -20,7 +19,6 @@ use Rattle.sail_fragment.specs.declared.model.Model.{Model}
 use Rattle.sail_top.specs.declared.status.Answer.{Answer}
 use Rattle.sail_top.specs.declared.status.Status.{Status}
 use Rattle.sail_top.specs.declared.status.Status.TheVariants as status
-use Rattle.sail_fragment.proofs.Unique.{one_of_texts}
 
 plain_run : (command : Run) (model : Model) (image : Image) (refused : Option ElfRefusal)
     → IsPlain (run_unless command model image refused).status
@@ -32,16 +30,11 @@ plain_image : (command : Run) (model : Model) (image : Image) (refused : Option 
 plain_image command model image None = plain_run command model image (place_refusal image command.ram_base command.ram_size)
 plain_image command model image (Some refusal) = tt
 
-plain_lexed : (command : Run) (texts : List (List ℕ)) (image : List ℕ) (answer : Answer)
-    → JudgesLexed command texts image answer → IsPlain answer.status
-plain_lexed command texts image answer (inl refused) = subst (λ a. IsPlain a.status) (sym refused.1) tt
-plain_lexed command texts image answer (inr read) =
-    subst (λ a. IsPlain a.status) (sym read.2) (plain_image command read.0 (image_of image) (elf_refusal image None))
-
 plain_judged : (command : Run) (texts : List (List ℕ)) (image : List ℕ) (answer : Answer)
     → Judges command texts image answer → IsPlain answer.status
 plain_judged command texts image answer (inl refused) = subst (λ a. IsPlain a.status) (sym refused.2) tt
-plain_judged command texts image answer (inr lexed) = plain_lexed command texts image answer lexed.2
+plain_judged command texts image answer (inr read) =
+    subst (λ a. IsPlain a.status) (sym read.2) (plain_image command read.0 (image_of image) (elf_refusal image None))
 
 plain_end : (command : Run) (end : ReadEnd) (answer : Answer) → AnswersEnd command end answer → IsPlain answer.status
 plain_end command (absent number name) answer is = subst (λ a. IsPlain a.status) (sym is) tt
@@ -61,21 +54,13 @@ plain_line (Some command) held answer is = plain_command command held answer is
 pub plain_answer : (words : List (List ℕ)) (held : Option Files) (answer : Answer) → IsAnswer words held answer → IsPlain answer.status
 plain_answer words held answer is = plain_line (line_of words) held answer is
 
-one_lexed : (command : Run) (texts : List (List ℕ)) (image : List ℕ) (a b : Answer)
-    → JudgesLexed command texts image a → JudgesLexed command texts image b → a ≡ b
-one_lexed command texts image a b (inl p) (inl q) = p.1 ∙ sym q.1
-one_lexed command texts image a b (inl p) (inr q) = absurd (p.0 q.0 q.1)
-one_lexed command texts image a b (inr p) (inl q) = absurd (q.0 p.0 p.1)
-one_lexed command texts image a b (inr p) (inr q) =
-    p.2 ∙ ap (λ m. answer_for command m image) (one_of_texts texts p.0 q.0 p.1 q.1) ∙ sym q.2
-
 one_judged : (command : Run) (texts : List (List ℕ)) (image : List ℕ) (a b : Answer)
     → Judges command texts image a → Judges command texts image b → a ≡ b
-one_judged command texts image a b (inl p) (inl q) =
-    p.2 ∙ ap (λ e. model_refused (token_refusal e)) (one_refused texts 1 0 p.0 q.0 p.1 q.1) ∙ sym q.2
-one_judged command texts image a b (inl p) (inr q) = absurd (never_both texts 1 0 q.0 p.0 q.1 p.1)
-one_judged command texts image a b (inr p) (inl q) = absurd (never_both texts 1 0 p.0 q.0 p.1 q.1)
-one_judged command texts image a b (inr p) (inr q) = one_lexed command texts image a b p.2 q.2
+one_judged command texts image a b (inl p) (inl q) = p.2 ∙ ap model_refused (one_refusal_of texts p.0 q.0 p.1 q.1) ∙ sym q.2
+one_judged command texts image a b (inl p) (inr q) = absurd (model_not_refused texts q.0 p.0 q.1 p.1)
+one_judged command texts image a b (inr p) (inl q) = absurd (model_not_refused texts p.0 q.0 p.1 q.1)
+one_judged command texts image a b (inr p) (inr q) =
+    p.2 ∙ ap (λ m. answer_for command m image) (one_model_of texts p.0 q.0 p.1 q.1) ∙ sym q.2
 
 -- lists with one more item at their ends
 one_last : (xs ys : List (List ℕ)) (x y : List ℕ) → xs ++ x ∷ [] ≡ ys ++ y ∷ [] → (xs ≡ ys) × (x ≡ y)

@@ -1,6 +1,10 @@
 pub mod AnswerLemmas
 pub mod Answered
+pub mod BarsEnd
 pub mod EndingLemmas
+pub mod LeftOut
+pub mod ModelLemmas
+pub mod OneRefusal
 pub mod ReadingLemmas
 pub mod RunLemmas
-pub mod TokenLemmas
+pub mod ShortLemmas

@@ -8,13 +8,9 @@ use Rattle.elf_load.specs.Reading.{elf_refusal, image_of}
 use Rattle.elf_load.specs.declared.image.Image.{Image}
 use Rattle.sail_words.specs.Line.{line_of}
 use Rattle.sail_words.specs.declared.run.Run.{Run}
-use Rattle.sail_lex.specs.declared.token.LexError.{LexError}
-use Rattle.sail_lex.specs.declared.token.Token.{Token}
-use Rattle.model_tokens.specs.Files.{AreLexed, AreRefused}
-use Rattle.sail_fragment.specs.Grammar.{AreModel, HaveNoModel}
-use Rattle.sail_top.specs.Refusals.{token_refusal, outside}
 use Rattle.sail_fragment.specs.declared.model.Model.{Model}
 use Rattle.sail_top.specs.Lines.{usage_line, no_file_line, too_long_line, refusal_line, elf_line}
+use Rattle.sail_top.specs.Models.{AreModel, IsRefusal}
 use Rattle.sail_top.specs.Reading.{ReadEnd, whole, absent, long, Contents, contents_at, wanted_by, reading}
 use Rattle.sail_top.specs.Run.{ram, run_text}
 use Rattle.sail_top.specs.declared.status.Answer.{Answer}
@@ -48,17 +44,11 @@ image_unless command model image None = image_answer command model image
 abbrev pub answer_for : Run → Model → List ℕ → Answer
 answer_for command model file = image_unless command model (image_of file) (elf_refusal file None)
 
--- the answer for texts that have tokens and the program's file: the texts spell no model, or one
-abbrev pub JudgesLexed : Run → List (List ℕ) → List ℕ → Answer → Type 0
-JudgesLexed command texts file answer =
-    (HaveNoModel texts × (answer ≡ model_refused outside))
-    ⊎ ((model : Model) × AreModel texts model × (answer ≡ answer_for command model file))
-
--- the answer for the models' texts and the program's file: the first text without tokens is refused
+-- the answer for the models' texts and the program's file
 abbrev pub Judges : Run → List (List ℕ) → List ℕ → Answer → Type 0
 Judges command texts file answer =
-    ((e : LexError) × AreRefused 1 0 texts e × (answer ≡ model_refused (token_refusal e)))
-    ⊎ ((all : List (List Token)) × AreLexed 1 0 texts all × JudgesLexed command texts file answer)
+    ((refusal : Refusal) × IsRefusal texts refusal × (answer ≡ model_refused refusal))
+    ⊎ ((model : Model) × AreModel texts model × (answer ≡ answer_for command model file))
 
 -- the answer where all files are read: the models' texts, and the program's file behind them
 abbrev pub AnswersFiles : Run → List (List ℕ) → Answer → Type 0

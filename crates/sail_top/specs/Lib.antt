@@ -3,6 +3,7 @@ pub mod Answer
 pub mod Ending
 pub mod Exit
 pub mod Lines
+pub mod Models
 pub mod Reading
 pub mod Refusals
 pub mod Run

@@ -1,29 +1,24 @@
 ghost use Rattle.std.specs.Prelude.{◌≡◌, ◌<◌, ◌≤◌, Err, IfOk, IfSome, List, None, Some, length, true};
 ghost use Rattle.sail_outside.specs.Faults.{Rose};
 ghost use Rattle.elf_load.specs.Placed.{Fits};
-ghost use Rattle.sail_fragment.specs.Grammar.{is_well_formed};
+ghost use Rattle.sail_fragment.specs.Fragment.{is_well_formed};
 ghost use Rattle.std.specs.List.{All};
-ghost use Rattle.sail_lex.specs.declared.token.Token.{Token as TokenType};
-ghost use Rattle.model_tokens.specs.Files.{AreLexed, IsRefusal, IsShort};
+ghost use Rattle.model_tokens.specs.Files.{IsShort};
 ghost use Rattle.sail_words.specs.Line.{IsWithinLimits};
-ghost use Rattle.sail_top.specs.Refusals.{token_refusal};
 ghost use Rattle.sail_top.specs.parts.Short.{AreShortButLast};
-ghost use Rattle.sail_top.specs.parts.Told.{IsOfText};
 ghost use Rattle.sail_top.specs.Answer as spec;
 ghost use Rattle.sail_top.specs.Ending.{Leaves};
 ghost use Rattle.sail_top.specs.parts.Unread.{AnswersUnread};
 
 use crate::lines::{elf_line, named_line, refusal_line};
+use crate::models::{ModelError, read_models};
 use crate::reading::{Unread, read_files, wanted_by};
-use crate::refusals::{outside, token_refusal};
 use crate::run::run_text;
 use crate::status::{Answer, Status};
 use elf_load::{ElfError, Image, place, read_elf};
 use mem_store::{Flat, Memory};
-use model_tokens::lex_files;
 use sail_base::{ElfRefusal, Items, Refusal};
-use sail_fragment::{Model, read_models};
-use sail_lex::LexError;
+use sail_fragment::Model;
 use sail_outside::{ReadError, Shelf};
 use sail_words::Run;
 use std::alloc::{AllocError, Global};
@@ -126,38 +121,10 @@ fn judge(
     requires short { All IsShort texts.now }
     ensures { IfOk result (spec.Judges command.now texts.now file.now) }
 {
-    match lexing_error(alloc, texts) {
-        None => judge_texts(alloc, command, texts, file),
-        Some(error) => refuse_tokens(alloc, error),
-    }
-}
-
-/// Why texts have no tokens; `None` where they have.
-fn lexing_error(alloc: Global, texts: &[Items<u8>]) -> Option<LexError>
-    requires few { length texts.now ≤ 64 }
-    requires short { All IsShort texts.now }
-    ensures lexed { result ≡ None → (all : List (List TokenType)) × AreLexed 1 0 texts.now all }
-    ensures refused { IfSome result (IsRefusal texts.now) }
-{
-    match lex_files(alloc, texts) {
-        Ok(_) => None,
-        Err(error) => Some(error),
-    }
-}
-
-/// The answer for texts that have tokens and the program's file.
-fn judge_texts(
-    alloc: Global,
-    command: &Run,
-    texts: &[Items<u8>],
-    file: &[u8],
-) -> Result<Answer, AllocError>
-    requires { IsWithinLimits command.now }
-    ensures { IfOk result (spec.JudgesLexed command.now texts.now file.now) }
-{
-    match read_models(alloc, texts)? {
-        Some(model) => judge_file(alloc, command, model, file),
-        None => refuse_model(alloc, outside(alloc)?),
+    match read_models(alloc, texts) {
+        Ok(model) => judge_file(alloc, command, model, file),
+        Err(ModelError::Refused(refusal)) => refuse_model(alloc, refusal),
+        Err(ModelError::OutOfMemory) => Err(AllocError),
     }
 }
 
@@ -191,15 +158,6 @@ fn judge_image(
         Ok(()) => run_model(alloc, command, model, image.entry, memory),
         Err(refusal) => refuse_image(alloc, refusal),
     }
-}
-
-/// The answer where a text has no tokens.
-fn refuse_tokens(alloc: Global, error: LexError) -> Result<Answer, AllocError>
-    ensures refused { IfOk result (λ answer. answer ≡ spec.model_refused (token_refusal error)) }
-    ensures told { IfOk result (λ _. IsOfText error) }
-{
-    let refusal = token_refusal(alloc, error)?;
-    refuse_model(alloc, refusal)
 }
 
 /// The answer where the models are refused.

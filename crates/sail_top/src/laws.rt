@@ -1,6 +1,7 @@
 ghost use Rattle.sail_top.specs.laws.OneAnswer.{HaveAnswer, HaveNoOtherAnswer};
 
-/// A law: words have exactly one answer over files that are told.
+/// A law: words have no two answers over files that are told, and they have one where each list of tokens is a model or
+/// is refused.
 pub fn words_have_one_answer()
     ensures some { HaveAnswer }
     ensures no_other { HaveNoOtherAnswer }

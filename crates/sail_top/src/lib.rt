@@ -10,6 +10,7 @@
 mod answer;
 mod laws;
 mod lines;
+mod models;
 mod reading;
 mod refusals;
 mod run;

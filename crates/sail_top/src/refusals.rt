@@ -1,8 +1,9 @@
 ghost use Rattle.std.specs.Prelude.{◌≡◌, [], IfOk};
 ghost use Rattle.sail_top.specs.Refusals as spec;
-ghost use Rattle.sail_top.specs.parts.Told.{IsOfText};
+ghost use Rattle.sail_top.specs.parts.Told.{IsOfText, IsOfTokens};
 
 use sail_base::{Place, Refusal, Text, hex_text};
+use sail_grammar::ParseError;
 use sail_lex::LexError;
 use std::alloc::{AllocError, Global};
 
@@ -28,7 +29,33 @@ pub fn token_refusal(alloc: Global, error: LexError) -> Result<Refusal, AllocErr
     }
 }
 
-/// The refusal of texts that have tokens and spell no model.
+/// The refusal of tokens that are no model. The one error is want of memory, the parser's too.
+pub fn parse_refusal(alloc: Global, error: ParseError) -> Result<Refusal, AllocError>
+    ensures refused { IfOk result (λ refusal. refusal ≡ spec.parse_refusal error) }
+    ensures told { IfOk result (λ _. IsOfTokens error) }
+{
+    match error {
+        ParseError::Outside(place, detail) => Ok(Refusal {
+            number: 5,
+            place,
+            detail,
+        }),
+        ParseError::Syntax(place, Some(detail)) => Ok(Refusal {
+            number: 6,
+            place,
+            detail,
+        }),
+        ParseError::Syntax(place, None) => Ok(Refusal {
+            number: 6,
+            place,
+            detail: Text::new(alloc, "end")?,
+        }),
+        ParseError::TooDeep(place) => bare(alloc, 7, place),
+        ParseError::OutOfMemory => Err(AllocError),
+    }
+}
+
+/// The refusal of a model that doesn't run today.
 pub fn outside(alloc: Global) -> Result<Refusal, AllocError>
     ensures { IfOk result (λ refusal. refusal ≡ spec.outside) }
 {

@@ -1,7 +1,7 @@
 //! A run over a memory in which the image is placed.
 ghost use Rattle.std.specs.Prelude.{◌≡◌, IfOk, OnOk, length, true};
 ghost use Rattle.model_state.specs.Folds.{Keeps};
-ghost use Rattle.sail_fragment.specs.Grammar.{is_well_formed};
+ghost use Rattle.sail_fragment.specs.Fragment.{is_well_formed};
 ghost use Rattle.sail_words.specs.Line.{IsWithinLimits};
 ghost use Rattle.sail_top.specs.Run as spec;
 

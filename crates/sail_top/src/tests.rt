@@ -31,8 +31,18 @@ const COUNTER: &str = "register PC : bits(8)\n";
 
 const COUNT: &str = "{ PC = PC + 0x01; true }";
 
+// A hundred and twenty-nine open brackets.
+const DEEP: &str = concat!(
+    "((((((((((((((((((((((((((((((((",
+    "((((((((((((((((((((((((((((((((",
+    "((((((((((((((((((((((((((((((((",
+    "((((((((((((((((((((((((((((((((",
+    "("
+);
+
 // The words with blanks between, the registers of the model M, the body of its step, and what is written, the
-// status first. The image Q has one segment, S has two, and P is cut short.
+// status first. Without a body M has its registers alone; N is what stands behind registers, with a body that counts. The
+// image Q has one segment, S has two, and P is cut short.
 const ROWS: &[(&str, &str, &str, &str)] = &[
     // what runs, by words
     (
@@ -85,6 +95,12 @@ const ROWS: &[(&str, &str, &str, &str)] = &[
     ),
     // what runs, by models
     (
+        "run --elf Q --ram-size 8 --steps 2 M N",
+        COUNTER,
+        "",
+        "0 == report\nstop steps-done\nsteps 2\nconsole 0\nhart 0\nPC = 0x02\n== end\n",
+    ),
+    (
         "run --elf Q --ram-size 8 --steps 1 M",
         "",
         "{ true }",
@@ -101,6 +117,18 @@ const ROWS: &[(&str, &str, &str, &str)] = &[
         "register R : bits(012)\r\n",
         "{ R = R + 0x00F; true }",
         "0 == report\nstop steps-done\nsteps 2\nconsole 0\nhart 0\nR = 0x01e\n== end\n",
+    ),
+    (
+        "run --elf Q --ram-size 8 --steps 1 M",
+        "/* of A */ register a_1 : (bits((0_8)))\n",
+        "{ (a_1) = ((a_1) + 0x0_1); (true) } // B\n",
+        "0 == report\nstop steps-done\nsteps 1\nconsole 0\nhart 0\na_1 = 0x01\n== end\n",
+    ),
+    (
+        "run --elf Q --ram-size 8 --steps 1 M",
+        "register A : bits(8) register B : bits(8)\t",
+        "{ A = B + 0x01; B = A + 0x01; A = B + 0xff; true, }",
+        "1 M06 1:4:67 ,\n",
     ),
     (
         "run --elf Q --ram-size 8 --steps 1 M",
@@ -172,8 +200,8 @@ const ROWS: &[(&str, &str, &str, &str)] = &[
         "6 E13 0\n",
     ),
     ("run --elf S --ram-size 4127 M", COUNTER, COUNT, "6 E13 2\n"),
-    // models: their tokens first, then whether they spell one
-    ("run --elf P M Q", COUNTER, "", "1 M01 2:1:1 7f\n"),
+    // tokens, of all models first
+    ("run --elf P M Q", ")", "", "1 M01 2:1:1 7f\n"),
     ("run --elf P Q M", "/*", "", "1 M01 1:1:1 7f\n"),
     ("run --elf Q M", "\n /* /* */", COUNT, "1 M03 1:2:2\n"),
     (
@@ -182,13 +210,75 @@ const ROWS: &[(&str, &str, &str, &str)] = &[
         "85070591730234615865843651857942052865",
         "1 M04 1:5:19\n",
     ),
-    ("run --elf Q M M", COUNTER, COUNT, "1 M05 1:1:1\n"),
+    (
+        "run --elf Q M",
+        "register 0P : bits(8)\n",
+        "{ true }",
+        "1 M02 1:1:10\n",
+    ),
+    (
+        "run --elf Q M",
+        "register PC : bits(8)\x0c",
+        COUNT,
+        "1 M01 1:1:22 0c\n",
+    ),
+    (
+        "run --elf Q M",
+        COUNTER,
+        "{ PC = PC + 0X01; true }",
+        "1 M02 1:5:31\n",
+    ),
+    // then the grammar, of all models joined
+    (
+        "run --elf Q M",
+        COUNTER,
+        "undefined",
+        "1 M05 1:5:19 undefined\n",
+    ),
+    ("run --elf Q M", "let x = { 1 }\n", COUNT, "1 M05 1:1:9 {\n"),
+    (
+        "run --elf Q M",
+        "let L : unit = a = b\n",
+        COUNT,
+        "1 M05 1:1:16 a\n",
+    ),
+    (
+        "run --elf Q M",
+        "let x = { 1 )\n",
+        COUNT,
+        "1 M06 1:1:13 )\n",
+    ),
     (
         "run --elf Q M",
         "registerPC : bits(8)\n",
         COUNT,
-        "1 M05 1:1:1\n",
+        "1 M06 1:1:1 registerPC\n",
     ),
+    (
+        "run --elf Q M",
+        COUNTER,
+        "{ PC = PC + 0x01 true }",
+        "1 M06 1:5:36 true\n",
+    ),
+    (
+        "run --elf Q M",
+        COUNTER,
+        "{ PC = PC + 0x01; true } true",
+        "1 M06 1:5:44 true\n",
+    ),
+    ("run --elf Q M", COUNTER, "{ PC = PC", "1 M06 1:5:28 end\n"),
+    ("run --elf Q M N", "default", "", "1 M06 2:1:1 val\n"),
+    (
+        "run --elf Q N M",
+        "register PC :\n",
+        "",
+        "1 M06 2:2:1 end\n",
+    ),
+    ("run --elf Q M", COUNTER, DEEP, "1 M07 1:5:147\n"),
+    // and then what runs today
+    ("run --elf Q M", "", "", "1 M05 1:1:1\n"),
+    ("run --elf Q M M", COUNTER, COUNT, "1 M05 1:1:1\n"),
+    ("run --elf Q N M", COUNTER, "", "1 M05 1:1:1\n"),
     (
         "run --elf Q M",
         "register PC : bits(0)\n",
@@ -203,37 +293,13 @@ const ROWS: &[(&str, &str, &str, &str)] = &[
     ),
     (
         "run --elf Q M",
-        "register PC : bits(0008)\n",
+        "register PC : bits(8) = 0x00\n",
         COUNT,
         "1 M05 1:1:1\n",
-    ),
-    (
-        "run --elf Q M",
-        "register pc : bits(8)\n",
-        "{ true }",
-        "1 M05 1:1:1\n",
-    ),
-    (
-        "run --elf Q M",
-        "register 0P : bits(8)\n",
-        "{ true }",
-        "1 M02 1:1:10\n",
     ),
     (
         "run --elf Q M",
         "register PC : bits(8) register PC : bits(8)",
-        COUNT,
-        "1 M05 1:1:1\n",
-    ),
-    (
-        "run --elf Q M",
-        "register PC : bits(8)\x0c",
-        COUNT,
-        "1 M01 1:1:22 0c\n",
-    ),
-    (
-        "run --elf Q M",
-        "/**/ register PC : bits(8)\n",
         COUNT,
         "1 M05 1:1:1\n",
     ),
@@ -242,18 +308,6 @@ const ROWS: &[(&str, &str, &str, &str)] = &[
         "run --elf Q M",
         COUNTER,
         "{ PC = PC + 0x001; true }",
-        "1 M05 1:1:1\n",
-    ),
-    (
-        "run --elf Q M",
-        COUNTER,
-        "{ PC = PC + 0X01; true }",
-        "1 M02 1:5:31\n",
-    ),
-    (
-        "run --elf Q M",
-        COUNTER,
-        "{ PC = PC + 0x0_1; true }",
         "1 M05 1:1:1\n",
     ),
     (
@@ -277,13 +331,7 @@ const ROWS: &[(&str, &str, &str, &str)] = &[
     (
         "run --elf Q M",
         COUNTER,
-        "{ PC = PC + 0x01 true }",
-        "1 M05 1:1:1\n",
-    ),
-    (
-        "run --elf Q M",
-        COUNTER,
-        "{ PC = PC + 0x01; true } true",
+        "{ PC = PC + 0x01; true; }",
         "1 M05 1:1:1\n",
     ),
     (
@@ -294,9 +342,12 @@ const ROWS: &[(&str, &str, &str, &str)] = &[
     ),
 ];
 
-// The model's text from its registers and the body of its step.
+// The model's text from its registers and the body of its step, if it has one.
 fn model(alloc: Global, registers: &str, body: &str) -> Result<Vec<u8>, AllocError> {
     let mut text = Vec::from_slice(alloc, registers.as_bytes())?;
+    if body.is_empty() {
+        return Ok(text);
+    }
     text.extend_from_slice(RESET.as_bytes())?;
     text.extend_from_slice(body.as_bytes())?;
     Ok(text)
@@ -316,12 +367,13 @@ fn words_of(alloc: Global, line: &str) -> Result<Vec<String>, AllocError> {
     Ok(words)
 }
 
-// The model M, and the images.
+// The model M, what stands behind registers, and the images.
 fn files_of(alloc: Global, text: Vec<u8>) -> Result<Vec<(String, Vec<u8>)>, Fail> {
     let mut short = hex::decode(alloc, IMAGE)?;
     short.truncate(127);
     let mut files = Vec::new(alloc);
     files.push(file(alloc, "M", text)?)?;
+    files.push(file(alloc, "N", model(alloc, "", COUNT)?)?)?;
     files.push(file(alloc, "Q", hex::decode(alloc, IMAGE)?)?)?;
     files.push(file(alloc, "S", hex::decode(alloc, SEGMENTS)?)?)?;
     files.push(file(alloc, "P", short)?)?;

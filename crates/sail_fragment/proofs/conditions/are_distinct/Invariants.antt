@@ -1,5 +1,5 @@
 use Rattle.std.proofs.Common.{◌≡◌, length}
-use Rattle.sail_fragment.specs.Grammar.{are_distinct}
+use Rattle.sail_fragment.specs.Fragment.{are_distinct}
 use Rattle.sail_fragment.proofs.conditions.are_distinct.Given as goal
 
 abbrev pub invariant-loop-left : goal.invariant-loop-left

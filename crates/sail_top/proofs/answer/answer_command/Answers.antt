@@ -1,8 +1,8 @@
-use Rattle.std.proofs.Common.{◌≡◌, List, map, ap, ◌∙◌, subst}
+use Rattle.std.proofs.Common.{List, map, ap, ◌∙◌, subst}
 use Rattle.sail_top.specs.Reading.{Wanted, whole}
 use Rattle.sail_top.specs.parts.Borrowed.{as_wanted}
 use Rattle.sail_top.specs.parts.Unread.{Ends}
-use Rattle.sail_top.proofs.TokenLemmas.{files_short}
+use Rattle.sail_top.proofs.ShortLemmas.{files_short}
 use Rattle.sail_top.proofs.answer.answer_command.Goals as goal
 
 pub answer_files-requires-clause-short : goal.answer_files-requires-clause-short

@@ -1,0 +1,14 @@
+use Rattle.sail_grammar.specs.Joined.{joined, end_from}
+use Rattle.sail_grammar.specs.Leaves.{nowhere}
+use Rattle.sail_top.proofs.ModelLemmas.{tokens_refused, unparsed_is}
+use Rattle.sail_top.proofs.models.read_files.Goals as goal
+
+pub returns-in-Ok-clause-refused : goal.returns-in-Ok-clause-refused
+returns-in-Ok-clause-refused c =
+    tokens_refused (joined c.args.files.now) c.in-Ok.definitions.items c.as_slice.result.now c.as_slice.ensures.value c.in-Ok.ensures.model
+    (end_from nowhere c.args.files.now) c.run_definitions.result c.run_definitions.ensures.refused
+
+pub returns-in_ok-parse_refusal-in-Err-clause-refused : goal.returns-in_ok-parse_refusal-in-Err-clause-refused
+returns-in_ok-parse_refusal-in-Err-clause-refused c =
+    unparsed_is (joined c.args.files.now) (end_from nowhere c.args.files.now) c.in-Err.error c.in_ok-parse_refusal-in-Err.field-0
+    c.in-Err.ensures.refused c.in_ok-parse_refusal-in-Err.ensures.told c.in_ok-parse_refusal-in-Err.ensures.refused

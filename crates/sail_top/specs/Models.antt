@@ -1,0 +1,48 @@
+-- What the models' texts are: one model that runs, or a refusal by the first phase that refuses them.
+use Rattle.std.specs.Prelude.{◌≡◌, ℕ, ◌+◌, List, [], ◌∷◌, ◌++◌, Some, None}
+use Rattle.sail_base.specs.declared.place.Place.{Place}
+use Rattle.sail_base.specs.declared.refusal.Refusal.{Refusal}
+use Rattle.sail_fragment.specs.Fragment.{model_of}
+use Rattle.sail_fragment.specs.declared.model.Model.{Model}
+use Rattle.sail_grammar.specs.Joined.{with_texts}
+use Rattle.sail_grammar.specs.Leaves.{nowhere}
+use Rattle.sail_grammar.specs.Model.{IsModel, IsRefused}
+use Rattle.sail_grammar.specs.Symbol.{Sign}
+use Rattle.sail_grammar.specs.declared.error.ParseError.{ParseError}
+use Rattle.sail_lex.specs.Position.{end_of}
+use Rattle.sail_lex.specs.declared.token.LexError.{LexError}
+use Rattle.sail_lex.specs.declared.token.Token.{Token}
+use Rattle.sail_syntax.specs.declared.definitions.Def.{Def}
+use Rattle.model_tokens.specs.Files.{AreLexed, AreRefused}
+use Rattle.sail_top.specs.Refusals.{token_refusal, parse_refusal, outside}
+
+-- the tokens of texts, one text behind another, each with its spelling
+abbrev pub joined : List (List ℕ) → List (List Token) → List Sign
+joined [] all = []
+joined (text ∷ texts) [] = []
+joined (text ∷ texts) (tokens ∷ all) = with_texts text tokens ++ joined texts all
+
+-- the place of the end of the last of texts, which are the files from this number on; of no text this place
+abbrev pub last_end : Place → ℕ → List (List ℕ) → Place
+last_end place file [] = place
+last_end place file (text ∷ texts) = last_end (end_of file text) (file + 1) texts
+
+abbrev pub end_of_all : List (List ℕ) → Place
+end_of_all texts = last_end nowhere 1 texts
+
+-- the texts have tokens, these are the definitions of a model, and it is this one, which runs today
+pub record AreModel (texts : List (List ℕ)) (model : Model) : Type 0 where
+  pub tokens : List (List Token)
+  pub lexed : AreLexed 1 0 texts tokens
+  pub definitions : List Def
+  pub parsed : IsModel (joined texts tokens) definitions
+  pub runs : model_of definitions ≡ Some model
+
+-- the texts are refused: a text has no tokens; or all have, and these are no model; or they are a model, and it is none
+-- that runs today
+pub data IsRefusal (texts : List (List ℕ)) : Refusal → Type 0 where
+  unlexed : (e : LexError) → AreRefused 1 0 texts e → IsRefusal texts (token_refusal e)
+  unparsed : (tokens : List (List Token)) (e : ParseError) → AreLexed 1 0 texts tokens →
+      IsRefused (joined texts tokens) (end_of_all texts) e → IsRefusal texts (parse_refusal e)
+  not_run : (tokens : List (List Token)) (definitions : List Def) → AreLexed 1 0 texts tokens →
+      IsModel (joined texts tokens) definitions → model_of definitions ≡ None → IsRefusal texts outside

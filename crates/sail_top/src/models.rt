@@ -1,0 +1,78 @@
+//! From the models' texts to the model that runs.
+ghost use Rattle.std.specs.Prelude.{◌≡◌, ◌≤◌, IfErr, IfOk, Some, length, true};
+ghost use Rattle.std.specs.List.{All};
+ghost use Rattle.model_tokens.specs.Files.{IsShort};
+ghost use Rattle.sail_fragment.specs.Fragment.{is_well_formed, model_of};
+ghost use Rattle.sail_grammar.specs.Joined.{HaveTexts, end_from, joined};
+ghost use Rattle.sail_grammar.specs.Leaves.{nowhere};
+ghost use Rattle.sail_top.specs.Models.{AreModel};
+ghost use Rattle.sail_top.specs.parts.Told.{RunsAs, Tells, TellsNotRun, TellsOfTokens};
+
+use crate::refusals::{outside, parse_refusal, token_refusal};
+use model_tokens::lex_files;
+use sail_base::{Items, Refusal};
+use sail_fragment::{Model, read_model};
+use sail_lex::Tokens;
+use sail_parse_def::parse_model;
+use sail_syntax::Def;
+use std::alloc::{AllocError, Global};
+
+/// Why there is no model.
+#[derive(Debug, Drop)]
+pub enum ModelError {
+    /// The texts are refused.
+    Refused(Refusal),
+    /// Memory was wanting. This says nothing of the texts.
+    OutOfMemory,
+}
+
+impl From<AllocError> for ModelError {
+    ghost use Rattle.std.specs.Prelude.{◌≡◌};
+    ghost use Rattle.sail_top.specs.declared.models.ModelError.{ModelError};
+
+    ghost from_gives = { λ e r. r ≡ ModelError.OutOfMemory };
+
+    fn from(_: AllocError) -> ModelError {
+        ModelError::OutOfMemory
+    }
+}
+
+/// The model that texts are, which runs today. The first phase that refuses them decides: their tokens,
+/// the grammar, and the conditions on what runs.
+pub fn read_models(alloc: Global, texts: &[Items<u8>]) -> Result<Model, ModelError>
+    requires few { length texts.now ≤ 64 }
+    requires short { All IsShort texts.now }
+    ensures model { IfOk result (AreModel texts.now) }
+    ensures well_formed { IfOk result (λ model. is_well_formed model ≡ true) }
+    ensures refused { IfErr result (Tells texts.now) }
+{
+    match lex_files(alloc, texts) {
+        Ok(files) => read_files(alloc, files.as_slice()),
+        Err(error) => Err(ModelError::Refused(token_refusal(alloc, error)?)),
+    }
+}
+
+/// The model that the tokens of files are.
+fn read_files(alloc: Global, files: &[Tokens<'_>]) -> Result<Model, ModelError>
+    requires { All HaveTexts files.now }
+    ensures model { IfOk result (RunsAs (joined files.now)) }
+    ensures well_formed { IfOk result (λ model. is_well_formed model ≡ true) }
+    ensures refused { IfErr result (TellsOfTokens (joined files.now) (end_from nowhere files.now)) }
+{
+    match parse_model(alloc, files) {
+        Ok(definitions) => run_definitions(alloc, definitions.as_slice()),
+        Err(error) => Err(ModelError::Refused(parse_refusal(alloc, error)?)),
+    }
+}
+
+/// The model that definitions are.
+fn run_definitions(alloc: Global, definitions: &[Def]) -> Result<Model, ModelError>
+    ensures model { IfOk result (λ model. model_of definitions.now ≡ Some model) }
+    ensures well_formed { IfOk result (λ model. is_well_formed model ≡ true) }
+    ensures refused { IfErr result (TellsNotRun definitions.now) }
+{
+    match read_model(alloc, definitions)? {
+        Some(model) => Ok(model),
+        None => Err(ModelError::Refused(outside(alloc)?)),
+    }
+}
