@@ -1,4 +1,5 @@
-use crate::tests::answer;
+use crate::tests::{answer, read};
+use sail_syntax::Def;
 use std::alloc::{AllocError, Global};
 use std::test::Fail;
 
@@ -338,6 +339,46 @@ fn values_are_plain(rt: HostRuntime) -> Result<(), Fail> {
     let alloc = rt.alloc();
     for row in &VALUES {
         assert!(rt; comes_of(alloc, "register r : int = ", row)?, "{}", row.0);
+    }
+    Ok(())
+}
+
+/// A model of one `let`, and the column of the outer form of its value.
+struct Value(&'static str, u32);
+
+static PLACES: [Value; 13] = [
+    Value("let x = a - b - c", 15),
+    Value("let x = a * b << c", 15),
+    Value("let x = a ^ b ^ c", 11),
+    Value("let x = a @ b @ c", 11),
+    Value("let x = a | b & c", 11),
+    Value("let x = a & b | c", 15),
+    Value("let x = a + b * c", 11),
+    Value("let x = a == b + c", 11),
+    Value("let x = 2 ^ a ^ b", 15),
+    Value("let x = - a + b", 13),
+    Value("let x = (a + b)", 12),
+    Value("let x = (a).f", 9),
+    Value("let x = a.f[0]", 12),
+];
+
+// The column of the value of the first definition; 0 where it is no `let`.
+fn column_of_value(definitions: &[Def]) -> u32 {
+    match definitions.first() {
+        Some(Def::Let(_, _, value)) => value.get().place().column,
+        _ => 0,
+    }
+}
+
+#[test]
+fn values_stand_at_their_outer_form(rt: HostRuntime) -> Result<(), Fail> {
+    let alloc = rt.alloc();
+    for row in &PLACES {
+        let column = match read(alloc, &[row.0])? {
+            Ok(definitions) => column_of_value(definitions.as_slice()),
+            Err(_) => 0,
+        };
+        assert!(rt; column == row.1, "{}", row.0);
     }
     Ok(())
 }

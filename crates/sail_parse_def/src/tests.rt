@@ -28,8 +28,11 @@ fn tokens_of(alloc: Global, text: &str, file: u32) -> Result<Tokens<'_>, AllocEr
     }
 }
 
-// What comes of a model of these texts.
-pub(crate) fn answer(alloc: Global, texts: &[&str]) -> Result<Found, AllocError> {
+// The model of these texts, a file each, or why there is none.
+pub(crate) fn read(
+    alloc: Global,
+    texts: &[&str],
+) -> Result<Result<Vec<Def>, ParseError>, AllocError> {
     let mut files = Vec::new(alloc);
     let mut file = 1;
     for text in texts {
@@ -37,16 +40,21 @@ pub(crate) fn answer(alloc: Global, texts: &[&str]) -> Result<Found, AllocError>
         files.push(tokens)?;
         file = file.wrapping_add(1);
     }
-    Ok(told(parse_model(alloc, files.as_slice())))
+    Ok(parse_model(alloc, files.as_slice()))
 }
 
-fn told(read: Result<Vec<Def>, ParseError>) -> Found {
+// What comes of a model of these texts.
+pub(crate) fn answer(alloc: Global, texts: &[&str]) -> Result<Found, AllocError> {
+    Ok(told(read(alloc, texts)?))
+}
+
+fn told(model: Result<Vec<Def>, ParseError>) -> Found {
     let nowhere = Place {
         file: 0,
         line: 0,
         column: 0,
     };
-    match read {
+    match model {
         Ok(_) => Found('=', nowhere),
         Err(ParseError::Outside(place, _)) => Found('o', place),
         Err(ParseError::Syntax(place, Some(_))) => Found('x', place),
