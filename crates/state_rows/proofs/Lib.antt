@@ -1,0 +1,3 @@
+-- lemmas of the proofs
+pub mod Accesses
+pub mod Calls
