@@ -1,4 +1,5 @@
 -- Which models run today: registers of bits, a `reset` that does nothing, and a `step` that adds literals to registers.
+-- What is said of a tree is said of its outermost layer first, by a definition that ends in `_form`.
 use Rattle.std.specs.Prelude.{ℕ, ℤ, pos, negsuc, ◌-◌, Bool, true, false, not, ◌&&◌, ◌==◌, nat_le, if◌then◌else◌, List, [], ◌∷◌}
 use Rattle.std.specs.Prelude.{length, map, take, drop, codes, Option, Some, None, option_map}
 use Rattle.std.specs.List.{list_all, list_any}
@@ -50,6 +51,7 @@ abbrev pub width_in : ℤ → Option ℕ
 width_in (pos n) = if nat_le 1 n && nat_le n 128 then Some n else None
 width_in (negsuc n) = None
 
+-- the width that a type which is a decimal stands for
 abbrev pub width_form : TyExp-F TyExp → Option ℕ
 width_form (T.Number place n) = width_in n
 width_form form = None
@@ -72,14 +74,15 @@ register_of definition = None
 
 -- ---- functions
 
--- the clause of a function of this name that is written whole and without the type of its result
-abbrev pub clause_with : List ℕ → FunctionClause → Option TyExp → Option FunctionClause
-clause_with spelling clause None = Some clause
-clause_with spelling clause (Some typ) = None
+-- a clause, where no type is written for its result
+abbrev pub clause_unless : FunctionClause → Option TyExp → Option FunctionClause
+clause_unless clause None = Some clause
+clause_unless clause (Some typ) = None
 
+-- the clause of a function of this name that is written whole and without the type of its result
 abbrev pub clause_of : List ℕ → Def → Option FunctionClause
 clause_of spelling (D.Function place Whole name (clause ∷ [])) =
-    if is_called spelling name then clause_with spelling clause clause.result else None
+    if is_called spelling name then clause_unless clause clause.result else None
 clause_of spelling definition = None
 
 -- whether a pattern is this bare name
@@ -103,6 +106,7 @@ abbrev pub does_nothing : List Pat → Exp → Bool
 does_nothing (hart ∷ entry ∷ []) body = is_bound (codes "h") hart && is_bound (codes "e") entry && is_unit body
 does_nothing _ body = false
 
+-- whether there is a clause, and it does nothing
 abbrev pub resets : Option FunctionClause → Bool
 resets None = false
 resets (Some clause) = does_nothing clause.parameters clause.body
@@ -130,13 +134,14 @@ abbrev pub name_of : Exp → Option (List ℕ)
 name_of expression = name_form (out-Exp expression)
 
 -- the bits that an expression is, if it is a literal of bits
-abbrev pub bits_in : ExpForm → Option (List Bool)
-bits_in (E.Constant place (L.Bits bits)) = Some bits
-bits_in form = None
+abbrev pub literal_form : ExpForm → Option (List Bool)
+literal_form (E.Constant place (L.Bits bits)) = Some bits
+literal_form form = None
 
 abbrev pub literal_bits : Exp → Option (List Bool)
-literal_bits expression = bits_in (out-Exp expression)
+literal_bits expression = literal_form (out-Exp expression)
 
+-- the assignment of these parts, where each is there
 abbrev pub assignment : Option (List ℕ) → Option (List ℕ) → Option (List Bool) → Option Assignment
 assignment (Some target) (Some source) (Some literal) = Some (record { target = target; source = source; literal = literal })
 assignment _ _ _ = None
@@ -150,13 +155,14 @@ abbrev pub sum_into : Option (List ℕ) → Exp → Option Assignment
 sum_into target value = sum_form target (out-Exp value)
 
 -- the assignment of `NAME = NAME + LITERAL`
-abbrev pub assigned_in : ExpForm → Option Assignment
-assigned_in (E.Assign place target [] value) = sum_into (target_name target) value
-assigned_in form = None
+abbrev pub assign_form : ExpForm → Option Assignment
+assign_form (E.Assign place target [] value) = sum_into (target_name target) value
+assign_form form = None
 
 abbrev pub assigned_by : Exp → Option Assignment
-assigned_by expression = assigned_in (out-Exp expression)
+assigned_by expression = assign_form (out-Exp expression)
 
+-- the assignment that a statement is
 abbrev pub statement_form : StatementForm → Option Assignment
 statement_form (E.Evaluate expression) = assigned_by expression
 statement_form form = None
@@ -180,10 +186,12 @@ block_form form = None
 abbrev pub block_statements : Exp → Option (List Stmt)
 block_statements body = block_form (out-Exp body)
 
+-- the same, of a function without parameters
 abbrev pub statements_under : List Pat → Exp → Option (List Stmt)
 statements_under [] body = block_statements body
 statements_under _ body = None
 
+-- the same, of a clause that may not be there
 abbrev pub statements_by : Option FunctionClause → Option (List Stmt)
 statements_by None = None
 statements_by (Some clause) = statements_under clause.parameters clause.body
@@ -194,11 +202,12 @@ step_statements definition = statements_by (clause_of (codes "step") definition)
 
 -- ---- models
 
--- the values, where each is there
+-- a value in front of others, where all are there
 abbrev pub in_front : {A : Type 0} → Option A → Option (List A) → Option (List A)
 in_front (Some first) (Some rest) = Some (first ∷ rest)
 in_front _ _ = None
 
+-- the values, where each is there
 abbrev pub all_of : {A : Type 0} → List (Option A) → Option (List A)
 all_of [] = Some []
 all_of (first ∷ rest) = in_front first (all_of rest)
@@ -236,9 +245,11 @@ is_well_formed model =
     nat_le (length model.registers) 64 && nat_le (length model.assignments) 64
     && are_distinct model.registers && list_all (is_typed model.registers) model.assignments
 
+-- a model, where it is well formed
 abbrev pub model_if : Model → Option Model
 model_if model = if is_well_formed model then Some model else None
 
+-- the model of registers and assignments, where both are there
 abbrev pub model_from : Option (List Register) → Option (List Assignment) → Option Model
 model_from (Some registers) (Some assignments) = model_if (record { registers = registers; assignments = assignments })
 model_from _ _ = None
