@@ -1,0 +1,5 @@
+mod Stacks
+mod Reading
+mod Failing
+mod Joined
+mod WholeTexts
