@@ -1,0 +1,11 @@
+mod Ticking
+mod Falls
+mod Ends
+mod Determined
+mod NearestLaws
+mod UnderLaws
+mod OpenedLaws
+mod EachLaws
+mod ValidLaws
+mod Declares
+mod Constants

@@ -1,0 +1,9 @@
+pub mod Sorts
+pub mod Values
+pub mod Operations
+pub mod Jib
+pub mod Openings
+pub mod Typing
+pub mod Operands
+pub mod Valid
+pub mod laws
