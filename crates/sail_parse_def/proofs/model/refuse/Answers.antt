@@ -20,20 +20,20 @@ returns-else-left-eq0 c =
 
 pub overflow_sub-count-in-Forbidden : goal.overflow_sub-count-in-Forbidden
 overflow_sub-count-in-Forbidden c =
-    (forbidden_within c.args.all.now c.args.count c.args.end c.requires.within c.requires.first c.args.error c.in-Forbidden.field-0
+    (forbidden_within c.args.all.now c.args.count c.args.end c.requires.within c.requires.first c.args.error _
     c.in-Forbidden.begun c.in-Forbidden.is c.requires.stop).1
 
 pub bounds-all-count : goal.bounds-all-count
 bounds-all-count c =
-    let le = forbidden_within c.args.all.now c.args.count c.args.end c.requires.within c.requires.first c.args.error c.in-Forbidden.field-0
+    let le = forbidden_within c.args.all.now c.args.count c.args.end c.requires.within c.requires.first c.args.error _
     c.in-Forbidden.begun c.in-Forbidden.is c.requires.stop in
     omega (arith, le.0, le.1, c.requires.within)
 
 pub returns-in-Forbidden : goal.returns-in-Forbidden
 returns-in-Forbidden c =
-    let le = forbidden_within c.args.all.now c.args.count c.args.end c.requires.within c.requires.first c.args.error c.in-Forbidden.field-0
+    let le = forbidden_within c.args.all.now c.args.count c.args.end c.requires.within c.requires.first c.args.error _
     c.in-Forbidden.begun c.in-Forbidden.is c.requires.stop in
-    refuse_forbidden c.args.all.now c.args.count c.args.end c.requires.within c.requires.first c.args.error c.in-Forbidden.field-0
+    refuse_forbidden c.args.all.now c.args.count c.args.end c.requires.within c.requires.first c.args.error _
     c.in-Forbidden.begun c.index-all-count.result c.outside.result c.in-Forbidden.is c.requires.stop
     (slice_get_read c.args.all.now (length c.args.all.now) _ c.index-all-count.result refl (omega (arith, le.0, le.1, c.requires.within))
     c.index-all-count.is) c.outside.ensures
