@@ -176,15 +176,3 @@ gives R.Print = S.Unit
 gives R.PrintEndline = S.Unit
 gives R.ConsolePut = S.Unit
 gives row = S.Bits
-
--- the builtins that read or write the state
-abbrev pub has_state : Row → Bool
-has_state R.MemRead = true
-has_state R.MemReserve = true
-has_state R.MemWrite = true
-has_state R.MemWriteCond = true
-has_state R.MemMapped = true
-has_state R.Print = true
-has_state R.PrintEndline = true
-has_state R.ConsolePut = true
-has_state row = false

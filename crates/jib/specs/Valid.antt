@@ -19,7 +19,7 @@ use Rattle.jib.specs.declared.code.Instruction.TheVariants as I
 use Rattle.jib.specs.declared.code.Function.{Function}
 use Rattle.jib.specs.declared.code.Opening.{Opening}
 use Rattle.jib.specs.declared.code.Module.{Module}
-use Rattle.jib.specs.Sorts.{has_state}
+use Rattle.row_types.specs.Calls.{has_state}
 use Rattle.jib.specs.Typing.{same, is_sort, payload_typ, source_typ, target_typ}
 use Rattle.jib.specs.Operands.{each, all_given, is_there, all_there, operation_typed}
 

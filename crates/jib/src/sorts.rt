@@ -1,6 +1,7 @@
 //! What the builtins take and give.
 ghost use Rattle.std.specs.Prelude.{◌≡◌};
-ghost use Rattle.jib.specs.Sorts.{is_comparable, takes as takes_of, gives as gives_of, has_state as has_state_of};
+ghost use Rattle.jib.specs.Sorts.{is_comparable, takes as takes_of, gives as gives_of};
+ghost use Rattle.row_types.specs.Calls.{has_state as has_state_of};
 
 use crate::types::Sort;
 use sail_types::Row;

@@ -10,3 +10,6 @@ pub mod Rows
 pub mod Owed
 pub mod RowsOwe
 pub mod Goals
+pub mod StateEnds
+pub mod StateAccesses
+pub mod StateRows

@@ -36,8 +36,8 @@ use Rattle.row_types.specs.Calls.{before, variables, is_met, is_result, first_sh
 use Rattle.row_types.specs.laws.Formulas.{number_variable, number_times, one_from, equal_from}
 use Rattle.row_types.specs.laws.Results.{opened_integer, opened_bits, opened_truth, opened_text}
 use Rattle.row_types.specs.laws.Shapes.{only_member, one_argument, two_arguments, integer_value, bits_value, string_value}
-use Rattle.state_rows.specs.Given.{ends_by, comes_by, IsOwed}
-use Rattle.state_rows.proofs.Accesses.{IsAccess, access_from, placed_from, place_is, placed_is, length-word_at}
+use Rattle.row_types.specs.laws.StateEnds.{ends_by, comes_by, IsOwed}
+use Rattle.row_types.specs.laws.StateAccesses.{IsAccess, access_from, placed_from, place_is, placed_is, length-word_at}
 
 opened_unit : out-Value X.Unit ≡ W.Unit
 opened_unit = ap out-Value (sym X.rolls-Unit) ∙ out-roll-Value W.Unit
@@ -230,27 +230,27 @@ only_params : (types : Types) (vs : List Value) (x m : Member) → Contains (x �
     → each_fits (map (fits types) vs) x.params ≡ true
 only_params types vs x m c h = subst (λ y. each_fits (map (fits types) vs) y.params ≡ true) (sym (only_member x m c)) h
 
-pub gives : (types : Types) (beyond : Num → Positive) (r : Row) (m : Member) (vs : List Value) → IsOwed types beyond r m vs
+pub state_rows_give : (types : Types) (beyond : Num → Positive) (r : Row) (m : Member) (vs : List Value) → IsOwed types beyond r m vs
     → (hart : ℕ) (s : RunState)
     → comes_by beyond (row_type r (first_shape m.params)) (map out-Value vs) (state_row r hart s vs) ≡ true
-gives types beyond R.MemRead m vs owed hart s =
+state_rows_give types beyond R.MemRead m vs owed hart s =
     of_place types beyond word_type R.MemRead hart s vs (only_params types vs _ m owed.member owed.fitting) (reads beyond hart s) owed.met
-gives types beyond R.MemReserve m vs owed hart s =
+state_rows_give types beyond R.MemReserve m vs owed hart s =
     of_place types beyond word_type R.MemReserve hart s vs (only_params types vs _ m owed.member owed.fitting) (reserves beyond hart s) owed.met
-gives types beyond R.MemWrite m vs owed hart s =
+state_rows_give types beyond R.MemWrite m vs owed hart s =
     of_placed types beyond (under written O.Unit) R.MemWrite hart s vs (only_params types vs _ m owed.member owed.fitting) (writes beyond hart s) owed.met
-gives types beyond R.MemWriteCond m vs owed hart s =
+state_rows_give types beyond R.MemWriteCond m vs owed hart s =
     of_placed types beyond (under written O.Bool) R.MemWriteCond hart s vs (only_params types vs _ m owed.member owed.fitting)
     (writes_cond beyond hart s) owed.met
-gives types beyond R.MemMapped m vs owed hart s =
+state_rows_give types beyond R.MemMapped m vs owed hart s =
     of_place types beyond (under access O.Bool) R.MemMapped hart s vs (only_params types vs _ m owed.member owed.fitting) (asks beyond hart s) owed.met
-gives types beyond R.Print m vs owed hart s =
+state_rows_give types beyond R.Print m vs owed hart s =
     of_text types beyond (under [] O.Unit) R.Print hart s vs (only_params types vs _ m owed.member owed.fitting)
     (λ text met. put_ends beyond hart s [] (W.String text ∷ []) text) owed.met
-gives types beyond R.PrintEndline m vs owed hart s =
+state_rows_give types beyond R.PrintEndline m vs owed hart s =
     of_text types beyond (under [] O.Unit) R.PrintEndline hart s vs (only_params types vs _ m owed.member owed.fitting)
     (λ text met. put_ends beyond hart s [] (W.String text ∷ []) (text ++ 10 ∷ [])) owed.met
-gives types beyond R.ConsolePut m vs owed hart s =
+state_rows_give types beyond R.ConsolePut m vs owed hart s =
     of_word types beyond (under (equal first (constant (pos 8)) ∷ []) O.Unit) R.ConsolePut hart s vs
     (only_params types vs _ m owed.member owed.fitting) (puts beyond hart s) owed.met
-gives types beyond r m vs owed hart s = absurd (true≢false (sym owed.state))
+state_rows_give types beyond r m vs owed hart s = absurd (true≢false (sym owed.state))

@@ -1,5 +1,5 @@
 -- What the table of builtins says of a call of a builtin on the state.
-use Rattle.std.specs.Prelude.{◌≡◌, ℕ, Bool, true, false, List, map, Option, Some, None, Contains}
+use Rattle.std.specs.Prelude.{◌≡◌, Bool, true, false, List, map, Option, Some, None, Contains}
 use Rattle.sail_types.specs.Numbers.{Positive}
 use Rattle.sail_types.specs.Rows.{row_members}
 use Rattle.sail_types.specs.Shapes.{each_fits, fits}
@@ -10,8 +10,7 @@ use Rattle.sail_types.specs.declared.table.Types.{Types}
 use Rattle.sail_types.specs.declared.values.Value.{Value, out-Value}
 use Rattle.model_state.specs.declared.cause.Ended.{Ended}
 use Rattle.model_state.specs.declared.cause.Ended.TheVariants as ended
-use Rattle.model_state.specs.RunState.{RunState, Ran}
-use Rattle.model_state.specs.StateRows.{state_row}
+use Rattle.model_state.specs.RunState.{Ran}
 use Rattle.builtins.specs.RowValues.{Opened}
 use Rattle.row_types.specs.declared.kinds.RowType.{RowType}
 use Rattle.row_types.specs.RowTypes.{row_type}
@@ -33,9 +32,3 @@ pub record IsOwed (types : Types) (beyond : Num → Positive) (r : Row) (m : Mem
   pub member : Contains (row_members types r) m
   pub fitting : each_fits (map (fits types) vs) m.params ≡ true
   pub met : is_met beyond (row_type r (first_shape m.params)) (map out-Value vs) ≡ true
-
-abbrev pub StateRowsGive : Type 0
-StateRowsGive =
-    (types : Types) (beyond : Num → Positive) (r : Row) (m : Member) (vs : List Value) → IsOwed types beyond r m vs
-    → (hart : ℕ) (s : RunState)
-    → comes_by beyond (row_type r (first_shape m.params)) (map out-Value vs) (state_row r hart s vs) ≡ true

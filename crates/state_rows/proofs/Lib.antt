@@ -1,3 +1,0 @@
--- lemmas of the proofs
-pub mod Accesses
-pub mod Calls
