@@ -1,0 +1,12 @@
+pub mod Lists
+pub mod Edges
+pub mod Marks
+pub mod Counting
+pub mod Closing
+pub mod Opening
+pub mod Moving
+pub mod Numbering
+pub mod Following
+pub mod Leaving
+pub mod Searching
+pub mod Components
