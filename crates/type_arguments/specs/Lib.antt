@@ -1,0 +1,6 @@
+-- numbers, constraints and types read one binder further in
+pub mod Moved
+-- those with arguments in the place of the variables
+pub mod Applied
+-- types that nothing belongs to
+pub mod Ranges
