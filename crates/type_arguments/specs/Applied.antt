@@ -20,7 +20,7 @@ abbrev pub inside_indices : List Index → Option (List Index)
 inside_indices is = option_map (λ moved. I.Number (variable 0) ∷ moved) (moved_indices 0 is)
 
 abbrev pub inside_types : List Typ → Option (List Typ)
-inside_types ts = moved_types ts 0
+inside_types = moved_types 0
 
 -- ---- types
 
@@ -57,11 +57,11 @@ form_applied (T.Exists name c part) is ts = and_then (inside_indices is) (λ js.
     and_then (read_con js c) (λ d. option_map (W.Exists name d) (part js us))))
 
 -- a type with arguments in the place of its variables
-abbrev pub applied_typ : Typ → AtArguments
-applied_typ = fold-Typ AtArguments form_applied
+abbrev pub applied_typ : List Index → List Typ → Typ → Option Typ
+applied_typ is ts t = fold-Typ AtArguments form_applied t is ts
 
-abbrev pub applied_types : List Typ → List Index → List Typ → Option (List Typ)
-applied_types parts is ts = together (map (λ part. applied_typ part is ts) parts)
+abbrev pub applied_types : List Index → List Typ → List Typ → Option (List Typ)
+applied_types is ts parts = together (map (applied_typ is ts) parts)
 
 -- ---- what a named type stands for
 
@@ -69,4 +69,4 @@ applied_types parts is ts = together (map (λ part. applied_typ part is ts) part
 abbrev pub applied : List Index → List Typ → Normal → Option Normal
 applied is ts (N.Number n) = option_map N.Number (read is n)
 applied is ts (N.Constraint c) = option_map N.Constraint (read_con is c)
-applied is ts (N.Typ t) = option_map N.Typ (applied_typ t is ts)
+applied is ts (N.Typ t) = option_map N.Typ (applied_typ is ts t)

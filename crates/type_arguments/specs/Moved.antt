@@ -97,8 +97,8 @@ typ_form_moved (T.Variable i) depth = Some (W.Variable i)
 typ_form_moved (T.Exists name c t) depth = and_then (next depth) (λ d. and_then (moved_con d c) (λ k. option_map (W.Exists name k) (t d)))
 
 -- a type; an existential type binds one variable more
-abbrev pub moved_typ : Typ → AtDepth
-moved_typ = fold-Typ AtDepth typ_form_moved
+abbrev pub moved_typ : ℕ → Typ → Option Typ
+moved_typ depth t = fold-Typ AtDepth typ_form_moved t depth
 
-abbrev pub moved_types : List Typ → ℕ → Option (List Typ)
-moved_types ts depth = together (map (λ t. moved_typ t depth) ts)
+abbrev pub moved_types : ℕ → List Typ → Option (List Typ)
+moved_types depth ts = together (map (moved_typ depth) ts)
