@@ -1,15 +1,16 @@
 -- What becomes of a type that has a list of parts.
 use Rattle.std.proofs.Common.{◌≡◌, ℕ, List, [], ◌∷◌, map, ap, sym, ◌∙◌, refl}
-use Rattle.std.specs.Prelude.{Option, option_map}
-use Rattle.sail_types.specs.Readings.{together, read_indices}
+use Rattle.std.specs.Prelude.{Option, Some, option_map}
+use Rattle.sail_types.specs.Readings.{together, read_con, read_indices}
 use Rattle.sail_types.specs.Sums.{and_then}
+use Rattle.sail_types.specs.declared.numbers.Con.{Con}
 use Rattle.sail_types.specs.declared.numbers.Index.{Index}
 use Rattle.sail_types.specs.declared.types.Typ.{Typ, fold-Typ}
 use Rattle.sail_types.specs.declared.types.Typ.TheFolds.{fold-roll-Typ}
 use Rattle.sail_types.specs.declared.types.Typ.TheOpen as T
 use Rattle.sail_types.specs.declared.types.Typ.TheVariants as W
 use Rattle.type_arguments.specs.Moved.{AtDepth, typ_form_moved, moved_indices, moved_typ, moved_types}
-use Rattle.type_arguments.specs.Applied.{AtArguments, form_applied, applied_typ, applied_types}
+use Rattle.type_arguments.specs.Applied.{AtArguments, form_applied, inside_indices, inside_types, applied_typ, applied_types}
 
 twice : {A B C : Type 0} (f : B → C) (g : A → B) (xs : List A) → map f (map g xs) ≡ map (λ x. f (g x)) xs
 twice f g [] = refl
@@ -39,3 +40,12 @@ applied_named is ts i indices parts =
     ∙ ap (λ f. f is ts) (fold-roll-Typ AtArguments form_applied (T.Named i indices parts))
     ∙ ap (λ ms. and_then (read_indices is indices) (λ js. option_map (W.Named i js) (together ms)))
     (twice (λ t. t is ts) (fold-Typ AtArguments form_applied) parts)
+
+-- what becomes of an existential type whose arguments inside are these
+pub applied_exists : (is : List Index) (ts : List Typ) (name : List ℕ) (c : Con) (part : Typ) (js : List Index) (us : List Typ) (o : Option Con)
+    → inside_indices is ≡ Some js → inside_types ts ≡ Some us → read_con js c ≡ o
+    → applied_typ is ts (W.Exists name c part) ≡ and_then o (λ d. option_map (W.Exists name d) (applied_typ js us part))
+applied_exists is ts name c part js us o h k l =
+    ap (applied_typ is ts) (sym (W.rolls-Exists name c part)) ∙ ap (λ f. f is ts) (fold-roll-Typ AtArguments form_applied (T.Exists name c part))
+    ∙ (λ i. and_then (h i) (λ js. and_then (k i) (λ us. and_then (read_con js c) (λ d. option_map (W.Exists name d) (applied_typ js us part)))))
+    ∙ ap (λ o. and_then o (λ d. option_map (W.Exists name d) (applied_typ js us part))) l
