@@ -4,3 +4,5 @@ pub mod Moved
 pub mod Applied
 -- types that nothing belongs to
 pub mod Ranges
+-- what follows from the definitions
+pub mod laws

@@ -4,6 +4,7 @@
 
 mod application;
 mod copies;
+pub mod laws;
 mod moved;
 mod normal;
 mod ranges;

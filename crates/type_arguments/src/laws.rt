@@ -1,0 +1,25 @@
+//! Laws of the definitions: each function's contract is one, and it does nothing.
+ghost use Rattle.std.specs.Prelude.{◌≡◌, ℕ, List, Some};
+ghost use Rattle.sail_types.specs.Belongs.{assigned};
+ghost use Rattle.sail_types.specs.Numbers.{Assignment, number, true_in};
+ghost use Rattle.sail_types.specs.Readings.{read_con};
+ghost use Rattle.sail_types.specs.Sums.{read};
+ghost use Rattle.sail_types.specs.declared.numbers.Con.{Con as Constraint};
+ghost use Rattle.sail_types.specs.declared.numbers.Index.{Index as Argument};
+ghost use Rattle.sail_types.specs.declared.numbers.Num.{Num as Number};
+ghost use Rattle.type_arguments.specs.Moved.{moved_con, moved_num};
+ghost use Rattle.type_arguments.specs.laws.Outside.{outside};
+
+/// With arguments in the place of its variables a number is, and a constraint is true, under an assignment as they
+/// were under that which gives each variable what its argument is.
+pub fn arguments_keep_meaning()
+    ensures number { (arguments : List Argument) (nu : Assignment) (n m : Number) → read arguments n ≡ Some m → number nu m ≡ number (assigned nu arguments) n }
+    ensures truth { (arguments : List Argument) (nu : Assignment) (c d : Constraint) → read_con arguments c ≡ Some d → true_in nu d ≡ true_in (assigned nu arguments) c }
+{}
+
+/// One binder further in a number is, and a constraint is true, under an assignment as they were outside of the
+/// binder.
+pub fn moves_keep_meaning()
+    ensures number { (depth : ℕ) (nu : Assignment) (n m : Number) → moved_num depth n ≡ Some m → number nu m ≡ number (outside depth nu) n }
+    ensures truth { (depth : ℕ) (nu : Assignment) (c d : Constraint) → moved_con depth c ≡ Some d → true_in nu d ≡ true_in (outside depth nu) c }
+{}
