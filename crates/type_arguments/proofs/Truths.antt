@@ -41,7 +41,7 @@ made f h = fold-Con (Option Con) (form_made f h)
 pub true_form : (nu : Assignment) (x : Con-F Con) → true_in nu (roll-Con x) ≡ form_true nu (map-Con Con Bool (true_in nu) x)
 true_form nu x = fold-roll-Con Bool (form_true nu) x
 
-true_truth : (nu : Assignment) (b : Bool) → true_in nu (V.Truth b) ≡ b
+pub true_truth : (nu : Assignment) (b : Bool) → true_in nu (V.Truth b) ≡ b
 true_truth nu b = ap (true_in nu) (sym (V.rolls-Truth b)) ∙ true_form nu (C.Truth b)
 
 pub true_holds : (nu : Assignment) (i : ℕ) → true_in nu (V.Holds i) ≡ nu.bool i

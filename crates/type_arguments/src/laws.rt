@@ -1,14 +1,16 @@
 //! Laws of the definitions: each function's contract is one, and it does nothing.
-ghost use Rattle.std.specs.Prelude.{◌≡◌, ℕ, List, Some};
-ghost use Rattle.sail_types.specs.Belongs.{assigned};
+ghost use Rattle.std.specs.Prelude.{◌≡◌, ℕ, ℤ, List, Some};
+ghost use Rattle.sail_types.specs.Belongs.{assigned, under};
 ghost use Rattle.sail_types.specs.Numbers.{Assignment, number, true_in};
 ghost use Rattle.sail_types.specs.Readings.{read_con};
 ghost use Rattle.sail_types.specs.Sums.{read};
 ghost use Rattle.sail_types.specs.declared.numbers.Con.{Con as Constraint};
 ghost use Rattle.sail_types.specs.declared.numbers.Index.{Index as Argument};
 ghost use Rattle.sail_types.specs.declared.numbers.Num.{Num as Number};
+ghost use Rattle.type_arguments.specs.Applied.{inside_indices};
 ghost use Rattle.type_arguments.specs.Moved.{moved_con, moved_num};
 ghost use Rattle.type_arguments.specs.laws.Outside.{outside};
+ghost use Rattle.type_arguments.specs.laws.Steady.{IsSteady};
 
 /// With arguments in the place of its variables a number is, and a constraint is true, under an assignment as they
 /// were under that which gives each variable what its argument is.
@@ -22,4 +24,14 @@ pub fn arguments_keep_meaning()
 pub fn moves_keep_meaning()
     ensures number { (depth : ℕ) (nu : Assignment) (n m : Number) → moved_num depth n ≡ Some m → number nu m ≡ number (outside depth nu) n }
     ensures truth { (depth : ℕ) (nu : Assignment) (c d : Constraint) → moved_con depth c ≡ Some d → true_in nu d ≡ true_in (outside depth nu) c }
+{}
+
+/// Inside an existential type, with arguments in the place of its variables a number is, and a constraint is true, as
+/// they were where the type's own variable stands for the same integer and each other for what its argument is outside:
+/// no argument is captured. This is under an assignment that gives one number to all powers that aren't fixed.
+pub fn binders_capture_nothing()
+    ensures number { (nu : Assignment) → IsSteady nu → (z : ℤ) (arguments inside : List Argument) (n m : Number) → inside_indices arguments ≡ Some inside
+        → read inside n ≡ Some m → number (under z nu) m ≡ number (under z (assigned nu arguments)) n }
+    ensures truth { (nu : Assignment) → IsSteady nu → (z : ℤ) (arguments inside : List Argument) (c d : Constraint) → inside_indices arguments ≡ Some inside
+        → read_con inside c ≡ Some d → true_in (under z nu) d ≡ true_in (under z (assigned nu arguments)) c }
 {}

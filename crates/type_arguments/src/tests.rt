@@ -1,0 +1,170 @@
+use super::*;
+use sail_base::{Boxed, Items, Text};
+use sail_types::{Atom, Comparison, Con, Index, Num, Term, Typ, power, push_number};
+use std::alloc::{AllocError, Global};
+use std::test::Fail;
+
+/// The number that is a variable this many times, with a constant.
+fn line(
+    alloc: Global,
+    coefficient: i128,
+    variable: u32,
+    constant: i128,
+) -> Result<Num, AllocError> {
+    let mut terms = Items::new(alloc);
+    terms.push(Term {
+        coefficient,
+        atom: Atom::Variable(variable),
+    })?;
+    Ok(Num { terms, constant })
+}
+
+fn one_of<T: Drop>(alloc: Global, a: T) -> Result<Items<T>, AllocError> {
+    let mut items = Items::new(alloc);
+    items.push(a)?;
+    Ok(items)
+}
+
+/// Puts a type behind a text: its variables by their numbers, and no more forms than the tests have.
+fn push_typ(out: &mut Vec<u8>, names: &[Text], typ: &Typ) -> Result<(), AllocError> {
+    match typ {
+        Typ::Bits(width) => {
+            out.extend_from_slice(b"bits(")?;
+            push_number(out, names, width)?;
+        }
+        Typ::Range(low, high) => {
+            out.extend_from_slice(b"range(")?;
+            push_number(out, names, low)?;
+            out.extend_from_slice(b", ")?;
+            push_number(out, names, high)?;
+        }
+        Typ::List(item) => {
+            out.extend_from_slice(b"list(")?;
+            push_typ(out, names, item.get())?;
+        }
+        Typ::Truth(Con::Truth(true)) => out.extend_from_slice(b"bool(true")?,
+        Typ::Exists(_, Con::Compare(Comparison::Less, left, right), part) => {
+            out.extend_from_slice(b"{(")?;
+            push_number(out, names, left)?;
+            out.extend_from_slice(b" < ")?;
+            push_number(out, names, right)?;
+            out.extend_from_slice(b"). ")?;
+            push_typ(out, names, part.get())?;
+            return out.extend_from_slice(b"}");
+        }
+        _ => out.extend_from_slice(b"other(")?,
+    }
+    out.extend_from_slice(b")")
+}
+
+fn push_normal(out: &mut Vec<u8>, names: &[Text], normal: &Normal) -> Result<(), AllocError> {
+    match normal {
+        Normal::Number(number) => push_number(out, names, number),
+        Normal::Constraint(_) => out.extend_from_slice(b"constraint"),
+        Normal::Typ(typ) => push_typ(out, names, typ),
+    }
+}
+
+/// `{'k, 'k < 'n. T}`
+fn below(alloc: Global, part: Typ) -> Result<Typ, AllocError> {
+    let name = Text::new(alloc, "'k")?;
+    let less = Con::Compare(
+        Comparison::Less,
+        line(alloc, 1, 0, 0)?,
+        line(alloc, 1, 1, 0)?,
+    );
+    Ok(Typ::Exists(name, less, Boxed::new(alloc, part)?))
+}
+
+/// The right sides of named types with the parameters 'n, 'p (a Bool) and 'a, applied to a number, `true` and
+/// `range(0, 'm)`, where 'm is variable 0 of the place where they are applied.
+#[test]
+fn named_types_are_applied(rt: HostRuntime) -> Result<(), Fail> {
+    let alloc = rt.alloc();
+    let mut names = Items::new(alloc);
+    names.push(Text::new(alloc, "'0")?)?;
+    names.push(Text::new(alloc, "'1")?)?;
+    let zero = Num::constant(alloc, 0);
+    let types = one_of(alloc, Typ::Range(zero, line(alloc, 1, 0, 0)?))?;
+    let more = line(alloc, 1, 0, 1)?;
+    let large = line(alloc, 1 << 126, 0, 1 << 126)?;
+    let raised = power(alloc, line(alloc, 1, 0, 0)?)?;
+    let again = copy_normal(alloc, &Normal::Number(power(alloc, line(alloc, 1, 0, 0)?)?))?;
+    let argument = Typ::Variable(0);
+    let list = Typ::List(Boxed::new(alloc, Typ::Variable(0))?);
+    let width = Typ::Bits(line(alloc, 1, 0, -1)?);
+    let inner = below(alloc, Typ::Bits(line(alloc, 3, 1, 0)?))?;
+    let own = below(alloc, Typ::Variable(0))?;
+    let rows = [
+        (
+            line(alloc, 1, 0, 1)?,
+            Normal::Number(line(alloc, 8, 0, 0)?),
+            "8 * '0 + 8",
+        ),
+        (
+            line(alloc, 1, 0, 1)?,
+            Normal::Number(raised),
+            "2 ^ ('0 + 1)",
+        ),
+        (Num::constant(alloc, 200), again, "2 ^ (200)"),
+        (more, Normal::Number(large), "none"),
+        (line(alloc, 1, 0, 1)?, Normal::Typ(width), "bits('0)"),
+        (line(alloc, 1, 0, 1)?, Normal::Typ(argument), "range(0, '0)"),
+        (
+            line(alloc, 1, 0, 1)?,
+            Normal::Typ(list),
+            "list(range(0, '0))",
+        ),
+        (
+            line(alloc, 1, 0, 1)?,
+            Normal::Typ(Typ::Truth(Con::Holds(1))),
+            "bool(true)",
+        ),
+        (
+            line(alloc, 1, 0, 1)?,
+            Normal::Typ(inner),
+            "{('0 < '1 + 1). bits(3 * '1 + 3)}",
+        ),
+        (
+            Num::constant(alloc, 9),
+            Normal::Typ(own),
+            "{('0 < 9). range(0, '1)}",
+        ),
+    ];
+    for (number, right, text) in &rows {
+        let mut indices = one_of(alloc, Index::Number(sail_types::copy_num(alloc, number)?))?;
+        indices.push(Index::Truth(Con::Truth(true)))?;
+        let mut out = Vec::new(alloc);
+        match applied(alloc, indices.as_slice(), types.as_slice(), right)? {
+            None => out.extend_from_slice(b"none")?,
+            Some(made) => push_normal(&mut out, names.as_slice(), &made)?,
+        }
+        assert!(rt; out.as_slice() == text.as_bytes());
+    }
+    Ok(())
+}
+
+#[test]
+fn empty_ranges_and_negative_widths_are_found(rt: HostRuntime) -> Result<(), Fail> {
+    let alloc = rt.alloc();
+    let empty = Typ::Range(Num::constant(alloc, 3), Num::constant(alloc, 2));
+    let rows = [
+        (
+            Typ::Range(Num::constant(alloc, 2), Num::constant(alloc, 2)),
+            false,
+        ),
+        (
+            Typ::Range(line(alloc, 1, 0, 0)?, Num::constant(alloc, -1)),
+            false,
+        ),
+        (Typ::Bits(Num::constant(alloc, 0)), false),
+        (Typ::Bits(Num::constant(alloc, -1)), true),
+        (Typ::Bits(line(alloc, 1, 0, -1)?), false),
+        (below(alloc, Typ::List(Boxed::new(alloc, empty)?))?, true),
+    ];
+    for (typ, wanted) in &rows {
+        let copy = Normal::Typ(copy_typ(alloc, typ)?);
+        assert!(rt; is_void_normal(&copy) == *wanted);
+    }
+    Ok(())
+}
