@@ -77,7 +77,8 @@ module _ (nu : Assignment) (steady : IsSteady nu) (z : ℤ) where
       let k = map_parts I.Truth (moved_con 0 c) j h in
       ap (λ x. true_in (under z nu) (truth_or_false (Some x))) (sym k.2) ∙ inner_truth c k.0 k.1
 
-  numbers_at : (is js : List Index) (i : ℕ) → together (map (moved_index 0) is) ≡ Some js → number (under z nu) (number_at js i) ≡ number nu (number_at is i)
+  numbers_at : (is js : List Index) (i : ℕ) → together (map (moved_index 0) is) ≡ Some js
+      → number (under z nu) (number_at js i) ≡ number nu (number_at is i)
   numbers_at [] js i h = ap (λ xs. number (under z nu) (number_at xs i)) (sym (nothing_made js h)) ∙ no_number
   numbers_at (x ∷ is) js zero h =
       let k = more_parts (moved_index 0 x) (together (map (moved_index 0) is)) js h in
@@ -86,7 +87,8 @@ module _ (nu : Assignment) (steady : IsSteady nu) (z : ℤ) where
       let k = more_parts (moved_index 0 x) (together (map (moved_index 0) is)) js h in
       ap (λ xs. number (under z nu) (number_at xs (suc i))) (sym k.4) ∙ numbers_at is k.1 i k.3
 
-  truths_at : (is js : List Index) (i : ℕ) → together (map (moved_index 0) is) ≡ Some js → true_in (under z nu) (truth_at js i) ≡ true_in nu (truth_at is i)
+  truths_at : (is js : List Index) (i : ℕ) → together (map (moved_index 0) is) ≡ Some js
+      → true_in (under z nu) (truth_at js i) ≡ true_in nu (truth_at is i)
   truths_at [] js i h = ap (λ xs. true_in (under z nu) (truth_at xs i)) (sym (nothing_made js h)) ∙ no_truth
   truths_at (x ∷ is) js zero h =
       let k = more_parts (moved_index 0 x) (together (map (moved_index 0) is)) js h in

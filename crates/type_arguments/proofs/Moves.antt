@@ -61,7 +61,8 @@ module _ (depth : ℕ) (nu : Assignment) where
   abbrev SuchT : Type 0
   SuchT = (t : Term) × KeepsT t
 
-  power_kept : (t : Num) → KeepsN t → (b : Atom) → option_map A.Power (moved_num depth t) ≡ Some b → number_of_atom nu b ≡ number_of_atom mu (A.Power t)
+  power_kept : (t : Num) → KeepsN t → (b : Atom) → option_map A.Power (moved_num depth t) ≡ Some b
+      → number_of_atom nu b ≡ number_of_atom mu (A.Power t)
   power_kept t keeps b h =
       let k = map_parts A.Power (moved_num depth t) b h in
       ap (number_of_atom nu) (sym k.2) ∙ atom_power nu k.0
@@ -117,7 +118,8 @@ moved_form depth (C.Not c) = refl
 moved_form depth (C.All cs) = refl
 moved_form depth (C.Any cs) = refl
 
-variable_kept : (depth : ℕ) (nu : Assignment) (i : ℕ) (d : Con) → option_map V.Holds (moved depth i) ≡ Some d → true_in nu d ≡ (outside depth nu).bool i
+variable_kept : (depth : ℕ) (nu : Assignment) (i : ℕ) (d : Con) → option_map V.Holds (moved depth i) ≡ Some d
+    → true_in nu d ≡ (outside depth nu).bool i
 variable_kept depth nu i d h =
     let k = map_parts V.Holds (moved depth i) d h in
     ap (true_in nu) (sym k.2) ∙ true_holds nu k.0 ∙ ap nu.bool (moved_is depth i k.0 k.1)

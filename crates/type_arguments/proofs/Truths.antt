@@ -106,7 +106,8 @@ read_form is (C.Not c) = refl
 read_form is (C.All cs) = refl
 read_form is (C.Any cs) = refl
 
-read_atom : (is : List Index) (nu : Assignment) (y : Atom-F (Atom × ℤ) (Num × ℤ) (Term × ℤ)) → atom_number (before (number_at is) nu) y ≡ atom_number (assigned nu is) y
+read_atom : (is : List Index) (nu : Assignment) (y : Atom-F (Atom × ℤ) (Num × ℤ) (Term × ℤ))
+    → atom_number (before (number_at is) nu) y ≡ atom_number (assigned nu is) y
 read_atom is nu (N.Variable i) = refl
 read_atom is nu (N.Power t) = refl
 
