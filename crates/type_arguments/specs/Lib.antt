@@ -6,3 +6,5 @@ pub mod Applied
 pub mod Ranges
 -- what follows from the definitions
 pub mod laws
+-- what a text stands for, by its kind
+pub mod Taken
