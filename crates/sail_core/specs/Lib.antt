@@ -1,0 +1,11 @@
+pub mod Run
+pub mod Values
+pub mod Numbers
+pub mod Making
+pub mod Patterns
+pub mod Targets
+pub mod Meaning
+pub mod Program
+pub mod Start
+pub mod Nodes
+pub mod Fragments

@@ -1,0 +1,20 @@
+//! The core: the resolved trees of a model, and what they mean.
+//!
+//! What a part of a run comes to stands in `specs/Run`, what a node and a pattern mean in `specs/Meaning` and `specs/Patterns`, and
+//! what a model's calls, its start and its events come to in `specs/Program` and `specs/Start`.
+#![tactic(auto)]
+
+mod fragments;
+mod model;
+mod nodes;
+mod patterns;
+mod targets;
+mod tree;
+mod written;
+
+pub use fragments::{Fragment, core_in, model_in};
+pub use model::{Callable, CoreModel, MappingDirection, Opening, OpeningKind, RegisterText};
+pub use patterns::{Arm, Form, Head, Literal, Pattern, Step};
+pub use targets::{Caller, Suffix, Target, TargetKind, Way};
+pub use tree::{Callee, Core, Counting, Kind, Statement};
+pub use written::{Role, Written, WrittenNumber};
