@@ -19,8 +19,8 @@ use Rattle.sail_core.specs.declared.tree.Statement.TheVariants as S
 use Rattle.sail_core.specs.declared.tree.Kind.{Kind}
 use Rattle.sail_core.specs.declared.tree.Kind.TheVariants as K
 use Rattle.sail_core.specs.declared.tree.Core.{Core, fold-Core}
-use Rattle.sail_core.specs.declared.model.Callable.{Callable}
-use Rattle.sail_core.specs.declared.model.MappingDirection.{MappingDirection}
+use Rattle.sail_core.specs.declared.model.Function.{Function}
+use Rattle.sail_core.specs.declared.model.Direction.{Direction}
 use Rattle.sail_core.specs.declared.model.OpeningKind.{OpeningKind}
 use Rattle.sail_core.specs.declared.model.OpeningKind.TheVariants as O
 use Rattle.sail_core.specs.declared.model.Opening.{Opening}
@@ -91,10 +91,10 @@ abbrev pub measure_in : Fragment → Option Core → Bool
 measure_in fragment None = true
 measure_in fragment (Some measure) = core_in fragment measure
 
-abbrev pub callable_in : Fragment → Callable → Bool
-callable_in fragment f = measure_in fragment f.measure && core_in fragment f.body
+abbrev pub function_in : Fragment → Function → Bool
+function_in fragment f = measure_in fragment f.measure && core_in fragment f.body
 
-abbrev pub direction_in : Fragment → MappingDirection → Bool
+abbrev pub direction_in : Fragment → Direction → Bool
 direction_in fragment m = core_in fragment m.body
 
 abbrev pub opening_kind_in : Fragment → OpeningKind → Bool
@@ -107,4 +107,4 @@ opening_in fragment o = opening_kind_in fragment o.kind && core_in fragment o.va
 -- whether a model is of the fragment, in all its definitions
 abbrev pub model_in : Fragment → CoreModel → Bool
 model_in fragment m =
-    list_all (callable_in fragment) m.functions && (list_all (direction_in fragment) m.directions && list_all (opening_in fragment) m.openings)
+    list_all (function_in fragment) m.functions && (list_all (direction_in fragment) m.directions && list_all (opening_in fragment) m.openings)

@@ -9,3 +9,4 @@ pub mod Program
 pub mod Start
 pub mod Nodes
 pub mod Fragments
+pub mod Laws

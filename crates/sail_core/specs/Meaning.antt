@@ -1,8 +1,7 @@
 -- What a node of the core means: one case for each kind with its count of parts.
-use Rattle.std.specs.Prelude.{ℕ, zero, suc, nat_lt, ℤ, pos, ◌+ℤ◌, ◌-ℤ◌, int_le, Bool, List, [], ◌∷◌, ◌++◌, length, map, reverse}
+use Rattle.std.specs.Prelude.{ℕ, zero, suc, nat_lt, ℤ, pos, ◌+ℤ◌, ◌-ℤ◌, int_le, Bool, List, [], ◌∷◌, ◌++◌, map}
 use Rattle.std.specs.Prelude.{slice_get, Option, Some, None, if◌then◌else◌}
 use Rattle.sail_base.specs.declared.place.Place.{Place}
-use Rattle.sail_types.specs.Limits.{is_length}
 use Rattle.sail_types.specs.declared.types.Typ.{Typ}
 use Rattle.sail_types.specs.declared.types.Typ.TheVariants as T
 use Rattle.sail_types.specs.declared.values.Value.{Value}
@@ -19,8 +18,9 @@ use Rattle.sail_core.specs.declared.tree.Statement.TheVariants as S
 use Rattle.sail_core.specs.declared.tree.Kind.{Kind}
 use Rattle.sail_core.specs.declared.tree.Kind.TheVariants as K
 use Rattle.sail_core.specs.declared.tree.Core.{Core, fold-Core}
-use Rattle.sail_core.specs.Run.{Now, Run, gives, falls, stuck, stops, returns, throws, needs, if_so, in_turn, tick, caught, or_so, within, local, held_in, ◌then◌}
-use Rattle.sail_core.specs.Values.{literal_typ, literal_value, int_typ, items_in, Into, field_way, item_way, slice_way, struct_of, with_fields}
+use Rattle.sail_core.specs.Run.{Now, Run, gives, falls, stuck, stops, returns, throws, needs, if_so, in_turn, tick, caught, or_so}
+use Rattle.sail_core.specs.Run.{within, local, held_in, ◌then◌}
+use Rattle.sail_core.specs.Values.{tuple_of, vector_of, list_of, cons_of, with_of, literal_typ, literal_value, int_typ, Into, field_way, item_way, slice_way, struct_of}
 use Rattle.sail_core.specs.Numbers.{known, known_truth}
 use Rattle.sail_core.specs.Making.{Making, World, plainly, made, nothing, integer, truth, natural}
 use Rattle.sail_core.specs.Patterns.{arm_meaning}
@@ -143,9 +143,9 @@ put z k way x indexes y = needs (way.put_in (z.val x) (z.val y)) then λ v. made
 
 -- ---- the rest
 
--- at most 4,096 items
-abbrev pub vector_of : {X : Type 0} → Making X → ℕ → List X → Run X X
-vector_of z k xs = if is_length (length xs) then made z k xs (V.Vector (reverse (z.all xs))) else stuck
+-- a value that is made of those of the parts
+abbrev pub built : {X : Type 0} → Making X → ℕ → List (Run X X) → (List Value → Option Value) → Run X X
+built z k parts make = in_turn parts then λ xs. needs (make (z.all xs)) then made z k xs
 
 -- a truth, tested, as it is
 abbrev pub truly : {X : Type 0} → Making X → X → Run X X
@@ -169,12 +169,12 @@ kind_meaning z w place k (K.Call callee) args = in_turn args then called z w pla
 kind_meaning z w place k K.And (a ∷ b ∷ []) = a then λ x. truth z x then if_so (z.inside (b then truly z)) (gives x)
 kind_meaning z w place k K.Or (a ∷ b ∷ []) = a then λ x. truth z x then if_so (gives x) (z.inside (b then truly z))
 kind_meaning z w place k (K.Cast written) (a ∷ []) = a then λ x. made z k (x ∷ []) (z.val x)
-kind_meaning z w place k K.Tuple parts = in_turn parts then λ xs. made z k xs (V.Tuple (z.all xs))
-kind_meaning z w place k (K.Vector shape) parts = in_turn parts then vector_of z k
-kind_meaning z w place k (K.List shape) parts = in_turn parts then λ xs. made z k xs (V.List (z.all xs))
-kind_meaning z w place k (K.Cons shape) (a ∷ b ∷ []) = a then λ x. b then λ y. needs (items_in (z.val y)) then λ vs. made z k (x ∷ y ∷ []) (V.List (z.val x ∷ vs))
-kind_meaning z w place k (K.Struct struct fields) parts = in_turn parts then λ xs. needs (struct_of struct fields (z.all xs)) then λ v. made z k xs v
-kind_meaning z w place k (K.With struct fields) (a ∷ parts) = a then λ x. in_turn parts then λ xs. needs (with_fields struct fields (z.all xs) (z.val x)) then λ v. made z k (x ∷ xs) v
+kind_meaning z w place k K.Tuple parts = built z k parts tuple_of
+kind_meaning z w place k (K.Vector shape) parts = built z k parts vector_of
+kind_meaning z w place k (K.List shape) parts = built z k parts list_of
+kind_meaning z w place k (K.Cons shape) parts = built z k parts cons_of
+kind_meaning z w place k (K.Struct struct fields) parts = built z k parts (struct_of struct fields)
+kind_meaning z w place k (K.With struct fields) parts = built z k parts (with_of struct fields)
 kind_meaning z w place k (K.Part suffixes) (a ∷ indexes) = a then suffixes_of z suffixes indexes
 kind_meaning z w place k K.WithItem (a ∷ b ∷ c ∷ []) = a then λ x. b then λ y. integer z y then λ i. c then put z k (item_way i) x (y ∷ [])
 kind_meaning z w place k K.WithSlice (a ∷ b ∷ c ∷ d ∷ []) =

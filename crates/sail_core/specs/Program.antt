@@ -5,8 +5,8 @@ use Rattle.sail_types.specs.declared.values.Value.{Value}
 use Rattle.sail_types.specs.declared.values.Value.TheVariants as V
 use Rattle.model_state.specs.declared.cause.Cause.TheVariants.{MatchFailure, Measure, WorkLimit}
 use Rattle.sail_core.specs.declared.tree.Core.{Core}
-use Rattle.sail_core.specs.declared.model.Callable.{Callable}
-use Rattle.sail_core.specs.declared.model.MappingDirection.{MappingDirection}
+use Rattle.sail_core.specs.declared.model.Function.{Function}
+use Rattle.sail_core.specs.declared.model.Direction.{Direction}
 use Rattle.sail_core.specs.Run.{Run, gives, stuck, stops, needs, if_so, apart, returned, tick, ◌then◌, ◌or_else◌}
 use Rattle.sail_core.specs.Numbers.{Givens, Awaited, givens_of, as_awaited}
 use Rattle.sail_core.specs.Making.{Making, World, plainly, made, natural}
@@ -41,8 +41,8 @@ nearest cycle (m ∷ ms) = if nat_eq m.0 cycle then Some m.1 else nearest cycle 
 
 -- what a model is at work for: its functions and directions, how they are read, the hart, and the values of the top-level lets
 pub record Setting (X : Type 0) : Type 0 where
-  pub functions : List Callable
-  pub directions : List MappingDirection
+  pub functions : List Function
+  pub directions : List Direction
   pub sizing : Sizing X
   pub hart : ℕ
   pub lets : List Value
@@ -68,19 +68,19 @@ asking s calls active ways nu xs = record {
 
 -- ---- directions of mappings: no tick, no names from outside
 
-abbrev pub crossed : {X : Type 0} → Making X → World X → MappingDirection → Run X Value
+abbrev pub crossed : {X : Type 0} → Making X → World X → Direction → Run X Value
 crossed z w m = apart (meaning z w m.body then λ x. gives (z.val x))
 
-abbrev pub gone : {X : Type 0} → Setting X → (List X → World X) → ℕ → Value → Option MappingDirection → Run X Value
+abbrev pub gone : {X : Type 0} → Setting X → (List X → World X) → ℕ → Value → Option Direction → Run X Value
 gone s world d v None = stuck
 gone s world d v (Some m) = needs (s.sizing.takes d v) then λ x. crossed (s.sizing.direction d) (world (x ∷ [])) m
 
 -- what a direction gives, of the type of its side
-abbrev pub as_given : {X : Type 0} → Making X → Option MappingDirection → Value → Run X X
+abbrev pub as_given : {X : Type 0} → Making X → Option Direction → Value → Run X X
 as_given z None v = stuck
 as_given z (Some m) v = gives (z.fixed m.result v)
 
-abbrev pub direction_at : {X : Type 0} → Setting X → ℕ → Option MappingDirection
+abbrev pub direction_at : {X : Type 0} → Setting X → ℕ → Option Direction
 direction_at s d = slice_get s.directions d
 
 -- directions in patterns, by how many more may be inside one another
@@ -109,7 +109,7 @@ measured z w place (Some cycle) (Some measure) active =
 measured z w place cycle measure active = gives active
 
 -- the clauses in order, and the type of the result
-abbrev pub answered : {X : Type 0} → Making X → World X → Callable → Run X Value
+abbrev pub answered : {X : Type 0} → Making X → World X → Function → Run X Value
 answered z w f = (meaning z w f.body or_else stops (MatchFailure f.place)) then λ x. made z f.last (x ∷ []) (z.val x) then λ y. gives (z.val y)
 
 -- a body with its arguments alone in scope, which gives what it returns
@@ -117,15 +117,16 @@ abbrev pub framed : {X : Type 0} → Run X Value → Run X Value
 framed body now = returned (apart body now)
 
 -- the numbers that the arguments give, and then a piece with the function as it is read for them
-abbrev pub entering : {X : Type 0} → Setting X → ℕ → Callable → Awaited → List Value → (Making X → Givens → List X → Run X Value) → Run X Value
+abbrev pub entering : {X : Type 0} → Setting X → ℕ → Function → Awaited → List Value → (Making X → Givens → List X → Run X Value) → Run X Value
 entering s i f awaited vs piece =
     needs (givens_of (length f.variables) f.parameters vs) then λ nu. if_so
-    (needs (s.sizing.enters i nu vs) then λ xs. framed ((s.sizing.function i nu).note f.entry (V.Tuple vs) then λ t. piece (s.sizing.function i nu) nu xs))
+    (needs (s.sizing.enters i nu vs)
+    then λ xs. framed ((s.sizing.function i nu).note f.entry (V.Tuple vs) then λ t. piece (s.sizing.function i nu) nu xs))
     stuck
     (as_awaited awaited nu)
 
 -- a call: a tick, the numbers, the measure, the clauses
-abbrev pub entered : {X : Type 0} → Setting X → Calls X → Measures → Place → ℕ → Awaited → List Value → Option Callable → Run X Value
+abbrev pub entered : {X : Type 0} → Setting X → Calls X → Measures → Place → ℕ → Awaited → List Value → Option Function → Run X Value
 entered s calls active place i awaited vs None = stuck
 entered s calls active place i awaited vs (Some f) =
     tick then λ t. entering s i f awaited vs (λ z nu xs.
@@ -144,6 +145,6 @@ calls s zero = record { call = λ active place i awaited vs. stops WorkLimit; en
 calls s (suc depth) = deeper s (calls s depth)
 
 -- a function of the model that an event enters: no tick, no measure
-abbrev pub event_of : {X : Type 0} → Setting X → Calls X → ℕ → Awaited → List Value → Option Callable → Run X Value
+abbrev pub event_of : {X : Type 0} → Setting X → Calls X → ℕ → Awaited → List Value → Option Function → Run X Value
 event_of s calls i awaited vs None = stuck
 event_of s calls i awaited vs (Some f) = entering s i f awaited vs (λ z nu xs. answered z (world_of s calls [] nu xs) f)

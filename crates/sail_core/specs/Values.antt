@@ -1,6 +1,7 @@
 -- Literals, and the parts of values: how they are taken out and replaced (Sail language manual, "Bitvectors", "Vectors", "Structs").
 use Rattle.std.specs.Prelude.{ℕ, suc, ◌-◌, nat_eq, nat_lt, nat_le, ℤ, pos, negsuc, Bool, ◌&&◌, if◌then◌else◌}
-use Rattle.std.specs.Prelude.{List, [], ◌∷◌, ◌++◌, length, take, drop, map, slice_get, slice_set, Option, Some, None, option_map}
+use Rattle.std.specs.Prelude.{List, [], ◌∷◌, ◌++◌, length, take, drop, map, reverse, slice_get, slice_set, Option, Some, None, option_map}
+use Rattle.sail_types.specs.Limits.{is_length}
 use Rattle.sail_types.specs.Sums.{and_then, constant}
 use Rattle.sail_types.specs.declared.values.Value.{Value, Value-F, out-Value}
 use Rattle.sail_types.specs.declared.values.Value.TheOpen as W
@@ -154,6 +155,27 @@ abbrev pub with_fields : ℕ → List ℕ → List Value → Value → Option Va
 with_fields struct [] [] old = Some old
 with_fields struct (i ∷ is) (v ∷ vs) old = and_then (with_field struct i (out-Value old) v) (with_fields struct is vs)
 with_fields struct is vs old = None
+
+-- ---- values made of others
+
+abbrev pub tuple_of : List Value → Option Value
+tuple_of vs = Some (V.Tuple vs)
+
+-- at most 4,096 items
+abbrev pub vector_of : List Value → Option Value
+vector_of vs = if is_length (length vs) then Some (V.Vector (reverse vs)) else None
+
+abbrev pub list_of : List Value → Option Value
+list_of vs = Some (V.List vs)
+
+abbrev pub cons_of : List Value → Option Value
+cons_of (v ∷ w ∷ []) = option_map (λ vs. V.List (v ∷ vs)) (items_in w)
+cons_of vs = None
+
+-- a struct, and the values of these of its fields
+abbrev pub with_of : ℕ → List ℕ → List Value → Option Value
+with_of struct is (v ∷ vs) = with_fields struct is vs v
+with_of struct is [] = None
 
 -- a struct of these fields, whatever their order
 abbrev pub struct_of : ℕ → List ℕ → List Value → Option Value

@@ -3,7 +3,7 @@ ghost use Rattle.std.specs.Prelude.{◌≡◌, map};
 ghost use Rattle.std.specs.List.{list_all};
 ghost use Rattle.sail_core.specs.Fragments as in_it;
 
-use crate::model::{Callable, CoreModel, MappingDirection, Opening, OpeningKind};
+use crate::model::{CoreModel, Direction, Function, Opening, OpeningKind};
 use crate::patterns::{Arm, Form, Pattern};
 use crate::targets::{Caller, Target, TargetKind};
 use crate::tree::{Callee, Core, Kind, Statement};
@@ -184,21 +184,21 @@ fn cores_in(fragment: Fragment, cores: &[Core]) -> bool
     true
 }
 
-fn callable_in(fragment: Fragment, callable: &Callable) -> bool
-    ensures { result ≡ in_it.callable_in fragment callable.now }
+fn function_in(fragment: Fragment, function: &Function) -> bool
+    ensures { result ≡ in_it.function_in fragment function.now }
 {
-    let measure_in = match &callable.measure {
+    let measure_in = match &function.measure {
         None => true,
         Some(measure) => core_in(fragment, measure),
     };
     if measure_in {
-        core_in(fragment, &callable.body)
+        core_in(fragment, &function.body)
     } else {
         false
     }
 }
 
-fn direction_in(fragment: Fragment, direction: &MappingDirection) -> bool
+fn direction_in(fragment: Fragment, direction: &Direction) -> bool
     ensures { result ≡ in_it.direction_in fragment direction.now }
 {
     core_in(fragment, &direction.body)
@@ -218,15 +218,15 @@ fn opening_in(fragment: Fragment, opening: &Opening) -> bool
     }
 }
 
-fn callables_in(fragment: Fragment, callables: &[Callable]) -> bool
-    ensures { result ≡ list_all (in_it.callable_in fragment) callables.now }
+fn functions_in(fragment: Fragment, functions: &[Function]) -> bool
+    ensures { result ≡ list_all (in_it.function_in fragment) functions.now }
 {
-    callables
+    functions
         .iter()
-        .all(|callable| callable_in(fragment, callable))
+        .all(|function| function_in(fragment, function))
 }
 
-fn directions_in(fragment: Fragment, directions: &[MappingDirection]) -> bool
+fn directions_in(fragment: Fragment, directions: &[Direction]) -> bool
     ensures { result ≡ list_all (in_it.direction_in fragment) directions.now }
 {
     directions
@@ -244,7 +244,7 @@ fn openings_in(fragment: Fragment, openings: &[Opening]) -> bool
 pub fn model_in(fragment: Fragment, model: &CoreModel) -> bool
     ensures { result ≡ in_it.model_in fragment model.now }
 {
-    if !callables_in(fragment, model.functions.as_slice()) {
+    if !functions_in(fragment, model.functions.as_slice()) {
         return false;
     }
     if !directions_in(fragment, model.directions.as_slice()) {

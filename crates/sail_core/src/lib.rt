@@ -5,6 +5,7 @@
 #![tactic(auto)]
 
 mod fragments;
+mod laws;
 mod model;
 mod nodes;
 mod patterns;
@@ -13,7 +14,8 @@ mod tree;
 mod written;
 
 pub use fragments::{Fragment, core_in, model_in};
-pub use model::{Callable, CoreModel, MappingDirection, Opening, OpeningKind, RegisterText};
+pub use laws::{blocks_are_nests, numbers_dont_matter};
+pub use model::{CoreModel, Direction, Function, Opening, OpeningKind, RegisterText};
 pub use patterns::{Arm, Form, Head, Literal, Pattern, Step};
 pub use targets::{Caller, Suffix, Target, TargetKind, Way};
 pub use tree::{Callee, Core, Counting, Kind, Statement};

@@ -8,7 +8,7 @@ use sail_types::{Con, Parameter, Typ, Types};
 
 /// A function of the model.
 #[derive(Drop)]
-pub struct Callable {
+pub struct Function {
     /// The word that opens it.
     pub place: Place,
     /// Its name.
@@ -40,7 +40,7 @@ pub struct Callable {
 
 /// A direction of a mapping: forwards, from its left side to its right one, or backwards.
 #[derive(Drop)]
-pub struct MappingDirection {
+pub struct Direction {
     /// The mapping's first word.
     pub place: Place,
     /// The mapping's name.
@@ -102,9 +102,9 @@ pub struct CoreModel {
     /// How each is written.
     pub register_texts: Items<RegisterText>,
     /// The functions, in the order of the text.
-    pub functions: Items<Callable>,
+    pub functions: Items<Function>,
     /// The directions of mappings, in the order of the text, forwards before backwards.
-    pub directions: Items<MappingDirection>,
+    pub directions: Items<Direction>,
     /// The top-level lets and initial values, in the order of the text.
     pub openings: Items<Opening>,
     /// The function `reset`.
