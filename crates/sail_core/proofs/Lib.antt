@@ -1,2 +1,8 @@
 mod Numbering
 mod Nests
+mod Growth
+mod SteadyParts
+mod SteadyRows
+mod SteadyTargets
+mod SteadyKinds
+mod SteadyModels

@@ -10,3 +10,4 @@ pub mod Start
 pub mod Nodes
 pub mod Fragments
 pub mod Laws
+pub mod Steady

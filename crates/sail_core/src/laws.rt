@@ -1,5 +1,6 @@
 //! Laws of the meaning: each function's contract is one, and it does nothing.
 ghost use Rattle.sail_core.specs.Laws.{NumbersDontMatter, BlocksAreNests, BlocksDeclare};
+ghost use Rattle.sail_core.specs.Steady.{NodesAreSteady, ModelsKeep};
 
 /// The numbers of nodes are for other readings: whatever they are, a core means the same.
 pub fn numbers_dont_matter()
@@ -11,4 +12,15 @@ pub fn numbers_dont_matter()
 pub fn blocks_are_nests()
     ensures lets { BlocksAreNests }
     ensures vars { BlocksDeclare }
+{}
+
+/// However a node ends, in a world whose calls do so too, no tick came back, accesses and the console's bytes were only added to,
+/// the names in scope and the machine's registers, harts and RAM are those of before, and no stop is the schedule's end.
+pub fn nodes_are_steady()
+    ensures { NodesAreSteady }
+{}
+
+/// So do the start of each model and its events, which is what is wanted of what takes the steps of harts.
+pub fn models_keep()
+    ensures { ModelsKeep }
 {}
