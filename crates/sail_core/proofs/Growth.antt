@@ -1,10 +1,10 @@
 -- Pieces that end later, and how they are put one behind the other.
-use Rattle.std.proofs.Common.{◌≡◌, ℕ, zero, suc, ◌≤◌, Bool, true, false, List, [], ◌∷◌, ◌++◌, length, map, drop, Option, Some, None}
-use Rattle.std.proofs.Common.{if◌then◌else◌, refl, sym, ap, subst, ◌∙◌, arith, append_assoc, append-nil}
+use Rattle.std.proofs.Common.{◌≡◌, ℕ, zero, suc, ◌≤◌, Bool, true, false, List, [], ◌∷◌, ◌++◌, length, drop, Option, Some, None}
+use Rattle.std.proofs.Common.{if◌then◌else◌, refl, sym, ap, ◌∙◌, arith, append_assoc, append-nil}
 use Rattle.std.specs.Str.{bytes_eq}
 use Rattle.sail_types.specs.declared.values.Value.{Value}
 use Rattle.model_state.specs.declared.cause.Cause.{Cause}
-use Rattle.model_state.specs.RunState.{RunState, Access}
+use Rattle.model_state.specs.RunState.{RunState}
 use Rattle.model_state.specs.Folds.{Keeps}
 use Rattle.sail_core.specs.Run as R
 use Rattle.sail_core.specs.Run.{Local, Now, Ended, Run, goes_on, or_so, caught, leaving, within, apart, tick, tick_at, needs, if_so, in_turn, stops}
@@ -129,7 +129,6 @@ leaves now start change k (R.Throws v after) h = k after h
 leaves now start change k (R.Stops cause after) h = (k after h.0, h.1)
 leaves now start change k R.Stuck h = tt
 
-
 drop_names : (new old after : List (Local Value)) → names_of after ≡ names_of (new ++ old) → names_of (drop (length new) after) ≡ names_of old
 drop_names [] old after h = h
 drop_names (n ∷ new) old [] h = cc h
@@ -186,7 +185,8 @@ abbrev pub SameNames : List (Local Value) → Option (List (Local Value)) → Ty
 SameNames old None = Unit {0}
 SameNames old (Some new) = names_of new ≡ names_of old
 
-kept_names : (first : Local Value) (others : List (Local Value)) (o : Option (List (Local Value))) → SameNames others o → SameNames (first ∷ others) (kept first o)
+kept_names : (first : Local Value) (others : List (Local Value)) (o : Option (List (Local Value))) → SameNames others o → SameNames (first ∷ others)
+    (kept first o)
 kept_names first others None h = tt
 kept_names first others (Some new) h = λ i. first.name ∷ h i
 

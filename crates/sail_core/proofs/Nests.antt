@@ -1,14 +1,11 @@
 -- A block means what the nest of its statements means.
-use Rattle.std.proofs.Common.{◌≡◌, ℕ, List, [], ◌∷◌, map, Option, refl, sym, ap, ◌∙◌}
+use Rattle.std.proofs.Common.{◌≡◌, ℕ, List, [], ◌∷◌, map, sym, ap, ◌∙◌}
 use Rattle.sail_base.specs.declared.place.Place.{Place}
 use Rattle.sail_types.specs.declared.values.Value.{Value}
-use Rattle.sail_core.specs.declared.patterns.Arm.{Arm}
-use Rattle.sail_core.specs.declared.tree.Statement.{Statement}
 use Rattle.sail_core.specs.declared.tree.Statement.TheVariants as S
 use Rattle.sail_core.specs.declared.tree.Kind.{Kind}
 use Rattle.sail_core.specs.declared.tree.Kind.TheVariants as K
 use Rattle.sail_core.specs.declared.tree.Core.{Core, fold-roll-Core}
-use Rattle.sail_core.specs.declared.written.Written.{Written}
 use Rattle.sail_core.specs.Run.{Run}
 use Rattle.sail_core.specs.Making.{World, plainly}
 use Rattle.sail_core.specs.Meaning.{kind_meaning, core_meaning}

@@ -1,5 +1,5 @@
 -- Calls, openings and events of a model are steady.
-use Rattle.std.proofs.Common.{◌≡◌, ℕ, zero, suc, nat_lt, Bool, true, false, List, [], ◌∷◌, ◌++◌, length, map, slice_get, Option, Some, None, pos}
+use Rattle.std.proofs.Common.{◌≡◌, ℕ, zero, suc, nat_lt, Bool, true, false, List, [], ◌∷◌, ◌++◌, length, slice_get, Option, Some, None, pos}
 use Rattle.std.proofs.Common.{if◌then◌else◌, refl, sym, ap, ◌∙◌, true≢false}
 use Rattle.sail_base.specs.Bits.{bits_of}
 use Rattle.sail_base.specs.declared.place.Place.{Place}
@@ -7,11 +7,10 @@ use Rattle.sail_types.specs.declared.table.Types.{Types}
 use Rattle.sail_types.specs.declared.values.Value.{Value}
 use Rattle.sail_types.specs.declared.values.Value.TheVariants as V
 use Rattle.model_state.specs.declared.cause.Cause.TheVariants.{MatchFailure, Measure, WorkLimit}
-use Rattle.model_state.specs.declared.cause.Cause.{Cause}
 use Rattle.model_state.specs.declared.cause.Cause.TheVariants as X
 use Rattle.model_state.specs.declared.cause.Ended.{Ended as EndOfRow}
 use Rattle.model_state.specs.declared.cause.Ended.TheVariants as E
-use Rattle.model_state.specs.RunState.{RunState, Ran, hart_with_register}
+use Rattle.model_state.specs.RunState.{RunState, hart_with_register}
 use Rattle.model_state.specs.Folds.{Keeps, IsNotDone}
 use Rattle.sail_core.specs.declared.tree.Core.{Core}
 use Rattle.sail_core.specs.declared.model.Function.{Function}
@@ -25,16 +24,18 @@ use Rattle.sail_core.specs.Run.{Now, Run, Ended, gives, stops, needs, if_so, apa
 use Rattle.sail_core.specs.Numbers.{Givens, Awaited, givens_of, as_awaited}
 use Rattle.sail_core.specs.Making.{World, Making, plainly, made, natural}
 use Rattle.sail_core.specs.Patterns.{arm_meaning}
-use Rattle.sail_core.specs.Meaning.{meaning, core_meaning}
-use Rattle.sail_core.specs.Program.{plain, Measures, Setting, Calls, Ways, asking, crossed, gone, as_given, direction_at, ways, world_of, nearest, below, measured}
-use Rattle.sail_core.specs.Program.{answered, framed, entering, entered, deeper, calls, event_of}
-use Rattle.sail_core.specs.Start.{begun, ran_of, Opened, opened, opened_to, opened_not, set_all, Added, opening_kind, opening_world, opening_run, after_opening}
-use Rattle.sail_core.specs.Start.{openings_from, openings_of, ran_from, event_ticks, setting_of, event_run, or_nothing, init_ran, reset_ran, step_ran, model_meaning, values_of}
-use Rattle.sail_core.specs.Steady.{Later, is_done, EndsLater, Steady, SteadyWorld, Keeping, ModelsKeep}
-use Rattle.sail_core.proofs.Growth.{keeps_all, keeps_both, at_once, then_steady, or_steady, apart_steady, gives_steady, needs_steady, stops_steady, if_steady, tick_steady}
+use Rattle.sail_core.specs.Meaning.{core_meaning}
+use Rattle.sail_core.specs.Program.{plain, Measures, Setting, Calls, Ways, asking, crossed, gone, as_given, direction_at, ways, world_of, nearest, below}
+use Rattle.sail_core.specs.Program.{measured}
+use Rattle.sail_core.specs.Program.{answered, framed, entering, entered, calls, event_of}
+use Rattle.sail_core.specs.Start.{begun, ran_of, Opened, opened, opened_to, opened_not, Added, opening_kind, opening_world, opening_run, after_opening}
+use Rattle.sail_core.specs.Start.{openings_from, openings_of, ran_from, event_ticks, setting_of, event_run, or_nothing}
+use Rattle.sail_core.specs.Steady.{is_done, EndsLater, Steady, SteadyWorld, Keeping, ModelsKeep}
+use Rattle.sail_core.proofs.Growth.{keeps_all, keeps_both, at_once, then_steady, or_steady, apart_steady, gives_steady, needs_steady, stops_steady, if_steady}
+use Rattle.sail_core.proofs.Growth.{tick_steady}
 use Rattle.sail_core.proofs.SteadyParts.{arm_steady}
 use Rattle.sail_core.proofs.SteadyRows.{all_keep}
-use Rattle.sail_core.proofs.SteadyTargets.{made_steady, integer_steady, plain_with}
+use Rattle.sail_core.proofs.SteadyTargets.{made_steady, plain_with}
 use Rattle.sail_core.proofs.Growth.{SteadyWith, Given, then_with}
 use Rattle.sail_core.proofs.SteadyKinds.{natural_steady, core_steady}
 
@@ -58,9 +59,11 @@ module _ (fs : List Function) (ds : List Direction) (hart : ℕ) (lets : List Va
   world_steady c h active ws hw nu xs = record { call = h.call active; enter = h.enter active; way = hw }
 
   crossed_steady : (w : World Value) → SteadyWorld w → (m : Direction) → Steady (crossed plainly w m)
-  crossed_steady w h m = apart_steady (core_meaning w m.body then λ x. gives x) (then_steady (core_meaning w m.body) (λ x. gives x) (core_steady w h m.body) (λ x. gives_steady x))
+  crossed_steady w h m = apart_steady (core_meaning w m.body then λ x. gives x) (then_steady (core_meaning w m.body) (λ x. gives x) (core_steady w h m.body)
+      (λ x. gives_steady x))
 
-  gone_steady : (world : List Value → World Value) → ((xs : List Value) → SteadyWorld (world xs)) → (d : ℕ) (v : Value) (o : Option Direction) → Steady (gone s world d v o)
+  gone_steady : (world : List Value → World Value) → ((xs : List Value) → SteadyWorld (world xs)) → (d : ℕ) (v : Value) (o : Option Direction) → Steady
+      (gone s world d v o)
   gone_steady world h d v None = λ now. tt
   gone_steady world h d v (Some m) = crossed_steady (world (v ∷ [])) (h (v ∷ [])) m
 
@@ -72,7 +75,8 @@ module _ (fs : List Function) (ds : List Direction) (hart : ℕ) (lets : List Va
   ways_steady c h active zero d x = λ now. tt
   ways_steady c h active (suc rank) d x =
       then_steady (gone s (asking s c active (ways s c active rank) []) d x (direction_at s d)) (as_given plainly (direction_at s d))
-      (gone_steady (asking s c active (ways s c active rank) []) (world_steady c h active (ways s c active rank) (ways_steady c h active rank) []) d x (direction_at s d))
+      (gone_steady (asking s c active (ways s c active rank) []) (world_steady c h active (ways s c active rank) (ways_steady c h active rank) []) d x
+      (direction_at s d))
       (given_steady (direction_at s d))
 
   worlds : (c : Calls Value) → SteadyCalls c → (active : Measures) (nu : Givens) (xs : List Value) → SteadyWorld (world_of s c active nu xs)
@@ -88,14 +92,16 @@ module _ (fs : List Function) (ds : List Direction) (hart : ℕ) (lets : List Va
   below_steady p cycle active None n = λ now. at_once now
   below_steady p cycle active (Some last) n = below_if (nat_lt n last) p ((cycle, n) ∷ active)
 
-  measured_steady : (w : World Value) → SteadyWorld w → (p : Place) (cycle : Option ℕ) (measure : Option Core) (active : Measures) → Steady (measured plainly w p cycle measure active)
+  measured_steady : (w : World Value) → SteadyWorld w → (p : Place) (cycle : Option ℕ) (measure : Option Core) (active : Measures) → Steady
+      (measured plainly w p cycle measure active)
   measured_steady w h p None None active = λ now. at_once now
   measured_steady w h p None (Some m) active = λ now. at_once now
   measured_steady w h p (Some cycle) None active = λ now. at_once now
   measured_steady w h p (Some cycle) (Some m) active =
       then_steady (core_meaning w m or_else stops (MatchFailure p)) (λ x. natural plainly x then below p cycle active (nearest cycle active))
       (or_steady (core_meaning w m) (stops (MatchFailure p)) (core_steady w h m) (stops_steady Value (MatchFailure p) refl))
-      (λ x. then_steady (natural plainly x) (below p cycle active (nearest cycle active)) (natural_steady x) (below_steady p cycle active (nearest cycle active)))
+      (λ x. then_steady (natural plainly x) (below p cycle active (nearest cycle active)) (natural_steady x) (below_steady p cycle active
+      (nearest cycle active)))
 
   answered_steady : (w : World Value) → SteadyWorld w → (f : Function) → Steady (answered plainly w f)
   answered_steady w h f =
@@ -128,8 +134,10 @@ module _ (fs : List Function) (ds : List Direction) (hart : ℕ) (lets : List Va
       → Steady (entered s c active p i awaited vs o)
   entered_steady c h active p i awaited vs None = λ now. tt
   entered_steady c h active p i awaited vs (Some f) =
-      then_steady tick (λ t. entering s i f awaited vs (piece_of c active p f)) tick_steady (λ t. entering_steady i f awaited vs (piece_of c active p f) (λ nu.
-      then_steady (measured plainly (world_of s c active nu vs) p f.cycle f.measure active) (λ then_active. answered plainly (world_of s c then_active nu vs) f)
+      then_steady tick (λ t. entering s i f awaited vs (piece_of c active p f)) tick_steady (λ t. entering_steady i f awaited vs (piece_of c active p f)
+      (λ nu.
+      then_steady (measured plainly (world_of s c active nu vs) p f.cycle f.measure active) (λ then_active. answered plainly
+      (world_of s c then_active nu vs) f)
       (measured_steady (world_of s c active nu vs) (worlds c h active nu vs) p f.cycle f.measure active)
       (λ then_active. answered_steady (world_of s c then_active nu vs) (worlds c h then_active nu vs) f)))
 
@@ -143,7 +151,8 @@ module _ (fs : List Function) (ds : List Direction) (hart : ℕ) (lets : List Va
   event_steady : (depth i : ℕ) (awaited : Awaited) (vs : List Value) (o : Option Function) → Steady (event_of s (calls s depth) i awaited vs o)
   event_steady depth i awaited vs None = λ now. tt
   event_steady depth i awaited vs (Some f) =
-      entering_steady i f awaited vs (λ z nu xs. answered z (world_of s (calls s depth) [] nu xs) f) (λ nu. answered_steady (world_of s (calls s depth) [] nu vs) (worlds (calls s depth) (calls_steady depth) [] nu vs) f)
+      entering_steady i f awaited vs (λ z nu xs. answered z (world_of s (calls s depth) [] nu xs) f) (λ nu. answered_steady (world_of s
+      (calls s depth) [] nu vs) (worlds (calls s depth) (calls_steady depth) [] nu vs) f)
 
 -- ---- ends
 
@@ -193,7 +202,8 @@ kind_with : (w : World Value) → SteadyWorld w → (p : Place) (kind : OpeningK
 kind_with w h p (O.Let arm) x =
     then_with KeepsChange (arm_meaning plainly w arm (x ∷ []) or_else stops (MatchFailure p)) _
     (plain_with (arm_meaning plainly w arm (x ∷ []) or_else stops (MatchFailure p))
-    (or_steady (arm_meaning plainly w arm (x ∷ [])) (stops (MatchFailure p)) (arm_steady w h arm (x ∷ [])) (stops_steady (List (R.Local Value)) (MatchFailure p) refl)))
+    (or_steady (arm_meaning plainly w arm (x ∷ [])) (stops (MatchFailure p)) (arm_steady w h arm (x ∷ [])) (stops_steady (List (R.Local Value))
+    (MatchFailure p) refl)))
     (λ found t now. (at_once now, λ state. keeps_all state))
 kind_with w h p (O.Register r) x = λ now. (at_once now, λ state. all_keep (hart_with_register r x) state)
 
@@ -226,7 +236,7 @@ opened_keeping opened_not state h = keeping_nothing state
 
 pub models_keep : ModelsKeep
 models_keep m state = (
-    opened_keeping (openings_of plain m state) state (openings_keep 0 m.openings [] state),
-    λ hart entry. event_keeps m event_ticks hart m.reset (V.Integer (pos hart) ∷ V.Bits (bits_of 64 entry) ∷ []) state,
-    λ hart. event_keeps m event_ticks hart m.step (V.Unit ∷ []) state,
-  )
+  opened_keeping (openings_of plain m state) state (openings_keep 0 m.openings [] state),
+  λ hart entry. event_keeps m event_ticks hart m.reset (V.Integer (pos hart) ∷ V.Bits (bits_of 64 entry) ∷ []) state,
+  λ hart. event_keeps m event_ticks hart m.step (V.Unit ∷ []) state,
+)

@@ -1,16 +1,7 @@
 -- Patterns, targets and calls are steady.
-use Rattle.std.proofs.Common.{◌≡◌, ℕ, zero, suc, ◌≤◌, Bool, true, false, List, [], ◌∷◌, ◌++◌, length, map, take, drop, nat_eq, Option, Some, None, ℤ}
-use Rattle.std.proofs.Common.{if◌then◌else◌, refl, sym, ap, subst, ◌∙◌, arith, append-nil}
-use Rattle.sail_base.specs.declared.place.Place.{Place}
-use Rattle.sail_types.specs.declared.rows.Row.{Row}
-use Rattle.sail_types.specs.declared.values.Value.{Value, Value-F, out-Value}
-use Rattle.sail_types.specs.declared.values.Value.TheOpen as W
-use Rattle.sail_types.specs.declared.values.Value.TheVariants as V
-use Rattle.mem_store.specs.Bytes.{is_mapped, word_bytes, overwritten}
-use Rattle.model_state.specs.declared.cause.Cause.TheVariants.{MatchFailure}
-use Rattle.model_state.specs.declared.state.Hart.{Hart}
-use Rattle.model_state.specs.RunState.{RunState, Ran, changed, hart_with_register, with_register}
-use Rattle.model_state.specs.Folds.{Keeps}
+use Rattle.std.proofs.Common.{ℕ, Bool, true, false, List, [], ◌∷◌, ◌++◌, length, map, nat_eq}
+use Rattle.std.proofs.Common.{if◌then◌else◌, sym, subst}
+use Rattle.sail_types.specs.declared.values.Value.{Value}
 use Rattle.sail_core.specs.declared.patterns.Head.{Head}
 use Rattle.sail_core.specs.declared.patterns.Form.{Form}
 use Rattle.sail_core.specs.declared.patterns.Form.TheVariants as F
@@ -21,11 +12,10 @@ use Rattle.sail_core.specs.declared.patterns.Arm.{Arm}
 use Rattle.sail_core.specs.declared.patterns.Arm.TheVariants as A
 use Rattle.sail_core.specs.Run as R
 use Rattle.sail_core.specs.Run.{Local, Now, Run, gives, needs, ◌then◌}
-use Rattle.sail_core.specs.Numbers.{Givens}
-use Rattle.sail_core.specs.Making.{World, plainly, made}
+use Rattle.sail_core.specs.Making.{World, plainly}
 use Rattle.sail_core.specs.Patterns.{Seen, Parts, Other, Wrong, as_run, looked, parts_of, Matcher, named, parts_match, pattern_meaning, matcher}
-use Rattle.sail_core.specs.Patterns.{Hand, with_values, with_name, value_of, step_meaning, steps_meaning, found_in, counted, arm_meaning}
-use Rattle.sail_core.specs.Steady.{Later, EndsLater, Steady, SteadyWorld}
+use Rattle.sail_core.specs.Patterns.{Hand, with_values, with_name, value_of, step_meaning, steps_meaning, found_in, arm_meaning}
+use Rattle.sail_core.specs.Steady.{Steady, SteadyWorld}
 use Rattle.sail_core.proofs.Growth.{at_once, then_steady, gives_steady, needs_steady}
 
 -- ---- patterns
@@ -51,14 +41,18 @@ match_steady [] h (x ∷ xs) = λ now. tt
 match_steady (p ∷ ps) h [] = λ now. tt
 match_steady (p ∷ ps) h (x ∷ xs) =
     then_steady (p x) (λ found. parts_match ps xs then λ others. gives (found ++ others)) (h.0 x)
-    (λ found. then_steady (parts_match ps xs) (λ others. gives (found ++ others)) (match_steady ps h.1 xs) (λ others. gives_steady {A = List (Local Value)} (found ++ others)))
+    (λ found. then_steady (parts_match ps xs) (λ others. gives (found ++ others)) (match_steady ps h.1 xs) (λ others. gives_steady {A = List (Local Value)}
+    (found ++ others)))
 
-pub form_steady : (w : World Value) → SteadyWorld w → (form : Form) (ps : List (Matcher Value)) → AllMatchers ps → SteadyMatcher (pattern_meaning plainly w form ps)
+pub form_steady : (w : World Value) → SteadyWorld w → (form : Form) (ps : List (Matcher Value)) → AllMatchers ps → SteadyMatcher
+    (pattern_meaning plainly w form ps)
 form_steady w s F.Any [] h x = gives_steady {A = List (Local Value)} []
 form_steady w s (F.Binds name) [] h x = gives_steady (named name x)
-form_steady w s (F.As name) (p ∷ []) h x = then_steady (p x) (λ found. gives (found ++ named name x)) (h.0 x) (λ found. gives_steady {A = List (Local Value)} (found ++ named name x))
+form_steady w s (F.As name) (p ∷ []) h x = then_steady (p x) (λ found. gives (found ++ named name x)) (h.0 x) (λ found. gives_steady {A = List (Local Value)}
+    (found ++ named name x))
 form_steady w s (F.Typed written) (p ∷ []) h x = h.0 x
-form_steady w s (F.Opens head) ps h x = then_steady (parts_of plainly w head (length ps) x) (parts_match ps) (parts_steady w head (length ps) x) (match_steady ps h)
+form_steady w s (F.Opens head) ps h x = then_steady (parts_of plainly w head (length ps) x) (parts_match ps) (parts_steady w head (length ps) x)
+    (match_steady ps h)
 form_steady w s (F.Maps d) (p ∷ []) h x = then_steady (w.way d x) p (s.way d x) h.0
 form_steady w s (F.Sees d) (p ∷ []) h x = then_steady (w.way d x) p (s.way d x) h.0
 form_steady w s form ps h x = λ now. tt
@@ -75,7 +69,8 @@ module _ (w : World Value) (s : SteadyWorld w) where
   pub pattern_steady : (p : Pattern) → SteadyMatcher (matcher plainly w p)
   unfolding Such
   pattern_steady = ind-Pattern Such (λ p y is. subst (λ d. Such (roll-Pattern d)) is (
-      subst SteadyMatcher (sym (fold-roll-Pattern (Matcher Value) (λ p. pattern_meaning plainly w p.form p.parts) (map-Pattern ((p : Pattern) × Such p) Pattern (λ q. q.0) y)))
+      subst SteadyMatcher (sym (fold-roll-Pattern (Matcher Value) (λ p. pattern_meaning plainly w p.form p.parts) (map-Pattern
+      ((p : Pattern) × Such p) Pattern (λ q. q.0) y)))
       (form_steady w s y.form (map (matcher plainly w) (map (λ q. q.0) y.parts)) (such_parts y.parts))))
 
   patterns_steady : (ps : List Pattern) → AllMatchers (map (matcher plainly w) ps)
@@ -84,10 +79,12 @@ module _ (w : World Value) (s : SteadyWorld w) where
 
   hand_step : (st : Step) (hand : Hand Value) → Steady (step_meaning plainly w st hand)
   hand_step (S.Opens i head k) hand = then_steady (value_of hand i) (λ x. parts_of plainly w head k x then λ xs. gives (with_values hand xs)) (needs_steady _)
-      (λ x. then_steady (parts_of plainly w head k x) (λ xs. gives (with_values hand xs)) (parts_steady w head k x) (λ xs. gives_steady (with_values hand xs)))
+      (λ x. then_steady (parts_of plainly w head k x) (λ xs. gives (with_values hand xs)) (parts_steady w head k x) (λ xs. gives_steady
+      (with_values hand xs)))
   hand_step (S.Sees i d) hand = then_steady (value_of hand i) (λ x. w.way d x then λ y. gives (with_values hand (y ∷ []))) (needs_steady _)
       (λ x. then_steady (w.way d x) (λ y. gives (with_values hand (y ∷ []))) (s.way d x) (λ y. gives_steady (with_values hand (y ∷ []))))
-  hand_step (S.Names i name) hand = then_steady (value_of hand i) (λ x. gives (with_name hand name x)) (needs_steady _) (λ x. gives_steady (with_name hand name x))
+  hand_step (S.Names i name) hand = then_steady (value_of hand i) (λ x. gives (with_name hand name x)) (needs_steady _) (λ x. gives_steady
+      (with_name hand name x))
 
   hand_steps : (ss : List Step) (hand : Hand Value) → Steady (steps_meaning plainly w ss hand)
   hand_steps [] hand = gives_steady hand
@@ -98,6 +95,8 @@ module _ (w : World Value) (s : SteadyWorld w) where
   count_steady false r h = λ now. tt
 
   pub arm_steady : (arm : Arm) (xs : List Value) → Steady (arm_meaning plainly w arm xs)
-  arm_steady (A.Nested ps) xs = count_steady (nat_eq (length xs) (length ps)) (parts_match (map (matcher plainly w) ps) xs) (match_steady (map (matcher plainly w) ps) (patterns_steady ps) xs)
+  arm_steady (A.Nested ps) xs = count_steady (nat_eq (length xs) (length ps)) (parts_match (map (matcher plainly w) ps) xs) (match_steady (map
+      (matcher plainly w) ps) (patterns_steady ps) xs)
   arm_steady (A.Flat k ss) xs = count_steady (nat_eq (length xs) k) (steps_meaning plainly w ss (record { values = xs; found = [] }) then found_in)
-      (then_steady (steps_meaning plainly w ss (record { values = xs; found = [] })) found_in (hand_steps ss (record { values = xs; found = [] })) (λ hand. gives_steady hand.found))
+      (then_steady (steps_meaning plainly w ss (record { values = xs; found = [] })) found_in (hand_steps ss (record { values = xs; found = [] }))
+      (λ hand. gives_steady hand.found))

@@ -1,6 +1,6 @@
 -- Builtins, registers and variables are steady.
-use Rattle.std.proofs.Common.{◌≡◌, ℕ, zero, suc, ◌+◌, ◌-◌, ◌≤◌, nat_le, Bool, true, false, ◌&&◌, List, [], ◌∷◌, ◌++◌, length, map, slice_get, Option, Some, None}
-use Rattle.std.proofs.Common.{if◌then◌else◌, refl, sym, ap, ◌∙◌, arith, append-nil, option_map}
+use Rattle.std.proofs.Common.{◌≡◌, ℕ, zero, suc, ◌-◌, nat_le, Bool, true, false, List, [], ◌∷◌, ◌++◌, length, map, Option, Some, None}
+use Rattle.std.proofs.Common.{if◌then◌else◌, refl, sym, ap, arith, append-nil, option_map}
 use Rattle.std.proofs.lemmas.Bool.Decides.{nat_tests}
 use Rattle.std.proofs.lemmas.List.{length-map}
 use Rattle.sail_types.specs.declared.rows.Row.{Row}
@@ -13,19 +13,18 @@ use Rattle.model_state.specs.declared.cause.Ended.TheVariants as E
 use Rattle.model_state.specs.declared.cause.Cause.TheVariants.{BadAddress, ConsoleFull}
 use Rattle.model_state.specs.declared.state.Hart.{Hart}
 use Rattle.model_state.specs.declared.state.Reservation.{Reservation}
-use Rattle.model_state.specs.RunState.{RunState, Ran, changed, hart_with_register, with_register, register_value}
-use Rattle.model_state.specs.StateRows.{is_there, written, after_write, hart_with, with_reservation, reserve_state, write_state, write_cond_state, put_bytes, console_room}
-use Rattle.model_state.specs.StateRows.{Call, reading, reserving, writing, writing_cond, asking, putting, if_there, ended_by, state_after, access_of, then_accesses}
+use Rattle.model_state.specs.RunState.{RunState, changed, hart_with_register, with_register, register_value}
+use Rattle.model_state.specs.StateRows.{is_there, written, after_write, hart_with, with_reservation, put_bytes, console_room}
+use Rattle.model_state.specs.StateRows.{Call, reading, reserving, writing, writing_cond, asking, putting, ended_by, state_after, access_of, then_accesses}
 use Rattle.model_state.specs.StateRows.{may_write, call_of, call_ran, state_row}
 use Rattle.model_state.specs.Folds.{Keeps}
 use Rattle.row_types.specs.Calls.{has_state}
 use Rattle.builtins.specs.RowValues.{row}
-use Rattle.sail_core.specs.Run as R
-use Rattle.sail_core.specs.Run.{Local, Now, Run, needs, ended_as, after_row, row_run, changed_in, ◌then◌}
+use Rattle.sail_core.specs.Run.{Local, Now, needs, ended_as, after_row, row_run, changed_in, ◌then◌}
 use Rattle.sail_core.specs.Making.{World, plainly}
 use Rattle.sail_core.specs.Targets.{read_register, write_register, set_locals, set_variable}
 use Rattle.sail_core.specs.Steady.{Later, is_done, EndsLater, Steady}
-use Rattle.sail_core.proofs.Growth.{keeps_all, keeps_both, le_refl, at_once, then_steady, needs_steady, SameNames, changed_names}
+use Rattle.sail_core.proofs.Growth.{keeps_all, keeps_both, le_refl, then_steady, needs_steady, SameNames, changed_names}
 
 -- ---- the state
 
@@ -39,7 +38,8 @@ harts_keep : (state : RunState) (harts : List Hart) → length harts ≡ length 
 harts_keep state harts h = record { types = refl; registers = refl; harts = h; base = refl; size = refl; more = []; console = sym (append-nil state.console) }
 
 pub register_keeps : (hart r : ℕ) (v : Value) (state : RunState) → Keeps state (with_register hart r v state)
-register_keeps hart r v state = harts_keep state (changed (hart_with_register r v) hart state.harts) (length-changed (hart_with_register r v) hart state.harts)
+register_keeps hart r v state = harts_keep state (changed (hart_with_register r v) hart state.harts) (length-changed
+    (hart_with_register r v) hart state.harts)
 
 pub all_keep : (f : Hart → Hart) (state : RunState) → Keeps state (record state { harts = map f state.harts })
 all_keep f state = harts_keep state (map f state.harts) (length-map state.harts f)
@@ -80,7 +80,8 @@ call_keeps (reserving hart w a) state =
     (λ h. reserved_keeps hart (Some (record { place = a; width = w })) state)
 call_keeps (writing hart w a word) state = if_keeps state (is_there state w a) (written state w a word) (written_keeps state w a word)
 call_keeps (writing_cond hart w a word) state =
-    if_keeps state (is_there state w a) (with_reservation hart None (if may_write hart state w a then written state w a word else state)) (cond_keeps hart state w a word)
+    if_keeps state (is_there state w a) (with_reservation hart None (if may_write hart state w a then written state w a word else state))
+    (cond_keeps hart state w a word)
 call_keeps (asking hart w a) state = keeps_all state
 call_keeps (putting hart text) state =
     record { types = refl; registers = refl; harts = refl; base = refl; size = refl; more = put_bytes state text; console = refl }
@@ -112,8 +113,16 @@ ended_later now after (E.Stop cause) h k = (h, k)
 called_later : (now : Now Value) (o : Option Call) → EndsLater now (after_row (option_map (λ call. call_ran call now.state) o) now)
 called_later now None = tt
 called_later now (Some call) =
-    ended_later now (record now { state = state_after call now.state; accesses = now.accesses ++ then_accesses (access_of call now.state) [] }) (ended_by call now.state)
-    (record { ticks = le_refl now.ticks; state = call_keeps call now.state; more = then_accesses (access_of call now.state) []; accesses = refl; names = refl })
+    ended_later now (record now { state = state_after call now.state; accesses = now.accesses ++ then_accesses (access_of call now.state) [] })
+    (ended_by call now.state)
+    (record {
+      ticks = le_refl now.ticks;
+      state = call_keeps call now.state;
+      more = then_accesses (access_of call now.state) [];
+      accesses = refl;
+      names =
+          refl;
+    })
     (call_not_done call now.state)
 
 row_later : (b : Bool) (r : Row) (hart : ℕ) (vs : List Value) (now : Now Value)
@@ -132,11 +141,25 @@ read_steady w r now = needs_steady (register_value now.state w.hart r) now
 pub write_steady : (w : World Value) (r : ℕ) (v : Value) → Steady (write_register plainly w r v)
 write_steady w r v =
     then_steady (read_register w r) _ (read_steady w r)
-    (λ old now. record { ticks = le_refl now.ticks; state = register_keeps w.hart r v now.state; more = []; accesses = sym (append-nil now.accesses); names = refl })
+    (λ old now. record {
+      ticks = le_refl now.ticks;
+      state = register_keeps w.hart r v now.state;
+      more = [];
+      accesses = sym (append-nil now.accesses);
+      names =
+          refl;
+    })
 
 locals_later : (now : Now Value) (o : Option (List (Local Value))) → SameNames now.locals o → EndsLater now (set_locals plainly now o)
 locals_later now None h = tt
-locals_later now (Some locals) h = record { ticks = le_refl now.ticks; state = keeps_all now.state; more = []; accesses = sym (append-nil now.accesses); names = h }
+locals_later now (Some locals) h = record {
+  ticks = le_refl now.ticks;
+  state = keeps_all now.state;
+  more = [];
+  accesses = sym
+      (append-nil now.accesses);
+  names = h;
+}
 
 pub variable_steady : (name : List ℕ) (x : Value) → Steady (set_variable plainly name x)
 variable_steady name x now = locals_later now (changed_in name x now.locals) (changed_names name x now.locals)

@@ -1,5 +1,5 @@
 -- Calls and targets are steady.
-use Rattle.std.proofs.Common.{◌≡◌, ℕ, zero, suc, List, [], ◌∷◌, ◌++◌, map, take, drop, reverse, Option, Some, None, ℤ, refl, sym, ap, subst}
+use Rattle.std.proofs.Common.{ℕ, zero, suc, List, [], ◌∷◌, ◌++◌, map, take, drop, Option, Some, None, refl, sym, subst}
 use Rattle.sail_base.specs.declared.place.Place.{Place}
 use Rattle.sail_types.specs.declared.values.Value.{Value, Value-F, out-Value}
 use Rattle.sail_types.specs.declared.values.Value.TheOpen as W
@@ -19,11 +19,13 @@ use Rattle.sail_core.specs.Run.{Run, Ended, gives, stuck, stops, needs, in_turn,
 use Rattle.sail_core.specs.Values.{Into, field_way, item_way, slice_way, through, replaced, parts_in, payload_of, integer_in}
 use Rattle.sail_core.specs.Making.{World, plainly, made, integer}
 use Rattle.sail_core.specs.Patterns.{components}
-use Rattle.sail_core.specs.Targets.{payload_in, called, Spot, Spotted, Spotting, variable_read, variable_spot, register_read, register_spot, asked, call_spot, reads}
-use Rattle.sail_core.specs.Targets.{writes, tuple_spot, renewed, part_spot, read_register, write_register, set_variable, also, way_then, ways_of, spots_of, target_meaning}
+use Rattle.sail_core.specs.Targets.{payload_in, called, Spot, Spotted, Spotting, variable_read, variable_spot, register_read, register_spot, asked, call_spot}
+use Rattle.sail_core.specs.Targets.{reads}
+use Rattle.sail_core.specs.Targets.{writes, tuple_spot, renewed, part_spot, read_register, also, way_then, ways_of, spots_of, target_meaning}
 use Rattle.sail_core.specs.Targets.{spotting, assigned}
 use Rattle.sail_core.specs.Steady.{Steady, SteadyWorld}
-use Rattle.sail_core.proofs.Growth.{at_once, then_steady, then_with, found_then, or_steady, gives_steady, needs_steady, stops_steady, tick_steady, in_turn_steady}
+use Rattle.sail_core.proofs.Growth.{at_once, then_steady, then_with, found_then, or_steady, gives_steady, needs_steady, stops_steady, tick_steady}
+use Rattle.sail_core.proofs.Growth.{in_turn_steady}
 use Rattle.sail_core.proofs.Growth.{AllSteady, SteadyWith, Given}
 use Rattle.sail_core.proofs.SteadyRows.{row_steady, read_steady, write_steady, variable_steady}
 
@@ -68,7 +70,8 @@ AllSpots [] = Unit {0}
 AllSpots (s ∷ ss) = SteadySpot s × AllSpots ss
 
 pub variable_read_steady : (k : ℕ) (name : List ℕ) → Steady (variable_read plainly k name)
-variable_read_steady k name now = then_steady (needs (held_in name now.locals)) (λ x. made plainly k [] x) (needs_steady (held_in name now.locals)) (made_steady k []) now
+variable_read_steady k name now = then_steady (needs (held_in name now.locals)) (λ x. made plainly k [] x) (needs_steady (held_in name now.locals))
+    (made_steady k []) now
 
 pub register_read_steady : (w : World Value) (k r : ℕ) → Steady (register_read plainly w k r)
 register_read_steady w k r = then_steady (read_register w r) (λ v. made plainly k [] v) (read_steady w r) (made_steady k [])
@@ -103,8 +106,10 @@ writes_steady (s ∷ ss) h (x ∷ xs) = then_steady (s.write x) (λ y. writes pl
 
 tuple_spot_steady : (k : ℕ) (ss : List (Spot Value)) → AllSpots ss → SteadySpot (tuple_spot plainly k ss)
 tuple_spot_steady k ss h = record {
-  read = then_steady (in_turn (reads ss)) (λ xs. made plainly k xs (V.Tuple xs)) (in_turn_steady (reads ss) (reads_steady ss h)) (λ xs. made_steady k xs (V.Tuple xs));
-  write = λ x. then_steady (needs (parts_in x)) (λ vs. writes plainly ss (components plainly x 0 vs)) (needs_steady (parts_in x)) (λ vs. writes_steady ss h (components plainly x 0 vs));
+  read = then_steady (in_turn (reads ss)) (λ xs. made plainly k xs (V.Tuple xs)) (in_turn_steady (reads ss) (reads_steady ss h)) (λ xs. made_steady k xs
+      (V.Tuple xs));
+  write = λ x. then_steady (needs (parts_in x)) (λ vs. writes plainly ss (components plainly x 0 vs)) (needs_steady (parts_in x)) (λ vs. writes_steady ss h
+      (components plainly x 0 vs));
   renew = λ v now. tt;
 }
 
@@ -116,7 +121,7 @@ renewed_steady base h ways v =
 part_spot_steady : (k : ℕ) (base : Spot Value) → SteadySpot base → (ways : List Into) → SteadySpot (part_spot plainly k base ways)
 part_spot_steady k base h ways = record {
   read = then_steady base.read (λ old. needs (through ways old) then λ v. made plainly k [] v) h.read
-    (λ old. then_steady (needs (through ways old)) (λ v. made plainly k [] v) (needs_steady (through ways old)) (made_steady k []));
+      (λ old. then_steady (needs (through ways old)) (λ v. made plainly k [] v) (needs_steady (through ways old)) (made_steady k []));
   write = renewed_steady base h ways;
   renew = renewed_steady base h ways;
 }
@@ -159,7 +164,8 @@ plain_with r h now = (h now, given (r now))
 nothing_left : {A : Type 0} (P : A → Type 0) → SteadyWith {A = A} P stuck
 nothing_left P now = (tt, tt)
 
-way_steady : (way : Way) (parts : List (Run Value Value)) → AllSteady parts → (more : Spotting Value (List Into)) → SteadySpotting (AllSuch {A = Into} Anything) more
+way_steady : (way : Way) (parts : List (Run Value Value)) → AllSteady parts → (more : Spotting Value (List Into)) → SteadySpotting (AllSuch {A =
+    Into} Anything) more
     → SteadyWith (Left (AllSuch {A = Into} Anything)) (way_then plainly way parts more)
 way_steady (Y.Field struct i) parts hs more h = also_steady Anything (field_way struct i) tt (more parts) (h parts hs)
 way_steady Y.Item [] hs more h = nothing_left (Left (AllSuch {A = Into} Anything))
@@ -210,7 +216,8 @@ kind_steady w s p k (T.Variable name) [] h parts hs = spotted_steady SteadySpot 
 kind_steady w s p k (T.Register r) [] h parts hs = spotted_steady SteadySpot (register_spot plainly w k r) (register_spot_steady w k r) parts hs
 kind_steady w s p k (T.Call n reader writer) [] h parts hs =
     then_with (Left SteadySpot) (in_turn (take n parts)) _ (plain_with (in_turn (take n parts)) (in_turn_steady (take n parts) (take_steady n parts hs)))
-    (λ xs t. spotted_steady SteadySpot (call_spot plainly w p k reader writer xs) (call_spot_steady w s p k reader writer xs) (drop n parts) (drop_steady n parts hs))
+    (λ xs t. spotted_steady SteadySpot (call_spot plainly w p k reader writer xs) (call_spot_steady w s p k reader writer xs) (drop n parts)
+    (drop_steady n parts hs))
 kind_steady w s p k T.Tuple ts h parts hs =
     then_with (Left SteadySpot) (spots_of ts parts) _ (spots_steady ts h parts hs)
     (λ all ha. spotted_steady SteadySpot (tuple_spot plainly k all.found) (tuple_spot_steady k all.found (all_spots all.found ha.0)) all.left ha.1)
@@ -232,14 +239,16 @@ module _ (w : World Value) (s : SteadyWorld w) where
   target_steady : (t : Target) → SteadySpotting SteadySpot (spotting plainly w t)
   unfolding Such
   target_steady = ind-Target Such (λ t y is. subst (λ d. Such (roll-Target d)) is (
-      subst (SteadySpotting SteadySpot) (sym (fold-roll-Target (Spotting Value (Spot Value)) (λ t. target_meaning plainly w t.place t.number t.kind t.parts) (map-Target ((t : Target) × Such t) Target (λ q. q.0) y)))
+      subst (SteadySpotting SteadySpot) (sym (fold-roll-Target (Spotting Value (Spot Value)) (λ t. target_meaning plainly w t.place t.number t.kind t.parts)
+      (map-Target ((t : Target) × Such t) Target (λ q. q.0) y)))
       (kind_steady w s y.place y.number y.kind (map (spotting plainly w) (map (λ q. q.0) y.parts)) (such_parts y.parts))))
 
   pub targets_steady : (ts : List Target) → AllSpottings (map (spotting plainly w) ts)
   targets_steady [] = tt
   targets_steady (t ∷ ts) = (target_steady t, targets_steady ts)
 
-pub assigned_steady : (ts : List (Spotting Value (Spot Value))) → AllSpottings ts → (parts : List (Run Value Value)) → AllSteady parts → Steady (assigned ts parts)
+pub assigned_steady : (ts : List (Spotting Value (Spot Value))) → AllSpottings ts → (parts : List (Run Value Value)) → AllSteady parts → Steady
+    (assigned ts parts)
 assigned_steady [] h [] hs = λ now. tt
 assigned_steady [] h (a ∷ []) hs = hs.0
 assigned_steady [] h (a ∷ b ∷ parts) hs = λ now. tt

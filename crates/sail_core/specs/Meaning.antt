@@ -20,7 +20,8 @@ use Rattle.sail_core.specs.declared.tree.Kind.TheVariants as K
 use Rattle.sail_core.specs.declared.tree.Core.{Core, fold-Core}
 use Rattle.sail_core.specs.Run.{Now, Run, gives, falls, stuck, stops, returns, throws, needs, if_so, in_turn, tick, caught, or_so}
 use Rattle.sail_core.specs.Run.{within, local, held_in, ◌then◌}
-use Rattle.sail_core.specs.Values.{tuple_of, vector_of, list_of, cons_of, with_of, literal_typ, literal_value, int_typ, Into, field_way, item_way, slice_way, struct_of}
+use Rattle.sail_core.specs.Values.{tuple_of, vector_of, list_of, cons_of, with_of, literal_typ, literal_value, int_typ, Into, field_way, item_way, slice_way}
+use Rattle.sail_core.specs.Values.{struct_of}
 use Rattle.sail_core.specs.Numbers.{known, known_truth}
 use Rattle.sail_core.specs.Making.{Making, World, plainly, made, nothing, integer, truth, natural}
 use Rattle.sail_core.specs.Patterns.{arm_meaning}

@@ -103,7 +103,8 @@ after_opening R.Stuck lets state more = opened_not
 -- openings from this number on, in the order of the text, over the values of the lets before
 abbrev pub openings_from : {X : Type 0} → Sizing X → ℕ → List Opening → List Value → RunState → Opened
 openings_from sizing i [] lets state = opened lets state
-openings_from sizing i (o ∷ os) lets state = after_opening (opening_run (sizing.opening i) lets o (begun 0 state)) lets state (openings_from sizing (suc i) os)
+openings_from sizing i (o ∷ os) lets state = after_opening (opening_run (sizing.opening i) lets o (begun 0 state)) lets state (openings_from sizing
+    (suc i) os)
 
 abbrev pub openings_of : {X : Type 0} → Sizing X → CoreModel → RunState → Opened
 openings_of sizing m state = openings_from sizing 0 m.openings [] state
