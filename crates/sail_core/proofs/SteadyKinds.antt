@@ -230,9 +230,10 @@ module _ (w : World Value) (s : SteadyWorld w) (p : Place) (k : ℕ) where
   kind_steady (K.Clauses arms) bodies h = first_steady w s arms bodies h falls (λ now. at_once now) w.arguments
   kind_steady K.When (a ∷ b ∷ []) h = then_steady a _ h.0 (λ x. choice_steady x b falls h.1.0 (λ now. at_once now))
   kind_steady (K.Foreach name way) (a ∷ b ∷ c ∷ body ∷ []) h =
-      then_steady a _ h.0 (λ x. then_steady b _ h.1.0 (λ y. then_steady c _ h.1.1.0 (λ u.
-      then_steady (integer plainly x) _ (integer_steady x) (λ from. then_steady (integer plainly y) _ (integer_steady y) (λ to.
-      then_steady (integer plainly u) _ (integer_steady u) (λ by. foreach_steady name way from to by body h.1.1.1.0))))))
+      then_steady a _ h.0 (λ x. then_steady (integer plainly x) _ (integer_steady x) (λ from.
+      then_steady b _ h.1.0 (λ y. then_steady (integer plainly y) _ (integer_steady y) (λ to.
+      then_steady c _ h.1.1.0 (λ u. then_steady (integer plainly u) _ (integer_steady u) (λ by.
+      foreach_steady name way from to by body h.1.1.1.0))))))
   kind_steady K.While (m ∷ c ∷ b ∷ []) h = λ now. while_steady now (suc now.ticks) p m c b h.0 h.1.0 h.1.1.0 None now
   kind_steady K.Repeat (m ∷ b ∷ c ∷ []) h = λ now. repeat_steady now (suc now.ticks) p m b c h.0 h.1.0 h.1.1.0 None now
   kind_steady K.Return (a ∷ []) h = then_steady a returns h.0 (λ x now. at_once now)

@@ -193,7 +193,7 @@ kind_meaning z w place k (K.Try arms shape) (a ∷ bodies) = tried z w k arms bo
 kind_meaning z w place k (K.Clauses arms) bodies = first_of z w arms bodies falls w.arguments
 kind_meaning z w place k K.When (a ∷ b ∷ []) = a then λ x. truth z x then if_so b falls
 kind_meaning z w place k (K.Foreach name way) (a ∷ b ∷ c ∷ body ∷ []) =
-    a then λ x. b then λ y. c then λ u. integer z x then λ from. integer z y then λ to. integer z u then λ by.
+    a then λ x. integer z x then λ from. b then λ y. integer z y then λ to. c then λ u. integer z u then λ by.
     z.inside (foreach z name way from to by body)
 kind_meaning z w place k K.While (measure ∷ condition ∷ body ∷ []) = z.inside (while z place measure condition body)
 kind_meaning z w place k K.Repeat (measure ∷ body ∷ condition ∷ []) = z.inside (repeat z place measure body condition)
