@@ -11,3 +11,4 @@ pub mod Nodes
 pub mod Fragments
 pub mod Laws
 pub mod Steady
+pub mod Sentences

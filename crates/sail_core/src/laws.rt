@@ -1,5 +1,6 @@
 //! Laws of the meaning: each function's contract is one, and it does nothing.
 ghost use Rattle.sail_core.specs.Laws.{NumbersDontMatter, BlocksAreNests, BlocksDeclare};
+ghost use Rattle.sail_core.specs.Sentences.{AssignmentsRead, GuardsComeLater, NoTurnNoTick, TicksFirst};
 ghost use Rattle.sail_core.specs.Steady.{NodesAreSteady, ModelsKeep};
 
 /// The numbers of nodes are for other readings: whatever they are, a core means the same.
@@ -23,4 +24,14 @@ pub fn nodes_are_steady()
 /// So do the start of each model and its events, which is what is wanted of what takes the steps of harts.
 pub fn models_keep()
     ensures { ModelsKeep }
+{}
+
+/// In `R[i] = e` the index comes first, then the new value, and then the register is read and written. Where a pattern doesn't
+/// match, its guard and body aren't looked at. A `while` whose condition is false takes no tick. A call without a tick left stops
+/// the run before its measure is looked at.
+pub fn orders_of_evaluation()
+    ensures assignments { AssignmentsRead }
+    ensures guards { GuardsComeLater }
+    ensures turns { NoTurnNoTick }
+    ensures ticks { TicksFirst }
 {}

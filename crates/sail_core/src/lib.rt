@@ -14,7 +14,9 @@ mod tree;
 mod written;
 
 pub use fragments::{Fragment, core_in, model_in};
-pub use laws::{blocks_are_nests, models_keep, nodes_are_steady, numbers_dont_matter};
+pub use laws::{
+    blocks_are_nests, models_keep, nodes_are_steady, numbers_dont_matter, orders_of_evaluation,
+};
 pub use model::{CoreModel, Direction, Function, Opening, OpeningKind, RegisterText};
 pub use patterns::{Arm, Form, Head, Literal, Pattern, Step};
 pub use targets::{Caller, Suffix, Target, TargetKind, Way};

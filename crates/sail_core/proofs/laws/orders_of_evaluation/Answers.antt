@@ -1,0 +1,14 @@
+use Rattle.sail_core.proofs.Sentences.{assignments_read, guards_come_later, no_turn_no_tick, ticks_first}
+use Rattle.sail_core.proofs.laws.orders_of_evaluation.Goals as goal
+
+pub returns-clause-assignments : goal.returns-clause-assignments
+returns-clause-assignments c = assignments_read
+
+pub returns-clause-guards : goal.returns-clause-guards
+returns-clause-guards c = guards_come_later
+
+pub returns-clause-turns : goal.returns-clause-turns
+returns-clause-turns c = no_turn_no_tick
+
+pub returns-clause-ticks : goal.returns-clause-ticks
+returns-clause-ticks c = ticks_first
