@@ -20,7 +20,7 @@ Leads m ls hart h pc sl s (Go sl' s') r = Runs m ls hart h (pc + 1) sl' s' r
 Leads m ls hart h pc sl s (Jump l) r = (p : ℕ) × (slice_get (code_at m.functions h.function) p ≡ Some (I.Label l)) × Runs m ls hart h p sl s r
 Leads m ls hart h pc sl s (Sink z) r = Runs m ls hart (record h { measure = Some z }) (pc + 1) sl s r
 Leads m ls hart h pc sl s (Over q) r = r ≡ q
-Leads m ls hart h pc sl s (Enter i f vs l place) r = (q : Outcome) × Runs m ls hart (called m h f place) 0 (entry vs) s q × Back m ls hart h pc sl i l q r
+Leads m ls hart h pc sl s (Enter i f vs l place) r = (q : Outcome) × Runs m ls hart (called m h f place) 0 (entry m f vs) s q × Back m ls hart h pc sl i l q r
 
 leads : (m : Module) (ls : List Value) (hart : ℕ) {h : Here} {pc : ℕ} {sl : Slots} {s : Store} {r : Outcome} → Runs m ls hart h pc sl s r
     → (a : Act) → acts m ls hart h pc sl s ≡ a → Leads m ls hart h pc sl s a r

@@ -24,7 +24,7 @@ fewer_left L a b t s n le lt h = omega (arith, rest_go a b L s t le lt, h)
 by_back : (m : Module) (ls : List Value) (hart : ℕ) → Ticking m.functions → Set m.functions → (n : ℕ) → Ending m ls hart n
     → (h : Here) (pc : ℕ) (sl : Slots) (s : Store) → s.ticks * limit m.functions + weight m.functions h.function pc < suc n →
     (i f l : ℕ) (place : Place) (vs : List Value) → acts m ls hart h pc sl s ≡ Enter i f vs l place
-    → Calls (at (code_at m.functions h.function) pc) f l → (q : Outcome) → Runs m ls hart (called m h f place) 0 (entry vs) s q
+    → Calls (at (code_at m.functions h.function) pc) f l → (q : Outcome) → Runs m ls hart (called m h f place) 0 (entry m f vs) s q
     → ticks_of q ≤ s.ticks → Comes m ls hart h pc sl s
 by_back m ls hart tc st n rec h pc sl s lt i f l place vs e c (Gives v t) x le =
     let less : t.ticks * limit m.functions + weight m.functions h.function (pc + 1) < n =
@@ -59,7 +59,7 @@ by_act m ls hart tc st n rec h pc sl s lt (Sink z) e =
 by_act m ls hart tc st n rec h pc sl s lt (Over r) e = (r, runs_over e, told_at m ls hart h pc sl s (Over r) e)
 by_act m ls hart tc st n rec h pc sl s lt (Enter i f vs l place) e =
     let c : Calls (at (code_at m.functions h.function) pc) f l = told_at m ls hart h pc sl s (Enter i f vs l place) e in
-    let x = rec (called m h f place) 0 (entry vs) s (omega (arith, enter_falls m.functions tc h.function pc f l c, lt)) in
+    let x = rec (called m h f place) 0 (entry m f vs) s (omega (arith, enter_falls m.functions tc h.function pc f l c, lt)) in
     by_back m ls hart tc st n rec h pc sl s lt i f l place vs e c x.0 x.1 x.2
 
 pub ending : (m : Module) (ls : List Value) (hart : ℕ) → Ticking m.functions → Set m.functions → (n : ℕ) → Ending m ls hart n
@@ -69,5 +69,5 @@ ending m ls hart tc st (suc n) = λ h pc sl s lt. by_act m ls hart tc st n (endi
 -- each run of a function of ticking code comes to an end
 pub ends : (m : Module) (ls : List Value) (hart : ℕ) → Ticking m.functions → Set m.functions → (f : ℕ) (vs : List Value) (s : Store)
     → (r : Outcome) × jib_run m ls hart f vs s r
-ends m ls hart tc st f vs s = let y = ending m ls hart tc st (suc (s.ticks * limit m.functions + weight m.functions f 0)) (alone f) 0 (entry vs) s
+ends m ls hart tc st f vs s = let y = ending m ls hart tc st (suc (s.ticks * limit m.functions + weight m.functions f 0)) (alone f) 0 (entry m f vs) s
     (omega arith) in (y.0, y.1)

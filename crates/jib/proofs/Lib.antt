@@ -1,11 +1,11 @@
-mod Ticking
-mod Falls
-mod Ends
-mod Determined
+pub mod Ticking
+pub mod Falls
+pub mod Ends
+pub mod Determined
 mod NearestLaws
 mod UnderLaws
 mod OpenedLaws
 mod EachLaws
-mod ValidLaws
+pub mod ValidLaws
 mod Declares
 mod Constants

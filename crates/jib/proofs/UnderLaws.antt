@@ -67,6 +67,6 @@ nothing false = refl
 
 -- so it is for a run that no call made
 pub jib_under : (m : Module) (ls : List Value) (hart : ℕ) → Falling m.functions → (f : ℕ) (vs : List Value) (s : Store) (r : Outcome)
-    → jib_run m ls hart f vs s r → RunsUnder m ls hart f (alone f).place (newly m f) [] 0 (entry vs) s r
+    → jib_run m ls hart f vs s r → RunsUnder m ls hart f (alone f).place (newly m f) [] 0 (entry m f vs) s r
 jib_under m ls hart fl f vs s r x = runs_under m ls hart fl x (newly m f) [] (record
     { cycle = refl; measure = nothing (nat_eq (cycle_at m.functions f) (cycle_at m.functions f)); from = tt })

@@ -73,9 +73,12 @@ abbrev pub slots_in : Option Function → List ℕ
 slots_in None = []
 slots_in (Some f) = f.slots
 
+abbrev pub slots_of : Module → ℕ → List ℕ
+slots_of m f = slots_in (slice_get m.functions f)
+
 -- the type of a target of a function
 abbrev pub type_of : Module → ℕ → Target → ℕ
-type_of m f (T.Slot i) = slice_index_or (slots_in (slice_get m.functions f)) i 0
+type_of m f (T.Slot i) = slice_index_or (slots_of m f) i 0
 type_of m f (T.Register i) = slice_index_or m.registers i 0
 
 -- past the end of its code a function stops
@@ -213,9 +216,15 @@ inherited false measure = None
 abbrev pub called : Module → Here → ℕ → Place → Here
 called m h f place = record { function = f; place = place; measure = inherited (nat_eq (cycle_of m f) (cycle_of m h.function)) h.measure }
 
--- the slots of a call: slot 0 is for exceptions, the arguments stand behind it, and the others are unit
-abbrev pub entry : List Value → Slots
-entry vs i = slice_index_or (V.Unit ∷ vs) i V.Unit
+-- the zero of a slot's type; there is nothing but unit where no slot is
+abbrev pub slot_zero : List ValueType → Option ℕ → Value
+slot_zero ts None = V.Unit
+slot_zero ts (Some t) = zero_of ts t
+
+-- the slots that a call begins with: slot 0 is for exceptions, the arguments stand behind it, and every other slot is the zero of its type
+abbrev pub entry : Module → ℕ → List Value → Slots
+entry m f vs zero = slot_zero m.types (slice_get (slots_of m f) 0)
+entry m f vs (suc i) = unwrap_or (slice_get vs i) (slot_zero m.types (slice_get (slots_of m f) (suc i)))
 
 -- from a place, with these slots and this store, the run of a call ends so
 pub data Runs (m : Module) (lets : List Value) (hart : ℕ) : Here → ℕ → Slots → Store → Outcome → Type 0 where
@@ -229,15 +238,15 @@ pub data Runs (m : Module) (lets : List Value) (hart : ℕ) : Here → ℕ → S
   -- a call that gives a value, one that throws and goes on at its label, and one that stops
   runs_back : {h : Here} {pc i f label : ℕ} {place : Place} {vs : List Value} {v : Value} {slots : Slots} {s t : Store} {r : Outcome}
       → acts m lets hart h pc slots s ≡ Enter i f vs label place
-      → Runs m lets hart (called m h f place) 0 (entry vs) s (Gives v t) → Runs m lets hart h (pc + 1) (put slots i v) t r
+      → Runs m lets hart (called m h f place) 0 (entry m f vs) s (Gives v t) → Runs m lets hart h (pc + 1) (put slots i v) t r
       → Runs m lets hart h pc slots s r
   runs_caught : {h : Here} {pc p i f label : ℕ} {place : Place} {vs : List Value} {v : Value} {slots : Slots} {s t : Store} {r : Outcome}
       → acts m lets hart h pc slots s ≡ Enter i f vs label place
-      → Runs m lets hart (called m h f place) 0 (entry vs) s (Throws v t) → slice_get (code_of m h.function) p ≡ Some (I.Label label)
+      → Runs m lets hart (called m h f place) 0 (entry m f vs) s (Throws v t) → slice_get (code_of m h.function) p ≡ Some (I.Label label)
       → Runs m lets hart h p (put slots 0 v) t r → Runs m lets hart h pc slots s r
   runs_stopped : {h : Here} {pc i f label : ℕ} {place : Place} {cause : Cause} {vs : List Value} {slots : Slots} {s t : Store}
       → acts m lets hart h pc slots s ≡ Enter i f vs label place
-      → Runs m lets hart (called m h f place) 0 (entry vs) s (Stops cause t) → Runs m lets hart h pc slots s (Stops cause t)
+      → Runs m lets hart (called m h f place) 0 (entry m f vs) s (Stops cause t) → Runs m lets hart h pc slots s (Stops cause t)
 
 -- a call that no other made: it has no place in the text, and no measure is before it
 abbrev pub alone : ℕ → Here
@@ -245,4 +254,4 @@ alone f = record { function = f; place = record { file = 0; line = 0; column = 0
 
 -- how a run of a function of the module, called by nothing but the machine, ends
 abbrev pub jib_run : Module → List Value → ℕ → ℕ → List Value → Store → Outcome → Type 0
-jib_run m lets hart f vs s r = Runs m lets hart (alone f) 0 (entry vs) s r
+jib_run m lets hart f vs s r = Runs m lets hart (alone f) 0 (entry m f vs) s r

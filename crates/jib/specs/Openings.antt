@@ -46,11 +46,12 @@ begun ticks state = record { state = state; ticks = ticks; accesses = [] }
 abbrev pub ran_of : Types → Outcome → Ran
 ran_of types r = record { ended = ended types r; state = (store_of r).state; accesses = (store_of r).accesses }
 
--- a hart calls a function of the module, and this comes of it
-pub record Calls (m : Module) (lets : List Value) (hart ticks function : ℕ) (arguments : List Value) (state : RunState) (ran : Ran) : Type 0 where
+-- a hart calls a function of the module of a model with these named types, and this comes of it
+pub record Calls (m : Module) (types : Types) (lets : List Value) (hart ticks function : ℕ) (arguments : List Value) (state : RunState) (ran : Ran)
+    : Type 0 where
   pub outcome : Outcome
   pub run : jib_run m lets hart function arguments (begun ticks state) outcome
-  pub same : ran ≡ ran_of state.types outcome
+  pub same : ran ≡ ran_of types outcome
 
 -- ---- openings
 

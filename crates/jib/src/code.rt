@@ -123,7 +123,8 @@ pub enum Instruction {
     Tick,
 }
 
-/// A function. Its slot 0 is for exceptions; the arguments stand in those behind it.
+/// A function. Its slot 0 is for exceptions; the arguments stand in those behind it, and every other slot begins at the zero of
+/// its type.
 #[derive(Drop)]
 pub struct Function {
     /// The types of its parameters, by their numbers.

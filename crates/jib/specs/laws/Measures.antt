@@ -47,21 +47,21 @@ pub data RunsUnder (m : Module) (lets : List Value) (hart : ℕ) : ℕ → Place
   under_back : {f : ℕ} {from : Place} {a : Active} {as_ : List Active} {pc i g label : ℕ} {place : Place} {vs : List Value} {v : Value}
       {slots : Slots} {s t : Store} {r : Outcome}
       → acts m lets hart (seen m f from (a ∷ as_)) pc slots s ≡ Enter i g vs label place
-      → RunsUnder m lets hart g place (newly m g) (a ∷ as_) 0 (entry vs) s (Gives v t)
+      → RunsUnder m lets hart g place (newly m g) (a ∷ as_) 0 (entry m g vs) s (Gives v t)
       → RunsUnder m lets hart f from a as_ (pc + 1) (put slots i v) t r → RunsUnder m lets hart f from a as_ pc slots s r
   under_caught : {f : ℕ} {from : Place} {a : Active} {as_ : List Active} {pc p i g label : ℕ} {place : Place} {vs : List Value} {v : Value}
       {slots : Slots} {s t : Store} {r : Outcome}
       → acts m lets hart (seen m f from (a ∷ as_)) pc slots s ≡ Enter i g vs label place
-      → RunsUnder m lets hart g place (newly m g) (a ∷ as_) 0 (entry vs) s (Throws v t)
+      → RunsUnder m lets hart g place (newly m g) (a ∷ as_) 0 (entry m g vs) s (Throws v t)
       → slice_get (code_of m f) p ≡ Some (I.Label label) → RunsUnder m lets hart f from a as_ p (put slots 0 v) t r
       → RunsUnder m lets hart f from a as_ pc slots s r
   under_stopped : {f : ℕ} {from : Place} {a : Active} {as_ : List Active} {pc i g label : ℕ} {place : Place} {cause : Cause} {vs : List Value}
       {slots : Slots} {s t : Store}
       → acts m lets hart (seen m f from (a ∷ as_)) pc slots s ≡ Enter i g vs label place
-      → RunsUnder m lets hart g place (newly m g) (a ∷ as_) 0 (entry vs) s (Stops cause t)
+      → RunsUnder m lets hart g place (newly m g) (a ∷ as_) 0 (entry m g vs) s (Stops cause t)
       → RunsUnder m lets hart f from a as_ pc slots s (Stops cause t)
 
 abbrev pub ComparesNearest : Type 0
 ComparesNearest = (m : Module) → valid m ≡ true → (lets : List Value) (hart f : ℕ) (vs : List Value) (s : Store) (r : Outcome)
     → jib_run m lets hart f vs s r
-    → RunsUnder m lets hart f (alone f).place (newly m f) [] 0 (entry vs) s r
+    → RunsUnder m lets hart f (alone f).place (newly m f) [] 0 (entry m f vs) s r
