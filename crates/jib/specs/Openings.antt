@@ -64,12 +64,13 @@ abbrev pub value_or_zero : Module → Opening → Ended → Value
 value_or_zero m o (E.Value v) = v
 value_or_zero m o (E.Stop cause) = zero_of m.types (result_in (slice_get m.functions o.function))
 
--- the openings end so, one after another over a state that none of them touches, where `lets` are the values of those before; the last
--- list has the values of all
-pub data Opens (m : Module) (state : RunState) : List Opening → List Value → List Ended → List Value → Type 0 where
-  opens_none : {lets : List Value} → Opens m state [] lets [] lets
-  opens_more : {o : Opening} {os : List Opening} {lets vs : List Value} {es : List Ended} (r : Outcome) → jib_run m lets 0 o.function [] (begun 0 state) r
-      → Opens m state os (lets ++ value_or_zero m o (ended state.types r) ∷ []) es vs → Opens m state (o ∷ os) lets (ended state.types r ∷ es) vs
+-- the openings of a model with these named types end so, one after another over a state that none of them touches, where `lets` are the
+-- values of those before; the last list has the values of all
+pub data Opens (m : Module) (types : Types) (state : RunState) : List Opening → List Value → List Ended → List Value → Type 0 where
+  opens_none : {lets : List Value} → Opens m types state [] lets [] lets
+  opens_more : {o : Opening} {os : List Opening} {lets vs : List Value} {es : List Ended} (r : Outcome)
+      → jib_run m lets 0 o.function [] (begun 0 state) r
+      → Opens m types state os (lets ++ value_or_zero m o (ended types r) ∷ []) es vs → Opens m types state (o ∷ os) lets (ended types r ∷ es) vs
 
 -- a register of all harts has this value
 abbrev pub set_all : Option ℕ → Value → RunState → RunState

@@ -1,5 +1,6 @@
 -- Each run of a valid module ends, in one way, and what is worked out once can be.
 use Rattle.std.specs.Prelude.{◌≡◌, ℕ, List, [], true, slice_get}
+use Rattle.sail_types.specs.declared.table.Types.{Types}
 use Rattle.sail_types.specs.declared.values.Value.{Value}
 use Rattle.model_state.specs.declared.cause.Ended.{Ended}
 use Rattle.model_state.specs.RunState.{RunState}
@@ -20,7 +21,8 @@ InOneWay = (m : Module) → valid m ≡ true → (lets : List Value) (hart f : �
     → jib_run m lets hart f vs s r' → r ≡ r'
 
 abbrev pub OpeningsEnd : Type 0
-OpeningsEnd = (m : Module) → valid m ≡ true → (state : RunState) → (es : List Ended) × (vs : List Value) × Opens m state m.openings [] es vs
+OpeningsEnd = (m : Module) → valid m ≡ true → (types : Types) (state : RunState)
+    → (es : List Ended) × (vs : List Value) × Opens m types state m.openings [] es vs
 
 -- whether a constant belongs to a type is whether its value does
 abbrev pub ConstantsBelong : Type 0

@@ -13,7 +13,7 @@ pub returns-clause-once : goal.returns-clause-once
 returns-clause-once c = λ m v lets hart f vs s r r' x y. determined m lets hart (valid_once m v) x y
 
 pub returns-clause-openings : goal.returns-clause-openings
-returns-clause-openings c = λ m v state. opens m state (valid_ticking m v) (valid_set m v) m.openings []
+returns-clause-openings c = λ m v types state. opens m types state (valid_ticking m v) (valid_set m v) m.openings []
 
 pub returns-clause-nearest : goal.returns-clause-nearest
 returns-clause-nearest c = λ m v lets hart f vs s r x. jib_under m lets hart (valid_falling m v) f vs s r x
