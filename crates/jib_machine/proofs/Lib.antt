@@ -1,0 +1,9 @@
+mod SlotLaws
+mod RegisterLaws
+mod ActLaws
+mod MadeLaws
+mod TurnLaws
+mod RunLaws
+mod TypeLaws
+mod PartLaws
+mod RowLaws

@@ -1,0 +1,5 @@
+pub mod Sources
+pub mod Results
+pub mod Acts
+pub mod Runs
+pub mod Tables
