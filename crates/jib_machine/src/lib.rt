@@ -13,3 +13,6 @@ mod typing;
 mod words;
 
 pub use machine::Machine;
+
+#[cfg(test)]
+mod tests;
