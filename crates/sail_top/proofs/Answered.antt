@@ -9,10 +9,13 @@ use Rattle.sail_fragment.specs.declared.model.Model.{Model}
 use Rattle.sail_grammar.specs.Model.{IsModel}
 use Rattle.sail_lex.specs.declared.token.Token.{Token}
 use Rattle.sail_syntax.specs.declared.definitions.Def.{Def}
+use Rattle.scattered.specs.Gathered.{gathered}
+use Rattle.scattered.specs.Refused.{refusal as why_ungathered}
+use Rattle.scattered.specs.declared.error.ScatterError.{ScatterError}
 use Rattle.model_tokens.specs.Files.{AreLexed}
 use Rattle.model_tokens.proofs.OneAnswer.{answered}
-use Rattle.sail_top.specs.Models.{joined, end_of_all, unlexed, unparsed, not_run}
-use Rattle.sail_top.specs.Refusals.{token_refusal, parse_refusal, outside}
+use Rattle.sail_top.specs.Models.{AreModel, joined, end_of_all, unlexed, unparsed, ungathered, not_run}
+use Rattle.sail_top.specs.Refusals.{token_refusal, parse_refusal, gather_refusal, outside}
 use Rattle.sail_top.specs.laws.OneAnswer.{AreDecided}
 use Rattle.sail_top.specs.Answer.{Judges, AnswersFiles, AnswersEnd, AnswersLine, IsAnswer}
 use Rattle.sail_top.specs.Answer.{answer_for, model_refused, usage, no_file, too_long}
@@ -22,17 +25,27 @@ use Rattle.sail_top.specs.declared.status.Answer.{Answer}
 
 module _ (decided : AreDecided) where
   run_judged : (command : Run) (texts : List (List ℕ)) (file : List ℕ) (tokens : List (List Token)) (definitions : List Def) (found : Option Model)
-      → AreLexed 1 0 texts tokens → IsModel (joined texts tokens) definitions → model_of definitions ≡ found → (a : Answer) × Judges command texts file a
-  run_judged command texts file tokens definitions None lexed parsed is =
-      (model_refused outside, inl (outside, not_run tokens definitions lexed parsed is, refl))
-  run_judged command texts file tokens definitions (Some model) lexed parsed is =
-      (answer_for command model file, inr (model, record { tokens = tokens; lexed = lexed; definitions = definitions; parsed = parsed; runs = is }, refl))
+      → AreLexed 1 0 texts tokens → IsModel (joined texts tokens) definitions → why_ungathered definitions ≡ None
+      → model_of (gathered definitions) ≡ found → (a : Answer) × Judges command texts file a
+  run_judged command texts file tokens definitions None lexed parsed none is =
+      (model_refused outside, inl (outside, not_run tokens definitions lexed parsed none is, refl))
+  run_judged command texts file tokens definitions (Some model) lexed parsed none is =
+      let are : AreModel texts model = record { tokens = tokens; lexed = lexed; definitions = definitions; parsed = parsed; gathers = none; runs = is } in
+      (answer_for command model file, inr (model, are, refl))
+
+  gather_judged : (command : Run) (texts : List (List ℕ)) (file : List ℕ) (tokens : List (List Token)) (definitions : List Def)
+      (why : Option ScatterError) → AreLexed 1 0 texts tokens → IsModel (joined texts tokens) definitions → why_ungathered definitions ≡ why
+      → (a : Answer) × Judges command texts file a
+  gather_judged command texts file tokens definitions (Some e) lexed parsed is =
+      (model_refused (gather_refusal e), inl (gather_refusal e, ungathered tokens definitions e lexed parsed is, refl))
+  gather_judged command texts file tokens definitions None lexed parsed is =
+      run_judged command texts file tokens definitions (model_of (gathered definitions)) lexed parsed is refl
 
   lexed_judged : (command : Run) (texts : List (List ℕ)) (file : List ℕ) (tokens : List (List Token))
       → AreLexed 1 0 texts tokens → (a : Answer) × Judges command texts file a
   lexed_judged command texts file tokens lexed =
       elim (decided (joined texts tokens) (end_of_all texts)) [
-        | inl model ↦ run_judged command texts file tokens model.0 (model_of model.0) lexed model.1 refl
+        | inl model ↦ gather_judged command texts file tokens model.0 (why_ungathered model.0) lexed model.1 refl
         | inr refused ↦ (model_refused (parse_refusal refused.0), inl (parse_refusal refused.0, unparsed tokens refused.0 lexed refused.1, refl))
       ]
 

@@ -1,6 +1,6 @@
--- What lexing, parsing and the conditions on what runs say of texts.
-use Rattle.std.proofs.Common.{◌≡◌, ℕ, ◌+◌, ◌≤◌, List, [], ◌∷◌, ◌++◌, length, map, refl, sym, ap, ◌∙◌, subst, arith}
-use Rattle.std.specs.Prelude.{Some, None, Result, Ok, Err, IfOk, IfErr}
+-- What lexing, parsing, gathering and the conditions on what runs say of texts.
+use Rattle.std.proofs.Common.{◌≡◌, ℕ, ◌+◌, ◌≤◌, List, [], ◌∷◌, ◌++◌, length, map, sym, ap, ◌∙◌, subst, arith}
+use Rattle.std.specs.Prelude.{Option, Some, None, Result, Ok, Err, IfOk, IfErr}
 use Rattle.std.specs.List.{All}
 use Rattle.std.proofs.lemmas.List.Elements.{All-cons, All-nil}
 use Rattle.sail_base.specs.declared.place.Place.{Place}
@@ -21,12 +21,18 @@ use Rattle.sail_lex.specs.declared.token.LexError.TheVariants as error
 use Rattle.sail_lex.specs.declared.token.Token.{Token}
 use Rattle.sail_lex.specs.declared.token.Tokens.{Tokens}
 use Rattle.sail_syntax.specs.declared.definitions.Def.{Def}
+use Rattle.scattered.specs.Gathered.{gathered}
+use Rattle.scattered.specs.Refused.{refusal as why_ungathered, IsRefusal as IsRefusalOfDefinitions}
+use Rattle.scattered.specs.declared.error.ScatterError.{ScatterError}
+use Rattle.scattered.specs.declared.error.ScatterError.TheVariants as scatter
 use Rattle.model_tokens.specs.Files.{AreLexed, AreRefused, IsRefusal as IsRefusalOfTexts}
 use Rattle.model_tokens.specs.Parts.{tokens_of, IsOf, AreOf}
 use Rattle.model_tokens.proofs.OneAnswer.{one_lexing, one_refused as one_unlexed, never_both}
-use Rattle.sail_top.specs.Models.{joined, last_end, end_of_all, AreModel, IsRefusal, unlexed, unparsed, not_run}
-use Rattle.sail_top.specs.Refusals.{token_refusal, parse_refusal}
-use Rattle.sail_top.specs.parts.Told.{IsOfText, IsOfTokens, Tells, RunsAs, TokensRefused, tokens_unparsed, tokens_not_run, TellsOfTokens, TellsNotRun}
+use Rattle.sail_top.specs.Models.{joined, last_end, end_of_all, AreModel, IsRefusal, unlexed, unparsed, ungathered, not_run}
+use Rattle.sail_top.specs.Refusals.{token_refusal, parse_refusal, gather_refusal, outside}
+use Rattle.sail_top.specs.parts.Told.{IsOfText, IsOfTokens, IsOfDefinitions, Tells, RunsAs, GathersAs}
+use Rattle.sail_top.specs.parts.Told.{DefinitionsRefused, definitions_ungathered, definitions_not_run, TokensRefused, tokens_unparsed, tokens_parsed}
+use Rattle.sail_top.specs.parts.Told.{TellsOfTokens, TellsOfDefinitions, TellsNotRun}
 use Rattle.sail_top.specs.declared.models.ModelError.{ModelError}
 use Rattle.sail_top.specs.declared.models.ModelError.TheVariants as model
 use Rattle.sail_top.proofs.OneRefusal.{one_refused}
@@ -56,6 +62,17 @@ pub unparsed_is : (signs : List Sign) (end : Place) (e : ParseError) (refusal : 
     → IsRefusalOfTokens signs end e → IsOfTokens e → refusal ≡ parse_refusal e → TokensRefused signs end refusal
 unparsed_is signs end e refusal is told same =
     subst (TokensRefused signs end) (sym same) (tokens_unparsed e (refused_tokens signs end e is told))
+
+refused_definitions : (definitions : List Def) (e : ScatterError)
+    → IsRefusalOfDefinitions (why_ungathered definitions) e → IsOfDefinitions e → why_ungathered definitions ≡ Some e
+refused_definitions definitions (scatter.NoOpening place name) is told = is
+refused_definitions definitions (scatter.Unended place name) is told = is
+refused_definitions definitions scatter.OutOfMemory is told = absurd told
+
+pub ungathered_is : (definitions : List Def) (e : ScatterError) (refusal : Refusal)
+    → IsRefusalOfDefinitions (why_ungathered definitions) e → IsOfDefinitions e → refusal ≡ gather_refusal e → DefinitionsRefused definitions refusal
+ungathered_is definitions e refusal is told same =
+    subst (DefinitionsRefused definitions) (sym same) (definitions_ungathered e (refused_definitions definitions e is told))
 
 -- ---- the tokens of files
 
@@ -111,33 +128,84 @@ module _ (texts : List (List ℕ)) (found files : List Tokens) (same : files ≡
     lexed = lexed;
     definitions = is.0;
     parsed = subst (λ x. IsModel x is.0) signs is.1;
-    runs = is.2;
+    gathers = is.2.0;
+    runs = is.2.1;
   }
   texts_model (Err e) is = is
 
-  refusal_of : (refusal : Refusal) → TokensRefused (joined_files files) (end_from nowhere files) refusal → IsRefusal texts refusal
-  refusal_of refusal (tokens_unparsed e h) =
+  refusal_of_definitions : {refusal : Refusal} (definitions : List Def) → IsModel (joined texts (map tokens_of found)) definitions
+      → DefinitionsRefused definitions refusal → IsRefusal texts refusal
+  refusal_of_definitions definitions h (definitions_ungathered e why) = ungathered (map tokens_of found) definitions e lexed h why
+  refusal_of_definitions definitions h (definitions_not_run none never) = not_run (map tokens_of found) definitions lexed h none never
+
+  refusal_of : {refusal : Refusal} → TokensRefused (joined_files files) (end_from nowhere files) refusal → IsRefusal texts refusal
+  refusal_of (tokens_unparsed e h) =
       unparsed (map tokens_of found) e lexed (subst (λ x. IsRefused x (end_of_all texts) e) signs (subst (λ p. IsRefused (joined_files files) p e) end h))
-  refusal_of refusal (tokens_not_run definitions h none) =
-      not_run (map tokens_of found) definitions lexed (subst (λ x. IsModel x definitions) signs h) none
+  refusal_of (tokens_parsed definitions h refused) = refusal_of_definitions definitions (subst (λ x. IsModel x definitions) signs h) refused
 
   pub texts_refused : (r : Result Model ModelError) → IfErr r (TellsOfTokens (joined_files files) (end_from nowhere files)) → IfErr r (Tells texts)
   texts_refused (Ok m) is = is
-  texts_refused (Err (model.Refused refusal)) is = refusal_of refusal is
+  texts_refused (Err (model.Refused refusal)) is = refusal_of is
   texts_refused (Err model.OutOfMemory) is = tt
 
 -- ---- from definitions to their tokens
 
-module _ (signs : List Sign) (definitions read : List Def) (same : read ≡ definitions) (parsed : IsModel signs definitions) where
-  pub tokens_model : (r : Result Model ModelError) → IfOk r (λ m. model_of read ≡ Some m) → IfOk r (RunsAs signs)
-  tokens_model (Ok m) is = (definitions, parsed, ap model_of (sym same) ∙ is)
+module _ (signs : List Sign) (definitions : List Def) (parsed : IsModel signs definitions) where
+  pub tokens_model : (r : Result Model ModelError) → IfOk r (GathersAs definitions) → IfOk r (RunsAs signs)
+  tokens_model (Ok m) is = (definitions, parsed, is)
   tokens_model (Err e) is = is
 
-  pub tokens_refused : (end : Place) (r : Result Model ModelError) → IfErr r (TellsNotRun read) → IfErr r (TellsOfTokens signs end)
+  pub tokens_refused : (end : Place) (r : Result Model ModelError) → IfErr r (TellsOfDefinitions definitions) → IfErr r (TellsOfTokens signs end)
   tokens_refused end (Ok m) is = is
-  tokens_refused end (Err (model.Refused refusal)) is =
-      subst (TokensRefused signs end) (sym is.1) (tokens_not_run definitions parsed (ap model_of (sym same) ∙ is.0))
+  tokens_refused end (Err (model.Refused refusal)) is = tokens_parsed definitions parsed is
   tokens_refused end (Err model.OutOfMemory) is = tt
+
+-- ---- from gathered definitions to those that were gathered
+
+module _ (definitions whole read : List Def) (same : read ≡ whole) (none : why_ungathered definitions ≡ None) (are : whole ≡ gathered definitions)
+  where
+    pub gathered_model : (r : Result Model ModelError) → IfOk r (λ m. model_of read ≡ Some m) → IfOk r (GathersAs definitions)
+    gathered_model (Ok m) is = (none, ap model_of (sym (same ∙ are)) ∙ is)
+    gathered_model (Err e) is = is
+
+    pub gathered_refused : (r : Result Model ModelError) → IfErr r (TellsNotRun read) → IfErr r (TellsOfDefinitions definitions)
+    gathered_refused (Ok m) is = is
+    gathered_refused (Err (model.Refused refusal)) is =
+        subst (DefinitionsRefused definitions) (sym is.1) (definitions_not_run none (ap model_of (sym (same ∙ are)) ∙ is.0))
+    gathered_refused (Err model.OutOfMemory) is = tt
+
+-- ---- the phases behind the grammar, as one function
+
+abbrev run_refusal : Option Model → Option Refusal
+run_refusal (Some m) = None
+run_refusal None = Some outside
+
+abbrev refusal_unless : Option ScatterError → Option Refusal → Option Refusal
+refusal_unless (Some e) next = Some (gather_refusal e)
+refusal_unless None next = next
+
+-- how definitions are refused by the first of these phases that refuses them
+abbrev definitions_refusal : List Def → Option Refusal
+definitions_refusal definitions = refusal_unless (why_ungathered definitions) (run_refusal (model_of (gathered definitions)))
+
+-- how texts are refused, with all these phases as one
+data Refused (texts : List (List ℕ)) : Refusal → Type 0 where
+  by_tokens : (e : LexError) → AreRefused 1 0 texts e → Refused texts (token_refusal e)
+  by_grammar : (tokens : List (List Token)) (e : ParseError) → AreLexed 1 0 texts tokens →
+      IsRefused (joined texts tokens) (end_of_all texts) e → Refused texts (parse_refusal e)
+  by_definitions : {refusal : Refusal} (tokens : List (List Token)) (definitions : List Def) → AreLexed 1 0 texts tokens →
+      IsModel (joined texts tokens) definitions → definitions_refusal definitions ≡ Some refusal → Refused texts refusal
+
+phase : (texts : List (List ℕ)) {refusal : Refusal} → IsRefusal texts refusal → Refused texts refusal
+phase texts (unlexed e h) = by_tokens e h
+phase texts (unparsed tokens e lexed h) = by_grammar tokens e lexed h
+phase texts (ungathered tokens definitions e lexed parsed why) =
+    by_definitions tokens definitions lexed parsed (λ i. refusal_unless (why i) (run_refusal (model_of (gathered definitions))))
+phase texts (not_run tokens definitions lexed parsed none never) =
+    by_definitions tokens definitions lexed parsed (λ i. refusal_unless (none i) (run_refusal (never i)))
+
+runs_unrefused : (texts : List (List ℕ)) (m : Model) (p : AreModel texts m) → definitions_refusal p.definitions ≡ None
+runs_unrefused texts m p = λ i. refusal_unless (p.gathers i) (run_refusal (p.runs i))
 
 -- ---- texts are one model, or refused in one way
 
@@ -152,35 +220,47 @@ parsed_apart : (texts : List (List ℕ)) (tokens others : List (List Token)) (a 
 parsed_apart texts tokens others a end e p q m r =
     not_refused (joined texts others) a end e (subst (λ t. IsModel (joined texts t) a) (one_lexing texts 1 0 tokens others p q) m) r
 
--- what runs isn't what doesn't run
-run_apart : (a b : List Def) (m : Model) → a ≡ b → model_of a ≡ Some m → model_of b ≡ None → ⊥
-run_apart a b m same some none = let both : Some m ≡ None = sym some ∙ (ap model_of same ∙ none) in cc
+-- what runs isn't refused
+run_apart : (a b : List Def) (refusal : Refusal) → a ≡ b → definitions_refusal a ≡ None → definitions_refusal b ≡ Some refusal → ⊥
+run_apart a b refusal same none some = let both : None ≡ Some refusal = sym none ∙ (ap definitions_refusal same ∙ some) in cc
 
 pub one_model_of : (texts : List (List ℕ)) (a b : Model) → AreModel texts a → AreModel texts b → a ≡ b
 one_model_of texts a b p q =
     let definitions : p.definitions ≡ q.definitions =
     same_definitions texts p.tokens q.tokens p.definitions q.definitions p.lexed q.lexed p.parsed q.parsed in
-    let both : Some a ≡ Some b = sym p.runs ∙ (ap model_of definitions ∙ q.runs) in
+    let both : Some a ≡ Some b = sym p.runs ∙ (ap (λ d. model_of (gathered d)) definitions ∙ q.runs) in
     cc
 
-pub model_not_refused : (texts : List (List ℕ)) (m : Model) (refusal : Refusal) → AreModel texts m → IsRefusal texts refusal → ⊥
-model_not_refused texts m refusal p (unlexed e h) = never_both texts 1 0 p.tokens e p.lexed h
-model_not_refused texts m refusal p (unparsed tokens e lexed h) =
+apart : (texts : List (List ℕ)) (m : Model) (refusal : Refusal) → AreModel texts m → Refused texts refusal → ⊥
+apart texts m refusal p (by_tokens e h) = never_both texts 1 0 p.tokens e p.lexed h
+apart texts m refusal p (by_grammar tokens e lexed h) =
     parsed_apart texts p.tokens tokens p.definitions (end_of_all texts) e p.lexed lexed p.parsed h
-model_not_refused texts m refusal p (not_run tokens definitions lexed parsed none) =
-    run_apart p.definitions definitions m (same_definitions texts p.tokens tokens p.definitions definitions p.lexed lexed p.parsed parsed) p.runs none
+apart texts m refusal p (by_definitions tokens definitions lexed parsed some) =
+    run_apart p.definitions definitions refusal (same_definitions texts p.tokens tokens p.definitions definitions p.lexed lexed p.parsed parsed)
+    (runs_unrefused texts m p) some
 
-pub one_refusal_of : (texts : List (List ℕ)) (r other : Refusal) → IsRefusal texts r → IsRefusal texts other → r ≡ other
-one_refusal_of texts r other (unlexed e h) (unlexed f k) = ap token_refusal (one_unlexed texts 1 0 e f h k)
-one_refusal_of texts r other (unlexed e h) (unparsed tokens f lexed k) = absurd (never_both texts 1 0 tokens e lexed h)
-one_refusal_of texts r other (unlexed e h) (not_run tokens definitions lexed parsed none) = absurd (never_both texts 1 0 tokens e lexed h)
-one_refusal_of texts r other (unparsed tokens f lexed k) (unlexed e h) = absurd (never_both texts 1 0 tokens e lexed h)
-one_refusal_of texts r other (unparsed tokens e lexed h) (unparsed others f again k) =
+pub model_not_refused : (texts : List (List ℕ)) (m : Model) (refusal : Refusal) → AreModel texts m → IsRefusal texts refusal → ⊥
+model_not_refused texts m refusal p h = apart texts m refusal p (phase texts h)
+
+-- definitions of the same texts are refused in one way
+one_later : (a b : List Def) (r other : Refusal) → a ≡ b → definitions_refusal a ≡ Some r → definitions_refusal b ≡ Some other → r ≡ other
+one_later a b r other same one two = let both : Some r ≡ Some other = sym one ∙ (ap definitions_refusal same ∙ two) in cc
+
+one_phase : (texts : List (List ℕ)) {r other : Refusal} → Refused texts r → Refused texts other → r ≡ other
+one_phase texts (by_tokens e h) (by_tokens f k) = ap token_refusal (one_unlexed texts 1 0 e f h k)
+one_phase texts (by_tokens e h) (by_grammar tokens f lexed k) = absurd (never_both texts 1 0 tokens e lexed h)
+one_phase texts (by_tokens e h) (by_definitions tokens definitions lexed parsed some) = absurd (never_both texts 1 0 tokens e lexed h)
+one_phase texts (by_grammar tokens f lexed k) (by_tokens e h) = absurd (never_both texts 1 0 tokens e lexed h)
+one_phase texts (by_grammar tokens e lexed h) (by_grammar others f again k) =
     ap parse_refusal (one_refused (joined texts others) (end_of_all texts) e f
     (subst (λ t. IsRefused (joined texts t) (end_of_all texts) e) (one_lexing texts 1 0 tokens others lexed again) h) k)
-one_refusal_of texts r other (unparsed tokens e lexed h) (not_run others definitions again parsed none) =
+one_phase texts (by_grammar tokens e lexed h) (by_definitions others definitions again parsed some) =
     absurd (parsed_apart texts others tokens definitions (end_of_all texts) e again lexed parsed h)
-one_refusal_of texts r other (not_run tokens definitions lexed parsed none) (unlexed e h) = absurd (never_both texts 1 0 tokens e lexed h)
-one_refusal_of texts r other (not_run others definitions again parsed none) (unparsed tokens e lexed h) =
+one_phase texts (by_definitions tokens definitions lexed parsed some) (by_tokens e h) = absurd (never_both texts 1 0 tokens e lexed h)
+one_phase texts (by_definitions others definitions again parsed some) (by_grammar tokens e lexed h) =
     absurd (parsed_apart texts others tokens definitions (end_of_all texts) e again lexed parsed h)
-one_refusal_of texts r other (not_run tokens definitions lexed parsed none) (not_run others also again more never) = refl
+one_phase texts {r} {other} (by_definitions tokens definitions lexed parsed one) (by_definitions others also again more two) =
+    one_later definitions also r other (same_definitions texts tokens others definitions also lexed again parsed more) one two
+
+pub one_refusal_of : (texts : List (List ℕ)) (r other : Refusal) → IsRefusal texts r → IsRefusal texts other → r ≡ other
+one_refusal_of texts r other p q = one_phase texts (phase texts p) (phase texts q)

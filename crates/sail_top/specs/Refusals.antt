@@ -7,6 +7,8 @@ use Rattle.sail_grammar.specs.declared.error.ParseError.{ParseError}
 use Rattle.sail_grammar.specs.declared.error.ParseError.TheVariants as parse
 use Rattle.sail_lex.specs.declared.token.LexError.{LexError}
 use Rattle.sail_lex.specs.declared.token.LexError.TheVariants as error
+use Rattle.scattered.specs.declared.error.ScatterError.{ScatterError}
+use Rattle.scattered.specs.declared.error.ScatterError.TheVariants as scatter
 
 abbrev pub refusal : ℕ → Place → List ℕ → Refusal
 refusal number place detail = record { number = number; place = place; detail = detail }
@@ -33,3 +35,10 @@ parse_refusal (parse.Syntax place (Some text)) = refusal 6 place text
 parse_refusal (parse.Syntax place None) = refusal 6 place (codes "end")
 parse_refusal (parse.TooDeep place) = refusal 7 place []
 parse_refusal parse.OutOfMemory = outside
+
+-- the refusal of definitions that can't be gathered: a part that belongs to no opening, and an opening that isn't ended, are
+-- told by their name; want of memory refuses no definitions
+abbrev pub gather_refusal : ScatterError → Refusal
+gather_refusal (scatter.NoOpening place name) = refusal 22 place name
+gather_refusal (scatter.Unended place name) = refusal 23 place name
+gather_refusal scatter.OutOfMemory = outside

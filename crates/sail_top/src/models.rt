@@ -6,15 +6,16 @@ ghost use Rattle.sail_fragment.specs.Fragment.{is_well_formed, model_of};
 ghost use Rattle.sail_grammar.specs.Joined.{HaveTexts, end_from, joined};
 ghost use Rattle.sail_grammar.specs.Leaves.{nowhere};
 ghost use Rattle.sail_top.specs.Models.{AreModel};
-ghost use Rattle.sail_top.specs.parts.Told.{RunsAs, Tells, TellsNotRun, TellsOfTokens};
+ghost use Rattle.sail_top.specs.parts.Told.{GathersAs, RunsAs, Tells, TellsNotRun, TellsOfDefinitions, TellsOfTokens};
 
-use crate::refusals::{outside, parse_refusal, token_refusal};
+use crate::refusals::{gather_refusal, outside, parse_refusal, token_refusal};
 use model_tokens::lex_files;
 use sail_base::{Items, Refusal};
 use sail_fragment::{Model, read_model};
 use sail_lex::Tokens;
 use sail_parse_def::parse_model;
 use sail_syntax::Def;
+use scattered::gather;
 use std::alloc::{AllocError, Global};
 
 /// Why there is no model.
@@ -38,7 +39,7 @@ impl From<AllocError> for ModelError {
 }
 
 /// The model that texts are, which runs today. The first phase that refuses them decides: their tokens,
-/// the grammar, and the conditions on what runs.
+/// the grammar, the gathering of what is written in parts, and the conditions on what runs.
 pub fn read_models(alloc: Global, texts: &[Items<u8>]) -> Result<Model, ModelError>
     requires few { length texts.now ≤ 64 }
     requires short { All IsShort texts.now }
@@ -60,12 +61,24 @@ fn read_files(alloc: Global, files: &[Tokens<'_>]) -> Result<Model, ModelError>
     ensures refused { IfErr result (TellsOfTokens (joined files.now) (end_from nowhere files.now)) }
 {
     match parse_model(alloc, files) {
-        Ok(definitions) => run_definitions(alloc, definitions.as_slice()),
+        Ok(definitions) => gather_definitions(alloc, definitions),
         Err(error) => Err(ModelError::Refused(parse_refusal(alloc, error)?)),
     }
 }
 
-/// The model that definitions are.
+/// The model that definitions are, once they are gathered.
+fn gather_definitions(alloc: Global, definitions: Vec<Def>) -> Result<Model, ModelError>
+    ensures model { IfOk result (GathersAs definitions.items) }
+    ensures well_formed { IfOk result (λ model. is_well_formed model ≡ true) }
+    ensures refused { IfErr result (TellsOfDefinitions definitions.items) }
+{
+    match gather(alloc, definitions) {
+        Ok(whole) => run_definitions(alloc, whole.as_slice()),
+        Err(error) => Err(ModelError::Refused(gather_refusal(error)?)),
+    }
+}
+
+/// The model that gathered definitions are.
 fn run_definitions(alloc: Global, definitions: &[Def]) -> Result<Model, ModelError>
     ensures model { IfOk result (λ model. model_of definitions.now ≡ Some model) }
     ensures well_formed { IfOk result (λ model. is_well_formed model ≡ true) }

@@ -1,10 +1,11 @@
 ghost use Rattle.std.specs.Prelude.{◌≡◌, [], IfOk};
 ghost use Rattle.sail_top.specs.Refusals as spec;
-ghost use Rattle.sail_top.specs.parts.Told.{IsOfText, IsOfTokens};
+ghost use Rattle.sail_top.specs.parts.Told.{IsOfDefinitions, IsOfText, IsOfTokens};
 
 use sail_base::{Place, Refusal, Text, hex_text};
 use sail_grammar::ParseError;
 use sail_lex::LexError;
+use scattered::ScatterError;
 use std::alloc::{AllocError, Global};
 
 /// The refusal of a text that has no tokens. The one error is want of memory, the lexer's too.
@@ -52,6 +53,26 @@ pub fn parse_refusal(alloc: Global, error: ParseError) -> Result<Refusal, AllocE
         }),
         ParseError::TooDeep(place) => bare(alloc, 7, place),
         ParseError::OutOfMemory => Err(AllocError),
+    }
+}
+
+/// The refusal of definitions that can't be gathered. The one error is want of memory, that of gathering.
+pub fn gather_refusal(error: ScatterError) -> Result<Refusal, AllocError>
+    ensures refused { IfOk result (λ refusal. refusal ≡ spec.gather_refusal error) }
+    ensures told { IfOk result (λ _. IsOfDefinitions error) }
+{
+    match error {
+        ScatterError::NoOpening(place, detail) => Ok(Refusal {
+            number: 22,
+            place,
+            detail,
+        }),
+        ScatterError::Unended(place, detail) => Ok(Refusal {
+            number: 23,
+            place,
+            detail,
+        }),
+        ScatterError::OutOfMemory => Err(AllocError),
     }
 }
 

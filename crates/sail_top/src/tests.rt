@@ -275,7 +275,27 @@ const ROWS: &[(&str, &str, &str, &str)] = &[
         "1 M06 2:2:1 end\n",
     ),
     ("run --elf Q M", COUNTER, DEEP, "1 M07 1:5:147\n"),
+    // then what is written in parts
+    ("run --elf Q M", "end f\n", COUNT, "1 M22 1:1:1 f\n"),
+    (
+        "run --elf Q M N",
+        "scattered function step function clause g() = ()",
+        "",
+        "1 M23 1:1:1 step\n",
+    ),
+    (
+        "run --elf Q M",
+        "scattered function step end step function clause step() = true\n",
+        "",
+        "1 M22 1:1:34 step\n",
+    ),
     // and then what runs today
+    (
+        "run --elf Q M",
+        "scattered function f end f\n",
+        COUNT,
+        "1 M05 1:1:1\n",
+    ),
     ("run --elf Q M", "", "", "1 M05 1:1:1\n"),
     ("run --elf Q M M", COUNTER, COUNT, "1 M05 1:1:1\n"),
     ("run --elf Q N M", COUNTER, "", "1 M05 1:1:1\n"),

@@ -11,8 +11,12 @@ use Rattle.sail_grammar.specs.declared.error.ParseError.TheVariants as parse
 use Rattle.sail_lex.specs.declared.token.LexError.{LexError}
 use Rattle.sail_lex.specs.declared.token.LexError.TheVariants as error
 use Rattle.sail_syntax.specs.declared.definitions.Def.{Def}
+use Rattle.scattered.specs.Gathered.{gathered}
+use Rattle.scattered.specs.Refused.{refusal as why_ungathered}
+use Rattle.scattered.specs.declared.error.ScatterError.{ScatterError}
+use Rattle.scattered.specs.declared.error.ScatterError.TheVariants as scatter
 use Rattle.sail_top.specs.Models.{IsRefusal}
-use Rattle.sail_top.specs.Refusals.{parse_refusal, outside}
+use Rattle.sail_top.specs.Refusals.{parse_refusal, gather_refusal, outside}
 use Rattle.sail_top.specs.declared.models.ModelError.{ModelError}
 use Rattle.sail_top.specs.declared.models.ModelError.TheVariants as model
 
@@ -25,26 +29,45 @@ abbrev pub IsOfTokens : ParseError → Type 0
 IsOfTokens parse.OutOfMemory = ⊥
 IsOfTokens e = Unit {0}
 
+abbrev pub IsOfDefinitions : ScatterError → Type 0
+IsOfDefinitions scatter.OutOfMemory = ⊥
+IsOfDefinitions e = Unit {0}
+
 -- an error tells how the texts are refused; want of memory says nothing of them
 abbrev pub Tells : List (List ℕ) → ModelError → Type 0
 Tells texts (model.Refused refusal) = IsRefusal texts refusal
 Tells texts model.OutOfMemory = Unit {0}
 
--- tokens are definitions that are this model, which runs
-abbrev pub RunsAs : List Sign → Model → Type 0
-RunsAs signs m = (definitions : List Def) × IsModel signs definitions × (model_of definitions ≡ Some m)
+-- definitions can be gathered, and gathered they are this model, which runs
+abbrev pub GathersAs : List Def → Model → Type 0
+GathersAs definitions m = (why_ungathered definitions ≡ None) × (model_of (gathered definitions) ≡ Some m)
 
--- tokens with their end are refused so: they are no model, or none that runs
+-- tokens are definitions that are this model
+abbrev pub RunsAs : List Sign → Model → Type 0
+RunsAs signs m = (definitions : List Def) × IsModel signs definitions × GathersAs definitions m
+
+-- definitions are refused so: they can't be gathered, or gathered they are no model that runs
+pub data DefinitionsRefused (definitions : List Def) : Refusal → Type 0 where
+  definitions_ungathered : (e : ScatterError) → why_ungathered definitions ≡ Some e → DefinitionsRefused definitions (gather_refusal e)
+  definitions_not_run : why_ungathered definitions ≡ None → model_of (gathered definitions) ≡ None → DefinitionsRefused definitions outside
+
+-- tokens with their end are refused so: they are no model, or its definitions are refused
 pub data TokensRefused (signs : List Sign) (end : Place) : Refusal → Type 0 where
   tokens_unparsed : (e : ParseError) → IsRefused signs end e → TokensRefused signs end (parse_refusal e)
-  tokens_not_run : (definitions : List Def) → IsModel signs definitions → model_of definitions ≡ None → TokensRefused signs end outside
+  tokens_parsed : {refusal : Refusal} (definitions : List Def) → IsModel signs definitions → DefinitionsRefused definitions refusal →
+      TokensRefused signs end refusal
 
 -- an error tells how tokens are refused
 abbrev pub TellsOfTokens : List Sign → Place → ModelError → Type 0
 TellsOfTokens signs end (model.Refused refusal) = TokensRefused signs end refusal
 TellsOfTokens signs end model.OutOfMemory = Unit {0}
 
--- an error tells that definitions are no model that runs
+-- an error tells how definitions are refused
+abbrev pub TellsOfDefinitions : List Def → ModelError → Type 0
+TellsOfDefinitions definitions (model.Refused refusal) = DefinitionsRefused definitions refusal
+TellsOfDefinitions definitions model.OutOfMemory = Unit {0}
+
+-- an error tells that gathered definitions are no model that runs
 abbrev pub TellsNotRun : List Def → ModelError → Type 0
 TellsNotRun definitions (model.Refused refusal) = (model_of definitions ≡ None) × (refusal ≡ outside)
 TellsNotRun definitions model.OutOfMemory = Unit {0}

@@ -1,12 +1,17 @@
 use Rattle.sail_grammar.specs.Joined.{joined, end_from}
 use Rattle.sail_grammar.specs.Leaves.{nowhere}
-use Rattle.sail_top.proofs.ModelLemmas.{tokens_refused, unparsed_is}
+use Rattle.sail_top.proofs.ModelLemmas.{tokens_model, tokens_refused, unparsed_is}
 use Rattle.sail_top.proofs.models.read_files.Goals as goal
+
+pub returns-in-Ok-clause-model : goal.returns-in-Ok-clause-model
+returns-in-Ok-clause-model c =
+    tokens_model (joined c.args.files.now) c.in-Ok.definitions.items c.in-Ok.ensures.model c.gather_definitions.result
+    c.gather_definitions.ensures.model
 
 pub returns-in-Ok-clause-refused : goal.returns-in-Ok-clause-refused
 returns-in-Ok-clause-refused c =
-    tokens_refused (joined c.args.files.now) c.in-Ok.definitions.items c.as_slice.result.now c.as_slice.ensures.value c.in-Ok.ensures.model
-    (end_from nowhere c.args.files.now) c.run_definitions.result c.run_definitions.ensures.refused
+    tokens_refused (joined c.args.files.now) c.in-Ok.definitions.items c.in-Ok.ensures.model (end_from nowhere c.args.files.now)
+    c.gather_definitions.result c.gather_definitions.ensures.refused
 
 pub returns-in_ok-parse_refusal-in-Err-clause-refused : goal.returns-in_ok-parse_refusal-in-Err-clause-refused
 returns-in_ok-parse_refusal-in-Err-clause-refused c =
