@@ -21,6 +21,3 @@ pub use laws::{longest_spelling, no_spelling, one_answer};
 pub use lexer::lex;
 pub use token::{LexError, Token, Tokens};
 pub use value::{decimal_value, literal_word, string_value};
-
-#[cfg(test)]
-mod tests;

@@ -17,8 +17,6 @@ mod plan;
 mod reading;
 mod real;
 mod sure;
-#[cfg(test)]
-mod tests;
 mod writing;
 
 pub use edge::{BeginError, Failed, PutError, Shelf, Sink};

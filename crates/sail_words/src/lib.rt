@@ -9,8 +9,6 @@ mod order;
 mod program;
 mod reading;
 mod run;
-#[cfg(test)]
-mod tests;
 mod values;
 
 pub use reading::{LineError, line};

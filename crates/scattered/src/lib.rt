@@ -12,8 +12,6 @@ mod joining;
 mod laws;
 mod openings;
 mod standing;
-#[cfg(test)]
-mod tests;
 
 pub use error::ScatterError;
 pub use gathering::gather;

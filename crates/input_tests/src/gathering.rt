@@ -1,8 +1,8 @@
-use crate::{ScatterError, gather};
 use sail_base::{Boxed, Items, Place};
 use sail_syntax::{
     Def, Exp, FunctionClause, Literal, MappingClause, Member, Name, Pat, Side, TyExp,
 };
+use scattered::{ScatterError, gather};
 use std::alloc::{AllocError, Global};
 use std::test::Fail;
 

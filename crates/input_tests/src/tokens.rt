@@ -1,5 +1,5 @@
-use crate::{LexError, Token, decimal_value, lex, literal_word, string_value};
 use sail_base::Place;
+use sail_lex::{LexError, Token, decimal_value, lex, literal_word, string_value};
 use std::alloc::{AllocError, Global};
 use std::test::Fail;
 

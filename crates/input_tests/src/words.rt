@@ -1,4 +1,4 @@
-use crate::{LineError, Run, line};
+use sail_words::{LineError, Run, line};
 use std::alloc::{AllocError, Global};
 use std::test::Fail;
 

@@ -1,4 +1,4 @@
-use crate::{
+use sail_outside::{
     BeginError, MemShelf, MemSink, ReadError, Shelf, Sink, StdShelf, StdSink, SureShelf, SureSink,
     WriteError, read_file, write_all,
 };
