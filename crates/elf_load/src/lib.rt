@@ -8,8 +8,6 @@ mod fields;
 mod image;
 mod placing;
 mod reading;
-#[cfg(test)]
-mod tests;
 
 pub use fields::field;
 pub use image::{ElfError, Image, Segment};

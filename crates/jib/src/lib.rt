@@ -22,6 +22,3 @@ pub use labels::label_place;
 pub use laws::{constants_belong, declared_before_use, one_run};
 pub use types::{Sort, ValueType};
 pub use validity::validate;
-
-#[cfg(test)]
-mod tests;

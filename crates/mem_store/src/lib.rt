@@ -7,8 +7,6 @@
 
 mod flat;
 mod memory;
-#[cfg(test)]
-mod tests;
 
 pub use flat::Flat;
 pub use memory::Memory;

@@ -2,7 +2,7 @@ ghost use Rattle.std.specs.Prelude.{◌^◌, ◌<◌};
 
 mod linked;
 
-use super::*;
+use elf_load::{ElfError, ElfRefusal, place, read_elf};
 use linked::SUMS;
 use mem_store::{Flat, Memory};
 use sail_base::Word;

@@ -1,4 +1,4 @@
-use super::*;
+use mem_store::{Flat, Memory};
 use sail_base::Word;
 use std::alloc::Global;
 use std::test::Fail;

@@ -1,5 +1,5 @@
 //! Modules by hand: one that keeps all rules, and for each rule some that break it alone.
-use crate::{
+use jib::{
     Call, Checked, Function, Instruction, Literal, Module, Opening, Operation, Source, Target,
     ValueType, label_place, validate,
 };
