@@ -15,8 +15,6 @@ mod reading;
 mod refusals;
 mod run;
 mod status;
-#[cfg(test)]
-mod tests;
 mod top;
 
 pub use laws::words_have_one_answer;

@@ -1,5 +1,5 @@
-use crate::run_words;
 use sail_outside::{MemShelf, MemSink};
+use sail_top::run_words;
 use std::alloc::{AllocError, Global};
 use std::test::Fail;
 
