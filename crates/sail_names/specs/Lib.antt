@@ -1,0 +1,10 @@
+-- what a reader of the crate's promises believes
+pub mod Locals
+pub mod Operators
+pub mod Known
+pub mod Patterns
+pub mod Uses
+pub mod Clauses
+pub mod Callees
+-- what the contracts of private functions say
+pub mod parts
