@@ -1,5 +1,6 @@
 -- The local names are kept as they should be when one comes into scope and when the innermost goes out of it.
-use Rattle.std.proofs.Common.{◌≡◌, ℕ, Bool, true, false, cond, List, [], ◌∷◌, map, refl, sym, ap, ◌∙◌, Option, Some, None, bytes_eq, unwrap_or, ◌++◌, ◌-◌, ◌<◌, length, reverse, slice_get, IsSome, arith, length-append}
+use Rattle.std.proofs.Common.{◌≡◌, ℕ, Bool, true, false, cond, List, [], ◌∷◌, map, refl, sym, ap, ◌∙◌}
+use Rattle.std.proofs.Common.{Option, Some, None, bytes_eq, unwrap_or, ◌++◌, ◌-◌, ◌<◌, length, reverse, slice_get, IsSome, arith, length-append}
 use Rattle.std.proofs.lemmas.Option.{slice_get_within}
 use Rattle.std.proofs.lemmas.List.{reverse-append}
 use Rattle.std.specs.Option.{option_to_list}

@@ -11,7 +11,8 @@ use Rattle.sail_syntax.specs.declared.patterns.Pat.TheFolds.{fold-Pat, fold-Join
 use Rattle.sail_syntax.specs.declared.expressions.Exp.{Exp, fold-Exp}
 use Rattle.sail_syntax.specs.declared.expressions.Exp.TheOpen as E
 use Rattle.sail_syntax.specs.declared.expressions.Exp.TheOpen.{Exp-F, LExp-F, Stmt-F, Suffix-F, Case-F, FieldValue-F, Index-F, Range-F, Target-F}
-use Rattle.sail_syntax.specs.declared.expressions.Exp.TheFolds.{fold-LExp, fold-Stmt, fold-Suffix, fold-Case, fold-FieldValue, fold-Index, fold-Range, fold-Target}
+use Rattle.sail_syntax.specs.declared.expressions.Exp.TheFolds.{fold-LExp, fold-Stmt, fold-Suffix, fold-Case, fold-FieldValue}
+use Rattle.sail_syntax.specs.declared.expressions.Exp.TheFolds.{fold-Index, fold-Range, fold-Target}
 use Rattle.sail_syntax.specs.declared.expressions.LExp.{LExp}
 use Rattle.sail_syntax.specs.declared.expressions.Stmt.{Stmt}
 use Rattle.sail_syntax.specs.declared.expressions.Suffix.{Suffix}

@@ -1,5 +1,6 @@
 ghost use Rattle.std.specs.Prelude.{◌≡◌};
-ghost use Rattle.sail_names.specs.Known.{setting_of, in_measure, is_any, is_let_seen, is_register_seen, is_global_value, is_global_callee, is_global_construction, is_register};
+ghost use Rattle.sail_names.specs.Known.{setting_of, in_measure, is_any, is_let_seen, is_register_seen};
+ghost use Rattle.sail_names.specs.Known.{is_global_value, is_global_callee, is_global_construction, is_register};
 ghost use Rattle.sail_names.specs.Known.{is_value, is_callee, is_construction, is_assigned};
 ghost use Rattle.std.specs.Option.{option_copied};
 

@@ -189,7 +189,8 @@ pub(crate) fn push_maybe<'a>(
     locals: &mut Locals<'a>,
     failures: &mut Items<TableError>,
 ) -> Result<(), AllocError>
-    ensures failures { OnOk result (failures.new ≡ failures.old ++ spec.maybe (option_map spec.expression_failures part.now) (setting_of around.entry) locals.old) }
+    ensures failures { OnOk result (failures.new ≡ failures.old
+        ++ spec.maybe (option_map spec.expression_failures part.now) (setting_of around.entry) locals.old) }
     ensures locals { OnOk result (locals.new ≡ locals.old) }
 {
     match part {
@@ -206,7 +207,8 @@ fn push_expressions<'a>(
     locals: &mut Locals<'a>,
     failures: &mut Items<TableError>,
 ) -> Result<(), AllocError>
-    ensures failures { OnOk result (failures.new ≡ failures.old ++ spec.each (map spec.expression_failures expressions.now) (setting_of around.entry) locals.old) }
+    ensures failures { OnOk result (failures.new ≡ failures.old
+        ++ spec.each (map spec.expression_failures expressions.now) (setting_of around.entry) locals.old) }
     ensures locals { OnOk result (locals.new ≡ locals.old) }
 {
     for expression in expressions {
@@ -290,7 +292,8 @@ fn push_measure<'a>(
     locals: &mut Locals<'a>,
     failures: &mut Items<TableError>,
 ) -> Result<(), AllocError>
-    ensures failures { OnOk result (failures.new ≡ failures.old ++ spec.measure_failures place looping (option_map spec.expression_failures measure.now) (setting_of around.entry) locals.old) }
+    ensures failures { OnOk result (failures.new ≡ failures.old
+        ++ spec.measure_failures place looping (option_map spec.expression_failures measure.now) (setting_of around.entry) locals.old) }
     ensures locals { OnOk result (locals.new ≡ locals.old) }
 {
     match measure {
@@ -377,7 +380,8 @@ fn push_statements<'a>(
     locals: &mut Locals<'a>,
     failures: &mut Items<TableError>,
 ) -> Result<(), AllocError>
-    ensures failures { OnOk result (failures.new ≡ failures.old ++ (spec.steps (map spec.statement_step statements.now) (setting_of around.entry) locals.old).failures) }
+    ensures failures { OnOk result (failures.new ≡ failures.old
+        ++ (spec.steps (map spec.statement_step statements.now) (setting_of around.entry) locals.old).failures) }
     ensures locals { OnOk result (locals.new ≡ (spec.steps (map spec.statement_step statements.now) (setting_of around.entry) locals.old).locals) }
     ensures inside { OnOk result (IsInside locals.new locals.old) }
 {

@@ -5,7 +5,8 @@ use Rattle.sail_names.specs.Callees as spec
 use Rattle.sail_names.proofs.callees.+callees.Given as goal
 
 abbrev pub invariant-push_expressions-loop-expression : goal.invariant-push_expressions-loop-expression
-invariant-push_expressions-loop-expression l = l.list ++ joined (map (spec.expression_callees l.which (known_of l.names)) (drop l.expression-index l.expressions))
+invariant-push_expressions-loop-expression l =
+    l.list ++ joined (map (spec.expression_callees l.which (known_of l.names)) (drop l.expression-index l.expressions))
     ≡ l.initial.list ++ joined (map (spec.expression_callees l.which (known_of l.names)) l.expressions)
 
 abbrev pub invariant-push_suffixes-loop-suffix : goal.invariant-push_suffixes-loop-suffix
