@@ -1,0 +1,4 @@
+pub mod Bound
+pub mod Namings
+pub mod Clashes
+pub mod Held
