@@ -1,3 +1,4 @@
 pub mod Taking
 pub mod Among
 mod Firsts
+mod Roles

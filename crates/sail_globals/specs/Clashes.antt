@@ -6,7 +6,7 @@ use Rattle.sail_types.specs.Rows.{row_named}
 use Rattle.sail_kinds.specs.declared.error.TableError.{TableError}
 use Rattle.sail_kinds.specs.declared.error.TableError.TheVariants as error
 use Rattle.sail_globals.specs.declared.naming.Space.{Space}
-use Rattle.sail_globals.specs.declared.naming.Space.TheVariants.{Types, Values}
+use Rattle.sail_globals.specs.declared.naming.Space.TheVariants.{Types, Values, Measures}
 use Rattle.sail_globals.specs.declared.naming.Called.{Called}
 use Rattle.sail_globals.specs.declared.naming.Called.TheVariants.{Function, Mapping, Direction}
 use Rattle.sail_globals.specs.declared.naming.Role.{Role}
@@ -30,10 +30,12 @@ has names name = list_any (λ one. bytes_eq one name) names
 abbrev pub is_builtin : Space → List ℕ → Bool
 is_builtin Types name = has builtin_types name
 is_builtin Values name = is_some (row_named name) || has builtin_constructors name
+is_builtin Measures name = false
 
 abbrev pub is_same_space : Space → Space → Bool
 is_same_space Types Types = true
 is_same_space Values Values = true
+is_same_space Measures Measures = true
 is_same_space one other = false
 
 abbrev pub is_same_called : Called → Called → Bool

@@ -5,12 +5,12 @@ use Rattle.std.specs.HashMap.{HashMap, get_by}
 use Rattle.std.specs.List.{list_all}
 use Rattle.sail_globals.specs.declared.members.Members.{Members}
 use Rattle.sail_globals.specs.declared.naming.Space.{Space}
-use Rattle.sail_globals.specs.declared.naming.Space.TheVariants.{Types, Values}
+use Rattle.sail_globals.specs.declared.naming.Space.TheVariants.{Types, Values, Measures}
 use Rattle.sail_globals.specs.declared.naming.Role.{Role}
 use Rattle.sail_globals.specs.declared.naming.Naming.{Naming}
 use Rattle.sail_globals.specs.declared.held.Held.{Held}
 use Rattle.sail_globals.specs.declared.held.Held.TheVariants.{Free, Once, Often}
-use Rattle.sail_globals.specs.declared.held.Both.{Both}
+use Rattle.sail_globals.specs.declared.held.Spaces.{Spaces}
 use Rattle.sail_globals.specs.Clashes.{is_other_half, is_overloaded, taken}
 
 -- whether one of the members has this name
@@ -35,21 +35,23 @@ admits Free role = true
 admits (Once one) role = is_other_half one role
 admits (Often all) role = all && is_overloaded role
 
-abbrev pub nothing_held : Both
-nothing_held = record { types = Free; values = Free }
+abbrev pub nothing_held : Spaces
+nothing_held = record { types = Free; values = Free; measures = Free }
 
-abbrev pub in_space : Both → Space → Held
+abbrev pub in_space : Spaces → Space → Held
 in_space both Types = both.types
 in_space both Values = both.values
+in_space both Measures = both.measures
 
-abbrev pub both_with : Both → Space → Role → Both
-both_with both Types role = record both { types = held_with both.types role }
-both_with both Values role = record both { values = held_with both.values role }
+abbrev pub spaces_with : Spaces → Space → Role → Spaces
+spaces_with both Types role = record both { types = held_with both.types role }
+spaces_with both Values role = record both { values = held_with both.values role }
+spaces_with both Measures role = record both { measures = held_with both.measures role }
 
 -- what a map holds of a name
-abbrev pub both_at : {S : Type 0} → HashMap (Bor (List ℕ)) Both S → List ℕ → Both
-both_at names name = unwrap_or (get_by (λ key. bytes_eq name key.now) names) nothing_held
+abbrev pub spaces_at : {S : Type 0} → HashMap (Bor (List ℕ)) Spaces S → List ℕ → Spaces
+spaces_at names name = unwrap_or (get_by (λ key. bytes_eq name key.now) names) nothing_held
 
 -- a map, read by name, holds of each name the roles in which these take it
-abbrev pub AreHeld : List Naming → (List ℕ → Both) → Type 0
+abbrev pub AreHeld : List Naming → (List ℕ → Spaces) → Type 0
 AreHeld earlier names = (space : Space) (name : List ℕ) → in_space (names name) space ≡ held (taken earlier space name)

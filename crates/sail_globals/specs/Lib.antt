@@ -2,3 +2,4 @@ pub mod Bound
 pub mod Namings
 pub mod Clashes
 pub mod Held
+pub mod Globals

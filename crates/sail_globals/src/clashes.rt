@@ -4,9 +4,9 @@ ghost use Rattle.sail_kinds.specs.declared.error.TableError.TheVariants as error
 ghost use Rattle.sail_kinds.specs.Failures.{first_failure};
 ghost use Rattle.sail_globals.specs.declared.naming.Naming.{Naming as ANaming};
 ghost use Rattle.sail_globals.specs.Clashes.{is_builtin as is_builtin_name, has, builtin_types, builtin_constructors, clash, clashes};
-ghost use Rattle.sail_globals.specs.Held.{both_at, AreHeld};
+ghost use Rattle.sail_globals.specs.Held.{spaces_at, AreHeld};
 
-use crate::held::Both;
+use crate::held::Spaces;
 use crate::naming::{Naming, Space};
 use sail_kinds::{First, TableError};
 use sail_types::row_named;
@@ -36,6 +36,7 @@ pub fn is_builtin(space: Space, name: &str) -> bool
     match space {
         Space::Types => is_among(&BUILTIN_TYPES, name),
         Space::Values => is_builtin_value(name),
+        Space::Measures => false,
     }
 }
 
@@ -55,30 +56,30 @@ fn is_among(names: &[&str], name: &str) -> bool
 /// The names that are taken as a text is read, each with its roles.
 #[derive(Drop)]
 struct Taken<'a> {
-    names: HashMap<&'a str, Both>,
+    names: HashMap<&'a str, Spaces>,
 }
 
 impl<'a> Taken<'a> {
     fn new(alloc: Global) -> Taken<'a>
-        ensures { AreHeld [] (both_at result.names) }
+        ensures { AreHeld [] (spaces_at result.names) }
     {
         Taken {
             names: HashMap::new(alloc),
         }
     }
 
-    fn of(&self, name: &str) -> Both
-        ensures { result ≡ both_at self.now.names name.now }
+    fn of(&self, name: &str) -> Spaces
+        ensures { result ≡ spaces_at self.now.names name.now }
     {
-        self.names.get(name).copied().unwrap_or(Both::nothing())
+        self.names.get(name).copied().unwrap_or(Spaces::nothing())
     }
 
     /// Notes that a name is taken already, where it is, and takes it. The one error is want of memory.
     fn read(&mut self, naming: &'a Naming, first: &mut First) -> Result<(), AllocError>
-        ensures failures { OnOk result ((earlier : List ANaming) → AreHeld earlier (both_at self.old.names)
+        ensures failures { OnOk result ((earlier : List ANaming) → AreHeld earlier (spaces_at self.old.names)
             → first.new.error ≡ first_failure first.old.error (clash earlier naming.now)) }
-        ensures held { OnOk result ((earlier : List ANaming) → AreHeld earlier (both_at self.old.names)
-            → AreHeld (earlier ++ naming.now ∷ []) (both_at self.new.names)) }
+        ensures held { OnOk result ((earlier : List ANaming) → AreHeld earlier (spaces_at self.old.names)
+            → AreHeld (earlier ++ naming.now ∷ []) (spaces_at self.new.names)) }
     {
         let name = naming.name.as_str();
         let both = self.of(name);

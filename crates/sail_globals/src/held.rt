@@ -1,6 +1,6 @@
 ghost use Rattle.std.specs.Prelude.{◌≡◌, ◌&&◌};
 ghost use Rattle.sail_globals.specs.Clashes.{is_other_half, is_overloaded, is_same_called};
-ghost use Rattle.sail_globals.specs.Held.{nothing_held, held_with, admits, in_space, both_with};
+ghost use Rattle.sail_globals.specs.Held.{nothing_held, held_with, admits, in_space, spaces_with};
 
 use crate::naming::{Called, Role, Space};
 
@@ -17,19 +17,22 @@ pub(crate) enum Held {
 
 /// What is held of one name, in each space.
 #[derive(Clone, Copy)]
-pub(crate) struct Both {
+pub(crate) struct Spaces {
     types: Held,
     values: Held,
+    measures: Held,
 }
 
-fn is_same_called(one: Called, other: Called) -> bool
-    ensures { result ≡ is_same_called one other }
-{
-    match (one, other) {
-        (Called::Function, Called::Function) => true,
-        (Called::Mapping, Called::Mapping) => true,
-        (Called::Direction, Called::Direction) => true,
-        _ => false,
+impl Called {
+    pub(crate) fn is_same(self, other: Called) -> bool
+        ensures { result ≡ is_same_called self other }
+    {
+        match (self, other) {
+            (Called::Function, Called::Function) => true,
+            (Called::Mapping, Called::Mapping) => true,
+            (Called::Direction, Called::Direction) => true,
+            _ => false,
+        }
     }
 }
 
@@ -47,8 +50,8 @@ impl Role {
         ensures { result ≡ is_other_half self role }
     {
         match (self, role) {
-            (Role::Declared(one), Role::Defined(other)) => is_same_called(one, other),
-            (Role::Defined(one), Role::Declared(other)) => is_same_called(one, other),
+            (Role::Declared(one), Role::Defined(other)) => one.is_same(other),
+            (Role::Defined(one), Role::Declared(other)) => one.is_same(other),
             (Role::Overloaded, Role::Overloaded) => true,
             _ => false,
         }
@@ -78,13 +81,14 @@ impl Held {
     }
 }
 
-impl Both {
-    pub(crate) fn nothing() -> Both
+impl Spaces {
+    pub(crate) fn nothing() -> Spaces
         ensures { result ≡ nothing_held }
     {
-        Both {
+        Spaces {
             types: Held::Free,
             values: Held::Free,
+            measures: Held::Free,
         }
     }
 
@@ -94,6 +98,7 @@ impl Both {
         match space {
             Space::Types => self.types,
             Space::Values => self.values,
+            Space::Measures => self.measures,
         }
     }
 
@@ -103,13 +108,14 @@ impl Both {
         self.of(space).admits(role)
     }
 
-    pub(crate) fn with(self, space: Space, role: Role) -> Both
-        ensures { result ≡ both_with self space role }
+    pub(crate) fn with(self, space: Space, role: Role) -> Spaces
+        ensures { result ≡ spaces_with self space role }
     {
         let mut both = self;
         match space {
             Space::Types => both.types = self.types.with(role),
             Space::Values => both.values = self.values.with(role),
+            Space::Measures => both.measures = self.measures.with(role),
         }
         both
     }

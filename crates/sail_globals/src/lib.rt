@@ -6,6 +6,7 @@
 
 mod bound;
 mod clashes;
+mod globals;
 mod held;
 mod members;
 mod naming;
@@ -13,6 +14,7 @@ mod namings;
 
 pub use bound::push_bound;
 pub use clashes::{is_builtin, note_clashes};
+pub use globals::{Globals, find_globals};
 pub use members::{Members, find_members};
-pub use naming::{Called, Naming, Role, Space};
+pub use naming::{Alone, Called, Naming, Role, Space};
 pub use namings::find_namings;

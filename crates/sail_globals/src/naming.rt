@@ -1,6 +1,6 @@
 use sail_base::{Place, Text};
 
-/// The two spaces of names. A name means one thing in each.
+/// The spaces of names. A name means one thing in each.
 #[derive(Clone, Copy, PartialEq, Eq, Debug)]
 pub enum Space {
     /// The names of types.
@@ -8,6 +8,8 @@ pub enum Space {
     /// The names of functions, mappings with their two directions, lets, registers, constructors, members
     /// of enums, overloads and builtins.
     Values,
+    /// The names of functions, taken by their measures, of which each has one.
+    Measures,
 }
 
 /// What a `val` and a body together define.
@@ -21,6 +23,27 @@ pub enum Called {
     Direction,
 }
 
+/// What one definition by itself defines.
+#[derive(Clone, Copy, PartialEq, Eq, Debug)]
+pub enum Alone {
+    /// A type.
+    Type,
+    /// A mapping that has types of its own.
+    Mapping,
+    /// `m_forwards` or `m_backwards`, of such a mapping `m`.
+    Direction,
+    /// A constructor of a union.
+    Constructor,
+    /// A member of an enum.
+    Member,
+    /// What a top-level `let` binds.
+    Let,
+    /// A register.
+    Register,
+    /// The measure of a function.
+    Measure,
+}
+
 /// How a definition takes a name.
 #[derive(Clone, Copy, PartialEq, Eq, Debug)]
 pub enum Role {
@@ -31,7 +54,7 @@ pub enum Role {
     /// By an `overload`, which adds members.
     Overloaded,
     /// All by itself.
-    Whole,
+    Whole(Alone),
 }
 
 /// A name that a definition takes.

@@ -1,11 +1,11 @@
 ghost use Rattle.std.specs.Prelude.{◌≡◌, ℕ, List, [], ◌∷◌, ◌++◌, map, codes, if◌then◌else◌, IsAscii, IfOk, OnOk};
 ghost use Rattle.sail_globals.specs.Bound.{bound, is_plain as is_plain_pattern};
-ghost use Rattle.sail_globals.specs.Namings.{type_naming, value_naming, own_naming, constructor_naming, let_naming, mapping_namings, val_namings, body_namings, namings, all_namings};
+ghost use Rattle.sail_globals.specs.Namings.{type_naming, measure_naming, value_naming, own_naming, constructor_naming, let_naming, mapping_namings, val_namings, body_namings, namings, all_namings};
 ghost use Rattle.sail_globals.specs.Held.{has_member};
 
 use crate::bound::{is_plain, push_bound};
 use crate::members::{Members, find_members};
-use crate::naming::{Called, Naming, Role, Space};
+use crate::naming::{Alone, Called, Naming, Role, Space};
 use sail_base::{Items, Place, Text};
 use sail_syntax::{Arrow, Def, Member, Name, Overloaded, Pat};
 use std::alloc::{AllocError, Global};
@@ -61,6 +61,7 @@ fn push_namings(
             *place,
             name.text.clone()?,
         ),
+        Def::Measure { place, name, .. } => push_measure(list, at, *place, name),
         Def::Mapping {
             place,
             name,
@@ -71,7 +72,7 @@ fn push_namings(
         Def::Register { place, name, .. } => push_value(
             list,
             at,
-            Role::Whole,
+            Role::Whole(Alone::Register),
             *place,
             name.text.clone()?,
         ),
@@ -99,7 +100,25 @@ fn push_type(
         space: Space::Types,
         name,
         place,
-        role: Role::Whole,
+        role: Role::Whole(Alone::Type),
+        definition: at,
+    })
+}
+
+fn push_measure(
+    list: &mut Items<Naming>,
+    at: usize,
+    place: Place,
+    name: &Name,
+) -> Result<(), AllocError>
+    ensures { OnOk result (list.new ≡ list.old ++ measure_naming at place name.now.text ∷ []) }
+{
+    let name = name.text.clone()?;
+    list.push(Naming {
+        space: Space::Measures,
+        name,
+        place,
+        role: Role::Whole(Alone::Measure),
         definition: at,
     })
 }
@@ -122,17 +141,17 @@ fn push_value(
     })
 }
 
-fn push_own(list: &mut Items<Naming>, at: usize, name: &Name) -> Result<(), AllocError>
-    ensures { OnOk result (list.new ≡ list.old ++ own_naming at name.now ∷ []) }
+fn push_own(list: &mut Items<Naming>, at: usize, what: Alone, name: &Name) -> Result<(), AllocError>
+    ensures { OnOk result (list.new ≡ list.old ++ own_naming at what name.now ∷ []) }
 {
-    push_value(list, at, Role::Whole, name.place, name.text.clone()?)
+    push_value(list, at, Role::Whole(what), name.place, name.text.clone()?)
 }
 
 fn push_members(list: &mut Items<Naming>, at: usize, names: &[Name]) -> Result<(), AllocError>
-    ensures { OnOk result (list.new ≡ list.old ++ map (own_naming at) names.now) }
+    ensures { OnOk result (list.new ≡ list.old ++ map (own_naming at Alone.Member) names.now) }
 {
     for name in names {
-        push_own(list, at, name)?;
+        push_own(list, at, Alone::Member, name)?;
     }
     Ok(())
 }
@@ -145,7 +164,7 @@ fn push_constructors(
     ensures { OnOk result (list.new ≡ list.old ++ map (constructor_naming at) constructors.now) }
 {
     for constructor in constructors {
-        push_own(list, at, &constructor.name)?;
+        push_own(list, at, Alone::Constructor, &constructor.name)?;
     }
     Ok(())
 }
@@ -191,7 +210,15 @@ fn push_mapping_body(
     ensures { OnOk result (list.new ≡ list.old ++ body_namings at place name.now.text has_types) }
 {
     if has_types {
-        push_mapping(alloc, list, at, Role::Whole, Role::Whole, place, name)
+        push_mapping(
+            alloc,
+            list,
+            at,
+            Role::Whole(Alone::Mapping),
+            Role::Whole(Alone::Direction),
+            place,
+            name,
+        )
     } else {
         push_mapping(
             alloc,
@@ -259,7 +286,7 @@ fn push_let_names(
 {
     for name in names {
         let place = if plain { place } else { name.place };
-        push_value(list, at, Role::Whole, place, name.text.clone()?)?;
+        push_value(list, at, Role::Whole(Alone::Let), place, name.text.clone()?)?;
     }
     Ok(())
 }
