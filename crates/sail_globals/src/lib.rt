@@ -11,6 +11,8 @@ mod held;
 mod members;
 mod naming;
 mod namings;
+#[cfg(test)]
+mod tests;
 
 pub use bound::push_bound;
 pub use clashes::{is_builtin, note_clashes};
