@@ -128,7 +128,9 @@ impl Machine {
         ticks: &mut u32,
     ) -> Result<Act, AllocError>
         requires code { code.now ≡ code_of self.now.program current.old.here.function }
-        ensures acted { IfOk result (λ a. Acted self.now.program (λ xs. acts self.now.program self.now.lets hart (seen current.old.here) current.old.at (filled current.old.slots.items) (store state.old ticks.old xs)) a current.old.slots.items current.new.slots.items state.old ticks.old state.new ticks.new) }
+        ensures acted { IfOk result (λ a. Acted self.now.program (λ xs. acts self.now.program self.now.lets hart (seen current.old.here)
+            current.old.at (filled current.old.slots.items) (store state.old ticks.old xs)) a current.old.slots.items
+            current.new.slots.items state.old ticks.old state.new ticks.new) }
         ensures here { current.new.here ≡ current.old.here }
         ensures at { current.new.at ≡ current.old.at }
     {
@@ -195,7 +197,8 @@ impl Machine {
         ending: Ending,
     ) -> Result<Option<Ending>, AllocError>
         requires saved { Saved self.now.program (reverse frames.old.items) }
-        ensures { IfOk result (λ o. (hart : ℕ) (s : RunState) (k : ℕ) → Finished self.now.program self.now.lets hart frames.old.items s k ending current.new frames.new.items o) }
+        ensures { IfOk result (λ o. (hart : ℕ) (s : RunState) (k : ℕ) → Finished self.now.program self.now.lets hart frames.old.items s k
+            ending current.new frames.new.items o) }
     {
         match frames.pop() {
             None => Ok(Some(ending)),
@@ -265,7 +268,8 @@ impl Machine {
         ticks: &mut u32,
     ) -> Result<Option<Ending>, AllocError>
         requires saved { Saved self.now.program (reverse frames.old.items) }
-        ensures { IfOk result (λ o. Advanced self.now.program self.now.lets hart current.old frames.old.items state.old ticks.old current.new frames.new.items state.new ticks.new o) }
+        ensures { IfOk result (λ o. Advanced self.now.program self.now.lets hart current.old frames.old.items state.old ticks.old
+            current.new frames.new.items state.new ticks.new o) }
     {
         match self.turn(alloc, hart, current, state, ticks)? {
             Turn::Over(ending) => {
@@ -289,7 +293,8 @@ impl Machine {
         arguments: Vec<Value>,
         ticks: u32,
     ) -> Result<Ending, AllocError>
-        ensures { IfOk result (λ e. (left : ℕ) × (accesses : List Access) × jib_run self.now.program self.now.lets hart function arguments.items (begun ticks state.old) (outcome_of e (store state.new left accesses))) }
+        ensures { IfOk result (λ e. (left : ℕ) × (accesses : List Access) × jib_run self.now.program self.now.lets hart function
+            arguments.items (begun ticks state.old) (outcome_of e (store state.new left accesses))) }
     {
         let slots = first_slots(alloc, self, function, arguments)?;
         let mut frames = Vec::new(alloc);

@@ -125,7 +125,8 @@ impl Machine {
         entry: u32,
         arguments: Vec<Value>,
     ) -> Result<Ended, AllocError>
-        ensures { IfOk result (λ ended. (accesses : List Access) × Calls self.now.program self.now.types self.now.lets hart 1000000 entry arguments.items state.old (record { ended = ended; state = state.new; accesses = accesses })) }
+        ensures { IfOk result (λ ended. (accesses : List Access) × Calls self.now.program self.now.types self.now.lets hart 1000000 entry
+            arguments.items state.old (record { ended = ended; state = state.new; accesses = accesses })) }
     {
         let ending = self.run(alloc, state, hart, entry, arguments, TICKS)?;
         let ended = ended(alloc, &self.types, ending)?;

@@ -318,7 +318,8 @@ pub fn operate<M: Memory>(
     slots: &[Value],
     state: &mut State<M>,
 ) -> Result<Made, AllocError>
-    ensures { IfOk result (λ made. MadeIs (J.operate (slice_get machine.now.program.types typ) operation (source_values machine.now.lets hart state.old slots.now sources.now) hart state.old) made state.old state.new) }
+    ensures { IfOk result (λ made. MadeIs (J.operate (slice_get machine.now.program.types typ) operation (source_values machine.now.lets
+        hart state.old slots.now sources.now) hart state.old) made state.old state.new) }
 {
     let mut values = Vec::with_capacity(alloc, sources.len())?;
     push_values(alloc, machine, hart, state, slots, sources, &mut values)?;

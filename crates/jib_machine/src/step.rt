@@ -32,7 +32,9 @@ pub fn act_of<M: Memory>(
     state: &mut State<M>,
     ticks: &mut u32,
 ) -> Result<Act, AllocError>
-    ensures { IfOk result (λ a. Acted machine.now.program (λ xs. J.act machine.now.program machine.now.lets hart (seen here.now) instruction.now (filled slots.old.items) (store state.old ticks.old xs)) a slots.old.items slots.new.items state.old ticks.old state.new ticks.new) }
+    ensures { IfOk result (λ a. Acted machine.now.program (λ xs. J.act machine.now.program machine.now.lets hart (seen here.now)
+        instruction.now (filled slots.old.items) (store state.old ticks.old xs)) a slots.old.items slots.new.items state.old ticks.old
+        state.new ticks.new) }
 {
     match instruction {
         Instruction::Copy(target, source) => {
@@ -121,7 +123,8 @@ fn copy<M: Memory>(
     slots: &mut Vec<Value>,
     state: &mut State<M>,
 ) -> Result<(), AllocError>
-    ensures { OnOk result (Wrote hart target (source_value machine.now.lets hart state.old slots.old.items source.now) slots.old.items slots.new.items state.old state.new) }
+    ensures { OnOk result (Wrote hart target (source_value machine.now.lets hart state.old slots.old.items source.now) slots.old.items
+        slots.new.items state.old state.new) }
 {
     let value = value_of(alloc, machine, hart, state, slots, source)?;
     write(hart, target, value, slots, state)
@@ -158,7 +161,9 @@ fn apply<M: Memory>(
     slots: &mut Vec<Value>,
     state: &mut State<M>,
 ) -> Result<Act, AllocError>
-    ensures { IfOk result (λ a. (k : ℕ) → Acted machine.now.program (λ xs. J.apply machine.now.program machine.now.lets hart target (J.type_of machine.now.program function target) operation (source_values machine.now.lets hart state.old slots.old.items sources.now) (filled slots.old.items) (store state.old k xs)) a slots.old.items slots.new.items state.old k state.new k) }
+    ensures { IfOk result (λ a. (k : ℕ) → Acted machine.now.program (λ xs. J.apply machine.now.program machine.now.lets hart target
+        (J.type_of machine.now.program function target) operation (source_values machine.now.lets hart state.old slots.old.items
+        sources.now) (filled slots.old.items) (store state.old k xs)) a slots.old.items slots.new.items state.old k state.new k) }
 {
     let typ = type_of(machine, function, target);
     match operate(alloc, machine, hart, typ, operation, sources, slots, state)? {
@@ -185,7 +190,8 @@ fn entry_slots<M: Memory>(
     slots: &[Value],
     state: &State<M>,
 ) -> Result<Vec<Value>, AllocError>
-    ensures { IfOk result (λ new. filled new.items ≡ J.entry machine.now.program call.now.function (source_values machine.now.lets hart state.now slots.now call.now.arguments)) }
+    ensures { IfOk result (λ new. filled new.items ≡ J.entry machine.now.program call.now.function (source_values machine.now.lets hart
+        state.now slots.now call.now.arguments)) }
 {
     let types = machine.slots(call.function);
     let mut new = Vec::with_capacity(alloc, types.len())?;
@@ -317,7 +323,8 @@ fn payload(alloc: Global, value: &Value, constructor: u32) -> Result<Option<Valu
 }
 
 fn tick(ticks: &mut u32) -> Act
-    ensures { (m : AModule) (slots : List AValue) (s : RunState) → Acted m (λ xs. J.tick ticks.old (filled slots) (store s ticks.old xs)) result slots slots s ticks.old s ticks.new }
+    ensures { (m : AModule) (slots : List AValue) (s : RunState) → Acted m (λ xs. J.tick ticks.old (filled slots) (store s ticks.old xs))
+        result slots slots s ticks.old s ticks.new }
 {
     if *ticks == 0 {
         return Act::Over(Ending::Stopped(Cause::WorkLimit));
@@ -343,7 +350,8 @@ fn measure_of(value: &Value) -> i128
 
 /// Takes a measure, which has to be below the one before.
 fn measured(value: &Value, here: &Here) -> Act
-    ensures { (m : AModule) (slots : List AValue) (s : RunState) (k : ℕ) → Acted m (λ xs. J.measured (J.measure_of (out-Value value.now)) here.now.measure here.now.place (store s k xs)) result slots slots s k s k }
+    ensures { (m : AModule) (slots : List AValue) (s : RunState) (k : ℕ) → Acted m (λ xs. J.measured (J.measure_of (out-Value value.now))
+        here.now.measure here.now.place (store s k xs)) result slots slots s k s k }
 {
     let z = measure_of(value);
     match here.measure {

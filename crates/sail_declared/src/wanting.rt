@@ -4,7 +4,8 @@ ghost use Rattle.sail_kinds.specs.declared.error.TableError.TheVariants as error
 ghost use Rattle.sail_globals.specs.declared.naming.Naming.{Naming as ANaming};
 ghost use Rattle.sail_globals.specs.Globals.{has_val, has_body, AreOf};
 ghost use Rattle.sail_globals.specs.declared.naming.Called.TheVariants as called;
-ghost use Rattle.sail_declared.specs.Wanting.{declared, is_typed as is_typed_body, is_addable, member_failures, members_failures, union_failures, wanting, all_wanting};
+ghost use Rattle.sail_declared.specs.Wanting.{declared, is_typed as is_typed_body, is_addable, member_failures};
+ghost use Rattle.sail_declared.specs.Wanting.{members_failures, union_failures, wanting, all_wanting};
 
 use crate::typed::is_typed;
 use sail_base::{Items, Place};
@@ -78,7 +79,8 @@ fn note_mapping(
 
 fn note_measure(globals: &Globals, name: &Name, first: &mut First) -> Result<(), AllocError>
     ensures { OnOk result ((namings : List ANaming) → AreOf namings globals.now → first.new.error ≡ first_failure first.old.error
-        (if has_val namings called.Function name.now.text || has_body namings called.Function name.now.text then [] else error.NoName name.now.place name.now.text ∷ [])) }
+        (if has_val namings called.Function name.now.text || has_body namings called.Function name.now.text
+        then [] else error.NoName name.now.place name.now.text ∷ [])) }
 {
     let has_val = globals.has_function_val(name.text.as_str());
     let has_body = globals.has_function_body(name.text.as_str());

@@ -1,6 +1,7 @@
 ghost use Rattle.std.specs.Prelude.{◌≡◌, ℕ, List, [], ◌∷◌, ◌++◌, map, codes, if◌then◌else◌, IsAscii, IfOk, OnOk};
 ghost use Rattle.sail_globals.specs.Bound.{bound, is_plain as is_plain_pattern};
-ghost use Rattle.sail_globals.specs.Namings.{type_naming, measure_naming, value_naming, own_naming, constructor_naming, let_naming, mapping_namings, val_namings, body_namings, namings, all_namings};
+ghost use Rattle.sail_globals.specs.Namings.{type_naming, measure_naming, value_naming, own_naming, constructor_naming};
+ghost use Rattle.sail_globals.specs.Namings.{let_naming, mapping_namings, val_namings, body_namings, namings, all_namings};
 ghost use Rattle.sail_globals.specs.Held.{has_member};
 
 use crate::bound::{is_plain, push_bound};
