@@ -9,6 +9,3 @@ mod texts;
 mod words;
 
 pub use row::{apply, row_value};
-
-#[cfg(test)]
-mod tests;

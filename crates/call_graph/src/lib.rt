@@ -8,8 +8,6 @@ mod digraph;
 mod finding;
 mod found;
 mod search;
-#[cfg(test)]
-mod tests;
 
 pub use digraph::Graph;
 pub use finding::find_cycles;

@@ -11,6 +11,3 @@ mod scratch;
 pub use entail::Entail;
 pub use kept::Kept;
 pub use scratch::Scratch;
-
-#[cfg(test)]
-mod tests;

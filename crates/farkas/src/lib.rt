@@ -20,8 +20,3 @@ pub use laws::{
 pub use points::Point;
 pub use problems::{check_cert, discharge};
 pub use verdict::{FarkasError, Verdict, check_cases, eliminate_cases, eliminate_starts};
-
-#[cfg(test)]
-mod problem_tests;
-#[cfg(test)]
-mod tests;

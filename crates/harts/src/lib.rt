@@ -11,6 +11,3 @@ mod starting;
 pub use laws::{invariants_hold, joined_schedules, registers_hold};
 pub use running::{Ending, run, run_order};
 pub use starting::start;
-
-#[cfg(test)]
-mod tests;

@@ -13,6 +13,3 @@ mod typing;
 mod words;
 
 pub use machine::Machine;
-
-#[cfg(test)]
-mod tests;

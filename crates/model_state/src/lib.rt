@@ -15,6 +15,3 @@ pub use cause::{Cause, Ended, RowError};
 pub use laws::{reads_hold, reservations_hold, results_end};
 pub use state::{Hart, Register, Registers, Reservation, Start, State, report};
 pub use stepper::Stepper;
-
-#[cfg(test)]
-mod tests;

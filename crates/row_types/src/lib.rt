@@ -9,6 +9,3 @@ mod table;
 pub use goals::owed;
 pub use kinds::{Outcome, Product, RowType};
 pub use table::row_type;
-
-#[cfg(test)]
-mod tests;

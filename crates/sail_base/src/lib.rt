@@ -25,6 +25,3 @@ pub use refusal::Refusal;
 pub use sums::{gcd, sum};
 pub use text::Text;
 pub use word::Word;
-
-#[cfg(test)]
-mod tests;

@@ -11,8 +11,6 @@ mod arithmetic;
 mod bitwise;
 mod parts;
 mod reading;
-#[cfg(test)]
-mod tests;
 
 use std::marker::Model;
 

@@ -22,6 +22,3 @@ pub use patterns::{Arm, Form, Head, Literal, Pattern, Step};
 pub use targets::{Caller, Suffix, Target, TargetKind, Way};
 pub use tree::{Callee, Core, Counting, Kind, Statement};
 pub use written::{Role, Written, WrittenNumber};
-
-#[cfg(test)]
-mod tests;

@@ -7,6 +7,3 @@ mod type_equality;
 
 pub use fitting::value_fits;
 pub use type_equality::{same_type, same_types};
-
-#[cfg(test)]
-mod tests;

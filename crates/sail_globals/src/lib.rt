@@ -11,8 +11,6 @@ mod held;
 mod members;
 mod naming;
 mod namings;
-#[cfg(test)]
-mod tests;
 
 pub use bound::push_bound;
 pub use clashes::{is_builtin, note_clashes};

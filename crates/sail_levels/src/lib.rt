@@ -2,7 +2,5 @@
 #![tactic(auto)]
 
 mod levels;
-#[cfg(test)]
-mod tests;
 
 pub use levels::{OPERATORS, deep};

@@ -41,6 +41,3 @@ pub use value_texts::{push_bits, push_value};
 pub use values::Value;
 pub use values_of::{copy_value, copy_values, same_value, same_values};
 pub use zero::zero_of;
-
-#[cfg(test)]
-mod tests;

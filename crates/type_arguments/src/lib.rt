@@ -14,6 +14,3 @@ pub use copies::{copy_indices, copy_normal, copy_typ, copy_types};
 pub use moved::{moved_con, moved_index, moved_indices, moved_num, moved_typ, moved_types};
 pub use normal::Normal;
 pub use ranges::{is_void, is_void_normal};
-
-#[cfg(test)]
-mod tests;

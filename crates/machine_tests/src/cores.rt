@@ -1,8 +1,8 @@
-use crate::{
+use sail_base::{Items, Place, Text};
+use sail_core::{
     Arm, Callee, Caller, Core, CoreModel, Direction, Form, Fragment, Head, Kind, Literal, Opening,
     OpeningKind, Pattern, Statement, Step, Target, TargetKind, core_in, model_in,
 };
-use sail_base::{Items, Place, Text};
 use sail_types::{Shape, Typ, Types};
 use std::alloc::{AllocError, Global};
 use std::test::Fail;

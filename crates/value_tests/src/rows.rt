@@ -4,7 +4,7 @@ mod mixed_tables;
 mod text_tables;
 mod word_tables;
 
-use super::*;
+use builtins::{apply, row_value};
 use integer_tables::{COMPARED_INTEGERS, DECIMALS, ONE_INTEGER, TWO_INTEGERS};
 use mixed_tables::{BIT_TEXTS, INTEGER_AND_WORD, MADE_BITS, ONE_WORD, TURNED, WORD_AND_INTEGER};
 use sail_base::{Text, Word};

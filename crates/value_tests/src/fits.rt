@@ -1,5 +1,5 @@
-use super::*;
 use sail_base::{Boxed, Items, Text};
+use sail_fits::{same_type, value_fits};
 use sail_types::{Con, Definition, Field, Form, Index, Num, Shape, Typ, Types, Value};
 use std::alloc::{AllocError, Global};
 use std::test::Fail;

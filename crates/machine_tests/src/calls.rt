@@ -1,9 +1,9 @@
 //! A module by hand: a loop of many turns, and calls inside calls.
-use crate::Machine;
 use jib::{
     Call, Checked, Function, Instruction, Literal, Module, Operation, Source, Target, ValueType,
     validate,
 };
+use jib_machine::Machine;
 use mem_store::Flat;
 use model_state::{Ended, State};
 use sail_base::{Items, Place};

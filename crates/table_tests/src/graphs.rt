@@ -1,4 +1,4 @@
-use crate::{Graph, find_cycles};
+use call_graph::{Graph, find_cycles};
 use std::alloc::{AllocError, Global};
 use std::process::Abort;
 use std::test::Fail;

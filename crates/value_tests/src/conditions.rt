@@ -1,4 +1,4 @@
-use super::*;
+use row_types::row_type;
 use sail_types::{ALL, Comparison, Con, Row, Shape};
 use std::test::Fail;
 

@@ -1,8 +1,8 @@
-use super::*;
 use sail_base::{Boxed, Items, Text};
 use sail_types::{Atom, Comparison, Con, Index, Num, Term, Typ, power, push_number};
 use std::alloc::{AllocError, Global};
 use std::test::Fail;
+use type_arguments::*;
 
 /// The number that is a variable this many times, with a constant.
 fn line(

@@ -1,6 +1,6 @@
 ghost use Rattle.std.specs.Prelude.{◌≡◌, ◌<◌, [], All, IfOk, IsTrue};
 
-use crate::{run_order, start};
+use harts::{run_order, start};
 use mem_store::{Flat, Memory};
 use model_state::{Cause, Ended, State, Stepper};
 use sail_base::{Items, Place};

@@ -1,7 +1,7 @@
 ghost use Rattle.std.specs.Prelude.{◌≡◌, ◌↔◌, ◌<◌, ◌≤◌, length, IfOk, IsTrue};
 
-use crate::{Cause, Register, RowError, Start, State, report};
 use mem_store::{Flat, Memory};
+use model_state::{Cause, Register, RowError, Start, State, report};
 use sail_base::{Items, Place, Text, Word};
 use sail_types::{Num, Typ, Types, Value};
 use std::alloc::{AllocError, Global};

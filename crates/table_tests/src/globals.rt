@@ -1,5 +1,5 @@
-use crate::{Called, Role, find_globals, find_members, find_namings, note_clashes};
 use sail_base::{Items, Place, Text};
+use sail_globals::{Called, Role, find_globals, find_members, find_namings, note_clashes};
 use sail_kinds::{First, TableError};
 use sail_syntax::{Def, Extent, Name, Overloaded, TyExp};
 use std::alloc::{AllocError, Global};

@@ -1,6 +1,6 @@
-use crate::deep;
 use sail_base::{Items, Place, Text};
 use sail_grammar::Lexeme;
+use sail_levels::deep;
 use sail_lex::TokenKind;
 use std::alloc::{AllocError, Global};
 use std::test::Fail;

@@ -1,4 +1,4 @@
-use crate::{Cert, FarkasError, Verdict, check_cases, eliminate_cases};
+use farkas::{Cert, FarkasError, Verdict, check_cases, eliminate_cases};
 use linear::{Number, Row};
 use sail_base::Items;
 use std::alloc::{AllocError, Global};

@@ -1,4 +1,4 @@
-use crate::{Entail, Kept, Scratch};
+use entail::{Entail, Kept, Scratch};
 use farkas::{Cert, FarkasError, Verdict};
 use sail_base::Items;
 use sail_types::{Atom, Comparison, Con, Num, Term};

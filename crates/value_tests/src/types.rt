@@ -1,5 +1,5 @@
-use super::*;
 use sail_base::{Boxed, Items, Text, Word};
+use sail_types::*;
 use std::alloc::{AllocError, Global};
 use std::test::Fail;
 

@@ -1,8 +1,7 @@
 //! Words and sums against values from outside: Python computed each with its own integers.
 ghost use Rattle.std.specs.Prelude.{◌≡◌, ◌≤◌, length};
 
-use super::Word;
-use crate::{gcd, sum};
+use sail_base::{Word, gcd, sum};
 
 /// An operation on two words of one width.
 #[derive(Clone, Copy)]
@@ -303,7 +302,7 @@ fn of_one(operation: One, a: Word, number: u128) -> Option<Word> {
 }
 
 #[test]
-#[tactic(auto, using(crate::specs::laws::WordParts::word_widths))]
+#[tactic(auto, using(sail_base::specs::laws::WordParts::word_widths))]
 fn operations(rt: HostRuntime) {
     for (operation, width, a, b, to, want) in TWO {
         assert!(rt; width <= 128 && to <= 128);
@@ -324,7 +323,7 @@ fn operations(rt: HostRuntime) {
 }
 
 #[test]
-#[tactic(auto, using(crate::specs::laws::WordParts::word_widths))]
+#[tactic(auto, using(sail_base::specs::laws::WordParts::word_widths))]
 fn parts(rt: HostRuntime) {
     for (width, a, low, b, want) in APPENDED {
         assert!(rt; width <= 128 && low <= 128 - width);

@@ -1,5 +1,5 @@
 //! Problems with their answers: those of the models that `docs/LANGUAGE.md` speaks of, and those at the limits.
-use crate::{Cert, FarkasError, Verdict, check_cert, discharge};
+use farkas::{Cert, FarkasError, Verdict, check_cert, discharge};
 use linear::{LinearError, Problem, cases, list_variables};
 use sail_base::{Boxed, Items};
 use sail_types::{Atom, Comparison, Con, Num, Term};
