@@ -1,0 +1,4 @@
+pub mod Firsts
+mod Scopes
+mod Rows
+mod Growth
