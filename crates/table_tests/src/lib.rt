@@ -5,6 +5,8 @@
 #![tactic(auto)]
 
 #[cfg(test)]
+mod forms;
+#[cfg(test)]
 mod globals;
 #[cfg(test)]
 mod graphs;

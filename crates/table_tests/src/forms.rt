@@ -1,0 +1,252 @@
+ghost use Rattle.sail_kinds.specs.Scopes.{type_named};
+ghost use Rattle.normal_forms.specs.Refusals.{AreKnown};
+
+use normal_forms::normal;
+use sail_base::{Boxed, Items, Kind, Place, Text};
+use sail_kinds::{Binders, Mismatch, Scope, TableError, TypeNames, Variable};
+use sail_syntax::{Name, TyExp, TypeOperator, TypePrefix};
+use sail_types::{Typ, push_number};
+use std::alloc::{AllocError, Global};
+use std::test::Fail;
+use type_arguments::Normal;
+
+fn at(column: u32) -> Place {
+    Place {
+        file: 1,
+        line: 1,
+        column,
+    }
+}
+
+fn number(column: u32, number: i128) -> TyExp {
+    TyExp::Number(at(column), number)
+}
+
+fn variable(alloc: Global, column: u32, name: &str) -> Result<TyExp, AllocError> {
+    Ok(TyExp::Variable(Name::new(alloc, at(column), name)?))
+}
+
+fn prefix(
+    alloc: Global,
+    column: u32,
+    prefix: TypePrefix,
+    part: TyExp,
+) -> Result<TyExp, AllocError> {
+    Ok(TyExp::Prefix(at(column), prefix, Boxed::new(alloc, part)?))
+}
+
+fn infix(
+    alloc: Global,
+    column: u32,
+    operator: TypeOperator,
+    left: TyExp,
+    right: TyExp,
+) -> Result<TyExp, AllocError> {
+    let left = Boxed::new(alloc, left)?;
+    let right = Boxed::new(alloc, right)?;
+    Ok(TyExp::Infix {
+        place: at(column),
+        operator,
+        left,
+        right,
+    })
+}
+
+fn named(
+    alloc: Global,
+    column: u32,
+    name: &str,
+    arguments: Items<TyExp>,
+) -> Result<TyExp, AllocError> {
+    Ok(TyExp::Named(Name::new(alloc, at(column), name)?, arguments))
+}
+
+fn of_one(alloc: Global, column: u32, name: &str, argument: TyExp) -> Result<TyExp, AllocError> {
+    let mut arguments = Items::new(alloc);
+    arguments.push(argument)?;
+    named(alloc, column, name, arguments)
+}
+
+fn of_two(alloc: Global, column: u32, name: &str, a: TyExp, b: TyExp) -> Result<TyExp, AllocError> {
+    let mut arguments = Items::new(alloc);
+    arguments.push(a)?;
+    arguments.push(b)?;
+    named(alloc, column, name, arguments)
+}
+
+/// `{'n 'm, true. T}` with such variables, at these columns.
+fn exists(alloc: Global, column: u32, names: &[&str], typ: TyExp) -> Result<TyExp, AllocError> {
+    let mut variables = Items::new(alloc);
+    for (index, name) in names.iter().enumerate() {
+        let column = match index {
+            0 => column,
+            _ => 99,
+        };
+        variables.push(Name::new(alloc, at(column), name)?)?;
+    }
+    let typ = Boxed::new(alloc, typ)?;
+    Ok(TyExp::Exists {
+        place: at(column),
+        variables,
+        constraint: None,
+        typ,
+    })
+}
+
+fn kind_text(kind: Kind) -> &'static str {
+    match kind {
+        Kind::Int => "Int",
+        Kind::Bool => "Bool",
+        Kind::Type => "Type",
+    }
+}
+
+/// Puts a refusal without its place, or what a text stands for, as far as the tests have it.
+fn push_answer(
+    out: &mut Vec<u8>,
+    names: &[Text],
+    answer: &Result<Normal, TableError>,
+) -> Result<(), AllocError> {
+    match answer {
+        Ok(Normal::Number(number)) => push_number(out, names, number),
+        Ok(Normal::Constraint(_)) => out.extend_from_slice(b"constraint"),
+        Ok(Normal::Typ(Typ::Bits(width))) => {
+            out.extend_from_slice(b"bits ")?;
+            push_number(out, names, width)
+        }
+        Ok(Normal::Typ(Typ::Exists(_, _, _))) => out.extend_from_slice(b"exists"),
+        Ok(Normal::Typ(_)) => out.extend_from_slice(b"type"),
+        Err(TableError::Clash { name, .. }) => out.extend_from_slice(name.as_bytes()),
+        Err(TableError::NoName { name, .. }) => out.extend_from_slice(name.as_bytes()),
+        Err(
+            TableError::IllKinded {
+                mismatch: Some(Mismatch::Kinds(wanted, found)),
+                ..
+            },
+        ) => {
+            out.extend_from_slice(kind_text(*wanted).as_bytes())?;
+            out.extend_from_slice(kind_text(*found).as_bytes())
+        }
+        Err(
+            TableError::IllKinded {
+                mismatch: Some(Mismatch::Counts(wanted, found)),
+                ..
+            },
+        ) => {
+            let is_one_for_two = *wanted == 1 && *found == 2;
+            let text = if is_one_for_two { "1 for 2" } else { "other" };
+            out.extend_from_slice(text.as_bytes())
+        }
+        Err(_) => out.extend_from_slice(b"refused"),
+    }
+}
+
+/// The number of a refusal and its column, both 0 where there is none.
+fn refusal(answer: &Result<Normal, TableError>) -> (u8, u32) {
+    match answer {
+        Ok(_) => (0, 0),
+        Err(error) => (error.number(), error.place().column),
+    }
+}
+
+/// What a text stands for under these parameters, where these types can be named.
+fn answer(
+    alloc: Global,
+    typ: &TyExp,
+    types: &TypeNames<'_>,
+    parameters: &[Variable],
+) -> Result<Normal, TableError>
+    requires { AreKnown (type_named types.now) }
+{
+    let binders = Binders::Parameters(parameters);
+    let scope = Scope::new(types, &binders);
+    normal(alloc, typ, &scope)
+}
+
+/// Texts under the parameters `'n : Int`, `'m : Int`, `'p : Bool` and `'a : Type`: the number of the refusal, its
+/// column, and its detail or what the text stands for.
+#[test]
+fn types_are_read(rt: HostRuntime) -> Result<(), Fail> {
+    let alloc = rt.alloc();
+    let largest = 85070591730234615865843651857942052864;
+    let n = variable(alloc, 1, "'n")?;
+    let twice = infix(alloc, 3, TypeOperator::Star, number(1, 2), n)?;
+    let n = variable(alloc, 1, "'n")?;
+    let more = infix(alloc, 4, TypeOperator::Plus, n, number(6, 1))?;
+    let product = infix(
+        alloc,
+        4,
+        TypeOperator::Star,
+        variable(alloc, 1, "'n")?,
+        variable(alloc, 6, "'m")?,
+    )?;
+    let past = infix(
+        alloc,
+        9,
+        TypeOperator::Plus,
+        number(1, largest),
+        number(11, 1),
+    )?;
+    let high = prefix(alloc, 3, TypePrefix::Power, number(5, 127))?;
+    let power = prefix(alloc, 3, TypePrefix::Power, number(5, 126))?;
+    let less = infix(
+        alloc,
+        4,
+        TypeOperator::Less,
+        variable(alloc, 1, "'n")?,
+        number(6, 9),
+    )?;
+    let negative = prefix(alloc, 6, TypePrefix::Negate, number(7, 1))?;
+    let bit = named(alloc, 5, "bit", Items::new(alloc))?;
+    let choice = TyExp::Truth(at(6), true);
+    let other = TyExp::Truth(at(12), false);
+    let unknown = named(alloc, 6, "word", Items::new(alloc))?;
+    let inner = of_one(alloc, 9, "bits", variable(alloc, 14, "'k")?)?;
+    let twice_bound = of_one(alloc, 9, "bits", number(14, 1))?;
+    let raised = prefix(alloc, 3, TypePrefix::Power, more)?;
+    let rows = [
+        (twice, 0, 0, "2 * 'n"),
+        (raised, 0, 0, "2 ^ ('n + 1)"),
+        (power, 0, 0, "85070591730234615865843651857942052864"),
+        (product, 11, 4, "refused"),
+        (past, 11, 9, "refused"),
+        (high, 11, 3, "refused"),
+        (less, 0, 0, "constraint"),
+        (of_one(alloc, 1, "bits", negative)?, 11, 1, "refused"),
+        (of_one(alloc, 1, "int", bit)?, 11, 5, "IntType"),
+        (of_two(alloc, 1, "bool", choice, other)?, 11, 1, "1 for 2"),
+        (
+            of_two(alloc, 1, "range", number(7, 3), number(10, 2))?,
+            11,
+            1,
+            "refused",
+        ),
+        (of_one(alloc, 1, "list", unknown)?, 10, 6, "word"),
+        (variable(alloc, 1, "'k")?, 10, 1, "'k"),
+        (exists(alloc, 2, &["'k"], inner)?, 0, 0, "exists"),
+        (exists(alloc, 2, &["'k", "'k"], twice_bound)?, 9, 99, "'k"),
+    ];
+    let mut parameters = Items::new(alloc);
+    for (name, kind) in [
+        ("'n", Kind::Int),
+        ("'m", Kind::Int),
+        ("'p", Kind::Bool),
+        ("'a", Kind::Type),
+    ] {
+        let name = Text::new(alloc, name)?;
+        parameters.push(Variable { name, kind })?;
+    }
+    let mut names = Items::new(alloc);
+    for name in ["'n", "'m", "'p"] {
+        names.push(Text::new(alloc, name)?)?;
+    }
+    let types = TypeNames::new(alloc);
+    for (typ, number, column, text) in &rows {
+        let answer = answer(alloc, typ, &types, parameters.as_slice());
+        let mut out = Vec::new(alloc);
+        push_answer(&mut out, names.as_slice(), &answer)?;
+        assert!(rt; refusal(&answer) == (*number, *column));
+        assert!(rt; out.as_slice() == text.as_bytes());
+    }
+    Ok(())
+}
