@@ -10,3 +10,5 @@ mod forms;
 mod globals;
 #[cfg(test)]
 mod graphs;
+#[cfg(test)]
+mod meanings;
