@@ -12,3 +12,5 @@ mod globals;
 mod graphs;
 #[cfg(test)]
 mod meanings;
+#[cfg(test)]
+mod whole;

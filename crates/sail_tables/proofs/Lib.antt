@@ -1,0 +1,5 @@
+mod EntryPoints
+mod Noted
+mod Putting
+mod Signed
+pub mod OneFailure
