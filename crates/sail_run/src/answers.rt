@@ -1,3 +1,4 @@
+use crate::tables_rows;
 use sail_outside::{MemShelf, MemSink};
 use sail_top::run_words;
 use std::alloc::{AllocError, Global};
@@ -189,7 +190,7 @@ const ROWS: &[(&str, &str, &str, &str)] = &[
     ("run --elf NONE M X", COUNTER, COUNT, "9 no file: X\n"),
     ("run --elf Q ", COUNTER, COUNT, "9 no file: \n"),
     // images, behind the models
-    ("run --elf P M", COUNTER, "", "1 M05 1:1:1\n"),
+    ("run --elf P M", COUNTER, "", "1 M19 1:2:1 reset\n"),
     ("run --elf P M", COUNTER, COUNT, "6 E11 0\n"),
     ("run --elf M M", COUNTER, COUNT, "6 E2\n"),
     ("run --elf Q --ram-size 7 M", COUNTER, COUNT, "6 E13 0\n"),
@@ -289,15 +290,30 @@ const ROWS: &[(&str, &str, &str, &str)] = &[
         "",
         "1 M22 1:1:34 step\n",
     ),
-    // and then what runs today
+    // then what names mean, in all models, with the end of the last one
     (
         "run --elf Q M",
         "scattered function f end f\n",
         COUNT,
-        "1 M05 1:1:1\n",
+        "1 M10 1:1:1 f\n",
     ),
-    ("run --elf Q M", "", "", "1 M05 1:1:1\n"),
-    ("run --elf Q M M", COUNTER, COUNT, "1 M05 1:1:1\n"),
+    ("run --elf Q M", "", "", "1 M19 1:1:1 reset\n"),
+    ("run --elf Q M M", COUNTER, COUNT, "1 M09 2:1:1 PC\n"),
+    ("run --elf Q M M M", "type t = int\n", "", "1 M09 2:1:1 t\n"),
+    ("run --elf Q N N", "", "", "1 M10 1:4:21 PC\n"),
+    (
+        "run --elf Q M",
+        "register PC : bits(8) register PC : bits(8)",
+        COUNT,
+        "1 M09 1:1:23 PC\n",
+    ),
+    (
+        "run --elf Q M",
+        COUNTER,
+        "{ PC = Q + 0x01; true }",
+        "1 M10 1:5:26 Q\n",
+    ),
+    // and then what runs today
     ("run --elf Q N M", COUNTER, "", "1 M05 1:1:1\n"),
     (
         "run --elf Q M",
@@ -314,12 +330,6 @@ const ROWS: &[(&str, &str, &str, &str)] = &[
     (
         "run --elf Q M",
         "register PC : bits(8) = 0x00\n",
-        COUNT,
-        "1 M05 1:1:1\n",
-    ),
-    (
-        "run --elf Q M",
-        "register PC : bits(8) register PC : bits(8)",
         COUNT,
         "1 M05 1:1:1\n",
     ),
@@ -340,12 +350,6 @@ const ROWS: &[(&str, &str, &str, &str)] = &[
         "run --elf Q M",
         COUNTER,
         "{ PC = 0x01 + PC; true }",
-        "1 M05 1:1:1\n",
-    ),
-    (
-        "run --elf Q M",
-        COUNTER,
-        "{ PC = Q + 0x01; true }",
         "1 M05 1:1:1\n",
     ),
     (
@@ -428,6 +432,21 @@ fn words_are_answered(rt: HostRuntime) -> Result<(), Fail> {
         assert!(rt;
             written.as_slice() == wanted.as_bytes(),
             "{words}: {registers}{body}"
+        );
+    }
+    Ok(())
+}
+
+#[test]
+fn names_and_types_are_answered(rt: HostRuntime) -> Result<(), Fail> {
+    let alloc = rt.alloc();
+    for (definitions, body, wanted) in tables_rows::ROWS {
+        let text = model(alloc, definitions, body)?;
+        let fails = (Vec::new(alloc), Vec::new(alloc));
+        let written = answer(alloc, "run --elf Q M", text, fails, 4096)?;
+        assert!(rt;
+            written.as_slice() == wanted.as_bytes(),
+            "{definitions}{body}"
         );
     }
     Ok(())

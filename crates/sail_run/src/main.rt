@@ -4,6 +4,8 @@
 #[cfg(test)]
 mod answers;
 #[cfg(test)]
+mod tables_rows;
+#[cfg(test)]
 mod tests;
 
 use sail_outside::{StdShelf, StdSink};

@@ -11,11 +11,14 @@ use Rattle.sail_lex.specs.declared.token.Token.{Token}
 use Rattle.sail_syntax.specs.declared.definitions.Def.{Def}
 use Rattle.scattered.specs.Gathered.{gathered}
 use Rattle.scattered.specs.Refused.{refusal as why_ungathered}
+use Rattle.sail_kinds.specs.declared.error.TableError.{TableError}
+use Rattle.sail_tables.specs.Refused.{IsFirstFailure, IsAccepted}
 use Rattle.scattered.specs.declared.error.ScatterError.{ScatterError}
 use Rattle.model_tokens.specs.Files.{AreLexed}
 use Rattle.model_tokens.proofs.OneAnswer.{answered}
-use Rattle.sail_top.specs.Models.{AreModel, joined, end_of_all, unlexed, unparsed, ungathered, not_run}
-use Rattle.sail_top.specs.Refusals.{token_refusal, parse_refusal, gather_refusal, outside}
+use Rattle.sail_top.proofs.TableLemmas.{failure_of, has_failure}
+use Rattle.sail_top.specs.Models.{AreModel, joined, end_of_all, unlexed, unparsed, ungathered, untabled, not_run}
+use Rattle.sail_top.specs.Refusals.{token_refusal, parse_refusal, gather_refusal, table_refusal, outside}
 use Rattle.sail_top.specs.laws.OneAnswer.{AreDecided}
 use Rattle.sail_top.specs.Answer.{Judges, AnswersFiles, AnswersEnd, AnswersLine, IsAnswer}
 use Rattle.sail_top.specs.Answer.{answer_for, model_refused, usage, no_file, too_long}
@@ -26,12 +29,28 @@ use Rattle.sail_top.specs.declared.status.Answer.{Answer}
 module _ (decided : AreDecided) where
   run_judged : (command : Run) (texts : List (List ℕ)) (file : List ℕ) (tokens : List (List Token)) (definitions : List Def) (found : Option Model)
       → AreLexed 1 0 texts tokens → IsModel (joined texts tokens) definitions → why_ungathered definitions ≡ None
-      → model_of (gathered definitions) ≡ found → (a : Answer) × Judges command texts file a
-  run_judged command texts file tokens definitions None lexed parsed none is =
-      (model_refused outside, inl (outside, not_run tokens definitions lexed parsed none is, refl))
-  run_judged command texts file tokens definitions (Some model) lexed parsed none is =
-      let are : AreModel texts model = record { tokens = tokens; lexed = lexed; definitions = definitions; parsed = parsed; gathers = none; runs = is } in
+      → IsAccepted (gathered definitions) (end_of_all texts) → model_of (gathered definitions) ≡ found → (a : Answer) × Judges command texts file a
+  run_judged command texts file tokens definitions None lexed parsed none tabled is =
+      (model_refused outside, inl (outside, not_run tokens definitions lexed parsed none tabled is, refl))
+  run_judged command texts file tokens definitions (Some model) lexed parsed none tabled is =
+      let are : AreModel texts model = record {
+        tokens = tokens;
+        lexed = lexed;
+        definitions = definitions;
+        parsed = parsed;
+        gathers = none;
+        tables = tabled;
+        runs = is;
+      } in
       (answer_for command model file, inr (model, are, refl))
+
+  table_judged : (command : Run) (texts : List (List ℕ)) (file : List ℕ) (tokens : List (List Token)) (definitions : List Def)
+      (failure : Option TableError) → AreLexed 1 0 texts tokens → IsModel (joined texts tokens) definitions → why_ungathered definitions ≡ None
+      → IsFirstFailure (gathered definitions) (end_of_all texts) failure → (a : Answer) × Judges command texts file a
+  table_judged command texts file tokens definitions (Some e) lexed parsed none first =
+      (model_refused (table_refusal e), inl (table_refusal e, untabled tokens definitions e lexed parsed none first, refl))
+  table_judged command texts file tokens definitions None lexed parsed none first =
+      run_judged command texts file tokens definitions (model_of (gathered definitions)) lexed parsed none first refl
 
   gather_judged : (command : Run) (texts : List (List ℕ)) (file : List ℕ) (tokens : List (List Token)) (definitions : List Def)
       (why : Option ScatterError) → AreLexed 1 0 texts tokens → IsModel (joined texts tokens) definitions → why_ungathered definitions ≡ why
@@ -39,7 +58,8 @@ module _ (decided : AreDecided) where
   gather_judged command texts file tokens definitions (Some e) lexed parsed is =
       (model_refused (gather_refusal e), inl (gather_refusal e, ungathered tokens definitions e lexed parsed is, refl))
   gather_judged command texts file tokens definitions None lexed parsed is =
-      run_judged command texts file tokens definitions (model_of (gathered definitions)) lexed parsed is refl
+      table_judged command texts file tokens definitions (failure_of (gathered definitions) (end_of_all texts)) lexed parsed is
+      (has_failure (gathered definitions) (end_of_all texts))
 
   lexed_judged : (command : Run) (texts : List (List ℕ)) (file : List ℕ) (tokens : List (List Token))
       → AreLexed 1 0 texts tokens → (a : Answer) × Judges command texts file a

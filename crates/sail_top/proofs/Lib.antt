@@ -5,6 +5,8 @@ pub mod EndingLemmas
 pub mod LeftOut
 pub mod ModelLemmas
 pub mod OneRefusal
+pub mod Reaching
 pub mod ReadingLemmas
 pub mod RunLemmas
 pub mod ShortLemmas
+pub mod TableLemmas

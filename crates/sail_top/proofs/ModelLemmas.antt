@@ -1,4 +1,4 @@
--- What lexing, parsing, gathering and the conditions on what runs say of texts.
+-- What lexing, parsing, gathering, the tables and the conditions on what runs say of texts.
 use Rattle.std.proofs.Common.{◌≡◌, ℕ, ◌+◌, ◌≤◌, List, [], ◌∷◌, ◌++◌, length, map, sym, ap, ◌∙◌, subst, arith}
 use Rattle.std.specs.Prelude.{Option, Some, None, Result, Ok, Err, IfOk, IfErr}
 use Rattle.std.specs.List.{All}
@@ -14,6 +14,8 @@ use Rattle.sail_grammar.specs.Symbol.{Sign}
 use Rattle.sail_grammar.specs.declared.error.ParseError.{ParseError}
 use Rattle.sail_grammar.specs.declared.error.ParseError.TheVariants as parse
 use Rattle.sail_grammar.proofs.Model.{one_model, not_refused}
+use Rattle.sail_kinds.specs.declared.error.TableError.{TableError}
+use Rattle.sail_kinds.specs.declared.error.TableError.TheVariants as table
 use Rattle.sail_lex.specs.Tokens.{AreInOrder}
 use Rattle.sail_lex.specs.Valued.{AreAscii}
 use Rattle.sail_lex.specs.declared.token.LexError.{LexError}
@@ -28,14 +30,16 @@ use Rattle.scattered.specs.declared.error.ScatterError.TheVariants as scatter
 use Rattle.model_tokens.specs.Files.{AreLexed, AreRefused, IsRefusal as IsRefusalOfTexts}
 use Rattle.model_tokens.specs.Parts.{tokens_of, IsOf, AreOf}
 use Rattle.model_tokens.proofs.OneAnswer.{one_lexing, one_refused as one_unlexed, never_both}
-use Rattle.sail_top.specs.Models.{joined, last_end, end_of_all, AreModel, IsRefusal, unlexed, unparsed, ungathered, not_run}
-use Rattle.sail_top.specs.Refusals.{token_refusal, parse_refusal, gather_refusal, outside}
-use Rattle.sail_top.specs.parts.Told.{IsOfText, IsOfTokens, IsOfDefinitions, Tells, RunsAs, GathersAs}
-use Rattle.sail_top.specs.parts.Told.{DefinitionsRefused, definitions_ungathered, definitions_not_run, TokensRefused, tokens_unparsed, tokens_parsed}
-use Rattle.sail_top.specs.parts.Told.{TellsOfTokens, TellsOfDefinitions, TellsNotRun}
+use Rattle.sail_tables.specs.Refused.{IsFirstFailure, IsAccepted, IsRefusal as IsRefusalOfTables}
+use Rattle.sail_top.specs.Models.{joined, last_end, end_of_all, AreModel, IsRefusal, unlexed, unparsed, ungathered, untabled, not_run}
+use Rattle.sail_top.specs.Refusals.{token_refusal, parse_refusal, gather_refusal, table_refusal, outside}
+use Rattle.sail_top.specs.parts.Told.{IsOfText, IsOfTokens, IsOfDefinitions, IsOfTables, Tells, RunsAs, GathersAs, TabledAs}
+use Rattle.sail_top.specs.parts.Told.{WholeRefused, whole_untabled, whole_not_run, DefinitionsRefused, definitions_ungathered, definitions_gathered}
+use Rattle.sail_top.specs.parts.Told.{TokensRefused, tokens_unparsed, tokens_parsed, TellsOfTokens, TellsOfDefinitions, TellsOfWhole, TellsNotRun}
 use Rattle.sail_top.specs.declared.models.ModelError.{ModelError}
 use Rattle.sail_top.specs.declared.models.ModelError.TheVariants as model
 use Rattle.sail_top.proofs.OneRefusal.{one_refused}
+use Rattle.sail_top.proofs.TableLemmas.{failure_of, failure_is}
 
 -- ---- errors that say something
 
@@ -69,10 +73,25 @@ refused_definitions definitions (scatter.NoOpening place name) is told = is
 refused_definitions definitions (scatter.Unended place name) is told = is
 refused_definitions definitions scatter.OutOfMemory is told = absurd told
 
-pub ungathered_is : (definitions : List Def) (e : ScatterError) (refusal : Refusal)
-    → IsRefusalOfDefinitions (why_ungathered definitions) e → IsOfDefinitions e → refusal ≡ gather_refusal e → DefinitionsRefused definitions refusal
-ungathered_is definitions e refusal is told same =
-    subst (DefinitionsRefused definitions) (sym same) (definitions_ungathered e (refused_definitions definitions e is told))
+pub ungathered_is : (definitions : List Def) (end : Place) (e : ScatterError) (refusal : Refusal)
+    → IsRefusalOfDefinitions (why_ungathered definitions) e → IsOfDefinitions e → refusal ≡ gather_refusal e
+    → DefinitionsRefused definitions end refusal
+ungathered_is definitions end e refusal is told same =
+    subst (DefinitionsRefused definitions end) (sym same) (definitions_ungathered e (refused_definitions definitions e is told))
+
+refused_tables : (whole : List Def) (end : Place) (e : TableError) → IsRefusalOfTables whole end e → IsOfTables e → IsFirstFailure whole end (Some e)
+refused_tables whole end (table.Clash place name) is told = is
+refused_tables whole end (table.NoName place name) is told = is
+refused_tables whole end (table.IllKinded place found) is told = is
+refused_tables whole end (table.MeasureMissing place name) is told = is
+refused_tables whole end (table.EntryMissing place name) is told = is
+refused_tables whole end (table.MappingCycle place name) is told = is
+refused_tables whole end table.OutOfMemory is told = absurd told
+
+pub untabled_is : (whole : List Def) (end : Place) (e : TableError) (refusal : Refusal)
+    → IsRefusalOfTables whole end e → IsOfTables e → refusal ≡ table_refusal e → WholeRefused whole end refusal
+untabled_is whole end e refusal is told same =
+    subst (WholeRefused whole end) (sym same) (whole_untabled e (refused_tables whole end e is told))
 
 -- ---- the tokens of files
 
@@ -122,26 +141,33 @@ module _ (texts : List (List ℕ)) (found files : List Tokens) (same : files ≡
   pub files_have_texts : All HaveTexts files
   files_have_texts = subst (All HaveTexts) (sym same) (have_texts 1 texts found are)
 
-  pub texts_model : (r : Result Model ModelError) → IfOk r (RunsAs (joined_files files)) → IfOk r (AreModel texts)
+  pub texts_model : (r : Result Model ModelError) → IfOk r (RunsAs (joined_files files) (end_from nowhere files)) → IfOk r (AreModel texts)
   texts_model (Ok m) is = record {
     tokens = map tokens_of found;
     lexed = lexed;
     definitions = is.0;
     parsed = subst (λ x. IsModel x is.0) signs is.1;
     gathers = is.2.0;
-    runs = is.2.1;
+    tables = subst (λ p. IsAccepted (gathered is.0) p) end is.2.1.0;
+    runs = is.2.1.1;
   }
   texts_model (Err e) is = is
 
+  refusal_of_whole : {refusal : Refusal} (definitions : List Def) → IsModel (joined texts (map tokens_of found)) definitions
+      → why_ungathered definitions ≡ None → WholeRefused (gathered definitions) (end_of_all texts) refusal → IsRefusal texts refusal
+  refusal_of_whole definitions h none (whole_untabled e first) = untabled (map tokens_of found) definitions e lexed h none first
+  refusal_of_whole definitions h none (whole_not_run tabled never) = not_run (map tokens_of found) definitions lexed h none tabled never
+
   refusal_of_definitions : {refusal : Refusal} (definitions : List Def) → IsModel (joined texts (map tokens_of found)) definitions
-      → DefinitionsRefused definitions refusal → IsRefusal texts refusal
+      → DefinitionsRefused definitions (end_of_all texts) refusal → IsRefusal texts refusal
   refusal_of_definitions definitions h (definitions_ungathered e why) = ungathered (map tokens_of found) definitions e lexed h why
-  refusal_of_definitions definitions h (definitions_not_run none never) = not_run (map tokens_of found) definitions lexed h none never
+  refusal_of_definitions definitions h (definitions_gathered none whole) = refusal_of_whole definitions h none whole
 
   refusal_of : {refusal : Refusal} → TokensRefused (joined_files files) (end_from nowhere files) refusal → IsRefusal texts refusal
   refusal_of (tokens_unparsed e h) =
       unparsed (map tokens_of found) e lexed (subst (λ x. IsRefused x (end_of_all texts) e) signs (subst (λ p. IsRefused (joined_files files) p e) end h))
-  refusal_of (tokens_parsed definitions h refused) = refusal_of_definitions definitions (subst (λ x. IsModel x definitions) signs h) refused
+  refusal_of {refusal} (tokens_parsed definitions h refused) =
+      refusal_of_definitions definitions (subst (λ x. IsModel x definitions) signs h) (subst (λ p. DefinitionsRefused definitions p refusal) end refused)
 
   pub texts_refused : (r : Result Model ModelError) → IfErr r (TellsOfTokens (joined_files files) (end_from nowhere files)) → IfErr r (Tells texts)
   texts_refused (Ok m) is = is
@@ -150,29 +176,41 @@ module _ (texts : List (List ℕ)) (found files : List Tokens) (same : files ≡
 
 -- ---- from definitions to their tokens
 
-module _ (signs : List Sign) (definitions : List Def) (parsed : IsModel signs definitions) where
-  pub tokens_model : (r : Result Model ModelError) → IfOk r (GathersAs definitions) → IfOk r (RunsAs signs)
-  tokens_model (Ok m) is = (definitions, parsed, is)
+module _ (signs : List Sign) (definitions : List Def) (parsed : IsModel signs definitions) (place end : Place) (same : place ≡ end) where
+  pub tokens_model : (r : Result Model ModelError) → IfOk r (GathersAs definitions place) → IfOk r (RunsAs signs end)
+  tokens_model (Ok m) is = (definitions, parsed, subst (λ p. GathersAs definitions p m) same is)
   tokens_model (Err e) is = is
 
-  pub tokens_refused : (end : Place) (r : Result Model ModelError) → IfErr r (TellsOfDefinitions definitions) → IfErr r (TellsOfTokens signs end)
-  tokens_refused end (Ok m) is = is
-  tokens_refused end (Err (model.Refused refusal)) is = tokens_parsed definitions parsed is
-  tokens_refused end (Err model.OutOfMemory) is = tt
+  pub tokens_refused : (r : Result Model ModelError) → IfErr r (TellsOfDefinitions definitions place) → IfErr r (TellsOfTokens signs end)
+  tokens_refused (Ok m) is = is
+  tokens_refused (Err (model.Refused refusal)) is =
+      tokens_parsed definitions parsed (subst (λ p. DefinitionsRefused definitions p refusal) same is)
+  tokens_refused (Err model.OutOfMemory) is = tt
 
 -- ---- from gathered definitions to those that were gathered
 
 module _ (definitions whole read : List Def) (same : read ≡ whole) (none : why_ungathered definitions ≡ None) (are : whole ≡ gathered definitions)
-  where
-    pub gathered_model : (r : Result Model ModelError) → IfOk r (λ m. model_of read ≡ Some m) → IfOk r (GathersAs definitions)
-    gathered_model (Ok m) is = (none, ap model_of (sym (same ∙ are)) ∙ is)
-    gathered_model (Err e) is = is
+    (end : Place) where
+  pub gathered_model : (r : Result Model ModelError) → IfOk r (TabledAs read end) → IfOk r (GathersAs definitions end)
+  gathered_model (Ok m) is = (none, subst (λ w. TabledAs w end m) (same ∙ are) is)
+  gathered_model (Err e) is = is
 
-    pub gathered_refused : (r : Result Model ModelError) → IfErr r (TellsNotRun read) → IfErr r (TellsOfDefinitions definitions)
-    gathered_refused (Ok m) is = is
-    gathered_refused (Err (model.Refused refusal)) is =
-        subst (DefinitionsRefused definitions) (sym is.1) (definitions_not_run none (ap model_of (sym (same ∙ are)) ∙ is.0))
-    gathered_refused (Err model.OutOfMemory) is = tt
+  pub gathered_refused : (r : Result Model ModelError) → IfErr r (TellsOfWhole read end) → IfErr r (TellsOfDefinitions definitions end)
+  gathered_refused (Ok m) is = is
+  gathered_refused (Err (model.Refused refusal)) is = definitions_gathered none (subst (λ w. WholeRefused w end refusal) (same ∙ are) is)
+  gathered_refused (Err model.OutOfMemory) is = tt
+
+-- ---- from what runs to gathered definitions that have tables
+
+module _ (whole : List Def) (end : Place) (tabled : IsAccepted whole end) where
+  pub tabled_model : (r : Result Model ModelError) → IfOk r (λ m. model_of whole ≡ Some m) → IfOk r (TabledAs whole end)
+  tabled_model (Ok m) is = (tabled, is)
+  tabled_model (Err e) is = is
+
+  pub tabled_refused : (r : Result Model ModelError) → IfErr r (TellsNotRun whole) → IfErr r (TellsOfWhole whole end)
+  tabled_refused (Ok m) is = is
+  tabled_refused (Err (model.Refused refusal)) is = subst (WholeRefused whole end) (sym is.1) (whole_not_run tabled is.0)
+  tabled_refused (Err model.OutOfMemory) is = tt
 
 -- ---- the phases behind the grammar, as one function
 
@@ -180,13 +218,18 @@ abbrev run_refusal : Option Model → Option Refusal
 run_refusal (Some m) = None
 run_refusal None = Some outside
 
+abbrev whole_refusal : Option TableError → Option Model → Option Refusal
+whole_refusal (Some e) m = Some (table_refusal e)
+whole_refusal None m = run_refusal m
+
 abbrev refusal_unless : Option ScatterError → Option Refusal → Option Refusal
 refusal_unless (Some e) next = Some (gather_refusal e)
 refusal_unless None next = next
 
--- how definitions are refused by the first of these phases that refuses them
-abbrev definitions_refusal : List Def → Option Refusal
-definitions_refusal definitions = refusal_unless (why_ungathered definitions) (run_refusal (model_of (gathered definitions)))
+-- how definitions that end here are refused by the first of these phases that refuses them
+abbrev definitions_refusal : Place → List Def → Option Refusal
+definitions_refusal end definitions =
+    refusal_unless (why_ungathered definitions) (whole_refusal (failure_of (gathered definitions) end) (model_of (gathered definitions)))
 
 -- how texts are refused, with all these phases as one
 data Refused (texts : List (List ℕ)) : Refusal → Type 0 where
@@ -194,18 +237,25 @@ data Refused (texts : List (List ℕ)) : Refusal → Type 0 where
   by_grammar : (tokens : List (List Token)) (e : ParseError) → AreLexed 1 0 texts tokens →
       IsRefused (joined texts tokens) (end_of_all texts) e → Refused texts (parse_refusal e)
   by_definitions : {refusal : Refusal} (tokens : List (List Token)) (definitions : List Def) → AreLexed 1 0 texts tokens →
-      IsModel (joined texts tokens) definitions → definitions_refusal definitions ≡ Some refusal → Refused texts refusal
+      IsModel (joined texts tokens) definitions → definitions_refusal (end_of_all texts) definitions ≡ Some refusal → Refused texts refusal
 
 phase : (texts : List (List ℕ)) {refusal : Refusal} → IsRefusal texts refusal → Refused texts refusal
 phase texts (unlexed e h) = by_tokens e h
 phase texts (unparsed tokens e lexed h) = by_grammar tokens e lexed h
 phase texts (ungathered tokens definitions e lexed parsed why) =
-    by_definitions tokens definitions lexed parsed (λ i. refusal_unless (why i) (run_refusal (model_of (gathered definitions))))
-phase texts (not_run tokens definitions lexed parsed none never) =
-    by_definitions tokens definitions lexed parsed (λ i. refusal_unless (none i) (run_refusal (never i)))
+    by_definitions tokens definitions lexed parsed
+    (λ i. refusal_unless (why i) (whole_refusal (failure_of (gathered definitions) (end_of_all texts)) (model_of (gathered definitions))))
+phase texts (untabled tokens definitions e lexed parsed none first) =
+    let failure = failure_is (gathered definitions) (end_of_all texts) (Some e) first in
+    by_definitions tokens definitions lexed parsed (λ i. refusal_unless (none i) (whole_refusal (failure i) (model_of (gathered definitions))))
+phase texts (not_run tokens definitions lexed parsed none tabled never) =
+    let failure = failure_is (gathered definitions) (end_of_all texts) None tabled in
+    by_definitions tokens definitions lexed parsed (λ i. refusal_unless (none i) (whole_refusal (failure i) (never i)))
 
-runs_unrefused : (texts : List (List ℕ)) (m : Model) (p : AreModel texts m) → definitions_refusal p.definitions ≡ None
-runs_unrefused texts m p = λ i. refusal_unless (p.gathers i) (run_refusal (p.runs i))
+runs_unrefused : (texts : List (List ℕ)) (m : Model) (p : AreModel texts m) → definitions_refusal (end_of_all texts) p.definitions ≡ None
+runs_unrefused texts m p =
+    let failure = failure_is (gathered p.definitions) (end_of_all texts) None p.tables in
+    λ i. refusal_unless (p.gathers i) (whole_refusal (failure i) (p.runs i))
 
 -- ---- texts are one model, or refused in one way
 
@@ -221,8 +271,8 @@ parsed_apart texts tokens others a end e p q m r =
     not_refused (joined texts others) a end e (subst (λ t. IsModel (joined texts t) a) (one_lexing texts 1 0 tokens others p q) m) r
 
 -- what runs isn't refused
-run_apart : (a b : List Def) (refusal : Refusal) → a ≡ b → definitions_refusal a ≡ None → definitions_refusal b ≡ Some refusal → ⊥
-run_apart a b refusal same none some = let both : None ≡ Some refusal = sym none ∙ (ap definitions_refusal same ∙ some) in cc
+run_apart : (end : Place) (a b : List Def) (refusal : Refusal) → a ≡ b → definitions_refusal end a ≡ None → definitions_refusal end b ≡ Some refusal → ⊥
+run_apart end a b refusal same none some = let both : None ≡ Some refusal = sym none ∙ (ap (definitions_refusal end) same ∙ some) in cc
 
 pub one_model_of : (texts : List (List ℕ)) (a b : Model) → AreModel texts a → AreModel texts b → a ≡ b
 one_model_of texts a b p q =
@@ -236,15 +286,16 @@ apart texts m refusal p (by_tokens e h) = never_both texts 1 0 p.tokens e p.lexe
 apart texts m refusal p (by_grammar tokens e lexed h) =
     parsed_apart texts p.tokens tokens p.definitions (end_of_all texts) e p.lexed lexed p.parsed h
 apart texts m refusal p (by_definitions tokens definitions lexed parsed some) =
-    run_apart p.definitions definitions refusal (same_definitions texts p.tokens tokens p.definitions definitions p.lexed lexed p.parsed parsed)
+    run_apart (end_of_all texts) p.definitions definitions refusal (same_definitions texts p.tokens tokens p.definitions definitions p.lexed lexed p.parsed parsed)
     (runs_unrefused texts m p) some
 
 pub model_not_refused : (texts : List (List ℕ)) (m : Model) (refusal : Refusal) → AreModel texts m → IsRefusal texts refusal → ⊥
 model_not_refused texts m refusal p h = apart texts m refusal p (phase texts h)
 
 -- definitions of the same texts are refused in one way
-one_later : (a b : List Def) (r other : Refusal) → a ≡ b → definitions_refusal a ≡ Some r → definitions_refusal b ≡ Some other → r ≡ other
-one_later a b r other same one two = let both : Some r ≡ Some other = sym one ∙ (ap definitions_refusal same ∙ two) in cc
+one_later : (end : Place) (a b : List Def) (r other : Refusal) → a ≡ b → definitions_refusal end a ≡ Some r → definitions_refusal end b ≡ Some other
+    → r ≡ other
+one_later end a b r other same one two = let both : Some r ≡ Some other = sym one ∙ (ap (definitions_refusal end) same ∙ two) in cc
 
 one_phase : (texts : List (List ℕ)) {r other : Refusal} → Refused texts r → Refused texts other → r ≡ other
 one_phase texts (by_tokens e h) (by_tokens f k) = ap token_refusal (one_unlexed texts 1 0 e f h k)
@@ -260,7 +311,7 @@ one_phase texts (by_definitions tokens definitions lexed parsed some) (by_tokens
 one_phase texts (by_definitions others definitions again parsed some) (by_grammar tokens e lexed h) =
     absurd (parsed_apart texts others tokens definitions (end_of_all texts) e again lexed parsed h)
 one_phase texts {r} {other} (by_definitions tokens definitions lexed parsed one) (by_definitions others also again more two) =
-    one_later definitions also r other (same_definitions texts tokens others definitions also lexed again parsed more) one two
+    one_later (end_of_all texts) definitions also r other (same_definitions texts tokens others definitions also lexed again parsed more) one two
 
 pub one_refusal_of : (texts : List (List ℕ)) (r other : Refusal) → IsRefusal texts r → IsRefusal texts other → r ≡ other
 one_refusal_of texts r other p q = one_phase texts (phase texts p) (phase texts q)

@@ -1,10 +1,17 @@
 -- The refusals of a model, by the phase that refuses it.
-use Rattle.std.specs.Prelude.{ℕ, List, [], ◌∷◌, codes, Some, None}
+use Rattle.std.specs.Prelude.{ℕ, List, [], ◌∷◌, ◌++◌, codes, Option, Some, None}
+use Rattle.std.specs.Fmt.{decimal}
 use Rattle.hex.specs.Hex.{encode_lower}
+use Rattle.sail_base.specs.declared.kind.Kind.{Kind}
+use Rattle.sail_base.specs.declared.kind.Kind.TheVariants as kind
 use Rattle.sail_base.specs.declared.place.Place.{Place}
 use Rattle.sail_base.specs.declared.refusal.Refusal.{Refusal}
 use Rattle.sail_grammar.specs.declared.error.ParseError.{ParseError}
 use Rattle.sail_grammar.specs.declared.error.ParseError.TheVariants as parse
+use Rattle.sail_kinds.specs.declared.error.Mismatch.{Mismatch}
+use Rattle.sail_kinds.specs.declared.error.Mismatch.TheVariants as mismatch
+use Rattle.sail_kinds.specs.declared.error.TableError.{TableError}
+use Rattle.sail_kinds.specs.declared.error.TableError.TheVariants as table
 use Rattle.sail_lex.specs.declared.token.LexError.{LexError}
 use Rattle.sail_lex.specs.declared.token.LexError.TheVariants as error
 use Rattle.scattered.specs.declared.error.ScatterError.{ScatterError}
@@ -42,3 +49,28 @@ abbrev pub gather_refusal : ScatterError → Refusal
 gather_refusal (scatter.NoOpening place name) = refusal 22 place name
 gather_refusal (scatter.Unended place name) = refusal 23 place name
 gather_refusal scatter.OutOfMemory = outside
+
+abbrev pub kind_text : Kind → List ℕ
+kind_text kind.Int = codes "Int"
+kind_text kind.Bool = codes "Bool"
+kind_text kind.Type = codes "Type"
+
+abbrev pub found_text : List ℕ → List ℕ → List ℕ
+found_text wanted found = codes "wanted " ++ wanted ++ codes " found " ++ found
+
+-- what was wanted and what was found, two kinds or two counts of arguments; nothing where no one thing was wanted
+abbrev pub mismatch_text : Option Mismatch → List ℕ
+mismatch_text None = []
+mismatch_text (Some (mismatch.Kinds wanted found)) = found_text (kind_text wanted) (kind_text found)
+mismatch_text (Some (mismatch.Counts wanted found)) = found_text (decimal wanted) (decimal found)
+
+-- the refusal of gathered definitions that have no tables: by the name that it is about, a type of the wrong kind by what was
+-- wanted; want of memory refuses no definitions
+abbrev pub table_refusal : TableError → Refusal
+table_refusal (table.Clash place name) = refusal 9 place name
+table_refusal (table.NoName place name) = refusal 10 place name
+table_refusal (table.IllKinded place found) = refusal 11 place (mismatch_text found)
+table_refusal (table.MeasureMissing place name) = refusal 12 place name
+table_refusal (table.EntryMissing place name) = refusal 19 place name
+table_refusal (table.MappingCycle place name) = refusal 24 place name
+table_refusal table.OutOfMemory = outside

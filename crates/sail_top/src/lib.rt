@@ -4,7 +4,7 @@
 //! [`run_words`] reads the words, reads the files, judges the models and the image, runs the model and
 //! writes the report or the line of the refusal. Its contract speaks of the definitions in `specs/`: the
 //! files in the order of reading, the run and the answer, which join the definitions of the crates below:
-//! the command line, the grammar of a model's text, the image, the start and the events, and the report.
+//! the command line, the grammar of a model's text, its tables, the image, the start and the events, and the report.
 #![tactic(auto)]
 
 mod answer;

@@ -6,15 +6,16 @@ ghost use Rattle.sail_fragment.specs.Fragment.{is_well_formed, model_of};
 ghost use Rattle.sail_grammar.specs.Joined.{HaveTexts, end_from, joined};
 ghost use Rattle.sail_grammar.specs.Leaves.{nowhere};
 ghost use Rattle.sail_top.specs.Models.{AreModel};
-ghost use Rattle.sail_top.specs.parts.Told.{GathersAs, RunsAs, Tells, TellsNotRun, TellsOfDefinitions, TellsOfTokens};
+ghost use Rattle.sail_top.specs.parts.Told.{GathersAs, RunsAs, TabledAs, Tells, TellsNotRun, TellsOfDefinitions, TellsOfTokens, TellsOfWhole};
 
-use crate::refusals::{gather_refusal, outside, parse_refusal, token_refusal};
+use crate::refusals::{gather_refusal, outside, parse_refusal, table_refusal, token_refusal};
 use model_tokens::lex_files;
-use sail_base::{Items, Refusal};
+use sail_base::{Items, Place, Refusal};
 use sail_fragment::{Model, read_model};
 use sail_lex::Tokens;
 use sail_parse_def::parse_model;
 use sail_syntax::Def;
+use sail_tables::tables;
 use scattered::gather;
 use std::alloc::{AllocError, Global};
 
@@ -39,7 +40,7 @@ impl From<AllocError> for ModelError {
 }
 
 /// The model that texts are, which runs today. The first phase that refuses them decides: their tokens,
-/// the grammar, the gathering of what is written in parts, and the conditions on what runs.
+/// the grammar, the gathering of what is written in parts, the tables, and the conditions on what runs.
 pub fn read_models(alloc: Global, texts: &[Items<u8>]) -> Result<Model, ModelError>
     requires few { length texts.now ≤ 64 }
     requires short { All IsShort texts.now }
@@ -56,25 +57,52 @@ pub fn read_models(alloc: Global, texts: &[Items<u8>]) -> Result<Model, ModelErr
 /// The model that the tokens of files are.
 fn read_files(alloc: Global, files: &[Tokens<'_>]) -> Result<Model, ModelError>
     requires { All HaveTexts files.now }
-    ensures model { IfOk result (RunsAs (joined files.now)) }
+    ensures model { IfOk result (RunsAs (joined files.now) (end_from nowhere files.now)) }
     ensures well_formed { IfOk result (λ model. is_well_formed model ≡ true) }
     ensures refused { IfErr result (TellsOfTokens (joined files.now) (end_from nowhere files.now)) }
 {
     match parse_model(alloc, files) {
-        Ok(definitions) => gather_definitions(alloc, definitions),
+        Ok(definitions) => gather_definitions(alloc, definitions, last_end(files)),
         Err(error) => Err(ModelError::Refused(parse_refusal(alloc, error)?)),
     }
 }
 
-/// The model that definitions are, once they are gathered.
-fn gather_definitions(alloc: Global, definitions: Vec<Def>) -> Result<Model, ModelError>
-    ensures model { IfOk result (GathersAs definitions.items) }
+/// The end of the last file.
+fn last_end(files: &[Tokens<'_>]) -> Place
+    ensures { result ≡ end_from nowhere files.now }
+{
+    let mut end = Place {
+        file: 0,
+        line: 0,
+        column: 0,
+    };
+    for file in files {
+        end = file.end;
+    }
+    end
+}
+
+/// The model that definitions are, once they are gathered. The last file ends here.
+fn gather_definitions(alloc: Global, definitions: Vec<Def>, end: Place) -> Result<Model, ModelError>
+    ensures model { IfOk result (GathersAs definitions.items end) }
     ensures well_formed { IfOk result (λ model. is_well_formed model ≡ true) }
-    ensures refused { IfErr result (TellsOfDefinitions definitions.items) }
+    ensures refused { IfErr result (TellsOfDefinitions definitions.items end) }
 {
     match gather(alloc, definitions) {
-        Ok(whole) => run_definitions(alloc, whole.as_slice()),
+        Ok(whole) => table_definitions(alloc, whole.as_slice(), end),
         Err(error) => Err(ModelError::Refused(gather_refusal(error)?)),
+    }
+}
+
+/// The model that gathered definitions are, once they have tables. The last file ends here.
+fn table_definitions(alloc: Global, definitions: &[Def], end: Place) -> Result<Model, ModelError>
+    ensures model { IfOk result (TabledAs definitions.now end) }
+    ensures well_formed { IfOk result (λ model. is_well_formed model ≡ true) }
+    ensures refused { IfErr result (TellsOfWhole definitions.now end) }
+{
+    match tables(alloc, definitions, end) {
+        Ok(_) => run_definitions(alloc, definitions),
+        Err(error) => Err(ModelError::Refused(table_refusal(alloc, &error)?)),
     }
 }
 

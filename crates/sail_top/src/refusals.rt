@@ -1,9 +1,12 @@
 ghost use Rattle.std.specs.Prelude.{◌≡◌, [], IfOk};
+ghost use Rattle.std.specs.Fmt.{decimal};
 ghost use Rattle.sail_top.specs.Refusals as spec;
-ghost use Rattle.sail_top.specs.parts.Told.{IsOfDefinitions, IsOfText, IsOfTokens};
+ghost use Rattle.sail_top.specs.parts.Told.{IsOfDefinitions, IsOfTables, IsOfText, IsOfTokens};
 
-use sail_base::{Place, Refusal, Text, hex_text};
+use itoa::Buffer;
+use sail_base::{Kind, Place, Refusal, Text, hex_text};
 use sail_grammar::ParseError;
+use sail_kinds::{Mismatch, TableError};
 use sail_lex::LexError;
 use scattered::ScatterError;
 use std::alloc::{AllocError, Global};
@@ -76,6 +79,69 @@ pub fn gather_refusal(error: ScatterError) -> Result<Refusal, AllocError>
     }
 }
 
+/// The refusal of gathered definitions that have no tables. The one error is want of memory, that of the tables too.
+pub fn table_refusal(alloc: Global, error: &TableError) -> Result<Refusal, AllocError>
+    ensures refused { IfOk result (λ refusal. refusal ≡ spec.table_refusal error.now) }
+    ensures told { IfOk result (λ _. IsOfTables error.now) }
+{
+    match error {
+        TableError::Clash { place, name } => named(9, *place, name),
+        TableError::NoName { place, name } => named(10, *place, name),
+        TableError::IllKinded { place, mismatch } => Ok(Refusal {
+            number: 11,
+            place: *place,
+            detail: mismatch_text(alloc, *mismatch)?,
+        }),
+        TableError::MeasureMissing { place, name } => named(12, *place, name),
+        TableError::EntryMissing { place, name } => named(19, *place, name),
+        TableError::MappingCycle { place, name } => named(24, *place, name),
+        TableError::OutOfMemory => Err(AllocError),
+    }
+}
+
+/// What was wanted and what was found, where there is such.
+fn mismatch_text(alloc: Global, mismatch: Option<Mismatch>) -> Result<Text, AllocError>
+    ensures { IfOk result (λ text. text ≡ spec.mismatch_text mismatch) }
+{
+    match mismatch {
+        Some(Mismatch::Kinds(wanted, found)) => found_text(
+            alloc,
+            kind_text(wanted),
+            kind_text(found),
+        ),
+        Some(Mismatch::Counts(wanted, found)) => counts_text(alloc, wanted, found),
+        None => Text::new(alloc, ""),
+    }
+}
+
+fn kind_text(kind: Kind) -> &'static str
+    ensures { result.now ≡ spec.kind_text kind }
+{
+    match kind {
+        Kind::Int => "Int",
+        Kind::Bool => "Bool",
+        Kind::Type => "Type",
+    }
+}
+
+fn counts_text(alloc: Global, wanted: usize, found: usize) -> Result<Text, AllocError>
+    ensures { IfOk result (λ text. text ≡ spec.found_text (decimal wanted) (decimal found)) }
+{
+    let mut first = Buffer::new();
+    let mut second = Buffer::new();
+    found_text(alloc, first.format(wanted), second.format(found))
+}
+
+fn found_text(alloc: Global, wanted: &str, found: &str) -> Result<Text, AllocError>
+    ensures { IfOk result (λ text. text ≡ spec.found_text wanted.now found.now) }
+{
+    let mut text = String::from_str(alloc, "wanted ")?;
+    text.push_str(wanted)?;
+    text.push_str(" found ")?;
+    text.push_str(found)?;
+    Text::new(alloc, text.as_str())
+}
+
 /// The refusal of a model that doesn't run today.
 pub fn outside(alloc: Global) -> Result<Refusal, AllocError>
     ensures { IfOk result (λ refusal. refusal ≡ spec.outside) }
@@ -86,6 +152,17 @@ pub fn outside(alloc: Global) -> Result<Refusal, AllocError>
         column: 1,
     };
     bare(alloc, 5, place)
+}
+
+/// A refusal that is told by a name.
+fn named(number: u8, place: Place, name: &Text) -> Result<Refusal, AllocError>
+    ensures { IfOk result (λ refusal. refusal ≡ spec.refusal number place name.now) }
+{
+    Ok(Refusal {
+        number,
+        place,
+        detail: name.clone()?,
+    })
 }
 
 /// A refusal without a detail.

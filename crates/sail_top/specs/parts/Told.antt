@@ -8,6 +8,8 @@ use Rattle.sail_grammar.specs.Model.{IsModel, IsRefused}
 use Rattle.sail_grammar.specs.Symbol.{Sign}
 use Rattle.sail_grammar.specs.declared.error.ParseError.{ParseError}
 use Rattle.sail_grammar.specs.declared.error.ParseError.TheVariants as parse
+use Rattle.sail_kinds.specs.declared.error.TableError.{TableError}
+use Rattle.sail_kinds.specs.declared.error.TableError.TheVariants as table
 use Rattle.sail_lex.specs.declared.token.LexError.{LexError}
 use Rattle.sail_lex.specs.declared.token.LexError.TheVariants as error
 use Rattle.sail_syntax.specs.declared.definitions.Def.{Def}
@@ -15,8 +17,9 @@ use Rattle.scattered.specs.Gathered.{gathered}
 use Rattle.scattered.specs.Refused.{refusal as why_ungathered}
 use Rattle.scattered.specs.declared.error.ScatterError.{ScatterError}
 use Rattle.scattered.specs.declared.error.ScatterError.TheVariants as scatter
+use Rattle.sail_tables.specs.Refused.{IsFirstFailure, IsAccepted}
 use Rattle.sail_top.specs.Models.{IsRefusal}
-use Rattle.sail_top.specs.Refusals.{parse_refusal, gather_refusal, outside}
+use Rattle.sail_top.specs.Refusals.{parse_refusal, gather_refusal, table_refusal, outside}
 use Rattle.sail_top.specs.declared.models.ModelError.{ModelError}
 use Rattle.sail_top.specs.declared.models.ModelError.TheVariants as model
 
@@ -33,28 +36,42 @@ abbrev pub IsOfDefinitions : ScatterError → Type 0
 IsOfDefinitions scatter.OutOfMemory = ⊥
 IsOfDefinitions e = Unit {0}
 
+abbrev pub IsOfTables : TableError → Type 0
+IsOfTables table.OutOfMemory = ⊥
+IsOfTables e = Unit {0}
+
 -- an error tells how the texts are refused; want of memory says nothing of them
 abbrev pub Tells : List (List ℕ) → ModelError → Type 0
 Tells texts (model.Refused refusal) = IsRefusal texts refusal
 Tells texts model.OutOfMemory = Unit {0}
 
--- definitions can be gathered, and gathered they are this model, which runs
-abbrev pub GathersAs : List Def → Model → Type 0
-GathersAs definitions m = (why_ungathered definitions ≡ None) × (model_of (gathered definitions) ≡ Some m)
+-- gathered definitions, which end here, have tables, and they are this model, which runs
+abbrev pub TabledAs : List Def → Place → Model → Type 0
+TabledAs whole end m = IsAccepted whole end × (model_of whole ≡ Some m)
 
--- tokens are definitions that are this model
-abbrev pub RunsAs : List Sign → Model → Type 0
-RunsAs signs m = (definitions : List Def) × IsModel signs definitions × GathersAs definitions m
+-- definitions can be gathered, and gathered they are this model
+abbrev pub GathersAs : List Def → Place → Model → Type 0
+GathersAs definitions end m = (why_ungathered definitions ≡ None) × TabledAs (gathered definitions) end m
 
--- definitions are refused so: they can't be gathered, or gathered they are no model that runs
-pub data DefinitionsRefused (definitions : List Def) : Refusal → Type 0 where
-  definitions_ungathered : (e : ScatterError) → why_ungathered definitions ≡ Some e → DefinitionsRefused definitions (gather_refusal e)
-  definitions_not_run : why_ungathered definitions ≡ None → model_of (gathered definitions) ≡ None → DefinitionsRefused definitions outside
+-- tokens with their end are definitions that are this model
+abbrev pub RunsAs : List Sign → Place → Model → Type 0
+RunsAs signs end m = (definitions : List Def) × IsModel signs definitions × GathersAs definitions end m
+
+-- gathered definitions, which end here, are refused so: they have no tables, or they are no model that runs
+pub data WholeRefused (whole : List Def) (end : Place) : Refusal → Type 0 where
+  whole_untabled : (e : TableError) → IsFirstFailure whole end (Some e) → WholeRefused whole end (table_refusal e)
+  whole_not_run : IsAccepted whole end → model_of whole ≡ None → WholeRefused whole end outside
+
+-- definitions are refused so: they can't be gathered, or gathered they are refused
+pub data DefinitionsRefused (definitions : List Def) (end : Place) : Refusal → Type 0 where
+  definitions_ungathered : (e : ScatterError) → why_ungathered definitions ≡ Some e → DefinitionsRefused definitions end (gather_refusal e)
+  definitions_gathered : {refusal : Refusal} → why_ungathered definitions ≡ None → WholeRefused (gathered definitions) end refusal →
+      DefinitionsRefused definitions end refusal
 
 -- tokens with their end are refused so: they are no model, or its definitions are refused
 pub data TokensRefused (signs : List Sign) (end : Place) : Refusal → Type 0 where
   tokens_unparsed : (e : ParseError) → IsRefused signs end e → TokensRefused signs end (parse_refusal e)
-  tokens_parsed : {refusal : Refusal} (definitions : List Def) → IsModel signs definitions → DefinitionsRefused definitions refusal →
+  tokens_parsed : {refusal : Refusal} (definitions : List Def) → IsModel signs definitions → DefinitionsRefused definitions end refusal →
       TokensRefused signs end refusal
 
 -- an error tells how tokens are refused
@@ -63,9 +80,14 @@ TellsOfTokens signs end (model.Refused refusal) = TokensRefused signs end refusa
 TellsOfTokens signs end model.OutOfMemory = Unit {0}
 
 -- an error tells how definitions are refused
-abbrev pub TellsOfDefinitions : List Def → ModelError → Type 0
-TellsOfDefinitions definitions (model.Refused refusal) = DefinitionsRefused definitions refusal
-TellsOfDefinitions definitions model.OutOfMemory = Unit {0}
+abbrev pub TellsOfDefinitions : List Def → Place → ModelError → Type 0
+TellsOfDefinitions definitions end (model.Refused refusal) = DefinitionsRefused definitions end refusal
+TellsOfDefinitions definitions end model.OutOfMemory = Unit {0}
+
+-- an error tells how gathered definitions are refused
+abbrev pub TellsOfWhole : List Def → Place → ModelError → Type 0
+TellsOfWhole whole end (model.Refused refusal) = WholeRefused whole end refusal
+TellsOfWhole whole end model.OutOfMemory = Unit {0}
 
 -- an error tells that gathered definitions are no model that runs
 abbrev pub TellsNotRun : List Def → ModelError → Type 0

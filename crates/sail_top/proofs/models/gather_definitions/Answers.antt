@@ -4,14 +4,14 @@ use Rattle.sail_top.proofs.models.gather_definitions.Goals as goal
 pub returns-in-Ok-clause-model : goal.returns-in-Ok-clause-model
 returns-in-Ok-clause-model c =
     gathered_model c.args.definitions.items c.in-Ok.whole.items c.as_slice.result.now c.as_slice.ensures.value c.in-Ok.ensures.accepted
-    c.in-Ok.ensures.gathered c.run_definitions.result c.run_definitions.ensures.model
+    c.in-Ok.ensures.gathered c.args.end c.table_definitions.result c.table_definitions.ensures.model
 
 pub returns-in-Ok-clause-refused : goal.returns-in-Ok-clause-refused
 returns-in-Ok-clause-refused c =
     gathered_refused c.args.definitions.items c.in-Ok.whole.items c.as_slice.result.now c.as_slice.ensures.value c.in-Ok.ensures.accepted
-    c.in-Ok.ensures.gathered c.run_definitions.result c.run_definitions.ensures.refused
+    c.in-Ok.ensures.gathered c.args.end c.table_definitions.result c.table_definitions.ensures.refused
 
 pub returns-in_ok-gather_refusal-in-Err-clause-refused : goal.returns-in_ok-gather_refusal-in-Err-clause-refused
 returns-in_ok-gather_refusal-in-Err-clause-refused c =
-    ungathered_is c.args.definitions.items c.in-Err.error c.in_ok-gather_refusal-in-Err.field-0 c.in-Err.ensures.refused
+    ungathered_is c.args.definitions.items c.args.end c.in-Err.error c.in_ok-gather_refusal-in-Err.field-0 c.in-Err.ensures.refused
     c.in_ok-gather_refusal-in-Err.ensures.told c.in_ok-gather_refusal-in-Err.ensures.refused

@@ -5,13 +5,13 @@ use Rattle.sail_top.proofs.models.read_files.Goals as goal
 
 pub returns-in-Ok-clause-model : goal.returns-in-Ok-clause-model
 returns-in-Ok-clause-model c =
-    tokens_model (joined c.args.files.now) c.in-Ok.definitions.items c.in-Ok.ensures.model c.gather_definitions.result
-    c.gather_definitions.ensures.model
+    tokens_model (joined c.args.files.now) c.in-Ok.definitions.items c.in-Ok.ensures.model c.last_end.result (end_from nowhere c.args.files.now)
+    c.last_end.ensures c.gather_definitions.result c.gather_definitions.ensures.model
 
 pub returns-in-Ok-clause-refused : goal.returns-in-Ok-clause-refused
 returns-in-Ok-clause-refused c =
-    tokens_refused (joined c.args.files.now) c.in-Ok.definitions.items c.in-Ok.ensures.model (end_from nowhere c.args.files.now)
-    c.gather_definitions.result c.gather_definitions.ensures.refused
+    tokens_refused (joined c.args.files.now) c.in-Ok.definitions.items c.in-Ok.ensures.model c.last_end.result (end_from nowhere c.args.files.now)
+    c.last_end.ensures c.gather_definitions.result c.gather_definitions.ensures.refused
 
 pub returns-in_ok-parse_refusal-in-Err-clause-refused : goal.returns-in_ok-parse_refusal-in-Err-clause-refused
 returns-in_ok-parse_refusal-in-Err-clause-refused c =

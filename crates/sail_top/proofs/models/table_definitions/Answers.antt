@@ -1,0 +1,15 @@
+use Rattle.sail_top.proofs.ModelLemmas.{tabled_model, tabled_refused, untabled_is}
+use Rattle.sail_top.proofs.models.table_definitions.Goals as goal
+
+pub returns-in-Ok-clause-model : goal.returns-in-Ok-clause-model
+returns-in-Ok-clause-model c =
+    tabled_model c.args.definitions.now c.args.end c.in-Ok.ensures.accepted c.run_definitions.result c.run_definitions.ensures.model
+
+pub returns-in-Ok-clause-refused : goal.returns-in-Ok-clause-refused
+returns-in-Ok-clause-refused c =
+    tabled_refused c.args.definitions.now c.args.end c.in-Ok.ensures.accepted c.run_definitions.result c.run_definitions.ensures.refused
+
+pub returns-clause-refused : goal.returns-clause-refused
+returns-clause-refused c =
+    untabled_is c.args.definitions.now c.args.end c.in-Err.error c.in_ok-table_refusal-in-Err.field-0 c.in-Err.ensures.refused
+    c.in_ok-table_refusal-in-Err.ensures.told c.in_ok-table_refusal-in-Err.ensures.refused
