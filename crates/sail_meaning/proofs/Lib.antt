@@ -1,0 +1,4 @@
+pub mod Clauses
+pub mod Sentences
+pub mod Starts
+pub mod Words
