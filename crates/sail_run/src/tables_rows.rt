@@ -1,6 +1,8 @@
-// Models and what is written for them, the status first, by the rules of names, kinds, calls and parts: the text, the body of
-// a step behind it, if it has one, and the answer. A model that has its tables doesn't run today.
-pub const ROWS: &[(&str, &str, &str)] = &[
+//! Models and what is written for them, the status first, by the rules of names, kinds, calls and parts: the text, the body of
+//! a step behind it, if it has one, and the answer. A model that has its tables doesn't run today.
+
+/// Names that are taken, and equal names in one list.
+pub const NAMES: &[(&str, &str, &str)] = &[
     // the least place decides, at one place the lower number, over all failures together
     ("let a = nope\nlet a = 1\n", "true", "1 M10 1:1:9 nope\n"),
     ("let f = 1\nfunction f(x) = ()\n", "true", "1 M09 1:2:1 f\n"),
@@ -124,6 +126,10 @@ pub const ROWS: &[(&str, &str, &str)] = &[
         "true",
         "1 M05 1:1:1\n",
     ),
+];
+
+/// Definitions and their parts, measures, and what reaches itself.
+pub const BODIES: &[(&str, &str, &str)] = &[
     // what is one definition, and what is two
     (
         "val m : bool <-> bool\nmapping m : bool <-> bool = { true <-> true }\n",
@@ -230,6 +236,10 @@ pub const ROWS: &[(&str, &str, &str)] = &[
         "true",
         "1 M12 1:5:1 g\n",
     ),
+];
+
+/// Types, kinds and ranges.
+pub const TYPES: &[(&str, &str, &str)] = &[
     // what is gathered stands at its opening; types alone are bound by order
     (
         "scattered union U\nstruct S = { a : int }\nunion clause U = A : S\nend U\n",
@@ -360,6 +370,10 @@ pub const ROWS: &[(&str, &str, &str)] = &[
         "true",
         "1 M11 1:2:9\n",
     ),
+];
+
+/// Names where they are used.
+pub const USES: &[(&str, &str, &str)] = &[
     // plain expressions
     ("let a = b\nlet b = 1\n", "true", "1 M10 1:1:9 b\n"),
     (
@@ -536,6 +550,10 @@ pub const ROWS: &[(&str, &str, &str)] = &[
         "true",
         "1 M05 1:1:1\n",
     ),
+];
+
+/// Definitions in parts, and entry points.
+pub const TEXTS: &[(&str, &str, &str)] = &[
     // what is written in parts
     ("scattered union U\nend V\n", "true", "1 M23 1:1:1 U\n"),
     ("end V\nscattered union U\n", "true", "1 M22 1:1:1 V\n"),
