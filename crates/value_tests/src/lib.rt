@@ -1,5 +1,5 @@
 //! Tests of the crates of values and types, with values from outside: words and texts, types under arguments, the builtins and
-//! their table of types, and which values have a shape.
+//! their table of types, which values have a shape, and shapes that leave parts open.
 //!
 //! They stand here and not in those crates, since a crate with tests is proved a second time with them.
 #![tactic(auto)]
@@ -10,6 +10,8 @@ mod arguments;
 mod conditions;
 #[cfg(test)]
 mod fits;
+#[cfg(test)]
+mod joins;
 #[cfg(test)]
 mod rows;
 #[cfg(test)]

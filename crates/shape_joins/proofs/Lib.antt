@@ -1,0 +1,4 @@
+pub mod Counts
+pub mod JoinsLeast
+pub mod Learnt
+pub mod Order
