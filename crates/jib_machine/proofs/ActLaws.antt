@@ -184,9 +184,11 @@ pub at_type : (m : Module) (ls : List Value) (hart : ℕ) (t : Target) (typ typ'
     (a : Act) → typ ≡ typ'
     → ((k : ℕ) → Acted m (λ xs. J.apply m ls hart t typ op vs (filled old) (store s k xs)) a old new s k s' k)
     → (k : ℕ) → Acted m (λ xs. J.apply m ls hart t typ' op vs (filled old) (store s k xs)) a old new s k s' k
-at_type m ls hart t typ typ' op vs old new s s' a e h k = subst (λ q. Acted m (λ xs. J.apply m ls hart t q op vs (filled old) (store s k xs)) a old new s k s' k) e (h k)
+at_type m ls hart t typ typ' op vs old new s s' a e h k = subst (λ q. Acted m (λ xs. J.apply m ls hart t q op vs (filled old) (store s k xs)) a old new s k
+    s' k) e (h k)
 
-pub tick_on : (k : ℕ) (slots : List Value) (s : RunState) (xs : List Access) → 0 < k → J.tick k (filled slots) (store s k xs) ≡ J.Go (filled slots) (store s (k - 1) xs)
+pub tick_on : (k : ℕ) (slots : List Value) (s : RunState) (xs : List Access) → 0 < k → J.tick k (filled slots) (store s k xs) ≡ J.Go (filled slots) (store s
+    (k - 1) xs)
 tick_on zero slots s xs h = absurd (omega (arith, h))
 tick_on (suc n) slots s xs h = let e : n ≡ suc n - 1 = omega arith in ap (λ q. J.Go (filled slots) (store s q xs)) e
 

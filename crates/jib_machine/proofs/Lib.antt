@@ -7,3 +7,7 @@ mod RunLaws
 mod TypeLaws
 mod PartLaws
 mod RowLaws
+mod KeepLaws
+mod OpenLaws
+mod EventLaws
+mod OperandLaws

@@ -1,5 +1,6 @@
 -- Parts of lists and words.
-use Rattle.std.proofs.Common.{◌≡◌, ℕ, zero, suc, ◌+◌, ◌-◌, ◌<◌, ◌≤◌, List, [], ◌∷◌, ◌++◌, length, take, drop, Option, Some, None, refl, sym, ap, ◌∙◌, arith, Bool, false}
+use Rattle.std.proofs.Common.{◌≡◌, ℕ, zero, suc, ◌+◌, ◌-◌, ◌<◌, ◌≤◌, List, [], ◌∷◌, ◌++◌, length, take, drop, Option, Some, None, refl, sym, ap, ◌∙◌}
+use Rattle.std.proofs.Common.{arith, Bool, false}
 use Rattle.std.proofs.Common.{length-drop}
 use Rattle.std.specs.Prelude.{slice_get, slice_set, slice_index_or}
 use Rattle.sail_types.specs.declared.values.Value.{Value}

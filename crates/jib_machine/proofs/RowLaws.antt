@@ -1,5 +1,6 @@
 -- The builtins of the state, by their values.
-use Rattle.std.proofs.Common.{◌≡◌, ◌≢◌, ◌⊎◌, inl, inr, ℕ, zero, suc, ◌-◌, ◌*◌, ◌<◌, ◌≤◌, List, [], ◌∷◌, ◌++◌, length, map, Option, Some, None, refl, sym, ap, ◌∙◌, subst, arith}
+use Rattle.std.proofs.Common.{◌≡◌, ◌≢◌, ◌⊎◌, inl, inr, ℕ, zero, suc, ◌-◌, ◌*◌, ◌<◌, ◌≤◌, List, [], ◌∷◌, ◌++◌, length, map, Option, Some, None, refl}
+use Rattle.std.proofs.Common.{sym, ap, ◌∙◌, subst, arith}
 use Rattle.std.proofs.Common.{Bool, true, false, cond, Result, Ok, Err}
 use Rattle.std.specs.Prelude.{ℤ, pos, negsuc, nat_le, nat_eq, ◌&&◌, slice_get, option_map, if◌then◌else◌}
 use Rattle.std.proofs.lemmas.Bool.Decides.{nat_tests}
@@ -17,7 +18,8 @@ use Rattle.model_state.specs.declared.state.Hart.{Hart}
 use Rattle.model_state.specs.declared.state.Reservation.{Reservation}
 use Rattle.model_state.specs.RunState.{RunState, Ran, changed}
 use Rattle.model_state.specs.StateRows.{Call, call_of, call_ran, state_row, state_after, ended_by, access_of, then_accesses, is_place, is_placed, when}
-use Rattle.model_state.specs.StateRows.{reading, reserving, writing, writing_cond, asking, putting, hart_with, with_reservation, read_result, word_at, written, covers, kept_by, may_write, is_there, console_room}
+use Rattle.model_state.specs.StateRows.{reading, reserving, writing, writing_cond, asking, putting, hart_with, with_reservation, read_result, word_at}
+use Rattle.model_state.specs.StateRows.{written, covers, kept_by, may_write, is_there, console_room}
 use Rattle.model_state.specs.StateRows.{Puts}
 use Rattle.jib_machine.specs.declared.results.Made.{Made}
 use Rattle.jib_machine.specs.declared.results.Made.TheVariants as M
@@ -64,17 +66,20 @@ no_place n a (inr h) = grind (arith, nat_tests)
 
 pub read_calls : (hart : ℕ) (w : ℤ) (a : List Bool) → 0 < byte_width w → length a ≡ 64
     → call_of W.MemRead hart (V.Integer w ∷ V.Bits a ∷ []) ≡ Some (reading hart (byte_width w) (value_of a))
-read_calls hart (pos n) a h e = ap (λ b. when b (reading hart n (value_of a))) (place_is n a h e) ∙ ap (λ k. Some (reading hart k (value_of a))) (sym (width_pos n h))
+read_calls hart (pos n) a h e = ap (λ b. when b (reading hart n (value_of a))) (place_is n a h e) ∙ ap (λ k. Some (reading hart k (value_of a))) (sym
+    (width_pos n h))
 read_calls hart (negsuc n) a h e = absurd (omega (arith, h))
 
 pub reserve_calls : (hart : ℕ) (w : ℤ) (a : List Bool) → 0 < byte_width w → length a ≡ 64
     → call_of W.MemReserve hart (V.Integer w ∷ V.Bits a ∷ []) ≡ Some (reserving hart (byte_width w) (value_of a))
-reserve_calls hart (pos n) a h e = ap (λ b. when b (reserving hart n (value_of a))) (place_is n a h e) ∙ ap (λ k. Some (reserving hart k (value_of a))) (sym (width_pos n h))
+reserve_calls hart (pos n) a h e = ap (λ b. when b (reserving hart n (value_of a))) (place_is n a h e) ∙ ap (λ k. Some (reserving hart k (value_of a))) (sym
+    (width_pos n h))
 reserve_calls hart (negsuc n) a h e = absurd (omega (arith, h))
 
 pub mapped_calls : (hart : ℕ) (w : ℤ) (a : List Bool) → 0 < byte_width w → length a ≡ 64
     → call_of W.MemMapped hart (V.Integer w ∷ V.Bits a ∷ []) ≡ Some (asking hart (byte_width w) (value_of a))
-mapped_calls hart (pos n) a h e = ap (λ b. when b (asking hart n (value_of a))) (place_is n a h e) ∙ ap (λ k. Some (asking hart k (value_of a))) (sym (width_pos n h))
+mapped_calls hart (pos n) a h e = ap (λ b. when b (asking hart n (value_of a))) (place_is n a h e) ∙ ap (λ k. Some (asking hart k (value_of a))) (sym
+    (width_pos n h))
 mapped_calls hart (negsuc n) a h e = absurd (omega (arith, h))
 
 -- ---- texts on the console

@@ -187,8 +187,8 @@ begins m ls hart f vs s k cur frames ef eh ea es =
 
 -- ---- what the machine's call comes to
 
-pub calls_so : (m : Module) (types : Types) (ls : List Value) (hart k f : ℕ) (vs : List Value) (s t : RunState) (n : ℕ) (xs : List Access) (e : Ending) (r : Ended)
-    → J.jib_run m ls hart f vs (begun k s) (outcome_of e (store t n xs)) → ((st : J.Store) → r ≡ ended types (outcome_of e st))
+pub calls_so : (m : Module) (types : Types) (ls : List Value) (hart k f : ℕ) (vs : List Value) (s t : RunState) (n : ℕ) (xs : List Access) (e : Ending)
+    (r : Ended) → J.jib_run m ls hart f vs (begun k s) (outcome_of e (store t n xs)) → ((st : J.Store) → r ≡ ended types (outcome_of e st))
     → CallsSo m types ls hart k f vs s (record { ended = r; state = t; accesses = xs })
 calls_so m types ls hart k f vs s t n xs (N.Value v) r x h = record {
   outcome = Gives v (store t n xs);

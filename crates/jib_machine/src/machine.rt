@@ -9,13 +9,15 @@ ghost use Rattle.jib_machine.specs.parts.Sources.{filled, store};
 ghost use Rattle.jib_machine.specs.parts.Acts.{Acted, seen, outcome_of};
 ghost use Rattle.jib_machine.specs.parts.Runs.{table_of, Turned, Saved, Advanced, Finished};
 ghost use Rattle.jib_machine.specs.parts.Tables.{tables_for};
+ghost use Rattle.jib_machine.specs.parts.Endings.{all_may_end};
 
 use crate::act::{Act, Current, Ending, Frame, Here, Turn};
+use crate::entries::Entries;
 use crate::reading::put_slot;
 use crate::step::{act_of, first_slots};
 use jib::{Instruction, Module};
 use mem_store::Memory;
-use model_state::{Cause, State};
+use model_state::{Cause, Ended, Register, State};
 use sail_base::{Items, Place};
 use sail_types::{Types, Value};
 use std::alloc::{AllocError, Global};
@@ -28,12 +30,19 @@ pub struct Machine {
     pub program: Module,
     /// The named types of the model.
     pub types: Types,
+    /// The registers of the model, in the order of its text.
+    pub registers: Items<Register>,
+    /// What the model's start and its events call.
+    pub entries: Entries,
     /// The values of the module's openings, as far as they are worked out.
     pub lets: Items<Value>,
+    /// How the openings ended, in order; empty until all are worked out.
+    pub opened: Items<Ended>,
     /// Where each instruction of each function may jump to.
     pub(crate) places: Items<Items<usize>>,
-    ghost kept: { IsTrue (valid program) },
+    pub ghost kept: { IsTrue (valid program) },
     ghost found: { places ≡ tables_for program.functions },
+    ghost may_end: { IsTrue (all_may_end opened) },
 }
 
 /// The place behind a place.

@@ -1,22 +1,20 @@
 //! The machine of a module, and calls of its functions.
-ghost use Rattle.std.specs.Prelude.{◌≡◌, List, [], IfOk, slice_get};
-ghost use Rattle.std.specs.Option.{option_copied};
+ghost use Rattle.std.specs.Prelude.{◌≡◌, List, [], IfOk};
 ghost use Rattle.model_state.specs.RunState.{Access};
-ghost use Rattle.jib.specs.Jib.{Store};
-ghost use Rattle.jib.specs.Openings.{Calls, ended as ended_of, name_of, thrown_name as name_of_thrown};
-ghost use Rattle.sail_types.specs.Named.{constructors};
-ghost use Rattle.sail_types.specs.declared.values.Value.{out-Value};
-ghost use Rattle.jib_machine.specs.parts.Acts.{outcome_of};
+ghost use Rattle.jib.specs.Openings.{Calls, Opens};
 ghost use Rattle.jib_machine.specs.parts.Tables.{aimed, aims, tables_for};
+ghost use Rattle.jib_machine.specs.Events.{blank};
 ghost use Rattle.jib.specs.Valid.{aim};
 
-use crate::act::Ending;
+use crate::ended::ended;
+use crate::entries::Entries;
 use crate::machine::Machine;
+use crate::opened::work_out;
 use jib::{Checked, Function, Instruction, label_place};
 use mem_store::Memory;
-use model_state::{Cause, Ended, State};
-use sail_base::{Items, Text};
-use sail_types::{Field, Types, Value};
+use model_state::{Ended, Register, State};
+use sail_base::Items;
+use sail_types::{Types, Value};
 use std::alloc::{AllocError, Global};
 
 /// How many ticks an event has.
@@ -67,52 +65,44 @@ fn tables_of(alloc: Global, functions: &[Function]) -> Result<Items<Items<usize>
     Ok(tables)
 }
 
-/// The name of a field or a constructor; empty where there is none.
-fn field_name(alloc: Global, field: Option<&Field>) -> Result<Text, AllocError>
-    ensures { IfOk result (λ name. name ≡ name_of (option_copied field.entry)) }
-{
-    match field {
-        Some(field) => Ok(field.name.clone()?),
-        None => Text::new(alloc, ""),
-    }
-}
-
-/// The constructor at a place of the union at a place, where there is one.
-fn constructor_at(types: &Types, place: u32, constructor: u32) -> Option<&Field>
-    ensures { option_copied result ≡ slice_get (constructors types.now place) constructor }
-{
-    types.constructors(place).get(constructor as usize)
-}
-
-/// The name of the constructor that was thrown.
-fn thrown_name(alloc: Global, types: &Types, value: &Value) -> Result<Text, AllocError>
-    ensures { IfOk result (λ name. name ≡ name_of_thrown types.now (out-Value value.now)) }
-{
-    match value {
-        Value::Union(place, constructor, _) => {
-            let found = constructor_at(types, *place, *constructor);
-            Ok(field_name(alloc, found)?)
-        }
-        _ => Text::new(alloc, ""),
-    }
-}
-
 impl Machine {
-    /// The machine of a valid module and of the named types of its model. No opening of the module is worked out, so that
-    /// there are no values of lets. It fails where memory is wanting.
-    pub fn new(alloc: Global, checked: Checked, types: Types) -> Result<Machine, AllocError>
+    /// The machine of a valid module, with the named types and the registers of its model and the functions that its start
+    /// and its events enter. The openings of the module are worked out, in order. It fails where memory is wanting.
+    pub fn new(
+        alloc: Global,
+        checked: Checked,
+        types: Types,
+        registers: Items<Register>,
+        entries: Entries,
+    ) -> Result<Machine, AllocError>
         ensures program { IfOk result (λ machine. machine.program ≡ checked.program) }
         ensures types { IfOk result (λ machine. machine.types ≡ types) }
-        ensures lets { IfOk result (λ machine. machine.lets ≡ []) }
+        ensures registers { IfOk result (λ machine. machine.registers ≡ registers) }
+        ensures entries { IfOk result (λ machine. machine.entries ≡ entries) }
+        ensures opened { IfOk result (λ machine. Opens checked.program types blank checked.program.openings [] machine.opened machine.lets) }
     {
         let Checked { program } = checked;
         let places = tables_of(alloc, program.functions.as_slice())?;
-        Ok(Machine {
+        let openings = Items::from_slice(alloc, program.openings.as_slice())?;
+        let mut machine = Machine {
             program,
             types,
+            registers,
+            entries,
             lets: Items::new(alloc),
+            opened: Items::new(alloc),
             places,
-        })
+        };
+        let endings = work_out(alloc, &mut machine, openings.as_slice())?;
+        machine.opened = endings;
+        Ok(machine)
+    }
+
+    /// The number of `step` in the module.
+    pub fn step_entry(&self) -> u32
+        ensures { result ≡ self.now.entries.step }
+    {
+        self.entries.step
     }
 
     /// Calls a function of the module by a hart, as the meaning of its code says, with the ticks of one event. It fails where
@@ -131,19 +121,5 @@ impl Machine {
         let ending = self.run(alloc, state, hart, entry, arguments, TICKS)?;
         let ended = ended(alloc, &self.types, ending)?;
         Ok(ended)
-    }
-}
-
-/// How a call of the machine ends: an exception stops the run.
-fn ended(alloc: Global, types: &Types, ending: Ending) -> Result<Ended, AllocError>
-    ensures { IfOk result (λ ended. (s : Store) → ended ≡ ended_of types.now (outcome_of ending s)) }
-{
-    match ending {
-        Ending::Value(value) => Ok(Ended::Value(value)),
-        Ending::Threw(value) => {
-            let name = thrown_name(alloc, types, &value)?;
-            Ok(Ended::Stop(Cause::Exception(name)))
-        }
-        Ending::Stopped(cause) => Ok(Ended::Stop(cause)),
     }
 }

@@ -1,5 +1,5 @@
 //! What operations come to.
-ghost use Rattle.std.specs.Prelude.{◌≡◌, IfOk, slice_get};
+ghost use Rattle.std.specs.Prelude.{◌≡◌, ◌∷◌, [], IfOk, slice_get};
 ghost use Rattle.jib.specs.declared.code.Operation.TheVariants as O;
 ghost use Rattle.std.specs.Option.{option_copied};
 ghost use Rattle.jib.specs.Jib as J;
@@ -13,7 +13,7 @@ use crate::parts::{
     built, cons, constructed, field, index_of, is_empty, item, rest, slice, with_field, with_item,
     with_slice,
 };
-use crate::reading::{copied, push_values};
+use crate::reading::{copied, push_values, value_of};
 use crate::rows::state_row;
 use crate::typing::{belongs, type_at, zero_within};
 use builtins::row_value;
@@ -307,8 +307,74 @@ fn on_values<M: Memory>(
     }
 }
 
-/// What an operation comes to, for a target of this type.
-pub fn operate<M: Memory>(
+/// What an operation on a source comes to. Its operand takes no memory but what its value needs.
+fn operate_one<M: Memory>(
+    alloc: Global,
+    machine: &Machine,
+    hart: u8,
+    typ: u32,
+    operation: Operation,
+    a: &Source,
+    slots: &[Value],
+    state: &mut State<M>,
+) -> Result<Made, AllocError>
+    ensures { IfOk result (λ made. MadeIs (J.operate (slice_get machine.now.program.types typ) operation (source_values machine.now.lets
+        hart state.old slots.now (a.now ∷ [])) hart state.old) made state.old state.new) }
+{
+    let first = value_of(alloc, machine, hart, state, slots, a)?;
+    let values = [first];
+    let made = on_values(alloc, machine, hart, typ, operation, &values, state)?;
+    Ok(made)
+}
+
+/// What an operation on two sources comes to.
+fn operate_two<M: Memory>(
+    alloc: Global,
+    machine: &Machine,
+    hart: u8,
+    typ: u32,
+    operation: Operation,
+    a: &Source,
+    b: &Source,
+    slots: &[Value],
+    state: &mut State<M>,
+) -> Result<Made, AllocError>
+    ensures { IfOk result (λ made. MadeIs (J.operate (slice_get machine.now.program.types typ) operation (source_values machine.now.lets
+        hart state.old slots.now (a.now ∷ b.now ∷ [])) hart state.old) made state.old state.new) }
+{
+    let first = value_of(alloc, machine, hart, state, slots, a)?;
+    let second = value_of(alloc, machine, hart, state, slots, b)?;
+    let values = [first, second];
+    let made = on_values(alloc, machine, hart, typ, operation, &values, state)?;
+    Ok(made)
+}
+
+/// What an operation on three sources comes to.
+fn operate_three<M: Memory>(
+    alloc: Global,
+    machine: &Machine,
+    hart: u8,
+    typ: u32,
+    operation: Operation,
+    a: &Source,
+    b: &Source,
+    c: &Source,
+    slots: &[Value],
+    state: &mut State<M>,
+) -> Result<Made, AllocError>
+    ensures { IfOk result (λ made. MadeIs (J.operate (slice_get machine.now.program.types typ) operation (source_values machine.now.lets
+        hart state.old slots.now (a.now ∷ b.now ∷ c.now ∷ [])) hart state.old) made state.old state.new) }
+{
+    let first = value_of(alloc, machine, hart, state, slots, a)?;
+    let second = value_of(alloc, machine, hart, state, slots, b)?;
+    let third = value_of(alloc, machine, hart, state, slots, c)?;
+    let values = [first, second, third];
+    let made = on_values(alloc, machine, hart, typ, operation, &values, state)?;
+    Ok(made)
+}
+
+/// What an operation on any count of sources comes to.
+fn operate_many<M: Memory>(
     alloc: Global,
     machine: &Machine,
     hart: u8,
@@ -325,6 +391,28 @@ pub fn operate<M: Memory>(
     push_values(alloc, machine, hart, state, slots, sources, &mut values)?;
     let made = on_values(alloc, machine, hart, typ, operation, &values, state)?;
     Ok(made)
+}
+
+/// What an operation comes to, for a target of this type. Up to three operands stand in no memory of their own.
+pub fn operate<M: Memory>(
+    alloc: Global,
+    machine: &Machine,
+    hart: u8,
+    typ: u32,
+    operation: Operation,
+    sources: &Items<Source>,
+    slots: &[Value],
+    state: &mut State<M>,
+) -> Result<Made, AllocError>
+    ensures { IfOk result (λ made. MadeIs (J.operate (slice_get machine.now.program.types typ) operation (source_values machine.now.lets
+        hart state.old slots.now sources.now) hart state.old) made state.old state.new) }
+{
+    match sources.as_slice() {
+        [a] => operate_one(alloc, machine, hart, typ, operation, a, slots, state),
+        [a, b] => operate_two(alloc, machine, hart, typ, operation, a, b, slots, state),
+        [a, b, c] => operate_three(alloc, machine, hart, typ, operation, a, b, c, slots, state),
+        _ => operate_many(alloc, machine, hart, typ, operation, sources, slots, state),
+    }
 }
 
 /// The zero of a type.

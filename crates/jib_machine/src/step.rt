@@ -96,7 +96,7 @@ pub fn act_of<M: Memory>(
 }
 
 /// The same cause once more.
-fn copied_cause(cause: &Cause) -> Result<Cause, AllocError>
+pub fn copied_cause(cause: &Cause) -> Result<Cause, AllocError>
     ensures { IfOk result (λ copy. copy ≡ cause.now) }
 {
     match cause {

@@ -1,9 +1,9 @@
 //! Which values belong to types, and the zeros of types.
-ghost use Rattle.std.specs.Prelude.{◌≡◌, false, map, replicate, slice_get, IfOk};
+ghost use Rattle.std.specs.Prelude.{◌≡◌, false, map, replicate, slice_get, IfOk, IsTrue};
 ghost use Rattle.std.specs.List.{list_all};
 ghost use Rattle.std.specs.Option.{option_copied};
-ghost use Rattle.sail_types.specs.declared.values.Value.TheVariants as V;
 ghost use Rattle.jib.specs.Values.{has, each_has, payload_has, first_constructor, form_zero, zero_within as zero_in};
+ghost use Rattle.jib_machine.specs.parts.Widths.{is_narrow, all_narrow};
 
 use jib::ValueType;
 use sail_base::{Boxed, Items, Text, Word};
@@ -114,6 +114,7 @@ pub fn zero_within(
     depth: usize,
     typ: u32,
 ) -> Result<Value, AllocError>
+    requires narrow { IsTrue (all_narrow types.now) }
     ensures { IfOk result (λ value. value ≡ zero_in types.now depth typ) }
 {
     if depth == 0 {
@@ -136,6 +137,8 @@ fn zero_of_form(
     depth: usize,
     typ: &ValueType,
 ) -> Result<Value, AllocError>
+    requires narrow { IsTrue (all_narrow types.now) }
+    requires typ { IsTrue (is_narrow typ.now) }
     ensures { IfOk result (λ value. value ≡ form_zero (zero_in types.now depth) typ.now) }
 {
     match typ {
@@ -143,7 +146,7 @@ fn zero_of_form(
         ValueType::Integer => Ok(Value::Integer(0)),
         ValueType::Truth => Ok(Value::Truth(false)),
         ValueType::Bit => Ok(Value::Bit(false)),
-        ValueType::Bits(width) => zero_bits(*width),
+        ValueType::Bits(width) => Ok(Value::Bits(Word::zeros(*width))),
         ValueType::String => Ok(Value::String(Text::new(alloc, "")?)),
         ValueType::Enum(place, _) => Ok(Value::Member(*place, 0)),
         ValueType::List(_) => Ok(Value::List(Items::new(alloc))),
@@ -167,17 +170,6 @@ fn zero_of_form(
     }
 }
 
-/// Zero bits; no type of a valid module has more than 128.
-fn zero_bits(width: u8) -> Result<Value, AllocError>
-    ensures { IfOk result (λ value. value ≡ V.Bits (replicate width false)) }
-{
-    if width <= 128 {
-        Ok(Value::Bits(Word::zeros(width)))
-    } else {
-        Err(AllocError)
-    }
-}
-
 /// So many zeros of a type.
 #[cycle(zero)]
 fn zeros(
@@ -187,6 +179,7 @@ fn zeros(
     count: u16,
     typ: u32,
 ) -> Result<Items<Value>, AllocError>
+    requires narrow { IsTrue (all_narrow types.now) }
     ensures { IfOk result (λ values. values ≡ replicate count (zero_in types.now depth typ)) }
 {
     let mut values = Items::new(alloc);
@@ -204,6 +197,7 @@ fn each_zero(
     depth: usize,
     inside: &[u32],
 ) -> Result<Items<Value>, AllocError>
+    requires narrow { IsTrue (all_narrow types.now) }
     ensures { IfOk result (λ values. values ≡ map (zero_in types.now depth) inside.now) }
 {
     let mut values = Items::new(alloc);
@@ -222,6 +216,7 @@ fn first_zero(
     place: u32,
     inside: &[u32],
 ) -> Result<Value, AllocError>
+    requires narrow { IsTrue (all_narrow types.now) }
     ensures { IfOk result (λ value. value ≡ first_constructor (zero_in types.now depth) place inside.now) }
 {
     match inside.split_first() {

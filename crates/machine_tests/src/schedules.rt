@@ -134,7 +134,7 @@ const ROWS: &[Row] = &[
 ];
 
 /// So many harts at the beginning.
-fn fresh(alloc: Global, harts: u8) -> Result<State<Flat>, Fail>
+pub fn fresh(alloc: Global, harts: u8) -> Result<State<Flat>, Fail>
     ensures { IfOk result (λ state. state.registers ≡ []) }
 {
     if harts < 1 || harts > 8 {
@@ -148,14 +148,14 @@ fn fresh(alloc: Global, harts: u8) -> Result<State<Flat>, Fail>
 }
 
 /// Whether each is below a count.
-fn are_below(order: &[u8], count: u8) -> bool
+pub fn are_below(order: &[u8], count: u8) -> bool
     ensures { IsTrue result → All (λ hart. hart < count) order.now }
 {
     order.iter().all(|hart| *hart < count)
 }
 
 /// The cause by its name.
-fn name(cause: &Cause) -> &'static str {
+pub fn name(cause: &Cause) -> &'static str {
     match cause {
         Cause::StepsDone => "steps-done",
         Cause::AllRest => "all-rest",

@@ -11,35 +11,58 @@ run-init g c =
 
 pub run-smaller-in-Go : goal.run-smaller-in-Go
 run-smaller-in-Go g c =
-    (did_go c.args.self.now.program c.args.self.now.lets c.args.hart c.run.current c.act_at.new.current c.run.state c.run.ticks c.act_at.new.state c.act_at.new.ticks c.in_ok-act_at.field-0 c.in-Go.is c.in_ok-act_at.ensures.acted c.in_ok-act_at.ensures.here c.in_ok-act_at.ensures.at _ refl refl c.in_ok-current-in-Go.ensures).less
+    (did_go c.args.self.now.program c.args.self.now.lets c.args.hart c.run.current c.act_at.new.current c.run.state c.run.ticks c.act_at.new.state
+    c.act_at.new.ticks c.in_ok-act_at.field-0 c.in-Go.is c.in_ok-act_at.ensures.acted c.in_ok-act_at.ensures.here c.in_ok-act_at.ensures.at _ refl refl
+    c.in_ok-current-in-Go.ensures).less
 
 pub run-preserved-in-Go : goal.run-preserved-in-Go
 run-preserved-in-Go g c =
-    along_more c.args.self.now.program c.args.self.now.lets c.args.hart c.args.current.now c.args.state.now c.args.ticks.now c.run.current _ c.run.state _ c.run.ticks _ c.run.invariant
-    (did_go c.args.self.now.program c.args.self.now.lets c.args.hart c.run.current c.act_at.new.current c.run.state c.run.ticks c.act_at.new.state c.act_at.new.ticks c.in_ok-act_at.field-0 c.in-Go.is c.in_ok-act_at.ensures.acted c.in_ok-act_at.ensures.here c.in_ok-act_at.ensures.at _ refl refl c.in_ok-current-in-Go.ensures)
+    along_more c.args.self.now.program c.args.self.now.lets c.args.hart c.args.current.now c.args.state.now c.args.ticks.now c.run.current _ c.run.state _
+    c.run.ticks _ c.run.invariant
+    (did_go c.args.self.now.program c.args.self.now.lets c.args.hart c.run.current c.act_at.new.current c.run.state c.run.ticks c.act_at.new.state
+    c.act_at.new.ticks c.in_ok-act_at.field-0 c.in-Go.is c.in_ok-act_at.ensures.acted c.in_ok-act_at.ensures.here c.in_ok-act_at.ensures.at _ refl refl
+    c.in_ok-current-in-Go.ensures)
 
 pub run-smaller-in-Jump : goal.run-smaller-in-Jump
 run-smaller-in-Jump g c =
-    (did_jump c.args.self.now.program c.args.self.now.lets c.args.hart c.run.current c.act_at.new.current c.run.state c.run.ticks c.act_at.new.state c.act_at.new.ticks c.in_ok-act_at.field-0 c.args.self.now.places (ready_made c.args.self.now.program c.args.self.now.places c.args.self.now.kept c.args.self.now.found) c.in-Jump.field-0 c.in-Jump.is c.in_ok-act_at.ensures.acted c.in_ok-act_at.ensures.here c.in_ok-act_at.ensures.at _ refl refl (c.find-current.ensures ∙ ap (λ q. slice_index_or q c.act_at.new.current.at 0) (c.table-table.ensures ∙ ap (table_of c.args.self.now.places) (sym c.run.invariant.function)))).less
+    (did_jump c.args.self.now.program c.args.self.now.lets c.args.hart c.run.current c.act_at.new.current c.run.state c.run.ticks c.act_at.new.state
+    c.act_at.new.ticks c.in_ok-act_at.field-0 c.args.self.now.places (ready_made c.args.self.now.program c.args.self.now.places c.args.self.now.kept
+    c.args.self.now.found) c.in-Jump.field-0 c.in-Jump.is c.in_ok-act_at.ensures.acted c.in_ok-act_at.ensures.here c.in_ok-act_at.ensures.at _ refl refl
+    (c.find-current.ensures ∙ ap (λ q. slice_index_or q c.act_at.new.current.at 0) (c.table-table.ensures ∙ ap (table_of c.args.self.now.places) (sym
+    c.run.invariant.function)))).less
 
 pub run-preserved-in-Jump : goal.run-preserved-in-Jump
 run-preserved-in-Jump g c =
-    along_more c.args.self.now.program c.args.self.now.lets c.args.hart c.args.current.now c.args.state.now c.args.ticks.now c.run.current _ c.run.state _ c.run.ticks _ c.run.invariant
-    (did_jump c.args.self.now.program c.args.self.now.lets c.args.hart c.run.current c.act_at.new.current c.run.state c.run.ticks c.act_at.new.state c.act_at.new.ticks c.in_ok-act_at.field-0 c.args.self.now.places (ready_made c.args.self.now.program c.args.self.now.places c.args.self.now.kept c.args.self.now.found) c.in-Jump.field-0 c.in-Jump.is c.in_ok-act_at.ensures.acted c.in_ok-act_at.ensures.here c.in_ok-act_at.ensures.at _ refl refl (c.find-current.ensures ∙ ap (λ q. slice_index_or q c.act_at.new.current.at 0) (c.table-table.ensures ∙ ap (table_of c.args.self.now.places) (sym c.run.invariant.function))))
+    along_more c.args.self.now.program c.args.self.now.lets c.args.hart c.args.current.now c.args.state.now c.args.ticks.now c.run.current _ c.run.state _
+    c.run.ticks _ c.run.invariant
+    (did_jump c.args.self.now.program c.args.self.now.lets c.args.hart c.run.current c.act_at.new.current c.run.state c.run.ticks c.act_at.new.state
+    c.act_at.new.ticks c.in_ok-act_at.field-0 c.args.self.now.places (ready_made c.args.self.now.program c.args.self.now.places c.args.self.now.kept
+    c.args.self.now.found) c.in-Jump.field-0 c.in-Jump.is c.in_ok-act_at.ensures.acted c.in_ok-act_at.ensures.here c.in_ok-act_at.ensures.at _ refl refl
+    (c.find-current.ensures ∙ ap (λ q. slice_index_or q c.act_at.new.current.at 0) (c.table-table.ensures ∙ ap (table_of c.args.self.now.places) (sym
+    c.run.invariant.function))))
 
 pub run-smaller : goal.run-smaller
 run-smaller g c =
-    (did_sink c.args.self.now.program c.args.self.now.lets c.args.hart c.run.current c.act_at.new.current c.run.state c.run.ticks c.act_at.new.state c.act_at.new.ticks c.in_ok-act_at.field-0 c.in-Sink.measure c.in-Sink.is c.in_ok-act_at.ensures.acted c.in_ok-act_at.ensures.here c.in_ok-act_at.ensures.at _ refl refl c.in_ok-current-in-Sink.ensures).less
+    (did_sink c.args.self.now.program c.args.self.now.lets c.args.hart c.run.current c.act_at.new.current c.run.state c.run.ticks c.act_at.new.state
+    c.act_at.new.ticks c.in_ok-act_at.field-0 c.in-Sink.measure c.in-Sink.is c.in_ok-act_at.ensures.acted c.in_ok-act_at.ensures.here
+    c.in_ok-act_at.ensures.at _ refl refl c.in_ok-current-in-Sink.ensures).less
 
 pub run-preserved : goal.run-preserved
 run-preserved g c =
-    along_more c.args.self.now.program c.args.self.now.lets c.args.hart c.args.current.now c.args.state.now c.args.ticks.now c.run.current _ c.run.state _ c.run.ticks _ c.run.invariant
-    (did_sink c.args.self.now.program c.args.self.now.lets c.args.hart c.run.current c.act_at.new.current c.run.state c.run.ticks c.act_at.new.state c.act_at.new.ticks c.in_ok-act_at.field-0 c.in-Sink.measure c.in-Sink.is c.in_ok-act_at.ensures.acted c.in_ok-act_at.ensures.here c.in_ok-act_at.ensures.at _ refl refl c.in_ok-current-in-Sink.ensures)
+    along_more c.args.self.now.program c.args.self.now.lets c.args.hart c.args.current.now c.args.state.now c.args.ticks.now c.run.current _ c.run.state _
+    c.run.ticks _ c.run.invariant
+    (did_sink c.args.self.now.program c.args.self.now.lets c.args.hart c.run.current c.act_at.new.current c.run.state c.run.ticks c.act_at.new.state
+    c.act_at.new.ticks c.in_ok-act_at.field-0 c.in-Sink.measure c.in-Sink.is c.in_ok-act_at.ensures.acted c.in_ok-act_at.ensures.here
+    c.in_ok-act_at.ensures.at _ refl refl c.in_ok-current-in-Sink.ensures)
 
 pub returns-in-Over : goal.returns-in-Over
 returns-in-Over g c =
-    did_over c.args.self.now.program c.args.self.now.lets c.args.hart c.run.current c.act_at.new.current c.run.state c.run.ticks c.act_at.new.state c.act_at.new.ticks c.in_ok-act_at.field-0 c.args.current.now c.args.state.now c.args.ticks.now c.in-Over.ending c.run.invariant c.in-Over.is c.in_ok-act_at.ensures.acted
+    did_over c.args.self.now.program c.args.self.now.lets c.args.hart c.run.current c.act_at.new.current c.run.state c.run.ticks c.act_at.new.state
+    c.act_at.new.ticks c.in_ok-act_at.field-0 c.args.current.now c.args.state.now c.args.ticks.now c.in-Over.ending c.run.invariant c.in-Over.is
+    c.in_ok-act_at.ensures.acted
 
 pub returns-in-Enter : goal.returns-in-Enter
 returns-in-Enter g c =
-    did_enter c.args.self.now.program c.args.self.now.lets c.args.hart c.run.current c.act_at.new.current c.run.state c.run.ticks c.act_at.new.state c.act_at.new.ticks c.in_ok-act_at.field-0 c.args.current.now c.args.state.now c.args.ticks.now c.in-Enter.slot c.in-Enter.function c.in-Enter.label c.in-Enter.place c.in-Enter.slots c.run.invariant c.in-Enter.is c.in_ok-act_at.ensures.acted c.in_ok-act_at.ensures.here c.in_ok-act_at.ensures.at
+    did_enter c.args.self.now.program c.args.self.now.lets c.args.hart c.run.current c.act_at.new.current c.run.state c.run.ticks c.act_at.new.state
+    c.act_at.new.ticks c.in_ok-act_at.field-0 c.args.current.now c.args.state.now c.args.ticks.now c.in-Enter.slot c.in-Enter.function c.in-Enter.label
+    c.in-Enter.place c.in-Enter.slots c.run.invariant c.in-Enter.is c.in_ok-act_at.ensures.acted c.in_ok-act_at.ensures.here c.in_ok-act_at.ensures.at

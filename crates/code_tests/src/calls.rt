@@ -3,7 +3,7 @@ use jib::{
     Call, Checked, Function, Instruction, Literal, Module, Operation, Source, Target, ValueType,
     validate,
 };
-use jib_machine::Machine;
+use jib_machine::{Entries, Machine};
 use mem_store::Flat;
 use model_state::{Ended, State};
 use sail_base::{Items, Place};
@@ -131,7 +131,8 @@ fn called(
     let Some(checked) = program(alloc, step)? else {
         return Ok(None);
     };
-    let machine = Machine::new(alloc, checked, no_types(alloc))?;
+    let entries = Entries { reset: 0, step: 0 };
+    let machine = Machine::new(alloc, checked, no_types(alloc), Items::new(alloc), entries)?;
     let memory = Flat::new(alloc, 0, 16)?;
     let mut state = State::new(alloc, no_types(alloc), Items::new(alloc), 1, memory)?;
     let mut arguments = Vec::new(alloc);
