@@ -1,0 +1,3 @@
+-- what a reader of the numbers believes
+pub mod Numbers
+pub mod Laws
