@@ -1,0 +1,5 @@
+pub mod BoundNames
+pub mod Firsts
+pub mod Forms
+pub mod Rows
+pub mod Texts
