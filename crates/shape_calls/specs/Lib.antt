@@ -1,0 +1,5 @@
+pub mod Made
+pub mod Apart
+pub mod Picked
+pub mod Ways
+pub mod Structs

@@ -1,0 +1,4 @@
+pub mod Steps
+pub mod Lets
+pub mod Own
+pub mod Named

@@ -1,0 +1,5 @@
+mod Directions
+mod Firsts
+mod Looks
+mod Opened
+mod Parts
