@@ -21,7 +21,7 @@ use Rattle.sail_globals.specs.Namings.{all_namings}
 use Rattle.sail_names.specs.declared.names.Global.{Global}
 use Rattle.sail_names.specs.declared.names.Global.TheVariants as G
 use Rattle.sail_names.specs.Known.{Known}
-use Rattle.sail_names.specs.Operators.{number_of}
+use Rattle.sail_base.specs.Operators.{number_of}
 
 -- the builtins that read or write the state
 abbrev pub is_of_state : Row → Bool

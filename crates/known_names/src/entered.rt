@@ -4,8 +4,7 @@ ghost use Rattle.known_names.specs.Held.{AreFirstOf, AreEntered, entered_at};
 ghost use Rattle.known_names.specs.Meanings.{members_entered, added_to_name, added_to_operator, members_of_operator};
 
 use crate::firsts::Firsts;
-use sail_base::Items;
-use sail_names::operator_number;
+use sail_base::{Items, operator_number};
 use sail_syntax::{Def, Overloaded};
 use std::alloc::{AllocError, Global};
 use std::collections::HashMap;

@@ -18,7 +18,7 @@ pub use boxed::Boxed;
 pub use elf_refusal::ElfRefusal;
 pub use items::Items;
 pub use kind::Kind;
-pub use operators::{Operator, Prefix};
+pub use operators::{Operator, Prefix, operator_number};
 pub use place::Place;
 pub use print::{dec_text, hex_text};
 pub use refusal::Refusal;

@@ -37,7 +37,7 @@ pub struct Given<'a> {
 }
 
 /// Notes the failures of a register's type: those of its text, and a range in a struct's field that is empty.
-#[tactic(auto, using(type_definitions::proofs::Firsts::first_failure_append))]
+#[tactic(auto, using(sail_kinds::proofs::Firsts::first_failure_append))]
 fn note_register_type(
     alloc: Global,
     types: &Defined<'_>,
@@ -113,7 +113,7 @@ fn placed<'a>(
 }
 
 /// Notes the failures of a definition that is no `val`, where it stands.
-#[tactic(auto, using(type_definitions::proofs::Firsts::first_failure_append))]
+#[tactic(auto, using(sail_kinds::proofs::Firsts::first_failure_append))]
 fn note_own(
     alloc: Global,
     types: &Defined<'_>,

@@ -50,7 +50,7 @@ pub(crate) fn note_measure(
 }
 
 /// Notes the failures of the types of a mapping's sides, where it has them.
-#[tactic(auto, using(type_definitions::proofs::Firsts::first_failure_append))]
+#[tactic(auto, using(sail_kinds::proofs::Firsts::first_failure_append))]
 pub(crate) fn note_sides(
     alloc: Global,
     sides: &Option<Sides>,

@@ -1,4 +1,3 @@
 pub mod Taking
 pub mod Among
-mod Firsts
 mod Roles

@@ -1,4 +1,4 @@
-mod Firsts
+pub mod Firsts
 mod BinderNames
 mod Tables
 mod Clashes

@@ -16,7 +16,7 @@ use Rattle.sail_names.specs.declared.names.Global.{Global}
 use Rattle.sail_names.specs.declared.names.Global.TheVariants as G
 use Rattle.sail_names.specs.declared.names.Names.{Names}
 use Rattle.sail_names.specs.Locals.{Locals, binding_of}
-use Rattle.sail_names.specs.Operators.{number_of}
+use Rattle.sail_base.specs.Operators.{number_of}
 
 -- what the definitions of a model name
 pub record Known : Type 0 where

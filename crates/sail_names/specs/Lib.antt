@@ -1,6 +1,5 @@
 -- what a reader of the crate's promises believes
 pub mod Locals
-pub mod Operators
 pub mod Known
 pub mod Patterns
 pub mod Uses

@@ -11,7 +11,6 @@ mod expressions;
 mod failures;
 mod locals;
 mod names;
-mod operators;
 mod patterns;
 mod uses;
 
@@ -22,5 +21,4 @@ pub use expressions::push_expression;
 pub use failures::{note_all, push_clashes, push_type};
 pub use locals::{Binding, Locals};
 pub use names::{Global, Names};
-pub use operators::operator_number;
 pub use patterns::{enter_parameters, enter_pattern};

@@ -2,8 +2,7 @@ ghost use Rattle.std.specs.Prelude.{◌≡◌};
 ghost use Rattle.std.specs.Option.{option_copied};
 ghost use Rattle.sail_names.specs.Known.{known_of, is_member};
 
-use crate::operators::operator_number;
-use sail_base::{Items, Operator};
+use sail_base::{Items, Operator, operator_number};
 use std::collections::{HashMap, HashSet};
 
 /// What a definition names, in the space of values. Functions and mappings have numbers, by which calls are told.

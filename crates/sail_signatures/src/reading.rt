@@ -70,7 +70,7 @@ pub(crate) fn signature_of(
 }
 
 /// The constraint of a `val` and its types, each where it stands for something, and notes their failures.
-#[tactic(auto, using(type_definitions::proofs::Firsts::first_failure_append))]
+#[tactic(auto, using(sail_kinds::proofs::Firsts::first_failure_append))]
 fn read_parts(
     alloc: Global,
     quantifier: &Quantifier,
@@ -112,7 +112,7 @@ fn read_under(
 
 /// The signature of a `val` where these types can be named, and notes its failures: equal names of type variables, and those of
 /// its constraint and its types. There is none where one of these stands for nothing. The one error is want of memory.
-#[tactic(auto, using(type_definitions::proofs::Firsts::first_failure_append))]
+#[tactic(auto, using(sail_kinds::proofs::Firsts::first_failure_append))]
 pub fn read_val(
     alloc: Global,
     names: &TypeNames<'_>,

@@ -4,7 +4,7 @@ use Rattle.sail_base.specs.declared.place.Place.{Place}
 use Rattle.sail_syntax.specs.declared.definitions.Def.{Def}
 use Rattle.sail_kinds.specs.declared.error.TableError.{TableError}
 use Rattle.sail_kinds.specs.Failures.{first_failure}
-use Rattle.type_definitions.proofs.Firsts.{first_failure_append}
+use Rattle.sail_kinds.proofs.Firsts.{first_failure_append}
 use Rattle.sail_tables.specs.Refused.{entry_failure, entry_failures, has_reset, has_step}
 
 -- `reset` was noted, and then `step`

@@ -2,7 +2,7 @@
 use Rattle.std.proofs.Common.{◌≡◌, List, ◌++◌, sym, ap, ◌∙◌, Option, None}
 use Rattle.sail_kinds.specs.declared.error.TableError.{TableError}
 use Rattle.sail_kinds.specs.Failures.{first_failure}
-use Rattle.type_definitions.proofs.Firsts.{first_failure_append}
+use Rattle.sail_kinds.proofs.Firsts.{first_failure_append}
 
 -- some failures were noted, and then others
 noted_behind : (es fs : List TableError) (middle after : Option TableError)

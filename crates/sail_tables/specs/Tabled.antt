@@ -11,7 +11,7 @@ use Rattle.call_graph.specs.declared.found.Cycles.{Cycles}
 use Rattle.call_graph.specs.Components.{node_count, cycle_of}
 use Rattle.type_definitions.specs.Defined.{held, types_of}
 use Rattle.sail_names.specs.Known.{Known, known_of}
-use Rattle.sail_names.specs.Operators.{number_of}
+use Rattle.sail_base.specs.Operators.{number_of}
 use Rattle.sail_signatures.specs.declared.signature.Signature.{Signature}
 use Rattle.sail_signatures.specs.Parts.{AreOf}
 use Rattle.known_names.specs.Meanings.{known_in}

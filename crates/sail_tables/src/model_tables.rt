@@ -2,7 +2,7 @@ ghost use Rattle.std.specs.Prelude.{◌≡◌, List};
 ghost use Rattle.std.specs.Option.{option_copied};
 ghost use Rattle.sail_base.specs.declared.place.Place.{Place as APlace};
 ghost use Rattle.sail_syntax.specs.declared.definitions.Def.{Def as ADef};
-ghost use Rattle.sail_names.specs.Operators.{number_of as number_of_operator};
+ghost use Rattle.sail_base.specs.Operators.{number_of as number_of_operator};
 ghost use Rattle.type_definitions.specs.Defined.{types_of};
 ghost use Rattle.sail_signatures.specs.Parts.{parts_of};
 ghost use Rattle.known_names.specs.Meanings.{known_in};
@@ -12,10 +12,10 @@ ghost use Rattle.sail_tables.specs.Tabled.{cycle_numbered as cycle_numbered_of, 
 
 use crate::signatures::held_signature;
 use call_graph::Cycles;
-use sail_base::{Items, Operator, Place};
+use sail_base::{Items, Operator, Place, operator_number};
 use sail_cycles::number_of;
 use sail_kinds::NamedType;
-use sail_names::{Global as Named, Names, operator_number};
+use sail_names::{Global as Named, Names};
 use sail_signatures::{Callables, Parts, Signature};
 use sail_syntax::Def;
 use sail_types::Definition;

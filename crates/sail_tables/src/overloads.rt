@@ -1,9 +1,8 @@
 ghost use Rattle.std.specs.Prelude.{◌≡◌, ℕ, List, [], ◌∷◌, ◌++◌, length, slice_index_or, bytes_eq, nat_eq, if◌then◌else◌, IfOk, OnOk};
-ghost use Rattle.sail_names.specs.Operators.{number_of};
+ghost use Rattle.sail_base.specs.Operators.{number_of};
 ghost use Rattle.sail_tables.specs.Tabled.{adds_to_name, adds_to_operator, positions, positions_at};
 
-use sail_base::{Items, Operator};
-use sail_names::operator_number;
+use sail_base::{Items, Operator, operator_number};
 use sail_syntax::{Def, Overloaded};
 use std::alloc::{AllocError, Global};
 use std::collections::HashMap;

@@ -20,7 +20,8 @@ use Rattle.shape_models.specs.Models.{Own, or_row, or_overload, value_of, candid
 use Rattle.shape_models.specs.Models.{operators, operator_added, named_faults, overloads_faults}
 use Rattle.shape_models.specs.Overloads.{overload_faults}
 use Rattle.shape_models.specs.Held.{or_named}
-use Rattle.shape_models.proofs.Steps.{or_nothing, first_failure_append}
+use Rattle.shape_rules.proofs.Firsts.{first_failure_append}
+use Rattle.shape_models.proofs.Steps.{or_nothing}
 
 nothing_more : (m : Option Meant) → or_overload m [] ≡ m
 nothing_more None = refl

@@ -14,19 +14,14 @@ use Rattle.sail_types.specs.declared.shapes.Shape.TheVariants as V
 use Rattle.shape_rules.specs.declared.error.ShapeError.{ShapeError}
 use Rattle.shape_rules.specs.declared.callees.Meant.{Meant}
 use Rattle.shape_rules.specs.declared.callees.Meant.TheVariants as M
-use Rattle.shape_rules.specs.Findings.{earlier, first_failure}
+use Rattle.shape_rules.specs.Findings.{first_failure}
+use Rattle.shape_rules.proofs.Firsts.{first_failure_append}
 use Rattle.shape_models.specs.declared.clashes.Added.{Added}
 use Rattle.shape_models.specs.declared.entries.Entry.{Entry}
 use Rattle.shape_models.specs.declared.overloads.Overload.{Overload}
 use Rattle.shape_models.specs.Models.{meant_in, variables_from, or_row, or_overload, candidates}
 use Rattle.shape_models.specs.Held.{has_own, over, or_named}
 use Rattle.shape_models.specs.Overloads.{clashes_with, clashes_behind}
-
--- failures in two lists, one after the other
-pub first_failure_append : (kept : Option ShapeError) (es fs : List ShapeError)
-    → first_failure kept (es ++ fs) ≡ first_failure (first_failure kept es) fs
-first_failure_append kept [] fs = refl
-first_failure_append kept (e ∷ es) fs = first_failure_append (earlier kept e) es fs
 
 -- what a name means where one more entry stands behind others
 entry_behind : (t : Bool) (m : Meant) (rest last : Option Meant) (whole : Option Meant) → whole ≡ option_or rest last

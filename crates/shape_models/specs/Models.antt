@@ -37,7 +37,7 @@ use Rattle.shape_rules.specs.declared.locals.Local.{Local}
 use Rattle.shape_rules.specs.declared.error.ShapeError.{ShapeError}
 use Rattle.shape_rules.specs.Written.{joined, shape_in}
 use Rattle.shape_rules.specs.Scopes.{Setting, defined_place}
-use Rattle.shape_rules.specs.Operators.{number_of}
+use Rattle.sail_base.specs.Operators.{number_of}
 use Rattle.shape_rules.specs.Calls.{param_shapes, member_candidate, builtin_members}
 use Rattle.shape_models.specs.declared.clashes.Added.{Added}
 use Rattle.shape_models.specs.declared.entries.Entry.{Entry}

@@ -40,7 +40,7 @@ fn note_clash(
 }
 
 /// Notes the clashes of a member with older ones.
-#[tactic(auto, using(crate::proofs::Steps::first_failure_append))]
+#[tactic(auto, using(shape_rules::proofs::Firsts::first_failure_append))]
 fn note_clashes_with(
     alloc: Global,
     before: &[Added],
@@ -56,7 +56,7 @@ fn note_clashes_with(
 }
 
 /// Notes the members of an overload that clash, each at the later of their definitions (M13). The one error is want of memory.
-#[tactic(auto, using(crate::proofs::Steps::first_failure_append))]
+#[tactic(auto, using(shape_rules::proofs::Firsts::first_failure_append))]
 pub fn note_clashes(alloc: Global, members: &[Added], first: &mut First) -> Result<(), AllocError>
     ensures { OnOk result (first.new.error ≡ first_failure first.old.error (overload_faults members.now)) }
 {

@@ -62,7 +62,7 @@ fn find_given(alloc: Global, source: &Source<'_>) -> Result<Items<Typ>, AllocErr
 
 /// What the definitions of a model mean, without top-level lets, and notes the members of overloads that clash. The one error is want
 /// of memory.
-#[tactic(auto, using(crate::proofs::Steps::first_failure_append))]
+#[tactic(auto, using(shape_rules::proofs::Firsts::first_failure_append))]
 pub fn find_meanings(
     alloc: Global,
     source: &Source<'_>,

@@ -14,11 +14,11 @@ ghost use Rattle.shape_models.specs.Held.{held, or_named};
 use crate::candidates::copy_candidate;
 use crate::clashes::{Added, note_clashes};
 use crate::values::put_new;
-use sail_base::{Boxed, Items, Operator, Place, Text};
+use sail_base::{Boxed, Items, Operator, Place, Text, operator_number};
 use sail_syntax::{Def, Name, Overloaded};
 use sail_types::{Member, Row, Shape, Types, operator_rows, row_members, row_named, rows_members};
 use shape_calls::member_candidate;
-use shape_rules::{Candidate, Doing, First, Meant, operator_number};
+use shape_rules::{Candidate, Doing, First, Meant};
 use std::alloc::{AllocError, Global};
 use std::collections::HashMap;
 
@@ -198,7 +198,7 @@ pub(crate) fn find_named(
 }
 
 /// Notes the clashes in overloads of names. The one error is want of memory.
-#[tactic(auto, using(crate::proofs::Steps::first_failure_append))]
+#[tactic(auto, using(shape_rules::proofs::Firsts::first_failure_append))]
 pub(crate) fn note_named(
     alloc: Global,
     named: &[Overload],
@@ -357,7 +357,7 @@ fn note_operator(
 }
 
 /// Likewise of each of these operators.
-#[tactic(auto, using(crate::proofs::Steps::first_failure_append))]
+#[tactic(auto, using(shape_rules::proofs::Firsts::first_failure_append))]
 fn note_each(
     alloc: Global,
     types: &Types,

@@ -11,7 +11,7 @@ use Rattle.shape_rules.specs.declared.callees.Candidate.{Candidate}
 use Rattle.shape_rules.specs.declared.callees.Meant.{Meant}
 use Rattle.shape_rules.specs.declared.meanings.Meanings.{Meanings}
 use Rattle.shape_rules.specs.declared.around.Around.{Around}
-use Rattle.shape_rules.specs.Operators.{number_of}
+use Rattle.sail_base.specs.Operators.{number_of}
 use Rattle.shape_rules.specs.Scopes.{Setting, defined_place}
 
 abbrev pub value_in : Meanings → List ℕ → Option Meant

@@ -10,7 +10,6 @@ pub mod Statements
 pub mod Expressions
 pub mod Sides
 -- what the code holds of where an expression stands
-pub mod Operators
 pub mod Around
 pub mod Sentences
 -- what the contracts of private functions say

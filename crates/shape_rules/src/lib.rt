@@ -3,7 +3,8 @@
 //!
 //! `specs/Findings` has failures and what is found of a form, `specs/Written` written types, `specs/Scopes` what can be named,
 //! `specs/Calls` callees and which member of an overload is taken, `specs/Patterns`, `specs/Targets`, `specs/Values`, `specs/Statements`
-//! and `specs/Expressions` one case for each form, `specs/Sides` the sides of mappings, and `specs/Around` what the code holds of all that.
+//! and `specs/Expressions` one case for each form, `specs/Sides` the sides of mappings, `specs/Around` what the code holds of all that, and
+//! `specs/Sentences` what follows of sides and of names that a pattern binds.
 #![tactic(auto)]
 
 mod around;
@@ -13,7 +14,6 @@ mod first;
 pub mod laws;
 mod locals;
 mod meanings;
-mod operators;
 
 pub use around::Around;
 pub use callees::{Candidate, Doing, Mapping, Meant};
@@ -21,4 +21,3 @@ pub use error::{Mismatch, ShapeError};
 pub use first::First;
 pub use locals::{Local, Locals};
 pub use meanings::Meanings;
-pub use operators::operator_number;

@@ -3,8 +3,7 @@ ghost use Rattle.std.specs.Option.{option_copied};
 ghost use Rattle.shape_rules.specs.Around.{value_in, added_in, given_in};
 
 use crate::callees::{Candidate, Meant};
-use crate::operators::operator_number;
-use sail_base::{Items, Operator};
+use sail_base::{Items, Operator, operator_number};
 use sail_types::Typ;
 use std::collections::HashMap;
 

@@ -1,4 +1,4 @@
-pub mod Firsts
+pub mod Noted
 mod Scopes
 mod Rows
 mod Growth

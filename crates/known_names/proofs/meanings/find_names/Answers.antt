@@ -1,6 +1,6 @@
 use Rattle.std.proofs.Common.{[], ap, ◌∙◌}
 use Rattle.std.proofs.lemmas.Option.{unwrap_or-slice_get}
-use Rattle.sail_names.specs.Operators.{number_of}
+use Rattle.sail_base.specs.Operators.{number_of}
 use Rattle.known_names.specs.Meanings.{value_of}
 use Rattle.known_names.proofs.meanings.find_names.Goals as goal
 

@@ -3,7 +3,7 @@ use Rattle.std.proofs.lemmas.List.{drop_more}
 use Rattle.sail_kinds.specs.Failures.{first_failure}
 use Rattle.sail_names.specs.Known.{known_of}
 use Rattle.type_definitions.specs.Defined.{held}
-use Rattle.type_definitions.proofs.Firsts.{first_failure_append}
+use Rattle.sail_kinds.proofs.Firsts.{first_failure_append}
 use Rattle.sail_bodies.specs.Bodies.{body_failures, body_failures_from}
 use Rattle.sail_bodies.proofs.bodies.note_bodies.Goals as goal
 

@@ -2,7 +2,7 @@ use Rattle.std.proofs.Common.{◌≡◌, ◌+◌, ◌∷◌, drop, sym, ap, ◌�
 use Rattle.std.proofs.lemmas.List.{drop_more}
 use Rattle.sail_kinds.specs.Failures.{first_failure}
 use Rattle.sail_names.specs.Known.{known_of}
-use Rattle.type_definitions.proofs.Firsts.{first_failure_append}
+use Rattle.sail_kinds.proofs.Firsts.{first_failure_append}
 use Rattle.sail_cycles.specs.Cycles.{is_cyclic_at, cycle_failures, all_cycle_failures}
 use Rattle.sail_cycles.proofs.failures.note_cycles.Goals as goal
 

@@ -2,7 +2,7 @@ use Rattle.std.proofs.Common.{◌≡◌, ◌+◌, ◌∷◌, drop, sym, ap, ◌�
 use Rattle.std.proofs.lemmas.List.{drop_more}
 use Rattle.sail_kinds.specs.Failures.{first_failure}
 use Rattle.sail_declared.specs.Wanting.{wanting, all_wanting}
-use Rattle.sail_declared.proofs.Firsts.{first_failure_append}
+use Rattle.sail_kinds.proofs.Firsts.{first_failure_append}
 use Rattle.sail_declared.proofs.wanting.note_wanting.Goals as goal
 
 pub loop-definition-preserved : goal.loop-definition-preserved

@@ -1,7 +1,7 @@
 use Rattle.std.proofs.Common.{◌≡◌, ◌+◌, ◌∷◌, [], ◌++◌, take, drop, sym, ap, ◌∙◌, subst}
 use Rattle.std.proofs.lemmas.List.{drop_more, take_more}
 use Rattle.sail_kinds.specs.Failures.{first_failure}
-use Rattle.sail_globals.proofs.Firsts.{first_failure_append}
+use Rattle.sail_kinds.proofs.Firsts.{first_failure_append}
 use Rattle.sail_globals.specs.Clashes.{clash, clashes_behind}
 use Rattle.sail_globals.specs.Held.{spaces_at, AreHeld}
 use Rattle.sail_globals.proofs.clashes.note_clashes.Goals as goal

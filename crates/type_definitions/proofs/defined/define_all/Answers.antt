@@ -3,7 +3,7 @@ use Rattle.std.proofs.lemmas.List.{drop_more}
 use Rattle.sail_syntax.specs.declared.definitions.Def.{Def}
 use Rattle.sail_kinds.specs.Failures.{first_failure}
 use Rattle.type_definitions.specs.Defined.{Types, held, types_with, type_failures, types_behind, type_failures_behind}
-use Rattle.type_definitions.proofs.Firsts.{first_failure_append}
+use Rattle.sail_kinds.proofs.Firsts.{first_failure_append}
 use Rattle.type_definitions.proofs.defined.define_all.Goals as goal
 
 pub loop-definition-preserved : goal.loop-definition-preserved

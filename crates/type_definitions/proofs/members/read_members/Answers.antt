@@ -6,7 +6,7 @@ use Rattle.sail_kinds.specs.declared.error.TableError.{TableError}
 use Rattle.sail_kinds.specs.Failures.{first_failure}
 use Rattle.sail_kinds.specs.Scopes.{within}
 use Rattle.type_definitions.specs.Defined.{members_failures, fields_of, field_if, typ_if, member_read, list_of}
-use Rattle.type_definitions.proofs.Firsts.{first_failure_append}
+use Rattle.sail_kinds.proofs.Firsts.{first_failure_append}
 use Rattle.type_definitions.proofs.members.read_members.Goals as goal
 
 pub loop-member-preserved : goal.loop-member-preserved

@@ -1,7 +1,7 @@
 use Rattle.std.proofs.Common.{ℕ, List, [], sym, ap, ◌∙◌, Option, unwrap_or, get_or}
 use Rattle.std.specs.Option.{option_copied}
 use Rattle.std.proofs.lemmas.Option.{unwrap_or-slice_get}
-use Rattle.sail_names.specs.Operators.{number_of}
+use Rattle.sail_base.specs.Operators.{number_of}
 use Rattle.sail_tables.proofs.model_tables.Tables.operator.Goals as goal
 
 pub returns-in-Some : goal.returns-in-Some

@@ -1,7 +1,7 @@
 use Rattle.std.proofs.Common.{refl, ap, ◌∙◌}
 use Rattle.sail_kinds.specs.Scopes.{type_named, own_of}
 use Rattle.type_definitions.specs.Defined.{held}
-use Rattle.type_definitions.proofs.Firsts.{on_ok, on_both}
+use Rattle.type_definitions.proofs.Noted.{on_ok, on_both}
 use Rattle.type_definitions.proofs.Rows.{row_added}
 use Rattle.type_definitions.proofs.defined.Defined.add_form.Goals as goal
 

@@ -3,7 +3,7 @@ use Rattle.sail_kinds.specs.Failures.{first_failure}
 use Rattle.sail_kinds.specs.Repeated.{clashes}
 use Rattle.sail_kinds.specs.Scopes.{Within}
 use Rattle.type_definitions.specs.Defined.{held, names_of, right_side, alias_read, alias_of, named_with}
-use Rattle.type_definitions.proofs.Firsts.{two_noted}
+use Rattle.type_definitions.proofs.Noted.{two_noted}
 use Rattle.type_definitions.proofs.Scopes.{around_between}
 use Rattle.type_definitions.proofs.defined.Defined.define_alias.Goals as goal
 

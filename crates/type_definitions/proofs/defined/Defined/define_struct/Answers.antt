@@ -3,7 +3,7 @@ use Rattle.sail_kinds.specs.Failures.{first_failure}
 use Rattle.sail_kinds.specs.Repeated.{clashes}
 use Rattle.sail_kinds.specs.Scopes.{Within}
 use Rattle.type_definitions.specs.Defined.{held, names_of, member_names, members_failures, under}
-use Rattle.type_definitions.proofs.Firsts.{two_noted, on_any}
+use Rattle.type_definitions.proofs.Noted.{two_noted, on_any}
 use Rattle.type_definitions.proofs.Scopes.{around_between}
 use Rattle.type_definitions.proofs.defined.Defined.define_struct.Goals as goal
 

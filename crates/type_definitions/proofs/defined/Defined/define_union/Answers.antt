@@ -7,7 +7,7 @@ use Rattle.sail_kinds.specs.Repeated.{clashes}
 use Rattle.sail_kinds.specs.Scopes.{type_named, own_of}
 use Rattle.type_definitions.specs.Defined.{Types, held, names_of, members_failures, fields_of}
 use Rattle.type_definitions.specs.Defined.{under_union, within_union, union_form, named_with, with_name, next_type}
-use Rattle.type_definitions.proofs.Firsts.{two_noted, on_any, on_ok, on_both}
+use Rattle.type_definitions.proofs.Noted.{two_noted, on_any, on_ok, on_both}
 use Rattle.type_definitions.proofs.Rows.{row_added}
 use Rattle.type_definitions.proofs.defined.Defined.define_union.Goals as goal
 

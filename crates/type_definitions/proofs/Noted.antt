@@ -1,12 +1,8 @@
 -- The first of failures that stand one list behind the other.
-use Rattle.std.proofs.Common.{◌≡◌, List, [], ◌∷◌, ◌++◌, refl, sym, ap, ◌∙◌, Option, Result, Ok, Err, OnOk}
+use Rattle.std.proofs.Common.{◌≡◌, List, ◌++◌, sym, ap, ◌∙◌, Option, Result, Ok, Err, OnOk}
 use Rattle.sail_kinds.specs.declared.error.TableError.{TableError}
-use Rattle.sail_kinds.specs.Failures.{first_failure, earlier}
-
-pub first_failure_append : (kept : Option TableError) (es fs : List TableError)
-    → first_failure kept (es ++ fs) ≡ first_failure (first_failure kept es) fs
-first_failure_append kept [] fs = refl
-first_failure_append kept (e ∷ es) fs = first_failure_append (earlier kept e) es fs
+use Rattle.sail_kinds.specs.Failures.{first_failure}
+use Rattle.sail_kinds.proofs.Firsts.{first_failure_append}
 
 -- failures of one list, and then of another
 pub two_noted : (before middle after : Option TableError) (es fs : List TableError)
