@@ -9,6 +9,9 @@ use Rattle.shape_rules.specs.Calls.{Args, Chosen, doing_kind}
 use Rattle.shape_calls.specs.declared.choosing.Arguments.{Arguments}
 use Rattle.shape_calls.specs.declared.choosing.Choice.{Choice}
 use Rattle.shape_calls.specs.declared.choosing.Picked.{Picked}
+use Rattle.shape_calls.specs.declared.setters.Callees.{Callees}
+use Rattle.shape_calls.specs.declared.setters.Callees.TheVariants as S
+use Rattle.shape_rules.specs.declared.callees.Candidate.{Candidate}
 
 abbrev pub choice_of : Choice → Chosen
 choice_of choice = record { candidate = choice.candidate.now; known = choice.known }
@@ -27,3 +30,8 @@ abbrev pub member_picked : Place → List ℕ → Shape → Arguments → Option
 member_picked place name want args None = refused (error.NoMember place name)
 member_picked place name want args (Some x) =
     if args.is_unsure then unknown place else settled place want x.answer (λ s. over place (doing_kind x.doing x.known) args.cores)
+
+-- the callees of a target, wherever they are held
+abbrev pub held_by : Callees → List Candidate
+held_by (S.Held callees) = callees.now
+held_by (S.Members callees) = callees

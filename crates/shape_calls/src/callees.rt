@@ -1,6 +1,5 @@
 //! What callees take, and what a call of one gives.
 ghost use Rattle.std.specs.Prelude.{◌≡◌, [], IfOk, OnOk, map};
-ghost use Rattle.std.specs.Option.{option_copied};
 ghost use Rattle.sail_types.specs.Shapes.{put, at};
 ghost use Rattle.shape_joins.specs.Joins.{any_of};
 ghost use Rattle.shape_joins.specs.Learning.{learn};
@@ -15,7 +14,7 @@ use sail_base::{Items, Operator, Place, Prefix, Text};
 use sail_core::{Callee, Caller, Core, Kind};
 use sail_types::{Member, Shape, Typ, copy_shape, copy_shapes, row_name, shapes_of};
 use shape_joins::{learn_shape, put_shape};
-use shape_rules::{Candidate, Doing, First, Meant};
+use shape_rules::{Candidate, Doing, First};
 use std::alloc::{AllocError, Global};
 
 /// The types of what takes a value of this type: those in a tuple, or the one.
@@ -187,17 +186,6 @@ pub fn known_behind(
         Ok(learnt)
     } else {
         Ok(known)
-    }
-}
-
-/// The callees that a name stands for.
-pub fn callees_of(meant: Option<&Meant>) -> &[Candidate]
-    ensures { result.now ≡ target.callees_of (option_copied meant.entry) }
-{
-    match meant {
-        Some(Meant::Callee(callee)) => std::slice::from_ref(callee),
-        Some(Meant::Overload(members)) => members.as_slice(),
-        _ => &[],
     }
 }
 

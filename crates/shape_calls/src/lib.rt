@@ -8,13 +8,14 @@
 mod callees;
 mod choosing;
 mod made;
+mod setters;
 mod targets;
 mod values;
 
 pub use callees::{
-    call_found, call_solved, callees_of, caller_of, does_convert, doing_callee, doing_kind,
-    has_never, is_unit, known_behind, last_param, member_candidate, operator_text, param_shapes,
-    parameters_of, prefix_text,
+    call_found, call_solved, caller_of, does_convert, doing_callee, doing_kind, has_never, is_unit,
+    known_behind, last_param, member_candidate, operator_text, param_shapes, parameters_of,
+    prefix_text,
 };
 pub use choosing::{
     Arguments, Choice, Picked, choose, member_found, pick, pick_member, pick_operator, pick_prefix,
@@ -23,6 +24,7 @@ pub use choosing::{
 pub use made::{
     Made, cast, given_on, leaf, mismatched, missing, note_apart, over, refused, settled, unknown,
 };
+pub use setters::{Callees, callees_of, one_of};
 pub use targets::{
     Aim, FoundField, Inside, aimed, aimed_nowhere, field_in, field_named, into_field, into_item,
     into_slice, is_open, name_aimed, note_base, register_aimed, shape_inside, small_place,

@@ -18,8 +18,8 @@ use sail_core::{Core, Kind, Literal as CoreLiteral};
 use sail_syntax::{Literal, Name};
 use sail_types::{Parameter, Shape, Types, copy_shape};
 use shape_joins::join_shapes;
-use shape_patterns::{core_literal, literal_shape};
 use shape_rules::{Around, First, Local, Meant};
+use shape_widths::{core_literal, literal_shape};
 use std::alloc::{AllocError, Global};
 
 /// A named type of which a shape is.

@@ -1,5 +1,3 @@
-mod Directions
-mod Firsts
 mod Looks
 mod Opened
 mod Parts

@@ -12,7 +12,7 @@ use Rattle.shape_rules.specs.declared.callees.Meant.{Meant}
 use Rattle.shape_rules.specs.declared.callees.Meant.TheVariants as M
 use Rattle.shape_rules.specs.Scopes.{Setting}
 use Rattle.shape_rules.specs.Patterns.{Piece, Widths, Looked, piece, look, no_widths, name_look, construct_look, group_look, concat_look, cons_look, as_look, typed_look}
-use Rattle.shape_patterns.specs.Pieces.{further}
+use Rattle.shape_widths.specs.Parts.{further}
 use Rattle.shape_patterns.proofs.Opened.{of_Bind, of_Construct, of_Group, of_Concat, of_Cons, of_As, of_Typed}
 
 opened : (p q : Pat) (a : Piece) (setting : Setting) (widths : Widths) (s : Shape) → p ≡ q → piece q ≡ a → look p setting widths s ≡ a.look setting widths s

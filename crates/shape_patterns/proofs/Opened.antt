@@ -11,8 +11,7 @@ use Rattle.sail_syntax.specs.declared.patterns.Pat.TheOpen as P
 use Rattle.sail_syntax.specs.declared.patterns.Pat.TheVariants as V
 use Rattle.sail_syntax.specs.declared.patterns.Pat.TheFolds.{fold-roll-Pat}
 use Rattle.shape_rules.specs.Patterns.{Piece, piece, form_piece, joined_piece}
-use Rattle.shape_rules.specs.Sides.{Gives, gives, gives_form, gives_joined}
-use Rattle.shape_patterns.specs.Pieces.{further, further_gives}
+use Rattle.shape_widths.specs.Parts.{further}
 
 pub of_Wildcard : (place : Place) → piece (V.Wildcard place) ≡ form_piece (P.Wildcard place)
 of_Wildcard place = ap piece (sym (V.rolls-Wildcard place)) ∙ fold-roll-Pat Piece Piece form_piece joined_piece (P.Wildcard place)
@@ -43,33 +42,3 @@ of_As place p name = ap piece (sym (V.rolls-As place p name)) ∙ fold-roll-Pat 
 
 pub of_Typed : (place : Place) (p : Pat) (typ : TyExp) → piece (V.Typed place p typ) ≡ form_piece (P.Typed place (piece p) typ)
 of_Typed place p typ = ap piece (sym (V.rolls-Typed place p typ)) ∙ fold-roll-Pat Piece Piece form_piece joined_piece (P.Typed place p typ)
-
-pub given_Wildcard : (place : Place) → gives (V.Wildcard place) ≡ gives_form (P.Wildcard place)
-given_Wildcard place = ap gives (sym (V.rolls-Wildcard place)) ∙ fold-roll-Pat Gives Gives gives_form gives_joined (P.Wildcard place)
-
-pub given_Constant : (place : Place) (literal : Literal) → gives (V.Constant place literal) ≡ gives_form (P.Constant place literal)
-given_Constant place literal = ap gives (sym (V.rolls-Constant place literal)) ∙ fold-roll-Pat Gives Gives gives_form gives_joined (P.Constant place literal)
-
-pub given_Negative : (place : Place) (n : ℤ) → gives (V.Negative place n) ≡ gives_form (P.Negative place n)
-given_Negative place n = ap gives (sym (V.rolls-Negative place n)) ∙ fold-roll-Pat Gives Gives gives_form gives_joined (P.Negative place n)
-
-pub given_Bind : (name : Name) → gives (V.Bind name) ≡ gives_form (P.Bind name)
-given_Bind name = ap gives (sym (V.rolls-Bind name)) ∙ fold-roll-Pat Gives Gives gives_form gives_joined (P.Bind name)
-
-pub given_Construct : (name : Name) (ps : List Pat) → gives (V.Construct name ps) ≡ gives_form (P.Construct name (map gives ps))
-given_Construct name ps = ap gives (sym (V.rolls-Construct name ps)) ∙ fold-roll-Pat Gives Gives gives_form gives_joined (P.Construct name ps)
-
-pub given_Group : (place : Place) (brackets : Brackets) (ps : List Pat) → gives (V.Group place brackets ps) ≡ gives_form (P.Group place brackets (map gives ps))
-given_Group place brackets ps = ap gives (sym (V.rolls-Group place brackets ps)) ∙ fold-roll-Pat Gives Gives gives_form gives_joined (P.Group place brackets ps)
-
-pub given_Concat : (place : Place) (p q : Pat) (more : List Joined) → gives (V.Concat place p q more) ≡ gives_form (P.Concat place (gives p) (gives q) (map further_gives more))
-given_Concat place p q more = ap gives (sym (V.rolls-Concat place p q more)) ∙ fold-roll-Pat Gives Gives gives_form gives_joined (P.Concat place p q more)
-
-pub given_Cons : (place : Place) (p q : Pat) → gives (V.Cons place p q) ≡ gives_form (P.Cons place (gives p) (gives q))
-given_Cons place p q = ap gives (sym (V.rolls-Cons place p q)) ∙ fold-roll-Pat Gives Gives gives_form gives_joined (P.Cons place p q)
-
-pub given_As : (place : Place) (p : Pat) (name : Name) → gives (V.As place p name) ≡ gives_form (P.As place (gives p) name)
-given_As place p name = ap gives (sym (V.rolls-As place p name)) ∙ fold-roll-Pat Gives Gives gives_form gives_joined (P.As place p name)
-
-pub given_Typed : (place : Place) (p : Pat) (typ : TyExp) → gives (V.Typed place p typ) ≡ gives_form (P.Typed place (gives p) typ)
-given_Typed place p typ = ap gives (sym (V.rolls-Typed place p typ)) ∙ fold-roll-Pat Gives Gives gives_form gives_joined (P.Typed place p typ)

@@ -1,30 +1,16 @@
 -- Parts of patterns, and the forms that have several, as the code looks at them.
-use Rattle.std.specs.Prelude.{ℕ, Bool, true, false, List, [], ◌∷◌, ◌++◌, length, map, replicate, Option, Some, None}
+use Rattle.std.specs.Prelude.{ℕ, Bool, true, false, List, [], ◌∷◌, length, map, replicate}
 use Rattle.sail_base.specs.declared.place.Place.{Place}
 use Rattle.sail_syntax.specs.declared.patterns.Pat.{Pat}
-use Rattle.sail_syntax.specs.declared.patterns.Joined.{Joined}
-use Rattle.sail_syntax.specs.declared.patterns.Pat.TheFolds.{fold-Joined}
-use Rattle.sail_types.specs.declared.numbers.Num.{Num}
 use Rattle.sail_types.specs.declared.shapes.Shape.{Shape, out-Shape}
 use Rattle.sail_types.specs.declared.shapes.Shape.TheVariants as V
 use Rattle.sail_types.specs.Shapes.{put, at}
 use Rattle.shape_joins.specs.Learning.{learn}
 use Rattle.sail_core.specs.declared.patterns.Head.TheVariants as H
 use Rattle.shape_rules.specs.declared.callees.Candidate.{Candidate}
-use Rattle.shape_rules.specs.declared.error.ShapeError.{ShapeError}
-use Rattle.shape_rules.specs.declared.error.ShapeError.TheVariants as error
 use Rattle.shape_rules.specs.Calls.{takes_unit}
-use Rattle.shape_rules.specs.Patterns.{Piece, Look, piece, form_piece, joined_piece, unit_piece, opened, each_looked, shape_faults}
+use Rattle.shape_rules.specs.Patterns.{Piece, Look, piece, unit_piece, opened, each_looked, shape_faults}
 use Rattle.shape_rules.specs.Patterns.{tuple_parts, seen_as, vector_item, list_item, nevers, known_or_nevers}
-use Rattle.shape_rules.specs.Sides.{Gives, gives_form, gives_joined}
-
--- a further part of a concatenation
-abbrev pub further : Joined → Piece
-further = fold-Joined Piece Piece form_piece joined_piece
-
--- the widths that it gives
-abbrev pub further_gives : Joined → Gives
-further_gives = fold-Joined Gives Gives gives_form gives_joined
 
 -- `()`, or a pattern each
 abbrev pub pieces_of : Place → Bool → List Pat → List Piece
@@ -57,12 +43,3 @@ any_answer f = put (at (nevers f.variables)) f.answer
 -- the shapes of a constructor's parts, where that shape is matched
 abbrev pub payload_shapes : Candidate → Shape → List Shape
 payload_shapes f subject = map (put (at (known_or_nevers f.variables (learn f.answer subject (nevers f.variables))))) f.params
-
--- a part of a concatenation of this width, and whether a part without one stands before it
-abbrev pub width_fault : Bool → Option Num → Place → List ShapeError
-width_fault true None place = error.WidthUnknown place ∷ []
-width_fault before width place = []
-
-abbrev pub is_behind : Bool → Option Num → Bool
-is_behind before None = true
-is_behind before (Some n) = before

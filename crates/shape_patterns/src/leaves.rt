@@ -10,7 +10,6 @@ ghost use Rattle.shape_rules.specs.Findings.{first_failure};
 ghost use Rattle.shape_rules.specs.Patterns.{pattern, shape_faults, name_look, no_widths, first_param, typed_form as typed_form_of};
 ghost use Rattle.shape_rules.specs.Patterns.{core_literal as core_literal_of, literal_shape as literal_shape_of};
 
-use crate::literals::{core_literal, literal_shape};
 use crate::nodes::{constant_of, is_value, leaf};
 use crate::shapes::note_shape;
 use sail_base::{Items, Place};
@@ -18,6 +17,7 @@ use sail_core::{Form, Literal as CoreLiteral, Pattern, Written};
 use sail_syntax::{Literal, Name};
 use sail_types::Shape;
 use shape_rules::{Around, First, Local, Meant};
+use shape_widths::{core_literal, literal_shape};
 use std::alloc::{AllocError, Global};
 
 /// This value of this shape alone. The one error is want of memory.

@@ -12,24 +12,24 @@ ghost use Rattle.shape_rules.specs.Patterns.{piece, look as look_of, or_never, e
 ghost use Rattle.shape_rules.specs.Patterns.{construct_look, callee_look, direction_of, callee_head, direction_look, constructor_look};
 ghost use Rattle.shape_rules.specs.Patterns.{constructor_parts, pieces_for, mapping_look_as, which_side as which_side_of, maps, as_one, group_look};
 ghost use Rattle.shape_rules.specs.Patterns.{concat_look, cons_look, as_look, typed_look};
-ghost use Rattle.shape_patterns.specs.Known.{widths_of};
-ghost use Rattle.shape_patterns.specs.Pieces.{further, pieces_of, tuple_look};
+ghost use Rattle.shape_widths.specs.Known.{widths_of};
+ghost use Rattle.shape_widths.specs.Parts.{further};
+ghost use Rattle.shape_patterns.specs.Pieces.{pieces_of, tuple_look};
 
 use crate::callees::{any_answer, is_bare, part_count, payload_shapes};
 use crate::leaves::{
     look_literal, look_name, look_negative, look_only_unit, look_unit, note_first, typed_form,
 };
-use crate::mappings::{direction_at, given_at, note_side, which_side};
 use crate::nodes::{cons, constant_of, leaf, opens, over_one};
 use crate::shapes::{
     any_list, any_tuple, any_vector, list_item, note_shape, see_as, tuple_parts, vector_item,
 };
-use crate::widths::{Given, cut};
 use sail_base::{Boxed, Items, Place};
 use sail_core::{Callee, Form, Head, Pattern};
 use sail_syntax::{Brackets, Joined, Name, Pat, TyExp};
 use sail_types::Shape;
 use shape_rules::{Around, Candidate, Doing, First, Local, Mapping, Meant, ShapeError};
+use shape_widths::{Given, cut, direction_at, given_at, note_side, which_side};
 use std::alloc::{AllocError, Global};
 use written_types::{note_written, shape_in, written};
 
@@ -301,7 +301,7 @@ fn look_counted(
 }
 
 /// A constructor with as many parts as it takes. The one error is want of memory.
-#[tactic(auto, using(crate::proofs::Firsts::first_failure_append))]
+#[tactic(auto, using(shape_rules::proofs::Firsts::first_failure_append))]
 #[cycle(look)]
 fn look_payload(
     alloc: Global,
@@ -339,7 +339,7 @@ fn look_payload(
 }
 
 /// A direction of a mapping, by its name. The one error is want of memory.
-#[tactic(auto, using(crate::proofs::Firsts::first_failure_append))]
+#[tactic(auto, using(shape_rules::proofs::Firsts::first_failure_append))]
 #[cycle(look)]
 fn look_direction(
     alloc: Global,
@@ -393,7 +393,7 @@ fn look_maps(
 }
 
 /// A mapping, in the direction from the side that is matched. The one error is want of memory.
-#[tactic(auto, using(crate::proofs::Firsts::first_failure_append, crate::proofs::Parts::mapping_looked))]
+#[tactic(auto, using(shape_rules::proofs::Firsts::first_failure_append, crate::proofs::Parts::mapping_looked))]
 #[cycle(look)]
 fn look_mapping(
     alloc: Global,
@@ -473,7 +473,7 @@ fn look_group(
 }
 
 /// A tuple. The one error is want of memory.
-#[tactic(auto, using(crate::proofs::Firsts::first_failure_append, crate::proofs::Parts::as_many))]
+#[tactic(auto, using(shape_rules::proofs::Firsts::first_failure_append, crate::proofs::Parts::as_many))]
 #[cycle(look)]
 fn look_tuple(
     alloc: Global,
@@ -504,7 +504,7 @@ fn look_tuple(
 }
 
 /// A vector. The one error is want of memory.
-#[tactic(auto, using(crate::proofs::Firsts::first_failure_append))]
+#[tactic(auto, using(shape_rules::proofs::Firsts::first_failure_append))]
 #[cycle(look)]
 fn look_vector(
     alloc: Global,
@@ -528,7 +528,7 @@ fn look_vector(
 }
 
 /// A list of just so many items. The one error is want of memory.
-#[tactic(auto, using(crate::proofs::Firsts::first_failure_append))]
+#[tactic(auto, using(shape_rules::proofs::Firsts::first_failure_append))]
 #[cycle(look)]
 fn look_list(
     alloc: Global,
@@ -552,7 +552,7 @@ fn look_list(
 }
 
 /// A concatenation. The one error is want of memory.
-#[tactic(auto, using(crate::proofs::Firsts::first_failure_append))]
+#[tactic(auto, using(shape_rules::proofs::Firsts::first_failure_append))]
 #[cycle(look)]
 fn look_concat(
     alloc: Global,
@@ -577,7 +577,7 @@ fn look_concat(
 }
 
 /// The parts of a concatenation, each matched with bits. The one error is want of memory.
-#[tactic(auto, using(crate::proofs::Firsts::first_failure_append))]
+#[tactic(auto, using(shape_rules::proofs::Firsts::first_failure_append))]
 #[cycle(look)]
 fn look_cut(
     alloc: Global,
@@ -601,7 +601,7 @@ fn look_cut(
 }
 
 /// Puts the further parts of a concatenation behind others. The one error is want of memory.
-#[tactic(auto, using(crate::proofs::Firsts::first_failure_append))]
+#[tactic(auto, using(shape_rules::proofs::Firsts::first_failure_append))]
 #[cycle(look)]
 fn look_further(
     alloc: Global,
@@ -631,7 +631,7 @@ fn look_further(
 }
 
 /// A list of a first item and the others. The one error is want of memory.
-#[tactic(auto, using(crate::proofs::Firsts::first_failure_append))]
+#[tactic(auto, using(shape_rules::proofs::Firsts::first_failure_append))]
 #[cycle(look)]
 fn look_cons(
     alloc: Global,
@@ -681,7 +681,7 @@ fn look_as(
 }
 
 /// A pattern with a type. The one error is want of memory.
-#[tactic(auto, using(crate::proofs::Firsts::first_failure_append))]
+#[tactic(auto, using(shape_rules::proofs::Firsts::first_failure_append))]
 #[cycle(look)]
 fn look_typed(
     alloc: Global,
@@ -708,7 +708,7 @@ fn look_typed(
 
 /// Several patterns, each matched with values of its shape; of `Never`, where there are no more shapes. As `look` of each, in order.
 /// The one error is want of memory.
-#[tactic(auto, using(crate::proofs::Firsts::first_failure_append, crate::proofs::Parts::each_more))]
+#[tactic(auto, using(shape_rules::proofs::Firsts::first_failure_append, crate::proofs::Parts::each_more))]
 #[cycle(look)]
 pub fn look_each(
     alloc: Global,
@@ -753,7 +753,7 @@ fn look_at(
 }
 
 /// Several patterns, each matched with values of one shape. The one error is want of memory.
-#[tactic(auto, using(crate::proofs::Firsts::first_failure_append))]
+#[tactic(auto, using(shape_rules::proofs::Firsts::first_failure_append))]
 #[cycle(look)]
 fn look_same(
     alloc: Global,

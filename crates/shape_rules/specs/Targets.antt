@@ -4,8 +4,10 @@ use Rattle.std.specs.Prelude.{Option, Some, None, option_map, if◌then◌else�
 use Rattle.sail_base.specs.declared.place.Place.{Place}
 use Rattle.sail_syntax.specs.declared.name.Name.{Name}
 use Rattle.sail_types.specs.Named.{fields}
+use Rattle.sail_types.specs.Rows.{row_members}
 use Rattle.sail_types.specs.Shapes.{shape, put, at}
 use Rattle.sail_types.specs.declared.table.Field.{Field}
+use Rattle.sail_types.specs.declared.table.Types.{Types}
 use Rattle.sail_types.specs.declared.types.Typ.{Typ}
 use Rattle.sail_types.specs.declared.shapes.Shape.{Shape, Shape-F, out-Shape}
 use Rattle.sail_types.specs.declared.shapes.Shape.TheOpen as S
@@ -30,7 +32,7 @@ use Rattle.shape_rules.specs.Findings.{Found, ill_shaped}
 use Rattle.shape_rules.specs.declared.callees.Meant.{Meant}
 use Rattle.shape_rules.specs.declared.callees.Meant.TheVariants as M
 use Rattle.shape_rules.specs.Scopes.{Setting, Locals}
-use Rattle.shape_rules.specs.Calls.{Elaborate, Solved, solved, Args, args_found, Chosen, chosen}
+use Rattle.shape_rules.specs.Calls.{Elaborate, Solved, solved, Args, args_found, Chosen, chosen, member_candidate}
 
 -- an expression, with its place
 pub record Part : Type 0 where
@@ -205,10 +207,17 @@ name_aimed name (Some local) meant = aimed local.shape name.place (T.Variable na
 name_aimed name None meant = register_aimed name meant
 
 -- `f(a)` in a tuple, a chain or as the base of a part: f(a) reads it, and f(a, e) writes it
-abbrev pub callees_of : Option Meant → List Candidate
-callees_of (Some (M.Callee f)) = f ∷ []
-callees_of (Some (M.Overload fs)) = fs
-callees_of meant = []
+abbrev pub callees_of : Types → Option Meant → List Candidate
+callees_of types (Some (M.Callee f)) = f ∷ []
+callees_of types (Some (M.Row row)) = map member_candidate (row_members types row)
+callees_of types (Some (M.Overload fs)) = fs
+callees_of types meant = []
+
+-- a function, a constructor or a direction, and a builtin with one member, is one callee; an overload never is
+abbrev pub one_of : Option Meant → List Candidate → Option Candidate
+one_of (Some (M.Overload fs)) callees = None
+one_of meant (f ∷ []) = Some f
+one_of meant callees = None
 
 abbrev pub doing_callee : Doing → Option Callee
 doing_callee (D.Calls callee) = Some callee
@@ -265,12 +274,15 @@ callee_counted name f args setting locals =
     then callee_aimed name f (length args) (solved (elaborations args) setting locals f.params (holes f.variables))
     else aimed_nowhere name.place (error.Arity name.place (length f.params) (suc (length args)) ∷ [])
 
-abbrev pub meant_aim : Name → List Part → Option Meant → Setting → Locals → Aimed
-meant_aim name args (Some (M.Callee f)) setting locals = callee_counted name f args setting locals
-meant_aim name args meant setting locals = call_looked name (callees_of meant) (args_found (elaborations args) setting locals)
+abbrev pub meant_aim : Name → List Part → List Candidate → Option Candidate → Setting → Locals → Aimed
+meant_aim name args fs (Some f) setting locals = callee_counted name f args setting locals
+meant_aim name args fs None setting locals = call_looked name fs (args_found (elaborations args) setting locals)
+
+abbrev pub call_of : Name → List Part → Option Meant → List Candidate → Setting → Locals → Aimed
+call_of name args meant fs = meant_aim name args fs (one_of meant fs)
 
 abbrev pub call_aim : Name → List Part → Setting → Locals → Aimed
-call_aim name args setting locals = meant_aim name args (setting.value name.text) setting locals
+call_aim name args setting = call_of name args (setting.value name.text) (callees_of setting.types (setting.value name.text)) setting
 
 pub record AimedAll : Type 0 where
   pub shapes : List Shape
@@ -302,18 +314,20 @@ part_aimed place base ways = record {
 }
 
 -- where no member takes f(a); one callee has another count, or else its call with one argument more has failed
-abbrev pub unread : Name → ℕ → Option Meant → Option Chosen → List ShapeError
-unread name count meant (Some x) = []
-unread name count (Some (M.Callee f)) None =
-    if nat_eq (length f.params) count then [] else error.Arity name.place (length f.params) count ∷ []
-unread name count meant None = error.NoMember name.place name.text ∷ []
+abbrev pub unread : Name → ℕ → Option Candidate → Option Chosen → List ShapeError
+unread name count one (Some x) = []
+unread name count (Some f) None = if nat_eq (length f.params) count then [] else error.Arity name.place (length f.params) count ∷ []
+unread name count None None = error.NoMember name.place name.text ∷ []
 
-abbrev pub read_with : Name → ℕ → Option Meant → Option Chosen → Aimed → Aimed
-read_with name count meant reader base = record base { shape = read_shape reader; faults = base.faults ++ unread name count meant reader }
+abbrev pub read_with : Name → ℕ → Option Candidate → Option Chosen → Aimed → Aimed
+read_with name count one reader base = record base { shape = read_shape reader; faults = base.faults ++ unread name count one reader }
+
+abbrev pub read_by : Name → ℕ → Option Meant → List Candidate → Args → Aimed → Aimed
+read_by name count meant fs args = read_with name count (one_of meant fs) (chosen fs args.shapes)
 
 -- `f(a)[i] = e` reads f(a) by the call itself
 abbrev pub read_aimed : Option (Name × List Part) → Setting → Locals → Aimed → Aimed
 read_aimed None setting locals base = base
 read_aimed (Some call) setting locals base =
-    read_with call.0 (length call.1) (setting.value call.0.text)
-    (chosen (callees_of (setting.value call.0.text)) (args_found (elaborations call.1) setting locals).shapes) base
+    read_by call.0 (length call.1) (setting.value call.0.text) (callees_of setting.types (setting.value call.0.text))
+    (args_found (elaborations call.1) setting locals) base

@@ -137,7 +137,7 @@ form_faults (X.Exists place names constraint piece) within =
     ++ piece.faults (inside_binder names within)
 form_faults form within = []
 
--- ---- sizes: widths and lengths at their numbers, exponents at their `^`; what comes through a named type, at that name
+-- ---- sizes: widths and lengths at their numbers, exponents at their `^`; widths and lengths that come through a named type, at that name
 
 abbrev pub sized : Role → Place → Option Num → List WrittenNumber
 sized role place None = []
@@ -184,6 +184,14 @@ abbrev pub exponent : TypePrefix → Place → Option Num → List WrittenNumber
 exponent P.Power place n = sized Size.Exponent place n
 exponent prefix place n = []
 
+abbrev pub is_exponent : Role → Bool
+is_exponent Size.Exponent = true
+is_exponent role = false
+
+abbrev pub exponents_in : List WrittenNumber → List WrittenNumber
+exponents_in [] = []
+exponents_in (n ∷ ns) = if is_exponent n.role then n ∷ exponents_in ns else exponents_in ns
+
 -- what the first argument of a type of the language is the size of
 abbrev pub own_role : List ℕ → Option Role
 own_role name =
@@ -200,7 +208,7 @@ own_size name within (piece ∷ pieces) = sized_if (own_role name) (type_place p
 
 abbrev pub form_numbers : TyExp → TyExp-F Piece → Within → List WrittenNumber
 form_numbers text (X.Named name pieces) within =
-    if is_alias name.text within then sizes_if name.place (typ_in within text)
+    if is_alias name.text within then exponents_in (pieces_numbers pieces within) ++ sizes_if name.place (typ_in within text)
     else own_size name.text within pieces ++ pieces_numbers pieces within
 form_numbers text (X.Prefix place prefix piece) within = exponent prefix place (number_in within piece.text) ++ piece.numbers within
 form_numbers text (X.Infix place operator left right) within = left.numbers within ++ right.numbers within

@@ -12,7 +12,7 @@ use Rattle.sail_syntax.specs.declared.words.TypeOperator.{TypeOperator}
 use Rattle.sail_kinds.specs.Scopes.{Within, inside_binder}
 use Rattle.shape_rules.specs.declared.error.ShapeError.{ShapeError}
 use Rattle.shape_rules.specs.Written.{Piece, piece, form_piece, form_text, form_numbers, typ_in, number_in, written_faults, numbers_in}
-use Rattle.shape_rules.specs.Written.{is_alias, own_role, own_size, sizes_if, exponent, sized_if, pieces_numbers, piece_numbers_if, joined, untold, is_told}
+use Rattle.shape_rules.specs.Written.{is_alias, own_role, own_size, sizes_if, exponent, exponents_in, sized_if, pieces_numbers, piece_numbers_if, joined, untold, is_told}
 use Rattle.written_types.specs.Parts.{untold_among}
 use Rattle.written_types.proofs.BoundNames.{bound_alone}
 use Rattle.written_types.proofs.Texts.{text_is}
@@ -27,7 +27,8 @@ named_text name ts = ap (λ (p : Piece). p.text) (sym (named name ts)) ∙ text_
 
 pub named_numbers : (name : Name) (ts : List TyExp) (w : Within)
     → numbers_in w (V.Named name ts)
-    ≡ cond (is_alias name.text w) (sizes_if name.place (typ_in w (V.Named name ts))) (own_size name.text w (map piece ts) ++ pieces_numbers (map piece ts) w)
+    ≡ cond (is_alias name.text w) (exponents_in (pieces_numbers (map piece ts) w) ++ sizes_if name.place (typ_in w (V.Named name ts)))
+    (own_size name.text w (map piece ts) ++ pieces_numbers (map piece ts) w)
 named_numbers name ts w =
     ap (λ (p : Piece). p.numbers w) (named name ts)
     ∙ ap (λ (text : TyExp). form_numbers text (X.Named name (map piece ts)) w) (named_text name ts)

@@ -1,5 +1,5 @@
 pub mod BoundNames
-pub mod Firsts
+mod Exponents
 pub mod Forms
 pub mod Rows
 pub mod Texts

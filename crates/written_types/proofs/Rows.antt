@@ -3,7 +3,7 @@ use Rattle.std.proofs.Common.{◌≡◌, ℕ, ◌+◌, ◌<◌, List, [], ◌∷
 use Rattle.std.proofs.lemmas.List.{take_more, drop_more, append_assoc, append-nil}
 use Rattle.shape_rules.specs.declared.error.ShapeError.{ShapeError}
 use Rattle.shape_rules.specs.Findings.{first_failure}
-use Rattle.written_types.proofs.Firsts.{first_failure_append}
+use Rattle.shape_rules.proofs.Firsts.{first_failure_append}
 
 -- what is said of one item, and what of several, which is what is said of each
 module _ {A B : Type 0} (one : A → List B) (all : List A → List B) (none : all [] ≡ []) (more : (x : A) (xs : List A) → all (x ∷ xs) ≡ one x ++ all xs) where

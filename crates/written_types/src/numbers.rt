@@ -1,17 +1,18 @@
 ghost use Rattle.std.specs.Prelude.{◌≡◌, ◌++◌, map, option_map, IfOk, OnOk};
 ghost use Rattle.sail_kinds.specs.Scopes.{within};
-ghost use Rattle.shape_rules.specs.Written.{piece, pieces_numbers, piece_numbers_if, numbers_in, written, is_alias, meaning_is_alias, own_role, own_size, exponent, number_in};
+ghost use Rattle.shape_rules.specs.Written.{piece, pieces_numbers, piece_numbers_if, numbers_in, written, is_alias, meaning_is_alias, own_role, own_size, exponent, exponents_in, number_in};
 
 use crate::reading::{number_in, typ_in};
-use crate::sizes::{push_sized, push_sizes_if};
+use crate::sizes::{push_exponents, push_sized, push_sizes_if};
 use sail_base::{Boxed, Items, Place};
 use sail_core::{Role, Written, WrittenNumber};
 use sail_kinds::{Binders, Meaning, Scope, builtin};
 use sail_syntax::{TyExp, TypePrefix};
 use std::alloc::{AllocError, Global};
 
-/// The sizes in a written type, in the order of the text: widths and lengths at their numbers, exponents at their `^`, and what comes
-/// through a name that stands for another type, at that name. The one error is want of memory.
+/// The sizes in a written type, in the order of the text: widths and lengths at their numbers, exponents at their `^`, and the widths
+/// and lengths that come through a name that stands for another type, at that name, behind the exponents in its arguments. The one
+/// error is want of memory.
 pub fn numbers_in(
     alloc: Global,
     text: &TyExp,
@@ -55,6 +56,7 @@ fn push_numbers(
     match text {
         TyExp::Named(name, arguments) => {
             if is_alias(alloc, name.text.as_str(), scope)? {
+                push_exponents_in(alloc, arguments.as_slice(), scope, numbers)?;
                 let typ = typ_in(alloc, text, scope)?;
                 push_sizes_if(alloc, name.place, typ, numbers)
             } else {
@@ -92,6 +94,21 @@ fn push_numbers(
         }
         _ => Ok(()),
     }
+}
+
+/// The exponents in the arguments of a name that stands for another type.
+#[cycle(numbers)]
+fn push_exponents_in(
+    alloc: Global,
+    arguments: &[TyExp],
+    scope: &Scope<'_>,
+    numbers: &mut Items<WrittenNumber>,
+) -> Result<(), AllocError>
+    ensures { OnOk result (numbers.new ≡ numbers.old ++ exponents_in (pieces_numbers (map piece arguments.now) (within scope.now))) }
+{
+    let mut found = Items::new(alloc);
+    push_each(alloc, arguments, scope, &mut found)?;
+    push_exponents(found, numbers)
 }
 
 #[cycle(numbers)]

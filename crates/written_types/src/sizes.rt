@@ -1,6 +1,6 @@
 //! Sizes, put behind others.
-ghost use Rattle.std.specs.Prelude.{◌≡◌, ◌++◌, map, OnOk, Some};
-ghost use Rattle.shape_rules.specs.Written.{sized, sizes_at, sizes_if, joined};
+ghost use Rattle.std.specs.Prelude.{◌≡◌, ◌++◌, ◌∷◌, [], map, OnOk, Some};
+ghost use Rattle.shape_rules.specs.Written.{sized, sizes_at, sizes_if, joined, is_exponent as is_of_exponent, exponents_in};
 
 use sail_base::{Items, Place};
 use sail_core::{Role, WrittenNumber};
@@ -24,6 +24,41 @@ pub(crate) fn push_sized(
         number,
         role,
     })
+}
+
+fn is_exponent(role: Role) -> bool
+    ensures { result ≡ is_of_exponent role }
+{
+    match role {
+        Role::Exponent => true,
+        _ => false,
+    }
+}
+
+fn push_if_exponent(
+    number: WrittenNumber,
+    numbers: &mut Items<WrittenNumber>,
+) -> Result<(), AllocError>
+    ensures { OnOk result (numbers.new ≡ numbers.old ++ exponents_in (number ∷ [])) }
+{
+    if is_exponent(number.role) {
+        numbers.push(number)
+    } else {
+        Ok(())
+    }
+}
+
+/// Puts the exponents among numbers behind others. The one error is want of memory.
+pub(crate) fn push_exponents(
+    found: Items<WrittenNumber>,
+    numbers: &mut Items<WrittenNumber>,
+) -> Result<(), AllocError>
+    ensures { OnOk result (numbers.new ≡ numbers.old ++ exponents_in found) }
+{
+    for number in found.into_vec() {
+        push_if_exponent(number, numbers)?;
+    }
+    Ok(())
 }
 
 /// Puts the widths and lengths of what a name stands for behind others, all at that name. The one error is want of memory.

@@ -6,10 +6,11 @@ use Rattle.sail_types.specs.declared.shapes.Shape.TheVariants as V
 use Rattle.shape_rules.specs.Around.{setting_of}
 use Rattle.shape_rules.specs.Findings.{first_failure}
 use Rattle.shape_rules.specs.Patterns.{Piece, Looked, LookedAll, piece, look, or_never, each_looked, also_looked}
-use Rattle.shape_patterns.specs.Known.{widths_of}
-use Rattle.shape_patterns.specs.Pieces.{further}
+use Rattle.shape_widths.specs.Known.{widths_of}
+use Rattle.shape_widths.specs.Parts.{further}
 use Rattle.shape_patterns.proofs.Looks.{look_construct, look_group, look_concat}
-use Rattle.shape_patterns.proofs.Parts.{each_more, further_is, pushed_more, bound_more, noted_more}
+use Rattle.shape_widths.proofs.Parts.{further_is}
+use Rattle.shape_patterns.proofs.Parts.{each_more, pushed_more, bound_more, noted_more}
 use Rattle.shape_patterns.proofs.looking.+look.Goals as goal
 
 pub look-returns-in-Construct-clause-pattern : goal.look-returns-in-Construct-clause-pattern

@@ -6,8 +6,8 @@ use Rattle.sail_types.specs.declared.shapes.Shape.TheVariants as V
 use Rattle.shape_rules.specs.Around.{setting_of}
 use Rattle.shape_rules.specs.Findings.{first_failure}
 use Rattle.shape_rules.specs.Patterns.{piece, each_looked}
-use Rattle.shape_patterns.specs.Known.{widths_of}
-use Rattle.shape_patterns.specs.Pieces.{further}
+use Rattle.shape_widths.specs.Known.{widths_of}
+use Rattle.shape_widths.specs.Parts.{further}
 use Rattle.shape_patterns.proofs.looking.+look.Given as goal
 
 abbrev pub decreases-look : goal.decreases-look

@@ -3,7 +3,7 @@ use Rattle.sail_kinds.specs.declared.scope.Variable.{Variable}
 use Rattle.sail_kinds.specs.Scopes.{Within, within, binder, inside_binder}
 use Rattle.sail_syntax.specs.declared.types.TyExp.{TyExp}
 use Rattle.sail_syntax.specs.declared.types.TyExp.TheVariants as V
-use Rattle.shape_rules.specs.Written.{piece, pieces_numbers, piece_numbers_if, numbers_in, is_alias, exponent, sizes_if, own_size, typ_in, number_in}
+use Rattle.shape_rules.specs.Written.{piece, pieces_numbers, piece_numbers_if, numbers_in, is_alias, exponent, exponents_in, sizes_if, own_size, typ_in, number_in}
 use Rattle.written_types.proofs.BoundNames.{inside}
 use Rattle.written_types.proofs.Forms.{named_numbers, prefix_numbers, infix_numbers, exists_numbers}
 use Rattle.written_types.proofs.Rows.{pushed_more, on_ok, both_pushed}
@@ -23,11 +23,17 @@ push_numbers-returns-in_ok-typ-in-Named t c =
     let ts = c.in-Named.arguments in
     let old = c.args.numbers.now in
     let alias : is_alias name.text w ≡ true = sym (c.in_ok-is_alias-in-Named.ensures ∙ ap (λ n. is_alias n w) c.as_str.ensures) ∙ c.if-branch.true in
-    let all : numbers_in w c.args.text.now ≡ sizes_if name.place c.in_ok-typ-in-Named.typ =
+    let inside = exponents_in (pieces_numbers (map piece ts) w) in
+    let all : numbers_in w c.args.text.now ≡ inside ++ sizes_if name.place c.in_ok-typ-in-Named.typ =
     ap (numbers_in w) c.in-Named.is ∙ named_numbers name ts w
-    ∙ ap (λ b. cond b (sizes_if name.place (typ_in w (V.Named name ts))) (own_size name.text w (map piece ts) ++ pieces_numbers (map piece ts) w)) alias
-    ∙ ap (λ (x : TyExp). sizes_if name.place (typ_in w x)) (sym c.in-Named.is) ∙ ap (sizes_if name.place) (sym c.in_ok-typ-in-Named.ensures) in
-    on_ok c.push_sizes_if.result (λ pushed. pushed ∙ ap (λ l. old ++ l) (sym all)) c.push_sizes_if.ensures
+    ∙ ap (λ b. cond b (inside ++ sizes_if name.place (typ_in w (V.Named name ts))) (own_size name.text w (map piece ts) ++ pieces_numbers (map piece ts) w)) alias
+    ∙ ap (λ (x : TyExp). inside ++ sizes_if name.place (typ_in w x)) (sym c.in-Named.is)
+    ∙ ap (λ found. inside ++ sizes_if name.place found) (sym c.in_ok-typ-in-Named.ensures) in
+    let first : c.push_exponents_in.new.numbers ≡ old ++ inside =
+    c.in_ok-push_exponents_in-in-Named.ensures ∙ ap (λ (xs : List TyExp). old ++ exponents_in (pieces_numbers (map piece xs) w)) c.as_slice.ensures in
+    on_ok c.push_sizes_if.result
+    (λ second. both_pushed old _ (sizes_if name.place c.in_ok-typ-in-Named.typ) c.push_exponents_in.new.numbers c.push_sizes_if.new.numbers _ first all second)
+    c.push_sizes_if.ensures
 
 pub push_numbers-returns-in_ok-push_own-in-Named : goal.push_numbers-returns-in_ok-push_own-in-Named
 push_numbers-returns-in_ok-push_own-in-Named t c =
@@ -37,13 +43,14 @@ push_numbers-returns-in_ok-push_own-in-Named t c =
     let other : is_alias name.text w ≡ false = sym (c.in_ok-is_alias-in-Named.ensures ∙ ap (λ n. is_alias n w) c.as_str.ensures) ∙ c.if-branch.false in
     let all : numbers_in w c.args.text.now ≡ own_size name.text w (map piece ts) ++ pieces_numbers (map piece ts) w =
     ap (numbers_in w) c.in-Named.is ∙ named_numbers name ts w
-    ∙ ap (λ b. cond b (sizes_if name.place (typ_in w (V.Named name ts))) (own_size name.text w (map piece ts) ++ pieces_numbers (map piece ts) w)) other in
+    ∙ ap (λ b. cond b (exponents_in (pieces_numbers (map piece ts) w) ++ sizes_if name.place (typ_in w (V.Named name ts)))
+    (own_size name.text w (map piece ts) ++ pieces_numbers (map piece ts) w)) other in
     let first : c.push_own.new.numbers ≡ c.args.numbers.now ++ own_size name.text w (map piece ts) =
     c.in_ok-push_own-in-Named.ensures
-    ∙ (λ i. c.args.numbers.now ++ own_size (c.as_str-else-branch.ensures i) w (map piece (c.as_slice.ensures i))) in
+    ∙ (λ i. c.args.numbers.now ++ own_size (c.as_str-else-branch.ensures i) w (map piece (c.as_slice-else-branch.ensures i))) in
     on_ok c.push_each.result
     (λ second. both_pushed c.args.numbers.now _ (pieces_numbers (map piece ts) w) c.push_own.new.numbers c.push_each.new.numbers _ first all
-    (second ∙ ap (λ (xs : List TyExp). c.push_own.new.numbers ++ pieces_numbers (map piece xs) w) c.as_slice-else-branch.ensures))
+    (second ∙ ap (λ (xs : List TyExp). c.push_own.new.numbers ++ pieces_numbers (map piece xs) w) c.as_slice-else-branch-2.ensures))
     c.push_each.ensures
 
 pub push_numbers-returns-in_ok-push_exponent-in-Prefix : goal.push_numbers-returns-in_ok-push_exponent-in-Prefix

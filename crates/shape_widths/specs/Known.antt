@@ -9,9 +9,9 @@ use Rattle.shape_rules.specs.declared.error.ShapeError.{ShapeError}
 use Rattle.shape_rules.specs.Findings.{ill_shaped}
 use Rattle.shape_rules.specs.Patterns.{Widths, Which, forwards, backwards, neither, either, overlap_at}
 use Rattle.shape_rules.specs.Sides.{Given as Width, width_given}
-use Rattle.shape_patterns.specs.declared.widths.Given.{Given}
-use Rattle.shape_patterns.specs.declared.mappings.Matched.{Matched}
-use Rattle.shape_patterns.specs.declared.mappings.Matched.TheVariants as M
+use Rattle.shape_widths.specs.declared.widths.Given.{Given}
+use Rattle.shape_widths.specs.declared.mappings.Matched.{Matched}
+use Rattle.shape_widths.specs.declared.mappings.Matched.TheVariants as M
 
 abbrev pub given_of : Given → Width
 given_of g = record { name = g.name; width = g.width }

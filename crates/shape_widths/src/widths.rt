@@ -6,8 +6,8 @@ ghost use Rattle.shape_rules.specs.Findings.{first_failure};
 ghost use Rattle.shape_rules.specs.Patterns.{piece, width_of as width_of_typ, name_width as name_width_of, construct_width as construct_width_of, side_width as side_width_of};
 ghost use Rattle.shape_rules.specs.Patterns.{width_faults, opposite as opposite_of, direction_width as direction_width_of, direction_of};
 ghost use Rattle.sail_types.specs.Sums.{and_then};
-ghost use Rattle.shape_patterns.specs.Known.{widths_of, which};
-ghost use Rattle.shape_patterns.specs.Pieces.{further, width_fault, is_behind as is_behind_of};
+ghost use Rattle.shape_widths.specs.Known.{widths_of, which};
+ghost use Rattle.shape_widths.specs.Parts.{further, width_fault, is_behind as is_behind_of};
 
 use crate::literals::literal_width;
 use crate::mappings::{Matched, which_side};
@@ -149,7 +149,7 @@ fn construct_width(
 
 /// The width of its own that a pattern has as a part of a concatenation: of a literal of bits, of `p : bits(n)`, of a mapping's call, and of
 /// a bare identifier of which one is known. It fails where memory is wanting.
-pub(crate) fn width(
+fn width(
     alloc: Global,
     part: &Pat,
     around: &Around<'_>,
@@ -209,7 +209,7 @@ fn cut_part(
 }
 
 /// The widths of the further parts of a concatenation, behind those of others. The one error is want of memory.
-#[tactic(auto, using(crate::proofs::Firsts::first_failure_append, crate::proofs::Parts::width_faults_more))]
+#[tactic(auto, using(shape_rules::proofs::Firsts::first_failure_append, crate::proofs::Parts::width_faults_more))]
 fn cut_joined(
     alloc: Global,
     parts: &[Joined],
@@ -230,8 +230,8 @@ fn cut_joined(
 }
 
 /// The widths of the parts of a concatenation. A part without one behind another is noted (M18). The one error is want of memory.
-#[tactic(auto, using(crate::proofs::Firsts::first_failure_append, crate::proofs::Parts::width_faults_more))]
-pub(crate) fn cut(
+#[tactic(auto, using(shape_rules::proofs::Firsts::first_failure_append, crate::proofs::Parts::width_faults_more))]
+pub fn cut(
     alloc: Global,
     head: &Pat,
     second: &Pat,

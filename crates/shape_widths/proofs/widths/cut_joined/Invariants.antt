@@ -2,9 +2,9 @@ use Rattle.std.proofs.Common.{◌≡◌, ◌++◌, map, drop}
 use Rattle.shape_rules.specs.Around.{setting_of}
 use Rattle.shape_rules.specs.Findings.{first_failure}
 use Rattle.shape_rules.specs.Patterns.{width_faults}
-use Rattle.shape_patterns.specs.Known.{widths_of}
-use Rattle.shape_patterns.specs.Pieces.{further}
-use Rattle.shape_patterns.proofs.widths.cut_joined.Given as goal
+use Rattle.shape_widths.specs.Known.{widths_of}
+use Rattle.shape_widths.specs.Parts.{further}
+use Rattle.shape_widths.proofs.widths.cut_joined.Given as goal
 
 abbrev pub invariant-loop-next : goal.invariant-loop-next
 invariant-loop-next l = record {

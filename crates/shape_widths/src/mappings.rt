@@ -2,7 +2,7 @@
 ghost use Rattle.std.specs.Prelude.{◌≡◌, ◌++◌, ◌*◌, suc, IfOk, OnOk};
 ghost use Rattle.shape_rules.specs.Patterns.{which_of, which_side as which_side_of, overlap_at as overlap_of};
 ghost use Rattle.shape_rules.specs.Findings.{first_failure};
-ghost use Rattle.shape_patterns.specs.Known.{which, side_faults, direction_at as direction_at_of, given_at as given_at_of};
+ghost use Rattle.shape_widths.specs.Known.{which, side_faults, direction_at as direction_at_of, given_at as given_at_of};
 
 use sail_base::{Place, Text};
 use sail_types::{Shape, may_share, shape_of};
@@ -94,7 +94,7 @@ pub fn overlap_at(alloc: Global, place: Place, mapping: &Mapping) -> Result<Shap
 }
 
 /// The number of the direction from the side that is matched. It fails as `forwards_of`.
-pub(crate) fn direction_at(mapping: &Mapping, side: Matched) -> Result<u32, AllocError>
+pub fn direction_at(mapping: &Mapping, side: Matched) -> Result<u32, AllocError>
     ensures { IfOk result (λ direction. direction ≡ direction_at_of mapping.now (which side)) }
 {
     match side {
@@ -106,7 +106,7 @@ pub(crate) fn direction_at(mapping: &Mapping, side: Matched) -> Result<u32, Allo
 }
 
 /// The shape of what a mapping gives where this side is matched; `Never` where it isn't one. It fails where memory is wanting.
-pub(crate) fn given_at(alloc: Global, mapping: &Mapping, side: Matched) -> Result<Shape, AllocError>
+pub fn given_at(alloc: Global, mapping: &Mapping, side: Matched) -> Result<Shape, AllocError>
     ensures { IfOk result (λ given. given ≡ given_at_of mapping.now (which side)) }
 {
     match side {
@@ -118,7 +118,7 @@ pub(crate) fn given_at(alloc: Global, mapping: &Mapping, side: Matched) -> Resul
 }
 
 /// Notes a mapping of which neither side is matched (M14), or whose sides may share values (M13). The one error is want of memory.
-pub(crate) fn note_side(
+pub fn note_side(
     alloc: Global,
     place: Place,
     mapping: &Mapping,

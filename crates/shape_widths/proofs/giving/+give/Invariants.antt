@@ -5,9 +5,9 @@ use Rattle.sail_syntax.proofs.patterns.Pat.TheLaws.{the_size}
 use Rattle.sail_syntax.proofs.patterns.Joined.TheLaws.{the_size as further_size}
 use Rattle.shape_rules.specs.Around.{setting_of}
 use Rattle.shape_rules.specs.Sides.{gives, each_gives, each_of}
-use Rattle.shape_patterns.specs.Known.{given_of}
-use Rattle.shape_patterns.specs.Pieces.{further_gives}
-use Rattle.shape_patterns.proofs.giving.+give.Given as goal
+use Rattle.shape_widths.specs.Known.{given_of}
+use Rattle.shape_widths.specs.Parts.{further_gives}
+use Rattle.shape_widths.proofs.giving.+give.Given as goal
 
 abbrev pub decreases-gives : goal.decreases-gives
 decreases-gives l = 32 * the_size l.pattern.now

@@ -11,8 +11,8 @@ ghost use Rattle.shape_rules.specs.Sides.{gives as gives_of, name_gives, constru
 ghost use Rattle.shape_rules.specs.Sides.{other_side, shape_of_if, payload_form, payload_at, typs_if, tuple_typs as tuple_typs_of, item_typ as item_typ_of, group_gives};
 ghost use Rattle.shape_rules.specs.Patterns.{which_side as which_side_of, width_of as width_of_typ};
 ghost use Rattle.shape_rules.specs.Written.{typ_in as typ_of_text};
-ghost use Rattle.shape_patterns.specs.Known.{given_of, which};
-ghost use Rattle.shape_patterns.specs.Pieces.{further_gives};
+ghost use Rattle.shape_widths.specs.Known.{given_of, which};
+ghost use Rattle.shape_widths.specs.Parts.{further_gives};
 
 use crate::mappings::{Matched, which_side};
 use crate::widths::Given;

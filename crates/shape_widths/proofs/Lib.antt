@@ -1,0 +1,2 @@
+mod Directions
+pub mod Parts
