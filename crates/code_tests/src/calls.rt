@@ -121,18 +121,23 @@ fn no_types(alloc: Global) -> Types {
     }
 }
 
-/// The integer that a call of a function ends with.
-fn called(
-    alloc: Global,
-    step: i128,
-    function: u32,
-    argument: i128,
-) -> Result<Option<i128>, AllocError> {
+/// The machine of the module.
+fn machine(alloc: Global, step: i128) -> Result<Option<Machine>, AllocError> {
     let Some(checked) = program(alloc, step)? else {
         return Ok(None);
     };
     let entries = Entries { reset: 0, step: 0 };
     let machine = Machine::new(alloc, checked, no_types(alloc), Items::new(alloc), entries)?;
+    Ok(Some(machine))
+}
+
+/// The integer that a call of a function of a machine ends with.
+fn given(
+    alloc: Global,
+    machine: &Machine,
+    function: u32,
+    argument: i128,
+) -> Result<Option<i128>, AllocError> {
     let memory = Flat::new(alloc, 0, 16)?;
     let mut state = State::new(alloc, no_types(alloc), Items::new(alloc), 1, memory)?;
     let mut arguments = Vec::new(alloc);
@@ -144,11 +149,54 @@ fn called(
     }
 }
 
+/// The integer that a call of a function ends with.
+fn called(
+    alloc: Global,
+    step: i128,
+    function: u32,
+    argument: i128,
+) -> Result<Option<i128>, AllocError> {
+    let Some(machine) = machine(alloc, step)? else {
+        return Ok(None);
+    };
+    given(alloc, &machine, function, argument)
+}
+
+/// Whether each of so many calls of the loop counts up to a number.
+fn all_count(alloc: Global, calls: u32, turns: i128) -> Result<bool, AllocError> {
+    let Some(machine) = machine(alloc, -1)? else {
+        return Ok(false);
+    };
+    for _ in 0..calls {
+        if given(alloc, &machine, 0, turns)? != Some(turns) {
+            return Ok(false);
+        }
+    }
+    Ok(true)
+}
+
 #[test]
 fn loops_and_calls_end(rt: HostRuntime) -> Result<(), Fail> {
     let alloc = rt.alloc();
     assert!(rt; called(alloc, -1, 0, 2_000)? == Some(2_000));
     assert!(rt; called(alloc, -1, 1, 1_000)? == Some(1_000));
     assert!(rt; called(alloc, 0, 1, 3)?.is_none());
+    Ok(())
+}
+
+/// A call has 1,000,000 ticks: the loop takes one more than it turns.
+#[test]
+fn a_loop_turns_ten_million_times(rt: HostRuntime) -> Result<(), Fail> {
+    let alloc = rt.alloc();
+    assert!(rt; all_count(alloc, 16, 625_000)?);
+    assert!(rt; called(alloc, -1, 0, 999_999)? == Some(999_999));
+    assert!(rt; called(alloc, -1, 0, 1_000_000)?.is_none());
+    Ok(())
+}
+
+#[test]
+fn calls_nest_100_000_deep(rt: HostRuntime) -> Result<(), Fail> {
+    let alloc = rt.alloc();
+    assert!(rt; called(alloc, -1, 1, 100_000)? == Some(100_000));
     Ok(())
 }

@@ -242,8 +242,34 @@ fn part_case(alloc: Global, code: &mut Items<Instruction>, number: u32) -> Resul
             code.push(Instruction::JumpIf(Source::Slot(2), 0))?;
             code.push(Instruction::Copy(Target::Slot(1), int(8)))
         }
-        _ => Ok(()),
+        _ => register_case(alloc, code, number),
     }
+}
+
+/// The instructions of a case on a register of a vector: an item is set in it, and one is read.
+fn register_case(
+    alloc: Global,
+    code: &mut Items<Instruction>,
+    number: u32,
+) -> Result<(), AllocError> {
+    let held = Target::Register(1);
+    if number != 14 {
+        code.push(Instruction::Copy(held, Source::Slot(7)))?;
+    }
+    let (index, read) = match number {
+        12 => (1, 1),
+        13 => (2, 1),
+        14 => (0, 0),
+        _ => (-1, 0),
+    };
+    let sources = three(alloc, Source::Register(1), int(index), int(9))?;
+    code.push(Instruction::Apply(held, Operation::WithItem, sources))?;
+    code.push(apply(
+        alloc,
+        1,
+        Operation::Item,
+        two(alloc, Source::Register(1), int(read))?,
+    )?)
 }
 
 /// The function of a case: its slot 1 is 1 at first and is what it gives, at label 0; label 1 takes an exception.
@@ -314,7 +340,7 @@ fn program(alloc: Global, on_parts: bool, number: u32) -> Result<Option<Checked>
     Ok(validate(Module {
         types: types(alloc)?,
         exception: OPTION,
-        registers: Items::from_slice(alloc, &[INTEGER])?,
+        registers: Items::from_slice(alloc, &[INTEGER, TWO])?,
         openings: Items::new(alloc),
         functions,
     }))
@@ -330,6 +356,10 @@ fn registers(alloc: Global) -> Result<Items<Register>, AllocError> {
     let mut registers = Items::new(alloc);
     registers.push(Register {
         name: Text::new(alloc, "R")?,
+        typ: Typ::Bool,
+    })?;
+    registers.push(Register {
+        name: Text::new(alloc, "S")?,
         typ: Typ::Bool,
     })?;
     Ok(registers)
@@ -382,6 +412,10 @@ const PART_CASES: &[Case] = &[
     (9, 172),
     (10, 3),
     (11, 1),
+    (12, 9),
+    (13, 6),
+    (14, 0),
+    (15, 4),
 ];
 
 #[test]

@@ -23,10 +23,11 @@ use Rattle.jib_machine.specs.declared.act.Act.{Act}
 use Rattle.jib_machine.specs.declared.act.Act.TheVariants as A
 use Rattle.jib_machine.specs.declared.act.Ending.{Ending}
 use Rattle.jib_machine.specs.declared.act.Ending.TheVariants as N
-use Rattle.jib_machine.specs.declared.results.Made.{Made}
-use Rattle.jib_machine.specs.declared.results.Made.TheVariants as M
-use Rattle.jib_machine.specs.parts.Sources.{filled, store, source_value, source_values}
-use Rattle.jib_machine.specs.parts.Results.{Wrote, MadeIs}
+use Rattle.jib_values.specs.declared.results.Made.{Made}
+use Rattle.jib_values.specs.declared.results.Made.TheVariants as M
+use Rattle.jib_values.specs.Sources.{filled, source_value, source_values}
+use Rattle.jib_machine.specs.parts.Begun.{store}
+use Rattle.jib_values.specs.Results.{Wrote, MadeIs}
 use Rattle.jib_machine.specs.parts.Acts.{Acted, outcome_of}
 
 read_is : (m : Module) (ls : List Value) (hart : ℕ) (a : Source) (sl : List Value) (s : RunState) (k : ℕ) (xs : List Access)
@@ -41,7 +42,7 @@ reads_are : (m : Module) (ls : List Value) (hart : ℕ) (rs : List Source) (sl :
 reads_are m ls hart [] sl s k xs = refl
 reads_are m ls hart (a ∷ rs) sl s k xs = λ j. read_is m ls hart a sl s k xs j ∷ reads_are m ls hart rs sl s k xs j
 
-write_is : (m : Module) (ls : List Value) (hart : ℕ) (t : Target) (v : Value) (old new : List Value) (s s' : RunState) (k : ℕ) (xs : List Access)
+pub write_is : (m : Module) (ls : List Value) (hart : ℕ) (t : Target) (v : Value) (old new : List Value) (s s' : RunState) (k : ℕ) (xs : List Access)
     → Wrote hart t v old new s s' → J.write m ls hart t v (filled old) (store s k xs) ≡ J.Go (filled new) (store s' k xs)
 write_is m ls hart (T.Slot i) v old new s s' k xs w = λ j. J.Go (sym w.0 j) (store (sym w.1 j) k xs)
 write_is m ls hart (T.Register i) v old new s s' k xs w = λ j. J.Go (filled (sym w.0 j)) (store (sym w.1 j) k xs)

@@ -1,13 +1,10 @@
+mod NarrowLaws
 mod SlotLaws
-mod RegisterLaws
 mod ActLaws
 mod MadeLaws
 mod TurnLaws
 mod RunLaws
-mod TypeLaws
-mod PartLaws
-mod RowLaws
 mod KeepLaws
 mod OpenLaws
 mod EventLaws
-mod OperandLaws
+mod ChangedLaws

@@ -21,7 +21,7 @@ use Rattle.jib.proofs.ValidLaws.{left_of, right_of}
 use Rattle.jib_machine.specs.declared.machine.Machine.{Machine}
 use Rattle.jib_machine.specs.declared.act.Ending.{Ending}
 use Rattle.jib_machine.specs.Events.{blank}
-use Rattle.jib_machine.specs.parts.Sources.{store}
+use Rattle.jib_machine.specs.parts.Begun.{store}
 use Rattle.jib_machine.specs.parts.Acts.{outcome_of}
 use Rattle.jib_machine.specs.parts.Endings.{may_end, all_may_end}
 use Rattle.jib_machine.specs.parts.Opened.{SameModel, OpensOne}

@@ -24,7 +24,8 @@ use Rattle.jib_machine.specs.declared.act.Here.{Here}
 use Rattle.jib_machine.specs.declared.act.Frame.{Frame}
 use Rattle.jib_machine.specs.declared.act.Turn.{Turn}
 use Rattle.jib_machine.specs.declared.act.Turn.TheVariants as U
-use Rattle.jib_machine.specs.parts.Sources.{filled, store}
+use Rattle.jib_values.specs.Sources.{filled}
+use Rattle.jib_machine.specs.parts.Begun.{store}
 use Rattle.jib_machine.specs.parts.Acts.{seen, outcome_of}
 use Rattle.jib_machine.specs.parts.Runs.{Ready, table_of, remains, RunsOn, Along, Turned, Start, Runs_from, Saved, Leads, Going, Came, frames_left}
 use Rattle.jib_machine.specs.parts.Runs.{left, Went, Advanced, Returned, Finished}

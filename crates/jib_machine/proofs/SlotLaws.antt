@@ -1,34 +1,13 @@
--- Slots that stand in a list.
-use Rattle.std.proofs.Common.{◌≡◌, ℕ, zero, suc, ◌<◌, ◌≤◌, List, [], ◌∷◌, ◌++◌, length, get_or, set, refl, ap, ◌∙◌, arith, Option}
+-- The slots that a call begins with.
+use Rattle.std.proofs.Common.{◌≡◌, ℕ, zero, suc, ◌≤◌, List, [], ◌∷◌, ◌++◌, length, refl, ap, ◌∙◌, arith, Option}
 use Rattle.std.specs.Prelude.{slice_get, slice_index_or, unwrap_or}
-use Rattle.std.proofs.lemmas.List.{get_or-set_same, get_or-set_other}
-use Rattle.std.proofs.lemmas.Grind.{get_or-set_at}
-use Rattle.std.proofs.lemmas.Bool.Decides.{nat_tests}
 use Rattle.sail_types.specs.declared.values.Value.{Value}
 use Rattle.sail_types.specs.declared.values.Value.TheVariants as V
 use Rattle.jib.specs.declared.types.ValueType.{ValueType}
 use Rattle.jib.specs.declared.code.Module.{Module}
-use Rattle.jib.specs.Jib.{put, slot_zero, slots_of, entry}
-use Rattle.jib_machine.specs.parts.Sources.{filled, begun_slots}
-
-get_or-more : (xs : List Value) (i : ℕ) (d : Value) → get_or (xs ++ d ∷ []) i d ≡ get_or xs i d
-get_or-more [] zero d = refl
-get_or-more [] (suc i) d = refl
-get_or-more (x ∷ xs) zero d = refl
-get_or-more (x ∷ xs) (suc i) d = get_or-more xs i d
-
-pub more_slots : (xs : List Value) → filled (xs ++ V.Unit ∷ []) ≡ filled xs
-more_slots xs = λ j. λ i. get_or-more xs i V.Unit j
-
-set_at : (xs : List Value) (i k : ℕ) (v : Value) → i < length xs → get_or (set xs i v) k V.Unit ≡ put (filled xs) i v k
-set_at xs i k v h = grind (arith, nat_tests, get_or-set_at, get_or-set_other)
-
-pub set_slots : (xs : List Value) (i : ℕ) (v : Value) → i < length xs → filled (set xs i v) ≡ put (filled xs) i v
-set_slots xs i v h = λ j. λ k. set_at xs i k v h j
-
-pub ruleset slot_laws = (more_slots, set_slots)
-
--- ---- the slots that a call begins with
+use Rattle.jib.specs.Jib.{slot_zero, slots_of, entry}
+use Rattle.jib_values.specs.Sources.{filled}
+use Rattle.jib_machine.specs.parts.Begun.{begun_slots}
 
 over_more : (d : ℕ → Value) (xs : List Value) (i : ℕ) → unwrap_or (slice_get (xs ++ d (length xs) ∷ []) i) (d i) ≡ unwrap_or (slice_get xs i) (d i)
 over_more d [] zero = refl

@@ -19,7 +19,8 @@ use Rattle.jib_machine.specs.declared.act.Turn.{Turn}
 use Rattle.jib_machine.specs.declared.act.Turn.TheVariants as U
 use Rattle.jib_machine.specs.declared.act.Act.{Act}
 use Rattle.jib_machine.specs.declared.act.Act.TheVariants as A
-use Rattle.jib_machine.specs.parts.Sources.{filled, store}
+use Rattle.jib_values.specs.Sources.{filled}
+use Rattle.jib_machine.specs.parts.Begun.{store}
 use Rattle.jib_machine.specs.parts.Acts.{Acted, seen, outcome_of}
 use Rattle.jib_machine.specs.parts.Runs.{Ready, table_of, remains, RunsOn, Along, Turned}
 

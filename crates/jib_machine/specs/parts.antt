@@ -1,8 +1,7 @@
-pub mod Sources
-pub mod Results
+pub mod Begun
 pub mod Acts
+pub mod Changes
 pub mod Runs
 pub mod Tables
 pub mod Endings
-pub mod Widths
 pub mod Opened

@@ -2,19 +2,15 @@
 #![tactic(auto)]
 
 mod act;
+mod change;
 mod ended;
 mod entries;
+mod fitting;
 mod machine;
 mod made;
 mod opened;
-mod parts;
-mod reading;
-mod results;
-mod rows;
 mod step;
 mod steps;
-mod typing;
-mod words;
 
 pub use entries::Entries;
 pub use machine::Machine;

@@ -5,7 +5,8 @@ ghost use Rattle.jib.specs.Jib.{code_of, slots_of, cycle_of, called, or_stop, at
 ghost use Rattle.jib.specs.Openings.{begun};
 ghost use Rattle.jib.specs.Valid.{valid};
 ghost use Rattle.model_state.specs.RunState.{RunState, Access};
-ghost use Rattle.jib_machine.specs.parts.Sources.{filled, store};
+ghost use Rattle.jib_values.specs.Sources.{filled};
+ghost use Rattle.jib_machine.specs.parts.Begun.{store};
 ghost use Rattle.jib_machine.specs.parts.Acts.{Acted, seen, outcome_of};
 ghost use Rattle.jib_machine.specs.parts.Runs.{table_of, Turned, Saved, Advanced, Finished};
 ghost use Rattle.jib_machine.specs.parts.Tables.{tables_for};
@@ -13,9 +14,9 @@ ghost use Rattle.jib_machine.specs.parts.Endings.{all_may_end};
 
 use crate::act::{Act, Current, Ending, Frame, Here, Turn};
 use crate::entries::Entries;
-use crate::reading::put_slot;
 use crate::step::{act_of, first_slots};
 use jib::{Instruction, Module};
+use jib_values::put_slot;
 use mem_store::Memory;
 use model_state::{Cause, Ended, Register, State};
 use sail_base::{Items, Place};

@@ -6,11 +6,11 @@ ghost use Rattle.jib_machine.specs.Events.{blank as blank_state};
 ghost use Rattle.jib_machine.specs.parts.Opened.{SameModel, OpensOne};
 
 use crate::ended::ended;
+use crate::fitting::zero;
 use crate::machine::Machine;
-use crate::reading::{copied, put_register};
-use crate::results::zero;
 use crate::step::copied_cause;
 use jib::Opening;
+use jib_values::{copied, put_register};
 use mem_store::{Flat, Memory};
 use model_state::{Ended, State};
 use sail_base::Items;

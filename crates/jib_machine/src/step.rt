@@ -5,16 +5,18 @@ ghost use Rattle.model_state.specs.RunState.{RunState, Access};
 ghost use Rattle.jib.specs.Jib as J;
 ghost use Rattle.jib.specs.declared.code.Module.{Module as AModule};
 ghost use Rattle.jib.specs.Values.{zero_of};
-ghost use Rattle.jib_machine.specs.parts.Sources.{filled, store, source_value, source_values, begun_slots};
-ghost use Rattle.jib_machine.specs.parts.Results.{Wrote, MadeIs};
+ghost use Rattle.jib_values.specs.Sources.{filled, source_value, source_values};
+ghost use Rattle.jib_machine.specs.parts.Begun.{store, begun_slots};
+ghost use Rattle.jib_values.specs.Results.{Wrote, MadeIs};
 ghost use Rattle.jib_machine.specs.parts.Acts.{Acted, seen};
 ghost use Rattle.jib_machine.specs.declared.act.Act.TheVariants as A;
 
 use crate::act::{Act, Ending, Here};
+use crate::change::{part_of, put_part};
+use crate::fitting::{fitted, zero};
 use crate::machine::Machine;
-use crate::reading::{copied, lent, push_values, put_slot, value_of, write};
-use crate::results::{Made, fitted, operate, zero};
 use jib::{Call, Instruction, Operation, Source, Target};
+use jib_values::{Made, copied, lent, operate, push_values, put_slot, value_of, write};
 use mem_store::Memory;
 use model_state::{Cause, State};
 use sail_base::Items;
@@ -78,17 +80,17 @@ pub fn act_of<M: Memory>(
         Instruction::Goto(label) => Ok(Act::Jump(*label)),
         Instruction::Label(_) => Ok(Act::Go),
         Instruction::End(source) => {
-            let value = value_of(alloc, machine, hart, state, slots, source)?;
+            let value = value_of(alloc, &machine.lets, hart, state, slots, source)?;
             Ok(Act::Over(Ending::Value(value)))
         }
         Instruction::Throw(source) => {
-            let value = value_of(alloc, machine, hart, state, slots, source)?;
+            let value = value_of(alloc, &machine.lets, hart, state, slots, source)?;
             Ok(Act::Over(Ending::Threw(value)))
         }
         Instruction::Stop(cause) => Ok(Act::Over(Ending::Stopped(copied_cause(cause)?))),
         Instruction::NoMeasure => Ok(Act::Over(Ending::Stopped(Cause::MatchFailure(here.place)))),
         Instruction::Measure(source) => {
-            let value = value_of(alloc, machine, hart, state, slots, source)?;
+            let value = value_of(alloc, &machine.lets, hart, state, slots, source)?;
             Ok(measured(&value, here))
         }
         Instruction::Tick => Ok(tick(ticks)),
@@ -126,7 +128,7 @@ fn copy<M: Memory>(
     ensures { OnOk result (Wrote hart target (source_value machine.now.lets hart state.old slots.old.items source.now) slots.old.items
         slots.new.items state.old state.new) }
 {
-    let value = value_of(alloc, machine, hart, state, slots, source)?;
+    let value = value_of(alloc, &machine.lets, hart, state, slots, source)?;
     write(hart, target, value, slots, state)
 }
 
@@ -150,7 +152,8 @@ fn number_at(numbers: &[u32], index: u32) -> u32
     }
 }
 
-fn apply<M: Memory>(
+/// Works an operation out, and writes its result.
+fn work_out<M: Memory>(
     alloc: Global,
     machine: &Machine,
     hart: u8,
@@ -166,7 +169,17 @@ fn apply<M: Memory>(
         sources.now) (filled slots.old.items) (store state.old k xs)) a slots.old.items slots.new.items state.old k state.new k) }
 {
     let typ = type_of(machine, function, target);
-    match operate(alloc, machine, hart, typ, operation, sources, slots, state)? {
+    match operate(
+        alloc,
+        &machine.program.types,
+        &machine.lets,
+        hart,
+        typ,
+        operation,
+        sources,
+        slots,
+        state,
+    )? {
         Made::Nothing => {
             let value = zero(alloc, machine, typ)?;
             write(hart, target, value, slots, state)?;
@@ -178,6 +191,36 @@ fn apply<M: Memory>(
             Ok(Act::Go)
         }
         Made::Stop(cause) => Ok(Act::Over(Ending::Stopped(cause))),
+    }
+}
+
+fn apply<M: Memory>(
+    alloc: Global,
+    machine: &Machine,
+    hart: u8,
+    function: u32,
+    target: Target,
+    operation: Operation,
+    sources: &Items<Source>,
+    slots: &mut Vec<Value>,
+    state: &mut State<M>,
+) -> Result<Act, AllocError>
+    ensures { IfOk result (λ a. (k : ℕ) → Acted machine.now.program (λ xs. J.apply machine.now.program machine.now.lets hart target
+        (J.type_of machine.now.program function target) operation (source_values machine.now.lets hart state.old slots.old.items
+        sources.now) (filled slots.old.items) (store state.old k xs)) a slots.old.items slots.new.items state.old k state.new k) }
+{
+    match part_of(target, operation, sources.as_slice()) {
+        Some(part) => {
+            let typ = type_of(machine, function, target);
+            put_part(alloc, machine, hart, typ, target, part, slots, state)?;
+            Ok(Act::Go)
+        }
+        None => {
+            let act = work_out(
+                alloc, machine, hart, function, target, operation, sources, slots, state,
+            )?;
+            Ok(act)
+        }
     }
 }
 
@@ -198,7 +241,7 @@ fn entry_slots<M: Memory>(
     new.push(slot_zero(alloc, machine, slot_type(types, 0))?)?;
     push_values(
         alloc,
-        machine,
+        &machine.lets,
         hart,
         state,
         slots,
@@ -270,9 +313,9 @@ fn holds<M: Memory>(
 ) -> Result<bool, AllocError>
     ensures { IfOk result (λ b. b ≡ J.is_true (out-Value (source_value machine.now.lets hart state.now slots.now source.now))) }
 {
-    match lent(machine, hart, state, slots, source) {
+    match lent(&machine.lets, hart, state, slots, source) {
         Some(value) => Ok(is_true(value)),
-        None => Ok(is_true(&value_of(alloc, machine, hart, state, slots, source)?)),
+        None => Ok(is_true(&value_of(alloc, &machine.lets, hart, state, slots, source)?)),
     }
 }
 
@@ -297,11 +340,11 @@ fn payload_of<M: Memory>(
 ) -> Result<Option<Value>, AllocError>
     ensures { IfOk result (λ o. o ≡ J.payload constructor (out-Value (source_value machine.now.lets hart state.now slots.now source.now))) }
 {
-    match lent(machine, hart, state, slots, source) {
+    match lent(&machine.lets, hart, state, slots, source) {
         Some(value) => payload(alloc, value, constructor),
         None => payload(
             alloc,
-            &value_of(alloc, machine, hart, state, slots, source)?,
+            &value_of(alloc, &machine.lets, hart, state, slots, source)?,
             constructor,
         ),
     }

@@ -127,6 +127,17 @@ impl<M: Memory> State<M> {
         hart.registers.set(index as usize, value);
     }
 
+    /// Gives a register of a hart a value, both by their places from 0, and answers the one that it had; they are there. It
+    /// takes no memory, and nothing else changes.
+    pub fn replace_register(&mut self, hart: u8, index: u32, value: Value) -> Value
+        requires { IsSome (register_value self.old hart index) }
+        ensures value { Some result ≡ register_value self.old hart index }
+        ensures state { self.new ≡ with_register hart index value self.old }
+    {
+        let hart = &mut self.harts[hart as usize];
+        hart.registers.replace(index as usize, value)
+    }
+
     /// Gives a register of a hart these bits, both by their places from 0; they are there. Nothing else changes. It is
     /// what [`State::set_register`] does with the value of these bits, in less time.
     pub fn set_bits(&mut self, hart: u8, index: u32, bits: Word)

@@ -10,7 +10,8 @@ use Rattle.jib_machine.specs.declared.act.Act.TheVariants as A
 use Rattle.jib_machine.specs.declared.act.Ending.{Ending}
 use Rattle.jib_machine.specs.declared.act.Ending.TheVariants as N
 use Rattle.jib_machine.specs.declared.act.Here.{Here}
-use Rattle.jib_machine.specs.parts.Sources.{filled, store}
+use Rattle.jib_values.specs.Sources.{filled}
+use Rattle.jib_machine.specs.parts.Begun.{store}
 
 abbrev pub seen : Here → J.Here
 seen h = record { function = h.function; place = h.place; measure = h.measure }

@@ -13,7 +13,8 @@ use Rattle.jib_machine.specs.declared.act.Frame.{Frame}
 use Rattle.jib_machine.specs.declared.act.Current.{Current}
 use Rattle.jib_machine.specs.declared.act.Turn.{Turn}
 use Rattle.jib_machine.specs.declared.act.Turn.TheVariants as U
-use Rattle.jib_machine.specs.parts.Sources.{filled, store}
+use Rattle.jib_values.specs.Sources.{filled}
+use Rattle.jib_machine.specs.parts.Begun.{store}
 use Rattle.jib_machine.specs.parts.Acts.{seen, outcome_of}
 
 -- the table of a function: where the instruction at each place may jump to

@@ -1,5 +1,5 @@
 //! The values of a hart's registers.
-ghost use Rattle.std.specs.Prelude.{◌≡◌, ◌<◌, length, slice_get, slice_set};
+ghost use Rattle.std.specs.Prelude.{◌≡◌, ◌<◌, length, Some, slice_get, slice_set};
 ghost use Rattle.std.specs.Option.{option_copied};
 ghost use Rattle.sail_types.specs.declared.values.Value.TheVariants as V;
 
@@ -66,6 +66,15 @@ impl Registers {
     {
         let old = mem::replace(&mut self.values[index], value);
         let_go(old);
+    }
+
+    /// Puts a value in the place of the one at an index from 0, which it answers. It takes no memory.
+    pub(crate) fn replace(&mut self, index: usize, value: Value) -> Value
+        requires { index < length self.old }
+        ensures old { Some result ≡ slice_get self.old index }
+        ensures new { self.new ≡ slice_set self.old index value }
+    {
+        mem::replace(&mut self.values[index], value)
     }
 
     /// Puts bits in the place of the value at an index from 0.

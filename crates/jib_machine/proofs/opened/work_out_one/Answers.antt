@@ -1,7 +1,7 @@
 use Rattle.std.proofs.Common.{◌∙◌, ap, refl, subst, [], ◌++◌, ◌∷◌}
 use Rattle.jib.specs.Jib.{jib_run}
 use Rattle.jib.specs.Openings.{begun}
-use Rattle.jib_machine.specs.parts.Sources.{store}
+use Rattle.jib_machine.specs.parts.Begun.{store}
 use Rattle.jib_machine.specs.parts.Acts.{outcome_of}
 use Rattle.jib_machine.specs.Events.{blank}
 use Rattle.jib_machine.proofs.OpenLaws.{opens_one}

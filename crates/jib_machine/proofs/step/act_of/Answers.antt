@@ -1,7 +1,7 @@
 use Rattle.std.proofs.Common.{◌∙◌, ap, ◌≡◌, refl, sym}
 use Rattle.sail_types.specs.declared.values.Value.{out-Value}
 use Rattle.jib.specs.Jib as J
-use Rattle.jib_machine.specs.parts.Sources.{source_value, source_values, filled}
+use Rattle.jib_values.specs.Sources.{source_value, source_values, filled}
 use Rattle.jib_machine.specs.parts.Acts.{seen}
 use Rattle.jib_machine.proofs.ActLaws.{did_copy, did_apply, did_call, did_not_jump, did_take, did_label, did_end, did_throw, did_stop}
 use Rattle.jib_machine.proofs.ActLaws.{did_no_measure, did_measure, did_tick}

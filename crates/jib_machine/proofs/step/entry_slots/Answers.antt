@@ -1,5 +1,5 @@
 use Rattle.std.proofs.Common.{◌∙◌, ap, ◌++◌, ◌∷◌, []}
-use Rattle.jib_machine.specs.parts.Sources.{source_values}
+use Rattle.jib_values.specs.Sources.{source_values}
 use Rattle.jib_machine.proofs.SlotLaws.{entered}
 use Rattle.jib_machine.proofs.step.entry_slots.Goals as goal
 

@@ -1,7 +1,7 @@
 use Rattle.std.proofs.Common.{◌≡◌, ◌∙◌, ap, arith, ◌≤◌, ◌++◌, ◌∷◌, [], length}
 use Rattle.std.specs.Prelude.{slice_get}
 use Rattle.jib.specs.Jib.{slot_zero}
-use Rattle.jib_machine.specs.parts.Sources.{begun_slots}
+use Rattle.jib_machine.specs.parts.Begun.{begun_slots}
 use Rattle.jib_machine.proofs.SlotLaws.{begun_more, begun_all}
 use Rattle.jib_machine.proofs.step.fill.Goals as goal
 

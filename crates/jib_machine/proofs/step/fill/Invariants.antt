@@ -1,5 +1,5 @@
 use Rattle.std.proofs.Common.{◌≡◌, ◌-◌, length}
-use Rattle.jib_machine.specs.parts.Sources.{begun_slots}
+use Rattle.jib_machine.specs.parts.Begun.{begun_slots}
 use Rattle.jib_machine.proofs.step.fill.Given as goal
 
 abbrev pub invariant-fill : goal.invariant-fill

@@ -1,6 +1,7 @@
 use Rattle.std.proofs.Common.{ap, arith, ◌<◌}
 use Rattle.jib.specs.Jib as J
-use Rattle.jib_machine.specs.parts.Sources.{filled, store}
+use Rattle.jib_values.specs.Sources.{filled}
+use Rattle.jib_machine.specs.parts.Begun.{store}
 use Rattle.jib_machine.proofs.ActLaws.{tick_on}
 use Rattle.jib_machine.proofs.step.tick.Goals as goal
 

@@ -1,7 +1,0 @@
-use Rattle.std.proofs.Common.{◌≡◌, ◌++◌, take}
-use Rattle.jib_machine.specs.parts.Sources.{source_values}
-use Rattle.jib_machine.proofs.reading.push_values.Given as goal
-
-abbrev pub invariant-loop-source : goal.invariant-loop-source
-invariant-loop-source g l =
-    l.values.items ≡ l.fn.values.items ++ source_values l.machine.lets l.hart l.state l.slots (take l.source-index l.sources)

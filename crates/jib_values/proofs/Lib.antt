@@ -1,0 +1,7 @@
+mod SlotLaws
+mod RegisterLaws
+mod OperandLaws
+mod TypeLaws
+mod PartLaws
+mod RowLaws
+pub mod ChangeLaws

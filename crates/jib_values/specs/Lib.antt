@@ -1,0 +1,4 @@
+pub mod Sources
+pub mod Operands
+pub mod Results
+pub mod Widths
