@@ -1,0 +1,5 @@
+mod ZeroLaws
+mod StateLaws
+mod BelongLaws
+mod OtherLaws
+mod OpeningLaws
