@@ -1,5 +1,5 @@
 -- What is found of each form of a pattern, of the parts that the code has in hand.
-use Rattle.std.proofs.Common.{◌≡◌, List, [], ◌∷◌, map, refl, sym, ap, ◌∙◌, Option, Some, None}
+use Rattle.std.proofs.Common.{◌≡◌, List, ◌∷◌, map, refl, sym, ◌∙◌, Option, Some, None}
 use Rattle.sail_base.specs.declared.place.Place.{Place}
 use Rattle.sail_syntax.specs.declared.name.Name.{Name}
 use Rattle.sail_syntax.specs.declared.types.TyExp.{TyExp}
@@ -11,7 +11,8 @@ use Rattle.sail_types.specs.declared.shapes.Shape.{Shape}
 use Rattle.shape_rules.specs.declared.callees.Meant.{Meant}
 use Rattle.shape_rules.specs.declared.callees.Meant.TheVariants as M
 use Rattle.shape_rules.specs.Scopes.{Setting}
-use Rattle.shape_rules.specs.Patterns.{Piece, Widths, Looked, piece, look, no_widths, name_look, construct_look, group_look, concat_look, cons_look, as_look, typed_look}
+use Rattle.shape_rules.specs.Patterns.{Piece, Widths, piece, look, no_widths, name_look, construct_look, group_look, concat_look, cons_look, as_look}
+use Rattle.shape_rules.specs.Patterns.{typed_look}
 use Rattle.shape_widths.specs.Parts.{further}
 use Rattle.shape_patterns.proofs.Opened.{of_Bind, of_Construct, of_Group, of_Concat, of_Cons, of_As, of_Typed}
 

@@ -31,7 +31,8 @@ of_Construct name ps = ap piece (sym (V.rolls-Construct name ps)) ∙ fold-roll-
 pub of_Group : (place : Place) (brackets : Brackets) (ps : List Pat) → piece (V.Group place brackets ps) ≡ form_piece (P.Group place brackets (map piece ps))
 of_Group place brackets ps = ap piece (sym (V.rolls-Group place brackets ps)) ∙ fold-roll-Pat Piece Piece form_piece joined_piece (P.Group place brackets ps)
 
-pub of_Concat : (place : Place) (p q : Pat) (more : List Joined) → piece (V.Concat place p q more) ≡ form_piece (P.Concat place (piece p) (piece q) (map further more))
+pub of_Concat : (place : Place) (p q : Pat) (more : List Joined) → piece (V.Concat place p q more)
+    ≡ form_piece (P.Concat place (piece p) (piece q) (map further more))
 of_Concat place p q more = ap piece (sym (V.rolls-Concat place p q more)) ∙ fold-roll-Pat Piece Piece form_piece joined_piece (P.Concat place p q more)
 
 pub of_Cons : (place : Place) (p q : Pat) → piece (V.Cons place p q) ≡ form_piece (P.Cons place (piece p) (piece q))

@@ -1,22 +1,17 @@
 -- Parts of patterns, one after another.
-use Rattle.std.proofs.Common.{◌≡◌, ℕ, suc, zero, ◌+◌, Bool, true, false, ◌||◌, not, nat_eq, List, [], ◌∷◌, ◌++◌, length, map, drop, replicate, slice_get, refl, sym, ap, ◌∙◌, arith, add-one, append_assoc}
-use Rattle.std.proofs.Common.{Option, Some, None, is_some, if◌then◌else◌}
+use Rattle.std.proofs.Common.{◌≡◌, ℕ, suc, zero, ◌+◌, Bool, true, false, List, [], ◌∷◌, ◌++◌, length, map, drop, slice_get, refl, sym, ap, ◌∙◌, add-one}
+use Rattle.std.proofs.Common.{append_assoc}
+use Rattle.std.proofs.Common.{Option, if◌then◌else◌}
 use Rattle.sail_base.specs.declared.place.Place.{Place}
-use Rattle.sail_syntax.specs.Places.{pattern_place, pattern_form_place}
-use Rattle.sail_syntax.specs.declared.patterns.Pat.{Pat, out-Pat}
-use Rattle.sail_syntax.specs.declared.patterns.Joined.{Joined, out-Joined}
-use Rattle.sail_syntax.specs.declared.patterns.Pat.TheOpen as P
-use Rattle.sail_syntax.specs.declared.patterns.Pat.TheOpen.{Pat-F, Joined-F}
-use Rattle.sail_syntax.specs.declared.patterns.Pat.TheFolds.{fold_out-Pat, fold_out-Joined, map-Pat}
+use Rattle.sail_syntax.specs.declared.patterns.Pat.{Pat}
 use Rattle.sail_types.specs.declared.shapes.Shape.{Shape}
-use Rattle.sail_types.specs.declared.numbers.Num.{Num}
 use Rattle.shape_rules.specs.declared.error.ShapeError.{ShapeError}
-use Rattle.shape_rules.specs.declared.error.ShapeError.TheVariants as error
 use Rattle.shape_rules.specs.Calls.{takes_unit}
 use Rattle.shape_rules.specs.Findings.{first_failure}
 use Rattle.shape_rules.proofs.Firsts.{first_failure_append}
 use Rattle.shape_rules.specs.Scopes.{Setting}
-use Rattle.shape_rules.specs.Patterns.{Piece, Widths, piece, form_piece, form_place, joined_piece, width_faults, also_looked, each_looked, or_never, pieces_for, unit_piece, maps, as_one, mapping_look_as, Which, forwards, backwards, neither, either}
+use Rattle.shape_rules.specs.Patterns.{Piece, Widths, piece, also_looked, each_looked, or_never, pieces_for, unit_piece, maps, as_one, mapping_look_as, Which}
+use Rattle.shape_rules.specs.Patterns.{forwards, backwards, neither, either}
 use Rattle.shape_rules.specs.declared.callees.Mapping.{Mapping}
 use Rattle.shape_widths.specs.Known.{direction_at, given_at, side_faults}
 use Rattle.shape_patterns.specs.Pieces.{pieces_of, count_of, is_bare}

@@ -10,7 +10,7 @@ use Rattle.sail_core.specs.declared.patterns.Head.TheVariants as H
 use Rattle.shape_rules.specs.declared.callees.Candidate.{Candidate}
 use Rattle.shape_rules.specs.Calls.{takes_unit}
 use Rattle.shape_rules.specs.Patterns.{Piece, Look, piece, unit_piece, opened, each_looked, shape_faults}
-use Rattle.shape_rules.specs.Patterns.{tuple_parts, seen_as, vector_item, list_item, nevers, known_or_nevers}
+use Rattle.shape_rules.specs.Patterns.{tuple_parts, seen_as, nevers, known_or_nevers}
 
 -- `()`, or a pattern each
 abbrev pub pieces_of : Place → Bool → List Pat → List Piece

@@ -105,9 +105,13 @@ pub(crate) fn look_name(
     binds: &mut Items<Local>,
     first: &mut First,
 ) -> Result<Pattern, AllocError>
-    ensures pattern { IfOk result (λ made. made ≡ (name_look name.now ((setting_of around.now).value name.now.text) (setting_of around.now) no_widths subject.now).pattern) }
-    ensures binds { OnOk result (binds.new ≡ binds.old ++ (name_look name.now ((setting_of around.now).value name.now.text) (setting_of around.now) no_widths subject.now).binds) }
-    ensures failures { OnOk result (first.new.error ≡ first_failure first.old.error (name_look name.now ((setting_of around.now).value name.now.text) (setting_of around.now) no_widths subject.now).faults) }
+    ensures pattern { IfOk result (λ made. made
+        ≡ (name_look name.now ((setting_of around.now).value name.now.text) (setting_of around.now) no_widths subject.now).pattern) }
+    ensures binds { OnOk result (binds.new
+        ≡ binds.old ++ (name_look name.now ((setting_of around.now).value name.now.text) (setting_of around.now) no_widths subject.now).binds) }
+    ensures failures { OnOk result (first.new.error
+        ≡ first_failure first.old.error (name_look name.now ((setting_of around.now).value name.now.text)
+        (setting_of around.now) no_widths subject.now).faults) }
 {
     match around.value(name.text.as_str()) {
         Some(Meant::Member(place, member)) => {

@@ -4,6 +4,7 @@
 #![tactic(auto)]
 
 mod callees;
+mod groups;
 mod leaves;
 mod looking;
 mod nodes;
@@ -12,7 +13,8 @@ mod shapes;
 mod typed;
 
 pub use callees::takes_unit;
-pub use looking::{look, look_each, look_one};
+pub use groups::look_each;
+pub use looking::{look, look_one};
 pub use parameters::look_parameters;
 pub use shapes::{note_shape, see_as};
 pub use typed::{has_typ, wanted_by, written_shape, written_typ};

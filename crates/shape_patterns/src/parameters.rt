@@ -5,7 +5,7 @@ ghost use Rattle.shape_rules.specs.Findings.{first_failure};
 ghost use Rattle.shape_rules.specs.Patterns.{each_looked, no_widths};
 ghost use Rattle.shape_patterns.specs.Pieces.{pieces_of};
 
-use crate::looking::look_pieces;
+use crate::groups::look_pieces;
 use sail_base::{Items, Place};
 use sail_core::Pattern;
 use sail_syntax::Pat;
@@ -26,8 +26,10 @@ pub fn look_parameters(
     first: &mut First,
 ) -> Result<Items<Pattern>, AllocError>
     ensures patterns { IfOk result (λ made. made ≡ (each_looked (pieces_of place is_unit parts.now) (setting_of around.now) no_widths params.now).patterns) }
-    ensures binds { OnOk result (binds.new ≡ binds.old ++ (each_looked (pieces_of place is_unit parts.now) (setting_of around.now) no_widths params.now).binds) }
-    ensures failures { OnOk result (first.new.error ≡ first_failure first.old.error (each_looked (pieces_of place is_unit parts.now) (setting_of around.now) no_widths params.now).faults) }
+    ensures binds { OnOk result (binds.new
+        ≡ binds.old ++ (each_looked (pieces_of place is_unit parts.now) (setting_of around.now) no_widths params.now).binds) }
+    ensures failures { OnOk result (first.new.error
+        ≡ first_failure first.old.error (each_looked (pieces_of place is_unit parts.now) (setting_of around.now) no_widths params.now).faults) }
 {
     look_pieces(
         alloc,
