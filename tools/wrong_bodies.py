@@ -2,7 +2,7 @@
 """wrong_bodies.py CRATE..: tries all wrong bodies of these crates, those that the gate leaves out too (must-fail/*.md).
 
 It copies crates/, crates.txt and HANDLES into a folder that it removes again, gives each wrong body the ending .edit there, and
-runs `rt must-fail CRATE..`, whose status it ends with. That proves each crate and those below it first."""
+runs `rt ci CRATE..`, whose status it ends with. What the gate has proved of these files on this machine is not proved again."""
 import os
 import shutil
 import subprocess
@@ -21,7 +21,7 @@ def main():
             for name in os.listdir(folder):
                 if name.endswith(".md"):
                     os.rename(os.path.join(folder, name), os.path.join(folder, name[: -len(".md")] + ".edit"))
-        sys.exit(subprocess.run(["rt", "must-fail", *sys.argv[1:]], cwd=copy).returncode)
+        sys.exit(subprocess.run(["rt", "ci", *sys.argv[1:]], cwd=copy).returncode)
 
 
 if __name__ == "__main__":

@@ -1,10 +1,10 @@
 //! Operations that change a part of what their target holds, which is done in place.
-ghost use Rattle.std.specs.Prelude.{◌≡◌, ◌∷◌, [], List, IfSome, OnOk, true, slice_get};
+ghost use Rattle.std.specs.Prelude.{◌≡◌, ◌∷◌, [], List, IfSome, OnOk, true, is_some, slice_get};
 ghost use Rattle.jib.specs.declared.code.Operation.TheVariants as O;
 ghost use Rattle.jib.specs.Operations.{worked_out};
 ghost use Rattle.jib_values.specs.Sources.{source_of, source_values};
 ghost use Rattle.jib_values.specs.Results.{Wrote};
-ghost use Rattle.jib_machine.specs.parts.Changes.{Changes, operation_of, sources_of, result_value};
+ghost use Rattle.jib_machine.specs.parts.Changes.{Changes, is_held as is_held_by, changes_part, operation_of, sources_of, result_value};
 
 use crate::fitting::fitted_result;
 use crate::machine::Machine;
@@ -26,7 +26,8 @@ pub enum Part<'a> {
 
 /// Whether a source is what a target holds.
 fn is_held(source: &Source, target: Target) -> bool
-    ensures { result ≡ true → source.now ≡ source_of target }
+    ensures is { result ≡ is_held_by source.now target }
+    ensures held { result ≡ true → source.now ≡ source_of target }
 {
     match source {
         Source::Slot(slot) => match target {
@@ -42,9 +43,10 @@ fn is_held(source: &Source, target: Target) -> bool
     }
 }
 
-/// What an operation changes of what its target holds; none where it does something else.
+/// What an operation changes of what its target holds; none exactly where it does something else.
 pub fn part_of<'a>(target: Target, operation: Operation, sources: &'a [Source]) -> Option<Part<'a>>
-    ensures { IfSome result (Changes target operation sources.now) }
+    ensures part { IfSome result (Changes target operation sources.now) }
+    ensures always { is_some result ≡ changes_part target operation sources.now }
 {
     match operation {
         Operation::WithItem => item_of(target, sources),
@@ -54,7 +56,8 @@ pub fn part_of<'a>(target: Target, operation: Operation, sources: &'a [Source]) 
 }
 
 fn item_of<'a>(target: Target, sources: &'a [Source]) -> Option<Part<'a>>
-    ensures { IfSome result (Changes target O.WithItem sources.now) }
+    ensures part { IfSome result (Changes target O.WithItem sources.now) }
+    ensures always { is_some result ≡ changes_part target O.WithItem sources.now }
 {
     match sources {
         [whole, index, item] => {
@@ -68,7 +71,8 @@ fn item_of<'a>(target: Target, sources: &'a [Source]) -> Option<Part<'a>>
 }
 
 fn field_of<'a>(target: Target, place: u32, sources: &'a [Source]) -> Option<Part<'a>>
-    ensures { IfSome result (Changes target (O.WithField place) sources.now) }
+    ensures part { IfSome result (Changes target (O.WithField place) sources.now) }
+    ensures always { is_some result ≡ changes_part target (O.WithField place) sources.now }
 {
     match sources {
         [whole, part] => {
