@@ -3,9 +3,8 @@ ghost use Rattle.std.specs.List.{list_any};
 ghost use Rattle.std.specs.Option.{option_copied};
 ghost use Rattle.sail_bodies.specs.Voids.{has_void as has_void_of, voids_within as voids_of, form_voids, definition_voids as voids_of_definition, fields_void};
 ghost use Rattle.sail_types.specs.declared.types.Typ.{out-Typ};
-ghost use Rattle.sail_types.specs.Zero.{deepest as deepest_of};
 
-use sail_types::{Definition, Field, Form, Index, Typ};
+use sail_types::{Definition, Field, Form, Index, Typ, deepest};
 use std::alloc::{AllocError, Global};
 use type_arguments::{applied_typ, is_void};
 
@@ -14,14 +13,6 @@ pub(crate) fn has_void(alloc: Global, table: &[Definition], typ: &Typ) -> Result
     ensures { IfOk result (λ found. found ≡ has_void_of table.now typ.now) }
 {
     voids_within(alloc, table, deepest(), typ)
-}
-
-/// Deeper than types can stand inside one another in memory.
-#[tactic(auto, unfolding(sail_types::specs::Zero::deepest))]
-fn deepest() -> usize
-    ensures { result ≡ deepest_of }
-{
-    usize::MAX
 }
 
 /// Likewise, through types inside types to this depth.

@@ -23,3 +23,4 @@ pub use first::First;
 pub use reading::{read, read_as};
 pub use repeated::note_repeated;
 pub use scope::{Binders, FoundVariable, Meaning, NamedType, Scope, TypeNames, Variable};
+pub use variables::find_parameter;

@@ -53,8 +53,11 @@ fn see_behind(
     }
 }
 
-/// The first of these variables with a name, which is the innermost.
-fn find_parameter(parameters: &[Variable], name: &str) -> Result<Option<FoundVariable>, AllocError>
+/// The first of these variables with a name, which is the innermost. It fails where its number would not fit.
+pub fn find_parameter(
+    parameters: &[Variable],
+    name: &str,
+) -> Result<Option<FoundVariable>, AllocError>
     ensures { IfOk result (λ found. found ≡ variable_of name.now parameters.now) }
 {
     let mut found = None;
@@ -84,7 +87,6 @@ fn find_name(
 }
 
 /// The innermost type variable of a name. It fails where its number would not fit.
-
 pub(crate) fn find_variable(
     variables: &Binders<'_>,
     name: &str,

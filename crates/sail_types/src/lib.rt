@@ -40,4 +40,4 @@ pub use types::Typ;
 pub use value_texts::{push_bits, push_value};
 pub use values::Value;
 pub use values_of::{copy_value, copy_values, same_value, same_values};
-pub use zero::zero_of;
+pub use zero::{deepest, known_number, zero_of};

@@ -30,9 +30,9 @@ pub fn zero_of(alloc: Global, types: &Types, typ: &Typ) -> Result<Option<Value>,
     zero_within(alloc, types, deepest(), typ, &[], &[])
 }
 
-/// Deeper than types can stand inside one another in memory.
+/// Deeper than types can stand inside one another in memory: what a walk over types counts down from.
 #[tactic(auto, unfolding(crate::specs::Zero::deepest))]
-fn deepest() -> usize
+pub fn deepest() -> usize
     ensures { result ≡ deepest_of }
 {
     usize::MAX
@@ -73,13 +73,13 @@ fn zero_of_form(
         Typ::Unit => Ok(Some(Value::Unit)),
         Typ::Bool => Ok(Some(Value::Truth(false))),
         Typ::Bit => Ok(Some(Value::Bit(false))),
-        Typ::Bits(width) => match known(alloc, indices, width)? {
+        Typ::Bits(width) => match known_number(alloc, indices, width)? {
             None => Ok(None),
             Some(width) => Ok(zero_bits(width)),
         },
         Typ::Range(low, high) => zero_between(alloc, indices, low, high),
         Typ::Vector(length, item) => {
-            let Some(length) = known(alloc, indices, length)? else {
+            let Some(length) = known_number(alloc, indices, length)? else {
                 return Ok(None);
             };
             match zero_within(alloc, types, depth, item.get(), indices, zeros)? {
@@ -227,8 +227,12 @@ fn zero_at(
     }
 }
 
-/// The integer that a number is under these arguments, where it is constant.
-fn known(alloc: Global, indices: &[Index], number: &Num) -> Result<Option<i128>, AllocError>
+/// The integer that a number is where its variables stand for these arguments, if it is constant. The one error is want of memory.
+pub fn known_number(
+    alloc: Global,
+    indices: &[Index],
+    number: &Num,
+) -> Result<Option<i128>, AllocError>
     ensures { IfOk result (λ made. made ≡ known_of indices.now number.now) }
 {
     match read_number(alloc, number, indices)? {
@@ -267,10 +271,10 @@ fn zero_between(
 ) -> Result<Option<Value>, AllocError>
     ensures { IfOk result (λ made. made ≡ and_then (known_of indices.now low.now) (λ a. and_then (known_of indices.now high.now) (range_of a))) }
 {
-    let Some(low) = known(alloc, indices, low)? else {
+    let Some(low) = known_number(alloc, indices, low)? else {
         return Ok(None);
     };
-    match known(alloc, indices, high)? {
+    match known_number(alloc, indices, high)? {
         None => Ok(None),
         Some(high) => Ok(zero_range(low, high)),
     }

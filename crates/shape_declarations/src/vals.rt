@@ -1,7 +1,7 @@
 //! Type variables of a `val`.
-ghost use Rattle.std.specs.Prelude.{◌≡◌, map, option_map, None, IfOk, OnOk};
+ghost use Rattle.std.specs.Prelude.{◌≡◌, map, None, OnOk};
 ghost use Rattle.std.specs.List.{list_any};
-ghost use Rattle.sail_kinds.specs.Scopes.{within, type_named, own_of, variable_of, are_counted_together as are_together, seen_past, seen_behind};
+ghost use Rattle.sail_kinds.specs.Scopes.{within, type_named, own_of, variable_of};
 ghost use Rattle.sail_signatures.specs.Signatures.{binding};
 ghost use Rattle.shape_joins.specs.Joins.{any_of};
 ghost use Rattle.shape_rules.specs.Findings.{first_failure};
@@ -11,7 +11,7 @@ ghost use Rattle.shape_declarations.specs.Vals.{stands_in as stands_in_of, is_me
 ghost use Rattle.shape_declarations.specs.Vals.{first_bound, quantifier_faults, val_faults};
 
 use sail_base::Kind;
-use sail_kinds::{Binders, FoundVariable, Scope, TypeNames, Variable};
+use sail_kinds::{Binders, FoundVariable, Scope, TypeNames, Variable, find_parameter};
 use sail_syntax::{Arrow, Name, Param, Quantifier, TyExp};
 use sail_types::Typ;
 use shape_calls::parameters_of;
@@ -80,67 +80,6 @@ fn is_met(kind: Kind, variable: u32, types: &[Typ]) -> bool
     }
 }
 
-/// Whether variables of two kinds are counted together.
-fn are_counted_together(a: Kind, b: Kind) -> bool
-    ensures { result ≡ are_together a b }
-{
-    match (a, b) {
-        (Kind::Type, Kind::Type) => true,
-        (Kind::Type, _) => false,
-        (_, Kind::Type) => false,
-        _ => true,
-    }
-}
-
-/// What a variable is, seen from inside one more. It fails where the number would not fit.
-fn see_past(kind: Kind, found: Option<FoundVariable>) -> Result<Option<FoundVariable>, AllocError>
-    ensures { IfOk result (λ seen. seen ≡ option_map (seen_past kind) found) }
-{
-    let Some(found) = found else {
-        return Ok(None);
-    };
-    if !are_counted_together(kind, found.kind) {
-        return Ok(Some(found));
-    }
-    let Some(number) = found.number.checked_add(1) else {
-        return Err(AllocError);
-    };
-    Ok(Some(FoundVariable {
-        kind: found.kind,
-        number,
-    }))
-}
-
-/// What a name is behind one more variable. It fails where the number would not fit.
-fn see_behind(
-    name: &str,
-    variable: &str,
-    kind: Kind,
-    outer: Option<FoundVariable>,
-) -> Result<Option<FoundVariable>, AllocError>
-    ensures { IfOk result (λ seen. seen ≡ seen_behind name.now (record { name = variable.now; kind = kind }) outer) }
-{
-    if variable == name {
-        Ok(Some(FoundVariable { kind, number: 0 }))
-    } else {
-        see_past(kind, outer)
-    }
-}
-
-/// The first of these variables with a name. It fails where its number would not fit.
-fn find_variable(variables: &[Variable], name: &str) -> Result<Option<FoundVariable>, AllocError>
-    ensures { IfOk result (λ found. found ≡ variable_of name.now variables.now) }
-{
-    let mut found = None;
-    let mut left = variables.len();
-    while left > 0 {
-        left -= 1;
-        let variable = &variables[left];
-        found = see_behind(name, variable.name.as_str(), variable.kind, found)?;
-    }
-    Ok(found)
-}
-
 /// Notes a variable that isn't met, where it is bound (M17).
 fn note_unmet(is_met: bool, name: &Name, first: &mut First) -> Result<(), AllocError>
     ensures { OnOk result (first.new.error ≡ first_failure first.old.error (untold name.now is_met)) }
@@ -181,7 +120,7 @@ fn note_variables(
     ensures { OnOk result (first.new.error ≡ first_failure first.old.error (variables_faults types.now variables.now parameters.now)) }
 {
     for parameter in parameters {
-        let found = find_variable(variables, parameter.name.text.as_str())?;
+        let found = find_parameter(variables, parameter.name.text.as_str())?;
         note_variable(types, &parameter.name, found, first)?;
     }
     Ok(())

@@ -1,14 +1,13 @@
 //! Types that have a zero, whatever their widths and lengths are.
 ghost use Rattle.std.specs.Prelude.{◌≡◌, map, slice_get, unwrap_or, false, [], IfOk};
 ghost use Rattle.sail_types.specs.Named.{field_types};
-ghost use Rattle.sail_types.specs.Zero.{deepest as deepest_of, known as known_of, constant_value as constant_value_of};
 ghost use Rattle.sail_types.specs.declared.types.Typ.{out-Typ};
 ghost use Rattle.shape_declarations.specs.Zeros.{has_zero as has_zero_of, zeroed_within as zeroed_to, form_zeroed as zeroed_by};
 ghost use Rattle.shape_declarations.specs.Zeros.{each_zeroed as each_of, all_zeroed as all_of, range_zeroed as range_zeroed_of};
 ghost use Rattle.shape_declarations.specs.Zeros.{table_zeroed as table_zeroed_of};
 
 use sail_base::Items;
-use sail_types::{Field, Form, Index, Num, Typ, Types, read_indices, read_number};
+use sail_types::{Field, Form, Index, Num, Typ, Types, deepest, known_number, read_indices};
 use std::alloc::{AllocError, Global};
 
 /// Whether a register can have this type, whatever its widths and lengths are: `bits`, `bit`, `bool`, `unit`, a range whose ends are
@@ -17,14 +16,6 @@ pub fn has_zero(alloc: Global, types: &Types, typ: &Typ) -> Result<bool, AllocEr
     ensures { IfOk result (λ has. has ≡ has_zero_of types.now typ.now) }
 {
     zeroed_within(alloc, types, deepest(), typ, &[], &[])
-}
-
-/// Deeper than types can stand inside one another in memory.
-#[tactic(auto, unfolding(sail_types::specs::Zero::deepest))]
-fn deepest() -> usize
-    ensures { result ≡ deepest_of }
-{
-    usize::MAX
 }
 
 /// Whether a type has a zero, through types inside types to this depth, under what its Int and Bool variables stand for, and whether
@@ -172,34 +163,14 @@ fn zeroed_at(given: &[bool], position: u32) -> bool
     }
 }
 
-/// The integer that a number is under these arguments, where it is constant.
-fn known(alloc: Global, indices: &[Index], number: &Num) -> Result<Option<i128>, AllocError>
-    ensures { IfOk result (λ made. made ≡ known_of indices.now number.now) }
-{
-    match read_number(alloc, number, indices)? {
-        None => Ok(None),
-        Some(number) => Ok(constant_value(&number)),
-    }
-}
-
-fn constant_value(number: &Num) -> Option<i128>
-    ensures { result ≡ constant_value_of number.now }
-{
-    if number.terms.is_empty() {
-        Some(number.constant)
-    } else {
-        None
-    }
-}
-
 /// Whether the ends of a range are constant, the last not below the first.
 fn range_zeroed(alloc: Global, indices: &[Index], low: &Num, high: &Num) -> Result<bool, AllocError>
     ensures { IfOk result (λ has. has ≡ range_zeroed_of indices.now low.now high.now) }
 {
-    let Some(low) = known(alloc, indices, low)? else {
+    let Some(low) = known_number(alloc, indices, low)? else {
         return Ok(false);
     };
-    match known(alloc, indices, high)? {
+    match known_number(alloc, indices, high)? {
         None => Ok(false),
         Some(high) => Ok(low <= high),
     }
