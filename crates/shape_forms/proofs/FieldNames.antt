@@ -10,7 +10,7 @@ use Rattle.shape_rules.specs.Targets.{Part, TargetPart, SuffixPart, IndexPart}
 use Rattle.shape_rules.specs.Values.{Named, also_named, only_one, FieldPart}
 use Rattle.shape_rules.specs.Statements.{StatementPart, CasePart, RangePart, FurtherPart}
 use Rattle.shape_rules.specs.Expressions.{exp_form, target_form, statement_form, suffix_form, case_form, field_form, index_form, range_form, further_form}
-use Rattle.shape_forms.specs.Trees.{field_value}
+use Rattle.shape_walks.specs.Trees.{field_value}
 
 -- fields behind others
 abbrev pub named_behind : List ℕ → List Shape → Option Named → Option Named

@@ -18,12 +18,12 @@ use Rattle.shape_rules.specs.Calls.{Elaborate, solved}
 use Rattle.shape_rules.specs.Targets.{InStruct, field_in, base_faults}
 use Rattle.shape_rules.specs.Values.{FieldPart, values_of, Named, fields_named, also_named, field_count, variables_of_type, parts_found}
 use Rattle.shape_rules.specs.Values.{struct_found, struct_at, struct_named, struct_solved, struct_place, with_base, with_of, with_named, named_place}
-use Rattle.shape_forms.specs.declared.walks.Plan.TheVariants as P
-use Rattle.shape_forms.specs.Walks.{begun, each_taken, each_faults}
+use Rattle.shape_walks.specs.declared.walks.Plan.TheVariants as P
+use Rattle.shape_walks.specs.Walks.{begun, each_taken, each_faults}
 use Rattle.shape_forms.specs.Structs.{params_walk, struct_plan_of, struct_plan_in, struct_counted}
 use Rattle.shape_forms.specs.Structs.{struct_faults, struct_faults_at, count_faults, struct_made, struct_walked}
 use Rattle.shape_forms.specs.Structs.{with_plan_of, with_plan_at, with_named_at, with_walked, with_made_of}
-use Rattle.shape_forms.proofs.Walked.{each_cores, each_faults_is, solved_walked}
+use Rattle.shape_walks.proofs.Walked.{each_cores, each_faults_is, solved_walked}
 
 -- as many shapes as fields
 named_count_behind : (f : Option InStruct) (more : Option Named) (named : Named) (count : ℕ)

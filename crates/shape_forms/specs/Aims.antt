@@ -5,8 +5,8 @@ use Rattle.shape_rules.specs.Scopes.{Setting, Locals}
 use Rattle.shape_rules.specs.Calls.{Solved}
 use Rattle.shape_rules.specs.Targets.{Aimed, TargetPart, SuffixPart, part_aimed, read_aimed, walked}
 use Rattle.shape_rules.specs.Values.{last_place}
-use Rattle.shape_forms.specs.declared.walks.Walk.{Walk}
-use Rattle.shape_forms.specs.Walks.{known_shapes}
+use Rattle.shape_walks.specs.declared.walks.Walk.{Walk}
+use Rattle.shape_walks.specs.Walks.{known_shapes}
 
 -- arguments of one callee, of which the failures are noted
 abbrev pub solved_of : Walk → Solved

@@ -1,10 +1,4 @@
--- the parts of trees, as the definitions see them
-pub mod Trees
--- walks over parts, and the forms over a list of expressions
-pub mod Walks
-pub mod Heads
-pub mod Calls
--- other forms by what was made of their parts
+-- forms by what was made of their parts
 pub mod Over
 pub mod Structs
 pub mod Aims

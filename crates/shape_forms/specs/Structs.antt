@@ -22,10 +22,10 @@ use Rattle.shape_forms.specs.declared.structs.FoundFields.{FoundFields}
 use Rattle.shape_forms.specs.declared.structs.StructPlan.{StructPlan}
 use Rattle.shape_forms.specs.declared.structs.WithPlan.{WithPlan}
 use Rattle.shape_forms.specs.declared.structs.WithFields.{WithFields}
-use Rattle.shape_forms.specs.declared.walks.Plan.TheVariants as P
-use Rattle.shape_forms.specs.declared.walks.Walk.{Walk}
-use Rattle.shape_forms.specs.Walks.{begun, known_shapes, each_taken, each_faults}
-use Rattle.shape_forms.specs.Trees.{field_value}
+use Rattle.shape_walks.specs.declared.walks.Plan.TheVariants as P
+use Rattle.shape_walks.specs.declared.walks.Walk.{Walk}
+use Rattle.shape_walks.specs.Walks.{begun, known_shapes, each_taken, each_faults}
+use Rattle.shape_walks.specs.Trees.{field_value}
 
 abbrev pub named_of : FoundFields → Named
 named_of found = record { places = found.places; shapes = found.shapes }

@@ -5,7 +5,7 @@ ghost use Rattle.shape_rules.specs.Around.{setting_of};
 ghost use Rattle.shape_rules.specs.Targets as target;
 ghost use Rattle.shape_rules.specs.Values as spec;
 ghost use Rattle.shape_calls.specs.Ways.{led_of};
-ghost use Rattle.shape_forms.specs.Trees.{suffix_part, index_part};
+ghost use Rattle.shape_walks.specs.Trees.{suffix_part, index_part};
 
 use sail_base::{Items, Place};
 use sail_core::{Kind, Suffix as Step};

@@ -7,12 +7,10 @@ ghost use Rattle.shape_rules.specs.Values as spec;
 ghost use Rattle.shape_calls.specs.Made.{made_of};
 ghost use Rattle.shape_forms.specs.Structs as form;
 ghost use Rattle.shape_forms.specs.Structs.{named_of};
-ghost use Rattle.shape_forms.specs.Trees.{field_value};
-ghost use Rattle.shape_forms.specs.Walks.{begun};
-ghost use Rattle.shape_forms.specs.declared.walks.Plan.TheVariants as P;
+ghost use Rattle.shape_walks.specs.Trees.{field_value};
+ghost use Rattle.shape_walks.specs.Walks.{begun};
+ghost use Rattle.shape_walks.specs.declared.walks.Plan.TheVariants as P;
 
-use crate::heads::known_shapes;
-use crate::walks::{Plan, Walk};
 use sail_base::{Items, Place};
 use sail_core::Kind;
 use sail_syntax::{FieldValue, Name};
@@ -23,6 +21,7 @@ use shape_calls::{
 };
 use shape_joins::{holes, put_shapes};
 use shape_rules::{Around, First, ShapeError};
+use shape_walks::{Plan, Walk, known_shapes};
 use std::alloc::{AllocError, Global};
 
 /// Fields of a struct, as they are written.

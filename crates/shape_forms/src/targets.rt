@@ -9,10 +9,8 @@ ghost use Rattle.shape_rules.specs.Targets as target;
 ghost use Rattle.shape_rules.specs.Statements as statements;
 ghost use Rattle.shape_calls.specs.Ways.{aim_of};
 ghost use Rattle.shape_forms.specs.Aims.{solved_of};
-ghost use Rattle.shape_forms.specs.Walks.{args_of};
+ghost use Rattle.shape_walks.specs.Walks.{args_of};
 
-use crate::heads::known_shapes;
-use crate::walks::Walk;
 use sail_base::{Items, Place};
 use sail_core::{Callee, Caller, Core, Target, TargetKind};
 use sail_syntax::Name;
@@ -23,6 +21,7 @@ use shape_calls::{
 };
 use shape_joins::put_shape;
 use shape_rules::{Candidate, First, ShapeError};
+use shape_walks::{Walk, known_shapes};
 use std::alloc::{AllocError, Global};
 
 /// A target that is a call; a place for it where nothing writes it.

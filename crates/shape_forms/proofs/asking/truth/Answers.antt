@@ -4,7 +4,7 @@ use Rattle.sail_core.specs.declared.written.WrittenNumber.{WrittenNumber}
 use Rattle.shape_rules.specs.Around.{setting_of}
 use Rattle.shape_rules.specs.Findings.{leaf}
 use Rattle.shape_rules.specs.Written.{constraint_in}
-use Rattle.shape_forms.proofs.Recalled.{truth_noted}
+use Rattle.shape_forms.proofs.Asked.{truth_noted}
 use Rattle.shape_forms.proofs.asking.truth.Goals as goal
 
 pub returns-in_ok-numbers_in-in-Some-clause-failures : goal.returns-in_ok-numbers_in-in-Some-clause-failures

@@ -1,7 +1,7 @@
 use Rattle.std.proofs.Common.{◌≡◌, drop, map}
 use Rattle.sail_types.specs.Named.{fields as fields_of}
 use Rattle.shape_rules.specs.Values.{fields_named}
-use Rattle.shape_forms.specs.Trees.{field_value}
+use Rattle.shape_walks.specs.Trees.{field_value}
 use Rattle.shape_forms.proofs.FieldNames.{named_behind}
 use Rattle.shape_forms.proofs.structs.fields_named.Given as goal
 

@@ -1,7 +1,7 @@
 use Rattle.std.proofs.Common.{◌≡◌, ◌++◌, drop, map}
 use Rattle.shape_rules.specs.Around.{setting_of}
 use Rattle.shape_rules.specs.Values.{structs_from}
-use Rattle.shape_forms.specs.Trees.{field_value}
+use Rattle.shape_walks.specs.Trees.{field_value}
 use Rattle.shape_forms.proofs.structs.structs_with.Given as goal
 
 abbrev pub invariant-loop-definition : goal.invariant-loop-definition

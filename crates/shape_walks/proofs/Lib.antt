@@ -1,0 +1,10 @@
+pub mod PartPlaces
+pub mod Walked
+pub mod Formed
+pub mod Infixes
+pub mod Listed
+pub mod Called
+mod LastPlaces
+mod Units
+mod Recalled
+mod ValuePlaces
