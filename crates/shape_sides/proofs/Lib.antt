@@ -1,0 +1,4 @@
+pub mod Opened
+pub mod SidePlaces
+pub mod Listed
+pub mod Called

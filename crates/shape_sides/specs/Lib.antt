@@ -1,0 +1,2 @@
+-- the parts of a side, as the definitions see them
+pub mod Trees
