@@ -1,0 +1,6 @@
+-- what a reader of functions, measures and mappings believes, in the order in which it is read
+pub mod Clauses
+pub mod Functions
+pub mod Mappings
+-- what the contracts of private functions say
+pub mod Parts

@@ -1,0 +1,464 @@
+//! What is assigned to, and assignments.
+ghost use Rattle.std.specs.Prelude.{◌≡◌, ◌∷◌, ◌++◌, [], map, length, IfOk, OnOk};
+ghost use Rattle.shape_rules.specs.Around.{setting_of};
+ghost use Rattle.shape_rules.specs.Calls.{args_found, chosen};
+ghost use Rattle.shape_rules.specs.Findings.{first_failure};
+ghost use Rattle.shape_rules.specs.Targets as target;
+ghost use Rattle.shape_rules.specs.Statements as spec;
+ghost use Rattle.shape_rules.specs.Expressions.{part};
+ghost use Rattle.shape_calls.specs.Made.{made_of};
+ghost use Rattle.shape_calls.specs.Ways.{aim_of};
+ghost use Rattle.shape_forms.specs.Aims.{read_of, part_aimed_at};
+ghost use Rattle.shape_walks.specs.Trees.{elaborates, target_part, further_part, suffix_part};
+
+use crate::calls::call_named;
+use crate::expressions::{push_all, push_part};
+use crate::parts::walked;
+use sail_base::{Items, Place};
+use sail_core::{Core, Kind, Target, TargetKind};
+use sail_syntax::{Exp, LExp, Name, Suffix, Target as Further};
+use sail_types::Shape;
+use shape_calls::{Aim, Made, aimed_nowhere, callees_of, name_aimed, one_of};
+use shape_forms::{aim_callee, aim_member, note_inner, read_call, settle_over, tuple_aimed};
+use shape_rules::{Around, Candidate, First, Locals, ShapeError};
+use shape_walks::{Head, Plan, Walk, last_place, target_place_of};
+use std::alloc::{AllocError, Global};
+
+/// `a = b = e`, which is `()`; `f(a) = e` is the call `f(a, e)`. The one error is want of memory.
+#[cycle(elaborate)]
+#[tactic(auto, using(crate::proofs::Assigned::assigned_call, crate::proofs::Assigned::assigned_chain, crate::proofs::Assigned::assigned_plain, shape_rules::proofs::Firsts::first_failure_append))]
+pub(crate) fn assign(
+    alloc: Global,
+    place: Place,
+    target: &LExp,
+    more: &[Further],
+    value: &Exp,
+    around: &Around<'_>,
+    locals: &mut Locals,
+    want: &Shape,
+    first: &mut First,
+) -> Result<Made, AllocError>
+    ensures made { IfOk result (λ made. made ≡ made_of (spec.assign_found place (target_part target.now) (map further_part more.now)
+        (part value.now) (setting_of around.now) locals.old want.now)) }
+    ensures failures { OnOk result (first.new.error ≡ first_failure first.old.error (spec.assign_found place (target_part target.now)
+        (map further_part more.now) (part value.now) (setting_of around.now) locals.old want.now).faults) }
+    ensures locals { OnOk result (locals.new ≡ locals.old) }
+{
+    match target {
+        LExp::ToCall(name, args) => match more {
+            [] => {
+                let back = std::slice::from_ref(value);
+                call_named(
+                    alloc,
+                    name,
+                    args.as_slice(),
+                    back,
+                    around,
+                    locals,
+                    want,
+                    first,
+                )
+            }
+            _ => assign_to(
+                alloc, place, target, more, value, around, locals, want, first,
+            ),
+        },
+        _ => assign_to(
+            alloc, place, target, more, value, around, locals, want, first,
+        ),
+    }
+}
+
+/// `a = b = e`, of which a isn't the only target where it is a call.
+#[cycle(elaborate)]
+#[tactic(auto, using(shape_rules::proofs::Firsts::first_failure_append), unfolding(shape_forms::specs::Over::over_found))]
+fn assign_to(
+    alloc: Global,
+    place: Place,
+    target: &LExp,
+    more: &[Further],
+    value: &Exp,
+    around: &Around<'_>,
+    locals: &mut Locals,
+    want: &Shape,
+    first: &mut First,
+) -> Result<Made, AllocError>
+    ensures made { IfOk result (λ made. made ≡ made_of (spec.assign_to place ((target_part target.now).aim (setting_of around.now) locals.old)
+        (map further_part more.now) (part value.now) (setting_of around.now) locals.old want.now)) }
+    ensures failures { OnOk result (first.new.error ≡ first_failure first.old.error
+        (spec.assign_to place ((target_part target.now).aim (setting_of around.now) locals.old)
+        (map further_part more.now) (part value.now) (setting_of around.now) locals.old want.now).faults) }
+    ensures locals { OnOk result (locals.new ≡ locals.old) }
+{
+    let mut targets = Items::new(alloc);
+    let mut parts = Items::new(alloc);
+    let wanted = push_target(
+        alloc,
+        target,
+        around,
+        locals,
+        &mut targets,
+        &mut parts,
+        first,
+    )?;
+    push_right(
+        alloc,
+        more,
+        value,
+        around,
+        locals,
+        wanted,
+        &mut targets,
+        &mut parts,
+        first,
+    )?;
+    settle_over(
+        alloc,
+        place,
+        want,
+        Shape::Unit,
+        Kind::Assign(targets),
+        parts,
+        first,
+    )
+}
+
+/// What stands on the right of a target to which this shape is assigned: further targets, and the value behind them.
+#[cycle(elaborate)]
+#[tactic(auto, using(shape_rules::proofs::Firsts::first_failure_append))]
+fn push_right(
+    alloc: Global,
+    more: &[Further],
+    value: &Exp,
+    around: &Around<'_>,
+    locals: &mut Locals,
+    mut wanted: Shape,
+    targets: &mut Items<Target>,
+    parts: &mut Items<Core>,
+    first: &mut First,
+) -> Result<(), AllocError>
+    ensures targets { OnOk result (targets.new ≡ targets.old
+        ++ (spec.righted (map further_part more.now) (part value.now) (setting_of around.now) locals.old wanted).targets) }
+    ensures parts { OnOk result (parts.new ≡ parts.old
+        ++ (spec.righted (map further_part more.now) (part value.now) (setting_of around.now) locals.old wanted).parts) }
+    ensures failures { OnOk result (first.new.error ≡ first_failure first.old.error
+        (spec.righted (map further_part more.now) (part value.now) (setting_of around.now) locals.old wanted).faults) }
+    ensures locals { OnOk result (locals.new ≡ locals.old) }
+{
+    for further in more {
+        wanted = push_further(
+            alloc, further, around, locals, &wanted, targets, parts, first,
+        )?;
+    }
+    push_part(alloc, value, around, locals, &wanted, parts, first)?;
+    Ok(())
+}
+
+/// A further target of a chain, where another shape than `()` may be wanted of its assignment. Gives the shape of what is assigned.
+#[cycle(elaborate)]
+#[tactic(auto, using(shape_rules::proofs::Firsts::first_failure_append))]
+fn push_further(
+    alloc: Global,
+    further: &Further,
+    around: &Around<'_>,
+    locals: &mut Locals,
+    want: &Shape,
+    targets: &mut Items<Target>,
+    parts: &mut Items<Core>,
+    first: &mut First,
+) -> Result<Shape, AllocError>
+    ensures shape { IfOk result (λ shape. shape ≡ ((further_part further.now).to.aim (setting_of around.now) locals.old).shape) }
+    ensures targets { OnOk result (targets.new
+        ≡ targets.old ++ ((further_part further.now).to.aim (setting_of around.now) locals.old).target ∷ []) }
+    ensures parts { OnOk result (parts.new ≡ parts.old ++ ((further_part further.now).to.aim (setting_of around.now) locals.old).parts) }
+    ensures failures { OnOk result (first.new.error ≡ first_failure first.old.error
+        (spec.inner_faults (further_part further.now).place want.now
+        ++ ((further_part further.now).to.aim (setting_of around.now) locals.old).faults)) }
+    ensures locals { OnOk result (locals.new ≡ locals.old) }
+{
+    note_inner(alloc, further.place, want, first)?;
+    push_target(
+        alloc,
+        further.to.get(),
+        around,
+        locals,
+        targets,
+        parts,
+        first,
+    )
+}
+
+/// A target, which goes behind others, as its arguments and indexes do. Gives the shape of what is assigned.
+#[cycle(elaborate)]
+#[tactic(auto, using(shape_rules::proofs::Firsts::first_failure_append))]
+fn push_target(
+    alloc: Global,
+    target: &LExp,
+    around: &Around<'_>,
+    locals: &mut Locals,
+    targets: &mut Items<Target>,
+    parts: &mut Items<Core>,
+    first: &mut First,
+) -> Result<Shape, AllocError>
+    ensures shape { IfOk result (λ shape. shape ≡ ((target_part target.now).aim (setting_of around.now) locals.old).shape) }
+    ensures targets { OnOk result (targets.new ≡ targets.old ++ ((target_part target.now).aim (setting_of around.now) locals.old).target ∷ []) }
+    ensures parts { OnOk result (parts.new ≡ parts.old ++ ((target_part target.now).aim (setting_of around.now) locals.old).parts) }
+    ensures failures { OnOk result (first.new.error ≡ first_failure first.old.error
+        ((target_part target.now).aim (setting_of around.now) locals.old).faults) }
+    ensures locals { OnOk result (locals.new ≡ locals.old) }
+{
+    let aim = aim(alloc, target, around, locals, first)?;
+    aim.into_shape(targets, parts)
+}
+
+/// A target.
+#[cycle(elaborate)]
+#[tactic(auto, using(crate::proofs::AimedWalks::name_faults, shape_rules::proofs::Firsts::first_failure_append))]
+fn aim(
+    alloc: Global,
+    target: &LExp,
+    around: &Around<'_>,
+    locals: &mut Locals,
+    first: &mut First,
+) -> Result<Aim, AllocError>
+    ensures aim { IfOk result (λ aim. aim ≡ aim_of ((target_part target.now).aim (setting_of around.now) locals.old)) }
+    ensures failures { OnOk result (first.new.error ≡ first_failure first.old.error
+        ((target_part target.now).aim (setting_of around.now) locals.old).faults) }
+    ensures locals { OnOk result (locals.new ≡ locals.old) }
+{
+    match target {
+        LExp::ToName(name) => {
+            let text = name.text.as_str();
+            name_aimed(alloc, name, locals.find(text), around.value(text))
+        }
+        LExp::ToCall(name, args) => {
+            aim_call(alloc, name, args.as_slice(), around, locals, first)
+        }
+        LExp::ToTuple(place, targets) => {
+            aim_tuple(alloc, *place, targets.as_slice(), around, locals, first)
+        }
+        LExp::ToPart(place, base, suffixes) => {
+            let base = base.get();
+            aim_part(
+                alloc,
+                *place,
+                base,
+                suffixes.as_slice(),
+                around,
+                locals,
+                first,
+            )
+        }
+    }
+}
+
+/// `(a, b)`.
+#[cycle(elaborate)]
+#[tactic(auto, using(shape_rules::proofs::Firsts::first_failure_append))]
+fn aim_tuple(
+    alloc: Global,
+    place: Place,
+    targets: &[LExp],
+    around: &Around<'_>,
+    locals: &mut Locals,
+    first: &mut First,
+) -> Result<Aim, AllocError>
+    ensures aim { IfOk result (λ aim. aim
+        ≡ aim_of (target.tuple_aimed place (target.each_aimed (map target_part targets.now) (setting_of around.now) locals.old))) }
+    ensures failures { OnOk result (first.new.error ≡ first_failure first.old.error
+        (target.each_aimed (map target_part targets.now) (setting_of around.now) locals.old).faults) }
+    ensures locals { OnOk result (locals.new ≡ locals.old) }
+{
+    let mut shapes = Items::new(alloc);
+    let mut inside = Items::new(alloc);
+    let mut parts = Items::new(alloc);
+    for target in targets {
+        let shape = push_target(
+            alloc,
+            target,
+            around,
+            locals,
+            &mut inside,
+            &mut parts,
+            first,
+        )?;
+        shapes.push(shape)?;
+    }
+    Ok(tuple_aimed(place, shapes, inside, parts))
+}
+
+/// `f(a)`.
+#[cycle(elaborate)]
+#[tactic(auto, using(crate::proofs::AimedWalks::looked_aim, crate::proofs::AimedWalks::looked_faults, shape_rules::proofs::Firsts::first_failure_append))]
+fn aim_call(
+    alloc: Global,
+    name: &Name,
+    args: &[Exp],
+    around: &Around<'_>,
+    locals: &mut Locals,
+    first: &mut First,
+) -> Result<Aim, AllocError>
+    ensures aim { IfOk result (λ aim. aim ≡ aim_of (target.call_aim name.now (map part args.now) (setting_of around.now) locals.old)) }
+    ensures failures { OnOk result (first.new.error ≡ first_failure first.old.error
+        (target.call_aim name.now (map part args.now) (setting_of around.now) locals.old).faults) }
+    ensures locals { OnOk result (locals.new ≡ locals.old) }
+{
+    let meant = around.value(name.text.as_str());
+    let callees = callees_of(alloc, around.types, meant)?;
+    match one_of(meant, callees.as_slice()) {
+        Some(callee) => aim_one(alloc, name, callee, args, around, locals, first),
+        None => {
+            let begun = Walk::new(alloc, Plan::Each(Items::new(alloc)));
+            let walk = push_all(alloc, args, around, locals, begun, first)?;
+            aim_member(alloc, name, callees.as_slice(), walk, first)
+        }
+    }
+}
+
+/// `f(a)` of one callee, which is called with one argument more.
+#[cycle(elaborate)]
+#[tactic(auto, using(crate::proofs::AimedWalks::counted_is, crate::proofs::AimedWalks::miscounted_is, shape_rules::proofs::Firsts::first_failure_append), unfolding(shape_walks::specs::Heads::head_walk))]
+fn aim_one(
+    alloc: Global,
+    name: &Name,
+    callee: &Candidate,
+    args: &[Exp],
+    around: &Around<'_>,
+    locals: &mut Locals,
+    first: &mut First,
+) -> Result<Aim, AllocError>
+    ensures aim { IfOk result (λ aim. aim
+        ≡ aim_of (target.callee_counted name.now callee.now (map part args.now) (setting_of around.now) locals.old)) }
+    ensures failures { OnOk result (first.new.error ≡ first_failure first.old.error
+        (target.callee_counted name.now callee.now (map part args.now) (setting_of around.now) locals.old).faults) }
+    ensures locals { OnOk result (locals.new ≡ locals.old) }
+{
+    let wanted = callee.params.len();
+    let found = args.len() + 1;
+    if wanted != found {
+        let place = name.place;
+        first.note(ShapeError::Arity {
+            place,
+            wanted,
+            found,
+        });
+        return Ok(aimed_nowhere(alloc, place));
+    }
+    let begun = Head::One(name.place, callee).begin(alloc, wanted, &Shape::Never)?;
+    let walk = push_all(alloc, args, around, locals, begun, first)?;
+    aim_callee(alloc, name, callee, args.len(), walk)
+}
+
+/// `a.f[i]`.
+#[cycle(elaborate)]
+#[tactic(auto, using(shape_rules::proofs::Firsts::first_failure_append))]
+fn aim_part(
+    alloc: Global,
+    first_place: Place,
+    base: &LExp,
+    suffixes: &[Suffix],
+    around: &Around<'_>,
+    locals: &mut Locals,
+    first: &mut First,
+) -> Result<Aim, AllocError>
+    ensures aim { IfOk result (λ aim. aim ≡ aim_of (part_aimed_at first_place (target_part base.now) (map suffix_part suffixes.now)
+        (setting_of around.now) locals.old)) }
+    ensures failures { OnOk result (first.new.error ≡ first_failure first.old.error (part_aimed_at first_place (target_part base.now)
+        (map suffix_part suffixes.now) (setting_of around.now) locals.old).faults) }
+    ensures locals { OnOk result (locals.new ≡ locals.old) }
+{
+    let mut inside = Items::new(alloc);
+    let mut parts = Items::new(alloc);
+    let read = push_base(alloc, base, around, locals, &mut inside, &mut parts, first)?;
+    let mut ways = Items::new(alloc);
+    let base_place = target_place_of(base);
+    let shape = walked(
+        alloc,
+        suffixes,
+        first_place,
+        base_place,
+        read,
+        around,
+        locals,
+        &mut ways,
+        &mut parts,
+        first,
+    )?;
+    Ok(Aim {
+        shape,
+        target: Target {
+            place: last_place(first_place, suffixes),
+            number: 0,
+            kind: TargetKind::Part(ways),
+            parts: inside,
+        },
+        parts,
+    })
+}
+
+/// The base of a part, as `push_target`, but for the shape, which is that of what is read. Notes a call that can't be read.
+#[cycle(elaborate)]
+#[tactic(auto, using(crate::proofs::AimedWalks::count_parts, shape_rules::proofs::Firsts::first_failure_append))]
+fn push_base(
+    alloc: Global,
+    base: &LExp,
+    around: &Around<'_>,
+    locals: &mut Locals,
+    targets: &mut Items<Target>,
+    parts: &mut Items<Core>,
+    first: &mut First,
+) -> Result<Shape, AllocError>
+    ensures shape { IfOk result (λ shape. shape ≡ (read_of (target_part base.now) (setting_of around.now) locals.old).shape) }
+    ensures targets { OnOk result (targets.new ≡ targets.old ++ (read_of (target_part base.now) (setting_of around.now) locals.old).target ∷ []) }
+    ensures parts { OnOk result (parts.new ≡ parts.old ++ (read_of (target_part base.now) (setting_of around.now) locals.old).parts) }
+    ensures failures { OnOk result (first.new.error ≡ first_failure first.old.error
+        (read_of (target_part base.now) (setting_of around.now) locals.old).faults) }
+    ensures locals { OnOk result (locals.new ≡ locals.old) }
+{
+    let shape = push_target(alloc, base, around, locals, targets, parts, first)?;
+    match base {
+        LExp::ToCall(name, args) => {
+            read_again(alloc, name, args.as_slice(), around, locals, first)
+        }
+        _ => Ok(shape),
+    }
+}
+
+/// The shape of what f(a) gives where it is read, by its arguments with nothing wanted, the failures of which are not noted again.
+#[cycle(elaborate)]
+#[tactic(auto, using(crate::proofs::AimedWalks::args_shapes, shape_rules::proofs::Firsts::first_failure_append))]
+fn read_again(
+    alloc: Global,
+    name: &Name,
+    args: &[Exp],
+    around: &Around<'_>,
+    locals: &mut Locals,
+    first: &mut First,
+) -> Result<Shape, AllocError>
+    ensures shape { IfOk result (λ shape. shape ≡ target.read_shape (chosen
+        (target.callees_of (setting_of around.now).types ((setting_of around.now).value name.now.text))
+        (args_found (elaborates args.now) (setting_of around.now) locals.old).shapes)) }
+    ensures failures { OnOk result (first.new.error ≡ first_failure first.old.error (target.unread name.now (length args.now)
+        (target.one_of ((setting_of around.now).value name.now.text)
+        (target.callees_of (setting_of around.now).types ((setting_of around.now).value name.now.text)))
+        (chosen (target.callees_of (setting_of around.now).types ((setting_of around.now).value name.now.text))
+        (args_found (elaborates args.now) (setting_of around.now) locals.old).shapes))) }
+    ensures locals { OnOk result (locals.new ≡ locals.old) }
+{
+    let meant = around.value(name.text.as_str());
+    let callees = callees_of(alloc, around.types, meant)?;
+    let begun = Walk::new(alloc, Plan::Each(Items::new(alloc)));
+    let mut apart = First::none();
+    let walk = push_all(alloc, args, around, locals, begun, &mut apart)?;
+    let one = one_of(meant, callees.as_slice());
+    let shapes = walk.shapes.as_slice();
+    read_call(
+        alloc,
+        name,
+        args.len(),
+        callees.as_slice(),
+        one,
+        shapes,
+        first,
+    )
+}
