@@ -1,4 +1,4 @@
-use crate::tables_rows;
+use crate::{members_rows, patterns_rows, shapes_rows, tables_rows};
 use sail_outside::{MemShelf, MemSink};
 use sail_top::run_words;
 use std::alloc::{AllocError, Global};
@@ -356,7 +356,7 @@ const ROWS: &[(&str, &str, &str, &str)] = &[
         "run --elf Q M",
         COUNTER,
         "{ PC = PC + 0x01; true; }",
-        "1 M05 1:1:1\n",
+        "1 M14 1:5:19 wanted bool found unit\n",
     ),
     (
         "run --elf Q M",
@@ -485,6 +485,118 @@ fn names_in_use_are_answered(rt: HostRuntime) -> Result<(), Fail> {
 #[test]
 fn parts_and_entry_points_are_answered(rt: HostRuntime) -> Result<(), Fail> {
     let rows = tables_rows::TEXTS;
+    let right = answered(rt.alloc(), rows)?;
+    assert!(rt; right == rows.len(), "row {right}");
+    Ok(())
+}
+
+#[test]
+fn wanted_shapes_are_answered(rt: HostRuntime) -> Result<(), Fail> {
+    let rows = shapes_rows::WANTED;
+    let right = answered(rt.alloc(), rows)?;
+    assert!(rt; right == rows.len(), "row {right}");
+    Ok(())
+}
+
+#[test]
+fn wanted_shapes_of_parts_are_answered(rt: HostRuntime) -> Result<(), Fail> {
+    let rows = shapes_rows::WANTED_OF_PARTS;
+    let right = answered(rt.alloc(), rows)?;
+    assert!(rt; right == rows.len(), "row {right}");
+    Ok(())
+}
+
+#[test]
+fn branches_and_holes_are_answered(rt: HostRuntime) -> Result<(), Fail> {
+    let rows = shapes_rows::BRANCHES;
+    let right = answered(rt.alloc(), rows)?;
+    assert!(rt; right == rows.len(), "row {right}");
+    Ok(())
+}
+
+#[test]
+fn calls_are_answered(rt: HostRuntime) -> Result<(), Fail> {
+    let rows = shapes_rows::CALLS;
+    let right = answered(rt.alloc(), rows)?;
+    assert!(rt; right == rows.len(), "row {right}");
+    Ok(())
+}
+
+#[test]
+fn clauses_are_answered(rt: HostRuntime) -> Result<(), Fail> {
+    let rows = shapes_rows::CLAUSES;
+    let right = answered(rt.alloc(), rows)?;
+    assert!(rt; right == rows.len(), "row {right}");
+    Ok(())
+}
+
+#[test]
+fn overloads_are_answered(rt: HostRuntime) -> Result<(), Fail> {
+    let rows = members_rows::OVERLOADS;
+    let right = answered(rt.alloc(), rows)?;
+    assert!(rt; right == rows.len(), "row {right}");
+    Ok(())
+}
+
+#[test]
+fn operators_are_answered(rt: HostRuntime) -> Result<(), Fail> {
+    let rows = members_rows::OPERATORS;
+    let right = answered(rt.alloc(), rows)?;
+    assert!(rt; right == rows.len(), "row {right}");
+    Ok(())
+}
+
+#[test]
+fn members_of_operators_are_answered(rt: HostRuntime) -> Result<(), Fail> {
+    let rows = members_rows::MEMBERS;
+    let right = answered(rt.alloc(), rows)?;
+    assert!(rt; right == rows.len(), "row {right}");
+    Ok(())
+}
+
+#[test]
+fn parts_of_values_are_answered(rt: HostRuntime) -> Result<(), Fail> {
+    let rows = members_rows::PARTS;
+    let right = answered(rt.alloc(), rows)?;
+    assert!(rt; right == rows.len(), "row {right}");
+    Ok(())
+}
+
+#[test]
+fn structs_and_printed_shapes_are_answered(rt: HostRuntime) -> Result<(), Fail> {
+    let rows = members_rows::STRUCTS;
+    let right = answered(rt.alloc(), rows)?;
+    assert!(rt; right == rows.len(), "row {right}");
+    Ok(())
+}
+
+#[test]
+fn patterns_are_answered(rt: HostRuntime) -> Result<(), Fail> {
+    let rows = patterns_rows::PATTERNS;
+    let right = answered(rt.alloc(), rows)?;
+    assert!(rt; right == rows.len(), "row {right}");
+    Ok(())
+}
+
+#[test]
+fn widths_in_patterns_are_answered(rt: HostRuntime) -> Result<(), Fail> {
+    let rows = patterns_rows::WIDTHS;
+    let right = answered(rt.alloc(), rows)?;
+    assert!(rt; right == rows.len(), "row {right}");
+    Ok(())
+}
+
+#[test]
+fn mappings_are_answered(rt: HostRuntime) -> Result<(), Fail> {
+    let rows = patterns_rows::MAPPINGS;
+    let right = answered(rt.alloc(), rows)?;
+    assert!(rt; right == rows.len(), "row {right}");
+    Ok(())
+}
+
+#[test]
+fn variables_and_registers_are_answered(rt: HostRuntime) -> Result<(), Fail> {
+    let rows = patterns_rows::VARIABLES;
     let right = answered(rt.alloc(), rows)?;
     assert!(rt; right == rows.len(), "row {right}");
     Ok(())

@@ -4,6 +4,12 @@
 #[cfg(test)]
 mod answers;
 #[cfg(test)]
+mod members_rows;
+#[cfg(test)]
+mod patterns_rows;
+#[cfg(test)]
+mod shapes_rows;
+#[cfg(test)]
 mod tables_rows;
 #[cfg(test)]
 mod tests;

@@ -207,10 +207,10 @@ pub const BODIES: &[(&str, &str, &str)] = &[
     ),
     (
         concat!(
-            "val f : bool -> bool\n",
+            "val f : bits(1) -> bool\n",
             "function f(x) = match x { m(y) => y }\n",
             "termination_measure f(x) = 1\n",
-            "mapping m : bool <-> bool = { x if f(x) <-> x }\n"
+            "mapping m : bits(1) <-> bool = { 0b0 if f(0b1) <-> true }\n"
         ),
         "true",
         "1 M05 1:1:1\n",

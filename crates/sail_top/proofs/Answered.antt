@@ -13,12 +13,14 @@ use Rattle.scattered.specs.Gathered.{gathered}
 use Rattle.scattered.specs.Refused.{refusal as why_ungathered}
 use Rattle.sail_kinds.specs.declared.error.TableError.{TableError}
 use Rattle.sail_tables.specs.Refused.{IsFirstFailure, IsAccepted}
+use Rattle.shape_rules.specs.declared.error.ShapeError.{ShapeError}
 use Rattle.scattered.specs.declared.error.ScatterError.{ScatterError}
 use Rattle.model_tokens.specs.Files.{AreLexed}
 use Rattle.model_tokens.proofs.OneAnswer.{answered}
 use Rattle.sail_top.proofs.TableLemmas.{failure_of, has_failure}
-use Rattle.sail_top.specs.Models.{AreModel, joined, end_of_all, unlexed, unparsed, ungathered, untabled, not_run}
+use Rattle.sail_top.specs.Models.{AreModel, joined, end_of_all, unlexed, unparsed, ungathered, untabled, unshaped, not_run}
 use Rattle.sail_top.specs.Refusals.{token_refusal, parse_refusal, gather_refusal, table_refusal, outside}
+use Rattle.sail_top.specs.Shaped.{why_unshaped, shape_refusal_in}
 use Rattle.sail_top.specs.laws.OneAnswer.{AreDecided}
 use Rattle.sail_top.specs.Answer.{Judges, AnswersFiles, AnswersEnd, AnswersLine, IsAnswer}
 use Rattle.sail_top.specs.Answer.{answer_for, model_refused, usage, no_file, too_long}
@@ -29,10 +31,11 @@ use Rattle.sail_top.specs.declared.status.Answer.{Answer}
 module _ (decided : AreDecided) where
   run_judged : (command : Run) (texts : List (List ℕ)) (file : List ℕ) (tokens : List (List Token)) (definitions : List Def) (found : Option Model)
       → AreLexed 1 0 texts tokens → IsModel (joined texts tokens) definitions → why_ungathered definitions ≡ None
-      → IsAccepted (gathered definitions) (end_of_all texts) → model_of (gathered definitions) ≡ found → (a : Answer) × Judges command texts file a
-  run_judged command texts file tokens definitions None lexed parsed none tabled is =
-      (model_refused outside, inl (outside, not_run tokens definitions lexed parsed none tabled is, refl))
-  run_judged command texts file tokens definitions (Some model) lexed parsed none tabled is =
+      → IsAccepted (gathered definitions) (end_of_all texts) → why_unshaped (gathered definitions) ≡ None
+      → model_of (gathered definitions) ≡ found → (a : Answer) × Judges command texts file a
+  run_judged command texts file tokens definitions None lexed parsed none tabled shaped is =
+      (model_refused outside, inl (outside, not_run tokens definitions lexed parsed none tabled shaped is, refl))
+  run_judged command texts file tokens definitions (Some model) lexed parsed none tabled shaped is =
       let are : AreModel texts model = record {
         tokens = tokens;
         lexed = lexed;
@@ -40,9 +43,19 @@ module _ (decided : AreDecided) where
         parsed = parsed;
         gathers = none;
         tables = tabled;
+        shapes = shaped;
         runs = is;
       } in
       (answer_for command model file, inr (model, are, refl))
+
+  shape_judged : (command : Run) (texts : List (List ℕ)) (file : List ℕ) (tokens : List (List Token)) (definitions : List Def)
+      (why : Option ShapeError) → AreLexed 1 0 texts tokens → IsModel (joined texts tokens) definitions → why_ungathered definitions ≡ None
+      → IsAccepted (gathered definitions) (end_of_all texts) → why_unshaped (gathered definitions) ≡ why → (a : Answer) × Judges command texts file a
+  shape_judged command texts file tokens definitions (Some e) lexed parsed none tabled is =
+      let r = shape_refusal_in (gathered definitions) e in
+      (model_refused r, inl (r, unshaped tokens definitions e lexed parsed none tabled is, refl))
+  shape_judged command texts file tokens definitions None lexed parsed none tabled is =
+      run_judged command texts file tokens definitions (model_of (gathered definitions)) lexed parsed none tabled is refl
 
   table_judged : (command : Run) (texts : List (List ℕ)) (file : List ℕ) (tokens : List (List Token)) (definitions : List Def)
       (failure : Option TableError) → AreLexed 1 0 texts tokens → IsModel (joined texts tokens) definitions → why_ungathered definitions ≡ None
@@ -50,7 +63,7 @@ module _ (decided : AreDecided) where
   table_judged command texts file tokens definitions (Some e) lexed parsed none first =
       (model_refused (table_refusal e), inl (table_refusal e, untabled tokens definitions e lexed parsed none first, refl))
   table_judged command texts file tokens definitions None lexed parsed none first =
-      run_judged command texts file tokens definitions (model_of (gathered definitions)) lexed parsed none first refl
+      shape_judged command texts file tokens definitions (why_unshaped (gathered definitions)) lexed parsed none first refl
 
   gather_judged : (command : Run) (texts : List (List ℕ)) (file : List ℕ) (tokens : List (List Token)) (definitions : List Def)
       (why : Option ScatterError) → AreLexed 1 0 texts tokens → IsModel (joined texts tokens) definitions → why_ungathered definitions ≡ why

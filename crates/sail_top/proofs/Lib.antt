@@ -10,3 +10,4 @@ pub mod ReadingLemmas
 pub mod RunLemmas
 pub mod ShortLemmas
 pub mod TableLemmas
+pub mod VariableLemmas

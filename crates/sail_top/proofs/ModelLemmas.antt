@@ -1,4 +1,4 @@
--- What lexing, parsing, gathering, the tables and the conditions on what runs say of texts.
+-- What lexing, parsing, gathering, the tables, the shapes and the conditions on what runs say of texts.
 use Rattle.std.proofs.Common.{◌≡◌, ℕ, ◌+◌, ◌≤◌, List, [], ◌∷◌, ◌++◌, length, map, sym, ap, ◌∙◌, subst, arith}
 use Rattle.std.specs.Prelude.{Option, Some, None, Result, Ok, Err, IfOk, IfErr}
 use Rattle.std.specs.List.{All}
@@ -31,11 +31,17 @@ use Rattle.model_tokens.specs.Files.{AreLexed, AreRefused, IsRefusal as IsRefusa
 use Rattle.model_tokens.specs.Parts.{tokens_of, IsOf, AreOf}
 use Rattle.model_tokens.proofs.OneAnswer.{one_lexing, one_refused as one_unlexed, never_both}
 use Rattle.sail_tables.specs.Refused.{IsFirstFailure, IsAccepted, IsRefusal as IsRefusalOfTables}
-use Rattle.sail_top.specs.Models.{joined, last_end, end_of_all, AreModel, IsRefusal, unlexed, unparsed, ungathered, untabled, not_run}
+use Rattle.shape_rules.specs.declared.error.ShapeError.{ShapeError}
+use Rattle.shape_rules.specs.declared.error.ShapeError.TheVariants as shape
+use Rattle.shapes.specs.Tabled.{IsRefused as IsRefusalOfShapes}
+use Rattle.sail_top.specs.Models.{joined, last_end, end_of_all, AreModel, IsRefusal, unlexed, unparsed, ungathered, untabled, unshaped, not_run}
 use Rattle.sail_top.specs.Refusals.{token_refusal, parse_refusal, gather_refusal, table_refusal, outside}
-use Rattle.sail_top.specs.parts.Told.{IsOfText, IsOfTokens, IsOfDefinitions, IsOfTables, Tells, RunsAs, GathersAs, TabledAs}
-use Rattle.sail_top.specs.parts.Told.{WholeRefused, whole_untabled, whole_not_run, DefinitionsRefused, definitions_ungathered, definitions_gathered}
-use Rattle.sail_top.specs.parts.Told.{TokensRefused, tokens_unparsed, tokens_parsed, TellsOfTokens, TellsOfDefinitions, TellsOfWhole, TellsNotRun}
+use Rattle.sail_top.specs.Shaped.{why_unshaped, shape_refusal_in}
+use Rattle.sail_top.specs.parts.Told.{IsOfText, IsOfTokens, IsOfDefinitions, IsOfTables, IsOfShapes, Tells, RunsAs, GathersAs, TabledAs, ShapedAs}
+use Rattle.sail_top.specs.parts.Told.{TabledRefused, tabled_unshaped, tabled_not_run, WholeRefused, whole_untabled, whole_tabled}
+use Rattle.sail_top.specs.parts.Told.{DefinitionsRefused, definitions_ungathered, definitions_gathered}
+use Rattle.sail_top.specs.parts.Told.{TokensRefused, tokens_unparsed, tokens_parsed, TellsOfTokens, TellsOfDefinitions, TellsOfWhole, TellsOfTabled}
+use Rattle.sail_top.specs.parts.Told.{TellsNotRun}
 use Rattle.sail_top.specs.declared.models.ModelError.{ModelError}
 use Rattle.sail_top.specs.declared.models.ModelError.TheVariants as model
 use Rattle.sail_top.proofs.OneRefusal.{one_refused}
@@ -93,6 +99,19 @@ pub untabled_is : (whole : List Def) (end : Place) (e : TableError) (refusal : R
 untabled_is whole end e refusal is told same =
     subst (WholeRefused whole end) (sym same) (whole_untabled e (refused_tables whole end e is told))
 
+refused_shapes : (text : List Def) (e : ShapeError) → IsRefusalOfShapes text e → IsOfShapes e → why_unshaped text ≡ Some e
+refused_shapes text (shape.Overlap place first second) is told = is
+refused_shapes text (shape.IllShaped place found) is told = is
+refused_shapes text (shape.Arity place wanted found) is told = is
+refused_shapes text (shape.NoMember place name) is told = is
+refused_shapes text (shape.NoNumber place name) is told = is
+refused_shapes text (shape.WidthUnknown place) is told = is
+refused_shapes text shape.OutOfMemory is told = absurd told
+
+pub unshaped_is : (text : List Def) (e : ShapeError) (refusal : Refusal)
+    → IsRefusalOfShapes text e → IsOfShapes e → refusal ≡ shape_refusal_in text e → TabledRefused text refusal
+unshaped_is text e refusal is told same = subst (TabledRefused text) (sym same) (tabled_unshaped e (refused_shapes text e is told))
+
 -- ---- the tokens of files
 
 in_order : (from to : ℕ) (tokens : List Token) → AreInOrder from to tokens → from ≤ to
@@ -149,14 +168,23 @@ module _ (texts : List (List ℕ)) (found files : List Tokens) (same : files ≡
     parsed = subst (λ x. IsModel x is.0) signs is.1;
     gathers = is.2.0;
     tables = subst (λ p. IsAccepted (gathered is.0) p) end is.2.1.0;
-    runs = is.2.1.1;
+    shapes = is.2.1.1.0;
+    runs = is.2.1.1.1;
   }
   texts_model (Err e) is = is
+
+  refusal_of_tabled : (definitions : List Def) (refusal : Refusal) → IsModel (joined texts (map tokens_of found)) definitions
+      → why_ungathered definitions ≡ None → IsAccepted (gathered definitions) (end_of_all texts)
+      → TabledRefused (gathered definitions) refusal → IsRefusal texts refusal
+  refusal_of_tabled definitions refusal h none tabled (tabled_unshaped e why) =
+      unshaped (map tokens_of found) definitions e lexed h none tabled why
+  refusal_of_tabled definitions refusal h none tabled (tabled_not_run shaped never) =
+      not_run (map tokens_of found) definitions lexed h none tabled shaped never
 
   refusal_of_whole : {refusal : Refusal} (definitions : List Def) → IsModel (joined texts (map tokens_of found)) definitions
       → why_ungathered definitions ≡ None → WholeRefused (gathered definitions) (end_of_all texts) refusal → IsRefusal texts refusal
   refusal_of_whole definitions h none (whole_untabled e first) = untabled (map tokens_of found) definitions e lexed h none first
-  refusal_of_whole definitions h none (whole_not_run tabled never) = not_run (map tokens_of found) definitions lexed h none tabled never
+  refusal_of_whole {refusal} definitions h none (whole_tabled tabled is) = refusal_of_tabled definitions refusal h none tabled is
 
   refusal_of_definitions : {refusal : Refusal} (definitions : List Def) → IsModel (joined texts (map tokens_of found)) definitions
       → DefinitionsRefused definitions (end_of_all texts) refusal → IsRefusal texts refusal
@@ -200,17 +228,30 @@ module _ (definitions whole read : List Def) (same : read ≡ whole) (none : why
   gathered_refused (Err (model.Refused refusal)) is = definitions_gathered none (subst (λ w. WholeRefused w end refusal) (same ∙ are) is)
   gathered_refused (Err model.OutOfMemory) is = tt
 
--- ---- from what runs to gathered definitions that have tables
+-- ---- from definitions that have tables to gathered ones
 
 module _ (whole : List Def) (end : Place) (tabled : IsAccepted whole end) where
-  pub tabled_model : (r : Result Model ModelError) → IfOk r (λ m. model_of whole ≡ Some m) → IfOk r (TabledAs whole end)
+  pub tabled_model : (r : Result Model ModelError) → IfOk r (ShapedAs whole) → IfOk r (TabledAs whole end)
   tabled_model (Ok m) is = (tabled, is)
   tabled_model (Err e) is = is
 
-  pub tabled_refused : (r : Result Model ModelError) → IfErr r (TellsNotRun whole) → IfErr r (TellsOfWhole whole end)
+  pub tabled_refused : (r : Result Model ModelError) → IfErr r (TellsOfTabled whole) → IfErr r (TellsOfWhole whole end)
   tabled_refused (Ok m) is = is
-  tabled_refused (Err (model.Refused refusal)) is = subst (WholeRefused whole end) (sym is.1) (whole_not_run tabled is.0)
+  tabled_refused (Err (model.Refused refusal)) is = whole_tabled tabled is
   tabled_refused (Err model.OutOfMemory) is = tt
+
+-- ---- from what runs to definitions that have shapes
+
+module _ (text read : List Def) (same : read ≡ text) (shaped : why_unshaped text ≡ None) where
+  pub shaped_model : (r : Result Model ModelError) → IfOk r (λ m. model_of read ≡ Some m) → IfOk r (ShapedAs text)
+  shaped_model (Ok m) is = (shaped, subst (λ t. model_of t ≡ Some m) same is)
+  shaped_model (Err e) is = is
+
+  pub shaped_refused : (r : Result Model ModelError) → IfErr r (TellsNotRun read) → IfErr r (TellsOfTabled text)
+  shaped_refused (Ok m) is = is
+  shaped_refused (Err (model.Refused refusal)) is =
+      subst (TabledRefused text) (sym is.1) (tabled_not_run shaped (subst (λ t. model_of t ≡ None) same is.0))
+  shaped_refused (Err model.OutOfMemory) is = tt
 
 -- ---- the phases behind the grammar, as one function
 
@@ -218,18 +259,26 @@ abbrev run_refusal : Option Model → Option Refusal
 run_refusal (Some m) = None
 run_refusal None = Some outside
 
-abbrev whole_refusal : Option TableError → Option Model → Option Refusal
-whole_refusal (Some e) m = Some (table_refusal e)
-whole_refusal None m = run_refusal m
+-- of this text
+abbrev tabled_refusal : List Def → Option ShapeError → Option Model → Option Refusal
+tabled_refusal text (Some e) m = Some (shape_refusal_in text e)
+tabled_refusal text None m = run_refusal m
+
+abbrev whole_refusal : Option TableError → Option Refusal → Option Refusal
+whole_refusal (Some e) next = Some (table_refusal e)
+whole_refusal None next = next
 
 abbrev refusal_unless : Option ScatterError → Option Refusal → Option Refusal
 refusal_unless (Some e) next = Some (gather_refusal e)
 refusal_unless None next = next
 
+abbrev text_refusal : List Def → Option Refusal
+text_refusal text = tabled_refusal text (why_unshaped text) (model_of text)
+
 -- how definitions that end here are refused by the first of these phases that refuses them
 abbrev definitions_refusal : Place → List Def → Option Refusal
 definitions_refusal end definitions =
-    refusal_unless (why_ungathered definitions) (whole_refusal (failure_of (gathered definitions) end) (model_of (gathered definitions)))
+    refusal_unless (why_ungathered definitions) (whole_refusal (failure_of (gathered definitions) end) (text_refusal (gathered definitions)))
 
 -- how texts are refused, with all these phases as one
 data Refused (texts : List (List ℕ)) : Refusal → Type 0 where
@@ -244,18 +293,23 @@ phase texts (unlexed e h) = by_tokens e h
 phase texts (unparsed tokens e lexed h) = by_grammar tokens e lexed h
 phase texts (ungathered tokens definitions e lexed parsed why) =
     by_definitions tokens definitions lexed parsed
-    (λ i. refusal_unless (why i) (whole_refusal (failure_of (gathered definitions) (end_of_all texts)) (model_of (gathered definitions))))
+    (λ i. refusal_unless (why i) (whole_refusal (failure_of (gathered definitions) (end_of_all texts)) (text_refusal (gathered definitions))))
 phase texts (untabled tokens definitions e lexed parsed none first) =
     let failure = failure_is (gathered definitions) (end_of_all texts) (Some e) first in
-    by_definitions tokens definitions lexed parsed (λ i. refusal_unless (none i) (whole_refusal (failure i) (model_of (gathered definitions))))
-phase texts (not_run tokens definitions lexed parsed none tabled never) =
+    by_definitions tokens definitions lexed parsed (λ i. refusal_unless (none i) (whole_refusal (failure i) (text_refusal (gathered definitions))))
+phase texts (unshaped tokens definitions e lexed parsed none tabled why) =
     let failure = failure_is (gathered definitions) (end_of_all texts) None tabled in
-    by_definitions tokens definitions lexed parsed (λ i. refusal_unless (none i) (whole_refusal (failure i) (never i)))
+    by_definitions tokens definitions lexed parsed
+    (λ i. refusal_unless (none i) (whole_refusal (failure i) (tabled_refusal (gathered definitions) (why i) (model_of (gathered definitions)))))
+phase texts (not_run tokens definitions lexed parsed none tabled shaped never) =
+    let failure = failure_is (gathered definitions) (end_of_all texts) None tabled in
+    by_definitions tokens definitions lexed parsed
+    (λ i. refusal_unless (none i) (whole_refusal (failure i) (tabled_refusal (gathered definitions) (shaped i) (never i))))
 
 runs_unrefused : (texts : List (List ℕ)) (m : Model) (p : AreModel texts m) → definitions_refusal (end_of_all texts) p.definitions ≡ None
 runs_unrefused texts m p =
     let failure = failure_is (gathered p.definitions) (end_of_all texts) None p.tables in
-    λ i. refusal_unless (p.gathers i) (whole_refusal (failure i) (p.runs i))
+    λ i. refusal_unless (p.gathers i) (whole_refusal (failure i) (tabled_refusal (gathered p.definitions) (p.shapes i) (p.runs i)))
 
 -- ---- texts are one model, or refused in one way
 

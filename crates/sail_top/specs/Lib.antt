@@ -7,6 +7,8 @@ pub mod Models
 pub mod Reading
 pub mod Refusals
 pub mod Run
+pub mod Shaped
+pub mod Variables
 -- what follows from it
 pub mod laws
 -- what the contracts of private functions say

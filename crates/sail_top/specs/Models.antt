@@ -19,7 +19,9 @@ use Rattle.scattered.specs.Refused.{refusal as why_ungathered}
 use Rattle.scattered.specs.declared.error.ScatterError.{ScatterError}
 use Rattle.model_tokens.specs.Files.{AreLexed, AreRefused}
 use Rattle.sail_tables.specs.Refused.{IsFirstFailure, IsAccepted}
+use Rattle.shape_rules.specs.declared.error.ShapeError.{ShapeError}
 use Rattle.sail_top.specs.Refusals.{token_refusal, parse_refusal, gather_refusal, table_refusal, outside}
+use Rattle.sail_top.specs.Shaped.{why_unshaped, shape_refusal_in}
 
 -- the tokens of texts, one text behind another, each with its spelling
 abbrev pub joined : List (List ℕ) → List (List Token) → List Sign
@@ -35,8 +37,8 @@ last_end place file (text ∷ texts) = last_end (end_of file text) (file + 1) te
 abbrev pub end_of_all : List (List ℕ) → Place
 end_of_all texts = last_end nowhere 1 texts
 
--- the texts have tokens, these are the definitions of a model, they can be gathered, gathered they have tables, and they are
--- this model, which runs today
+-- the texts have tokens, these are the definitions of a model, they can be gathered, gathered they have tables and shapes, and they
+-- are this model, which runs today
 pub record AreModel (texts : List (List ℕ)) (model : Model) : Type 0 where
   pub tokens : List (List Token)
   pub lexed : AreLexed 1 0 texts tokens
@@ -44,11 +46,12 @@ pub record AreModel (texts : List (List ℕ)) (model : Model) : Type 0 where
   pub parsed : IsModel (joined texts tokens) definitions
   pub gathers : why_ungathered definitions ≡ None
   pub tables : IsAccepted (gathered definitions) (end_of_all texts)
+  pub shapes : why_unshaped (gathered definitions) ≡ None
   pub runs : model_of (gathered definitions) ≡ Some model
 
 -- the texts are refused: a text has no tokens; or all have, and these are no model; or they are one, and its definitions
--- can't be gathered; or they can, and gathered they have no tables, for this first failure; or they have, and are no model
--- that runs today
+-- can't be gathered; or they can, and gathered they have no tables, for this first failure; or they have, and their shapes fail, and
+-- this is the first failure; or none does, and they are no model that runs today
 pub data IsRefusal (texts : List (List ℕ)) : Refusal → Type 0 where
   unlexed : (e : LexError) → AreRefused 1 0 texts e → IsRefusal texts (token_refusal e)
   unparsed : (tokens : List (List Token)) (e : ParseError) → AreLexed 1 0 texts tokens →
@@ -58,6 +61,11 @@ pub data IsRefusal (texts : List (List ℕ)) : Refusal → Type 0 where
   untabled : (tokens : List (List Token)) (definitions : List Def) (e : TableError) → AreLexed 1 0 texts tokens →
       IsModel (joined texts tokens) definitions → why_ungathered definitions ≡ None →
       IsFirstFailure (gathered definitions) (end_of_all texts) (Some e) → IsRefusal texts (table_refusal e)
+  unshaped : (tokens : List (List Token)) (definitions : List Def) (e : ShapeError) → AreLexed 1 0 texts tokens →
+      IsModel (joined texts tokens) definitions → why_ungathered definitions ≡ None →
+      IsAccepted (gathered definitions) (end_of_all texts) → why_unshaped (gathered definitions) ≡ Some e →
+      IsRefusal texts (shape_refusal_in (gathered definitions) e)
   not_run : (tokens : List (List Token)) (definitions : List Def) → AreLexed 1 0 texts tokens →
       IsModel (joined texts tokens) definitions → why_ungathered definitions ≡ None →
-      IsAccepted (gathered definitions) (end_of_all texts) → model_of (gathered definitions) ≡ None → IsRefusal texts outside
+      IsAccepted (gathered definitions) (end_of_all texts) → why_unshaped (gathered definitions) ≡ None →
+      model_of (gathered definitions) ≡ None → IsRefusal texts outside

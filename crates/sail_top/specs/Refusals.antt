@@ -16,6 +16,11 @@ use Rattle.sail_lex.specs.declared.token.LexError.{LexError}
 use Rattle.sail_lex.specs.declared.token.LexError.TheVariants as error
 use Rattle.scattered.specs.declared.error.ScatterError.{ScatterError}
 use Rattle.scattered.specs.declared.error.ScatterError.TheVariants as scatter
+use Rattle.shape_rules.specs.declared.error.Mismatch.{Mismatch as ShapeMismatch}
+use Rattle.shape_rules.specs.declared.error.ShapeError.{ShapeError}
+use Rattle.shape_rules.specs.declared.error.ShapeError.TheVariants as shape
+use Rattle.sail_types.specs.Texts.{shape_text}
+use Rattle.sail_types.specs.declared.table.Types.{Types}
 
 abbrev pub refusal : ℕ → Place → List ℕ → Refusal
 refusal number place detail = record { number = number; place = place; detail = detail }
@@ -74,3 +79,19 @@ table_refusal (table.MeasureMissing place name) = refusal 12 place name
 table_refusal (table.EntryMissing place name) = refusal 19 place name
 table_refusal (table.MappingCycle place name) = refusal 24 place name
 table_refusal table.OutOfMemory = outside
+
+-- what was wanted and what was found, two shapes; nothing where no one shape was wanted
+abbrev pub shapes_text : Types → List (List ℕ) → Option ShapeMismatch → List ℕ
+shapes_text types names None = []
+shapes_text types names (Some m) = found_text (shape_text types names m.wanted) (shape_text types names m.found)
+
+-- the refusal of definitions whose shapes fail, by the table of types and the names of Type variables: by both members, by what was
+-- wanted and found, or by the name that it is about; want of memory refuses no definitions
+abbrev pub shape_refusal : Types → List (List ℕ) → ShapeError → Refusal
+shape_refusal types names (shape.Overlap place first second) = refusal 13 place (first ++ codes " " ++ second)
+shape_refusal types names (shape.IllShaped place found) = refusal 14 place (shapes_text types names found)
+shape_refusal types names (shape.Arity place wanted found) = refusal 15 place (found_text (decimal wanted) (decimal found))
+shape_refusal types names (shape.NoMember place name) = refusal 16 place name
+shape_refusal types names (shape.NoNumber place name) = refusal 17 place name
+shape_refusal types names (shape.WidthUnknown place) = refusal 18 place []
+shape_refusal types names shape.OutOfMemory = outside

@@ -4,7 +4,7 @@
 //! [`run_words`] reads the words, reads the files, judges the models and the image, runs the model and
 //! writes the report or the line of the refusal. Its contract speaks of the definitions in `specs/`: the
 //! files in the order of reading, the run and the answer, which join the definitions of the crates below:
-//! the command line, the grammar of a model's text, its tables, the image, the start and the events, and the report.
+//! the command line, the grammar of a model's text, its tables and shapes, the image, the start and the events, and the report.
 #![tactic(auto)]
 
 mod answer;
@@ -14,8 +14,10 @@ mod models;
 mod reading;
 mod refusals;
 mod run;
+mod shape_refusals;
 mod status;
 mod top;
+mod variables;
 
 pub use laws::words_have_one_answer;
 pub use sail_base::{ElfRefusal, Refusal};

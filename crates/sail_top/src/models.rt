@@ -1,22 +1,28 @@
 //! From the models' texts to the model that runs.
-ghost use Rattle.std.specs.Prelude.{◌≡◌, ◌≤◌, IfErr, IfOk, Some, length, true};
+ghost use Rattle.std.specs.Prelude.{◌≡◌, ◌≤◌, IfErr, IfOk, List, Some, length, true};
 ghost use Rattle.std.specs.List.{All};
 ghost use Rattle.model_tokens.specs.Files.{IsShort};
 ghost use Rattle.sail_fragment.specs.Fragment.{is_well_formed, model_of};
 ghost use Rattle.sail_grammar.specs.Joined.{HaveTexts, end_from, joined};
 ghost use Rattle.sail_grammar.specs.Leaves.{nowhere};
+ghost use Rattle.sail_base.specs.declared.place.Place.{Place as APlace};
+ghost use Rattle.sail_syntax.specs.declared.definitions.Def.{Def as ADef};
+ghost use Rattle.sail_tables.specs.Tabled.{AreTables};
 ghost use Rattle.sail_top.specs.Models.{AreModel};
-ghost use Rattle.sail_top.specs.parts.Told.{GathersAs, RunsAs, TabledAs, Tells, TellsNotRun, TellsOfDefinitions, TellsOfTokens, TellsOfWhole};
+ghost use Rattle.sail_top.specs.parts.Told.{GathersAs, RunsAs, ShapedAs, TabledAs, Tells};
+ghost use Rattle.sail_top.specs.parts.Told.{TellsNotRun, TellsOfDefinitions, TellsOfTabled, TellsOfTokens, TellsOfWhole};
 
 use crate::refusals::{gather_refusal, outside, parse_refusal, table_refusal, token_refusal};
+use crate::shape_refusals::shape_refusal;
 use model_tokens::lex_files;
 use sail_base::{Items, Place, Refusal};
 use sail_fragment::{Model, read_model};
 use sail_lex::Tokens;
 use sail_parse_def::parse_model;
 use sail_syntax::Def;
-use sail_tables::tables;
+use sail_tables::{Tables, tables};
 use scattered::gather;
+use shapes::resolve;
 use std::alloc::{AllocError, Global};
 
 /// Why there is no model.
@@ -40,7 +46,7 @@ impl From<AllocError> for ModelError {
 }
 
 /// The model that texts are, which runs today. The first phase that refuses them decides: their tokens,
-/// the grammar, the gathering of what is written in parts, the tables, and the conditions on what runs.
+/// the grammar, the gathering of what is written in parts, the tables, the shapes, and the conditions on what runs.
 pub fn read_models(alloc: Global, texts: &[Items<u8>]) -> Result<Model, ModelError>
     requires few { length texts.now ≤ 64 }
     requires short { All IsShort texts.now }
@@ -101,8 +107,20 @@ fn table_definitions(alloc: Global, definitions: &[Def], end: Place) -> Result<M
     ensures refused { IfErr result (TellsOfWhole definitions.now end) }
 {
     match tables(alloc, definitions, end) {
-        Ok(_) => run_definitions(alloc, definitions),
+        Ok(tables) => shape_definitions(alloc, tables),
         Err(error) => Err(ModelError::Refused(table_refusal(alloc, &error)?)),
+    }
+}
+
+/// The model that definitions are which have these tables, once they have shapes.
+fn shape_definitions(alloc: Global, tables: Tables<'_>) -> Result<Model, ModelError>
+    ensures model { (text : List ADef) (end : APlace) → AreTables text end tables.entry → IfOk result (ShapedAs text) }
+    ensures well_formed { IfOk result (λ model. is_well_formed model ≡ true) }
+    ensures refused { (text : List ADef) (end : APlace) → AreTables text end tables.entry → IfErr result (TellsOfTabled text) }
+{
+    match resolve(alloc, &tables) {
+        Ok(_) => run_definitions(alloc, tables.definitions),
+        Err(error) => Err(ModelError::Refused(shape_refusal(alloc, tables, error)?)),
     }
 }
 

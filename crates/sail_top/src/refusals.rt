@@ -124,7 +124,7 @@ fn kind_text(kind: Kind) -> &'static str
     }
 }
 
-fn counts_text(alloc: Global, wanted: usize, found: usize) -> Result<Text, AllocError>
+pub(crate) fn counts_text(alloc: Global, wanted: usize, found: usize) -> Result<Text, AllocError>
     ensures { IfOk result (λ text. text ≡ spec.found_text (decimal wanted) (decimal found)) }
 {
     let mut first = Buffer::new();
@@ -155,7 +155,7 @@ pub fn outside(alloc: Global) -> Result<Refusal, AllocError>
 }
 
 /// A refusal that is told by a name.
-fn named(number: u8, place: Place, name: &Text) -> Result<Refusal, AllocError>
+pub(crate) fn named(number: u8, place: Place, name: &Text) -> Result<Refusal, AllocError>
     ensures { IfOk result (λ refusal. refusal ≡ spec.refusal number place name.now) }
 {
     Ok(Refusal {
@@ -166,7 +166,7 @@ fn named(number: u8, place: Place, name: &Text) -> Result<Refusal, AllocError>
 }
 
 /// A refusal without a detail.
-fn bare(alloc: Global, number: u8, place: Place) -> Result<Refusal, AllocError>
+pub(crate) fn bare(alloc: Global, number: u8, place: Place) -> Result<Refusal, AllocError>
     ensures { IfOk result (λ refusal. refusal ≡ spec.refusal number place []) }
 {
     Ok(Refusal {

@@ -18,8 +18,11 @@ use Rattle.scattered.specs.Refused.{refusal as why_ungathered}
 use Rattle.scattered.specs.declared.error.ScatterError.{ScatterError}
 use Rattle.scattered.specs.declared.error.ScatterError.TheVariants as scatter
 use Rattle.sail_tables.specs.Refused.{IsFirstFailure, IsAccepted}
+use Rattle.shape_rules.specs.declared.error.ShapeError.{ShapeError}
+use Rattle.shape_rules.specs.declared.error.ShapeError.TheVariants as shape
 use Rattle.sail_top.specs.Models.{IsRefusal}
 use Rattle.sail_top.specs.Refusals.{parse_refusal, gather_refusal, table_refusal, outside}
+use Rattle.sail_top.specs.Shaped.{why_unshaped, shape_refusal_in}
 use Rattle.sail_top.specs.declared.models.ModelError.{ModelError}
 use Rattle.sail_top.specs.declared.models.ModelError.TheVariants as model
 
@@ -40,14 +43,22 @@ abbrev pub IsOfTables : TableError → Type 0
 IsOfTables table.OutOfMemory = ⊥
 IsOfTables e = Unit {0}
 
+abbrev pub IsOfShapes : ShapeError → Type 0
+IsOfShapes shape.OutOfMemory = ⊥
+IsOfShapes e = Unit {0}
+
 -- an error tells how the texts are refused; want of memory says nothing of them
 abbrev pub Tells : List (List ℕ) → ModelError → Type 0
 Tells texts (model.Refused refusal) = IsRefusal texts refusal
 Tells texts model.OutOfMemory = Unit {0}
 
--- gathered definitions, which end here, have tables, and they are this model, which runs
+-- definitions that have tables have shapes, and they are this model, which runs
+abbrev pub ShapedAs : List Def → Model → Type 0
+ShapedAs whole m = (why_unshaped whole ≡ None) × (model_of whole ≡ Some m)
+
+-- gathered definitions, which end here, have tables, and they are this model
 abbrev pub TabledAs : List Def → Place → Model → Type 0
-TabledAs whole end m = IsAccepted whole end × (model_of whole ≡ Some m)
+TabledAs whole end m = IsAccepted whole end × ShapedAs whole m
 
 -- definitions can be gathered, and gathered they are this model
 abbrev pub GathersAs : List Def → Place → Model → Type 0
@@ -57,10 +68,15 @@ GathersAs definitions end m = (why_ungathered definitions ≡ None) × TabledAs 
 abbrev pub RunsAs : List Sign → Place → Model → Type 0
 RunsAs signs end m = (definitions : List Def) × IsModel signs definitions × GathersAs definitions end m
 
--- gathered definitions, which end here, are refused so: they have no tables, or they are no model that runs
+-- definitions that have tables are refused so: their shapes fail, or they are no model that runs
+pub data TabledRefused (whole : List Def) : Refusal → Type 0 where
+  tabled_unshaped : (e : ShapeError) → why_unshaped whole ≡ Some e → TabledRefused whole (shape_refusal_in whole e)
+  tabled_not_run : why_unshaped whole ≡ None → model_of whole ≡ None → TabledRefused whole outside
+
+-- gathered definitions, which end here, are refused so: they have no tables, or they have and are refused
 pub data WholeRefused (whole : List Def) (end : Place) : Refusal → Type 0 where
   whole_untabled : (e : TableError) → IsFirstFailure whole end (Some e) → WholeRefused whole end (table_refusal e)
-  whole_not_run : IsAccepted whole end → model_of whole ≡ None → WholeRefused whole end outside
+  whole_tabled : {refusal : Refusal} → IsAccepted whole end → TabledRefused whole refusal → WholeRefused whole end refusal
 
 -- definitions are refused so: they can't be gathered, or gathered they are refused
 pub data DefinitionsRefused (definitions : List Def) (end : Place) : Refusal → Type 0 where
@@ -88,6 +104,11 @@ TellsOfDefinitions definitions end model.OutOfMemory = Unit {0}
 abbrev pub TellsOfWhole : List Def → Place → ModelError → Type 0
 TellsOfWhole whole end (model.Refused refusal) = WholeRefused whole end refusal
 TellsOfWhole whole end model.OutOfMemory = Unit {0}
+
+-- an error tells how definitions that have tables are refused
+abbrev pub TellsOfTabled : List Def → ModelError → Type 0
+TellsOfTabled whole (model.Refused refusal) = TabledRefused whole refusal
+TellsOfTabled whole model.OutOfMemory = Unit {0}
 
 -- an error tells that gathered definitions are no model that runs
 abbrev pub TellsNotRun : List Def → ModelError → Type 0

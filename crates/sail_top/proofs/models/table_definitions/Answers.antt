@@ -3,13 +3,15 @@ use Rattle.sail_top.proofs.models.table_definitions.Goals as goal
 
 pub returns-in-Ok-clause-model : goal.returns-in-Ok-clause-model
 returns-in-Ok-clause-model c =
-    tabled_model c.args.definitions.now c.args.end c.in-Ok.ensures.accepted c.run_definitions.result c.run_definitions.ensures.model
+    tabled_model c.args.definitions.now c.args.end c.in-Ok.ensures.accepted c.shape_definitions.result
+    (c.shape_definitions.ensures.model c.args.definitions.now c.args.end c.in-Ok.ensures.tables)
 
 pub returns-in-Ok-clause-refused : goal.returns-in-Ok-clause-refused
 returns-in-Ok-clause-refused c =
-    tabled_refused c.args.definitions.now c.args.end c.in-Ok.ensures.accepted c.run_definitions.result c.run_definitions.ensures.refused
+    tabled_refused c.args.definitions.now c.args.end c.in-Ok.ensures.accepted c.shape_definitions.result
+    (c.shape_definitions.ensures.refused c.args.definitions.now c.args.end c.in-Ok.ensures.tables)
 
-pub returns-clause-refused : goal.returns-clause-refused
-returns-clause-refused c =
+pub returns-in_ok-table_refusal-in-Err-clause-refused : goal.returns-in_ok-table_refusal-in-Err-clause-refused
+returns-in_ok-table_refusal-in-Err-clause-refused c =
     untabled_is c.args.definitions.now c.args.end c.in-Err.error c.in_ok-table_refusal-in-Err.field-0 c.in-Err.ensures.refused
     c.in_ok-table_refusal-in-Err.ensures.told c.in_ok-table_refusal-in-Err.ensures.refused
