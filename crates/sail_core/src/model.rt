@@ -24,7 +24,9 @@ pub struct Function {
     pub parameters: Items<Typ>,
     /// The type of its result.
     pub result: Typ,
-    /// The widths, lengths and exponents in its signature, in the order of the text.
+    /// Whether a `val` gives these types. Where none does, they are what its clauses are annotated with.
+    pub is_declared: bool,
+    /// The widths, lengths, exponents and compared sides in its signature, in the order of the text.
     pub numbers: Items<WrittenNumber>,
     /// The cycle of calls that it is in.
     pub cycle: Option<u32>,
@@ -77,7 +79,7 @@ pub struct Opening {
 pub struct RegisterText {
     /// Its first word.
     pub place: Place,
-    /// The widths and lengths in its type, in the order of the text.
+    /// The numbers in its type, in the order of the text.
     pub numbers: Items<WrittenNumber>,
 }
 

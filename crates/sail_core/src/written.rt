@@ -11,6 +11,8 @@ pub enum Role {
     Length,
     /// The exponent of `2 ^ t`.
     Exponent,
+    /// A side of a comparison in a constraint; `t` of `t in {..}` is one.
+    Side,
 }
 
 /// A number in a written type, where it stands.
@@ -39,7 +41,7 @@ pub struct Written {
     pub place: Place,
     /// The type, under the type variables of the function around it.
     pub typ: Typ,
-    /// The widths, lengths and exponents in it, in the order of the text.
+    /// The widths, lengths, exponents and compared sides in it, in the order of the text.
     pub numbers: Items<WrittenNumber>,
 }
 

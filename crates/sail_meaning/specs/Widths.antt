@@ -9,6 +9,7 @@ use Rattle.sail_types.specs.declared.table.Types.{Types}
 use Rattle.sail_types.specs.declared.types.Typ.{Typ, Typ-F, out-Typ}
 use Rattle.sail_types.specs.declared.types.Typ.TheOpen as T
 use Rattle.sail_types.specs.Shapes.{shares}
+use Rattle.sail_types.specs.declared.shapes.Shape.TheVariants as V
 use Rattle.sail_syntax.specs.declared.words.Brackets.{Brackets}
 use Rattle.sail_syntax.specs.declared.words.Brackets.TheVariants as B
 use Rattle.sail_syntax.specs.declared.patterns.Pat.{Pat, Pat-F, fold-Pat}
@@ -63,7 +64,7 @@ payload_at types at (Some t) = payload_in types at (out-Typ t)
 
 -- whether a value at a place of this type may be on this side of a mapping; a part of a concatenation is bits
 abbrev pub may_be_on : Option Typ → Typ → Bool
-may_be_on None side = is_some (width_of side)
+may_be_on None side = shares V.Bits (shape side)
 may_be_on (Some t) side = shares (shape t) (shape side)
 
 -- the type of the other side of a mapping

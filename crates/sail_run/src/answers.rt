@@ -1,4 +1,4 @@
-use crate::{members_rows, patterns_rows, shapes_rows, tables_rows};
+use crate::{choices_rows, members_rows, patterns_rows, shapes_rows, tables_rows};
 use sail_outside::{MemShelf, MemSink};
 use sail_top::run_words;
 use std::alloc::{AllocError, Global};
@@ -565,6 +565,14 @@ fn parts_of_values_are_answered(rt: HostRuntime) -> Result<(), Fail> {
 #[test]
 fn structs_and_printed_shapes_are_answered(rt: HostRuntime) -> Result<(), Fail> {
     let rows = members_rows::STRUCTS;
+    let right = answered(rt.alloc(), rows)?;
+    assert!(rt; right == rows.len(), "row {right}");
+    Ok(())
+}
+
+#[test]
+fn choices_by_shape_are_answered(rt: HostRuntime) -> Result<(), Fail> {
+    let rows = choices_rows::CHOICES;
     let right = answered(rt.alloc(), rows)?;
     assert!(rt; right == rows.len(), "row {right}");
     Ok(())

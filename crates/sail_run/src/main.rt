@@ -4,6 +4,8 @@
 #[cfg(test)]
 mod answers;
 #[cfg(test)]
+mod choices_rows;
+#[cfg(test)]
 mod members_rows;
 #[cfg(test)]
 mod patterns_rows;

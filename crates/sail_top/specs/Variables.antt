@@ -1,16 +1,14 @@
 -- The names that the Type variables in a shape print as, by the place of the form that has it: those of the function whose clause or
 -- measure is around that place.
-use Rattle.std.specs.Prelude.{ℕ, Bool, true, false, List, [], ◌∷◌, ◌++◌, map, Option, Some, None, if◌then◌else◌}
-use Rattle.sail_base.specs.declared.kind.Kind.{Kind}
-use Rattle.sail_base.specs.declared.kind.Kind.TheVariants as kind
+use Rattle.std.specs.Prelude.{ℕ, Bool, true, List, [], ◌∷◌, ◌++◌, map, Option, Some, None, if◌then◌else◌}
 use Rattle.sail_base.specs.declared.place.Place.{Place}
 use Rattle.sail_kinds.specs.Failures.{is_less}
-use Rattle.sail_kinds.specs.declared.scope.Variable.{Variable}
 use Rattle.sail_signatures.specs.declared.signature.Signature.{Signature}
 use Rattle.sail_syntax.specs.declared.definitions.Def.{Def}
 use Rattle.sail_syntax.specs.declared.definitions.Def.TheVariants as D
 use Rattle.sail_syntax.specs.declared.definitions.FunctionClause.{FunctionClause}
 use Rattle.sail_tables.specs.Refused.{signature_in}
+use Rattle.shape_declarations.specs.Signatures.{type_names}
 use Rattle.sail_top.specs.declared.variables.Begun.{Begun}
 
 -- whether a place stands before another
@@ -46,15 +44,7 @@ abbrev pub latest : Place → Option Begun → List Begun → Option Begun
 latest at kept [] = kept
 latest at kept (b ∷ bs) = latest at (later at kept b) bs
 
--- the Type variables among variables, in order
-abbrev pub is_type : Kind → Bool
-is_type kind.Type = true
-is_type k = false
-
-abbrev pub type_names : List Variable → List (List ℕ)
-type_names [] = []
-type_names (v ∷ vs) = if is_type v.kind then v.name ∷ type_names vs else type_names vs
-
+-- the Type variables of a signature, in order
 abbrev pub names_signed : Option Signature → List (List ℕ)
 names_signed None = []
 names_signed (Some signature) = type_names signature.variables

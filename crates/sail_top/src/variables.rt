@@ -6,11 +6,11 @@ ghost use Rattle.sail_syntax.specs.declared.definitions.Def.{Def as ADef};
 ghost use Rattle.sail_tables.specs.Tabled.{AreTables};
 ghost use Rattle.sail_top.specs.Variables as spec;
 
-use sail_base::{Items, Kind, Place, Text};
-use sail_kinds::Variable;
+use sail_base::{Items, Place, Text};
 use sail_signatures::Signature;
 use sail_syntax::{Def, FunctionClause};
 use sail_tables::Tables;
+use shape_declarations::type_names;
 use std::alloc::{AllocError, Global};
 
 /// A clause or a measure of a function.
@@ -101,28 +101,6 @@ fn latest_begun(at: Place, definitions: &[Def]) -> Result<Option<Begun>, AllocEr
         latest = latest_in(at, latest, definition)?;
     }
     Ok(latest)
-}
-
-fn is_type(kind: Kind) -> bool
-    ensures { result ≡ spec.is_type kind }
-{
-    match kind {
-        Kind::Type => true,
-        _ => false,
-    }
-}
-
-/// The names of the Type variables among variables, in order.
-fn type_names(alloc: Global, variables: &[Variable]) -> Result<Items<Text>, AllocError>
-    ensures { IfOk result (λ names. names ≡ spec.type_names variables.now) }
-{
-    let mut names = Items::new(alloc);
-    for variable in variables {
-        if is_type(variable.kind) {
-            names.push(variable.name.clone()?)?;
-        }
-    }
-    Ok(names)
 }
 
 fn names_signed(alloc: Global, signature: Option<&Signature>) -> Result<Items<Text>, AllocError>

@@ -12,4 +12,4 @@ led_of inside = record { way = inside.way; shape = inside.shape }
 
 -- a target but for its failures, which are noted
 abbrev pub aim_of : Aimed → Aim
-aim_of aimed = record { shape = aimed.shape; target = aimed.target; parts = aimed.parts }
+aim_of aimed = record { shape = aimed.shape; target = aimed.target; parts = aimed.parts; answer = aimed.answer }

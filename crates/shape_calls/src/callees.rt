@@ -1,5 +1,5 @@
 //! What callees take, and what a call of one gives.
-ghost use Rattle.std.specs.Prelude.{◌≡◌, [], IfOk, OnOk, map};
+ghost use Rattle.std.specs.Prelude.{◌≡◌, [], IfOk, OnOk, map, None};
 ghost use Rattle.sail_types.specs.Shapes.{put, at};
 ghost use Rattle.shape_joins.specs.Joins.{any_of};
 ghost use Rattle.shape_joins.specs.Learning.{learn};
@@ -7,9 +7,9 @@ ghost use Rattle.shape_rules.specs.Findings as found;
 ghost use Rattle.shape_rules.specs.Calls as spec;
 ghost use Rattle.shape_rules.specs.Targets as target;
 ghost use Rattle.shape_rules.specs.Values as value;
-ghost use Rattle.shape_calls.specs.Made.{made_of};
+ghost use Rattle.shape_calls.specs.Made.{made_of, taught_by};
 
-use crate::made::{Made, over, settled};
+use crate::made::{Made, mismatched, over, settled};
 use sail_base::{Items, Operator, Place, Prefix, Text};
 use sail_core::{Callee, Caller, Core, Kind};
 use sail_types::{Member, Shape, Typ, copy_shape, copy_shapes, row_name, shapes_of};
@@ -171,22 +171,48 @@ pub fn call_found(
     )
 }
 
-/// What is known once an argument of this shape is there: what was known, where it teaches nothing since it failed. The one error is
-/// want of memory.
+/// What is known once an argument is there, in which a failure was noted or not: what was known, where it teaches two shapes of one
+/// variable. Notes that, where no failure was noted in it. The one error is want of memory.
 pub fn known_behind(
     alloc: Global,
     param: &Shape,
-    shape: &Shape,
+    made: &Made,
     known: Items<Shape>,
+    is_noted: bool,
+    first: &mut First,
 ) -> Result<Items<Shape>, AllocError>
-    ensures { IfOk result (λ now. now ≡ spec.known_or known (learn param.now shape.now known)) }
+    ensures known { IfOk result (λ now. now ≡ spec.known_or known (learn param.now made.now.shape known)) }
+    ensures failures { OnOk result (first.new.error ≡ found.first_failure first.old.error
+        (taught_by (put (at known) param.now) made.now is_noted (learn param.now made.now.shape known))) }
 {
     let mut learnt = copy_shapes(alloc, known.as_slice())?;
-    if learn_shape(alloc, param, shape, &mut learnt)? {
+    if learn_shape(alloc, param, &made.shape, &mut learnt)? {
         Ok(learnt)
     } else {
+        note_untaught(alloc, param, made, known.as_slice(), is_noted, first)?;
         Ok(known)
     }
+}
+
+/// Notes an argument that teaches two shapes of one variable, at the argument, where no failure was noted in it.
+fn note_untaught(
+    alloc: Global,
+    param: &Shape,
+    made: &Made,
+    known: &[Shape],
+    is_noted: bool,
+    first: &mut First,
+) -> Result<(), AllocError>
+    ensures { OnOk result (first.new.error
+        ≡ found.first_failure first.old.error (taught_by (put (at known.now) param.now) made.now is_noted None)) }
+{
+    if is_noted {
+        return Ok(());
+    }
+    let wanted = put_shape(alloc, param, known)?;
+    let shape = copy_shape(alloc, &made.shape)?;
+    first.note(mismatched(alloc, made.core.place, &wanted, shape)?);
+    Ok(())
 }
 
 /// What is called, where something is.

@@ -35,6 +35,7 @@ pub struct Inside {
 }
 
 /// What is found of a target.
+#[derive(Drop)]
 pub struct Aim {
     /// The shape of what is assigned; `Never` where the target failed.
     pub shape: Shape,
@@ -42,20 +43,12 @@ pub struct Aim {
     pub target: Target,
     /// The arguments and indexes in it.
     pub parts: Items<Core>,
-}
-
-impl Drop for Aim {
-    fn drop(self) {
-        let Aim {
-            shape: _,
-            target: _,
-            parts: _,
-        } = self;
-    }
+    /// The shape of the assignment: of what a writer gives, and else unit; `Never` where the target failed.
+    pub answer: Shape,
 }
 
 impl Aim {
-    /// The shape; the target and its parts go behind others. The one error is want of memory.
+    /// The shape of what is assigned; the target and its parts go behind others. The one error is want of memory.
     pub fn into_shape(
         self,
         targets: &mut Items<Target>,
@@ -69,6 +62,7 @@ impl Aim {
             shape,
             target,
             parts: own,
+            ..
         } = self;
         parts.append(own)?;
         targets.push(target)?;
@@ -229,7 +223,7 @@ pub fn suffix_at(place: Place, way: Way) -> Suffix
     }
 }
 
-/// A target without targets inside.
+/// A target without targets inside, whose assignment is `()`.
 pub fn aimed(alloc: Global, shape: Shape, place: Place, kind: TargetKind) -> Aim
     ensures { result ≡ aim_of (spec.aimed shape place kind) }
 {
@@ -242,14 +236,19 @@ pub fn aimed(alloc: Global, shape: Shape, place: Place, kind: TargetKind) -> Aim
             parts: Items::new(alloc),
         },
         parts: Items::new(alloc),
+        answer: Shape::Unit,
     }
 }
 
-/// What stands in the place of a target that failed.
+/// What stands in the place of a target that failed, whose assignment is `Never`.
 pub fn aimed_nowhere(alloc: Global, place: Place) -> Aim
     ensures { result ≡ aim_of (spec.aimed_nowhere place []) }
 {
-    aimed(alloc, Shape::Never, place, TargetKind::Register(0))
+    let nowhere = aimed(alloc, Shape::Never, place, TargetKind::Register(0));
+    Aim {
+        answer: Shape::Never,
+        ..nowhere
+    }
 }
 
 /// A name that no local has, as a target: a register. The one error is want of memory.

@@ -23,7 +23,7 @@ use Rattle.shape_rules.specs.Scopes.{Setting, plainly, answering}
 use Rattle.shape_rules.specs.Calls.{parameters_of, param_shapes}
 use Rattle.shape_rules.specs.Expressions.{part}
 use Rattle.shape_models.specs.Models.{Tabled}
-use Rattle.shape_declarations.specs.Signatures.{number_parameters, type_names, signature_numbers}
+use Rattle.shape_declarations.specs.Signatures.{number_parameters, type_names, is_declared, signature_numbers}
 use Rattle.shape_clauses.specs.Clauses.{Claused, clause_read, clauses_core, clauses_faults}
 
 -- ---- clauses
@@ -102,6 +102,7 @@ function_with tabled text place name clauses s cycle body measure = record {
   constraint = s.constraint;
   parameters = parameters_of s.from;
   result = s.to;
+  is_declared = is_declared text name;
   numbers = signature_numbers tabled text name clauses;
   cycle = cycle;
   measure = measure.it;

@@ -1,6 +1,8 @@
 -- What the contracts of private functions say.
 use Rattle.std.specs.Prelude.{false, List, [], ◌∷◌, ◌++◌, Option, Some, None}
 use Rattle.sail_base.specs.declared.place.Place.{Place}
+use Rattle.sail_syntax.specs.declared.definitions.Def.{Def}
+use Rattle.sail_syntax.specs.declared.definitions.Def.TheVariants as D
 use Rattle.sail_types.specs.Sums.{and_then}
 use Rattle.sail_types.specs.declared.shapes.Shape.TheVariants as V
 use Rattle.sail_kinds.specs.Scopes.{Within, named}
@@ -15,6 +17,7 @@ use Rattle.shape_rules.specs.Targets.{Part}
 use Rattle.shape_models.specs.declared.source.Source.{Source}
 use Rattle.shape_models.specs.Models.{within_variables}
 use Rattle.shape_models.specs.Sources.{tabled_by}
+use Rattle.shape_clauses.specs.Functions.{Measure}
 
 -- a guard's core, where there is one
 abbrev pub guard_cores : Option Part → Setting → Locals → List Core
@@ -41,3 +44,8 @@ held_within source meanings within = record {
 
 abbrev pub held_setting : Source → Meanings → List Variable → Setting
 held_setting source meanings variables = held_within source meanings (within_variables (tabled_by source) variables)
+
+-- a definition that is a measure
+abbrev pub measure_written : Def → Option Measure
+measure_written (D.Measure place name parameters value) = Some (record { place = place; parameters = parameters; value = value })
+measure_written d = None

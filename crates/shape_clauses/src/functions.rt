@@ -1,5 +1,7 @@
 //! Functions and their measures.
 ghost use Rattle.std.specs.Prelude.{◌≡◌, ◌∷◌, ◌++◌, [], IfOk, OnOk};
+ghost use Rattle.std.specs.Option.{option_copied};
+ghost use Rattle.sail_types.specs.Sums.{and_then};
 ghost use Rattle.core_numbers.specs.Numbers.{numbered};
 ghost use Rattle.shape_rules.specs.Around.{setting_of};
 ghost use Rattle.shape_rules.specs.Calls.{parameters_of as parameters_in};
@@ -9,6 +11,7 @@ ghost use Rattle.shape_clauses.specs.Clauses.{clauses_arms, clauses_bodies, clau
 ghost use Rattle.shape_clauses.specs.Functions.{function_clause as function_clause_of, function_clauses as function_clauses_of};
 ghost use Rattle.shape_clauses.specs.Functions.{signed_clauses, measure_clause as measure_clause_of, measure_of, measure_tree};
 ghost use Rattle.shape_clauses.specs.Functions.{measure_core, function_with as function_with_of, function_in};
+ghost use Rattle.shape_clauses.specs.Parts.{measure_written};
 
 use crate::clauses::{Clause, Clauses, read_clause};
 use core_numbers::{number_nodes, take_number};
@@ -18,7 +21,9 @@ use sail_signatures::Signature;
 use sail_syntax::{Def, Exp, FunctionClause, Pat};
 use sail_types::{Shape, Typ, copy_con, shape_of};
 use shape_calls::{param_shapes, parameters_of};
-use shape_declarations::{number_parameters, signature_numbers, type_names};
+use shape_declarations::{
+    find_measure, is_declared, number_parameters, signature_numbers, type_names,
+};
 use shape_models::Source;
 use shape_rules::{Around, First};
 use std::alloc::{AllocError, Global};
@@ -172,43 +177,59 @@ fn numbered_measure(
     number_nodes(alloc, clauses.into_core(place), next)
 }
 
-/// The first measure of a name, where it has one, with numbers from the next one on.
-fn own_measure(
+/// A definition that is a measure, with numbers from the next one on.
+fn written_measure(
     alloc: Global,
     around: &Around<'_>,
-    definitions: &[Def],
-    name: &str,
+    definition: Option<&Def>,
     params: &[Shape],
     next: &mut u32,
 ) -> Result<Option<Core>, AllocError>
     ensures made { IfOk result (λ made. made
-        ≡ (measure_core (setting_of around.now) params.now (measure_of name.now definitions.now) next.old).it) }
+        ≡ (measure_core (setting_of around.now) params.now (and_then (option_copied definition.entry) measure_written) next.old).it) }
     ensures next { OnOk result (next.new
-        ≡ (measure_core (setting_of around.now) params.now (measure_of name.now definitions.now) next.old).next) }
+        ≡ (measure_core (setting_of around.now) params.now (and_then (option_copied definition.entry) measure_written) next.old).next) }
 {
-    for definition in definitions {
-        if let Def::Measure {
-            place,
-            name: own,
-            parameters,
-            value,
-        } = definition
-        {
-            if own.text.as_str() == name {
-                let made = numbered_measure(
-                    alloc,
-                    around,
-                    *place,
-                    params,
-                    parameters.as_slice(),
-                    value.get(),
-                    next,
-                )?;
-                return Ok(Some(made));
-            }
+    match definition {
+        Some(
+            Def::Measure {
+                place,
+                parameters,
+                value,
+                ..
+            },
+        ) => {
+            let made = numbered_measure(
+                alloc,
+                around,
+                *place,
+                params,
+                parameters.as_slice(),
+                value.get(),
+                next,
+            )?;
+            Ok(Some(made))
         }
+        _ => Ok(None),
     }
-    Ok(None)
+}
+
+/// The first measure of a name, where it has one, with numbers from the next one on.
+fn own_measure(
+    alloc: Global,
+    source: &Source<'_>,
+    around: &Around<'_>,
+    name: &str,
+    params: &[Shape],
+    next: &mut u32,
+) -> Result<Option<Core>, AllocError>
+    requires { IsSound source.now }
+    ensures made { IfOk result (λ made. made
+        ≡ (measure_core (setting_of around.now) params.now (measure_of name.now source.now.definitions.now) next.old).it) }
+    ensures next { OnOk result (next.new
+        ≡ (measure_core (setting_of around.now) params.now (measure_of name.now source.now.definitions.now) next.old).next) }
+{
+    written_measure(alloc, around, find_measure(source, name), params, next)
 }
 
 /// The types of what takes a value of this type.
@@ -238,6 +259,7 @@ fn function_with(
     let mut next = next;
     let entry = take_number(&mut next)?;
     let last = take_number(&mut next)?;
+    let is_declared = is_declared(source, name.as_str());
     let numbers = signature_numbers(alloc, source, name.as_str(), clauses)?;
     let name = name.clone()?;
     let variables = number_parameters(alloc, signature.variables.as_slice())?;
@@ -253,6 +275,7 @@ fn function_with(
         constraint,
         parameters,
         result,
+        is_declared,
         numbers,
         cycle,
         measure,
@@ -286,8 +309,8 @@ pub(crate) fn read_function(
     let params = param_shapes(alloc, &signature.from)?;
     let measure = own_measure(
         alloc,
+        source,
         around,
-        source.definitions,
         name.as_str(),
         params.as_slice(),
         &mut next,

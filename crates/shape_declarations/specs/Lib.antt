@@ -3,5 +3,7 @@ pub mod Zeros
 pub mod Vals
 pub mod Failures
 pub mod Signatures
+-- what the contracts of private functions say
+pub mod Parts
 -- what follows of it
 pub mod Laws

@@ -1,6 +1,6 @@
--- What the core keeps of a function's signature: its type variables, and the widths, lengths and exponents that are written in it, in text
--- order (Sail language manual, "Type variables").
-use Rattle.std.specs.Prelude.{ℕ, bytes_eq, List, [], ◌∷◌, ◌++◌, map, Option, Some, None, if◌then◌else◌}
+-- What the core keeps of a function's signature: its type variables, whether a `val` gives it, and the numbers that are written in it, in
+-- text order (Sail language manual, "Type variables", "Functions").
+use Rattle.std.specs.Prelude.{ℕ, bytes_eq, Bool, List, [], ◌∷◌, ◌++◌, map, find, is_some, Option, Some, None, if◌then◌else◌}
 use Rattle.std.specs.Option.{option_or}
 use Rattle.sail_syntax.specs.declared.types.TyExp.{TyExp}
 use Rattle.sail_syntax.specs.declared.patterns.Pat.{Pat}
@@ -11,6 +11,7 @@ use Rattle.sail_syntax.specs.declared.definitions.FunctionClause.{FunctionClause
 use Rattle.sail_types.specs.declared.table.Parameter.{Parameter}
 use Rattle.sail_kinds.specs.declared.scope.Variable.{Variable}
 use Rattle.sail_kinds.specs.Scopes.{Within}
+use Rattle.sail_signatures.specs.Signatures.{is_val_of}
 use Rattle.sail_core.specs.declared.written.WrittenNumber.{WrittenNumber}
 use Rattle.shape_rules.specs.Written.{numbers_in, joined}
 use Rattle.shape_rules.specs.Patterns.{piece}
@@ -30,6 +31,12 @@ number_parameters (v ∷ vs) = if is_type_variable v.kind then number_parameters
 abbrev pub type_names : List Variable → List (List ℕ)
 type_names [] = []
 type_names (v ∷ vs) = if is_type_variable v.kind then v.name ∷ type_names vs else type_names vs
+
+-- ---- the `val`
+
+-- whether a `val` gives the types of the function of a name; where none does, they are what its clauses are annotated with
+abbrev pub is_declared : List Def → List ℕ → Bool
+is_declared text name = is_some (find (is_val_of name) text)
 
 -- ---- written numbers
 

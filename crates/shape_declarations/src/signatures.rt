@@ -1,6 +1,7 @@
 //! What the core keeps of a function's signature.
 ghost use Rattle.std.specs.Option.{option_copied};
 ghost use Rattle.std.specs.Prelude.{◌≡◌, ◌++◌, [], None, IfOk, OnOk};
+ghost use Rattle.sail_types.specs.Sums.{and_then};
 ghost use Rattle.sail_kinds.specs.Scopes.{within, type_named, own_of};
 ghost use Rattle.sail_signatures.specs.Signatures.{binding};
 ghost use Rattle.shape_models.specs.Models.{is_type_variable as is_of_type, params_variables};
@@ -9,7 +10,9 @@ ghost use Rattle.shape_declarations.specs.Signatures.{number_parameter as number
 ghost use Rattle.shape_declarations.specs.Signatures.{type_names as type_names_of, numbers_if, first_val};
 ghost use Rattle.shape_declarations.specs.Signatures.{numbers_within, parameters_numbers, one_clause_numbers, clause_numbers};
 ghost use Rattle.shape_declarations.specs.Signatures.{signature_numbers as signature_numbers_of};
+ghost use Rattle.shape_declarations.specs.Parts.{declared_numbers as declared_numbers_of};
 
+use crate::parts::find_val;
 use sail_base::{Items, Kind, Text};
 use sail_core::WrittenNumber;
 use sail_kinds::{Binders, Scope, TypeNames, Variable};
@@ -136,6 +139,32 @@ fn numbers_of_val(
     numbers_under(alloc, names, variables.as_slice(), quantifier, from, to)
 }
 
+/// The numbers in a definition that is a `val`.
+fn declared_numbers(
+    alloc: Global,
+    source: &Source<'_>,
+    definition: Option<&Def>,
+) -> Result<Option<Items<WrittenNumber>>, AllocError>
+    requires { IsSound source.now }
+    ensures { IfOk result (λ found. found
+        ≡ and_then (option_copied definition.entry) (declared_numbers_of (tabled_by source.now))) }
+{
+    match definition {
+        Some(
+            Def::Val {
+                quantifier,
+                from,
+                to,
+                ..
+            },
+        ) => {
+            let numbers = numbers_of_val(alloc, source.names, quantifier, from, to)?;
+            Ok(Some(numbers))
+        }
+        _ => Ok(None),
+    }
+}
+
 /// The numbers in the first `val` of a name, where it has one.
 fn val_numbers(
     alloc: Global,
@@ -145,23 +174,7 @@ fn val_numbers(
     requires { IsSound source.now }
     ensures { IfOk result (λ found. found ≡ first_val (tabled_by source.now) name.now source.now.definitions.now) }
 {
-    let definitions = source.definitions;
-    for definition in definitions {
-        if let Def::Val {
-            name: own,
-            quantifier,
-            from,
-            to,
-            ..
-        } = definition
-        {
-            if own.text.as_str() == name {
-                let numbers = numbers_of_val(alloc, source.names, quantifier, from, to)?;
-                return Ok(Some(numbers));
-            }
-        }
-    }
-    Ok(None)
+    declared_numbers(alloc, source, find_val(source, name))
 }
 
 /// The numbers in the parameters of a clause.
@@ -211,8 +224,8 @@ fn numbers_of_clauses(
     }
 }
 
-/// The widths, lengths and exponents that are written in the signature of a function: in its `val`, or else in its one clause. The one
-/// error is want of memory.
+/// The widths, lengths, exponents and compared sides that are written in the signature of a function: in its `val`, or else in its one
+/// clause. The one error is want of memory.
 pub fn signature_numbers(
     alloc: Global,
     source: &Source<'_>,

@@ -4,7 +4,7 @@ use Rattle.sail_syntax.specs.declared.name.Name.{Name}
 use Rattle.sail_syntax.specs.declared.expressions.Exp.{Exp}
 use Rattle.sail_syntax.specs.declared.expressions.Exp.TheOpen as E
 use Rattle.sail_syntax.specs.declared.expressions.Exp.TheOpen.{LExp-F}
-use Rattle.sail_syntax.specs.declared.expressions.Exp.TheFolds.{fold_out-LExp, map-LExp}
+use Rattle.sail_syntax.specs.declared.expressions.Exp.TheFolds.{fold_out-LExp, fold_out-Target, map-LExp}
 use Rattle.sail_syntax.specs.declared.expressions.Exp.TheViews.{out-roll-LExp, roll-out-LExp}
 use Rattle.sail_syntax.specs.declared.expressions.LExp.{LExp, out-LExp, roll-LExp}
 use Rattle.sail_syntax.specs.declared.expressions.LExp.TheVariants as V
@@ -14,7 +14,8 @@ use Rattle.sail_syntax.specs.declared.expressions.Case.{Case}
 use Rattle.sail_syntax.specs.declared.expressions.FieldValue.{FieldValue}
 use Rattle.sail_syntax.specs.declared.expressions.Index.{Index}
 use Rattle.sail_syntax.specs.declared.expressions.Range.{Range}
-use Rattle.sail_syntax.specs.declared.expressions.Target.{Target}
+use Rattle.sail_syntax.specs.declared.expressions.Target.{Target, out-Target}
+use Rattle.shape_rules.specs.Scopes.{Setting, Locals}
 use Rattle.shape_rules.specs.Targets.{Part, TargetPart, SuffixPart, IndexPart, call_aim}
 use Rattle.shape_rules.specs.Values.{FieldPart}
 use Rattle.shape_rules.specs.Statements.{StatementPart, CasePart, RangePart, FurtherPart}
@@ -46,3 +47,17 @@ none_of l (E.ToPart first base suffixes) is other = refl
 
 pub no_call : (l : LExp) → ((name : Name) (args : List Exp) → l ≡ V.ToCall name args → ⊥) → (target_part l).call ≡ None
 no_call l other = ap (λ (p : TargetPart). p.call) (target_seen l) ∙ none_of l (out-LExp l) (sym (roll-out-LExp l)) other
+
+-- a further target stands where the code has it
+further_is : (f : Target) → further_part f
+    ≡ record { place = (out-Target f).place; to = target_part (out-Target f).to }
+further_is f = fold_out-Target Part TargetPart StatementPart SuffixPart CasePart FieldPart IndexPart RangePart FurtherPart
+    exp_form target_form statement_form suffix_form case_form field_form index_form range_form further_form f
+
+pub further_to : (f : Target) (setting : Setting) (locals : Locals) (l : LExp) → l ≡ (out-Target f).to
+    → (target_part l).aim setting locals ≡ (further_part f).to.aim setting locals
+further_to f setting locals l same =
+    ap (λ (to : LExp). (target_part to).aim setting locals) same ∙ sym (ap (λ (p : FurtherPart). p.to.aim setting locals) (further_is f))
+
+pub further_place : (f : Target) → (out-Target f).place ≡ (further_part f).place
+further_place f = sym (ap (λ (p : FurtherPart). p.place) (further_is f))

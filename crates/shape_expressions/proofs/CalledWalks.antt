@@ -18,7 +18,7 @@ use Rattle.shape_rules.specs.Values.{as_one, group_found}
 use Rattle.shape_walks.specs.declared.heads.Head.{Head}
 use Rattle.shape_walks.specs.declared.heads.Head.TheVariants as H
 use Rattle.shape_walks.specs.declared.walks.Walk.{Walk}
-use Rattle.shape_walks.specs.Walks.{want_of, took}
+use Rattle.shape_walks.specs.Walks.{want_of, took, one_faults}
 use Rattle.shape_walks.specs.Heads.{head_found, head_fault, head_walk, head_made}
 use Rattle.shape_walks.proofs.Formed.{head_walked, head_refused}
 
@@ -30,14 +30,14 @@ alone place e = record { place = place; elaborate = e } ∷ []
 
 alone_walked : (head : Head) (place : Place) (e : Elaborate) (setting : Setting) (locals : Locals) (want : Shape) → head_fault head 1 ≡ None
     → head_found head (alone place e) setting locals want
-    ≡ behind (e setting locals (want_of (head_walk head 1 want))).faults
+    ≡ behind (one_faults (head_walk head 1 want) (e setting locals (want_of (head_walk head 1 want))))
     (head_made head setting want (took (head_walk head 1 want) (e setting locals (want_of (head_walk head 1 want)))))
 alone_walked head place e setting locals want fits =
     let w : Walk = head_walk head 1 want in
     let a : Found = e setting locals (want_of w) in
     let one : Part = record { place = place; elaborate = e } in
     head_walked head one [] setting locals want fits
-    ∙ ap (λ (faults : List ShapeError). behind faults (head_made head setting want (took w a))) (append-nil a.faults)
+    ∙ ap (λ (faults : List ShapeError). behind faults (head_made head setting want (took w a))) (append-nil (one_faults w a))
 
 alone_refused : (head : Head) (place : Place) (e : Elaborate) (setting : Setting) (locals : Locals) (want : Shape) (error : ShapeError)
     → head_fault head 1 ≡ Some error → head_found head (alone place e) setting locals want ≡ refused error
@@ -48,7 +48,7 @@ alone_refused head place e setting locals want error other =
 pub value_walked : (place : Place) (f : Bor Candidate) (e : Elaborate) (setting : Setting) (locals : Locals) (want : Shape)
     → head_fault (H.One place f) 1 ≡ None
     → one_called place f.now (e ∷ []) setting locals want
-    ≡ behind (e setting locals (want_of (head_walk (H.One place f) 1 want))).faults
+    ≡ behind (one_faults (head_walk (H.One place f) 1 want) (e setting locals (want_of (head_walk (H.One place f) 1 want))))
     (head_made (H.One place f) setting want (took (head_walk (H.One place f) 1 want) (e setting locals (want_of (head_walk (H.One place f) 1 want)))))
 value_walked place f e setting locals want fits = alone_walked (H.One place f) place e setting locals want fits
 

@@ -8,7 +8,7 @@ ghost use Rattle.shape_rules.specs.Values as values;
 ghost use Rattle.shape_rules.specs.Expressions.{part};
 ghost use Rattle.shape_calls.specs.Made.{made_of};
 ghost use Rattle.shape_rules.specs.Targets.{elaborations};
-ghost use Rattle.shape_walks.specs.Walks.{want_of, took};
+ghost use Rattle.shape_walks.specs.Walks.{want_of, took, one_faults};
 
 use crate::expressions::{elaborate, listed};
 use sail_base::Place;
@@ -135,7 +135,7 @@ fn one_value(
 
 /// Arguments as one value, as one part more of a walk.
 #[cycle(elaborate)]
-#[tactic(auto, using(shape_calls::proofs::Apart::noted_apart, shape_calls::proofs::Apart::some_noted, shape_rules::proofs::Firsts::first_failure_append))]
+#[tactic(auto, using(shape_walks::proofs::Taught::one_noted, shape_calls::proofs::Apart::some_noted))]
 fn push_value(
     alloc: Global,
     place: Place,
@@ -149,7 +149,7 @@ fn push_value(
     ensures walk { IfOk result (λ next. next ≡ took walk ((values.as_one place (map part front.now ++ map part back.now)).elaborate
         (setting_of around.now) locals.old (want_of walk))) }
     ensures failures { OnOk result (first.new.error ≡ first_failure first.old.error
-        ((values.as_one place (map part front.now ++ map part back.now)).elaborate (setting_of around.now) locals.old (want_of walk)).faults) }
+        (one_faults walk ((values.as_one place (map part front.now ++ map part back.now)).elaborate (setting_of around.now) locals.old (want_of walk)))) }
     ensures locals { OnOk result (locals.new ≡ locals.old) }
 {
     let want = walk.want(alloc)?;

@@ -5,7 +5,7 @@ ghost use Rattle.shape_rules.specs.Findings.{first_failure, given_on, cast};
 ghost use Rattle.shape_rules.specs.Values as values;
 ghost use Rattle.shape_rules.specs.Expressions.{elaborate as elaborated, part};
 ghost use Rattle.shape_calls.specs.Made.{made_of};
-ghost use Rattle.shape_walks.specs.Walks.{want_of, took, each_taken, each_faults};
+ghost use Rattle.shape_walks.specs.Walks.{want_of, took, one_faults, each_taken, each_faults};
 ghost use Rattle.shape_walks.specs.Heads.{head_found};
 ghost use Rattle.shape_walks.specs.Trees.{elaborates};
 
@@ -339,9 +339,10 @@ pub fn elaborate(
         }
     }
 }
+
 /// One part more of a walk.
 #[cycle(elaborate)]
-#[tactic(auto, using(shape_calls::proofs::Apart::noted_apart, shape_calls::proofs::Apart::some_noted, shape_rules::proofs::Firsts::first_failure_append))]
+#[tactic(auto, using(shape_walks::proofs::Taught::one_noted, shape_calls::proofs::Apart::some_noted))]
 pub(crate) fn push_one(
     alloc: Global,
     expression: &Exp,
@@ -352,7 +353,7 @@ pub(crate) fn push_one(
 ) -> Result<Walk, AllocError>
     ensures walk { IfOk result (λ next. next ≡ took walk (elaborated expression.now (setting_of around.now) locals.old (want_of walk))) }
     ensures failures { OnOk result (first.new.error ≡ first_failure first.old.error
-        (elaborated expression.now (setting_of around.now) locals.old (want_of walk)).faults) }
+        (one_faults walk (elaborated expression.now (setting_of around.now) locals.old (want_of walk)))) }
     ensures locals { OnOk result (locals.new ≡ locals.old) }
 {
     let want = walk.want(alloc)?;

@@ -14,7 +14,7 @@ use sail_core::{Core, Kind, Suffix as Step};
 use sail_syntax::{Exp, Index, Suffix};
 use sail_types::Shape;
 use shape_calls::{Made, note_base, shape_inside};
-use shape_forms::{led, led_index, push_step, settle_over, update_kind};
+use shape_forms::{finish_update, led, led_index, push_step, settle_over};
 use shape_rules::{Around, First, Locals};
 use shape_walks::{last_place, place_of, suffix_place};
 use std::alloc::{AllocError, Global};
@@ -193,6 +193,6 @@ pub(crate) fn update_found(
     push_ends(alloc, index, around, locals, &mut cores, first)?;
     let wanted = shape_inside(inside);
     let made = elaborate(alloc, value, around, locals, &wanted, first)?;
-    made.into_shape(&mut cores)?;
-    settle_over(alloc, place, want, shape, update_kind(index), cores, first)
+    let found = made.into_shape(&mut cores)?;
+    finish_update(alloc, place, index, shape, &found, cores, want, first)
 }

@@ -1,30 +1,31 @@
 //! What is assigned to, and assignments.
-ghost use Rattle.std.specs.Prelude.{◌≡◌, ◌∷◌, ◌++◌, [], map, length, IfOk, OnOk};
+ghost use Rattle.std.specs.Prelude.{◌≡◌, ◌∷◌, ◌++◌, [], map, IfOk, OnOk};
 ghost use Rattle.shape_rules.specs.Around.{setting_of};
-ghost use Rattle.shape_rules.specs.Calls.{args_found, chosen};
 ghost use Rattle.shape_rules.specs.Findings.{first_failure};
 ghost use Rattle.shape_rules.specs.Targets as target;
 ghost use Rattle.shape_rules.specs.Statements as spec;
 ghost use Rattle.shape_rules.specs.Expressions.{part};
 ghost use Rattle.shape_calls.specs.Made.{made_of};
 ghost use Rattle.shape_calls.specs.Ways.{aim_of};
-ghost use Rattle.shape_forms.specs.Aims.{read_of, part_aimed_at};
-ghost use Rattle.shape_walks.specs.Trees.{elaborates, target_part, further_part, suffix_part};
+ghost use Rattle.shape_forms.specs.Aims.{read_of, call_read, callee_read, part_aimed_at};
+ghost use Rattle.shape_walks.specs.Trees.{target_part, further_part, suffix_part};
 
 use crate::calls::call_named;
 use crate::expressions::{push_all, push_part};
 use crate::parts::walked;
 use sail_base::{Items, Place};
-use sail_core::{Core, Kind, Target, TargetKind};
+use sail_core::{Core, Kind, Target};
 use sail_syntax::{Exp, LExp, Name, Suffix, Target as Further};
 use sail_types::Shape;
 use shape_calls::{Aim, Made, aimed_nowhere, callees_of, name_aimed, one_of};
-use shape_forms::{aim_callee, aim_member, note_inner, read_call, settle_over, tuple_aimed};
+use shape_forms::{
+    aim_callee, aim_member, note_inner, part_aimed, read_member, read_one, settle_over, tuple_aimed,
+};
 use shape_rules::{Around, Candidate, First, Locals, ShapeError};
 use shape_walks::{Head, Plan, Walk, last_place, target_place_of};
 use std::alloc::{AllocError, Global};
 
-/// `a = b = e`, which is `()`; `f(a) = e` is the call `f(a, e)`. The one error is want of memory.
+/// `a = b = e`; `f(a) = e` is the call `f(a, e)`. The one error is want of memory.
 #[cycle(elaborate)]
 #[tactic(auto, using(crate::proofs::Assigned::assigned_call, crate::proofs::Assigned::assigned_chain, crate::proofs::Assigned::assigned_plain, shape_rules::proofs::Firsts::first_failure_append))]
 pub(crate) fn assign(
@@ -90,37 +91,27 @@ fn assign_to(
         (map further_part more.now) (part value.now) (setting_of around.now) locals.old want.now).faults) }
     ensures locals { OnOk result (locals.new ≡ locals.old) }
 {
-    let mut targets = Items::new(alloc);
-    let mut parts = Items::new(alloc);
-    let wanted = push_target(
-        alloc,
+    let Aim {
+        shape,
         target,
-        around,
-        locals,
-        &mut targets,
-        &mut parts,
-        first,
-    )?;
+        mut parts,
+        answer,
+    } = aim(alloc, target, around, locals, first)?;
+    let mut targets = Items::new(alloc);
+    targets.push(target)?;
     push_right(
         alloc,
         more,
         value,
         around,
         locals,
-        wanted,
+        shape,
         &mut targets,
         &mut parts,
         first,
     )?;
-    settle_over(
-        alloc,
-        place,
-        want,
-        Shape::Unit,
-        Kind::Assign(targets),
-        parts,
-        first,
-    )
+    let kind = Kind::Assign(targets);
+    settle_over(alloc, place, want, answer, kind, parts, first)
 }
 
 /// What stands on the right of a target to which this shape is assigned: further targets, and the value behind them.
@@ -154,7 +145,7 @@ fn push_right(
     Ok(())
 }
 
-/// A further target of a chain, where another shape than `()` may be wanted of its assignment. Gives the shape of what is assigned.
+/// A further target of a chain, where another shape than that of its assignment may be wanted of it. Gives the shape of what is assigned.
 #[cycle(elaborate)]
 #[tactic(auto, using(shape_rules::proofs::Firsts::first_failure_append))]
 fn push_further(
@@ -172,20 +163,14 @@ fn push_further(
         ≡ targets.old ++ ((further_part further.now).to.aim (setting_of around.now) locals.old).target ∷ []) }
     ensures parts { OnOk result (parts.new ≡ parts.old ++ ((further_part further.now).to.aim (setting_of around.now) locals.old).parts) }
     ensures failures { OnOk result (first.new.error ≡ first_failure first.old.error
-        (spec.inner_faults (further_part further.now).place want.now
+        (spec.inner_faults (further_part further.now).place want.now ((further_part further.now).to.aim (setting_of around.now) locals.old).answer
         ++ ((further_part further.now).to.aim (setting_of around.now) locals.old).faults)) }
     ensures locals { OnOk result (locals.new ≡ locals.old) }
 {
-    note_inner(alloc, further.place, want, first)?;
-    push_target(
-        alloc,
-        further.to.get(),
-        around,
-        locals,
-        targets,
-        parts,
-        first,
-    )
+    let mut apart = First::none();
+    let aim = aim(alloc, further.to.get(), around, locals, &mut apart)?;
+    note_inner(alloc, further.place, want, &aim.answer, apart, first)?;
+    aim.into_shape(targets, parts)
 }
 
 /// A target, which goes behind others, as its arguments and indexes do. Gives the shape of what is assigned.
@@ -367,9 +352,12 @@ fn aim_part(
         (map suffix_part suffixes.now) (setting_of around.now) locals.old).faults) }
     ensures locals { OnOk result (locals.new ≡ locals.old) }
 {
-    let mut inside = Items::new(alloc);
-    let mut parts = Items::new(alloc);
-    let read = push_base(alloc, base, around, locals, &mut inside, &mut parts, first)?;
+    let Aim {
+        shape,
+        target,
+        mut parts,
+        answer,
+    } = aim_base(alloc, base, around, locals, first)?;
     let mut ways = Items::new(alloc);
     let base_place = target_place_of(base);
     let shape = walked(
@@ -377,87 +365,99 @@ fn aim_part(
         suffixes,
         first_place,
         base_place,
-        read,
+        shape,
         around,
         locals,
         &mut ways,
         &mut parts,
         first,
     )?;
-    Ok(Aim {
-        shape,
-        target: Target {
-            place: last_place(first_place, suffixes),
-            number: 0,
-            kind: TargetKind::Part(ways),
-            parts: inside,
-        },
-        parts,
-    })
+    let last = last_place(first_place, suffixes);
+    part_aimed(alloc, last, shape, target, ways, parts, answer)
 }
 
-/// The base of a part, as `push_target`, but for the shape, which is that of what is read. Notes a call that can't be read.
+/// The base of a part, whose shape is that of what is read.
 #[cycle(elaborate)]
-#[tactic(auto, using(crate::proofs::AimedWalks::count_parts, shape_rules::proofs::Firsts::first_failure_append))]
-fn push_base(
+#[tactic(auto, using(shape_rules::proofs::Firsts::first_failure_append))]
+fn aim_base(
     alloc: Global,
     base: &LExp,
     around: &Around<'_>,
     locals: &mut Locals,
-    targets: &mut Items<Target>,
-    parts: &mut Items<Core>,
     first: &mut First,
-) -> Result<Shape, AllocError>
-    ensures shape { IfOk result (λ shape. shape ≡ (read_of (target_part base.now) (setting_of around.now) locals.old).shape) }
-    ensures targets { OnOk result (targets.new ≡ targets.old ++ (read_of (target_part base.now) (setting_of around.now) locals.old).target ∷ []) }
-    ensures parts { OnOk result (parts.new ≡ parts.old ++ (read_of (target_part base.now) (setting_of around.now) locals.old).parts) }
+) -> Result<Aim, AllocError>
+    ensures aim { IfOk result (λ aim. aim ≡ aim_of (read_of (target_part base.now) (setting_of around.now) locals.old)) }
     ensures failures { OnOk result (first.new.error ≡ first_failure first.old.error
         (read_of (target_part base.now) (setting_of around.now) locals.old).faults) }
     ensures locals { OnOk result (locals.new ≡ locals.old) }
 {
-    let shape = push_target(alloc, base, around, locals, targets, parts, first)?;
     match base {
         LExp::ToCall(name, args) => {
-            read_again(alloc, name, args.as_slice(), around, locals, first)
+            aim_read(alloc, name, args.as_slice(), around, locals, first)
         }
-        _ => Ok(shape),
+        _ => aim(alloc, base, around, locals, first),
     }
 }
 
-/// The shape of what f(a) gives where it is read, by its arguments with nothing wanted, the failures of which are not noted again.
+/// `f(a)` as the base of a part.
 #[cycle(elaborate)]
-#[tactic(auto, using(crate::proofs::AimedWalks::args_shapes, shape_rules::proofs::Firsts::first_failure_append))]
-fn read_again(
+#[tactic(auto, using(shape_rules::proofs::Firsts::first_failure_append))]
+fn aim_read(
     alloc: Global,
     name: &Name,
     args: &[Exp],
     around: &Around<'_>,
     locals: &mut Locals,
     first: &mut First,
-) -> Result<Shape, AllocError>
-    ensures shape { IfOk result (λ shape. shape ≡ target.read_shape (chosen
-        (target.callees_of (setting_of around.now).types ((setting_of around.now).value name.now.text))
-        (args_found (elaborates args.now) (setting_of around.now) locals.old).shapes)) }
-    ensures failures { OnOk result (first.new.error ≡ first_failure first.old.error (target.unread name.now (length args.now)
-        (target.one_of ((setting_of around.now).value name.now.text)
-        (target.callees_of (setting_of around.now).types ((setting_of around.now).value name.now.text)))
-        (chosen (target.callees_of (setting_of around.now).types ((setting_of around.now).value name.now.text))
-        (args_found (elaborates args.now) (setting_of around.now) locals.old).shapes))) }
+) -> Result<Aim, AllocError>
+    ensures aim { IfOk result (λ aim. aim ≡ aim_of (call_read name.now (map part args.now) (setting_of around.now) locals.old)) }
+    ensures failures { OnOk result (first.new.error ≡ first_failure first.old.error
+        (call_read name.now (map part args.now) (setting_of around.now) locals.old).faults) }
     ensures locals { OnOk result (locals.new ≡ locals.old) }
 {
     let meant = around.value(name.text.as_str());
-    let callees = callees_of(alloc, around.types, meant)?;
+    let held = callees_of(alloc, around.types, meant)?;
+    let callees = held.as_slice();
+    match one_of(meant, callees) {
+        Some(callee) => read_callee(alloc, name, callee, callees, args, around, locals, first),
+        None => {
+            let begun = Walk::new(alloc, Plan::Each(Items::new(alloc)));
+            let walk = push_all(alloc, args, around, locals, begun, first)?;
+            read_member(alloc, name, callees, walk, first)
+        }
+    }
+}
+
+/// `f(a)` of one callee as the base of a part. It is read by its arguments with nothing wanted, the failures of which are not noted again.
+#[cycle(elaborate)]
+#[tactic(auto, using(crate::proofs::AimedWalks::args_shapes, shape_rules::proofs::Firsts::first_failure_append))]
+fn read_callee(
+    alloc: Global,
+    name: &Name,
+    callee: &Candidate,
+    callees: &[Candidate],
+    args: &[Exp],
+    around: &Around<'_>,
+    locals: &mut Locals,
+    first: &mut First,
+) -> Result<Aim, AllocError>
+    ensures aim { IfOk result (λ aim. aim ≡ aim_of (callee_read name.now callee.now callees.now args.now (setting_of around.now) locals.old)) }
+    ensures failures { OnOk result (first.new.error ≡ first_failure first.old.error
+        (callee_read name.now callee.now callees.now args.now (setting_of around.now) locals.old).faults) }
+    ensures locals { OnOk result (locals.new ≡ locals.old) }
+{
+    let aimed = aim_one(alloc, name, callee, args, around, locals, first)?;
     let begun = Walk::new(alloc, Plan::Each(Items::new(alloc)));
     let mut apart = First::none();
     let walk = push_all(alloc, args, around, locals, begun, &mut apart)?;
-    let one = one_of(meant, callees.as_slice());
     let shapes = walk.shapes.as_slice();
-    read_call(
+    read_one(
         alloc,
         name,
+        callee,
+        callees,
+        aimed,
         args.len(),
-        callees.as_slice(),
-        one,
         shapes,
         first,
     )

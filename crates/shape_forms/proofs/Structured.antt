@@ -1,13 +1,13 @@
 -- Struct literals, and structs with other fields, find what the definitions find, by walks.
-use Rattle.std.proofs.Common.{◌≡◌, ◌≤◌, ℕ, suc, Bool, true, false, if◌then◌else◌, nat_eq, List, [], ◌∷◌, ◌++◌, length, map, Option, Some, None}
+use Rattle.std.proofs.Common.{◌∙◌, ◌≡◌, ◌≤◌, ℕ, suc, Bool, true, false, if◌then◌else◌, nat_eq, List, [], ◌∷◌, ◌++◌, length, Option, Some, None}
 use Rattle.std.proofs.Common.{refl, sym, ap, arith}
 use Rattle.std.proofs.lemmas.List.{append-nil}
 use Rattle.sail_base.specs.declared.place.Place.{Place}
 use Rattle.sail_syntax.specs.declared.name.Name.{Name}
 use Rattle.sail_types.specs.Named.{fields}
-use Rattle.sail_types.specs.Shapes.{put, at}
 use Rattle.sail_types.specs.declared.table.Field.{Field}
 use Rattle.sail_types.specs.declared.shapes.Shape.{Shape, out-Shape}
+use Rattle.sail_types.specs.declared.shapes.Shape.TheVariants as V
 use Rattle.sail_core.specs.declared.tree.Kind.TheVariants as K
 use Rattle.shape_joins.specs.Learning.{holes}
 use Rattle.shape_rules.specs.declared.error.ShapeError.{ShapeError}
@@ -17,13 +17,14 @@ use Rattle.shape_rules.specs.Scopes.{Setting, Locals}
 use Rattle.shape_rules.specs.Calls.{Elaborate, solved}
 use Rattle.shape_rules.specs.Targets.{InStruct, field_in, base_faults}
 use Rattle.shape_rules.specs.Values.{FieldPart, values_of, Named, fields_named, also_named, field_count, variables_of_type, parts_found}
-use Rattle.shape_rules.specs.Values.{struct_found, struct_at, struct_named, struct_solved, struct_place, with_base, with_of, with_named, named_place}
+use Rattle.shape_rules.specs.Values.{struct_found, struct_at, struct_named, struct_solved, struct_place, with_base, with_of, with_named, with_values, named_place}
 use Rattle.shape_walks.specs.declared.walks.Plan.TheVariants as P
-use Rattle.shape_walks.specs.Walks.{begun, each_taken, each_faults}
+use Rattle.shape_walks.specs.declared.walks.Walk.{Walk}
+use Rattle.shape_walks.specs.Walks.{begun, known_shapes, each_taken, each_faults}
 use Rattle.shape_forms.specs.Structs.{params_walk, struct_plan_of, struct_plan_in, struct_counted}
 use Rattle.shape_forms.specs.Structs.{struct_faults, struct_faults_at, count_faults, struct_made, struct_walked}
 use Rattle.shape_forms.specs.Structs.{with_plan_of, with_plan_at, with_named_at, with_walked, with_made_of}
-use Rattle.shape_walks.proofs.Walked.{each_cores, each_faults_is, solved_walked}
+use Rattle.shape_walks.proofs.Walked.{each_faults_is, solved_walked}
 
 -- as many shapes as fields
 named_count_behind : (f : Option InStruct) (more : Option Named) (named : Named) (count : ℕ)
@@ -98,16 +99,29 @@ with_none place at_base fs a setting locals want =
     ap (λ (es : List ShapeError). behind ((a.faults ++ base_faults at_base a.shape None) ++ es) (unknown place))
     (sym (each_faults_is (values_of fs) setting locals []))
 
+with_solved : (place at_base : Place) (es : List Elaborate) (a : Found) (setting : Setting) (locals : Locals) (want : Shape) (i : ℕ) (ss : List Shape)
+    (named : Named) → length es ≤ length named.shapes
+    → with_values place want i a named.places (solved es setting locals named.shapes ss)
+    ≡ with_walked place at_base es setting locals want a (with_named_at i ss (Some named))
+unfolding with_made_of
+with_solved place at_base es a setting locals want i ss named h =
+    let faults : List ShapeError = each_faults es setting locals (params_walk named.shapes ss) in
+    let w : Walk = each_taken es setting locals (params_walk named.shapes ss) in
+    ap (with_values place want i a named.places) (solved_walked es setting locals named.shapes ss h)
+    ∙ ap (λ (before : List ShapeError). behind (before ++ faults)
+    (settled place want (V.Named i (known_shapes w.plan)) (λ s. over place (K.With i named.places) (a.core ∷ w.cores)))) (sym (append-nil a.faults))
+
 with_named_is : (place at_base : Place) (fs : List FieldPart) (a : Found) (setting : Setting) (locals : Locals) (want : Shape) (i : ℕ) (ss : List Shape)
-    (found : Option Named)
+    (found : Option Named) → ((named : Named) → found ≡ Some named → length named.shapes ≡ length fs)
     → with_named place at_base fs a i ss found setting locals want
     ≡ with_walked place at_base (values_of fs) setting locals want a (with_named_at i ss found)
 unfolding with_made_of
-with_named_is place at_base fs a setting locals want i ss None = with_none place at_base fs a setting locals want
-with_named_is place at_base fs a setting locals want i ss (Some named) = λ j.
-    behind (sym (append-nil a.faults) j ++ sym (each_faults_is (values_of fs) setting locals (map (put (at ss)) named.shapes)) j)
-    (settled place want a.shape (λ s. over place (K.With i named.places)
-    (a.core ∷ sym (each_cores (values_of fs) setting locals (map (put (at ss)) named.shapes)) j)))
+with_named_is place at_base fs a setting locals want i ss None count = with_none place at_base fs a setting locals want
+with_named_is place at_base fs a setting locals want i ss (Some named) count =
+    let many : length named.shapes ≡ length fs = count named refl in
+    let values : length (values_of fs) ≡ length fs = count_values fs in
+    let less : length (values_of fs) ≤ length named.shapes = omega arith in
+    with_solved place at_base (values_of fs) a setting locals want i ss named less
 
 with_of_is : (place at_base : Place) (fs : List FieldPart) (a : Found) (setting : Setting) (locals : Locals) (want : Shape)
     (named : Option (ℕ × List Shape))
@@ -116,6 +130,7 @@ with_of_is : (place at_base : Place) (fs : List FieldPart) (a : Found) (setting 
 with_of_is place at_base fs a setting locals want None = with_none place at_base fs a setting locals want
 with_of_is place at_base fs a setting locals want (Some named) =
     with_named_is place at_base fs a setting locals want named.0 named.1 (fields_named fs (fields setting.types named.0))
+    (named_count fs (fields setting.types named.0))
 
 pub with_is : (place at_base : Place) (fs : List FieldPart) (a : Found) (setting : Setting) (locals : Locals) (want : Shape)
     → with_base place at_base fs a setting locals want

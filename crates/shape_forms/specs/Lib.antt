@@ -1,4 +1,5 @@
 -- forms by what was made of their parts
+pub mod Openness
 pub mod Over
 pub mod Structs
 pub mod Aims

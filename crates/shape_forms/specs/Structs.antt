@@ -4,7 +4,6 @@ use Rattle.sail_base.specs.declared.place.Place.{Place}
 use Rattle.sail_syntax.specs.declared.expressions.FieldValue.{FieldValue}
 use Rattle.sail_syntax.specs.declared.name.Name.{Name}
 use Rattle.sail_types.specs.Named.{fields}
-use Rattle.sail_types.specs.Shapes.{put, at}
 use Rattle.sail_types.specs.declared.shapes.Shape.{Shape, out-Shape}
 use Rattle.sail_types.specs.declared.shapes.Shape.TheVariants as V
 use Rattle.sail_core.specs.declared.tree.Kind.TheVariants as K
@@ -83,7 +82,7 @@ abbrev pub with_named_at : ℕ → List Shape → Option Named → WithPlan
 with_named_at i ss None = record { fields = None; walk = begun (P.Each []) }
 with_named_at i ss (Some named) = record {
   fields = Some (record { at = i; places = named.places });
-  walk = begun (P.Each (map (put (at ss)) named.shapes));
+  walk = params_walk named.shapes ss;
 }
 
 abbrev pub with_plan_at : Setting → List FieldPart → Option (ℕ × List Shape) → WithPlan
@@ -100,7 +99,7 @@ with_faults at_base s (Some fields) = []
 abbrev pub with_fields_made : Place → Shape → Made → Walk → Option WithFields → Found
 with_fields_made place want base w None = unknown place
 with_fields_made place want base w (Some fields) =
-    settled place want base.shape (λ s. over place (K.With fields.at fields.places) (base.core ∷ w.cores))
+    settled place want (V.Named fields.at (known_shapes w.plan)) (λ s. over place (K.With fields.at fields.places) (base.core ∷ w.cores))
 
 unfoldable pub with_made_of : Place → Shape → Made → Option WithFields → Walk → Found
 with_made_of place want base fields w = with_fields_made place want base w fields

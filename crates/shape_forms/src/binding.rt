@@ -8,11 +8,11 @@ ghost use Rattle.shape_rules.specs.Scopes.{under, variable, constant};
 ghost use Rattle.shape_rules.specs.Patterns.{look as look_of, no_widths, written_shape as written_shape_of};
 ghost use Rattle.shape_rules.specs.Statements as spec;
 
+use crate::openness::leaves_open;
 use sail_base::{Items, Place};
 use sail_core::{Arm, Counting, Pattern, Written};
 use sail_syntax::{Direction, Name, Pat, TyExp};
 use sail_types::Shape;
-use shape_joins::has_hole;
 use shape_patterns::look;
 use shape_rules::{Around, First, Local, Locals, ShapeError};
 use std::alloc::{AllocError, Global};
@@ -85,11 +85,11 @@ pub fn enter_variable(
     })
 }
 
-/// Notes a hole that is left without a type.
+/// Notes a shape that leaves something open, where no type is written.
 pub fn note_hole(place: Place, is_typed: bool, shape: &Shape, first: &mut First)
     ensures { first.new.error ≡ first_failure first.old.error (spec.hole_faults place is_typed shape.now) }
 {
-    if !is_typed && has_hole(shape) {
+    if !is_typed && leaves_open(shape) {
         let mismatch = None;
         first.note(ShapeError::IllShaped { place, mismatch });
     }

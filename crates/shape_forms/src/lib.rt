@@ -1,12 +1,13 @@
 //! What finishes a form of an expression that isn't over a list alone, once its parts are found, and what is wanted of the next part:
 //! none of this looks at an expression inside another.
 //!
-//! `specs/Over` has forms of one shape, `specs/Structs` struct literals, `specs/Aims` targets, and `specs/Steps` cases and what
-//! statements leave in scope.
+//! `specs/Openness` has shapes that a later value could fill, `specs/Over` forms of one shape, `specs/Structs` struct literals,
+//! `specs/Aims` targets, and `specs/Steps` cases and what statements leave in scope.
 #![tactic(auto)]
 
 mod asking;
 mod binding;
+mod openness;
 mod over;
 mod parts;
 mod structs;
@@ -17,9 +18,12 @@ pub use binding::{
     counting, enter_counter, enter_pattern, enter_variable, note_hole, note_typ, written_if,
     written_shape,
 };
+pub use openness::leaves_open;
 pub use over::settle_over;
-pub use parts::{led, led_index, push_step, update_kind};
+pub use parts::{finish_update, led, led_index, push_step};
 pub use structs::{
     StructPlan, WithFields, WithPlan, finish_struct, finish_with, plan_struct, plan_with,
 };
-pub use targets::{aim_callee, aim_member, note_inner, read_call, tuple_aimed};
+pub use targets::{
+    aim_callee, aim_member, note_inner, part_aimed, read_member, read_one, tuple_aimed,
+};

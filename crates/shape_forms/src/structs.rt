@@ -14,12 +14,12 @@ ghost use Rattle.shape_walks.specs.declared.walks.Plan.TheVariants as P;
 use sail_base::{Items, Place};
 use sail_core::Kind;
 use sail_syntax::{FieldValue, Name};
-use sail_types::{Shape, Types, shape_of};
+use sail_types::{Shape, Types, copy_shapes, shape_of};
 use shape_calls::{
     Made, field_count, field_in, named_place, note_base, over, settled, small_place, unknown,
     variables_of_type,
 };
-use shape_joins::{holes, put_shapes};
+use shape_joins::holes;
 use shape_rules::{Around, First, ShapeError};
 use shape_walks::{Plan, Walk, known_shapes};
 use std::alloc::{AllocError, Global};
@@ -248,7 +248,8 @@ pub fn finish_struct(
     settled(alloc, place, want, Shape::Named(at, known), core, first)
 }
 
-/// What a struct with other fields is to be, whose base has this shape. The one error is want of memory.
+/// What a struct with other fields is to be, whose base has this shape: a field's value is wanted as what is known of the struct's
+/// variables by the base and by the values before it. The one error is want of memory.
 fn with_of(
     alloc: Global,
     around: &Around<'_>,
@@ -269,11 +270,11 @@ fn with_of(
     else {
         return Ok(without(alloc));
     };
-    let wants = put_shapes(alloc, shapes.as_slice(), named.arguments)?;
+    let known = copy_shapes(alloc, named.arguments)?;
     let at = named.place;
     Ok(WithPlan {
         fields: Some(WithFields { at, places }),
-        walk: Walk::new(alloc, Plan::Each(wants)),
+        walk: Walk::new(alloc, Plan::Params(shapes, known)),
     })
 }
 
@@ -325,10 +326,11 @@ pub fn finish_with(
     let Some(WithFields { at, places }) = fields else {
         return Ok(unknown(alloc, place));
     };
-    let Walk { cores, .. } = walk;
+    let Walk { plan, cores, .. } = walk;
+    let known = known_shapes(alloc, plan);
     let mut parts = Items::new(alloc);
-    let shape = base.into_shape(&mut parts)?;
+    base.into_shape(&mut parts)?;
     parts.append(cores)?;
     let core = over(place, Kind::With(at, places), parts);
-    settled(alloc, place, want, shape, core, first)
+    settled(alloc, place, want, Shape::Named(at, known), core, first)
 }

@@ -18,7 +18,7 @@ use Rattle.sail_types.specs.declared.types.Typ.TheOpen as T
 use Rattle.sail_core.specs.declared.tree.Callee.TheVariants as C
 use Rattle.sail_core.specs.declared.tree.Kind.{Kind}
 use Rattle.sail_core.specs.declared.tree.Kind.TheVariants as K
-use Rattle.sail_core.specs.declared.tree.Core.{Core}
+use Rattle.sail_core.specs.declared.tree.Core.{Core, Core-F, out-Core}
 use Rattle.shape_joins.specs.Joins.{any_of}
 use Rattle.shape_joins.specs.Learning.{learn, learn_all, holes}
 use Rattle.shape_rules.specs.declared.callees.Candidate.{Candidate}
@@ -26,7 +26,7 @@ use Rattle.shape_rules.specs.declared.callees.Doing.{Doing}
 use Rattle.shape_rules.specs.declared.callees.Doing.TheVariants as D
 use Rattle.shape_rules.specs.declared.error.ShapeError.{ShapeError}
 use Rattle.shape_rules.specs.declared.error.ShapeError.TheVariants as error
-use Rattle.shape_rules.specs.Findings.{Found, over, refused, unknown, behind, settled}
+use Rattle.shape_rules.specs.Findings.{Found, over, refused, unknown, behind, settled, mismatched}
 use Rattle.shape_rules.specs.Scopes.{Setting, Locals}
 
 -- ---- parameters
@@ -143,6 +143,10 @@ Elaborate = Setting → Locals → Shape → Found
 
 -- ---- one callee: each argument is wanted as what is known by then of its parameter
 
+abbrev pub has_some : List ShapeError → Bool
+has_some [] = false
+has_some (e ∷ es) = true
+
 pub record Solved : Type 0 where
   pub known : List Shape
   pub cores : List Core
@@ -156,15 +160,23 @@ abbrev pub known_or : List Shape → Option (List Shape) → List Shape
 known_or known None = known
 known_or known (Some learnt) = learnt
 
-abbrev pub solved_behind : Found → (List Shape → Solved) → List Shape → Option (List Shape) → Solved
-solved_behind a next known learnt = also_solved a (next (known_or known learnt))
+abbrev pub place_in : Core-F Core → Place
+place_in node = node.place
+
+-- an argument that teaches two shapes of one variable (M14), at the argument
+abbrev pub taught : Shape → Found → Option (List Shape) → List ShapeError
+taught want a (Some learnt) = []
+taught want a None = if has_some a.faults then [] else mismatched (place_in (out-Core a.core)) want a.shape ∷ []
+
+abbrev pub solved_behind : Shape → Found → (List Shape → Solved) → List Shape → Option (List Shape) → Solved
+solved_behind want a next known learnt = also_solved (record a { faults = a.faults ++ taught want a learnt }) (next (known_or known learnt))
 
 -- as many arguments as parameters
 abbrev pub solved : List Elaborate → Setting → Locals → List Shape → List Shape → Solved
 solved [] setting locals params known = record { known = known; cores = []; faults = [] }
 solved (e ∷ es) setting locals [] known = record { known = known; cores = []; faults = [] }
 solved (e ∷ es) setting locals (p ∷ ps) known =
-    solved_behind (e setting locals (put (at known) p)) (solved es setting locals ps) known (learn p (e setting locals (put (at known) p)).shape known)
+    solved_behind (put (at known) p) (e setting locals (put (at known) p)) (solved es setting locals ps) known (learn p (e setting locals (put (at known) p)).shape known)
 
 abbrev pub solved_found : Place → Shape → Candidate → Solved → Found
 solved_found place want f args = behind args.faults (call_found place want f args.known args.cores)
@@ -204,10 +216,6 @@ never_form form = false
 
 abbrev pub has_never : Shape → Bool
 has_never = fold-Shape Bool never_form
-
-abbrev pub has_some : List ShapeError → Bool
-has_some [] = false
-has_some (e ∷ es) = true
 
 abbrev pub is_unsure_of : Found → Bool
 is_unsure_of a = has_some a.faults && has_never a.shape

@@ -30,7 +30,6 @@ use Rattle.sail_core.specs.declared.tree.Kind.{Kind}
 use Rattle.sail_core.specs.declared.tree.Kind.TheVariants as K
 use Rattle.sail_core.specs.declared.tree.Core.{Core}
 use Rattle.sail_core.specs.declared.written.Written.{Written}
-use Rattle.shape_joins.specs.Joins.{has_hole}
 use Rattle.shape_rules.specs.declared.locals.Local.{Local}
 use Rattle.shape_rules.specs.declared.error.ShapeError.{ShapeError}
 use Rattle.shape_rules.specs.Findings.{Found, leaf, over, missing, unknown, behind, settled, given_on, cast, ill_shaped}
@@ -38,7 +37,7 @@ use Rattle.shape_rules.specs.Written.{number_in, constraint_in, shape_in, writte
 use Rattle.shape_rules.specs.Scopes.{Setting, Locals, plainly, constant, variable, under, thrown_shape}
 use Rattle.shape_rules.specs.Calls.{Elaborate}
 use Rattle.shape_rules.specs.Patterns.{Looked, look, no_widths, wanted_by, has_typ, written_shape}
-use Rattle.shape_rules.specs.Targets.{Part}
+use Rattle.shape_rules.specs.Targets.{Part, leaves_open}
 use Rattle.shape_rules.specs.Targets.{Aimed, TargetPart}
 use Rattle.shape_rules.specs.Values.{call_named}
 
@@ -54,15 +53,15 @@ pub record Righted : Type 0 where
   pub parts : List Core
   pub faults : List ShapeError
 
--- an assignment inside another is `()`
-abbrev pub inner_faults : Place → Shape → List ShapeError
-inner_faults place want = (settled place want V.Unit (λ s. missing place)).faults
+-- an assignment inside another
+abbrev pub inner_faults : Place → Shape → Shape → List ShapeError
+inner_faults place want answer = (settled place want answer (λ s. missing place)).faults
 
 abbrev pub also_righted : Place → Shape → Aimed → Righted → Righted
 also_righted place want a more = record {
   targets = a.target ∷ more.targets;
   parts = a.parts ++ more.parts;
-  faults = inner_faults place want ++ a.faults ++ more.faults;
+  faults = inner_faults place want a.answer ++ a.faults ++ more.faults;
 }
 
 -- what stands on the right: the value, or further assignments
@@ -77,7 +76,7 @@ righted (f ∷ fs) value setting locals want =
 
 abbrev pub assigned_found : Place → Shape → Aimed → Righted → Found
 assigned_found place want a right =
-    behind (a.faults ++ right.faults) (settled place want V.Unit (λ s. over place (K.Assign (a.target ∷ right.targets)) (a.parts ++ right.parts)))
+    behind (a.faults ++ right.faults) (settled place want a.answer (λ s. over place (K.Assign (a.target ∷ right.targets)) (a.parts ++ right.parts)))
 
 abbrev pub assign_to : Place → Aimed → List FurtherPart → Part → Elaborate
 assign_to place a more value setting locals want = assigned_found place want a (righted more value setting locals a.shape)
@@ -100,7 +99,7 @@ pub record Binding : Type 0 where
 
 -- a hole that is left without a type (M14)
 abbrev pub hole_faults : Place → Bool → Shape → List ShapeError
-hole_faults place is_typed s = if is_typed then [] else (if has_hole s then ill_shaped place ∷ [] else [])
+hole_faults place is_typed s = if is_typed then [] else (if leaves_open s then ill_shaped place ∷ [] else [])
 
 abbrev pub binding_of : Place → Bool → Place → Found → Looked → Binding
 binding_of place is_typed at_value a p = record {

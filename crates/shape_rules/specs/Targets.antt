@@ -1,5 +1,5 @@
 -- Parts of values, and what is assigned to (Sail language manual, "Variables and assignment", "Bitvectors", "Structs").
-use Rattle.std.specs.Prelude.{ℕ, suc, nat_eq, Bool, true, false, bytes_eq, List, [], ◌∷◌, ◌++◌, length, map}
+use Rattle.std.specs.Prelude.{ℕ, suc, nat_eq, Bool, true, false, ◌||◌, bytes_eq, List, [], ◌∷◌, ◌++◌, length, map}
 use Rattle.std.specs.Prelude.{Option, Some, None, option_map, if◌then◌else◌}
 use Rattle.sail_base.specs.declared.place.Place.{Place}
 use Rattle.sail_syntax.specs.declared.name.Name.{Name}
@@ -9,7 +9,7 @@ use Rattle.sail_types.specs.Shapes.{shape, put, at}
 use Rattle.sail_types.specs.declared.table.Field.{Field}
 use Rattle.sail_types.specs.declared.table.Types.{Types}
 use Rattle.sail_types.specs.declared.types.Typ.{Typ}
-use Rattle.sail_types.specs.declared.shapes.Shape.{Shape, Shape-F, out-Shape}
+use Rattle.sail_types.specs.declared.shapes.Shape.{Shape, Shape-F, fold-Shape, out-Shape}
 use Rattle.sail_types.specs.declared.shapes.Shape.TheOpen as S
 use Rattle.sail_types.specs.declared.shapes.Shape.TheVariants as V
 use Rattle.sail_core.specs.declared.targets.Suffix.{Suffix}
@@ -173,6 +173,35 @@ walked (suffix ∷ suffixes) setting locals first base s =
     also_walked base (suffix_place first suffix) s (led_form setting suffix (out-Shape s)) (suffix_found suffix setting locals)
     (walked suffixes setting locals first (suffix_place first suffix) (led_shape (led_form setting suffix (out-Shape s))))
 
+-- ---- shapes that a later value could fill: a hole, or what never ends as an item or an argument
+
+pub record Openness : Type 0 where
+  pub never : Bool
+  pub open_inside : Bool
+
+abbrev pub openness : Bool → Bool → Openness
+openness never open_inside = record { never = never; open_inside = open_inside }
+
+abbrev pub any_never : List Openness → Bool
+any_never [] = false
+any_never (o ∷ os) = o.never || any_never os
+
+abbrev pub any_open : List Openness → Bool
+any_open [] = false
+any_open (o ∷ os) = o.open_inside || any_open os
+
+abbrev pub openness_form : Shape-F Openness → Openness
+openness_form S.Never = openness true false
+openness_form S.Hole = openness false true
+openness_form (S.List o) = openness false (o.never || o.open_inside)
+openness_form (S.Vector o) = openness false (o.never || o.open_inside)
+openness_form (S.Tuple os) = openness (any_never os) (any_open os)
+openness_form (S.Named i os) = openness false (any_never os || any_open os)
+openness_form form = openness false false
+
+abbrev pub leaves_open : Shape → Bool
+leaves_open s = (fold-Shape Openness openness_form s).open_inside
+
 -- ---- targets: the shape of what is assigned, the target, the arguments and indexes in it, and all failures in it
 
 pub record Aimed : Type 0 where
@@ -180,6 +209,8 @@ pub record Aimed : Type 0 where
   pub target : Target
   pub parts : List Core
   pub faults : List ShapeError
+  -- the shape of the assignment: of what a writer gives, and else unit
+  pub answer : Shape
 
 pub record TargetPart : Type 0 where
   pub place : Place
@@ -191,11 +222,11 @@ abbrev pub target : Place → TargetKind → List Target → Target
 target place kind parts = roll-Target (record { place = place; number = 0; kind = kind; parts = parts })
 
 abbrev pub aimed : Shape → Place → TargetKind → Aimed
-aimed s place kind = record { shape = s; target = target place kind []; parts = []; faults = [] }
+aimed s place kind = record { shape = s; target = target place kind []; parts = []; faults = []; answer = V.Unit }
 
 -- in the place of a target that failed
 abbrev pub aimed_nowhere : Place → List ShapeError → Aimed
-aimed_nowhere place faults = record { shape = V.Never; target = target place (T.Register 0) []; parts = []; faults = faults }
+aimed_nowhere place faults = record { shape = V.Never; target = target place (T.Register 0) []; parts = []; faults = faults; answer = V.Never }
 
 -- a `var`, else a register
 abbrev pub register_aimed : Name → Option Meant → Aimed
@@ -252,6 +283,7 @@ call_aimed name faults args reader (Some writer) = record {
   target = call_target name.place (length args.cores) (reader_of reader) (doing_callee writer.candidate.doing);
   parts = args.cores;
   faults = faults;
+  answer = put (at writer.known) writer.candidate.answer;
 }
 
 -- the writer takes one argument more, of which nothing is known before it is found
@@ -266,6 +298,7 @@ callee_aimed name f count args = record {
   target = call_target name.place count None (doing_callee f.doing);
   parts = args.cores;
   faults = args.faults;
+  answer = put (at args.known) f.answer;
 }
 
 abbrev pub callee_counted : Name → Candidate → List Part → Setting → Locals → Aimed
@@ -303,7 +336,7 @@ each_aimed [] setting locals = record { shapes = []; targets = []; parts = []; f
 each_aimed (t ∷ ts) setting locals = also_aimed (t.aim setting locals) (each_aimed ts setting locals)
 
 abbrev pub tuple_aimed : Place → AimedAll → Aimed
-tuple_aimed place all = record { shape = V.Tuple all.shapes; target = target place T.Tuple all.targets; parts = all.parts; faults = all.faults }
+tuple_aimed place all = record { shape = V.Tuple all.shapes; target = target place T.Tuple all.targets; parts = all.parts; faults = all.faults; answer = V.Unit }
 
 abbrev pub part_aimed : Place → Aimed → Walked → Aimed
 part_aimed place base ways = record {
@@ -311,6 +344,7 @@ part_aimed place base ways = record {
   target = target place (T.Part ways.suffixes) (base.target ∷ []);
   parts = base.parts ++ ways.parts;
   faults = base.faults ++ ways.faults;
+  answer = base.answer;
 }
 
 -- where no member takes f(a); one callee has another count, or else its call with one argument more has failed
@@ -319,11 +353,22 @@ unread name count one (Some x) = []
 unread name count (Some f) None = if nat_eq (length f.params) count then [] else error.Arity name.place (length f.params) count ∷ []
 unread name count None None = error.NoMember name.place name.text ∷ []
 
+-- a part is replaced in what is read, which leaves nothing open (M14)
+abbrev pub open_faults : Place → Shape → List ShapeError
+open_faults place s = if leaves_open s then ill_shaped place ∷ [] else []
+
 abbrev pub read_with : Name → ℕ → Option Candidate → Option Chosen → Aimed → Aimed
-read_with name count one reader base = record base { shape = read_shape reader; faults = base.faults ++ unread name count one reader }
+read_with name count one reader base =
+    record base { shape = read_shape reader; faults = base.faults ++ unread name count one reader ++ open_faults name.place (read_shape reader) }
+
+-- the writer takes what is read
+abbrev pub written_by : Name → List Candidate → Args → Option Chosen → Option Candidate → Aimed → Aimed
+written_by name fs args reader (Some f) base = base
+written_by name fs args reader None base = call_aimed name args.faults args reader (chosen fs (args.shapes ++ read_shape reader ∷ []))
 
 abbrev pub read_by : Name → ℕ → Option Meant → List Candidate → Args → Aimed → Aimed
-read_by name count meant fs args = read_with name count (one_of meant fs) (chosen fs args.shapes)
+read_by name count meant fs args base =
+    read_with name count (one_of meant fs) (chosen fs args.shapes) (written_by name fs args (chosen fs args.shapes) (one_of meant fs) base)
 
 -- `f(a)[i] = e` reads f(a) by the call itself
 abbrev pub read_aimed : Option (Name × List Part) → Setting → Locals → Aimed → Aimed

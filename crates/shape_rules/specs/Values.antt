@@ -214,12 +214,22 @@ abbrev pub logical_found : Place → Kind → Shape → Found → Found → Foun
 logical_found place kind want a b = behind (a.faults ++ b.faults) (settled place want V.Bool (λ s. over place kind (a.core ∷ b.core ∷ [])))
 
 -- `&` and `|` look at the left operand first: on a truth the right one is a truth too, and no member is looked at
+abbrev pub is_variable_form : Shape-F Shape → Bool
+is_variable_form (S.Variable i) = true
+is_variable_form form = false
+
+-- of a type variable it isn't known whether it is a truth (M16)
+abbrev pub undecided : Place → Operator → Found → Found → Found
+undecided place operator a b = behind (a.faults ++ b.faults) (refused (error.NoMember place (operator_text operator)))
+
 abbrev pub infix_as : Place → Operator → Part → Part → Option Kind → Elaborate
 infix_as place operator a b None setting locals want =
     several_called place (operator_text operator) (operator_members setting operator) (a.elaborate ∷ b.elaborate ∷ []) setting locals want
 infix_as place operator a b (Some kind) setting locals want =
     if is_truth_form (out-Shape (a.elaborate setting locals V.Never).shape)
     then logical_found place kind want (a.elaborate setting locals V.Never) (b.elaborate setting locals V.Bool)
+    else if is_variable_form (out-Shape (a.elaborate setting locals V.Never).shape)
+    then undecided place operator (a.elaborate setting locals V.Never) (b.elaborate setting locals V.Never)
     else several_called place (operator_text operator) (operator_members setting operator) (a.elaborate ∷ b.elaborate ∷ []) setting locals want
 
 abbrev pub infix_found : Place → Operator → Part → Part → Elaborate
@@ -278,14 +288,19 @@ update_kind (Some low) = K.WithSlice
 abbrev pub ends_found : IndexPart → Setting → Locals → List Found
 ends_found index setting locals = index_found (Some index.first) setting locals ++ index_found index.last setting locals
 
-abbrev pub updated : Place → Shape → Kind → Found → List ShapeError → List Found → Found → Found
-updated place want kind a base ends value =
+-- a vector with another item is one of what both come to
+abbrev pub updated_shape : Option Part → Shape-F Shape → Shape → Shape → Shape
+updated_shape None (S.Vector s) base found = V.Vector (given_on s found)
+updated_shape last form base found = base
+
+abbrev pub updated : Place → Shape → Kind → Option Part → Found → List ShapeError → List Found → Found → Found
+updated place want kind last a base ends value =
     behind (((a.faults ++ base) ++ faults_of ends) ++ value.faults)
-    (settled place want a.shape (λ s. over place kind (a.core ∷ cores_of ends ++ value.core ∷ [])))
+    (settled place want (updated_shape last (out-Shape a.shape) a.shape value.shape) (λ s. over place kind (a.core ∷ cores_of ends ++ value.core ∷ [])))
 
 abbrev pub update_with : Place → Place → IndexPart → Part → Found → Option Led → Elaborate
 update_with place at_base index value a led setting locals want =
-    updated place want (update_kind index.last) a (base_faults at_base a.shape led) (ends_found index setting locals)
+    updated place want (update_kind index.last) index.last a (base_faults at_base a.shape led) (ends_found index setting locals)
     (value.elaborate setting locals (led_shape led))
 
 abbrev pub update_of : Place → Part → IndexPart → Part → Found → Elaborate
@@ -376,9 +391,9 @@ abbrev pub named_place : Shape-F Shape → Option (ℕ × List Shape)
 named_place (S.Named i ss) = Some (i, ss)
 named_place form = None
 
-abbrev pub with_values : Place → Shape → ℕ → Found → List ℕ → Parts → Found
-with_values place want i a places values =
-    behind (a.faults ++ values.faults) (settled place want a.shape (λ s. over place (K.With i places) (a.core ∷ values.cores)))
+abbrev pub with_values : Place → Shape → ℕ → Found → List ℕ → Solved → Found
+with_values place want i a places args =
+    behind (a.faults ++ args.faults) (settled place want (V.Named i args.known) (λ s. over place (K.With i places) (a.core ∷ args.cores)))
 
 -- a base that isn't a struct with these fields (M14)
 abbrev pub with_failed : Place → Place → List FieldPart → Found → Elaborate
@@ -388,7 +403,7 @@ with_failed place at_base fs a setting locals want =
 abbrev pub with_named : Place → Place → List FieldPart → Found → ℕ → List Shape → Option Named → Elaborate
 with_named place at_base fs a i ss None setting locals want = with_failed place at_base fs a setting locals want
 with_named place at_base fs a i ss (Some named) setting locals want =
-    with_values place want i a named.places (parts_found (values_of fs) setting locals (map (put (at ss)) named.shapes))
+    with_values place want i a named.places (solved (values_of fs) setting locals named.shapes ss)
 
 abbrev pub with_of : Place → Place → List FieldPart → Found → Option (ℕ × List Shape) → Elaborate
 with_of place at_base fs a None setting locals want = with_failed place at_base fs a setting locals want

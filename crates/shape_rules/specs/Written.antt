@@ -12,6 +12,8 @@ use Rattle.sail_syntax.specs.declared.types.TyExp.TheOpen as X
 use Rattle.sail_syntax.specs.declared.types.TyExp.TheFolds.{map-TyExp}
 use Rattle.sail_syntax.specs.declared.words.TypePrefix.{TypePrefix}
 use Rattle.sail_syntax.specs.declared.words.TypePrefix.TheVariants as P
+use Rattle.sail_syntax.specs.declared.words.TypeOperator.TheVariants as Op
+use Rattle.sail_syntax.specs.declared.words.TypeOperator.{TypeOperator}
 use Rattle.sail_types.specs.Sums.{and_then, terms_of, constant_of, coefficient_of, atom_of}
 use Rattle.sail_types.specs.Shapes.{shape}
 use Rattle.sail_types.specs.declared.shapes.Shape.{Shape}
@@ -206,13 +208,31 @@ abbrev pub own_size : List ℕ → Within → List Piece → List WrittenNumber
 own_size name within [] = []
 own_size name within (piece ∷ pieces) = sized_if (own_role name) (type_place piece.text) (number_in within piece.text)
 
+-- ---- the sides of a comparison
+
+abbrev pub compares_form : TypeOperator → Bool
+compares_form Op.Equal = true
+compares_form Op.NotEqual = true
+compares_form Op.Less = true
+compares_form Op.LessEqual = true
+compares_form Op.Greater = true
+compares_form Op.GreaterEqual = true
+compares_form op = false
+
+abbrev pub side : Piece → Within → List WrittenNumber
+side piece within = sized Size.Side (type_place piece.text) (number_in within piece.text)
+
+abbrev pub side_of : TypeOperator → Piece → Within → List WrittenNumber
+side_of operator piece within = if compares_form operator then side piece within else []
+
 abbrev pub form_numbers : TyExp → TyExp-F Piece → Within → List WrittenNumber
 form_numbers text (X.Named name pieces) within =
     if is_alias name.text within then exponents_in (pieces_numbers pieces within) ++ sizes_if name.place (typ_in within text)
     else own_size name.text within pieces ++ pieces_numbers pieces within
 form_numbers text (X.Prefix place prefix piece) within = exponent prefix place (number_in within piece.text) ++ piece.numbers within
-form_numbers text (X.Infix place operator left right) within = left.numbers within ++ right.numbers within
-form_numbers text (X.OneOf place piece choices) within = piece.numbers within
+form_numbers text (X.Infix place operator left right) within =
+    (left.numbers within ++ side_of operator left within) ++ right.numbers within ++ side_of operator right within
+form_numbers text (X.OneOf place piece choices) within = piece.numbers within ++ side piece within
 form_numbers text (X.Tuple place pieces) within = pieces_numbers pieces within
 form_numbers text (X.Exists place names constraint piece) within =
     piece_numbers_if constraint (inside_binder names within) ++ piece.numbers (inside_binder names within)

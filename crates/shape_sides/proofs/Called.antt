@@ -9,7 +9,7 @@ use Rattle.shape_rules.specs.Findings.{behind, refused}
 use Rattle.shape_rules.specs.Scopes.{Setting, Locals}
 use Rattle.shape_rules.specs.Calls.{Elaborate, one_called, several_called, row_called, arguments_for, or_unit, member_candidate}
 use Rattle.shape_walks.specs.declared.heads.Head.TheVariants as H
-use Rattle.shape_walks.specs.Walks.{want_of, took}
+use Rattle.shape_walks.specs.Walks.{want_of, took, one_faults}
 use Rattle.shape_walks.specs.Heads.{head_fault, head_walk, head_made}
 use Rattle.shape_sides.proofs.Listed.{one_is, one_refused}
 
@@ -19,7 +19,7 @@ use Rattle.shape_sides.proofs.Listed.{one_is, one_refused}
 pub value_is : (place : Place) (f : Bor Candidate) (e : Elaborate) (setting : Setting) (locals : Locals) (want : Shape)
     → head_fault (H.One place f) 1 ≡ None
     → one_called place f.now (e ∷ []) setting locals want
-    ≡ behind (e setting locals (want_of (head_walk (H.One place f) 1 want))).faults
+    ≡ behind (one_faults (head_walk (H.One place f) 1 want) (e setting locals (want_of (head_walk (H.One place f) 1 want))))
     (head_made (H.One place f) setting want (took (head_walk (H.One place f) 1 want) (e setting locals (want_of (head_walk (H.One place f) 1 want)))))
 value_is place f e setting locals want fits = one_is (H.One place f) (record { place = place; elaborate = e }) setting locals want fits
 

@@ -10,7 +10,7 @@ use Rattle.shape_rules.specs.Sides.{read_side}
 use Rattle.shape_rules.specs.Targets.{Part}
 use Rattle.shape_walks.specs.declared.heads.Head.{Head}
 use Rattle.shape_walks.specs.declared.walks.Walk.{Walk}
-use Rattle.shape_walks.specs.Walks.{want_of, took, each_taken, each_faults}
+use Rattle.shape_walks.specs.Walks.{want_of, took, one_faults, each_taken, each_faults}
 use Rattle.shape_walks.specs.Heads.{head_found, head_fault, head_walk, head_made, walked_from}
 use Rattle.shape_walks.proofs.Formed.{head_walked, head_refused}
 use Rattle.shape_sides.specs.Trees.{elaborates}
@@ -45,13 +45,13 @@ listed_bare head (p ∷ ps) setting locals want count many none = absurd (cc)
 -- a form over one part
 pub one_is : (head : Head) (a : Part) (setting : Setting) (locals : Locals) (want : Shape) → head_fault head 1 ≡ None
     → head_found head (a ∷ []) setting locals want
-    ≡ behind (a.elaborate setting locals (want_of (head_walk head 1 want))).faults
+    ≡ behind (one_faults (head_walk head 1 want) (a.elaborate setting locals (want_of (head_walk head 1 want))))
     (head_made head setting want (took (head_walk head 1 want) (a.elaborate setting locals (want_of (head_walk head 1 want)))))
 one_is head a setting locals want fault =
     let w : Walk = head_walk head 1 want in
     let x : Found = a.elaborate setting locals (want_of w) in
     head_walked head a [] setting locals want fault
-    ∙ ap (λ (es : List ShapeError). behind es (head_made head setting want (took w x))) (append-nil x.faults)
+    ∙ ap (λ (es : List ShapeError). behind es (head_made head setting want (took w x))) (append-nil (one_faults w x))
 
 pub one_refused : (head : Head) (a : Part) (setting : Setting) (locals : Locals) (want : Shape) (e : ShapeError)
     → head_fault head 1 ≡ Some e → head_found head (a ∷ []) setting locals want ≡ refused e

@@ -8,7 +8,7 @@ ghost use Rattle.shape_rules.specs.Sides.{read_side};
 ghost use Rattle.shape_rules.specs.Targets.{elaborations};
 ghost use Rattle.shape_rules.specs.Values as values;
 ghost use Rattle.shape_calls.specs.Made.{made_of};
-ghost use Rattle.shape_walks.specs.Walks.{want_of, took};
+ghost use Rattle.shape_walks.specs.Walks.{want_of, took, one_faults};
 
 use crate::sides::{elaborate_side, listed, place_of_side};
 use sail_base::Place;
@@ -156,7 +156,7 @@ fn value_place(place: Place, parts: &[Pat]) -> Place
 
 /// One part more of a walk: the value of arguments.
 #[cycle(side)]
-#[tactic(auto, using(shape_calls::proofs::Apart::noted_apart, shape_calls::proofs::Apart::some_noted, shape_rules::proofs::Firsts::first_failure_append))]
+#[tactic(auto, using(shape_walks::proofs::Taught::one_noted, shape_calls::proofs::Apart::some_noted))]
 fn push_value(
     alloc: Global,
     place: Place,
@@ -169,7 +169,7 @@ fn push_value(
     ensures walk { IfOk result (λ next. next
         ≡ took walk ((values.as_one place (map read_side parts.now)).elaborate (setting_of around.now) locals.now (want_of walk))) }
     ensures failures { OnOk result (first.new.error ≡ first_failure first.old.error
-        ((values.as_one place (map read_side parts.now)).elaborate (setting_of around.now) locals.now (want_of walk)).faults) }
+        (one_faults walk ((values.as_one place (map read_side parts.now)).elaborate (setting_of around.now) locals.now (want_of walk)))) }
 {
     let want = walk.want(alloc)?;
     let mut apart = First::none();

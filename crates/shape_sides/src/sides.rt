@@ -9,7 +9,7 @@ ghost use Rattle.shape_rules.specs.Sides as sides;
 ghost use Rattle.shape_rules.specs.Sides.{read_side};
 ghost use Rattle.shape_rules.specs.Values as values;
 ghost use Rattle.shape_calls.specs.Made.{made_of};
-ghost use Rattle.shape_walks.specs.Walks.{want_of, took, each_taken, each_faults};
+ghost use Rattle.shape_walks.specs.Walks.{want_of, took, one_faults, each_taken, each_faults};
 ghost use Rattle.shape_walks.specs.Heads.{head_found};
 ghost use Rattle.shape_sides.specs.Trees.{elaborates, further_part};
 
@@ -131,7 +131,7 @@ fn negative(
 
 /// One part more of a walk.
 #[cycle(side)]
-#[tactic(auto, using(shape_calls::proofs::Apart::noted_apart, shape_calls::proofs::Apart::some_noted, shape_rules::proofs::Firsts::first_failure_append))]
+#[tactic(auto, using(shape_walks::proofs::Taught::one_noted, shape_calls::proofs::Apart::some_noted))]
 fn push_one(
     alloc: Global,
     side: &Pat,
@@ -143,7 +143,7 @@ fn push_one(
     ensures walk { IfOk result (λ next. next
         ≡ took walk ((read_side side.now).elaborate (setting_of around.now) locals.now (want_of walk))) }
     ensures failures { OnOk result (first.new.error ≡ first_failure first.old.error
-        ((read_side side.now).elaborate (setting_of around.now) locals.now (want_of walk)).faults) }
+        (one_faults walk ((read_side side.now).elaborate (setting_of around.now) locals.now (want_of walk)))) }
 {
     let want = walk.want(alloc)?;
     let mut apart = First::none();
@@ -310,7 +310,7 @@ fn infix_joined(
 
 /// One part more of a walk: a concatenation of at least two parts.
 #[cycle(side)]
-#[tactic(auto, using(shape_calls::proofs::Apart::noted_apart, shape_calls::proofs::Apart::some_noted, shape_rules::proofs::Firsts::first_failure_append))]
+#[tactic(auto, using(shape_walks::proofs::Taught::one_noted, shape_calls::proofs::Apart::some_noted))]
 fn push_joined(
     alloc: Global,
     place: Place,
@@ -324,8 +324,8 @@ fn push_joined(
 ) -> Result<Walk, AllocError>
     ensures walk { IfOk result (λ next. next ≡ took walk ((sides.append_part place (read_side head.now) (read_side second.now)
         (map further_part more.now)).elaborate (setting_of around.now) locals.now (want_of walk))) }
-    ensures failures { OnOk result (first.new.error ≡ first_failure first.old.error ((sides.append_part place (read_side head.now)
-        (read_side second.now) (map further_part more.now)).elaborate (setting_of around.now) locals.now (want_of walk)).faults) }
+    ensures failures { OnOk result (first.new.error ≡ first_failure first.old.error (one_faults walk ((sides.append_part place
+        (read_side head.now) (read_side second.now) (map further_part more.now)).elaborate (setting_of around.now) locals.now (want_of walk)))) }
 {
     let want = walk.want(alloc)?;
     let mut apart = First::none();

@@ -4,6 +4,7 @@ pub mod Formed
 pub mod Infixes
 pub mod Listed
 pub mod Called
+pub mod Taught
 mod LastPlaces
 mod Units
 mod Recalled

@@ -1,5 +1,5 @@
 -- Overloads and operators without a written part.
-use Rattle.std.proofs.Common.{◌≡◌, Bool, true, false, if◌then◌else◌, nat_eq, List, [], ◌∷◌, map, length, slice_get, Option, Some}
+use Rattle.std.proofs.Common.{◌≡◌, Bool, true, false, if◌then◌else◌, nat_eq, List, [], ◌∷◌, ◌++◌, map, length, slice_get, Option, Some}
 use Rattle.std.proofs.Common.{refl, sym, ap, ◌∙◌, IfOk, OnOk}
 use Rattle.std.proofs.lemmas.List.{append-nil}
 use Rattle.std.specs.Prelude.{Result, Ok, Err}
@@ -8,6 +8,7 @@ use Rattle.sail_base.specs.declared.place.Place.{Place}
 use Rattle.sail_syntax.specs.declared.words.Brackets.{Brackets}
 use Rattle.sail_syntax.specs.declared.words.Brackets.TheVariants as B
 use Rattle.shape_rules.specs.declared.callees.Candidate.{Candidate}
+use Rattle.sail_types.specs.Shapes.{put, at}
 use Rattle.sail_types.specs.declared.shapes.Shape.{Shape, out-Shape}
 use Rattle.sail_types.specs.declared.shapes.Shape.TheFolds.{fold-roll-Shape}
 use Rattle.sail_types.specs.declared.shapes.Shape.TheOpen as S
@@ -21,7 +22,7 @@ use Rattle.shape_joins.specs.Learning.{holes, learn}
 use Rattle.shape_rules.specs.Findings.{Found, leaf, refused, settled, settled_as, first_failure}
 use Rattle.shape_rules.specs.Scopes.{Setting, Locals}
 use Rattle.shape_rules.specs.Calls.{Elaborate, Args, args_found, also_arg, several_found, member_candidate, arguments_for, takes_unit, takes_unit_form}
-use Rattle.shape_rules.specs.Calls.{counted, solved, solved_found, known_or, call_found}
+use Rattle.shape_rules.specs.Calls.{counted, solved, solved_found, known_or, taught, call_found}
 use Rattle.shape_rules.specs.declared.error.ShapeError.{ShapeError}
 use Rattle.shape_rules.specs.declared.error.ShapeError.TheVariants as error
 use Rattle.shape_rules.specs.Values.{unit_found, group_found}
@@ -70,11 +71,13 @@ one_param : (place : Place) (want : Shape) (f : Candidate) (setting : Setting) (
     → called_on place want f setting locals (if takes then unit_found place ∷ [] else []) (p ∷ [])
     ≡ (if takes then solved_found place want f (unit_solved place (holes f.variables) (Some p)) else refused (error.Arity place 1 0))
 one_param place want f setting locals p true =
+    let known : List Shape = holes f.variables in
+    let a : Found = unit_at_param place known p in
     ap (λ (faults : List ShapeError). solved_found place want f (record {
-      known = known_or (holes f.variables) (learn p (unit_at_param place (holes f.variables) p).shape (holes f.variables));
-      cores = (unit_at_param place (holes f.variables) p).core ∷ [];
+      known = known_or known (learn p a.shape known);
+      cores = a.core ∷ [];
       faults = faults;
-    })) (append-nil (unit_at_param place (holes f.variables) p).faults)
+    })) (append-nil (a.faults ++ taught (put (at known) p) a (learn p a.shape known)))
 one_param place want f setting locals p false = refl
 
 bare_called : (place : Place) (want : Shape) (f : Candidate) (setting : Setting) (locals : Locals) (ps : List Shape)

@@ -11,11 +11,11 @@ use Rattle.shape_joins.specs.Learning.{learn}
 use Rattle.shape_rules.specs.declared.error.ShapeError.{ShapeError}
 use Rattle.shape_rules.specs.Findings.{Found, given_on}
 use Rattle.shape_rules.specs.Scopes.{Setting, Locals}
-use Rattle.shape_rules.specs.Calls.{Elaborate, Solved, solved, known_or, Args, args_found, also_arg, is_unsure_of}
+use Rattle.shape_rules.specs.Calls.{Elaborate, Solved, solved, known_or, taught, Args, args_found, also_arg, is_unsure_of}
 use Rattle.shape_rules.specs.Values.{Parts, parts_found, also_part, chained}
 use Rattle.shape_walks.specs.declared.walks.Plan.TheVariants as P
 use Rattle.shape_walks.specs.declared.walks.Walk.{Walk}
-use Rattle.shape_walks.specs.Walks.{shape_at, begun, want_of, taken, took, known_shapes, given_shape, each_taken, each_faults}
+use Rattle.shape_walks.specs.Walks.{shape_at, begun, want_of, taken, took, one_faults, known_shapes, given_shape, each_taken, each_faults}
 
 -- parts behind others
 pub taken_behind : (es fs : List Elaborate) (setting : Setting) (locals : Locals) (w : Walk)
@@ -28,8 +28,8 @@ pub faults_behind : (es fs : List Elaborate) (setting : Setting) (locals : Local
 faults_behind [] fs setting locals w = refl
 faults_behind (e ∷ es) fs setting locals w =
     let a = e setting locals (want_of w) in
-    ap (λ (rest : List ShapeError). a.faults ++ rest) (faults_behind es fs setting locals (took w a))
-    ∙ sym (append_assoc a.faults (each_faults es setting locals (took w a))
+    ap (λ (rest : List ShapeError). one_faults w a ++ rest) (faults_behind es fs setting locals (took w a))
+    ∙ sym (append_assoc (one_faults w a) (each_faults es setting locals (took w a))
     (each_faults fs setting locals (each_taken es setting locals (took w a))))
 
 -- ---- each part its own shape
@@ -101,7 +101,7 @@ each_is (e ∷ es) setting locals wants ss cs u =
 
 each_faults_are : (es : List Elaborate) (setting : Setting) (locals : Locals) (wants ss : List Shape) (cs : List Core) (u : Bool)
     → each_faults es setting locals (at_each wants ss cs u) ≡ (each_all es setting locals (drop (length ss) wants)).faults
-unfolding want_or each_all at_each want_of taken
+unfolding want_or each_all at_each want_of taken one_faults
 each_faults_are [] setting locals wants ss cs u = refl
 each_faults_are (e ∷ es) setting locals wants ss cs u =
     let d = drop (length ss) wants in
@@ -201,7 +201,7 @@ given_cores_in (e ∷ es) setting locals want ss cs u =
 
 given_faults_in : (es : List Elaborate) (setting : Setting) (locals : Locals) (want : Shape) (ss : List Shape) (cs : List Core) (u : Bool)
     → each_faults es setting locals (at_given want ss cs u) ≡ (chained es setting locals want).faults
-unfolding at_given want_of taken
+unfolding at_given want_of taken one_faults
 given_faults_in [] setting locals want ss cs u = refl
 given_faults_in (e ∷ es) setting locals want ss cs u =
     let a : Found = e setting locals want in
@@ -246,7 +246,7 @@ solved_walk : (es : List Elaborate) (setting : Setting) (locals : Locals) (param
     → length ss + length es ≤ length params
     → behind_cores cs (solved es setting locals (drop (length ss) params) known)
     ≡ solved_in (each_taken es setting locals (at_params params known ss cs u)) (each_faults es setting locals (at_params params known ss cs u))
-unfolding at_params want_of taken solved_in behind_cores
+unfolding at_params want_of taken one_faults solved_in behind_cores
 solved_walk [] setting locals params known ss cs u h = λ i. record { known = known; cores = append-nil cs i; faults = [] }
 solved_walk (e ∷ es) setting locals params known ss cs u h =
     let h' : length ss + suc (length es) ≤ length params = h in
@@ -254,12 +254,13 @@ solved_walk (e ∷ es) setting locals params known ss cs u h =
     let p : Shape = shape_at params (length ss) in
     let a : Found = e setting locals (put (at known) p) in
     let known' : List Shape = known_or known (learn p a.shape known) in
+    let faults : List ShapeError = a.faults ++ taught (put (at known) p) a (learn p a.shape known) in
     let one : length (ss ++ a.shape ∷ []) ≡ length ss + 1 = length-append ss (a.shape ∷ []) in
     let more : length (ss ++ a.shape ∷ []) + length es ≤ length params = omega arith in
     let rest : Solved = solved es setting locals (drop 1 (drop (length ss) params)) known' in
     ap (λ (ps : List Shape). behind_cores cs (solved (e ∷ es) setting locals ps known)) (one_param params ss less)
-    ∙ (λ i. record { known = rest.known; cores = sym (append_assoc cs (a.core ∷ []) rest.cores) i; faults = a.faults ++ rest.faults })
-    ∙ ap (λ (s : Solved). record { known = s.known; cores = s.cores; faults = a.faults ++ s.faults })
+    ∙ (λ i. record { known = rest.known; cores = sym (append_assoc cs (a.core ∷ []) rest.cores) i; faults = faults ++ rest.faults })
+    ∙ ap (λ (s : Solved). record { known = s.known; cores = s.cores; faults = faults ++ s.faults })
     (ap (λ (ps : List Shape). behind_cores (cs ++ a.core ∷ []) (solved es setting locals ps known')) (sym (past_one params ss a.shape))
     ∙ solved_walk es setting locals params known' (ss ++ a.shape ∷ []) (cs ++ a.core ∷ []) (u || is_unsure_of a) more)
 

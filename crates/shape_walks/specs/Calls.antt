@@ -14,9 +14,10 @@ use Rattle.shape_rules.specs.declared.callees.Mapping.{Mapping}
 use Rattle.shape_rules.specs.Findings.{Found, over, refused, unknown, settled, ill_shaped}
 use Rattle.shape_rules.specs.Scopes.{Setting}
 use Rattle.shape_rules.specs.Expressions.{part}
-use Rattle.shape_rules.specs.Calls.{has_never}
+use Rattle.shape_rules.specs.declared.error.ShapeError.TheVariants as error
+use Rattle.shape_rules.specs.Calls.{has_never, operator_text}
 use Rattle.shape_rules.specs.Patterns.{Which, forwards, backwards, neither, either, which_side, overlap_at}
-use Rattle.shape_rules.specs.Values.{is_truth_form, logical_kind}
+use Rattle.shape_rules.specs.Values.{is_truth_form, is_variable_form, logical_kind}
 use Rattle.shape_calls.specs.declared.made.Made.{Made}
 use Rattle.shape_walks.specs.declared.heads.Head.TheVariants as H
 use Rattle.shape_walks.specs.declared.walks.Plan.TheVariants as P
@@ -53,6 +54,17 @@ first_is_truth ss = truth_at (slice_get ss 0)
 abbrev pub is_truths : Operator → Walk → Bool
 is_truths operator w = is_some (logical_kind operator) && first_is_truth w.shapes
 
+abbrev pub variable_at : Option Shape → Bool
+variable_at None = false
+variable_at (Some s) = is_variable_form (out-Shape s)
+
+abbrev pub first_is_variable : List Shape → Bool
+first_is_variable ss = variable_at (slice_get ss 0)
+
+-- `&` and `|` on what may be truths, and may be not
+abbrev pub is_undecided : Operator → Walk → Bool
+is_undecided operator w = is_some (logical_kind operator) && first_is_variable w.shapes
+
 -- behind the left operand: on a truth the right one is a truth too
 unfoldable pub turned : Operator → Walk → Walk
 turned operator w = if is_truths operator w then record w { plan = P.Each (V.Never ∷ V.Bool ∷ []) } else w
@@ -63,7 +75,9 @@ truths_of place want cores (Some kind) = settled place want V.Bool (λ s. over p
 
 unfoldable pub infix_made : Place → Operator → Setting → Shape → Walk → Found
 infix_made place operator setting want w =
-    if is_truths operator w then truths_of place want w.cores (logical_kind operator) else head_made (H.Infix place operator) setting want w
+    if is_truths operator w then truths_of place want w.cores (logical_kind operator)
+    else if is_undecided operator w then refused (error.NoMember place (operator_text operator))
+    else head_made (H.Infix place operator) setting want w
 
 -- ---- where the one of some values stands
 

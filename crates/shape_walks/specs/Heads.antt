@@ -1,5 +1,5 @@
 -- Forms over a list of expressions: what is wanted of them, and what is found once they are.
-use Rattle.std.specs.Prelude.{ℕ, nat_eq, false, List, [], ◌∷◌, length, map, slice_get, Option, Some, None, if◌then◌else◌}
+use Rattle.std.specs.Prelude.{ℕ, nat_eq, false, List, [], ◌∷◌, ◌++◌, length, map, slice_get, Option, Some, None, if◌then◌else◌}
 use Rattle.sail_base.specs.declared.place.Place.{Place}
 use Rattle.sail_syntax.specs.declared.words.Brackets.{Brackets}
 use Rattle.sail_syntax.specs.declared.words.Brackets.TheVariants as B
@@ -16,7 +16,7 @@ use Rattle.shape_rules.specs.Findings.{Found, leaf, over, settled, refused, behi
 use Rattle.shape_rules.specs.Scopes.{Setting, Locals}
 use Rattle.shape_rules.specs.Calls.{Elaborate, call_found, chosen, member_found, member_candidate}
 use Rattle.shape_rules.specs.Calls.{operator_members, operator_text, prefix_members, prefix_text}
-use Rattle.shape_rules.specs.Calls.{one_called, several_called, arguments_for, or_unit, Solved, solved_found, known_or, takes_unit}
+use Rattle.shape_rules.specs.Calls.{one_called, several_called, arguments_for, or_unit, Solved, solved_found, known_or, taught, takes_unit}
 use Rattle.shape_rules.specs.Targets.{Part, elaborations}
 use Rattle.shape_rules.specs.Values.{unit_found, group_found, tuple_wants, vector_want, list_want}
 use Rattle.shape_walks.specs.declared.heads.Head.{Head}
@@ -103,7 +103,11 @@ abbrev pub unit_at_param : Place → List Shape → Shape → Found
 unit_at_param place known param = settled place (put (at known) param) V.Unit (λ s. leaf place (K.Constant L.Unit))
 
 abbrev pub unit_taught : List Shape → Shape → Found → Solved
-unit_taught known param a = record { known = known_or known (learn param a.shape known); cores = a.core ∷ []; faults = a.faults }
+unit_taught known param a = record {
+  known = known_or known (learn param a.shape known);
+  cores = a.core ∷ [];
+  faults = a.faults ++ taught (put (at known) param) a (learn param a.shape known);
+}
 
 abbrev pub unit_solved : Place → List Shape → Option Shape → Solved
 unit_solved place known None = record { known = known; cores = []; faults = [] }

@@ -8,8 +8,8 @@ use Rattle.shape_joins.specs.Learning.{learn}
 use Rattle.shape_rules.specs.declared.error.ShapeError.{ShapeError}
 use Rattle.shape_rules.specs.Findings.{Found, given_on}
 use Rattle.shape_rules.specs.Scopes.{Setting, Locals}
-use Rattle.shape_rules.specs.Calls.{Elaborate, Args, known_or, has_some, has_never}
-use Rattle.shape_calls.specs.Made.{made_of}
+use Rattle.shape_rules.specs.Calls.{Elaborate, Args, known_or, taught, has_some, has_never}
+use Rattle.shape_calls.specs.Made.{made_of, taught_by}
 use Rattle.shape_calls.specs.declared.made.Made.{Made}
 use Rattle.shape_walks.specs.declared.walks.Plan.{Plan}
 use Rattle.shape_walks.specs.declared.walks.Plan.TheVariants as P
@@ -31,6 +31,17 @@ next_plan (P.Each wants) n s = P.Each wants
 next_plan (P.GivenOn want) n s = P.GivenOn (given_on want s)
 next_plan (P.Params params known) n s = P.Params params (known_or known (learn (shape_at params n) s known))
 
+-- an argument that teaches two shapes of one variable
+abbrev pub plan_taught : Plan → ℕ → Made → Bool → List ShapeError
+plan_taught (P.Params params known) n made is_noted =
+    taught_by (put (at known) (shape_at params n)) made is_noted (learn (shape_at params n) made.shape known)
+plan_taught plan n made is_noted = []
+
+-- all failures of the part at a position
+abbrev pub plan_faults : Plan → ℕ → Found → List ShapeError
+plan_faults (P.Params params known) n a = a.faults ++ taught (put (at known) (shape_at params n)) a (learn (shape_at params n) a.shape known)
+plan_faults plan n a = a.faults
+
 -- no part was found yet
 abbrev pub begun : Plan → Walk
 begun plan = record { plan = plan; shapes = []; cores = []; is_unsure = false }
@@ -48,6 +59,13 @@ taken w made is_noted = record {
   is_unsure = w.is_unsure || (is_noted && has_never made.shape);
 }
 
+-- what is noted of one part more besides the failures in it, and all of both
+unfoldable pub taught_made : Walk → Made → Bool → List ShapeError
+taught_made w made is_noted = plan_taught w.plan (length w.shapes) made is_noted
+
+unfoldable pub one_faults : Walk → Found → List ShapeError
+one_faults w a = plan_faults w.plan (length w.shapes) a
+
 abbrev pub took : Walk → Found → Walk
 took w a = taken w (made_of a) (has_some a.faults)
 
@@ -59,7 +77,7 @@ each_taken (e ∷ es) setting locals w = each_taken es setting locals (took w (e
 abbrev pub each_faults : List Elaborate → Setting → Locals → Walk → List ShapeError
 each_faults [] setting locals w = []
 each_faults (e ∷ es) setting locals w =
-    (e setting locals (want_of w)).faults ++ each_faults es setting locals (took w (e setting locals (want_of w)))
+    one_faults w (e setting locals (want_of w)) ++ each_faults es setting locals (took w (e setting locals (want_of w)))
 
 -- what was given on, and what is known of variables
 abbrev pub given_shape : Plan → Shape

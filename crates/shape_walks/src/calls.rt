@@ -1,5 +1,6 @@
 //! Directions of mappings, and operators on truths.
 ghost use Rattle.std.specs.Prelude.{◌≡◌, ◌++◌, map, slice_get, is_some, IfOk, OnOk};
+ghost use Rattle.sail_types.specs.declared.shapes.Shape.{out-Shape};
 ghost use Rattle.shape_rules.specs.Around.{setting_of};
 ghost use Rattle.shape_rules.specs.Expressions.{part};
 ghost use Rattle.shape_rules.specs.Findings.{first_failure};
@@ -8,16 +9,18 @@ ghost use Rattle.shape_widths.specs.Known.{which as which_of};
 ghost use Rattle.shape_calls.specs.Made.{made_of};
 ghost use Rattle.shape_calls.specs.Apart.{note_of};
 ghost use Rattle.shape_walks.specs.Calls.{one_taken, direction_made, mapping_made, first_is_truth, is_truths, turned, truths_of, infix_made, place_or};
+ghost use Rattle.shape_walks.specs.Calls.{first_is_variable, is_undecided};
 
 use crate::heads::{Head, count_of};
 use crate::places::place_of;
 use crate::walks::{Plan, Walk};
-use sail_base::{Items, Operator, Place};
+use sail_base::{Items, Operator, Place, Text};
 use sail_core::{Callee, Core, Kind};
 use sail_syntax::Exp;
 use sail_types::{Shape, shape_of};
 use shape_calls::{
-    Made, has_never, is_truth, logical_kind, note_apart, over, refused, settled, unknown,
+    Made, has_never, is_truth, logical_kind, note_apart, operator_text, over, refused, settled,
+    unknown,
 };
 use shape_rules::{Around, First, Mapping, ShapeError};
 use shape_widths::{Matched, backwards_of, forwards_of, overlap_at, which_side};
@@ -102,6 +105,26 @@ fn begins_with_truth(shapes: &[Shape]) -> bool
     }
 }
 
+/// Whether a shape is that of a type variable.
+fn is_variable(shape: &Shape) -> bool
+    ensures { result ≡ spec.is_variable_form (out-Shape shape.now) }
+{
+    match shape {
+        Shape::Variable(_) => true,
+        _ => false,
+    }
+}
+
+/// Whether the first of arguments is of a type variable.
+fn begins_with_variable(shapes: &[Shape]) -> bool
+    ensures { result ≡ first_is_variable shapes.now }
+{
+    match shapes.get(0) {
+        Some(shape) => is_variable(shape),
+        None => false,
+    }
+}
+
 /// A call of a mapping on this value, the failures of which were noted apart: its direction goes by the side that the value has. The
 /// one error is want of memory.
 #[tactic(auto, unfolding(crate::specs::Calls::mapping_made))]
@@ -158,6 +181,13 @@ fn are_truths(operator: Operator, walk: &Walk) -> bool
     logical_kind(operator).is_some() && begins_with_truth(walk.shapes.as_slice())
 }
 
+/// Whether it isn't known of operands of `&` or `|` whether they are truths, by the left one.
+fn are_undecided(operator: Operator, walk: &Walk) -> bool
+    ensures { result ≡ is_undecided operator walk.now }
+{
+    logical_kind(operator).is_some() && begins_with_variable(walk.shapes.as_slice())
+}
+
 /// What is wanted of the right operand, behind the left one. The one error is want of memory.
 #[tactic(auto, unfolding(crate::specs::Calls::turned))]
 pub fn turn(alloc: Global, operator: Operator, walk: Walk) -> Result<Walk, AllocError>
@@ -176,7 +206,8 @@ pub fn turn(alloc: Global, operator: Operator, walk: Walk) -> Result<Walk, Alloc
     }
 }
 
-/// An operator on operands that were found. The one error is want of memory.
+/// An operator on operands that were found. Notes `&` or `|` on a value of a type variable, which may be a truth. The one error is want
+/// of memory.
 #[tactic(auto, unfolding(crate::specs::Calls::infix_made))]
 pub fn finish_infix(
     alloc: Global,
@@ -194,6 +225,9 @@ pub fn finish_infix(
     if are_truths(operator, &walk) {
         let Walk { cores, .. } = walk;
         truths(alloc, place, logical_kind(operator), cores, want, first)
+    } else if are_undecided(operator, &walk) {
+        let name = Text::new(alloc, operator_text(operator))?;
+        Ok(refused(alloc, ShapeError::NoMember { place, name }, first))
     } else {
         Head::Infix(place, operator).finish(alloc, around, walk, want, first)
     }

@@ -17,8 +17,8 @@ use sail_syntax::{Brackets, Exp, Name};
 use sail_types::{Member, Shape, copy_shapes};
 use shape_calls::{
     Arguments, Made, Picked, call_found, known_behind, leaf, list_found, list_want, member_found,
-    operator_text, over, pick, pick_member, pick_operator, pick_prefix, prefix_text, refused,
-    settled, tuple_wants, unit_found, vector_found, vector_want,
+    note_apart, operator_text, over, pick, pick_member, pick_operator, pick_prefix, prefix_text,
+    refused, settled, tuple_wants, unit_found, vector_found, vector_want,
 };
 use shape_joins::{holes, put_shape};
 use shape_patterns::takes_unit;
@@ -402,10 +402,13 @@ fn one_on_param(
         (calls.solved_found place want.now callee.now (spec.unit_taught known param.now (spec.unit_at_param place known param.now))).faults) }
 {
     let wanted = put_shape(alloc, param, known.as_slice())?;
-    let made = unit_found(alloc, place, &wanted, first)?;
+    let mut apart = First::none();
+    let made = unit_found(alloc, place, &wanted, &mut apart)?;
+    let is_noted = apart.error.is_some();
+    note_apart(first, apart);
+    let learnt = known_behind(alloc, param, &made, known, is_noted, first)?;
     let mut cores = Items::new(alloc);
-    let shape = made.into_shape(&mut cores)?;
-    let learnt = known_behind(alloc, param, &shape, known)?;
+    made.into_shape(&mut cores)?;
     call_found(alloc, place, want, callee, learnt.as_slice(), cores, first)
 }
 

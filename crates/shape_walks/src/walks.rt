@@ -1,5 +1,6 @@
 //! Walks over the parts of a form: what is wanted of the next part, and what is there once it is found.
 ghost use Rattle.std.specs.Prelude.{◌≡◌, is_some, IfOk, OnOk};
+ghost use Rattle.shape_rules.specs.Findings.{first_failure};
 ghost use Rattle.shape_calls.specs.Apart.{note_of};
 ghost use Rattle.shape_walks.specs.Walks as spec;
 
@@ -50,16 +51,25 @@ impl Plan {
         }
     }
 
-    /// What is wanted behind the part at a position, which has this shape. The one error is want of memory.
-    fn next(self, alloc: Global, position: usize, shape: &Shape) -> Result<Plan, AllocError>
-        ensures { IfOk result (λ plan. plan ≡ spec.next_plan self position shape.now) }
+    /// What is wanted behind this part at a position, in which a failure was noted or not. Notes an argument that teaches two shapes of
+    /// one variable, where none was. The one error is want of memory.
+    fn next(
+        self,
+        alloc: Global,
+        position: usize,
+        made: &Made,
+        is_noted: bool,
+        first: &mut First,
+    ) -> Result<Plan, AllocError>
+        ensures plan { IfOk result (λ plan. plan ≡ spec.next_plan self position made.now.shape) }
+        ensures failures { OnOk result (first.new.error ≡ first_failure first.old.error (spec.plan_taught self position made.now is_noted)) }
     {
         match self {
             Plan::Each(wants) => Ok(Plan::Each(wants)),
-            Plan::GivenOn(want) => Ok(Plan::GivenOn(given_on(alloc, want, shape)?)),
+            Plan::GivenOn(want) => Ok(Plan::GivenOn(given_on(alloc, want, &made.shape)?)),
             Plan::Params(params, known) => {
                 let param = shape_at(alloc, params.as_slice(), position)?;
-                let known = known_behind(alloc, &param, shape, known)?;
+                let known = known_behind(alloc, &param, made, known, is_noted, first)?;
                 Ok(Plan::Params(params, known))
             }
         }
@@ -97,10 +107,18 @@ impl Walk {
         self.plan.wanted(alloc, self.shapes.len())
     }
 
-    /// One part more, and whether a failure was noted in it. The one error is want of memory.
-    #[tactic(auto, unfolding(crate::specs::Walks::taken))]
-    pub fn take(self, alloc: Global, made: Made, is_noted: bool) -> Result<Walk, AllocError>
-        ensures { IfOk result (λ walk. walk ≡ spec.taken self made is_noted) }
+    /// One part more, in which a failure was noted or not. Notes an argument that teaches two shapes of one variable, where none was. The
+    /// one error is want of memory.
+    #[tactic(auto, unfolding(crate::specs::Walks::taken, crate::specs::Walks::taught_made))]
+    pub fn take(
+        self,
+        alloc: Global,
+        made: Made,
+        is_noted: bool,
+        first: &mut First,
+    ) -> Result<Walk, AllocError>
+        ensures walk { IfOk result (λ walk. walk ≡ spec.taken self made is_noted) }
+        ensures failures { OnOk result (first.new.error ≡ first_failure first.old.error (spec.taught_made self made is_noted)) }
     {
         let Walk {
             plan,
@@ -109,8 +127,8 @@ impl Walk {
             is_unsure,
         } = self;
         let is_unsure = is_unsure || (is_noted && has_never(&made.shape));
+        let plan = plan.next(alloc, shapes.len(), &made, is_noted, first)?;
         let shape = made.into_shape(&mut cores)?;
-        let plan = plan.next(alloc, shapes.len(), &shape)?;
         shapes.push(shape)?;
         Ok(Walk {
             plan,
@@ -121,7 +139,8 @@ impl Walk {
     }
 }
 
-/// One part more, the failures of which were noted apart. The one error is want of memory.
+/// One part more, the failures of which were noted apart. Notes an argument that teaches two shapes of one variable, where none were.
+/// The one error is want of memory.
 pub fn take_noted(
     alloc: Global,
     walk: Walk,
@@ -130,10 +149,10 @@ pub fn take_noted(
     first: &mut First,
 ) -> Result<Walk, AllocError>
     ensures walk { IfOk result (λ next. next ≡ spec.taken walk made (is_some apart.error)) }
-    ensures failures { OnOk result (first.new.error ≡ note_of first.old.error apart.error) }
+    ensures failures { OnOk result (first.new.error
+        ≡ first_failure (note_of first.old.error apart.error) (spec.taught_made walk made (is_some apart.error))) }
 {
     let is_noted = apart.error.is_some();
-    let walk = walk.take(alloc, made, is_noted)?;
     note_apart(first, apart);
-    Ok(walk)
+    walk.take(alloc, made, is_noted, first)
 }

@@ -3,7 +3,6 @@ ghost use Rattle.std.specs.Prelude.{◌≡◌, List, ◌++◌, [], IfOk, OnOk};
 ghost use Rattle.shape_rules.specs.declared.locals.Local.{Local as ALocal};
 ghost use Rattle.shape_rules.specs.Around.{setting_of};
 ghost use Rattle.shape_rules.specs.Findings.{first_failure};
-ghost use Rattle.shape_rules.specs.Statements.{hole_faults};
 ghost use Rattle.shape_models.specs.Models.{Own};
 ghost use Rattle.shape_models.specs.Sources.{tabled_by, AreMeanings};
 ghost use Rattle.shapes.specs.Failures.{let_bound, own_in, let_binds, let_faults, lets_faults};
@@ -15,24 +14,13 @@ use crate::top::{Top, around_top};
 use sail_base::{Items, Place};
 use sail_core::{Opening, OpeningKind};
 use sail_syntax::{Def, Exp, Pat};
-use sail_types::Shape;
 use shape_clauses::{cast_made, nested};
 use shape_expressions::{elaborate, place_of};
-use shape_joins::has_hole;
+use shape_forms::note_hole;
 use shape_models::put_lets;
 use shape_patterns::{has_typ, look, wanted_by};
-use shape_rules::{Around, First, Local, Locals, Meanings, ShapeError};
+use shape_rules::{Around, First, Local, Locals, Meanings};
 use std::alloc::{AllocError, Global};
-
-/// Notes a hole that is left without a type (M14).
-fn note_hole(place: Place, is_typed: bool, shape: &Shape, first: &mut First)
-    ensures { first.new.error ≡ first_failure first.old.error (hole_faults place is_typed shape.now) }
-{
-    if !is_typed && has_hole(shape) {
-        let mismatch = None;
-        first.note(ShapeError::IllShaped { place, mismatch });
-    }
-}
 
 /// A top-level `let`, which is plain: the names that it binds go behind others, and its failures are noted.
 #[tactic(auto, using(shape_rules::proofs::Firsts::first_failure_append))]

@@ -1,5 +1,6 @@
 -- The failures and the sizes of some forms of written types.
-use Rattle.std.proofs.Common.{◌≡◌, ℕ, ◌<◌, cond, List, [], ◌∷◌, length, get_or, arith, map, ◌++◌, sym, ap, ◌∙◌, Option, Some, None}
+use Rattle.std.proofs.Common.{◌≡◌, ℕ, ◌<◌, cond, List, [], ◌∷◌, length, get_or, arith, map, ◌++◌, sym, ap, ◌∙◌, Option, Some, None, ℤ}
+use Rattle.std.proofs.lemmas.List.{append_assoc}
 use Rattle.std.specs.Prelude.{option_map}
 use Rattle.sail_base.specs.declared.place.Place.{Place}
 use Rattle.sail_syntax.specs.declared.name.Name.{Name}
@@ -12,7 +13,8 @@ use Rattle.sail_syntax.specs.declared.words.TypeOperator.{TypeOperator}
 use Rattle.sail_kinds.specs.Scopes.{Within, inside_binder}
 use Rattle.shape_rules.specs.declared.error.ShapeError.{ShapeError}
 use Rattle.shape_rules.specs.Written.{Piece, piece, form_piece, form_text, form_numbers, typ_in, number_in, written_faults, numbers_in}
-use Rattle.shape_rules.specs.Written.{is_alias, own_role, own_size, sizes_if, exponent, exponents_in, sized_if, pieces_numbers, piece_numbers_if, joined, untold, is_told}
+use Rattle.shape_rules.specs.Written.{is_alias, own_role, own_size, sizes_if, exponent, exponents_in, sized_if, side, side_of, joined, untold, is_told}
+use Rattle.shape_rules.specs.Written.{pieces_numbers, piece_numbers_if}
 use Rattle.written_types.specs.Parts.{untold_among}
 use Rattle.written_types.proofs.BoundNames.{bound_alone}
 use Rattle.written_types.proofs.Texts.{text_is}
@@ -45,9 +47,16 @@ prefix_numbers place prefix t w =
     ∙ ap (λ (text : TyExp). exponent prefix place (number_in w text) ++ numbers_in w t) (text_is t)
 
 pub infix_numbers : (place : Place) (operator : TypeOperator) (a b : TyExp) (w : Within)
-    → numbers_in w (V.Infix place operator a b) ≡ numbers_in w a ++ numbers_in w b
+    → numbers_in w (V.Infix place operator a b)
+    ≡ (numbers_in w a ++ side_of operator (piece a) w) ++ (numbers_in w b ++ side_of operator (piece b) w)
 infix_numbers place operator a b w =
     ap (λ (p : Piece). p.numbers w) (ap piece (sym (V.rolls-Infix place operator a b)) ∙ fold-roll-TyExp Piece form_piece (X.Infix place operator a b))
+    ∙ append_assoc (numbers_in w a ++ side_of operator (piece a) w) (numbers_in w b) (side_of operator (piece b) w)
+
+pub one_of_numbers : (place : Place) (t : TyExp) (choices : List ℤ) (w : Within)
+    → numbers_in w (V.OneOf place t choices) ≡ numbers_in w t ++ side (piece t) w
+one_of_numbers place t choices w =
+    ap (λ (p : Piece). p.numbers w) (ap piece (sym (V.rolls-OneOf place t choices)) ∙ fold-roll-TyExp Piece form_piece (X.OneOf place t choices))
 
 -- ---- existential types
 

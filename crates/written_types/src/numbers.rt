@@ -1,18 +1,19 @@
 ghost use Rattle.std.specs.Prelude.{◌≡◌, ◌++◌, map, option_map, IfOk, OnOk};
 ghost use Rattle.sail_kinds.specs.Scopes.{within};
 ghost use Rattle.shape_rules.specs.Written.{piece, pieces_numbers, piece_numbers_if, numbers_in, written, is_alias, meaning_is_alias, own_role, own_size, exponent, exponents_in, number_in};
+ghost use Rattle.shape_rules.specs.Written.{compares_form, side, side_of};
 
 use crate::reading::{number_in, typ_in};
 use crate::sizes::{push_exponents, push_sized, push_sizes_if};
 use sail_base::{Boxed, Items, Place};
 use sail_core::{Role, Written, WrittenNumber};
 use sail_kinds::{Binders, Meaning, Scope, builtin};
-use sail_syntax::{TyExp, TypePrefix};
+use sail_syntax::{TyExp, TypeOperator, TypePrefix};
 use std::alloc::{AllocError, Global};
 
-/// The sizes in a written type, in the order of the text: widths and lengths at their numbers, exponents at their `^`, and the widths
-/// and lengths that come through a name that stands for another type, at that name, behind the exponents in its arguments. The one
-/// error is want of memory.
+/// The numbers in a written type, in the order of the text: widths, lengths and sides of comparisons where they stand, each side behind
+/// the numbers in it, exponents at their `^`, and the widths and lengths that come through a name that stands for another type, at that
+/// name, behind the exponents in its arguments. The one error is want of memory.
 pub fn numbers_in(
     alloc: Global,
     text: &TyExp,
@@ -75,11 +76,20 @@ fn push_numbers(
             push_exponent(alloc, *prefix, *place, part, scope, numbers)?;
             push_numbers(alloc, part, scope, numbers)
         }
-        TyExp::Infix { left, right, .. } => {
-            push_numbers(alloc, left.get(), scope, numbers)?;
-            push_numbers(alloc, right.get(), scope, numbers)
+        TyExp::Infix {
+            operator,
+            left,
+            right,
+            ..
+        } => {
+            push_operand(alloc, *operator, left.get(), scope, numbers)?;
+            push_operand(alloc, *operator, right.get(), scope, numbers)
         }
-        TyExp::OneOf(_, part, _) => push_numbers(alloc, part.get(), scope, numbers),
+        TyExp::OneOf(_, part, _) => {
+            let part = part.get();
+            push_numbers(alloc, part, scope, numbers)?;
+            push_side(alloc, part, scope, numbers)
+        }
         TyExp::Tuple(_, parts) => push_each(alloc, parts.as_slice(), scope, numbers),
         TyExp::Exists {
             variables,
@@ -94,6 +104,22 @@ fn push_numbers(
         }
         _ => Ok(()),
     }
+}
+
+/// The numbers in an operand, and the operand where it is compared.
+#[cycle(numbers)]
+fn push_operand(
+    alloc: Global,
+    operator: TypeOperator,
+    part: &TyExp,
+    scope: &Scope<'_>,
+    numbers: &mut Items<WrittenNumber>,
+) -> Result<(), AllocError>
+    ensures { OnOk result (numbers.new ≡ numbers.old
+        ++ (numbers_in (within scope.now) part.now ++ side_of operator (piece part.now) (within scope.now))) }
+{
+    push_numbers(alloc, part, scope, numbers)?;
+    push_side_of(alloc, operator, part, scope, numbers)
 }
 
 /// The exponents in the arguments of a name that stands for another type.
@@ -158,6 +184,51 @@ fn push_exponent(
             push_sized(Role::Exponent, place, number, numbers)
         }
         _ => Ok(()),
+    }
+}
+
+/// Puts an operand behind others, where it is compared.
+fn push_side_of(
+    alloc: Global,
+    operator: TypeOperator,
+    part: &TyExp,
+    scope: &Scope<'_>,
+    numbers: &mut Items<WrittenNumber>,
+) -> Result<(), AllocError>
+    ensures { OnOk result (numbers.new ≡ numbers.old ++ side_of operator (piece part.now) (within scope.now)) }
+{
+    if compares(operator) {
+        push_side(alloc, part, scope, numbers)
+    } else {
+        Ok(())
+    }
+}
+
+/// Puts a side of a comparison behind others.
+fn push_side(
+    alloc: Global,
+    part: &TyExp,
+    scope: &Scope<'_>,
+    numbers: &mut Items<WrittenNumber>,
+) -> Result<(), AllocError>
+    ensures { OnOk result (numbers.new ≡ numbers.old ++ side (piece part.now) (within scope.now)) }
+{
+    let number = number_in(alloc, part, scope)?;
+    push_sized(Role::Side, part.place(), number, numbers)
+}
+
+/// Whether an operator compares numbers.
+fn compares(operator: TypeOperator) -> bool
+    ensures { result ≡ compares_form operator }
+{
+    match operator {
+        TypeOperator::Equal => true,
+        TypeOperator::NotEqual => true,
+        TypeOperator::Less => true,
+        TypeOperator::LessEqual => true,
+        TypeOperator::Greater => true,
+        TypeOperator::GreaterEqual => true,
+        _ => false,
     }
 }
 

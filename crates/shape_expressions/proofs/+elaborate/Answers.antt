@@ -24,20 +24,20 @@ use Rattle.shape_rules.specs.Calls as calls
 use Rattle.shape_rules.specs.Targets.{elaborations, Part, Walked, SuffixPart, walked, Led, also_walked, led_form, led_shape}
 use Rattle.shape_rules.specs.Targets.{suffix_found, suffix_place, suffixes_if, cores_of, faults_of, base_faults, IndexPart}
 use Rattle.shape_rules.specs.Targets.{index_found, led_index, Aimed, TargetPart, call_aim, AimedAll, each_aimed, also_aimed}
-use Rattle.shape_rules.specs.Targets.{callees_of, one_of, unread, read_aimed}
+use Rattle.shape_rules.specs.Targets.{callees_of, one_of}
 use Rattle.shape_rules.specs.Values as values
 use Rattle.shape_calls.specs.Made.{made_of}
 use Rattle.shape_expressions.proofs.CalledWalks.{row_one}
 use Rattle.sail_syntax.specs.declared.expressions.Exp.{Exp}
 use Rattle.shape_walks.specs.declared.walks.Walk.{Walk}
-use Rattle.shape_walks.specs.Walks.{want_of, took, each_taken, each_faults}
+use Rattle.shape_walks.specs.Walks.{want_of, took, one_faults, each_taken, each_faults}
 use Rattle.shape_walks.proofs.Listed.{listed_refused}
 use Rattle.sail_syntax.specs.declared.expressions.Range.{out-Range}
 use Rattle.shape_expressions.proofs.Ranges.{range_noted, three_noted}
 use Rattle.sail_core.specs.declared.tree.Kind.TheVariants as K
 use Rattle.shape_calls.specs.declared.made.Made.{Made}
 use Rattle.shape_forms.specs.Over.{over_found}
-use Rattle.shape_rules.specs.Values.{last_place, ends_found, update_kind}
+use Rattle.shape_rules.specs.Values.{last_place, ends_found, update_kind, updated_shape}
 use Rattle.shape_expressions.proofs.Ways.{over_is, three_failures, first_is, last_is, five_failures}
 use Rattle.sail_base.specs.declared.place.Place.{Place}
 use Rattle.sail_syntax.specs.declared.expressions.Suffix.{Suffix}
@@ -46,7 +46,7 @@ use Rattle.shape_calls.specs.Ways.{led_of, aim_of}
 use Rattle.sail_syntax.specs.declared.expressions.Stmt.{Stmt}
 use Rattle.shape_forms.proofs.Left.{inside_trans}
 use Rattle.sail_syntax.specs.declared.expressions.FieldValue.{FieldValue}
-use Rattle.shape_rules.specs.Calls.{Elaborate, args_found, chosen}
+use Rattle.shape_rules.specs.Calls.{Elaborate}
 use Rattle.shape_forms.specs.Structs.{values as values_of}
 use Rattle.shape_expressions.proofs.Fields.{value_found}
 use Rattle.shape_expressions.proofs.Forms.{with_expression}
@@ -57,7 +57,16 @@ use Rattle.sail_core.specs.declared.targets.Target.{Target}
 use Rattle.sail_core.specs.declared.tree.Core.{Core}
 use Rattle.sail_syntax.specs.declared.expressions.LExp.{LExp}
 use Rattle.sail_syntax.specs.declared.name.Name.{Name}
-use Rattle.shape_expressions.proofs.AimedWalks.{count_parts}
+use Rattle.std.proofs.Common.{None}
+use Rattle.std.specs.Option.{option_copied}
+use Rattle.shape_calls.specs.Apart.{note_of}
+use Rattle.shape_calls.proofs.Apart.{noted_apart}
+use Rattle.shape_calls.specs.declared.targets.Aim.{Aim}
+use Rattle.shape_walks.specs.declared.walks.Plan.TheVariants as P
+use Rattle.shape_walks.specs.Walks.{begun}
+use Rattle.shape_expressions.proofs.CallTargets.{further_to, further_place}
+use Rattle.shape_expressions.proofs.AimedWalks.{several_aim, several_noted}
+use Rattle.shape_rules.specs.declared.callees.Meant.{Meant}
 use Rattle.shape_expressions.proofs.+elaborate.Goals as goal
 
 pub branches::push_cases-loop-case-preserved : goal.branches::push_cases-loop-case-preserved
@@ -189,18 +198,26 @@ expressions::push_all-loop-expression-preserved t c =
     drop_more all i one c.loop-expression-test.true ∙ ap (λ x. x ∷ drop (i + 1) all) (sym c.expression-item.is) in
     let next : c.in_ok-walk.walk ≡ took walk (elaborated one setting names (want_of walk)) =
     c.in_ok-walk.ensures.walk ∙ ap (λ (l : Locals). took walk (elaborated one setting l (want_of walk))) c.loop-expression.invariant.locals in
-    let noted : c.push_one.new.first.error ≡ first_failure old (elaborated one setting names (want_of walk)).faults =
-    c.in_ok-walk.ensures.failures ∙ ap (λ (l : Locals). first_failure old (elaborated one setting l (want_of walk)).faults) c.loop-expression.invariant.locals in
+    let a : Found = elaborated one setting names (want_of walk) in
+    let left : List Elaborate = elaborates (drop (i + 1) all) in
+    let noted : c.push_one.new.first.error ≡ first_failure old (one_faults walk a) =
+    c.in_ok-walk.ensures.failures
+    ∙ ap (λ (l : Locals). first_failure old (one_faults walk (elaborated one setting l (want_of walk)))) c.loop-expression.invariant.locals in
     record {
       locals = c.in_ok-walk.ensures.locals ∙ c.loop-expression.invariant.locals;
-      walk = ap (λ (w : Walk). each_taken (elaborates (drop (i + 1) all)) setting names w) next
+      walk = ap (λ (w : Walk). each_taken left setting names w) next
           ∙ sym (ap (λ (es : List Exp). each_taken (elaborates es) setting names walk) rest) ∙ c.loop-expression.invariant.walk;
-      failures = ap (λ (w : Walk). first_failure c.push_one.new.first.error (each_faults (elaborates (drop (i + 1) all)) setting names w)) next
-          ∙ (λ j. first_failure (noted j) (each_faults (elaborates (drop (i + 1) all)) setting names (took walk (elaborated one setting names (want_of walk)))))
-          ∙ sym (first_failure_append old (elaborated one setting names (want_of walk)).faults
-          (each_faults (elaborates (drop (i + 1) all)) setting names (took walk (elaborated one setting names (want_of walk)))))
+      failures = ap (λ (w : Walk). first_failure c.push_one.new.first.error (each_faults left setting names w)) next
+          ∙ (λ j. first_failure (noted j) (each_faults left setting names (took walk a)))
+          ∙ sym (first_failure_append old (one_faults walk a) (each_faults left setting names (took walk a)))
           ∙ sym (ap (λ (es : List Exp). first_failure old (each_faults (elaborates es) setting names walk)) rest) ∙ c.loop-expression.invariant.failures;
     }
+
+pub expressions::listed-returns-in-Some-clause-made : goal.expressions::listed-returns-in-Some-clause-made
+expressions::listed-returns-in-Some-clause-made t c =
+    c.refused.ensures.made
+    ∙ ap made_of (sym (listed_refused c.args.head c.args.front.now c.args.back.now (setting_of c.args.around.now) c.args.locals.now c.args.want.now
+    c.count_of-count.result c.in-Some.error c.count_of-count.ensures c.if-count-eq0.false (sym c.count_failure.ensures ∙ c.in-Some.is)))
 
 pub expressions::listed-returns-in-Some-clause-failures : goal.expressions::listed-returns-in-Some-clause-failures
 expressions::listed-returns-in-Some-clause-failures t c =
@@ -359,12 +376,13 @@ parts::push_ends-returns-clause-failures t c =
     ∙ sym (first_failure_append old a.faults (faults_of (index_found index.last setting names))) in
     subst (λ (o : Option ShapeError). OnOk c.push_end.result (c.push_end.new.first.error ≡ o)) whole c.push_end.ensures.failures
 
-pub parts::update_found-returns-clause-made : goal.parts::update_found-returns-clause-made
-parts::update_found-returns-clause-made t c =
+pub parts::update_found-returns : goal.parts::update_found-returns
+parts::update_found-returns t c =
     let setting = setting_of c.args.around.now in
     let names = c.args.locals.now in
     let want = c.args.want.now in
     let old = c.args.first.now.error in
+    let place = c.args.place in
     let base : Part = part c.args.base.now in
     let index : IndexPart = index_part c.args.index.now in
     let value : Part = part c.args.value.now in
@@ -372,6 +390,7 @@ parts::update_found-returns-clause-made t c =
     let way : Option Led = led_index index.last (out-Shape a.shape) in
     let ends : List Found = ends_found index setting names in
     let b : Found = value.elaborate setting names (led_shape way) in
+    let shape : Shape = updated_shape index.last (out-Shape a.shape) a.shape b.shape in
     let based : c.in_ok-shape.shape ≡ a.shape = c.in_ok-shape.ensures.shape ∙ ap (λ (m : Made). m.shape) c.in_ok-made.ensures.made in
     let core : c.in_ok-made.made.core ≡ a.core = ap (λ (m : Made). m.core) c.in_ok-made.ensures.made in
     let led : option_map led_of c.in_ok-inside.inside ≡ way =
@@ -383,48 +402,17 @@ parts::update_found-returns-clause-made t c =
     let begun : c.into_shape.new.cores ≡ a.core ∷ [] = c.in_ok-shape.ensures.cores ∙ (λ j. c.new-cores.ensures j ++ core j ∷ []) in
     let ended : c.push_ends.new.cores ≡ a.core ∷ cores_of ends =
     c.in_ok-push_ends.ensures.cores ∙ (λ j. begun j ++ cores_of (ends_found index setting (c.in_ok-made.ensures.locals j))) in
-    let written : c.in_ok-made-2.made.core ≡ b.core =
-    ap (λ (m : Made). m.core) c.in_ok-made-2.ensures.made ∙ ap (λ (f : Found). f.core) valued in
+    let written : c.in_ok-made-2.made ≡ made_of b = c.in_ok-made-2.ensures.made ∙ ap made_of valued in
+    let gave : c.in_ok-found.found ≡ b.shape = c.in_ok-found.ensures.shape ∙ ap (λ (m : Made). m.shape) written in
     let cored : c.into_shape-2.new.cores ≡ a.core ∷ cores_of ends ++ b.core ∷ [] =
-    c.in_ok-into_shape.ensures.cores ∙ (λ j. ended j ++ written j ∷ []) in
-    let x : Found = settled c.args.place want a.shape (λ t. over c.args.place (update_kind index.last) (a.core ∷ cores_of ends ++ b.core ∷ [])) in
-    let found : over_found c.args.place want c.in_ok-shape.shape c.update_kind.result c.into_shape-2.new.cores ≡ x =
-    over_is c.args.place c.args.place want c.in_ok-shape.shape a.shape c.update_kind.result (update_kind index.last)
-    c.into_shape-2.new.cores (a.core ∷ cores_of ends ++ b.core ∷ []) refl based c.update_kind.ensures cored in
-    subst (λ (f : Found). IfOk c.settle_over.result (λ made. made ≡ made_of f)) found c.settle_over.ensures.made
-
-pub parts::update_found-returns-clause-failures : goal.parts::update_found-returns-clause-failures
-parts::update_found-returns-clause-failures t c =
-    let setting = setting_of c.args.around.now in
-    let names = c.args.locals.now in
-    let want = c.args.want.now in
-    let old = c.args.first.now.error in
-    let base : Part = part c.args.base.now in
-    let index : IndexPart = index_part c.args.index.now in
-    let value : Part = part c.args.value.now in
-    let a : Found = base.elaborate setting names V.Never in
-    let way : Option Led = led_index index.last (out-Shape a.shape) in
-    let ends : List Found = ends_found index setting names in
-    let b : Found = value.elaborate setting names (led_shape way) in
-    let based : c.in_ok-shape.shape ≡ a.shape = c.in_ok-shape.ensures.shape ∙ ap (λ (m : Made). m.shape) c.in_ok-made.ensures.made in
-    let core : c.in_ok-made.made.core ≡ a.core = ap (λ (m : Made). m.core) c.in_ok-made.ensures.made in
-    let led : option_map led_of c.in_ok-inside.inside ≡ way =
-    c.in_ok-inside.ensures ∙ ap (λ (s : Shape). led_index index.last (out-Shape s)) based in
-    let same : c.push_ends.new.locals ≡ names = c.in_ok-push_ends.ensures.locals ∙ c.in_ok-made.ensures.locals in
-    let wanted : c.shape_inside-wanted.result ≡ led_shape way = c.shape_inside-wanted.ensures ∙ ap led_shape led in
-    let valued : value.elaborate setting c.push_ends.new.locals c.shape_inside-wanted.result ≡ b =
-    λ j. value.elaborate setting (same j) (wanted j) in
-    let begun : c.into_shape.new.cores ≡ a.core ∷ [] = c.in_ok-shape.ensures.cores ∙ (λ j. c.new-cores.ensures j ++ core j ∷ []) in
-    let ended : c.push_ends.new.cores ≡ a.core ∷ cores_of ends =
-    c.in_ok-push_ends.ensures.cores ∙ (λ j. begun j ++ cores_of (ends_found index setting (c.in_ok-made.ensures.locals j))) in
-    let written : c.in_ok-made-2.made.core ≡ b.core =
-    ap (λ (m : Made). m.core) c.in_ok-made-2.ensures.made ∙ ap (λ (f : Found). f.core) valued in
-    let cored : c.into_shape-2.new.cores ≡ a.core ∷ cores_of ends ++ b.core ∷ [] =
-    c.in_ok-into_shape.ensures.cores ∙ (λ j. ended j ++ written j ∷ []) in
-    let x : Found = settled c.args.place want a.shape (λ t. over c.args.place (update_kind index.last) (a.core ∷ cores_of ends ++ b.core ∷ [])) in
-    let found : over_found c.args.place want c.in_ok-shape.shape c.update_kind.result c.into_shape-2.new.cores ≡ x =
-    over_is c.args.place c.args.place want c.in_ok-shape.shape a.shape c.update_kind.result (update_kind index.last)
-    c.into_shape-2.new.cores (a.core ∷ cores_of ends ++ b.core ∷ []) refl based c.update_kind.ensures cored in
+    c.in_ok-found.ensures.cores ∙ (λ j. ended j ++ (written j).core ∷ []) in
+    let shaped : updated_shape index.last (out-Shape c.in_ok-shape.shape) c.in_ok-shape.shape c.in_ok-found.found ≡ shape =
+    λ j. updated_shape index.last (out-Shape (based j)) (based j) (gave j) in
+    let x : Found = settled place want shape (λ t. over place (update_kind index.last) (a.core ∷ cores_of ends ++ b.core ∷ [])) in
+    let found : over_found place want (updated_shape index.last (out-Shape c.in_ok-shape.shape) c.in_ok-shape.shape c.in_ok-found.found)
+    (update_kind index.last) c.into_shape-2.new.cores ≡ x =
+    over_is place place want (updated_shape index.last (out-Shape c.in_ok-shape.shape) c.in_ok-shape.shape c.in_ok-found.found) shape
+    (update_kind index.last) (update_kind index.last) c.into_shape-2.new.cores (a.core ∷ cores_of ends ++ b.core ∷ []) refl shaped refl cored in
     let unled : List ShapeError = base_faults base.place a.shape way in
     let one : c.note_base.new.first.error ≡ first_failure (first_failure old a.faults) unled =
     c.note_base.ensures ∙ (λ j. first_failure (c.in_ok-made.ensures.failures j) (base_faults (c.place_of.ensures j) (based j) (led j))) in
@@ -434,9 +422,13 @@ parts::update_found-returns-clause-failures t c =
     let three : c.elaborate-2.new.first.error
     ≡ first_failure (first_failure (first_failure (first_failure old a.faults) unled) (faults_of ends)) b.faults =
     c.in_ok-made-2.ensures.failures ∙ (λ j. first_failure (two j) (valued j).faults) in
-    subst (λ (o : Option ShapeError). OnOk c.settle_over.result (c.settle_over.new.first.error ≡ o))
-    ((λ j. first_failure (three j) (found j).faults) ∙ sym (five_failures old a.faults unled (faults_of ends) b.faults x.faults))
-    c.settle_over.ensures.failures
+    record {
+      made = subst (λ (f : Found). IfOk c.finish_update.result (λ made. made ≡ made_of f)) found c.finish_update.ensures.made;
+      failures = subst (λ (o : Option ShapeError). OnOk c.finish_update.result (c.finish_update.new.first.error ≡ o))
+          ((λ j. first_failure (three j) (found j).faults) ∙ sym (five_failures old a.faults unled (faults_of ends) b.faults x.faults))
+          c.finish_update.ensures.failures;
+      locals = on_ok_of c.finish_update.result (c.in_ok-made-2.ensures.locals ∙ same);
+    }
 
 pub statements::push_statements-loop-statement-preserved : goal.statements::push_statements-loop-statement-preserved
 statements::push_statements-loop-statement-preserved t c =
@@ -491,15 +483,15 @@ structs::push_fields-loop-field-preserved t c =
     let a : Found = elaborated value setting names (want_of walk) in
     let next : c.in_ok-walk.walk ≡ took walk a =
     c.in_ok-walk.ensures.walk ∙ ap (λ (l : Locals). took walk (elaborated value setting l (want_of walk))) same in
-    let noted : c.push_one.new.first.error ≡ first_failure old a.faults =
-    c.in_ok-walk.ensures.failures ∙ ap (λ (l : Locals). first_failure old (elaborated value setting l (want_of walk)).faults) same in
+    let noted : c.push_one.new.first.error ≡ first_failure old (one_faults walk a) =
+    c.in_ok-walk.ensures.failures ∙ ap (λ (l : Locals). first_failure old (one_faults walk (elaborated value setting l (want_of walk)))) same in
     record {
       locals = c.in_ok-walk.ensures.locals ∙ same;
       walk = ap (λ (w : Walk). each_taken more setting names w) next
           ∙ sym (ap (λ (es : List Elaborate). each_taken es setting names walk) opened) ∙ c.loop-field.invariant.walk;
       failures = ap (λ (w : Walk). first_failure c.push_one.new.first.error (each_faults more setting names w)) next
           ∙ (λ j. first_failure (noted j) (each_faults more setting names (took walk a)))
-          ∙ sym (first_failure_append old a.faults (each_faults more setting names (took walk a)))
+          ∙ sym (first_failure_append old (one_faults walk a) (each_faults more setting names (took walk a)))
           ∙ sym (ap (λ (es : List Elaborate). first_failure old (each_faults es setting names walk)) opened) ∙ c.loop-field.invariant.failures;
     }
 
@@ -551,7 +543,7 @@ targets::push_right-loop-further-preserved t c =
     drop_more all i one c.loop-further-test.true ∙ ap (λ x. x ∷ drop (i + 1) all) (sym c.further-item.is) in
     let here : FurtherPart = further_part one in
     let found : Aimed = here.to.aim setting names in
-    let inner : List ShapeError = inner_faults here.place wanted in
+    let inner : List ShapeError = inner_faults here.place wanted found.answer in
     let left = map further_part (drop (i + 1) all) in
     let more : Righted = righted left value setting names found.shape in
     let opened : righted (map further_part (drop i all)) value setting names wanted ≡ also_righted here.place wanted found more =
@@ -563,7 +555,7 @@ targets::push_right-loop-further-preserved t c =
     let parted : c.push_further.new.parts ≡ parts ++ found.parts =
     c.in_ok-wanted.ensures.parts ∙ ap (λ (l : Locals). parts ++ (here.to.aim setting l).parts) same in
     let noted : c.push_further.new.first.error ≡ first_failure old (inner ++ found.faults) =
-    c.in_ok-wanted.ensures.failures ∙ ap (λ (l : Locals). first_failure old (inner ++ (here.to.aim setting l).faults)) same in
+    c.in_ok-wanted.ensures.failures ∙ ap (λ (l : Locals). first_failure old (inner_faults here.place wanted (here.to.aim setting l).answer ++ (here.to.aim setting l).faults)) same in
     record {
       locals = c.in_ok-wanted.ensures.locals ∙ same;
       targets = (λ j. targeted j ++ (righted left value setting names (next j)).targets) ∙ append_assoc targets (found.target ∷ []) more.targets
@@ -637,29 +629,62 @@ targets::aim_tuple-loop-target-preserved t c =
           ∙ ap (λ (x : AimedAll). first_failure old x.faults) (sym opened) ∙ c.loop-target.invariant.failures;
     }
 
-pub targets::push_base-returns-in-ToCall-clause-failures : goal.targets::push_base-returns-in-ToCall-clause-failures
-targets::push_base-returns-in-ToCall-clause-failures t c =
+pub targets::push_further-returns-clause-failures : goal.targets::push_further-returns-clause-failures
+targets::push_further-returns-clause-failures t c =
     let setting = setting_of c.args.around.now in
     let names = c.args.locals.now in
-    let name = c.in-ToCall.name in
-    let args = c.in-ToCall.args in
+    let want = c.args.want.now in
     let old = c.args.first.now.error in
-    let fs = callees_of setting.types (setting.value name.text) in
-    let one = one_of (setting.value name.text) fs in
-    let base : Aimed = (target_part c.args.base.now).aim setting names in
-    let call : (target_part c.args.base.now).call ≡ Some (name, map part args) =
-    ap (λ (p : TargetPart). p.call) (call_target c.args.base.now name args c.in-ToCall.is) in
-    let now : first_failure c.push_target.new.first.error
-    (unread name (length c.as_slice.result.now) one (chosen fs (args_found (elaborates c.as_slice.result.now) setting c.push_target.new.locals).shapes))
-    ≡ first_failure old (read_aimed (target_part c.args.base.now).call setting names base).faults =
-    ap (λ (es : List Exp). first_failure c.push_target.new.first.error
-    (unread name (length es) one (chosen fs (args_found (elaborates es) setting c.push_target.new.locals).shapes))) c.as_slice.ensures
-    ∙ ap (λ (l : Locals). first_failure c.push_target.new.first.error
-    (unread name (length args) one (chosen fs (args_found (elaborates args) setting l).shapes))) c.in_ok-shape.ensures.locals
-    ∙ ap (λ (e : Option ShapeError). first_failure e
-    (unread name (length args) one (chosen fs (args_found (elaborates args) setting names).shapes))) c.in_ok-shape.ensures.failures
-    ∙ sym (first_failure_append old base.faults (unread name (length args) one (chosen fs (args_found (elaborates args) setting names).shapes)))
-    ∙ ap (λ (n : ℕ). first_failure old (base.faults ++ unread name n one (chosen fs (args_found (elaborates args) setting names).shapes)))
-    (sym (count_parts args))
-    ∙ ap (λ (x : Option (Name × List Part)). first_failure old (read_aimed x setting names base).faults) (sym call) in
-    subst (λ (e : Option ShapeError). OnOk c.read_again.result (c.read_again.new.first.error ≡ e)) now c.read_again.ensures.failures
+    let f = c.args.further.now in
+    let a : Aimed = (further_part f).to.aim setting names in
+    let inner : List ShapeError = inner_faults (further_part f).place want a.answer in
+    let aimed : (target_part c.get.result.now).aim setting names ≡ a = further_to f setting names c.get.result.now c.get.ensures in
+    let answer : c.in_ok-aim.aim.answer ≡ a.answer = ap (λ (x : Aim). x.answer) c.in_ok-aim.ensures.aim ∙ ap (λ (x : Aimed). x.answer) aimed in
+    let apart : c.aim.new.first.error ≡ first_failure None a.faults =
+    c.in_ok-aim.ensures.failures ∙ (λ j. first_failure (c.none-apart.ensures j) (aimed j).faults) in
+    on_ok_of c.into_shape.result
+    (c.in_ok-note_inner.ensures
+    ∙ (λ j. note_of (first_failure old (inner_faults (further_place f j) want (answer j))) (apart j))
+    ∙ noted_apart (first_failure old inner) a.faults ∙ sym (first_failure_append old inner a.faults))
+
+pub targets::aim_read-returns-clause-aim : goal.targets::aim_read-returns-clause-aim
+targets::aim_read-returns-clause-aim t c =
+    let setting = setting_of c.args.around.now in
+    let names = c.args.locals.now in
+    let name = c.args.name.now in
+    let args = c.args.args.now in
+    let fs = c.as_slice-callees.result.now in
+    let walk = c.in_ok-walk-in-None.walk in
+    let meant : option_copied c.value-meant.result ≡ setting.value name.text = c.value-meant.ensures ∙ ap setting.value c.as_str.ensures in
+    let same : fs ≡ callees_of setting.types (setting.value name.text) =
+    c.as_slice-callees.ensures ∙ c.in_ok-held.ensures ∙ ap (callees_of setting.types) meant in
+    let none : one_of (setting.value name.text) fs ≡ None =
+    ap (λ (m : Option Meant). one_of m fs) (sym meant) ∙ sym c.one_of.ensures ∙ ap option_copied c.in-None.is in
+    let started : c.new-begun.result ≡ begun (P.Each []) = c.new-begun.ensures ∙ ap (λ (ss : List Shape). begun (P.Each ss)) c.new.ensures in
+    let found : walk ≡ each_taken (elaborates args) setting names (begun (P.Each [])) =
+    c.in_ok-walk-in-None.ensures.walk ∙ ap (λ (w : Walk). each_taken (elaborates args) setting names w) started in
+    subst (λ (x : Aim). IfOk c.read_member.result (λ aim. aim ≡ x)) (several_aim name args setting names fs walk same none found)
+    c.read_member.ensures.aim
+
+pub targets::aim_read-returns-clause-failures : goal.targets::aim_read-returns-clause-failures
+targets::aim_read-returns-clause-failures t c =
+    let setting = setting_of c.args.around.now in
+    let names = c.args.locals.now in
+    let name = c.args.name.now in
+    let args = c.args.args.now in
+    let old = c.args.first.now.error in
+    let mid = c.push_all.new.first.error in
+    let fs = c.as_slice-callees.result.now in
+    let walk = c.in_ok-walk-in-None.walk in
+    let meant : option_copied c.value-meant.result ≡ setting.value name.text = c.value-meant.ensures ∙ ap setting.value c.as_str.ensures in
+    let same : fs ≡ callees_of setting.types (setting.value name.text) =
+    c.as_slice-callees.ensures ∙ c.in_ok-held.ensures ∙ ap (callees_of setting.types) meant in
+    let none : one_of (setting.value name.text) fs ≡ None =
+    ap (λ (m : Option Meant). one_of m fs) (sym meant) ∙ sym c.one_of.ensures ∙ ap option_copied c.in-None.is in
+    let started : c.new-begun.result ≡ begun (P.Each []) = c.new-begun.ensures ∙ ap (λ (ss : List Shape). begun (P.Each ss)) c.new.ensures in
+    let found : walk ≡ each_taken (elaborates args) setting names (begun (P.Each [])) =
+    c.in_ok-walk-in-None.ensures.walk ∙ ap (λ (w : Walk). each_taken (elaborates args) setting names w) started in
+    let noted : mid ≡ first_failure old (each_faults (elaborates args) setting names (begun (P.Each []))) =
+    c.in_ok-walk-in-None.ensures.failures ∙ ap (λ (w : Walk). first_failure old (each_faults (elaborates args) setting names w)) started in
+    several_noted c.read_member.result old mid c.read_member.new.first.error name args setting names fs walk same none found noted
+    c.read_member.ensures.failures

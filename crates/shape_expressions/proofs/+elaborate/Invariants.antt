@@ -279,8 +279,11 @@ decreases-targets::aim_one l = 32 * goal.size-targets::aim_one l + 3
 abbrev pub decreases-targets::aim_part : goal.decreases-targets::aim_part
 decreases-targets::aim_part l = 32 * (max (goal.size-targets::aim_part l) (most suffix_size l.suffixes.now)) + 5
 
-abbrev pub decreases-targets::push_base : goal.decreases-targets::push_base
-decreases-targets::push_base l = 32 * goal.size-targets::push_base l + 4
+abbrev pub decreases-targets::aim_base : goal.decreases-targets::aim_base
+decreases-targets::aim_base l = 32 * goal.size-targets::aim_base l + 4
 
-abbrev pub decreases-targets::read_again : goal.decreases-targets::read_again
-decreases-targets::read_again l = 32 * goal.size-targets::read_again l + 3
+abbrev pub decreases-targets::aim_read : goal.decreases-targets::aim_read
+decreases-targets::aim_read l = 32 * goal.size-targets::aim_read l + 5
+
+abbrev pub decreases-targets::read_callee : goal.decreases-targets::read_callee
+decreases-targets::read_callee l = 32 * goal.size-targets::read_callee l + 4

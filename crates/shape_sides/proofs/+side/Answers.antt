@@ -13,7 +13,7 @@ use Rattle.shape_rules.proofs.Firsts.{first_failure_append}
 use Rattle.shape_rules.specs.Values as values
 use Rattle.shape_calls.specs.Made.{made_of}
 use Rattle.shape_walks.specs.declared.walks.Walk.{Walk}
-use Rattle.shape_walks.specs.Walks.{want_of, took, each_taken, each_faults}
+use Rattle.shape_walks.specs.Walks.{want_of, took, one_faults, each_taken, each_faults}
 use Rattle.shape_sides.specs.Trees.{elaborates}
 use Rattle.shape_sides.proofs.Opened.{side_construct, side_group, side_concat, append_more}
 use Rattle.shape_sides.proofs.Called.{row_one}
@@ -33,13 +33,13 @@ sides::push_all-loop-part-preserved t c =
     let rest : drop i all ≡ one ∷ drop (i + 1) all =
     drop_more all i one c.loop-part-test.true ∙ ap (λ x. x ∷ drop (i + 1) all) (sym c.part-item.is) in
     let next : c.in_ok-walk.walk ≡ took walk found = c.in_ok-walk.ensures.walk in
-    let noted : c.push_one.new.first.error ≡ first_failure old found.faults = c.in_ok-walk.ensures.failures in
+    let noted : c.push_one.new.first.error ≡ first_failure old (one_faults walk found) = c.in_ok-walk.ensures.failures in
     record {
       walk = ap (λ (w : Walk). each_taken (elaborates more) setting names w) next
           ∙ sym (ap (λ (ps : List Pat). each_taken (elaborates ps) setting names walk) rest) ∙ c.loop-part.invariant.walk;
       failures = ap (λ (w : Walk). first_failure c.push_one.new.first.error (each_faults (elaborates more) setting names w)) next
           ∙ (λ j. first_failure (noted j) (each_faults (elaborates more) setting names (took walk found)))
-          ∙ sym (first_failure_append old found.faults (each_faults (elaborates more) setting names (took walk found)))
+          ∙ sym (first_failure_append old (one_faults walk found) (each_faults (elaborates more) setting names (took walk found)))
           ∙ sym (ap (λ (ps : List Pat). first_failure old (each_faults (elaborates ps) setting names walk)) rest)
           ∙ c.loop-part.invariant.failures;
     }

@@ -3,9 +3,10 @@ use Rattle.sail_kinds.specs.declared.scope.Variable.{Variable}
 use Rattle.sail_kinds.specs.Scopes.{Within, within, binder, inside_binder}
 use Rattle.sail_syntax.specs.declared.types.TyExp.{TyExp}
 use Rattle.sail_syntax.specs.declared.types.TyExp.TheVariants as V
-use Rattle.shape_rules.specs.Written.{piece, pieces_numbers, piece_numbers_if, numbers_in, is_alias, exponent, exponents_in, sizes_if, own_size, typ_in, number_in}
+use Rattle.shape_rules.specs.Written.{piece, pieces_numbers, piece_numbers_if, numbers_in, is_alias, exponent, exponents_in}
+use Rattle.shape_rules.specs.Written.{sizes_if, own_size, side, side_of, typ_in, number_in}
 use Rattle.written_types.proofs.BoundNames.{inside}
-use Rattle.written_types.proofs.Forms.{named_numbers, prefix_numbers, infix_numbers, exists_numbers}
+use Rattle.written_types.proofs.Forms.{named_numbers, prefix_numbers, infix_numbers, one_of_numbers, exists_numbers}
 use Rattle.written_types.proofs.Rows.{pushed_more, on_ok, both_pushed}
 use Rattle.written_types.proofs.numbers.+numbers.Goals as goal
 
@@ -67,18 +68,43 @@ push_numbers-returns-in_ok-push_exponent-in-Prefix t c =
     (second ∙ ap (λ (x : TyExp). c.push_exponent.new.numbers ++ numbers_in w x) c.get-part.ensures))
     c.push_numbers.ensures
 
-pub push_numbers-returns-in_ok-push_numbers-in-Infix : goal.push_numbers-returns-in_ok-push_numbers-in-Infix
-push_numbers-returns-in_ok-push_numbers-in-Infix t c =
+pub push_operand-returns : goal.push_operand-returns
+push_operand-returns t c =
+    let w = within c.args.scope.now in
+    let text = c.args.part.now in
+    on_ok c.push_side_of.result
+    (λ second. both_pushed c.args.numbers.now (numbers_in w text) (side_of c.args.operator (piece text) w) c.push_numbers.new.numbers
+    c.push_side_of.new.numbers (numbers_in w text ++ side_of c.args.operator (piece text) w) c.in_ok-push_numbers.ensures refl second)
+    c.push_side_of.ensures
+
+pub push_numbers-returns-in_ok-push_operand-in-Infix : goal.push_numbers-returns-in_ok-push_operand-in-Infix
+push_numbers-returns-in_ok-push_operand-in-Infix t c =
     let w = within c.args.scope.now in
     let form = c.in-Infix in
-    let all : numbers_in w c.args.text.now ≡ numbers_in w form.left ++ numbers_in w form.right =
+    let old = c.args.numbers.now in
+    let operand = λ (x : TyExp). numbers_in w x ++ side_of form.operator (piece x) w in
+    let all : numbers_in w c.args.text.now ≡ operand form.left ++ operand form.right =
     ap (numbers_in w) form.is ∙ infix_numbers form.place form.operator form.left form.right w in
-    let first : c.push_numbers-in-Infix.new.numbers ≡ c.args.numbers.now ++ numbers_in w form.left =
-    c.in_ok-push_numbers-in-Infix.ensures ∙ ap (λ (x : TyExp). c.args.numbers.now ++ numbers_in w x) c.get.ensures in
-    on_ok c.push_numbers-in-Infix-2.result
-    (λ second. both_pushed c.args.numbers.now _ (numbers_in w form.right) c.push_numbers-in-Infix.new.numbers c.push_numbers-in-Infix-2.new.numbers _ first all
-    (second ∙ ap (λ (x : TyExp). c.push_numbers-in-Infix.new.numbers ++ numbers_in w x) c.get-in-Infix.ensures))
-    c.push_numbers-in-Infix-2.ensures
+    let first : c.push_operand.new.numbers ≡ old ++ operand form.left =
+    c.in_ok-push_operand-in-Infix.ensures ∙ ap (λ (x : TyExp). old ++ operand x) c.get.ensures in
+    on_ok c.push_operand-in-Infix.result
+    (λ second. both_pushed old _ (operand form.right) c.push_operand.new.numbers c.push_operand-in-Infix.new.numbers _ first all
+    (second ∙ ap (λ (x : TyExp). c.push_operand.new.numbers ++ operand x) c.get-in-Infix.ensures))
+    c.push_operand-in-Infix.ensures
+
+pub push_numbers-returns-in_ok-push_numbers-in-OneOf : goal.push_numbers-returns-in_ok-push_numbers-in-OneOf
+push_numbers-returns-in_ok-push_numbers-in-OneOf t c =
+    let w = within c.args.scope.now in
+    let form = c.in-OneOf in
+    let old = c.args.numbers.now in
+    let all : numbers_in w c.args.text.now ≡ numbers_in w form.part ++ side (piece form.part) w =
+    ap (numbers_in w) form.is ∙ one_of_numbers form.field-0 form.part form.field-2 w in
+    let first : c.push_numbers-in-OneOf.new.numbers ≡ old ++ numbers_in w form.part =
+    c.in_ok-push_numbers-in-OneOf.ensures ∙ ap (λ (x : TyExp). old ++ numbers_in w x) c.get-part-in-OneOf.ensures in
+    on_ok c.push_side.result
+    (λ second. both_pushed old _ (side (piece form.part) w) c.push_numbers-in-OneOf.new.numbers c.push_side.new.numbers _ first all
+    (second ∙ ap (λ (x : TyExp). c.push_numbers-in-OneOf.new.numbers ++ side (piece x) w) c.get-part-in-OneOf.ensures))
+    c.push_side.ensures
 
 pub push_numbers-returns-in_ok-push_if-in-Exists : goal.push_numbers-returns-in_ok-push_if-in-Exists
 push_numbers-returns-in_ok-push_if-in-Exists t c =
