@@ -203,4 +203,45 @@ pub const CHOICES: &[(&str, &str, &str)] = &[
         "{ R = (match (0b000010101, 2) { k(a) => 1, _ => 2 }); true }",
         "1 M05 1:1:1\n",
     ),
+    // what a writer in a chain gives is known before the value is found
+    (
+        concat!(
+            "register R : int\n",
+            "val show_bool : bool -> int\nfunction show_bool(b) = 1\n",
+            "val show_int : int -> int\nfunction show_int(i) = 2\n",
+            "overload show = { show_bool, show_int }\n",
+            "val f : forall ('a : Type). (int, ('a, 'a)) -> 'a\nfunction f(n, (x, y)) = x\n",
+            "val g : (int, int) -> (int, bool)\nfunction g(i, j) = (1, true)\n"
+        ),
+        "{ let y : bool = (f(0) = g(0) = 5); R = show(y); true }",
+        "1 M14 1:14:37\n",
+    ),
+    (
+        "val f : forall ('a : Type). ('a, int) -> 'a\nfunction f(x, n) = x\n",
+        "{ var z = false; z = f(true) = 5; true }",
+        "1 M05 1:1:1\n",
+    ),
+    (
+        "val f : forall ('a : Type). ('a, int) -> 'a\nfunction f(x, n) = x\n",
+        "{ var z = 1; z = f(true + 1) = 5; true }",
+        "1 M16 1:6:43 +\n",
+    ),
+    (
+        concat!(
+            "register R : int\n",
+            "val show_bool : bool -> int\nfunction show_bool(b) = 1\n",
+            "val show_int : int -> int\nfunction show_int(i) = 2\n",
+            "overload show = { show_bool, show_int }\n",
+            "register P : (int, int)\n",
+            "val f : forall ('a : Type). (list('a), 'a) -> 'a\nfunction f(i, p) = p\n"
+        ),
+        "{ P = f(if R == 0 then [||] else [| (exit(), 1) |]) = (true, 2); let (x, y) = P; R = show(x); true }",
+        "1 M14 1:13:25\n",
+    ),
+    // a base that never ends has every field
+    (
+        "struct t = { h : int }\n",
+        "{ let y : t = { exit() with h = 1 }; true }",
+        "1 M05 1:1:1\n",
+    ),
 ];

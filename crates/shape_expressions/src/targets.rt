@@ -17,9 +17,10 @@ use sail_base::{Items, Place};
 use sail_core::{Core, Kind, Target};
 use sail_syntax::{Exp, LExp, Name, Suffix, Target as Further};
 use sail_types::Shape;
-use shape_calls::{Aim, Made, aimed_nowhere, callees_of, name_aimed, one_of};
+use shape_calls::{Aim, Made, aimed_nowhere, callees_of, name_aimed, note_apart, one_of};
 use shape_forms::{
-    aim_callee, aim_member, note_inner, part_aimed, read_member, read_one, settle_over, tuple_aimed,
+    aim_callee, aim_member, note_answer, note_inner, part_aimed, read_member, read_one,
+    settle_over, tuple_aimed,
 };
 use shape_rules::{Around, Candidate, First, Locals, ShapeError};
 use shape_walks::{Head, Plan, Walk, last_place, target_place_of};
@@ -96,7 +97,7 @@ fn assign_to(
         target,
         mut parts,
         answer,
-    } = aim(alloc, target, around, locals, first)?;
+    } = aim_chained(alloc, place, target, around, locals, first)?;
     let mut targets = Items::new(alloc);
     targets.push(target)?;
     push_right(
@@ -164,13 +165,36 @@ fn push_further(
     ensures parts { OnOk result (parts.new ≡ parts.old ++ ((further_part further.now).to.aim (setting_of around.now) locals.old).parts) }
     ensures failures { OnOk result (first.new.error ≡ first_failure first.old.error
         (spec.inner_faults (further_part further.now).place want.now ((further_part further.now).to.aim (setting_of around.now) locals.old).answer
-        ++ ((further_part further.now).to.aim (setting_of around.now) locals.old).faults)) }
+        ++ spec.chained_faults (further_part further.now).place ((further_part further.now).to.aim (setting_of around.now) locals.old))) }
     ensures locals { OnOk result (locals.new ≡ locals.old) }
 {
     let mut apart = First::none();
-    let aim = aim(alloc, further.to.get(), around, locals, &mut apart)?;
-    note_inner(alloc, further.place, want, &aim.answer, apart, first)?;
+    let place = further.place;
+    let aim = aim_chained(alloc, place, further.to.get(), around, locals, &mut apart)?;
+    note_inner(alloc, place, want, &aim.answer, apart, first)?;
     aim.into_shape(targets, parts)
+}
+
+/// A target of a chain, whose assignment stands here; notes an answer of which a part isn't known, unless something in the target failed.
+#[cycle(elaborate)]
+fn aim_chained(
+    alloc: Global,
+    place: Place,
+    target: &LExp,
+    around: &Around<'_>,
+    locals: &mut Locals,
+    first: &mut First,
+) -> Result<Aim, AllocError>
+    ensures aim { IfOk result (λ aim. aim ≡ aim_of ((target_part target.now).aim (setting_of around.now) locals.old)) }
+    ensures failures { OnOk result (first.new.error ≡ first_failure first.old.error
+        (spec.chained_faults place ((target_part target.now).aim (setting_of around.now) locals.old))) }
+    ensures locals { OnOk result (locals.new ≡ locals.old) }
+{
+    let mut apart = First::none();
+    let aim = aim(alloc, target, around, locals, &mut apart)?;
+    note_answer(place, apart.error.is_some(), &aim.answer, first);
+    note_apart(first, apart);
+    Ok(aim)
 }
 
 /// A target, which goes behind others, as its arguments and indexes do. Gives the shape of what is assigned.

@@ -17,14 +17,14 @@ use Rattle.shape_rules.specs.Scopes.{Setting, Locals}
 use Rattle.shape_rules.specs.Calls.{Elaborate, solved}
 use Rattle.shape_rules.specs.Targets.{InStruct, field_in, base_faults}
 use Rattle.shape_rules.specs.Values.{FieldPart, values_of, Named, fields_named, also_named, field_count, variables_of_type, parts_found}
-use Rattle.shape_rules.specs.Values.{struct_found, struct_at, struct_named, struct_solved, struct_place, with_base, with_of, with_named, with_values, named_place}
+use Rattle.shape_rules.specs.Values.{struct_found, struct_at, struct_named, struct_solved, struct_place, with_base, with_of, with_failed, with_named, with_values, named_place}
 use Rattle.shape_walks.specs.declared.walks.Plan.TheVariants as P
 use Rattle.shape_walks.specs.declared.walks.Walk.{Walk}
 use Rattle.shape_walks.specs.Walks.{begun, known_shapes, each_taken, each_faults}
 use Rattle.shape_forms.specs.Structs.{params_walk, struct_plan_of, struct_plan_in, struct_counted}
 use Rattle.shape_forms.specs.Structs.{struct_faults, struct_faults_at, count_faults, struct_made, struct_walked}
 use Rattle.shape_forms.specs.Structs.{with_plan_of, with_plan_at, with_named_at, with_walked, with_made_of}
-use Rattle.shape_walks.proofs.Walked.{each_faults_is, solved_walked}
+use Rattle.shape_walks.proofs.Walked.{each_faults_is, each_cores, solved_walked}
 
 -- as many shapes as fields
 named_count_behind : (f : Option InStruct) (more : Option Named) (named : Named) (count : ℕ)
@@ -92,12 +92,14 @@ struct_is place name fs setting locals want = struct_at_is place fs setting loca
 -- ---- a struct with other fields
 
 with_none : (place at_base : Place) (fs : List FieldPart) (a : Found) (setting : Setting) (locals : Locals) (want : Shape)
-    → behind ((a.faults ++ base_faults at_base a.shape None) ++ (parts_found (values_of fs) setting locals []).faults) (unknown place)
+    → with_failed place at_base fs a setting locals want
     ≡ with_walked place at_base (values_of fs) setting locals want a (record { fields = None; walk = begun (P.Each []) })
 unfolding with_made_of
 with_none place at_base fs a setting locals want =
-    ap (λ (es : List ShapeError). behind ((a.faults ++ base_faults at_base a.shape None) ++ es) (unknown place))
-    (sym (each_faults_is (values_of fs) setting locals []))
+    let faults = sym (each_faults_is (values_of fs) setting locals []) in
+    let cores = sym (each_cores (values_of fs) setting locals []) in
+    λ i. behind ((a.faults ++ base_faults at_base a.shape None) ++ faults i)
+    (settled place want V.Never (λ s. over place (K.With 0 []) (a.core ∷ cores i)))
 
 with_solved : (place at_base : Place) (es : List Elaborate) (a : Found) (setting : Setting) (locals : Locals) (want : Shape) (i : ℕ) (ss : List Shape)
     (named : Named) → length es ≤ length named.shapes

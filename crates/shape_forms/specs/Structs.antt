@@ -97,7 +97,8 @@ with_faults at_base s None = base_faults at_base s None
 with_faults at_base s (Some fields) = []
 
 abbrev pub with_fields_made : Place → Shape → Made → Walk → Option WithFields → Found
-with_fields_made place want base w None = unknown place
+with_fields_made place want base w None =
+    settled place want V.Never (λ s. over place (K.With 0 []) (base.core ∷ w.cores))
 with_fields_made place want base w (Some fields) =
     settled place want (V.Named fields.at (known_shapes w.plan)) (λ s. over place (K.With fields.at fields.places) (base.core ∷ w.cores))
 

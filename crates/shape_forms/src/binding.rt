@@ -8,11 +8,12 @@ ghost use Rattle.shape_rules.specs.Scopes.{under, variable, constant};
 ghost use Rattle.shape_rules.specs.Patterns.{look as look_of, no_widths, written_shape as written_shape_of};
 ghost use Rattle.shape_rules.specs.Statements as spec;
 
-use crate::openness::leaves_open;
+use crate::openness::note_open;
 use sail_base::{Items, Place};
 use sail_core::{Arm, Counting, Pattern, Written};
 use sail_syntax::{Direction, Name, Pat, TyExp};
 use sail_types::Shape;
+use shape_calls::has_never;
 use shape_patterns::look;
 use shape_rules::{Around, First, Local, Locals, ShapeError};
 use std::alloc::{AllocError, Global};
@@ -89,9 +90,22 @@ pub fn enter_variable(
 pub fn note_hole(place: Place, is_typed: bool, shape: &Shape, first: &mut First)
     ensures { first.new.error ≡ first_failure first.old.error (spec.hole_faults place is_typed shape.now) }
 {
-    if !is_typed && leaves_open(shape) {
-        let mismatch = None;
-        first.note(ShapeError::IllShaped { place, mismatch });
+    if !is_typed {
+        note_open(place, shape, first);
+    }
+}
+
+/// Notes what a writer gives in a chain, where a part of its shape isn't known and nothing has failed.
+pub fn note_answer(place: Place, is_failed: bool, shape: &Shape, first: &mut First)
+    ensures { first.new.error ≡ first_failure first.old.error (spec.answer_faults place is_failed shape.now) }
+{
+    if !is_failed {
+        if has_never(shape) {
+            let mismatch = None;
+            first.note(ShapeError::IllShaped { place, mismatch });
+        } else {
+            note_open(place, shape, first);
+        }
     }
 }
 

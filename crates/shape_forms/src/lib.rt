@@ -15,10 +15,9 @@ mod targets;
 
 pub use asking::{copy_text, size, truth};
 pub use binding::{
-    counting, enter_counter, enter_pattern, enter_variable, note_hole, note_typ, written_if,
-    written_shape,
+    counting, enter_counter, enter_pattern, enter_variable, note_answer, note_hole, note_typ,
+    written_if, written_shape,
 };
-pub use openness::leaves_open;
 pub use over::settle_over;
 pub use parts::{finish_update, led, led_index, push_step};
 pub use structs::{

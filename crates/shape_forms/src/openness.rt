@@ -1,9 +1,12 @@
 //! Shapes that a later value could fill.
 ghost use Rattle.std.specs.Prelude.{◌≡◌, map};
+ghost use Rattle.shape_rules.specs.Findings.{first_failure};
 ghost use Rattle.shape_rules.specs.Targets as spec;
 ghost use Rattle.shape_forms.specs.Openness.{openness_in};
 
+use sail_base::Place;
 use sail_types::Shape;
+use shape_rules::{First, ShapeError};
 
 /// Whether a value of this shape is never there: what never ends, or a tuple with such a part.
 #[cycle(is_never)]
@@ -31,7 +34,7 @@ fn any_never(shapes: &[Shape]) -> bool
 
 /// Whether a shape leaves something open: a hole, or what never ends as an item or an argument.
 #[cycle(leaves_open)]
-pub fn leaves_open(shape: &Shape) -> bool
+fn leaves_open(shape: &Shape) -> bool
     ensures { result ≡ spec.leaves_open shape.now }
 {
     match shape {
@@ -56,4 +59,14 @@ fn any_open(shapes: &[Shape]) -> bool
         }
     }
     false
+}
+
+/// Notes a shape that leaves something open.
+pub(crate) fn note_open(place: Place, shape: &Shape, first: &mut First)
+    ensures { first.new.error ≡ first_failure first.old.error (spec.open_faults place shape.now) }
+{
+    if leaves_open(shape) {
+        let mismatch = None;
+        first.note(ShapeError::IllShaped { place, mismatch });
+    }
 }

@@ -16,7 +16,7 @@ use sail_core::Kind;
 use sail_syntax::{FieldValue, Name};
 use sail_types::{Shape, Types, copy_shapes, shape_of};
 use shape_calls::{
-    Made, field_count, field_in, named_place, note_base, over, settled, small_place, unknown,
+    Made, field_count, field_in, named_place, note_base, over, settled, small_place,
     variables_of_type,
 };
 use shape_joins::holes;
@@ -323,14 +323,19 @@ pub fn finish_with(
     ensures made { IfOk result (λ made. made ≡ made_of (form.with_made_of place want.now base fields walk)) }
     ensures failures { OnOk result (first.new.error ≡ first_failure first.old.error (form.with_made_of place want.now base fields walk).faults) }
 {
-    let Some(WithFields { at, places }) = fields else {
-        return Ok(unknown(alloc, place));
-    };
     let Walk { plan, cores, .. } = walk;
-    let known = known_shapes(alloc, plan);
     let mut parts = Items::new(alloc);
     base.into_shape(&mut parts)?;
     parts.append(cores)?;
-    let core = over(place, Kind::With(at, places), parts);
-    settled(alloc, place, want, Shape::Named(at, known), core, first)
+    match fields {
+        Some(WithFields { at, places }) => {
+            let shape = Shape::Named(at, known_shapes(alloc, plan));
+            let core = over(place, Kind::With(at, places), parts);
+            settled(alloc, place, want, shape, core, first)
+        }
+        None => {
+            let core = over(place, Kind::With(0, Items::new(alloc)), parts);
+            settled(alloc, place, want, Shape::Never, core, first)
+        }
+    }
 }

@@ -13,7 +13,7 @@ ghost use Rattle.shape_calls.specs.Ways.{aim_of};
 ghost use Rattle.shape_forms.specs.Aims.{solved_of, several_read};
 ghost use Rattle.shape_walks.specs.Walks.{args_of};
 
-use crate::openness::leaves_open;
+use crate::openness::note_open;
 use sail_base::{Items, Place};
 use sail_core::{Callee, Caller, Core, Suffix as Step, Target, TargetKind};
 use sail_syntax::Name;
@@ -221,16 +221,6 @@ fn note_unread(
             wanted,
             found: count,
         });
-    }
-}
-
-/// Notes that what is read leaves something open.
-fn note_open(place: Place, shape: &Shape, first: &mut First)
-    ensures { first.new.error ≡ first_failure first.old.error (target.open_faults place shape.now) }
-{
-    if leaves_open(shape) {
-        let mismatch = None;
-        first.note(ShapeError::IllShaped { place, mismatch });
     }
 }
 

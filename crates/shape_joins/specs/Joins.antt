@@ -86,15 +86,3 @@ join = fold-Shape Joins (λ shape t. join_form shape t (out-Shape t))
 abbrev pub any_of : List Bool → Bool
 any_of [] = false
 any_of (b ∷ bs) = b || any_of bs
-
--- whether a part of a shape is a hole
-abbrev pub hole_form : Shape-F Bool → Bool
-hole_form S.Hole = true
-hole_form (S.List b) = b
-hole_form (S.Vector b) = b
-hole_form (S.Tuple bs) = any_of bs
-hole_form (S.Named i bs) = any_of bs
-hole_form form = false
-
-abbrev pub has_hole : Shape → Bool
-has_hole = fold-Shape Bool hole_form

@@ -1,7 +1,6 @@
 //! The one shape that two are.
 ghost use Rattle.std.specs.Prelude.{◌≡◌, IfOk, map};
 ghost use Rattle.shape_joins.specs.Joins.{join, join_all, keep_all, list_of, vector_of, tuple_of, named_of};
-ghost use Rattle.shape_joins.specs.Joins.{has_hole as has_hole_in, any_of};
 
 use sail_base::{Boxed, Items};
 use sail_types::{Shape, copy_shape};
@@ -169,31 +168,4 @@ fn keep_parts(alloc: Global, parts: &[Shape]) -> Result<Option<Items<Shape>>, Al
         }
     }
     Ok(Some(made))
-}
-
-/// Whether a part of a shape is a hole.
-#[cycle(has_hole)]
-pub fn has_hole(shape: &Shape) -> bool
-    ensures { result ≡ has_hole_in shape.now }
-{
-    match shape {
-        Shape::Hole => true,
-        Shape::List(item) => has_hole(item.get()),
-        Shape::Vector(item) => has_hole(item.get()),
-        Shape::Tuple(parts) => have_hole(parts.as_slice()),
-        Shape::Named(_, arguments) => have_hole(arguments.as_slice()),
-        _ => false,
-    }
-}
-
-#[cycle(has_hole)]
-fn have_hole(parts: &[Shape]) -> bool
-    ensures { result ≡ any_of (map has_hole_in parts.now) }
-{
-    for part in parts {
-        if has_hole(part) {
-            return true;
-        }
-    }
-    false
 }

@@ -12,7 +12,7 @@ mod learning;
 mod putting;
 
 pub use clashes::overlap;
-pub use joining::{has_hole, join_shapes};
+pub use joining::join_shapes;
 pub use laws::{joins_are_least, learning_fills, shapes_are_ordered};
 pub use learning::{holes, learn_shape, learn_shapes};
 pub use putting::{put_shape, put_shapes};

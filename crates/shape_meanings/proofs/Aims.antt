@@ -1,6 +1,6 @@
 -- Targets of assignments: names, tuples, and parts of what is there.
 use Rattle.std.proofs.Common.{◌≡◌, ℕ, suc, List, [], ◌∷◌, ◌++◌, map, ap, sym, ◌∙◌, refl, subst, true}
-use Rattle.std.proofs.Common.{Option, Some, None, if◌then◌else◌}
+use Rattle.std.proofs.Common.{Option, Some, None}
 use Rattle.std.proofs.lemmas.Bool.{and_parts}
 use Rattle.sail_base.specs.declared.place.Place.{Place}
 use Rattle.sail_types.specs.Shapes.{fits, each_fits, form_fits, put, Asked}
@@ -19,7 +19,7 @@ use Rattle.sail_core.specs.declared.targets.TargetKind.{TargetKind}
 use Rattle.sail_core.specs.declared.targets.TargetKind.TheVariants as T
 use Rattle.sail_core.specs.declared.tree.Core.{Core}
 use Rattle.sail_core.specs.Run as R
-use Rattle.sail_core.specs.Run.{Now, Ended, Run, needs, gives, held_in, goes_on, ◌then◌}
+use Rattle.sail_core.specs.Run.{Now, Run, needs, gives, goes_on, ◌then◌}
 use Rattle.sail_core.specs.Values.{parts_in, form_parts}
 use Rattle.sail_core.specs.Making as Core
 use Rattle.sail_core.specs.Making.{plainly, made}
@@ -40,9 +40,9 @@ use Rattle.shape_rules.specs.Targets.{Aimed, TargetPart, target, name_aimed, Aim
 use Rattle.shape_meanings.specs.Whole.{Choice, IsSettled}
 use Rattle.shape_meanings.specs.Keeping.{Fits, FitAll, SeenAs, Reach, Good, reach_of, Keeps, Agree}
 use Rattle.shape_meanings.specs.Worlds.{Describes, ValueAs}
-use Rattle.shape_meanings.specs.Aims.{WritesAs, ReadsAs, AimIs, BaseIs, AimsAre}
+use Rattle.shape_meanings.specs.Aims.{WritesAlike, WritesAs, ReadsAs, AimIs, PartAimIs, BaseIs, AimsAre}
 use Rattle.shape_meanings.proofs.Values.{opened_at, out_put}
-use Rattle.shape_meanings.proofs.Runs.{then_agree, in_scope, not_in_scope}
+use Rattle.shape_meanings.proofs.Runs.{agree_as, then_agree, in_scope, not_in_scope}
 use Rattle.shape_meanings.proofs.Settling.{both_empty}
 use Rattle.shape_meanings.proofs.Matching.{form_given}
 use Rattle.shape_meanings.proofs.Naming.{global_source, register_closed, closed_is, register_keeps}
@@ -132,7 +132,7 @@ register_base setting locals name r s absent meant registers c wc ws d slots see
 -- several targets, each written alike
 abbrev AllWrite : Reach → List Shape → List (Spots.Spot Value) → List Written.Spot → Type 0
 AllWrite reach [] [] [] = Unit {0}
-AllWrite reach (s ∷ ss) (x ∷ xs) (y ∷ ys) = ((answer : Shape) × WritesAs reach s answer x.write y.write) × AllWrite reach ss xs ys
+AllWrite reach (s ∷ ss) (x ∷ xs) (y ∷ ys) = WritesAlike reach s (λ v. Unit {0}) x.write y.write × AllWrite reach ss xs ys
 AllWrite reach ss xs ys = ⊥
 
 pub same_components : (x : Value) (i : ℕ) (vs : List Value) → components plainly x i vs ≡ vs
@@ -156,8 +156,8 @@ writes_agree setting registers c slots (s ∷ ss) (t ∷ ts) (x ∷ xs) (y ∷ y
 writes_agree setting registers c slots (s ∷ ss) (t ∷ ts) (x ∷ xs) (y ∷ ys) (v ∷ vs) all fill h now good =
     let f = and_parts (fills s t) (fill_all ss ts) fill in
     let p = and_parts (fits setting.types v (put c t)) (each_fits (map (fits setting.types) vs) (map (put c) ts)) h in
-    then_agree (reach_of setting registers c slots) (Fits setting.types c all.0.0) (Fits setting.types c V.Unit) (x.write v now) (y.write v now)
-    (λ u. Spots.writes plainly xs vs) (λ u. Written.writes ys vs) (all.0.1 t f.0 v p.0 now good)
+    then_agree (reach_of setting registers c slots) (λ u. Unit {0}) (Fits setting.types c V.Unit) (x.write v now) (y.write v now)
+    (λ u. Spots.writes plainly xs vs) (λ u. Written.writes ys vs) (all.0 t f.0 v p.0 now good)
     (λ u later h2 good2. writes_agree setting registers c slots ss ts xs ys vs all.1 f.1 p.1 later good2)
 
 -- a shape above that of a tuple, and a value of it
@@ -239,7 +239,7 @@ spots_run (x ∷ ts) (m ∷ ms) setting locals are e registers c wc ws d slots s
     let r = are.0 h.0 registers c wc ws d slots seen t left first_c first_m
     (λ u y alike here good2.
     spots_run ts ms setting locals are.1 h.1 registers c wc ws d slots seen t rest (λ all. kc (record { found = u ∷ all.found; left = all.left }))
-    (λ spots. km (y ∷ spots)) (λ us ys others there good3. next (u ∷ us) (y ∷ ys) ((a.answer, alike), others) there good3) here good2) now good in
+    (λ spots. km (y ∷ spots)) (λ us ys others there good3. next (u ∷ us) (y ∷ ys) (alike, others) there good3) here good2) now good in
     let source : goes_on (Written.spots_of (m ∷ ms) ws now) km ≡ goes_on (m ws now) first_m =
     then_then (m ws now) (λ spot. others_m then λ spots. gives (spot ∷ spots)) km
     ∙ (λ j. goes_on (m ws now) (λ spot later. then_then (others_m later) (λ spots. gives (spot ∷ spots)) km j)) in (
@@ -269,3 +269,11 @@ tuple_aim setting locals place ts ms are e registers c wc ws d slots seen t rest
           ∙ then_then (found now) (λ some. Spots.spotted (Spots.tuple_spot plainly 0 some.found) some.left) kc ∙ r.0 ∙ sym source,
       subst (Keeps reach Q) (sym source) r.1,
     )
+
+-- what is written alike is so in a tuple
+pub as_part : (setting : Setting) (locals : Locals) (a : Aimed) (m : Written.Target) → AimIs setting locals a m → PartAimIs setting locals a m
+as_part setting locals a m aim registers c wc ws d slots seen t rest kc km next now good =
+    let reach : Reach = reach_of setting registers c slots in
+    aim registers c wc ws d slots seen t rest kc km
+    (λ x y alike. next x y (λ s above v fit here good2.
+    agree_as reach (Fits setting.types c a.answer) (λ u. Unit {0}) (x.write v here) (y.write v here) (λ u h. tt) (alike s above v fit here good2))) now good

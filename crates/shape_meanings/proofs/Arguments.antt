@@ -10,7 +10,7 @@ use Rattle.sail_types.specs.declared.table.Types.{Types}
 use Rattle.sail_types.specs.declared.values.Value.{Value}
 use Rattle.sail_core.specs.declared.tree.Core.{Core}
 use Rattle.sail_core.specs.Run as R
-use Rattle.sail_core.specs.Run.{Now, Ended, Run, needs, gives, goes_on, in_turn, ◌then◌}
+use Rattle.sail_core.specs.Run.{Now, Ended, Run, needs, gives, in_turn, ◌then◌}
 use Rattle.sail_core.specs.Making as Core
 use Rattle.sail_core.specs.Meaning.{core_meaning}
 use Rattle.shape_joins.proofs.Order.{no, two}
@@ -92,7 +92,7 @@ doing_means : (wc : Core.World Value) (place : Place) (doing : Doing) (known : L
 doing_means wc place (D.Calls callee) known cores = unrolled wc place 0 (doing_kind (D.Calls callee) known) cores
 doing_means wc place D.Conses known cores = unrolled wc place 0 (doing_kind D.Conses known) cores
 
-keeps_apart_as : (types : Types) (registers : List Shape) (thrown : Shape) (P Q : Value → Type 0) (before : Now Value) (m : Ended Value Value)
+pub keeps_apart_as : (types : Types) (registers : List Shape) (thrown : Shape) (P Q : Value → Type 0) (before : Now Value) (m : Ended Value Value)
     → ((v : Value) → P v → Q v) → KeepsApart types registers thrown P before m → KeepsApart types registers thrown Q before m
 keeps_apart_as types registers thrown P Q before (R.Gives v now) f k = (f v k.0, k.1)
 keeps_apart_as types registers thrown P Q before (R.No now) f k = k

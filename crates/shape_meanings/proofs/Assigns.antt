@@ -19,7 +19,7 @@ use Rattle.sail_meaning.specs.Targets as Written
 use Rattle.shape_rules.specs.Findings.{over, missing, settled_as}
 use Rattle.shape_rules.specs.Scopes.{Setting, Locals}
 use Rattle.shape_rules.specs.Targets.{Part, Aimed}
-use Rattle.shape_rules.specs.Statements.{FurtherPart, Righted, righted, inner_faults, assign_to}
+use Rattle.shape_rules.specs.Statements.{FurtherPart, Righted, righted, inner_faults, chained_faults, assign_to}
 use Rattle.shape_meanings.specs.Keeping.{Fits, Reach, reach_of}
 use Rattle.shape_meanings.specs.Aims.{AimIs, FurtherAre}
 use Rattle.shape_meanings.specs.Parts.{IsRight, PairRuns}
@@ -84,8 +84,8 @@ righted_runs (f ∷ fs) [] value mv setting locals want are right e = absurd are
 righted_runs (f ∷ fs) (m ∷ ms) value mv setting locals want are right e =
     let a : Aimed = f.to.aim setting locals in
     let more : Righted = righted fs value setting locals a.shape in
-    let h = both_empty (inner_faults f.place want a.answer ++ a.faults) more.faults e in
-    let h2 = both_empty (inner_faults f.place want a.answer) a.faults h.0 in
+    let h = both_empty (inner_faults f.place want a.answer ++ chained_faults f.place a) more.faults e in
+    let h2 = both_empty (inner_faults f.place want a.answer) (chained_faults f.place a) h.0 in
     let j = joined_step f.place want a.answer (join a.answer want) refl h2.0 in
     let runs = assigned_runs setting locals a more m (right_of ms mv) (are.0 h2.1) (righted_runs fs ms value mv setting locals a.shape are.1 right h.1) in (
       j.0,
@@ -103,15 +103,15 @@ assigned_is target (m ∷ ms) mv = λ j w. target w then λ spot. assigned_is m 
 
 pub assign_right : (setting : Setting) (locals : Locals) (place : Place) (a : Aimed) (more : List FurtherPart) (value : Part) (m : Written.Target)
     (ms : List Written.Target) (mv : Source.Meaning)
-    → (a.faults ≡ [] → AimIs setting locals a m) → FurtherAre setting locals more ms → IsRight setting locals value.elaborate mv
+    → (chained_faults place a ≡ [] → AimIs setting locals a m) → FurtherAre setting locals more ms → IsRight setting locals value.elaborate mv
     → IsRight setting locals (assign_to place a more value) (Written.assigned m ms mv)
 assign_right setting locals place a more value m ms mv aim are right want e =
     let found : Righted = righted more value setting locals a.shape in
     let n : Source.Meaning = λ w. m w then λ spot. right_of ms mv w then spot.write in
-    let h = both_empty (a.faults ++ found.faults) _ e in
-    let h2 = both_empty a.faults found.faults h.0 in
+    let h = both_empty (chained_faults place a ++ found.faults) _ e in
+    let h2 = both_empty (chained_faults place a) found.faults h.0 in
     right_via setting locals want (assign_to place a more value setting locals want) n (Written.assigned m ms mv) (sym (assigned_is m ms mv))
-    (behind_right setting locals want (a.faults ++ found.faults) _ n
+    (behind_right setting locals want (chained_faults place a ++ found.faults) _ n
     (settled_right setting locals place want a.answer (λ s. over place (K.Assign (a.target ∷ found.targets)) (a.parts ++ found.parts)) n h.1
     (λ t registers c wc ws d slots seen now good.
     let q = assigned_runs setting locals a found m (right_of ms mv) (aim h2.0) (righted_runs more ms value mv setting locals a.shape are right h2.1)

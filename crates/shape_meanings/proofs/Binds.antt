@@ -31,10 +31,11 @@ use Rattle.shape_rules.specs.declared.callees.Meant.TheVariants as M
 use Rattle.shape_rules.specs.declared.locals.Local.{Local}
 use Rattle.shape_rules.specs.Scopes.{Setting}
 use Rattle.shape_rules.specs.Calls.{takes_unit}
-use Rattle.shape_rules.specs.Patterns.{Piece, Widths, Looked, piece, form_piece, joined_piece, each_looked, name_look, construct_look, callee_look}
+use Rattle.shape_rules.specs.Patterns.{Piece, Widths, piece, form_piece, joined_piece, each_looked, name_look, construct_look, callee_look}
 use Rattle.shape_rules.specs.Patterns.{constructor_look}
-use Rattle.shape_rules.specs.Patterns.{unit_piece, pieces_for, direction_of, callee_head, mapping_look_as, as_one, Which, forwards, backwards, neither, either}
-use Rattle.shape_rules.specs.Patterns.{which_side, nevers, known_or_nevers, list_item}
+use Rattle.shape_rules.specs.Patterns.{unit_piece, pieces_for, direction_of, callee_head, mapping_look_as, as_one, Which, forwards, backwards}
+use Rattle.shape_rules.specs.Patterns.{neither, either}
+use Rattle.shape_rules.specs.Patterns.{which_side, nevers, list_item}
 use Rattle.shape_rules.specs.Patterns as Rules
 use Rattle.shape_rules.specs.declared.error.ShapeError.TheVariants as error
 use Rattle.shape_meanings.specs.Naming.{AreKnown, MeantAs}
@@ -90,10 +91,10 @@ abbrev joins : List SuchJ → List Joined
 joins ys = map (λ (j : SuchJ). j.0) ys
 
 -- pieces that bind so, whatever shapes come to them
-abbrev EachBinds : Setting → List Piece → List Name → Type 0
+abbrev pub EachBinds : Setting → List Piece → List Name → Type 0
 EachBinds setting ps ns = (widths : Widths) (ss : List Shape) → local_names (each_looked ps setting widths ss).binds ≡ texts ns
 
-more_bind : (setting : Setting) (p : Piece) (ps : List Piece) (ns ms : List Name)
+pub more_bind : (setting : Setting) (p : Piece) (ps : List Piece) (ns ms : List Name)
     → ((widths : Widths) (subject : Shape) → local_names (p.look setting widths subject).binds ≡ texts ns) → EachBinds setting ps ms
     → EachBinds setting (p ∷ ps) (ns ++ ms)
 more_bind setting p ps ns ms one others widths [] =

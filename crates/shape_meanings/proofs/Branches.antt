@@ -15,10 +15,9 @@ use Rattle.sail_types.specs.declared.values.Value.TheOpen as W
 use Rattle.sail_core.specs.declared.tree.Kind.TheVariants as K
 use Rattle.sail_core.specs.declared.tree.Core.{Core}
 use Rattle.sail_core.specs.Run as R
-use Rattle.sail_core.specs.Run.{Now, Ended, Run, needs, gives, if_so, goes_on, ◌then◌}
+use Rattle.sail_core.specs.Run.{Now, Ended, Run, needs, if_so, goes_on, ◌then◌}
 use Rattle.sail_core.specs.Values.{truth_in, form_truth}
 use Rattle.sail_core.specs.Making as Core
-use Rattle.sail_core.specs.Making.{plainly}
 use Rattle.sail_core.specs.Meaning.{core_meaning}
 use Rattle.shape_joins.specs.Filling.{fills}
 use Rattle.shape_joins.proofs.Order.{no, fills_itself, fills_twice}

@@ -92,7 +92,7 @@ pub call_alone : (types : Types) (apply : Apply) (place : Place) (callee : Calle
 call_alone types apply place callee vs us now h = ap (λ xs. (needs (choice types (alone callee) xs) then λ c. apply place c xs) now) h
 
 -- on so many values the arguments stay as they are
-stays : (callee : Callee) (vs : List Value) → is_direction callee ≡ false → length vs ≡ length (parameters callee) → arguments (alone callee) vs ≡ vs
+pub stays : (callee : Callee) (vs : List Value) → is_direction callee ≡ false → length vs ≡ length (parameters callee) → arguments (alone callee) vs ≡ vs
 stays callee [] plain many = no_argument_is callee plain ∙ none_for (parameters callee) many
   where
     not_zero : (n : ℕ) → zero ≡ suc n → ⊥

@@ -1,6 +1,5 @@
 -- Calls by name: a callee, a builtin or an overload.
 use Rattle.std.proofs.Common.{◌≡◌, ℕ, zero, suc, List, [], ◌∷◌, length, ap, sym, ◌∙◌, refl, subst, Some, arith}
-use Rattle.std.proofs.Common.{if◌then◌else◌}
 use Rattle.sail_base.specs.declared.place.Place.{Place}
 use Rattle.sail_types.specs.declared.shapes.Shape.{Shape}
 use Rattle.sail_types.specs.declared.shapes.Shape.TheOpen as S
@@ -60,7 +59,7 @@ or_unit_are setting locals place (e ∷ es) [] right = absurd right
 or_unit_are setting locals place (e ∷ es) (m ∷ ms) right = right
 
 -- what an overload means on values of which there is one at least
-overloaded : (types : Types) (apply : Apply) (place : Place) (callees : List Callee) (vs : List Value) (now : Now Value) (n : ℕ) → length vs ≡ suc n
+pub overloaded : (types : Types) (apply : Apply) (place : Place) (callees : List Callee) (vs : List Value) (now : Now Value) (n : ℕ) → length vs ≡ suc n
     → call_by types apply place (Some (overload callees)) vs now ≡ (needs (first_fitting types callees vs) then λ callee. apply place callee vs) now
 overloaded types apply place callees [] now n h = absurd (zero_not n h)
   where
@@ -93,13 +92,13 @@ right_where setting locals want found m n same r = record {
 }
 
 -- an overload in the worlds that a setting describes
-overload_called : (setting : Setting) (registers : List Shape) (wc : Core.World Value) (ws : Source.World) (d : Describes setting registers wc ws)
+pub overload_called : (setting : Setting) (registers : List Shape) (wc : Core.World Value) (ws : Source.World) (d : Describes setting registers wc ws)
     (name : List ℕ) (fs : List Candidate) → setting.value name ≡ Some (M.Overload fs)
     → (callees : List Callee) × (ws.text.called name ≡ Some (overload callees))
     × StandForEach setting.types registers (thrown_shape setting) wc d.apply fs callees × Distinct fs
 overload_called setting registers wc ws d name fs is = subst (NameCalled setting registers wc ws d.apply name) is (d.names name)
 
-by_overload : (setting : Setting) (registers : List Shape) (wc : Core.World Value) (ws : Source.World) (d : Describes setting registers wc ws)
+pub by_overload : (setting : Setting) (registers : List Shape) (wc : Core.World Value) (ws : Source.World) (d : Describes setting registers wc ws)
     (place : Place) (name : List ℕ) (callees : List Callee) (vs : List Value) → ws.text.called name ≡ Some (overload callees)
     → ws.call place name vs ≡ call_by setting.types d.apply place (Some (overload callees)) vs
 by_overload setting registers wc ws d place name callees vs is =

@@ -18,7 +18,7 @@ use Rattle.sail_core.specs.Meaning.{core_meaning, first_of, arm_taken}
 use Rattle.shape_joins.specs.Filling.{fills}
 use Rattle.shape_joins.proofs.Order.{fills_itself, fills_twice}
 use Rattle.sail_meaning.specs.World as Source
-use Rattle.sail_meaning.specs.World.{Piece, truth}
+use Rattle.sail_meaning.specs.World.{Piece}
 use Rattle.sail_meaning.specs.Expressions.{Case, guarded, case_taken, first_case, chosen}
 use Rattle.sail_meaning.specs.Patterns.{matching}
 use Rattle.shape_rules.specs.declared.locals.Local.{Local}
@@ -39,7 +39,7 @@ use Rattle.shape_meanings.proofs.Lets.{taken_agrees}
 
 -- ---- guards
 
-guarded_runs : (setting : Setting) (locals : Locals) (t : Shape) (guard : Option Part) (mg : Option Source.Meaning) (body : Core) (m : Source.Meaning)
+pub guarded_runs : (setting : Setting) (locals : Locals) (t : Shape) (guard : Option Part) (mg : Option Source.Meaning) (body : Core) (m : Source.Meaning)
     → MaybeIs setting locals guard mg → guard_faults guard setting locals ≡ [] → RunsAs setting locals t body m
     → RunsAs setting locals t (guarded_core guard setting locals body) (guarded mg m)
 guarded_runs setting locals t None None body m is e runs = runs
@@ -70,7 +70,7 @@ FirstRuns setting locals subject t arms bodies ms =
     → Agree (reach_of setting registers c slots) (Fits setting.types c t) (first_of plainly wc arms (map (core_meaning wc) bodies) nc (v ∷ []) now)
     (first_case ws ms nm v now)
 
-pub cases_right : (cs : List CasePart) (ms : List Case) (setting : Setting) (locals : Locals) (subject want : Shape) → CasesAre setting locals cs ms
+pub cases_right : (cs : List CasePart) (ms : List Case) (setting : Setting) (locals : Locals) (subject want : Shape) → CasesAre setting locals subject cs ms
     → (cases_found cs setting locals subject want).faults ≡ []
     → (fills want (cases_found cs setting locals subject want).shape ≡ true)
     × FirstRuns setting locals subject (cases_found cs setting locals subject want).shape (cases_found cs setting locals subject want).arms
@@ -87,7 +87,7 @@ cases_right (k ∷ cs) (m ∷ ms) setting locals subject want are e =
     let h = both_empty (p.faults ++ (guards ++ a.faults)) next.faults e in
     let h2 = both_empty p.faults (guards ++ a.faults) h.0 in
     let h3 = both_empty guards a.faults h2.1 in
-    let case = are.0.1 subject h2.0 in
+    let case = are.0.1 h2.0 in
     let body = case.3 want h3.1 in
     let given = given_over want a.shape body.above in
     let others = cases_right cs ms setting locals subject (given_on want a.shape) are.1 h.1 in
@@ -113,7 +113,7 @@ cases_right (k ∷ cs) (m ∷ ms) setting locals subject want are e =
     )
 
 pub match_right : (setting : Setting) (locals : Locals) (place : Place) (value : Part) (cs : List CasePart) (mv : Source.Meaning) (ms : List Case)
-    → IsRight setting locals value.elaborate mv → CasesAre setting locals cs ms
+    → IsRight setting locals value.elaborate mv → CasesAre setting locals (value.elaborate setting locals V.Never).shape cs ms
     → IsRight setting locals (choose_found place Match value cs) (chosen Match place mv ms)
 match_right setting locals place value cs mv ms right are want e =
     let a : Found = value.elaborate setting locals V.Never in

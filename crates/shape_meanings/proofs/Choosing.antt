@@ -96,39 +96,46 @@ module _ (types : Types) (registers : List Shape) (thrown : Shape) (wc : Core.Wo
       → each_fits (map (fits types) vs) g.params ≡ accepts types vs callee
   fits_callee g callee vs stands = ap (each_fits (map (fits types) vs)) (sym stands.params)
 
-  same_step : (g : Candidate) (gs : List Candidate) (callee : Callee) (callees : List Callee) (vs : List Value) (c : Choice) (ss : List Shape) (x : Chosen)
+  same_step : (g : Candidate) (gs : List Candidate) (callee : Callee) (callees : List Callee) (vs : List Value) (ss : List Shape) (x : Chosen)
       (o : Option (List Shape)) (b : Bool)
-      → FitAll types c ss vs → StandsFor types registers thrown wc apply g callee → ApartFrom g gs
+      → each_fits (map (fits types) vs) x.candidate.params ≡ true → StandsFor types registers thrown wc apply g callee → ApartFrom g gs
       → learn_all (map learn g.params) ss (holes g.variables) ≡ o → accepts types vs callee ≡ b
       → (chosen gs ss ≡ Some x → Member callees vs x (first_fitting types callees vs))
       → chosen_or g o (chosen gs ss) ≡ Some x → Member (callee ∷ callees) vs x (if b then Some callee else first_fitting types callees vs)
-  same_step g gs callee callees vs c ss x None false fit stands apart is fits_it later e = later e
-  same_step g gs callee callees vs c ss x None true fit stands apart is fits_it later e =
+  same_step g gs callee callees vs ss x None false here stands apart is fits_it later e = later e
+  same_step g gs callee callees vs ss x None true here stands apart is fits_it later e =
       let taken = is_taken gs ss x e in
-      let here : each_fits (map (fits types) vs) x.candidate.params ≡ true =
-      all_loosened types vs (λ i. put c (at x.known i)) x.candidate.params (solved_fit types vs c ss x taken fit) in
       let alike : all_alike g.params x.candidate.params ≡ true =
       alike_where (each_shares (map shares g.params) x.candidate.params) (all_alike g.params x.candidate.params)
       (all_share types vs g.params x.candidate.params (fits_callee g callee vs stands ∙ fits_it) here) (is_apart g gs ss x apart e) in
       let k = alike_taken g ss x taken stands.whole alike in
       none (sym is ∙ k.1)
-  same_step g gs callee callees vs c ss x (Some known) true fit stands apart is fits_it later e = (
+  same_step g gs callee callees vs ss x (Some known) true here stands apart is fits_it later e = (
     callee,
     refl,
     subst (λ (y : Chosen). StandsFor types registers thrown wc apply y.candidate callee)
         (same_chosen (record { candidate = g; known = known }) x e) stands,
   )
-  same_step g gs callee callees vs c ss x (Some known) false fit stands apart is fits_it later e =
+  same_step g gs callee callees vs ss x (Some known) false here stands apart is fits_it later e =
       no (sym fits_it ∙ sym (fits_callee g callee vs stands)
-      ∙ all_loosened types vs (λ i. put c (at known i)) g.params (solved_fit types vs c ss (record { candidate = g; known = known }) is fit))
+      ∙ subst (λ (y : Chosen). each_fits (map (fits types) vs) y.candidate.params ≡ true)
+      (sym (same_chosen (record { candidate = g; known = known }) x e)) here)
 
-  -- the first member that the values fit stands for the one that was chosen by their shapes
+  -- the first member that the values fit stands for the one that was chosen by some shapes, where they fit its parameters
+  pub same_member : (fs : List Candidate) (callees : List Callee) → StandForEach types registers thrown wc apply fs callees → Distinct fs
+      → (vs : List Value) (ss : List Shape) (x : Chosen) → each_fits (map (fits types) vs) x.candidate.params ≡ true → chosen fs ss ≡ Some x
+      → Member callees vs x (first_fitting types callees vs)
+  same_member [] [] stand apart vs ss x here e = none e
+  same_member [] (callee ∷ callees) stand apart vs ss x here e = absurd stand
+  same_member (f ∷ fs) [] stand apart vs ss x here e = absurd stand
+  same_member (f ∷ fs) (callee ∷ callees) stand apart vs ss x here e =
+      same_step f fs callee callees vs ss x (learn_all (map learn f.params) ss (holes f.variables)) (accepts types vs callee) here stand.0 apart.0 refl refl
+      (same_member fs callees stand.1 apart.1 vs ss x here) e
+
+  -- and so it does where the values have these shapes
   pub same_choice : (fs : List Candidate) (callees : List Callee) → StandForEach types registers thrown wc apply fs callees → Distinct fs
       → (vs : List Value) (c : Choice) (ss : List Shape) (x : Chosen) → FitAll types c ss vs → chosen fs ss ≡ Some x
       → Member callees vs x (first_fitting types callees vs)
-  same_choice [] [] stand apart vs c ss x fit e = none e
-  same_choice [] (callee ∷ callees) stand apart vs c ss x fit e = absurd stand
-  same_choice (f ∷ fs) [] stand apart vs c ss x fit e = absurd stand
-  same_choice (f ∷ fs) (callee ∷ callees) stand apart vs c ss x fit e =
-      same_step f fs callee callees vs c ss x (learn_all (map learn f.params) ss (holes f.variables)) (accepts types vs callee) fit stand.0 apart.0 refl refl
-      (same_choice fs callees stand.1 apart.1 vs c ss x fit) e
+  same_choice fs callees stand apart vs c ss x fit e =
+      same_member fs callees stand apart vs ss x
+      (all_loosened types vs (λ i. put c (at x.known i)) x.candidate.params (solved_fit types vs c ss x (is_taken fs ss x e) fit)) e

@@ -21,11 +21,10 @@ use Rattle.sail_core.specs.Numbers.{Givens}
 use Rattle.sail_core.specs.Making as Core
 use Rattle.sail_core.specs.Making.{plainly}
 use Rattle.sail_core.specs.Patterns as Steps
-use Rattle.sail_core.specs.Patterns.{Parts, Wrong, as_run, so_many, parts_or_wrong}
+use Rattle.sail_core.specs.Patterns.{as_run, so_many, parts_or_wrong}
 use Rattle.shape_joins.proofs.Order.{no, two}
 use Rattle.shape_joins.proofs.JoinsLeast.{some_same, none}
 use Rattle.sail_meaning.specs.World as Source
-use Rattle.sail_meaning.specs.World.{Bindings}
 use Rattle.sail_meaning.specs.Patterns as Written
 use Rattle.shape_rules.specs.declared.locals.Local.{Local}
 use Rattle.shape_rules.specs.Scopes.{Setting}

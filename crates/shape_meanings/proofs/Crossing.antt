@@ -16,7 +16,6 @@ use Rattle.shape_joins.specs.Joins.{join}
 use Rattle.sail_meaning.specs.Text.{Callee, Direction}
 use Rattle.sail_meaning.specs.Choice.{parameters}
 use Rattle.sail_meaning.specs.World as Source
-use Rattle.sail_meaning.specs.World.{Bindings}
 use Rattle.sail_meaning.specs.Named.{constructor_named}
 use Rattle.sail_meaning.specs.Patterns as Written
 use Rattle.sail_meaning.specs.Patterns.{whole_matches, construct_matches}

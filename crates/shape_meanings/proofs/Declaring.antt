@@ -15,7 +15,8 @@ use Rattle.shape_rules.specs.Scopes.{Setting, Locals, under}
 use Rattle.shape_rules.specs.Written.{shape_in, shape_or_never}
 use Rattle.shape_rules.specs.Patterns.{Looked, look, no_widths, wanted_by, written_shape, has_typ}
 use Rattle.shape_rules.specs.Targets.{Part}
-use Rattle.shape_rules.specs.Statements.{bound, hole_faults, typ_faults, written_if, declared_shape, Declaring, declaring, declared_as, let_found, var_found}
+use Rattle.shape_rules.specs.Statements.{bound, hole_faults, typ_faults, written_if, declared_shape, Declaring, declaring, declared_as, let_found}
+use Rattle.shape_rules.specs.Statements.{var_found}
 use Rattle.shape_meanings.specs.Whole.{below}
 use Rattle.shape_meanings.specs.Keeping.{Fits, Reach, reach_of}
 use Rattle.shape_meanings.specs.Parts.{IsRight, PatternIs, StatementIs, TypIs}

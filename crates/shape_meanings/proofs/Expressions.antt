@@ -1,12 +1,15 @@
--- The core of each expression of the covered forms means what it means: by induction on the expression.
+-- The core of each expression means what it means: by induction on the expression.
 use Rattle.std.proofs.Common.{◌≡◌, ℕ, Bool, true, false, ◌&&◌, List, [], ◌∷◌, ◌++◌, map, ap, sym, ◌∙◌, refl, subst, Option, Some, None, is_some, inl}
+use Rattle.std.proofs.Common.{inr}
 use Rattle.std.proofs.Common.{if◌then◌else◌}
 use Rattle.std.proofs.lemmas.Bool.{and_parts}
 use Rattle.sail_base.specs.declared.kind.Kind.TheVariants as Sort
 use Rattle.sail_base.specs.declared.operators.Operator.{Operator}
 use Rattle.sail_base.specs.declared.operators.Operator.TheVariants as O
 use Rattle.sail_base.specs.declared.place.Place.{Place}
-use Rattle.sail_types.specs.declared.shapes.Shape.{Shape}
+use Rattle.sail_types.specs.declared.shapes.Shape.{Shape, out-Shape}
+use Rattle.sail_types.specs.declared.shapes.Shape.TheOpen as S
+use Rattle.sail_types.specs.declared.shapes.Shape.TheViews.{out-roll-Shape}
 use Rattle.sail_types.specs.declared.shapes.Shape.TheVariants as V
 use Rattle.sail_types.specs.declared.values.Value.{out-Value}
 use Rattle.sail_syntax.specs.declared.name.Name.{Name}
@@ -19,7 +22,7 @@ use Rattle.sail_syntax.specs.declared.words.Leaving.TheVariants as Leave
 use Rattle.sail_syntax.specs.declared.words.Looping.TheVariants.{While, Repeat}
 use Rattle.sail_syntax.specs.declared.expressions.Exp.{Exp, Exp-F, roll-Exp}
 use Rattle.sail_syntax.specs.declared.expressions.Exp.TheOpen as E
-use Rattle.sail_syntax.specs.declared.expressions.Exp.TheOpen.{Case-F, FieldValue-F, Index-F, LExp-F, Range-F, Stmt-F, Suffix-F, Target-F}
+use Rattle.sail_syntax.specs.declared.expressions.Exp.TheOpen.{FieldValue-F, LExp-F, Stmt-F, Suffix-F, Target-F}
 use Rattle.sail_syntax.specs.declared.expressions.Exp.TheFolds.{ind-Exp}
 use Rattle.sail_syntax.specs.declared.expressions.Stmt.{Stmt, roll-Stmt}
 use Rattle.sail_syntax.specs.declared.expressions.Suffix.{Suffix as SuffixTree, roll-Suffix}
@@ -45,59 +48,67 @@ use Rattle.sail_names.specs.Locals.{behind}
 use Rattle.sail_names.specs.Patterns.{binds, clashes, pattern_failures, type_failures, unless, uses_failures}
 use Rattle.sail_names.specs.Uses as Uses
 use Rattle.shape_rules.specs.Findings.{given_on, ill_shaped}
-use Rattle.shape_rules.specs.Scopes.{Setting, Locals, constant, local_of, under, plainly}
+use Rattle.shape_rules.specs.Scopes.{Setting, Locals, constant, local_of, under, plainly, thrown_shape}
 use Rattle.shape_rules.specs.Written.{shape_or_never}
-use Rattle.shape_rules.specs.Patterns.{look, no_widths}
-use Rattle.shape_rules.specs.Targets.{Aimed, Part, SuffixPart, TargetPart, each_aimed, elaborations, leaves_open, name_aimed, part_aimed, read_aimed}
+use Rattle.shape_rules.specs.Patterns.{look, no_widths, wanted_by, written_shape}
+use Rattle.shape_rules.specs.Targets.{Aimed, Part, SuffixPart, TargetPart, call_aim, each_aimed, elaborations, leaves_open, name_aimed, read_aimed}
 use Rattle.shape_rules.specs.Targets.{tuple_aimed, walked}
 use Rattle.shape_rules.specs.Values.{FieldPart, call_named, infix_found, last_place, leave_found, return_found, struct_at, struct_found, struct_place}
-use Rattle.shape_rules.specs.Statements.{blocked, bound, declared_shape, declaring, foreach_found, hole_faults, typ_faults, RangePart}
+use Rattle.shape_rules.specs.Statements.{blocked, bound, chained_faults, declared_shape, declaring, foreach_found, hole_faults, typ_faults, RangePart}
 use Rattle.shape_rules.specs.Expressions as Rules
 use Rattle.shape_meanings.specs.Whole.{IsSettled, all_of, below}
-use Rattle.shape_meanings.specs.Trees.{pattern_written}
-use Rattle.shape_meanings.specs.Covered.{ExpressionsAreRight, all_among, all_read, all_written}
+use Rattle.shape_meanings.specs.Trees.{is_part, pattern_written}
 use Rattle.shape_meanings.specs.Aims.{AimIs, AimsAre, FurtherAre}
 use Rattle.shape_meanings.specs.Naming.{AreKnown}
 use Rattle.shape_meanings.specs.Parts.{IsRight, AreRight, CasesAre, FieldsAre, NamesApart, StatementsAre, SuffixesAre, TypIs}
-use Rattle.shape_meanings.specs.Sound.{Right}
-use Rattle.shape_meanings.proofs.Aims.{tuple_aim}
+use Rattle.shape_meanings.specs.Counted.{LocalsCounted, counted}
+use Rattle.shape_meanings.specs.Sound.{ElaborationIsSound, Right}
+use Rattle.shape_meanings.proofs.Aims.{as_part, tuple_aim}
 use Rattle.shape_meanings.proofs.Assigns.{assign_right}
+use Rattle.shape_meanings.proofs.Bases.{BaseHolds, as_aim, as_tuple_part, call_aims, call_base, chained_known, name_base, part_holds}
 use Rattle.shape_meanings.proofs.Binds.{pat_binds}
 use Rattle.shape_meanings.proofs.Blocks.{block_right, unit_block_right, define_is, evaluate_is}
 use Rattle.shape_meanings.proofs.Branches.{if_right}
+use Rattle.shape_meanings.proofs.CallAims.{call_meant}
+use Rattle.shape_meanings.proofs.CallCounts.{ElsCount}
 use Rattle.shape_meanings.proofs.CallTargets.{call_target_right}
 use Rattle.shape_meanings.proofs.Callings.{called_right}
 use Rattle.shape_meanings.proofs.Cases.{match_right}
+use Rattle.shape_meanings.proofs.Counting.{int_counted, never_counted}
 use Rattle.shape_meanings.proofs.Declaring.{declare_is, let_right, var_right}
+use Rattle.shape_meanings.proofs.FormCounts.{thrown_counted}
 use Rattle.shape_meanings.proofs.Folds.{SuchExp, SuchLExp, SuchStmt, SuchSuffix, SuchCase, SuchFieldValue, SuchIndex, SuchRange, SuchTarget}
 use Rattle.shape_meanings.proofs.Folds.{first_Exp, first_Stmt, first_Suffix, first_Case, first_Index, first_Range}
 use Rattle.shape_meanings.proofs.Folds.{ExpForm, StmtForm, SuffixForm, CaseForm, IndexForm, RangeForm, LExpForm, FieldValueForm, TargetForm}
 use Rattle.shape_meanings.proofs.Folds.{first_LExp, first_FieldValue, first_Target, rolled_LExp, rolled_FieldValue, rolled_Target}
-use Rattle.shape_meanings.proofs.Folds.{found_lexp, meant_lexp, failed_lexp, covered_lexp, found_field, meant_field, failed_field, covered_field}
-use Rattle.shape_meanings.proofs.Folds.{found_target, meant_target, failed_target, covered_target, LExpHolds, FieldHolds, FurtherHolds, Known}
+use Rattle.shape_meanings.proofs.Folds.{found_lexp, meant_lexp, failed_lexp, written_lexp, found_field, meant_field, failed_field, written_field}
+use Rattle.shape_meanings.proofs.Folds.{found_target, meant_target, failed_target, written_target, LExpHolds, FieldHolds, FurtherHolds, Known}
 use Rattle.shape_meanings.proofs.Folds.{rolled_Exp, rolled_Stmt, rolled_Suffix, rolled_Case, rolled_Index, rolled_Range}
-use Rattle.shape_meanings.proofs.Folds.{found_exp, meant_exp, failed_exp, covered_exp, found_stmt, meant_stmt, failed_stmt, covered_stmt}
-use Rattle.shape_meanings.proofs.Folds.{found_suffix, meant_suffix, failed_suffix, covered_suffix, found_case, meant_case, failed_case, covered_case}
-use Rattle.shape_meanings.proofs.Folds.{found_index, meant_index, failed_index, covered_index, found_range, meant_range, failed_range, covered_range}
+use Rattle.shape_meanings.proofs.Folds.{found_exp, meant_exp, failed_exp, written_exp, found_stmt, meant_stmt, failed_stmt, written_stmt}
+use Rattle.shape_meanings.proofs.Folds.{found_suffix, meant_suffix, failed_suffix, written_suffix, found_case, meant_case, failed_case, written_case}
+use Rattle.shape_meanings.proofs.Folds.{found_index, meant_index, failed_index, written_index, found_range, meant_range, failed_range, written_range}
 use Rattle.shape_meanings.proofs.Folds.{ExpHolds, StmtHolds, SuffixHolds, CaseHolds, IndexHolds, RangeHolds, RangeIs}
 use Rattle.shape_meanings.proofs.Groups.{empty_tuple_right, list_right, tuple_right}
-use Rattle.shape_meanings.proofs.IndexTargets.{AreIndexes, name_items}
 use Rattle.shape_meanings.proofs.Leaving.{exit_right, return_right, throw_right, typed_right}
 use Rattle.shape_meanings.proofs.Looping.{foreach_right, repeat_right, while_right}
 use Rattle.shape_meanings.proofs.Naming.{name_right, unless_true}
-use Rattle.shape_meanings.proofs.Openness.{settles}
+use Rattle.shape_meanings.proofs.Openness.{is_tuple_form, settles}
 use Rattle.shape_meanings.proofs.Operators.{infix_right, prefix_right}
+use Rattle.shape_meanings.proofs.PatternCounts.{pat_counts}
 use Rattle.shape_meanings.proofs.PatternNames.{pattern_is}
 use Rattle.shape_meanings.proofs.Ready.{Ready, plain_ready, with_constant, with_names, with_variable}
 use Rattle.shape_meanings.proofs.StructLiterals.{struct_right}
 use Rattle.shape_meanings.proofs.Selecting.{and_right, or_right}
 use Rattle.shape_meanings.proofs.Settling.{both_empty, constant_right}
 use Rattle.shape_meanings.proofs.Tests.{assert_right, constraint_right, short_if_right, sizeof_right}
+use Rattle.shape_meanings.proofs.TargetCounts.{call_base_counts}
+use Rattle.shape_meanings.proofs.TreeCounts.{declared_counted, exp_counts, pattern_counts, wanted_counted}
 use Rattle.shape_meanings.proofs.TargetNames.{name_aim, names_apart, struct_known}
 use Rattle.shape_meanings.proofs.Trying.{try_right}
 use Rattle.shape_meanings.proofs.Updates.{update_right}
 use Rattle.shape_meanings.proofs.Vectors.{vector_right}
 use Rattle.shape_meanings.proofs.Walks.{part_right}
+use Rattle.shape_meanings.proofs.Withs.{with_right}
 
 not_none : {A B : Type 0} {x : A} {xs : List A} → (x ∷ xs) ≡ [] → B
 not_none e = absurd (empty e)
@@ -111,11 +122,11 @@ abbrev exps : List SuchExp → List Exp
 exps ys = map (λ (p : SuchExp). p.0) ys
 
 each_right : (ys : List SuchExp) (setting : Setting) (names : Tables.Setting) (locals : Locals) (bound : Bound.Locals)
-    → all_of (map covered_exp (exps ys)) ≡ true → Ready setting names locals bound → Uses.each (map failed_exp (exps ys)) names bound ≡ []
+    → all_of (map written_exp (exps ys)) ≡ true → Ready setting names locals bound → Uses.each (map failed_exp (exps ys)) names bound ≡ []
     → AreRight setting locals (elaborations (map found_exp (exps ys))) (map meant_exp (exps ys))
 each_right [] setting names locals bound b r u = tt
 each_right (y ∷ ys) setting names locals bound b r u =
-    let k = and_parts (covered_exp y.0) (all_of (map covered_exp (exps ys))) b in
+    let k = and_parts (written_exp y.0) (all_of (map written_exp (exps ys))) b in
     let h = both_empty (failed_exp y.0 names bound) (Uses.each (map failed_exp (exps ys)) names bound) u in
     (y.1 k.0 setting names locals bound r h.0, each_right ys setting names locals bound k.1 r h.1)
 
@@ -123,44 +134,45 @@ abbrev suffixes : List SuchSuffix → List SuffixTree
 suffixes ys = map (λ (p : SuchSuffix). p.0) ys
 
 suffixes_right : (ys : List SuchSuffix) (setting : Setting) (names : Tables.Setting) (locals : Locals) (bound : Bound.Locals)
-    → all_read (map covered_suffix (suffixes ys)) ≡ true → Ready setting names locals bound → Uses.each (map failed_suffix (suffixes ys)) names bound ≡ []
+    → all_of (map written_suffix (suffixes ys)) ≡ true → Ready setting names locals bound → Uses.each (map failed_suffix (suffixes ys)) names bound ≡ []
     → SuffixesAre setting locals (map found_suffix (suffixes ys)) (map meant_suffix (suffixes ys))
 suffixes_right [] setting names locals bound b r u = tt
 suffixes_right (y ∷ ys) setting names locals bound b r u =
-    let k = and_parts (covered_suffix y.0).read (all_read (map covered_suffix (suffixes ys))) b in
+    let k = and_parts (written_suffix y.0) (all_of (map written_suffix (suffixes ys))) b in
     let h = both_empty (failed_suffix y.0 names bound) (Uses.each (map failed_suffix (suffixes ys)) names bound) u in
-    (y.1.0 k.0 setting names locals bound r h.0, suffixes_right ys setting names locals bound k.1 r h.1)
+    (y.1 k.0 setting names locals bound r h.0, suffixes_right ys setting names locals bound k.1 r h.1)
 
--- suffixes that can be assigned are indexes, and can be read
-indexes_of : (ys : List SuchSuffix) → all_written (map covered_suffix (suffixes ys)) ≡ true
-    → (all_read (map covered_suffix (suffixes ys)) ≡ true) × AreIndexes (map found_suffix (suffixes ys))
-indexes_of [] b = (refl, tt)
-indexes_of (y ∷ ys) b =
-    let k = and_parts (covered_suffix y.0).written (all_written (map covered_suffix (suffixes ys))) b in
-    let one = y.1.1 k.0 in
-    let others = indexes_of ys k.1 in
-    (ap (λ c. c && all_read (map covered_suffix (suffixes ys))) one.0 ∙ others.0, (one.1, others.1))
+abbrev casetrees : List SuchCase → List CaseTree
+casetrees ys = map (λ (p : SuchCase). p.0) ys
 
-cases_right : (ys : List SuchCase) (setting : Setting) (names : Tables.Setting) (locals : Locals) (bound : Bound.Locals)
-    → all_of (map covered_case (map (λ (p : SuchCase). p.0) ys)) ≡ true → Ready setting names locals bound
-    → Uses.each (map failed_case (map (λ (p : SuchCase). p.0) ys)) names bound ≡ []
-    → CasesAre setting locals (map found_case (map (λ (p : SuchCase). p.0) ys)) (map meant_case (map (λ (p : SuchCase). p.0) ys))
-cases_right [] setting names locals bound b r u = tt
-cases_right (y ∷ ys) setting names locals bound b r u =
-    let k = and_parts (covered_case y.0) (all_of (map covered_case (map (λ (p : SuchCase). p.0) ys))) b in
-    let h = both_empty (failed_case y.0 names bound) (Uses.each (map failed_case (map (λ (p : SuchCase). p.0) ys)) names bound) u in
-    (y.1 k.0 setting names locals bound r h.0, cases_right ys setting names locals bound k.1 r h.1)
+cases_right : (ys : List SuchCase) (setting : Setting) (names : Tables.Setting) (locals : Locals) (bound : Bound.Locals) (subject : Shape)
+    → counted setting.types subject ≡ true → all_of (map written_case (casetrees ys)) ≡ true → Ready setting names locals bound
+    → Uses.each (map failed_case (casetrees ys)) names bound ≡ []
+    → CasesAre setting locals subject (map found_case (casetrees ys)) (map meant_case (casetrees ys))
+cases_right [] setting names locals bound subject c b r u = tt
+cases_right (y ∷ ys) setting names locals bound subject c b r u =
+    let k = and_parts (written_case y.0) (all_of (map written_case (casetrees ys))) b in
+    let h = both_empty (failed_case y.0 names bound) (Uses.each (map failed_case (casetrees ys)) names bound) u in
+    (y.1 k.0 setting names locals bound r h.0 subject c, cases_right ys setting names locals bound subject c k.1 r h.1)
+
+counts_of : (ys : List SuchExp) (setting : Setting) (names : Tables.Setting) → AreKnown setting names → (locals : Locals) (bound : Bound.Locals)
+    → LocalsCounted setting.types locals → Uses.each (map failed_exp (exps ys)) names bound ≡ []
+    → ElsCount setting locals (elaborations (map found_exp (exps ys)))
+counts_of [] setting names known locals bound l u = tt
+counts_of (y ∷ ys) setting names known locals bound l u =
+    let h = both_empty (failed_exp y.0 names bound) (Uses.each (map failed_exp (exps ys)) names bound) u in
+    (exp_counts y.0 setting names known locals bound l h.0, counts_of ys setting names known locals bound l h.1)
 
 abbrev fieldvalues : List SuchFieldValue → List FieldValue
 fieldvalues ys = map (λ (p : SuchFieldValue). p.0) ys
 
 fields_right : (ys : List SuchFieldValue) (setting : Setting) (names : Tables.Setting) (locals : Locals) (bound : Bound.Locals)
-    → all_of (map covered_field (fieldvalues ys)) ≡ true → Ready setting names locals bound
+    → all_of (map written_field (fieldvalues ys)) ≡ true → Ready setting names locals bound
     → Uses.fields_failures (map failed_field (fieldvalues ys)) names bound ≡ []
     → FieldsAre setting locals (map found_field (fieldvalues ys)) (map meant_field (fieldvalues ys))
 fields_right [] setting names locals bound b r u = tt
 fields_right (y ∷ ys) setting names locals bound b r u =
-    let k = and_parts (covered_field y.0) (all_of (map covered_field (fieldvalues ys))) b in
+    let k = and_parts (written_field y.0) (all_of (map written_field (fieldvalues ys))) b in
     let field = failed_field y.0 in
     let h = both_empty (Uses.field_failures names field.name ++ field.value names bound) (Uses.fields_failures
     (map failed_field (fieldvalues ys)) names bound) u in
@@ -178,23 +190,23 @@ abbrev lexps : List SuchLExp → List LExp
 lexps ys = map (λ (p : SuchLExp). p.0) ys
 
 aims_right : (ys : List SuchLExp) (setting : Setting) (names : Tables.Setting) (locals : Locals) (bound : Bound.Locals)
-    → all_among (map covered_lexp (lexps ys)) ≡ true → Ready setting names locals bound → Uses.each (map failed_lexp (lexps ys)) names bound ≡ []
+    → all_of (map written_lexp (lexps ys)) ≡ true → Ready setting names locals bound → Uses.each (map failed_lexp (lexps ys)) names bound ≡ []
     → AimsAre setting locals (map found_lexp (lexps ys)) (map meant_lexp (lexps ys))
 aims_right [] setting names locals bound b r u = tt
 aims_right (y ∷ ys) setting names locals bound b r u =
-    let k = and_parts (covered_lexp y.0).among (all_among (map covered_lexp (lexps ys))) b in
+    let k = and_parts (written_lexp y.0) (all_of (map written_lexp (lexps ys))) b in
     let h = both_empty (failed_lexp y.0 names bound) (Uses.each (map failed_lexp (lexps ys)) names bound) u in
-    (y.1.1 k.0 setting names locals bound r h.0, aims_right ys setting names locals bound k.1 r h.1)
+    ((y.1 k.0 setting names locals bound r h.0).2, aims_right ys setting names locals bound k.1 r h.1)
 
 abbrev targets : List SuchTarget → List TargetTree
 targets ys = map (λ (p : SuchTarget). p.0) ys
 
 further_right : (ys : List SuchTarget) (setting : Setting) (names : Tables.Setting) (locals : Locals) (bound : Bound.Locals)
-    → all_of (map covered_target (targets ys)) ≡ true → Ready setting names locals bound → Uses.each (map failed_target (targets ys)) names bound ≡ []
+    → all_of (map written_target (targets ys)) ≡ true → Ready setting names locals bound → Uses.each (map failed_target (targets ys)) names bound ≡ []
     → FurtherAre setting locals (map found_target (targets ys)) (map meant_target (targets ys))
 further_right [] setting names locals bound b r u = tt
 further_right (y ∷ ys) setting names locals bound b r u =
-    let k = and_parts (covered_target y.0) (all_of (map covered_target (targets ys))) b in
+    let k = and_parts (written_target y.0) (all_of (map written_target (targets ys))) b in
     let h = both_empty (failed_target y.0 names bound) (Uses.each (map failed_target (targets ys)) names bound) u in
     (y.1 k.0 setting names locals bound r h.0, further_right ys setting names locals bound k.1 r h.1)
 
@@ -210,7 +222,7 @@ one_more (e ∷ es) (n ∷ ms) a m setting locals are right = (are.0, one_more e
 -- ---- statements, and the names in scope behind them
 
 steps_right : (ys : List SuchStmt) (setting : Setting) (names : Tables.Setting) (locals : Locals) (bound : Bound.Locals)
-    → all_of (map covered_stmt (map (λ (p : SuchStmt). p.0) ys)) ≡ true → Ready setting names locals bound
+    → all_of (map written_stmt (map (λ (p : SuchStmt). p.0) ys)) ≡ true → Ready setting names locals bound
     → (Uses.steps (map failed_stmt (map (λ (p : SuchStmt). p.0) ys)) names bound).failures ≡ []
     → StatementsAre setting locals (map found_stmt (map (λ (p : SuchStmt). p.0) ys)) (map meant_stmt (map (λ (p : SuchStmt). p.0) ys))
     × ((blocked (map found_stmt (map (λ (p : SuchStmt). p.0) ys)) setting locals).faults ≡ []
@@ -218,7 +230,7 @@ steps_right : (ys : List SuchStmt) (setting : Setting) (names : Tables.Setting) 
     (Uses.steps (map failed_stmt (map (λ (p : SuchStmt). p.0) ys)) names bound).locals)
 steps_right [] setting names locals bound b r u = (tt, λ e. r)
 steps_right (y ∷ ys) setting names locals bound b r u =
-    let k = and_parts (covered_stmt y.0) (all_of (map covered_stmt (map (λ (p : SuchStmt). p.0) ys))) b in
+    let k = and_parts (written_stmt y.0) (all_of (map written_stmt (map (λ (p : SuchStmt). p.0) ys))) b in
     let step = failed_stmt y.0 names bound in
     let h = both_empty step.failures (Uses.steps (map failed_stmt (map (λ (p : SuchStmt). p.0) ys)) names step.locals).failures u in
     let one = y.1 k.0 setting names locals bound r h.0 in
@@ -254,11 +266,26 @@ declared_settled setting locals place name typ a is e =
 
 -- what is in scope behind a pattern that fails in nothing of its names
 pattern_ready : (setting : Setting) (names : Tables.Setting) (locals : Locals) (bound : Bound.Locals) (p : Pat) (subject : Shape)
-    → Ready setting names locals bound
-    → pattern_failures names p ≡ [] → Ready setting names (under (look p setting no_widths subject).binds locals) (behind (binds names.known p) bound)
-pattern_ready setting names locals bound p subject r u =
+    → Ready setting names locals bound → pattern_failures names p ≡ [] → counted setting.types subject ≡ true
+    → Ready setting names (under (look p setting no_widths subject).binds locals) (behind (binds names.known p) bound)
+pattern_ready setting names locals bound p subject r u fine =
+    let uses = (both_empty (uses_failures names p) (clashes (binds names.known p)) u).0 in
     with_names (look p setting no_widths subject).binds (binds names.known p) setting names locals bound r
-    (pat_binds p setting names r.known (both_empty (uses_failures names p) (clashes (binds names.known p)) u).0 no_widths subject)
+    (pat_binds p setting names r.known uses no_widths subject) ((pat_counts p setting names r.known uses).1 no_widths subject fine)
+
+-- the shape of what a pattern is bound to, and of what a `var` begins with
+bound_counted : (setting : Setting) (names : Tables.Setting) (locals : Locals) (bound : Bound.Locals) (p : Pat) (a : Exp) → Ready setting names locals bound
+    → failed_exp a names bound ≡ [] → pattern_failures names p ≡ []
+    → counted setting.types ((found_exp a).elaborate setting locals (wanted_by setting p)).shape ≡ true
+bound_counted setting names locals bound p a r u v =
+    exp_counts a setting names r.known locals bound r.counted u (wanted_by setting p) (pattern_counts setting names r.known p v locals r.counted).0
+
+begun_counted : (setting : Setting) (names : Tables.Setting) (locals : Locals) (bound : Bound.Locals) (typ : Option TyExp) (a : Exp)
+    → Ready setting names locals bound → failed_exp a names bound ≡ [] → Uses.maybe_type typ names ≡ []
+    → counted setting.types (declared_shape setting typ ((found_exp a).elaborate setting locals (written_shape setting typ)).shape) ≡ true
+begun_counted setting names locals bound typ a r u v =
+    declared_counted setting names r.known typ ((found_exp a).elaborate setting locals (written_shape setting typ)).shape v
+    (exp_counts a setting names r.known locals bound r.counted u (written_shape setting typ) (wanted_counted setting names r.known typ v))
 
 -- ---- some forms
 
@@ -320,7 +347,7 @@ again (E.Call name args) b setting names locals bound r u = λ want e.
 again (E.Prefixed place prefix a) b setting names locals bound r u =
     prefix_right setting locals place prefix (found_exp a.0) (meant_exp a.0) (a.1 b setting names locals bound r u)
 again (E.Infix place operator a c) b setting names locals bound r u =
-    let k = and_parts (covered_exp a.0) (covered_exp c.0) b in
+    let k = and_parts (written_exp a.0) (written_exp c.0) b in
     let h = both_empty (failed_exp a.0 names bound) (failed_exp c.0 names bound) u in
     operator_right operator setting locals place (found_exp a.0) (found_exp c.0) (meant_exp a.0) (meant_exp c.0)
     (a.1 k.0 setting names locals bound r h.0) (c.1 k.1 setting names locals bound r h.1)
@@ -342,7 +369,7 @@ again (E.Group place B.Vector ys) b setting names locals bound r u =
 again (E.Group place B.List ys) b setting names locals bound r u =
     list_right setting locals place (elaborations (map found_exp (exps ys))) (map meant_exp (exps ys)) (each_right ys setting names locals bound b r u)
 again (E.Part place a ys) b setting names locals bound r u =
-    let k = and_parts (covered_exp a.0) (all_read (map covered_suffix (suffixes ys))) b in
+    let k = and_parts (written_exp a.0) (all_of (map written_suffix (suffixes ys))) b in
     let h = both_empty (failed_exp a.0 names bound) (Uses.each (map failed_suffix (suffixes ys)) names bound) u in
     part_right setting locals place (found_exp a.0) (map found_suffix (suffixes ys)) (meant_exp a.0) (map meant_suffix (suffixes ys))
     (a.1 k.0 setting names locals bound r h.0) (suffixes_right ys setting names locals bound k.1 r h.1)
@@ -351,25 +378,26 @@ again (E.Typed place a typ) b setting names locals bound r u =
     let t = r.known.typs typ h.1 in
     typed_right setting locals place (found_exp a.0) typ t.0 t.2.0 (meant_exp a.0) t.1 t.2.1 (a.1 b setting names locals bound r h.0)
 again (E.Assign place target [] a) b setting names locals bound r u =
-    let k = and_parts (covered_lexp target.0).alone (covered_exp a.0) b in
+    let k = and_parts (written_lexp target.0 && true) (written_exp a.0) b in
+    let k2 = and_parts (written_lexp target.0) true k.0 in
     let h = both_empty (failed_lexp target.0 names bound ++ []) (failed_exp a.0 names bound) u in
     let h2 = both_empty (failed_lexp target.0 names bound) [] h.0 in
-    target.1.0 k.0 setting names locals bound r h2.0 place (found_exp a.0) (meant_exp a.0) (a.1 k.1 setting names locals bound r h.1)
+    (target.1 k2.0 setting names locals bound r h2.0).0 place (found_exp a.0) (meant_exp a.0) (a.1 k.1 setting names locals bound r h.1)
 again (E.Assign place target (x ∷ xs) a) b setting names locals bound r u =
-    let k = and_parts ((covered_lexp target.0).among && all_of (map covered_target (targets (x ∷ xs)))) (covered_exp a.0) b in
-    let k2 = and_parts (covered_lexp target.0).among (all_of (map covered_target (targets (x ∷ xs)))) k.0 in
+    let k = and_parts (written_lexp target.0 && all_of (map written_target (targets (x ∷ xs)))) (written_exp a.0) b in
+    let k2 = and_parts (written_lexp target.0) (all_of (map written_target (targets (x ∷ xs)))) k.0 in
     let h = both_empty (failed_lexp target.0 names bound ++ Uses.each (map failed_target (targets (x ∷ xs))) names bound) (failed_exp a.0 names bound) u in
     let h2 = both_empty (failed_lexp target.0 names bound) (Uses.each (map failed_target (targets (x ∷ xs))) names bound) h.0 in
     assign_right setting locals place ((found_lexp target.0).aim setting locals) (map found_target (targets (x ∷ xs))) (found_exp a.0)
-    (meant_lexp target.0) (map meant_target (targets (x ∷ xs))) (meant_exp a.0) (target.1.1 k2.0 setting names locals bound r h2.0)
+    (meant_lexp target.0) (map meant_target (targets (x ∷ xs))) (meant_exp a.0) ((target.1 k2.0 setting names locals bound r h2.0).1 place)
     (further_right (x ∷ xs) setting names locals bound k2.1 r h2.1) (a.1 k.1 setting names locals bound r h.1)
 again (E.Block place ys None) b setting names locals bound r u =
-    let k = and_parts (all_of (map covered_stmt (map (λ (p : SuchStmt). p.0) ys))) true b in
+    let k = and_parts (all_of (map written_stmt (map (λ (p : SuchStmt). p.0) ys))) true b in
     let h = both_empty (Uses.steps (map failed_stmt (map (λ (p : SuchStmt). p.0) ys)) names bound).failures [] u in
     unit_block_right setting locals place (map found_stmt (map (λ (p : SuchStmt). p.0) ys)) (map meant_stmt (map (λ (p : SuchStmt). p.0) ys))
     (steps_right ys setting names locals bound k.0 r h.0).0
 again (E.Block place ys (Some a)) b setting names locals bound r u =
-    let k = and_parts (all_of (map covered_stmt (map (λ (p : SuchStmt). p.0) ys))) (covered_exp a.0) b in
+    let k = and_parts (all_of (map written_stmt (map (λ (p : SuchStmt). p.0) ys))) (written_exp a.0) b in
     let steps = Uses.steps (map failed_stmt (map (λ (p : SuchStmt). p.0) ys)) names bound in
     let h = both_empty steps.failures (failed_exp a.0 names steps.locals) u in
     let are = steps_right ys setting names locals bound k.0 r h.0 in
@@ -377,31 +405,33 @@ again (E.Block place ys (Some a)) b setting names locals bound r u =
     (meant_exp a.0) are.0
     (λ e. a.1 k.1 setting names (blocked (map found_stmt (map (λ (p : SuchStmt). p.0) ys)) setting locals).locals steps.locals (are.1 e) h.1)
 again (E.Let place pattern a c) b setting names locals bound r u =
-    let k = and_parts (pattern_written pattern && covered_exp a.0) (covered_exp c.0) b in
-    let k2 = and_parts (pattern_written pattern) (covered_exp a.0) k.0 in
+    let k = and_parts (pattern_written pattern && written_exp a.0) (written_exp c.0) b in
+    let k2 = and_parts (pattern_written pattern) (written_exp a.0) k.0 in
     let h = both_empty (failed_exp a.0 names bound ++ pattern_failures names pattern) (failed_exp c.0 names (behind (binds names.known pattern) bound)) u in
     let h2 = both_empty (failed_exp a.0 names bound) (pattern_failures names pattern) h.0 in
     let_right setting locals place pattern (found_exp a.0) (found_exp c.0) (meant_exp a.0) (meant_exp c.0) (a.1 k2.1 setting names locals bound r h2.0)
     (pattern_is pattern k2.0 setting names r.known h2.1)
-    (c.1 k.1 setting names _ (behind (binds names.known pattern) bound) (pattern_ready setting names locals bound pattern _ r h2.1) h.1)
+    (c.1 k.1 setting names _ (behind (binds names.known pattern) bound) (pattern_ready setting names locals bound pattern _ r h2.1
+    (bound_counted setting names locals bound pattern a.0 r h2.0 h2.1)) h.1)
 again (E.Var place name typ a c) b setting names locals bound r u =
-    let k = and_parts (covered_exp a.0) (covered_exp c.0) b in
+    let k = and_parts (written_exp a.0) (written_exp c.0) b in
     let h = both_empty (Uses.maybe_type typ names ++ failed_exp a.0 names bound) (failed_exp c.0 names (Bound.variable name ∷ bound)) u in
     let h2 = both_empty (Uses.maybe_type typ names) (failed_exp a.0 names bound) h.0 in
     let is = typ_is typ setting names r.known h2.0 in
     var_right setting locals place name typ (found_exp a.0) (found_exp c.0) (meant_exp a.0) (meant_exp c.0) is (a.1 k.0 setting names locals bound r h2.1)
     (λ e. c.1 k.1 setting names _ (Bound.variable name ∷ bound)
-    (with_variable setting names locals bound name _ r (declared_settled setting locals place name typ (found_exp a.0) is e)) h.1)
+    (with_variable setting names locals bound name _ r (declared_settled setting locals place name typ (found_exp a.0) is e)
+    (begun_counted setting names locals bound typ a.0 r h2.1 h2.0)) h.1)
 again (E.If place a c None) b setting names locals bound r u =
-    let k = and_parts (covered_exp a.0 && covered_exp c.0) true b in
-    let k2 = and_parts (covered_exp a.0) (covered_exp c.0) k.0 in
+    let k = and_parts (written_exp a.0 && written_exp c.0) true b in
+    let k2 = and_parts (written_exp a.0) (written_exp c.0) k.0 in
     let h = both_empty (failed_exp a.0 names bound ++ failed_exp c.0 names bound) [] u in
     let h2 = both_empty (failed_exp a.0 names bound) (failed_exp c.0 names bound) h.0 in
     short_if_right setting locals place (found_exp a.0) (found_exp c.0) (meant_exp a.0) (meant_exp c.0) (a.1 k2.0 setting names locals bound r h2.0)
     (c.1 k2.1 setting names locals bound r h2.1)
 again (E.If place a c (Some d)) b setting names locals bound r u = λ want e.
-    let k = and_parts (covered_exp a.0 && covered_exp c.0) (covered_exp d.0) b in
-    let k2 = and_parts (covered_exp a.0) (covered_exp c.0) k.0 in
+    let k = and_parts (written_exp a.0 && written_exp c.0) (written_exp d.0) b in
+    let k2 = and_parts (written_exp a.0) (written_exp c.0) k.0 in
     let h = both_empty (failed_exp a.0 names bound ++ failed_exp c.0 names bound) (failed_exp d.0 names bound) u in
     let h2 = both_empty (failed_exp a.0 names bound) (failed_exp c.0 names bound) h.0 in
     let x = (found_exp a.0).elaborate setting locals V.Bool in
@@ -413,41 +443,46 @@ again (E.If place a c (Some d)) b setting names locals bound r u = λ want e.
     (a.1 k2.0 setting names locals bound r h2.0 V.Bool f2.0) (c.1 k2.1 setting names locals bound r h2.1 want f2.1)
     (d.1 k.1 setting names locals bound r h.1 (given_on want y.shape) f.1)
 again (E.Choose place Match a ys) b setting names locals bound r u =
-    let k = and_parts (covered_exp a.0) (all_of (map covered_case (map (λ (p : SuchCase). p.0) ys))) b in
-    let h = both_empty (failed_exp a.0 names bound) (Uses.each (map failed_case (map (λ (p : SuchCase). p.0) ys)) names bound) u in
-    match_right setting locals place (found_exp a.0) (map found_case (map (λ (p : SuchCase). p.0) ys)) (meant_exp a.0)
-    (map meant_case (map (λ (p : SuchCase). p.0) ys)) (a.1 k.0 setting names locals bound r h.0) (cases_right ys setting names locals bound k.1 r h.1)
+    let k = and_parts (written_exp a.0) (all_of (map written_case (casetrees ys))) b in
+    let h = both_empty (failed_exp a.0 names bound) (Uses.each (map failed_case (casetrees ys)) names bound) u in
+    match_right setting locals place (found_exp a.0) (map found_case (casetrees ys)) (meant_exp a.0) (map meant_case (casetrees ys))
+    (a.1 k.0 setting names locals bound r h.0)
+    (cases_right ys setting names locals bound ((found_exp a.0).elaborate setting locals V.Never).shape
+    (exp_counts a.0 setting names r.known locals bound r.counted h.0 V.Never (never_counted setting.types)) k.1 r h.1)
 again (E.Choose place Try a ys) b setting names locals bound r u =
-    let k = and_parts (covered_exp a.0) (all_of (map covered_case (map (λ (p : SuchCase). p.0) ys))) b in
-    let h = both_empty (failed_exp a.0 names bound) (Uses.each (map failed_case (map (λ (p : SuchCase). p.0) ys)) names bound) u in
-    try_right setting locals place (found_exp a.0) (map found_case (map (λ (p : SuchCase). p.0) ys)) (meant_exp a.0)
-    (map meant_case (map (λ (p : SuchCase). p.0) ys)) (a.1 k.0 setting names locals bound r h.0) (cases_right ys setting names locals bound k.1 r h.1)
+    let k = and_parts (written_exp a.0) (all_of (map written_case (casetrees ys))) b in
+    let h = both_empty (failed_exp a.0 names bound) (Uses.each (map failed_case (casetrees ys)) names bound) u in
+    try_right setting locals place (found_exp a.0) (map found_case (casetrees ys)) (meant_exp a.0) (map meant_case (casetrees ys))
+    (a.1 k.0 setting names locals bound r h.0)
+    (cases_right ys setting names locals bound (thrown_shape setting)
+    (thrown_counted setting.types setting.exception r.known.counts.exception) k.1 r h.1)
 again (E.Foreach place name range a) b setting names locals bound r u =
-    let k = and_parts (covered_range range.0) (covered_exp a.0) b in
+    let k = and_parts (written_range range.0) (written_exp a.0) b in
     let h = both_empty (failed_range range.0 names bound) (failed_exp a.0 names (Bound.constant name ∷ bound)) u in
     foreach_sound setting locals place name (found_range range.0) (meant_range range.0) (found_exp a.0) (meant_exp a.0)
     (range.1 k.0 setting names locals bound r h.0)
-    (a.1 k.1 setting names (constant name.text V.Int ∷ locals) (Bound.constant name ∷ bound) (with_constant setting names locals bound name V.Int r) h.1)
+    (a.1 k.1 setting names (constant name.text V.Int ∷ locals) (Bound.constant name ∷ bound)
+    (with_constant setting names locals bound name V.Int r (int_counted setting.types)) h.1)
 again (E.Loop place looping None a c) b setting names locals bound r u = not_none u
 again (E.Loop place While (Some measure) a c) b setting names locals bound r u =
-    let k = and_parts (covered_exp measure.0 && covered_exp a.0) (covered_exp c.0) b in
-    let k2 = and_parts (covered_exp measure.0) (covered_exp a.0) k.0 in
+    let k = and_parts (written_exp measure.0 && written_exp a.0) (written_exp c.0) b in
+    let k2 = and_parts (written_exp measure.0) (written_exp a.0) k.0 in
     let h = both_empty (failed_exp measure.0 (in_measure names) bound ++ failed_exp a.0 names bound) (failed_exp c.0 names bound) u in
     let h2 = both_empty (failed_exp measure.0 (in_measure names) bound) (failed_exp a.0 names bound) h.0 in
     while_right setting locals place (found_exp measure.0) (found_exp a.0) (found_exp c.0) (meant_exp measure.0) (meant_exp a.0) (meant_exp c.0)
     (measure.1 k2.0 (plainly setting) (in_measure names) locals bound (plain_ready setting names locals bound r) h2.0)
     (a.1 k2.1 setting names locals bound r h2.1) (c.1 k.1 setting names locals bound r h.1)
 again (E.Loop place Repeat (Some measure) a c) b setting names locals bound r u =
-    let k = and_parts (covered_exp measure.0 && covered_exp a.0) (covered_exp c.0) b in
-    let k2 = and_parts (covered_exp measure.0) (covered_exp a.0) k.0 in
+    let k = and_parts (written_exp measure.0 && written_exp a.0) (written_exp c.0) b in
+    let k2 = and_parts (written_exp measure.0) (written_exp a.0) k.0 in
     let h = both_empty (failed_exp measure.0 (in_measure names) bound ++ failed_exp a.0 names bound) (failed_exp c.0 names bound) u in
     let h2 = both_empty (failed_exp measure.0 (in_measure names) bound) (failed_exp a.0 names bound) h.0 in
     repeat_right setting locals place (found_exp measure.0) (found_exp a.0) (found_exp c.0) (meant_exp measure.0) (meant_exp a.0) (meant_exp c.0)
     (measure.1 k2.0 (plainly setting) (in_measure names) locals bound (plain_ready setting names locals bound r) h2.0)
     (a.1 k2.1 setting names locals bound r h2.1) (c.1 k.1 setting names locals bound r h.1)
 again (E.Update place a i c) b setting names locals bound r u =
-    let k = and_parts (covered_exp a.0 && covered_index i.0) (covered_exp c.0) b in
-    let k2 = and_parts (covered_exp a.0) (covered_index i.0) k.0 in
+    let k = and_parts (written_exp a.0 && written_index i.0) (written_exp c.0) b in
+    let k2 = and_parts (written_exp a.0) (written_index i.0) k.0 in
     let h = both_empty (failed_exp a.0 names bound ++ failed_index i.0 names bound) (failed_exp c.0 names bound) u in
     let h2 = both_empty (failed_exp a.0 names bound) (failed_index i.0 names bound) h.0 in
     update_right setting locals place (found_exp a.0) (found_index i.0) (found_exp c.0) (meant_exp a.0) (meant_index i.0) (meant_exp c.0)
@@ -459,7 +494,13 @@ again (E.Struct place name ys) b setting names locals bound r u = λ want e.
     let h2 = both_empty (Uses.struct_failures names name) (clashes (Uses.named failed)) h.0 in
     struct_sound setting names locals want place name fs (map meant_field (fieldvalues ys)) (struct_place setting name fs) r.known refl
     (names_apart fs (Uses.named failed) (same_names ys) h2.1) (fields_right ys setting names locals bound b r h.1) e e
-again (E.With place a fields) b setting names locals bound r u = no b
+again (E.With place a ys) b setting names locals bound r u =
+    let failed = map failed_field (fieldvalues ys) in
+    let k = and_parts (written_exp a.0) (all_of (map written_field (fieldvalues ys))) b in
+    let h = both_empty (failed_exp a.0 names bound ++ clashes (Uses.named failed)) (Uses.fields_failures failed names bound) u in
+    let h2 = both_empty (failed_exp a.0 names bound) (clashes (Uses.named failed)) h.0 in
+    with_right setting locals place (found_exp a.0) (map found_field (fieldvalues ys)) (meant_exp a.0) (map meant_field (fieldvalues ys))
+    (a.1 k.0 setting names locals bound r h2.0) (fields_right ys setting names locals bound k.1 r h.1)
 again (E.OfType place Sizeof typ) b setting names locals bound r u =
     let t = r.known.numbers typ u in
     sizeof_right setting locals place typ t.0 t.1
@@ -469,148 +510,161 @@ again (E.OfType place Constraint typ) b setting names locals bound r u =
 again (E.Assert place a text) b setting names locals bound r u =
     assert_right setting locals place (found_exp a.0) text (meant_exp a.0) (a.1 b setting names locals bound r u)
 
--- items and slices of a target
-abbrev part_aim_of : Setting → Locals → Place → SuchLExp → List SuchSuffix → Aimed
-part_aim_of setting locals first base ys =
-    (Rules.target_form (E.ToPart first (found_lexp base.0) (map found_suffix (suffixes ys)))).aim setting locals
+-- ---- targets
+
+-- a target that fails in nothing and gives what is known of it
+aim_of : (setting : Setting) (locals : Locals) (place : Place) (a : Aimed) → chained_faults place a ≡ [] → a.faults ≡ []
+aim_of setting locals place a e = (chained_known setting.types place a e).0
+
+abbrev part_of : Setting → Locals → Place → SuchLExp → List SuchSuffix → Aimed
+part_of setting locals first base ys = (Rules.target_form (E.ToPart first (found_lexp base.0) (map found_suffix (suffixes ys)))).aim setting locals
 
 abbrev part_meant : SuchLExp → List SuchSuffix → Target
 part_meant base ys w = meant_lexp base.0 w then λ spot. ways_of (map meant_suffix (suffixes ys)) w then λ ways. gives (part_spot spot ways)
 
-part_sound : (first : Place) (base : SuchLExp) (ys : List SuchSuffix) → Known ((covered_lexp base.0).base && all_written (map covered_suffix (suffixes ys)))
+-- a part of a target, as a target and as a base
+part_sound : (first : Place) (base : SuchLExp) (ys : List SuchSuffix)
+    → Known (written_lexp base.0 && all_of (map written_suffix (suffixes ys)) && is_part (map written_suffix (suffixes ys)))
     (λ setting names locals bound.
-    (failed_lexp base.0 names bound ++ Uses.each (map failed_suffix (suffixes ys)) names bound) ≡ []
-    → (part_aim_of setting locals first base ys).faults ≡ [] → AimIs setting locals (part_aim_of setting locals first base ys) (part_meant base ys))
-part_sound first base ys b setting names locals bound r u =
-    let k = and_parts (covered_lexp base.0).base (all_written (map covered_suffix (suffixes ys))) b in
-    let h = both_empty (failed_lexp base.0 names bound) (Uses.each (map failed_suffix (suffixes ys)) names bound) u in
-    let xs : List SuffixPart = map found_suffix (suffixes ys) in
+    (failed_lexp base.0 names bound ++ Uses.each (map failed_suffix (suffixes ys)) names bound) ≡ [] → (part_of setting locals first base ys).faults ≡ []
+    → AimIs setting locals (part_of setting locals first base ys) (part_meant base ys)
+    × BaseHolds setting locals (part_of setting locals first base ys) (part_meant base ys))
+part_sound first base [] b setting names locals bound r u f = no (and_parts (written_lexp base.0 && true) false b).1
+part_sound first base (y ∷ ys) b setting names locals bound r u f =
+    let all = map written_suffix (suffixes (y ∷ ys)) in
+    let k = and_parts (written_lexp base.0 && all_of all) true b in
+    let k2 = and_parts (written_lexp base.0) (all_of all) k.0 in
+    let h = both_empty (failed_lexp base.0 names bound) (Uses.each (map failed_suffix (suffixes (y ∷ ys))) names bound) u in
+    let xs : List SuffixPart = map found_suffix (suffixes (y ∷ ys)) in
     let t : TargetPart = found_lexp base.0 in
-    let is = indexes_of ys k.1 in
-    let items = base.1.2 k.0 setting names locals bound r h.0 in
-    subst Goal (sym (ap (λ o. read_aimed o setting locals (t.aim setting locals)) items.0))
-    (λ f. items.1 (last_place first xs) first xs (map meant_suffix (suffixes ys)) (suffixes_right ys setting names locals bound is.0 r h.1) is.1
-    (both_empty (t.aim setting locals).faults (walked xs setting locals first t.place (t.aim setting locals).shape).faults f).1)
-  where
-    Goal : Aimed → Type 0
-    Goal a =
-        (part_aimed (last_place first (map found_suffix (suffixes ys))) a
-        (walked (map found_suffix (suffixes ys)) setting locals first (found_lexp base.0).place a.shape)).faults ≡ []
-        → AimIs setting locals (part_aimed (last_place first (map found_suffix (suffixes ys))) a
-        (walked (map found_suffix (suffixes ys)) setting locals first (found_lexp base.0).place a.shape)) (part_meant base ys)
+    let a : Aimed = read_aimed t.call setting locals (t.aim setting locals) in
+    let g = both_empty a.faults (walked xs setting locals first t.place a.shape).faults f in
+    part_holds setting locals r.known.counts (last_place first xs) first t.place a (found_suffix y.0) (map found_suffix (suffixes ys)) (meant_lexp base.0)
+    (map meant_suffix (suffixes (y ∷ ys))) ((base.1 k2.0 setting names locals bound r h.0).3 g.0)
+    (suffixes_right (y ∷ ys) setting names locals bound k2.1 r h.1) g.1
 
 lexp_again : (y : LExp-F SuchExp SuchLExp SuchStmt SuchSuffix SuchCase SuchFieldValue SuchIndex SuchRange SuchTarget) → LExpForm (first_LExp y)
-lexp_again (E.ToName name) = (
-  λ b setting names locals bound r u place value mv right.
-      assign_right setting locals place (name_aimed name (local_of name.text locals) (setting.value name.text)) [] value
-      (λ w. gives (name_spot w name.text)) [] mv
-      (λ f. name_aim setting names locals bound r.known r.are r.settled name (unless_true (is_assigned names bound name.text) name u)) tt right,
-  λ b setting names locals bound r u f.
-      name_aim setting names locals bound r.known r.are r.settled name (unless_true (is_assigned names bound name.text) name u),
-  λ b setting names locals bound r u. (
-    refl,
-    λ place first xs ms are indexes e.
-        name_items setting names locals bound r.known r.are r.settled place first name.place name (unless_true (is_assigned names bound name.text) name u) xs ms
-        are indexes e,
-  ),
-)
-lexp_again (E.ToCall name args) = (
-  λ b setting names locals bound r u place value mv right.
-      let h = both_empty (unless (is_callee names name.text) name) (Uses.each (map failed_exp (exps args)) names bound) u in
-      let all = map found_exp (exps args) ++ value ∷ [] in
-      let ms : List Source.Meaning = map meant_exp (exps args) in
-      call_target_right setting locals name (λ setting locals want. call_named name all setting locals want) ms mv
-      (λ want e. called_right setting names locals want name all (ms ++ mv ∷ []) (r.known.values name.text)
-      (unless_true (is_callee names name.text) name h.0)
-      (one_more (map found_exp (exps args)) ms value mv setting locals (each_right args setting names locals bound b r h.1) right) e),
-  λ b setting names locals bound r u f. no b,
-  λ b setting names locals bound r u. no b,
-)
-lexp_again (E.ToTuple place ys) = (
-  λ b setting names locals bound r u at value mv right.
-      assign_right setting locals at (tuple_aimed place (each_aimed (map found_lexp (lexps ys)) setting locals)) [] value
-      (λ w. spots_of (map meant_lexp (lexps ys)) w then λ spots. gives (tuple_spot spots)) [] mv
-      (λ f. tuple_aim setting locals place (map found_lexp (lexps ys)) (map meant_lexp (lexps ys)) (aims_right ys setting names locals bound b r u) f) tt right,
-  λ b setting names locals bound r u f.
-      tuple_aim setting locals place (map found_lexp (lexps ys)) (map meant_lexp (lexps ys)) (aims_right ys setting names locals bound b r u) f,
-  λ b setting names locals bound r u. no b,
-)
-lexp_again (E.ToPart place base ys) = (
-  λ b setting names locals bound r u at value mv right.
-      assign_right setting locals at (part_aim_of setting locals place base ys) [] value (part_meant base ys) [] mv
-      (part_sound place base ys b setting names locals bound r u) tt right,
-  part_sound place base ys,
-  λ b setting names locals bound r u. no b,
-)
+lexp_again (E.ToName name) b setting names locals bound r u =
+    let assigned = unless_true (is_assigned names bound name.text) name u in
+    let aim = name_aim setting names locals bound r.known r.are r.settled name assigned in
+    let a : Aimed = name_aimed name (local_of name.text locals) (setting.value name.text) in (
+      λ place value mv right. assign_right setting locals place a [] value (λ w. gives (name_spot w name.text)) [] mv (λ f. aim) tt right,
+      λ place f. aim,
+      λ f. as_part setting locals a (λ w. gives (name_spot w name.text)) aim,
+      λ f. name_base setting names locals bound r.known r.are r.settled r.counted name assigned,
+    )
+lexp_again (E.ToCall name args) b setting names locals bound r u =
+    let h = both_empty (unless (is_callee names name.text) name) (Uses.each (map failed_exp (exps args)) names bound) u in
+    let es : List Part = map found_exp (exps args) in
+    let ms : List Source.Meaning = map meant_exp (exps args) in
+    let right = each_right args setting names locals bound b r h.1 in
+    let called = r.known.called name.text in
+    let a : Aimed = call_aim name es setting locals in
+    let counts = counts_of args setting names r.known locals bound r.counted h.1 in (
+      λ place value mv one.
+          call_target_right setting locals name (λ setting locals want. call_named name (es ++ value ∷ []) setting locals want) ms mv
+          (λ want e. called_right setting names locals want name (es ++ value ∷ []) (ms ++ mv ∷ []) (r.known.values name.text)
+          (unless_true (is_callee names name.text) name h.0) (one_more es ms value mv setting locals right one) e),
+      λ place f.
+          let k = chained_known setting.types place a f in
+          as_aim setting locals a (call_meant name ms) k.1.0 k.1.1 (call_aims setting locals name es ms right k.1.0 called k.0),
+      λ f. as_tuple_part setting locals a (call_meant name ms) 0 (call_aims setting locals name es ms right 0 called f),
+      λ f. call_base setting locals name es ms right called (call_base_counts setting locals name es counts (r.known.counts.values name.text)).0 f,
+    )
+lexp_again (E.ToTuple place ys) b setting names locals bound r u =
+    let ts : List TargetPart = map found_lexp (lexps ys) in
+    let ms : List Target = map meant_lexp (lexps ys) in
+    let m : Target = λ w. spots_of ms w then λ spots. gives (tuple_spot spots) in
+    let a : Aimed = tuple_aimed place (each_aimed ts setting locals) in
+    let aim : a.faults ≡ [] → AimIs setting locals a m = λ f. tuple_aim setting locals place ts ms (aims_right ys setting names locals bound b r u) f in (
+      λ at value mv right. assign_right setting locals at a [] value m [] mv (λ f. aim (aim_of setting locals at a f)) tt right,
+      λ at f. aim (aim_of setting locals at a f),
+      λ f. as_part setting locals a m (aim f),
+      λ f. inr (tuple_is (each_aimed ts setting locals).shapes),
+    )
+  where
+    tuple_is : (ss : List Shape) → is_tuple_form (out-Shape (V.Tuple ss)) ≡ true
+    tuple_is ss = ap is_tuple_form (ap out-Shape (sym (V.rolls-Tuple ss)) ∙ out-roll-Shape (S.Tuple ss))
+lexp_again (E.ToPart place base ys) b setting names locals bound r u =
+    let a : Aimed = part_of setting locals place base ys in
+    let both : a.faults ≡ [] → AimIs setting locals a (part_meant base ys) × BaseHolds setting locals a (part_meant base ys) =
+    λ f. part_sound place base ys b setting names locals bound r u f in (
+      λ at value mv right.
+          assign_right setting locals at a [] value (part_meant base ys) [] mv (λ f. (both (aim_of setting locals at a f)).0) tt right,
+      λ at f. (both (aim_of setting locals at a f)).0,
+      λ f. as_part setting locals a (part_meant base ys) (both f).0,
+      λ f. (both f).1,
+    )
 
 field_again : (y : FieldValue-F SuchExp SuchLExp SuchStmt SuchSuffix SuchCase SuchFieldValue SuchIndex SuchRange SuchTarget) → FieldValueForm
     (first_FieldValue y)
 field_again y = (refl, λ b setting names locals bound r u. (refl, y.value.1 b setting names locals bound r u))
 
 further_again : (y : Target-F SuchExp SuchLExp SuchStmt SuchSuffix SuchCase SuchFieldValue SuchIndex SuchRange SuchTarget) → TargetForm (first_Target y)
-further_again y b setting names locals bound r u f = y.to.1.1 b setting names locals bound r u f
+further_again y b setting names locals bound r u f = (y.to.1 b setting names locals bound r u).1 y.place f
 
 stmt_again : (y : Stmt-F SuchExp SuchLExp SuchStmt SuchSuffix SuchCase SuchFieldValue SuchIndex SuchRange SuchTarget) → StmtForm (first_Stmt y)
 stmt_again (E.Evaluate a) b setting names locals bound r u =
     (evaluate_is setting locals (found_exp a.0) (meant_exp a.0) (a.1 b setting names locals bound r u), λ e. r)
 stmt_again (E.Define place pattern a) b setting names locals bound r u =
-    let k = and_parts (pattern_written pattern) (covered_exp a.0) b in
+    let k = and_parts (pattern_written pattern) (written_exp a.0) b in
     let h = both_empty (failed_exp a.0 names bound) (pattern_failures names pattern) u in (
       define_is setting locals place pattern (found_exp a.0) (meant_exp a.0) (a.1 k.1 setting names locals bound r h.0)
           (pattern_is pattern k.0 setting names r.known h.1),
-      λ e. pattern_ready setting names locals bound pattern _ r h.1,
+      λ e. pattern_ready setting names locals bound pattern _ r h.1 (bound_counted setting names locals bound pattern a.0 r h.0 h.1),
     )
 stmt_again (E.Declare place name typ a) b setting names locals bound r u =
     let h = both_empty (Uses.maybe_type typ names) (failed_exp a.0 names bound) u in
     let is = typ_is typ setting names r.known h.0 in (
       declare_is setting locals place name typ (found_exp a.0) (meant_exp a.0) is (a.1 b setting names locals bound r h.1),
-      λ e. with_variable setting names locals bound name _ r (declared_settled setting locals place name typ (found_exp a.0) is e),
+      λ e. with_variable setting names locals bound name _ r (declared_settled setting locals place name typ (found_exp a.0) is e)
+          (begun_counted setting names locals bound typ a.0 r h.1 h.0),
     )
 
 suffix_again : (y : Suffix-F SuchExp SuchLExp SuchStmt SuchSuffix SuchCase SuchFieldValue SuchIndex SuchRange SuchTarget) → SuffixForm (first_Suffix y)
-suffix_again (E.Field name) = (λ b setting names locals bound r u. refl, λ b. no b)
-suffix_again (E.At place i) = (λ b setting names locals bound r u. i.1 b setting names locals bound r u, λ b. (b, tt))
+suffix_again (E.Field name) b setting names locals bound r u = refl
+suffix_again (E.At place i) b setting names locals bound r u = i.1 b setting names locals bound r u
 
 case_by : (p : Pat) (guard : Option SuchExp) (body : SuchExp) → CaseForm (first_Case (record { pattern = p; guard = guard; body = body }))
-case_by p None body b setting names locals bound r u =
-    let k = and_parts (pattern_written p && true) (covered_exp body.0) b in
+case_by p None body b setting names locals bound r u subject fine =
+    let k = and_parts (pattern_written p && true) (written_exp body.0) b in
     let k2 = and_parts (pattern_written p) true k.0 in
     let inner = behind (binds names.known p) bound in
     let h = both_empty (pattern_failures names p ++ []) (failed_exp body.0 names inner) u in
     let h2 = both_empty (pattern_failures names p) [] h.0 in (
       refl,
-      λ subject e.
+      λ e.
           let is = pattern_is p k2.0 setting names r.known h2.0 subject e in
-          let ready = pattern_ready setting names locals bound p subject r h2.0 in
+          let ready = pattern_ready setting names locals bound p subject r h2.0 fine in
           (is.0, is.1, tt, body.1 k.1 setting names _ inner ready h.1),
     )
-case_by p (Some guard) body b setting names locals bound r u =
-    let k = and_parts (pattern_written p && covered_exp guard.0) (covered_exp body.0) b in
-    let k2 = and_parts (pattern_written p) (covered_exp guard.0) k.0 in
+case_by p (Some guard) body b setting names locals bound r u subject fine =
+    let k = and_parts (pattern_written p && written_exp guard.0) (written_exp body.0) b in
+    let k2 = and_parts (pattern_written p) (written_exp guard.0) k.0 in
     let inner = behind (binds names.known p) bound in
     let h = both_empty (pattern_failures names p ++ failed_exp guard.0 names inner) (failed_exp body.0 names inner) u in
     let h2 = both_empty (pattern_failures names p) (failed_exp guard.0 names inner) h.0 in (
       refl,
-      λ subject e.
+      λ e.
           let is = pattern_is p k2.0 setting names r.known h2.0 subject e in
-          let ready = pattern_ready setting names locals bound p subject r h2.0 in
+          let ready = pattern_ready setting names locals bound p subject r h2.0 fine in
           (is.0, is.1, guard.1 k2.1 setting names _ inner ready h2.1, body.1 k.1 setting names _ inner ready h.1),
     )
 
 index_by : (first : SuchExp) (last : Option SuchExp) → IndexForm (first_Index (record { first = first; last = last }))
 index_by first None b setting names locals bound r u =
-    let k = and_parts (covered_exp first.0) true b in
+    let k = and_parts (written_exp first.0) true b in
     let h = both_empty (failed_exp first.0 names bound) [] u in
     (meant_exp first.0, None, refl, first.1 k.0 setting names locals bound r h.0, tt)
 index_by first (Some last) b setting names locals bound r u =
-    let k = and_parts (covered_exp first.0) (covered_exp last.0) b in
+    let k = and_parts (written_exp first.0) (written_exp last.0) b in
     let h = both_empty (failed_exp first.0 names bound) (failed_exp last.0 names bound) u in
     (meant_exp first.0, Some (meant_exp last.0), refl, first.1 k.0 setting names locals bound r h.0, last.1 k.1 setting names locals bound r h.1)
 
 range_by : (from to : SuchExp) (by : Option SuchExp) (direction : _) → RangeForm (first_Range (record { from = from; to = to; by = by; direction = direction }))
 range_by from to None direction b setting names locals bound r u =
-    let k = and_parts (covered_exp from.0 && covered_exp to.0) true b in
-    let k2 = and_parts (covered_exp from.0) (covered_exp to.0) k.0 in
+    let k = and_parts (written_exp from.0 && written_exp to.0) true b in
+    let k2 = and_parts (written_exp from.0) (written_exp to.0) k.0 in
     let h = both_empty (failed_exp from.0 names bound ++ failed_exp to.0 names bound) [] u in
     let h2 = both_empty (failed_exp from.0 names bound) (failed_exp to.0 names bound) h.0 in (
       meant_exp from.0,
@@ -622,8 +676,8 @@ range_by from to None direction b setting names locals bound r u =
       tt,
     )
 range_by from to (Some by) direction b setting names locals bound r u =
-    let k = and_parts (covered_exp from.0 && covered_exp to.0) (covered_exp by.0) b in
-    let k2 = and_parts (covered_exp from.0) (covered_exp to.0) k.0 in
+    let k = and_parts (written_exp from.0 && written_exp to.0) (written_exp by.0) b in
+    let k2 = and_parts (written_exp from.0) (written_exp to.0) k.0 in
     let h = both_empty (failed_exp from.0 names bound ++ failed_exp to.0 names bound) (failed_exp by.0 names bound) u in
     let h2 = both_empty (failed_exp from.0 names bound) (failed_exp to.0 names bound) h.0 in (
       meant_exp from.0,
@@ -638,31 +692,31 @@ range_by from to (Some by) direction b setting names locals bound r u =
 -- ---- the trees
 
 abbrev OfExp : Exp → Type 0
-OfExp x = ExpHolds (found_exp x) (meant_exp x) (failed_exp x) (covered_exp x)
+OfExp x = ExpHolds (found_exp x) (meant_exp x) (failed_exp x) (written_exp x)
 
 abbrev OfLExp : LExp → Type 0
-OfLExp x = LExpHolds (found_lexp x) (meant_lexp x) (failed_lexp x) (covered_lexp x)
+OfLExp x = LExpHolds (found_lexp x) (meant_lexp x) (failed_lexp x) (written_lexp x)
 
 abbrev OfStmt : Stmt → Type 0
-OfStmt x = StmtHolds (found_stmt x) (meant_stmt x) (failed_stmt x) (covered_stmt x)
+OfStmt x = StmtHolds (found_stmt x) (meant_stmt x) (failed_stmt x) (written_stmt x)
 
 abbrev OfSuffix : SuffixTree → Type 0
-OfSuffix x = SuffixHolds (found_suffix x) (meant_suffix x) (failed_suffix x) (covered_suffix x)
+OfSuffix x = SuffixHolds (found_suffix x) (meant_suffix x) (failed_suffix x) (written_suffix x)
 
 abbrev OfCase : CaseTree → Type 0
-OfCase x = CaseHolds (found_case x) (meant_case x) (failed_case x) (covered_case x)
+OfCase x = CaseHolds (found_case x) (meant_case x) (failed_case x) (written_case x)
 
 abbrev OfFieldValue : FieldValue → Type 0
-OfFieldValue x = FieldHolds (found_field x) (meant_field x) (failed_field x) (covered_field x)
+OfFieldValue x = FieldHolds (found_field x) (meant_field x) (failed_field x) (written_field x)
 
 abbrev OfIndex : Index → Type 0
-OfIndex x = IndexHolds (found_index x) (meant_index x) (failed_index x) (covered_index x)
+OfIndex x = IndexHolds (found_index x) (meant_index x) (failed_index x) (written_index x)
 
 abbrev OfRange : Range → Type 0
-OfRange x = RangeHolds (found_range x) (meant_range x) (failed_range x) (covered_range x)
+OfRange x = RangeHolds (found_range x) (meant_range x) (failed_range x) (written_range x)
 
 abbrev OfTarget : TargetTree → Type 0
-OfTarget x = FurtherHolds (found_target x) (meant_target x) (failed_target x) (covered_target x)
+OfTarget x = FurtherHolds (found_target x) (meant_target x) (failed_target x) (written_target x)
 
 holds : (e : Exp) → OfExp e
 holds = ind-Exp OfExp OfLExp OfStmt OfSuffix OfCase OfFieldValue OfIndex OfRange OfTarget
@@ -676,6 +730,6 @@ holds = ind-Exp OfExp OfLExp OfStmt OfSuffix OfCase OfFieldValue OfIndex OfRange
     (λ e y is. subst (λ d. OfRange (roll-Range d)) is (rolled_Range (first_Range y) (range_by y.from y.to y.by y.direction)))
     (λ e y is. subst (λ d. OfTarget (roll-Target d)) is (rolled_Target (first_Target y) (further_again y)))
 
-pub expressions_right : ExpressionsAreRight
-expressions_right e b setting names known locals bound are settled want u f =
-    holds e b setting names locals bound (record { known = known; are = are; settled = settled }) u want f
+pub expressions_right : ElaborationIsSound
+expressions_right e b setting names known locals bound are settled fine want u f =
+    holds e b setting names locals bound (record { known = known; are = are; settled = settled; counted = fine }) u want f

@@ -17,7 +17,7 @@ use Rattle.sail_core.specs.Making.{plainly}
 use Rattle.sail_core.specs.Meaning as Means
 use Rattle.sail_core.specs.Meaning.{core_meaning}
 use Rattle.sail_meaning.specs.World as Source
-use Rattle.sail_meaning.specs.World.{Piece, integer}
+use Rattle.sail_meaning.specs.World.{integer}
 use Rattle.sail_meaning.specs.Loops as Turns
 use Rattle.shape_rules.specs.Findings.{over}
 use Rattle.shape_rules.specs.Scopes.{Setting, Locals, constant}

@@ -1,6 +1,5 @@
 -- Tuples and lists.
 use Rattle.std.proofs.Common.{◌≡◌, List, [], ◌∷◌, map, length, ap, sym, ◌∙◌, refl, subst, true, false}
-use Rattle.std.proofs.Common.{if◌then◌else◌}
 use Rattle.std.proofs.lemmas.Bool.{and_parts}
 use Rattle.std.specs.List.{list_all}
 use Rattle.sail_base.specs.declared.place.Place.{Place}
@@ -16,14 +15,13 @@ use Rattle.sail_syntax.specs.declared.words.Brackets.TheVariants as B
 use Rattle.sail_core.specs.declared.tree.Kind.TheVariants as K
 use Rattle.sail_core.specs.declared.tree.Core.{Core}
 use Rattle.sail_core.specs.Run as R
-use Rattle.sail_core.specs.Run.{Now, Run, needs, gives, goes_on, in_turn, ◌then◌}
+use Rattle.sail_core.specs.Run.{Now, Run, gives, in_turn, ◌then◌}
 use Rattle.sail_core.specs.Values.{payload_of}
 use Rattle.sail_core.specs.Making as Core
 use Rattle.sail_core.specs.Meaning.{core_meaning}
 use Rattle.shape_joins.specs.Filling.{fills}
 use Rattle.shape_joins.proofs.Order.{no, two, fills_itself, fills_twice}
 use Rattle.sail_meaning.specs.World as Source
-use Rattle.sail_meaning.specs.World.{Piece}
 use Rattle.sail_meaning.specs.Expressions.{each, group}
 use Rattle.shape_rules.specs.declared.locals.Local.{Local}
 use Rattle.shape_rules.specs.Findings.{Found, over, given_on}

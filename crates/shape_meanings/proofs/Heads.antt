@@ -19,12 +19,12 @@ use Rattle.sail_syntax.specs.declared.words.Brackets.TheVariants as B
 use Rattle.sail_core.specs.declared.patterns.Form.TheVariants as F
 use Rattle.sail_core.specs.declared.patterns.Head.TheVariants as H
 use Rattle.sail_core.specs.Run as R
-use Rattle.sail_core.specs.Run.{Now, Ended, Run, gives, falls, stuck, goes_on, ◌then◌}
+use Rattle.sail_core.specs.Run.{Now, Ended, gives, falls, goes_on, ◌then◌}
 use Rattle.sail_core.specs.Values.{form_parts}
 use Rattle.sail_core.specs.Making as Core
 use Rattle.sail_core.specs.Making.{plainly}
 use Rattle.sail_core.specs.Patterns as Steps
-use Rattle.sail_core.specs.Patterns.{Seen, Parts, Other, Wrong, as_run, so_many, constructed, payload_parts}
+use Rattle.sail_core.specs.Patterns.{Parts, as_run, so_many, constructed, payload_parts}
 use Rattle.shape_joins.specs.Learning.{learn}
 use Rattle.shape_joins.proofs.Order.{no, two}
 use Rattle.sail_meaning.specs.World as Source

@@ -18,11 +18,11 @@ use Rattle.sail_syntax.specs.declared.words.Brackets.TheVariants as B
 use Rattle.sail_core.specs.declared.patterns.Form.TheVariants as F
 use Rattle.sail_core.specs.declared.patterns.Head.TheVariants as H
 use Rattle.sail_core.specs.Run as R
-use Rattle.sail_core.specs.Run.{Now, Ended, Run, gives, falls, stuck, goes_on, ◌then◌}
+use Rattle.sail_core.specs.Run.{Now, Run, falls, stuck, goes_on, ◌then◌}
 use Rattle.sail_core.specs.Making as Core
 use Rattle.sail_core.specs.Making.{plainly}
 use Rattle.sail_core.specs.Patterns as Steps
-use Rattle.sail_core.specs.Patterns.{Seen, Parts, Other, Wrong, as_run, so_many, items, parts_if}
+use Rattle.sail_core.specs.Patterns.{Parts, Wrong, as_run, so_many, items, parts_if}
 use Rattle.shape_joins.specs.Joins.{join}
 use Rattle.shape_joins.specs.Filling.{fill_form}
 use Rattle.shape_joins.proofs.Order.{no, two, tests, at_forms}
@@ -44,7 +44,8 @@ use Rattle.shape_meanings.proofs.Matching.{form_given}
 use Rattle.shape_meanings.proofs.Groups.{AllFit}
 use Rattle.shape_meanings.proofs.Suffixes.{open_fits}
 use Rattle.shape_meanings.proofs.Vectors.{reversed_fit}
-use Rattle.shape_meanings.proofs.Opening.{same_count, turned, pieces_count, replicated, mapped_count, patterns_count, opens_means, opened_agree, joined_is}
+use Rattle.shape_meanings.proofs.Opening.{same_count, turned, pieces_count, replicated, mapped_count, patterns_count, opens_means, opened_agree}
+use Rattle.shape_meanings.proofs.Opening.{joined_is}
 
 -- ---- items of one shape
 

@@ -19,7 +19,7 @@ use Rattle.sail_core.specs.Making as Core
 use Rattle.sail_core.specs.Making.{plainly}
 use Rattle.sail_core.specs.Meaning.{core_meaning, kind_meaning}
 use Rattle.sail_meaning.specs.World as Source
-use Rattle.sail_meaning.specs.World.{Piece, truth}
+use Rattle.sail_meaning.specs.World.{Piece}
 use Rattle.sail_meaning.specs.Expressions.{leave}
 use Rattle.shape_rules.specs.declared.locals.Local.{Local}
 use Rattle.shape_rules.specs.Findings.{Found, cast, over}

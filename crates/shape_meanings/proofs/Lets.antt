@@ -13,11 +13,10 @@ use Rattle.sail_core.specs.declared.tree.Kind.TheVariants as K
 use Rattle.sail_core.specs.declared.tree.Core.{Core}
 use Rattle.sail_core.specs.declared.written.Written.{Written}
 use Rattle.sail_core.specs.Run as R
-use Rattle.sail_core.specs.Run.{Now, Ended, Run, gives, stops, goes_on, or_so, within, local, ◌then◌, ◌or_else◌}
+use Rattle.sail_core.specs.Run.{Now, Ended, Run, gives, stops, goes_on, within, local, ◌then◌, ◌or_else◌}
 use Rattle.sail_core.specs.Making as Core
 use Rattle.sail_core.specs.Making.{plainly}
 use Rattle.sail_core.specs.Patterns as Steps
-use Rattle.sail_core.specs.Patterns.{arm_meaning}
 use Rattle.sail_core.specs.Meaning.{core_meaning, arm_taken}
 use Rattle.sail_meaning.specs.World as Source
 use Rattle.sail_meaning.specs.World.{Piece, Bindings}
@@ -75,7 +74,7 @@ pub arm_means : (wc : Core.World Value) (p : Pattern) (x : Value) (body : Run Va
     → arm_taken plainly wc (A.Nested (p ∷ [])) body (x ∷ []) now ≡ (Steps.matcher plainly wc p x then λ found. within found body) now
 arm_means wc p x body now = after_one (Steps.matcher plainly wc p x now) (λ found. within found body)
 
-no_widths_there : (setting : Setting) (registers : List Shape) (wc : Core.World Value) (ws : Source.World) → Describes setting registers wc ws
+pub no_widths_there : (setting : Setting) (registers : List Shape) (wc : Core.World Value) (ws : Source.World) → Describes setting registers wc ws
     → with_widths no_widths ws ≡ ws
 no_widths_there setting registers wc ws d = λ i. record ws { bare_width = sym d.bare i }
 

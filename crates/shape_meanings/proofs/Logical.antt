@@ -1,5 +1,5 @@
 -- `&` and `|` whose left operand is a truth.
-use Rattle.std.proofs.Common.{◌≡◌, [], ◌∷◌, ◌++◌, ap, sym, ◌∙◌, refl, subst, Bool, true, false, Some, if◌then◌else◌}
+use Rattle.std.proofs.Common.{◌≡◌, [], ◌∷◌, ◌++◌, ap, sym, ◌∙◌, refl, subst, Bool, true, false, Some}
 use Rattle.sail_base.specs.declared.place.Place.{Place}
 use Rattle.sail_types.specs.Shapes.{fits, form_fits, Asked}
 use Rattle.sail_types.specs.declared.shapes.Shape.{Shape, Shape-F, out-Shape}
@@ -17,7 +17,6 @@ use Rattle.sail_core.specs.Making.{plainly}
 use Rattle.sail_core.specs.Meaning.{core_meaning, kind_meaning}
 use Rattle.shape_joins.proofs.Order.{no}
 use Rattle.sail_meaning.specs.World as Source
-use Rattle.sail_meaning.specs.World.{Piece, truth}
 use Rattle.sail_meaning.specs.Expressions.{infix_of, is_a_truth}
 use Rattle.shape_rules.specs.Findings.{Found, over}
 use Rattle.shape_rules.specs.Scopes.{Setting, Locals}

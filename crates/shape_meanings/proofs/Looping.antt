@@ -12,7 +12,7 @@ use Rattle.sail_syntax.specs.declared.words.Looping.TheVariants.{While, Repeat}
 use Rattle.sail_core.specs.declared.tree.Kind.TheVariants as K
 use Rattle.sail_core.specs.declared.tree.Core.{Core}
 use Rattle.sail_core.specs.Run as R
-use Rattle.sail_core.specs.Run.{Now, Ended, Run, needs, gives, stops, if_so, goes_on, tick, ◌then◌}
+use Rattle.sail_core.specs.Run.{Now, Ended, Run, needs, gives, if_so, goes_on, ◌then◌}
 use Rattle.sail_core.specs.Values.{truth_in}
 use Rattle.sail_core.specs.Making.{plainly}
 use Rattle.sail_core.specs.Meaning as Means

@@ -1,6 +1,5 @@
 -- Loops.
 use Rattle.std.proofs.Common.{◌≡◌, ℕ, zero, suc, ℤ, List, [], ◌∷◌, ◌∙◌, refl, Bool, true, false, Some}
-use Rattle.std.specs.Prelude.{if◌then◌else◌}
 use Rattle.sail_types.specs.Shapes.{fits, form_fits, Asked}
 use Rattle.sail_types.specs.declared.shapes.Shape.{Shape}
 use Rattle.sail_types.specs.declared.shapes.Shape.TheOpen as S
@@ -16,7 +15,6 @@ use Rattle.sail_core.specs.Run.{Now, Run, gives, if_so, tick, tick_at, within, l
 use Rattle.sail_core.specs.Values.{integer_in, form_integer}
 use Rattle.sail_core.specs.Making.{plainly}
 use Rattle.sail_core.specs.Meaning as Means
-use Rattle.sail_core.specs.Meaning.{core_meaning}
 use Rattle.shape_joins.proofs.Order.{no}
 use Rattle.sail_meaning.specs.Loops as Turns
 use Rattle.shape_rules.specs.Scopes.{constant}

@@ -25,11 +25,11 @@ use Rattle.sail_core.specs.declared.patterns.Form.TheVariants as F
 use Rattle.sail_core.specs.declared.patterns.Head.TheVariants as H
 use Rattle.sail_core.specs.declared.patterns.Pattern.{Pattern, fold-roll-Pattern}
 use Rattle.sail_core.specs.Run as R
-use Rattle.sail_core.specs.Run.{Now, Ended, Run, gives, falls, stuck, goes_on, local, ◌then◌}
+use Rattle.sail_core.specs.Run.{Now, Ended, gives, stuck, goes_on, local, ◌then◌}
 use Rattle.sail_core.specs.Making as Core
 use Rattle.sail_core.specs.Making.{plainly}
 use Rattle.sail_core.specs.Patterns as Steps
-use Rattle.sail_core.specs.Patterns.{pattern_meaning, parts_of, as_run, so_many, literal_seen, Seen, Parts, Other, Wrong}
+use Rattle.sail_core.specs.Patterns.{pattern_meaning, as_run, so_many, literal_seen, Seen, Wrong}
 use Rattle.shape_joins.specs.Joins.{join}
 use Rattle.shape_joins.proofs.Order.{no}
 use Rattle.shape_joins.proofs.JoinsLeast.{joins_are_above}

@@ -16,7 +16,7 @@ use Rattle.model_state.specs.RunState.{register_value}
 use Rattle.sail_core.specs.declared.patterns.Literal.TheVariants as L
 use Rattle.sail_core.specs.declared.tree.Kind.TheVariants as K
 use Rattle.sail_core.specs.Run as R
-use Rattle.sail_core.specs.Run.{Now, Run, needs, gives, held_in}
+use Rattle.sail_core.specs.Run.{Now, Run, needs, held_in}
 use Rattle.sail_core.specs.Making.{plainly, made}
 use Rattle.sail_core.specs.Meaning.{core_meaning}
 use Rattle.shape_joins.proofs.Order.{no}
@@ -29,7 +29,7 @@ use Rattle.sail_names.specs.declared.locals.Binding.TheVariants.{Constant, Varia
 use Rattle.sail_names.specs.declared.names.Global.{Global}
 use Rattle.sail_names.specs.declared.names.Global.TheVariants as G
 use Rattle.sail_names.specs.Known as Tables
-use Rattle.sail_names.specs.Known.{is_value, is_global_value, is_let_seen}
+use Rattle.sail_names.specs.Known.{is_value, is_global_value}
 use Rattle.sail_names.specs.Locals as Bound
 use Rattle.sail_names.specs.Locals.{binding_of}
 use Rattle.sail_names.specs.Patterns.{unless}

@@ -20,7 +20,7 @@ use Rattle.sail_core.specs.Run.{Now, Run, stuck, goes_on, ◌then◌}
 use Rattle.sail_core.specs.Making as Core
 use Rattle.sail_core.specs.Making.{plainly}
 use Rattle.sail_core.specs.Patterns as Steps
-use Rattle.sail_core.specs.Patterns.{Seen, Parts, Other, Wrong, as_run, so_many, items}
+use Rattle.sail_core.specs.Patterns.{Parts, Wrong, as_run, so_many}
 use Rattle.shape_joins.specs.Joins.{join}
 use Rattle.shape_joins.specs.Filling.{fills, fill_all}
 use Rattle.shape_joins.proofs.Order.{no}

@@ -4,14 +4,16 @@ use Rattle.std.proofs.Common.{nat_lt, arith}
 use Rattle.std.proofs.lemmas.Bool.{and_parts}
 use Rattle.std.specs.Prelude.{nat_le}
 use Rattle.sail_types.specs.Shapes.{fits, each_fits, form_fits, put, Asked}
-use Rattle.sail_types.specs.declared.shapes.Shape.{Shape, Shape-F, fold-Shape, roll-Shape}
+use Rattle.sail_types.specs.declared.shapes.Shape.{Shape, Shape-F, fold-Shape, out-Shape, roll-Shape}
 use Rattle.sail_types.specs.declared.shapes.Shape.TheFolds.{fold-roll-Shape, map-Shape, ind-Shape}
 use Rattle.sail_types.specs.declared.shapes.Shape.TheOpen as S
 use Rattle.sail_types.specs.declared.shapes.Shape.TheViews.{out-roll-Shape}
 use Rattle.sail_types.specs.declared.table.Types.{Types}
 use Rattle.sail_types.specs.declared.values.Value.{Value, Value-F, out-Value}
 use Rattle.sail_types.specs.declared.values.Value.TheFolds.{map-Value}
-use Rattle.shape_joins.proofs.Order.{no, two}
+use Rattle.shape_joins.specs.Joins.{any_of}
+use Rattle.shape_joins.proofs.Order.{no, two, rolled}
+use Rattle.shape_rules.specs.Calls.{has_never, never_form}
 use Rattle.shape_rules.specs.Targets.{Openness, openness_form, any_never, any_open, leaves_open}
 use Rattle.shape_meanings.specs.Whole.{Choice, IsSettled, below, below_form, all_below}
 use Rattle.shape_meanings.proofs.Values.{opened_at, out_put}
@@ -82,6 +84,16 @@ left_less n m = grind arith
 
 right_less : (n m : ℕ) → nat_le m (n + m) ≡ true
 right_less n m = grind arith
+
+-- ---- forms
+
+abbrev pub is_tuple_form : Shape-F Shape → Bool
+is_tuple_form (S.Tuple ss) = true
+is_tuple_form y = false
+
+abbrev pub is_never_form : Shape-F Shape → Bool
+is_never_form S.Never = true
+is_never_form y = false
 
 -- ---- what is left open
 
@@ -168,12 +180,12 @@ module _ (types : Types) where
       false_is : false ≡ true → ⊥
       false_is h = cc
 
-  never_form : (x : Value-F Value) → form_fits types (map-Value Value Asked (fits types) x) S.Never ≡ false
-  never_form x = refl
+  no_never_form : (x : Value-F Value) → form_fits types (map-Value Value Asked (fits types) x) S.Never ≡ false
+  no_never_form x = refl
 
   no_never : NoValue (roll-Shape S.Never)
   no_never c v = not_true (fits types v (put c (roll-Shape S.Never))) (λ h.
-      false_is (sym (never_form (out-Value v)) ∙ form_given types c (roll-Shape S.Never) S.Never v
+      false_is (sym (no_never_form (out-Value v)) ∙ form_given types c (roll-Shape S.Never) S.Never v
       (out_put c (roll-Shape S.Never) ∙ ap (opened_at c) (out-roll-Shape S.Never)) h))
     where
       false_is : false ≡ true → ⊥
@@ -226,3 +238,63 @@ module _ (types : Types) where
       by_never : (b : Bool) → Settles b s → IsSettled types s
       by_never true p = inr (p.1 refl)
       by_never false p = inl (p.0 refl)
+
+  -- a shape that leaves nothing open has no value, or is one without an open part
+  pub bounded : (s : Shape) → leaves_open s ≡ false → (open_of s).never ≡ false → (n : ℕ) × (below n s ≡ true)
+  bounded s h k = (told s h).0 k
+
+-- ---- no part is unknown
+
+abbrev Seen : Shape → Type 0
+Seen s = has_never s ≡ false → (open_of s).never ≡ false
+
+module _ where
+  abbrev SuchN : Type 0
+  SuchN = (s : Shape) × Seen s
+
+  abbrev shapes_seen : List SuchN → List Shape
+  shapes_seen ys = map (λ (p : SuchN). p.0) ys
+
+  abbrev form_seen : Shape-F SuchN → Shape-F Shape
+  form_seen y = map-Shape SuchN Shape (λ p. p.0) y
+
+  either_false : (a b : Bool) → a ≡ false → b ≡ false → (a || b) ≡ false
+  either_false false b h k = k
+  either_false true b h k = true_false h
+
+  each_seen : (ys : List SuchN) → any_of (map has_never (shapes_seen ys)) ≡ false → any_never (map open_of (shapes_seen ys)) ≡ false
+  each_seen [] h = refl
+  each_seen (y ∷ ys) h =
+      let k = neither (has_never y.0) (any_of (map has_never (shapes_seen ys))) h in
+      either_false (open_of y.0).never (any_never (map open_of (shapes_seen ys))) (y.1 k.0) (each_seen ys k.1)
+
+  form_is_seen : (y : Shape-F SuchN) → never_form (map-Shape Shape Bool has_never (form_seen y)) ≡ false
+      → (openness_form (map-Shape Shape Openness open_of (form_seen y))).never ≡ false
+  form_is_seen (S.Tuple ys) h = each_seen ys h
+  form_is_seen S.Never h = true_false h
+  form_is_seen y h = refl
+
+  rolled_seen : (y : Shape-F SuchN) → Seen (roll-Shape (form_seen y))
+  rolled_seen y h =
+      ap (λ (o : Openness). o.never) (fold-roll-Shape Openness openness_form (form_seen y))
+      ∙ form_is_seen y (sym (fold-roll-Shape Bool never_form (form_seen y)) ∙ h)
+
+  seen : (s : Shape) → Seen s
+  seen = ind-Shape Seen (λ e y is. subst (λ d. Seen (roll-Shape d)) is (rolled_seen y))
+
+-- a shape that is known in each part
+pub known_below : (types : Types) (s : Shape) → leaves_open s ≡ false → has_never s ≡ false → (n : ℕ) × (below n s ≡ true)
+known_below types s h k = bounded types s h (seen s k)
+
+-- a shape that leaves nothing open, and is no tuple, and may have values
+never_of : (y : Shape-F Shape) → is_tuple_form y ≡ false → is_never_form y ≡ false → (openness_form (map-Shape Shape Openness open_of y)).never ≡ false
+never_of (S.Tuple ss) h k = true_false h
+never_of S.Never h k = true_false k
+never_of y h k = refl
+
+pub form_below : (types : Types) (s : Shape) (y : Shape-F Shape) → out-Shape s ≡ y → leaves_open s ≡ false → is_tuple_form y ≡ false
+    → is_never_form y ≡ false → (n : ℕ) × (below n s ≡ true)
+form_below types s y is h tuple never =
+    bounded types s h (ap (λ (o : Openness). o.never)
+    (ap open_of (rolled s) ∙ fold-roll-Shape Openness openness_form (out-Shape s) ∙ ap (λ x. openness_form (map-Shape Shape Openness open_of x)) is)
+    ∙ never_of y tuple never)

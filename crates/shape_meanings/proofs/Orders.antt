@@ -140,7 +140,7 @@ put_args s c ss = ap (λ e. put e s) (λ k i. at_put c ss i k) ∙ sym (put_put 
 
 -- ---- shapes that leave nothing open
 
-belows : (n : ℕ) (x : Shape-F Shape) → below n (roll-Shape x) ≡ below_form n (map-Shape Shape Bool (below n) x)
+pub belows : (n : ℕ) (x : Shape-F Shape) → below n (roll-Shape x) ≡ below_form n (map-Shape Shape Bool (below n) x)
 belows n x = fold-roll-Shape Bool (below_form n) x
 
 abbrev Exact : Shape → Type 0

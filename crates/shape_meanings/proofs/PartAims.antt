@@ -1,5 +1,5 @@
 -- Targets that are parts of what is there: it is read, the part is replaced, and it gets what comes of that.
-use Rattle.std.proofs.Common.{◌≡◌, ℕ, ℤ, List, [], ◌∷◌, ◌++◌, map, ap, sym, ◌∙◌, refl, subst, true, Option, Some, None, if◌then◌else◌}
+use Rattle.std.proofs.Common.{◌≡◌, ℕ, ℤ, List, [], ◌∷◌, ◌++◌, map, ap, sym, ◌∙◌, refl, subst, true, Option, Some, None}
 use Rattle.sail_base.specs.declared.place.Place.{Place}
 use Rattle.sail_types.specs.Sums.{and_then}
 use Rattle.sail_types.specs.declared.shapes.Shape.{Shape, out-Shape}

@@ -16,11 +16,11 @@ use Rattle.shape_meanings.proofs.Apart.{names_either}
 use Rattle.shape_meanings.proofs.Binds.{as_bound, pat_binds}
 use Rattle.shape_meanings.proofs.PatternsSound.{patterns_sound}
 
-bound_names : (ls : List Local) → map (λ (b : Bound.Local). b.name) (map as_bound ls) ≡ map (λ (l : Local). l.name) ls
+pub bound_names : (ls : List Local) → map (λ (b : Bound.Local). b.name) (map as_bound ls) ≡ map (λ (l : Local). l.name) ls
 bound_names [] = refl
 bound_names (l ∷ ls) = ap (λ ts. l.name ∷ ts) (bound_names ls)
 
-bound_texts : (ns : List Name) → map (λ (b : Bound.Local). b.name) (map Bound.constant ns) ≡ map (λ (n : Name). n.text) ns
+pub bound_texts : (ns : List Name) → map (λ (b : Bound.Local). b.name) (map Bound.constant ns) ≡ map (λ (n : Name). n.text) ns
 bound_texts [] = refl
 bound_texts (n ∷ ns) = ap (λ ts. n.text ∷ ts) (bound_texts ns)
 

@@ -1,7 +1,7 @@
 -- Patterns over their parts: `as`, types at patterns, and tuples.
 use Rattle.std.proofs.Common.{◌≡◌, ℕ, zero, suc, List, [], ◌∷◌, ◌++◌, map, length}
 use Rattle.std.proofs.Common.{ap, ◌∙◌, refl, Option, Some, None}
-use Rattle.std.proofs.Common.{if◌then◌else◌, arith}
+use Rattle.std.proofs.Common.{arith}
 use Rattle.std.proofs.lemmas.Bool.{and_parts}
 use Rattle.sail_base.specs.declared.place.Place.{Place}
 use Rattle.sail_types.specs.Shapes.{fits, each_fits, put}
@@ -21,12 +21,12 @@ use Rattle.shape_joins.specs.Joins.{join}
 use Rattle.shape_joins.proofs.Order.{no}
 use Rattle.shape_joins.proofs.JoinsLeast.{joins_are_above}
 use Rattle.sail_meaning.specs.World as Source
-use Rattle.sail_meaning.specs.World.{Piece, Bindings}
 use Rattle.sail_meaning.specs.Patterns as Written
 use Rattle.shape_rules.specs.declared.locals.Local.{Local}
 use Rattle.shape_rules.specs.Scopes.{Setting, constant}
 use Rattle.shape_rules.specs.Written.{shape_in, written, written_faults}
-use Rattle.shape_rules.specs.Patterns.{Looked, LookedAll, Widths, Piece as Looking, pattern, as_look, typed_look, typed_form, each_looked, seen_as, or_never}
+use Rattle.shape_rules.specs.Patterns.{Looked, LookedAll, Widths, Piece as Looking, pattern, as_look, typed_look, typed_form, each_looked, seen_as}
+use Rattle.shape_rules.specs.Patterns.{or_never}
 use Rattle.shape_rules.specs.Patterns.{shape_faults, unless_joined}
 use Rattle.shape_meanings.specs.Whole.{Choice}
 use Rattle.shape_meanings.specs.Keeping.{Fits, FitAll, Suits, Reach, Good, reach_of, Agree}

@@ -47,9 +47,10 @@ use Rattle.shape_rules.specs.declared.callees.Meant.{Meant}
 use Rattle.shape_rules.specs.declared.callees.Meant.TheVariants as M
 use Rattle.shape_rules.specs.Scopes.{Setting}
 use Rattle.shape_rules.specs.Written.{typ_in, written_as}
-use Rattle.shape_rules.specs.Patterns.{Piece, Widths, Looked, piece, form_piece, joined_piece, name_look, name_width, construct_look, construct_width}
+use Rattle.shape_rules.specs.Patterns.{Piece, Widths, piece, form_piece, joined_piece, name_look, name_width, construct_look, construct_width}
 use Rattle.shape_rules.specs.Patterns.{shape_faults}
-use Rattle.shape_rules.specs.Patterns.{callee_look, direction_of, callee_head, direction_width, which_side, mapping_look_as, side_width, Which, forwards}
+use Rattle.shape_rules.specs.Patterns.{callee_look, direction_of, callee_head, direction_width, which_side, mapping_look_as, side_width, Which}
+use Rattle.shape_rules.specs.Patterns.{forwards}
 use Rattle.shape_rules.specs.Patterns.{backwards}
 use Rattle.shape_rules.specs.Patterns.{neither, either, width_of}
 use Rattle.shape_rules.specs.Values.{does_convert}

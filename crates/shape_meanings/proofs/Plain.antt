@@ -1,5 +1,6 @@
 -- The world of a plain expression, in which an operator means its builtin members alone.
-use Rattle.std.proofs.Common.{◌≡◌, ℕ, List, [], ◌∷◌, ◌++◌, map, ap, sym, ◌∙◌, refl, subst, Bool, true, false, Option, Some, None, if◌then◌else◌, append-nil}
+use Rattle.std.proofs.Common.{◌≡◌, ℕ, List, [], ◌∷◌, ◌++◌, map, ap, sym, ◌∙◌, refl, subst, Bool, true, false, Option, Some, None, if◌then◌else◌}
+use Rattle.std.proofs.Common.{append-nil}
 use Rattle.sail_base.specs.declared.operators.Operator.{Operator}
 use Rattle.sail_base.specs.declared.operators.Operator.TheVariants as O
 use Rattle.sail_base.specs.declared.place.Place.{Place}
@@ -14,7 +15,7 @@ use Rattle.sail_core.specs.Making as Core
 use Rattle.sail_meaning.specs.Text.{Callee, cons}
 use Rattle.sail_meaning.specs.Choice.{accepts, first_fitting, builtins, operator_builtins}
 use Rattle.sail_meaning.specs.World as Source
-use Rattle.sail_meaning.specs.World.{apply_builtin, apply_first, plain}
+use Rattle.sail_meaning.specs.World.{apply_builtin, plain}
 use Rattle.shape_rules.specs.declared.callees.Candidate.{Candidate}
 use Rattle.shape_rules.specs.declared.callees.Doing.{Doing}
 use Rattle.shape_rules.specs.declared.callees.Doing.TheVariants as D

@@ -1,10 +1,12 @@
 -- What is known where an expression stands, and how it goes on behind names that are bound.
-use Rattle.std.proofs.Common.{◌≡◌, ℕ, List, [], ◌∷◌, ◌++◌, map, append_assoc, reverse, ap, sym, ◌∙◌, refl, subst, Bool, true, false, Option, Some, None}
+use Rattle.std.proofs.Common.{◌≡◌, ℕ, List, [], ◌∷◌, ◌++◌, map, append_assoc, reverse, ap, sym, ◌∙◌, refl, subst, Bool, true, false, Option, Some}
+use Rattle.std.proofs.Common.{None}
 use Rattle.std.proofs.Common.{if◌then◌else◌}
 use Rattle.std.proofs.lemmas.List.{reverse-append}
 use Rattle.std.specs.Str.{bytes_eq}
 use Rattle.sail_base.specs.declared.kind.Kind.{Kind}
 use Rattle.sail_base.specs.declared.kind.Kind.TheVariants as Sort
+use Rattle.sail_types.specs.Rows.{members_of, operator_rows}
 use Rattle.sail_types.specs.declared.shapes.Shape.{Shape}
 use Rattle.sail_types.specs.declared.table.Types.{Types}
 use Rattle.sail_syntax.specs.declared.name.Name.{Name}
@@ -21,19 +23,23 @@ use Rattle.sail_names.specs.Locals as Bound
 use Rattle.sail_names.specs.Locals.{binding_of, behind}
 use Rattle.sail_names.specs.Patterns.{type_failures}
 use Rattle.shape_joins.proofs.JoinsLeast.{some_same}
+use Rattle.shape_rules.specs.declared.callees.Candidate.{Candidate}
 use Rattle.shape_rules.specs.declared.callees.Meant.{Meant}
 use Rattle.shape_rules.specs.declared.locals.Local.{Local}
+use Rattle.shape_rules.specs.Calls.{builtin_members, member_candidate}
 use Rattle.shape_rules.specs.Scopes.{Setting, Locals, local_of, constant, variable, under, plainly}
 use Rattle.shape_meanings.specs.Whole.{IsSettled}
+use Rattle.shape_meanings.specs.Counted.{counted, AreCounted, LocalsCounted, Counts}
 use Rattle.shape_meanings.specs.Naming.{AreKnown, AreBound, BoundAs, MeantAs}
 use Rattle.shape_meanings.specs.Sound.{VarsSettled}
 use Rattle.shape_meanings.proofs.Binds.{as_bound}
 
--- names mean what the tables know, and each `var` in scope has a settled shape
+-- names mean what the tables know, each `var` in scope has a settled shape, and named types in shapes have the arguments that they should have
 pub record Ready (setting : Setting) (names : Tables.Setting) (locals : Locals) (bound : Bound.Locals) : Type 0 where
   pub known : AreKnown setting names
   pub are : AreBound bound locals
   pub settled : VarsSettled setting locals
+  pub counted : LocalsCounted setting.types locals
 
 -- ---- one more name
 
@@ -50,14 +56,15 @@ settled_if types false l m p one others is var = others is var
 
 pub pushed : (setting : Setting) (names : Tables.Setting) (locals : Locals) (bound : Bound.Locals) (l : Local) (b : Bound.Local)
     → Ready setting names locals bound → b.name ≡ l.name → BoundAs (Some b.binding) (Some l) → (l.is_variable ≡ true → IsSettled setting.types l.shape)
-    → Ready setting names (l ∷ locals) (b ∷ bound)
-pushed setting names locals bound l b r same one settled = record {
+    → counted setting.types l.shape ≡ true → Ready setting names (l ∷ locals) (b ∷ bound)
+pushed setting names locals bound l b r same one settled fine = record {
   known = r.known;
   are = λ name.
       subst (λ n. BoundAs (if bytes_eq n name then Some b.binding else binding_of name bound) (if bytes_eq l.name name then Some l else local_of name locals))
       (sym same) (bound_if (bytes_eq l.name name) b.binding l (binding_of name bound) (local_of name locals) one (r.are name));
   settled = λ name m is var.
       settled_if setting.types (bytes_eq l.name name) l m (local_of name locals) settled (r.settled name m) is var;
+  counted = (fine, r.counted);
 }
 
 clash : {A : Type 0} → false ≡ true → A
@@ -67,14 +74,15 @@ clash h = absurd (empty h)
     empty h = cc
 
 pub with_constant : (setting : Setting) (names : Tables.Setting) (locals : Locals) (bound : Bound.Locals) (name : Name) (s : Shape)
-    → Ready setting names locals bound → Ready setting names (constant name.text s ∷ locals) (Bound.constant name ∷ bound)
-with_constant setting names locals bound name s r =
-    pushed setting names locals bound (constant name.text s) (Bound.constant name) r refl refl (λ h. clash h)
+    → Ready setting names locals bound → counted setting.types s ≡ true → Ready setting names (constant name.text s ∷ locals) (Bound.constant name ∷ bound)
+with_constant setting names locals bound name s r fine =
+    pushed setting names locals bound (constant name.text s) (Bound.constant name) r refl refl (λ h. clash h) fine
 
 pub with_variable : (setting : Setting) (names : Tables.Setting) (locals : Locals) (bound : Bound.Locals) (name : Name) (s : Shape)
-    → Ready setting names locals bound → IsSettled setting.types s → Ready setting names (variable name.text s ∷ locals) (Bound.variable name ∷ bound)
-with_variable setting names locals bound name s r settled =
-    pushed setting names locals bound (variable name.text s) (Bound.variable name) r refl refl (λ h. settled)
+    → Ready setting names locals bound → IsSettled setting.types s → counted setting.types s ≡ true
+    → Ready setting names (variable name.text s ∷ locals) (Bound.variable name ∷ bound)
+with_variable setting names locals bound name s r settled fine =
+    pushed setting names locals bound (variable name.text s) (Bound.variable name) r refl refl (λ h. settled) fine
 
 -- ---- the names of a pattern
 
@@ -99,23 +107,24 @@ constant_is true e = absurd (other e)
     other e = cc
 constant_is false e = refl
 
-under_more : (l : Local) (ls : List Local) (locals : Locals) → under ls (l ∷ locals) ≡ under (l ∷ ls) locals
+pub under_more : (l : Local) (ls : List Local) (locals : Locals) → under ls (l ∷ locals) ≡ under (l ∷ ls) locals
 under_more l ls locals =
     sym (append_assoc (reverse ls) (l ∷ []) locals) ∙ ap (λ xs. xs ++ locals) (sym (reverse-append (l ∷ []) ls))
 
 pub with_names : (ls : List Local) (ns : List Name) (setting : Setting) (names : Tables.Setting) (locals : Locals) (bound : Bound.Locals)
-    → Ready setting names locals bound → map as_bound ls ≡ map Bound.constant ns → Ready setting names (under ls locals) (behind ns bound)
-with_names [] [] setting names locals bound r same = r
-with_names [] (n ∷ ns) setting names locals bound r same = absurd (empty_not same)
-with_names (l ∷ ls) [] setting names locals bound r same = absurd (not_empty same)
-with_names (l ∷ ls) (n ∷ ns) setting names locals bound r same =
+    → Ready setting names locals bound → map as_bound ls ≡ map Bound.constant ns → LocalsCounted setting.types ls
+    → Ready setting names (under ls locals) (behind ns bound)
+with_names [] [] setting names locals bound r same fine = r
+with_names [] (n ∷ ns) setting names locals bound r same fine = absurd (empty_not same)
+with_names (l ∷ ls) [] setting names locals bound r same fine = absurd (not_empty same)
+with_names (l ∷ ls) (n ∷ ns) setting names locals bound r same fine =
     let one : as_bound l ≡ Bound.constant n = ap (heads (as_bound l)) same in
     let rest : map as_bound ls ≡ map Bound.constant ns = ap tails same in
     let not_variable : l.is_variable ≡ false = constant_is l.is_variable (ap (λ (b : Bound.Local). b.binding) one) in
     subst (λ xs. Ready setting names xs (behind ns (Bound.constant n ∷ bound))) (under_more l ls locals)
     (with_names ls ns setting names (l ∷ locals) (Bound.constant n ∷ bound)
     (pushed setting names locals bound l (Bound.constant n) r (sym (ap (λ (b : Bound.Local). b.name) one)) not_variable
-    (λ h. clash (sym not_variable ∙ h))) rest)
+    (λ h. clash (sym not_variable ∙ h)) fine.0) rest fine.1)
 
 -- ---- plain expressions
 
@@ -140,12 +149,32 @@ same_failures : (kind : Kind) (typ : TyExp) (names : Tables.Setting) → type_fa
 unfolding type_failures
 same_failures kind typ names = refl
 
+-- in a plain expression an operator means its builtin members
+front_counted : (types : Types) (xs ys zs : List Candidate) → AreCounted types (xs ++ ys ++ zs) → AreCounted types (xs ++ ys ++ [])
+front_counted types [] [] zs h = tt
+front_counted types [] (y ∷ ys) zs h = (h.0, h.1, front_counted types [] ys zs h.2)
+front_counted types (x ∷ xs) ys zs h = (h.0, h.1, front_counted types xs ys zs h.2)
+
+plain_counts : (setting : Setting) → Counts setting → Counts (plainly setting)
+plain_counts setting c = record {
+  values = c.values;
+  operators = λ operator.
+      front_counted setting.types (builtin_members operator) (map member_candidate (members_of setting.types (operator_rows operator)))
+      (setting.added operator) (c.operators operator);
+  prefixes = c.prefixes;
+  exception = c.exception;
+  fields = c.fields;
+}
+
 pub plain_ready : (setting : Setting) (names : Tables.Setting) (locals : Locals) (bound : Bound.Locals) → Ready setting names locals bound
     → Ready (plainly setting) (in_measure names) locals bound
 plain_ready setting names locals bound r = record {
   known = record {
     within = r.known.within;
     values = λ name. meant_plain names (names.known.value name) (setting.value name) (r.known.values name);
+    called = r.known.called;
+    counted_typs = λ typ t h is. r.known.counted_typs typ t (sym (same_failures Sort.Type typ names) ∙ h) is;
+    counts = plain_counts setting r.known.counts;
     members = r.known.members;
     exception = r.known.exception;
     typs = λ typ h. r.known.typs typ (sym (same_failures Sort.Type typ names) ∙ h);
@@ -156,4 +185,5 @@ plain_ready setting names locals bound r = record {
   };
   are = r.are;
   settled = r.settled;
+  counted = r.counted;
 }

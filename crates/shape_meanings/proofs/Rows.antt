@@ -23,14 +23,14 @@ use Rattle.shape_meanings.proofs.Callees.{alone_right}
 use Rattle.shape_meanings.proofs.Calling.{over_right}
 
 -- a builtin's name, with its members
-abbrev RowThere : Setting → List ℕ → List Member → Type 0
+abbrev pub RowThere : Setting → List ℕ → List Member → Type 0
 RowThere setting name ms =
     (registers : List Shape) (wc : Core.World Value) (ws : Source.World) (d : Describes setting registers wc ws)
     → (ws.text.called name ≡ Some (called_of (builtins ms)))
     × StandForEach setting.types registers (thrown_shape setting) wc d.apply (map member_candidate ms) (builtins ms)
     × Distinct (map member_candidate ms)
 
-row_is : (setting : Setting) (name : List ℕ) (row : Row) → setting.value name ≡ Some (M.Row row) → RowThere setting name (row_members setting.types row)
+pub row_is : (setting : Setting) (name : List ℕ) (row : Row) → setting.value name ≡ Some (M.Row row) → RowThere setting name (row_members setting.types row)
 row_is setting name row is registers wc ws d = subst (NameCalled setting registers wc ws d.apply name) is (d.names name)
 
 members_right : (setting : Setting) (locals : Locals) (want : Shape) (name : Name) (members : List Member) (es : List Elaborate) (ms : List Source.Meaning)

@@ -5,7 +5,7 @@ use Rattle.std.specs.Str.{bytes_eq}
 use Rattle.sail_types.specs.declared.table.Types.{Types}
 use Rattle.sail_types.specs.declared.values.Value.{Value}
 use Rattle.sail_core.specs.Run as R
-use Rattle.sail_core.specs.Run.{Now, Ended, Run, goes_on, or_so, within, leaving, held_in, ◌then◌, ◌or_else◌}
+use Rattle.sail_core.specs.Run.{Now, Ended, Run, goes_on, or_so, within, leaving, held_in, ◌then◌}
 use Rattle.shape_joins.proofs.JoinsLeast.{some_same, none}
 use Rattle.shape_rules.specs.declared.locals.Local.{Local}
 use Rattle.shape_rules.specs.Scopes.{Locals, local_of}

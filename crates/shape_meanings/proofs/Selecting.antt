@@ -11,7 +11,7 @@ use Rattle.sail_types.specs.declared.values.Value.{Value, Value-F, out-Value}
 use Rattle.sail_types.specs.declared.values.Value.TheFolds.{map-Value}
 use Rattle.sail_types.specs.declared.values.Value.TheOpen as W
 use Rattle.sail_core.specs.Run as R
-use Rattle.sail_core.specs.Run.{Now, Ended, Run, goes_on, in_turn, gives, ◌then◌}
+use Rattle.sail_core.specs.Run.{Now, Ended, Run, goes_on, in_turn, ◌then◌}
 use Rattle.shape_joins.proofs.Order.{no}
 use Rattle.sail_meaning.specs.World as Source
 use Rattle.sail_meaning.specs.World.{Piece}

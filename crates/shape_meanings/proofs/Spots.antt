@@ -11,14 +11,13 @@ use Rattle.sail_types.specs.declared.values.Value.TheVariants as Val
 use Rattle.model_state.specs.declared.state.Hart.{Hart}
 use Rattle.model_state.specs.RunState.{RunState, register_value, with_register, values_of, changed, hart_with_register}
 use Rattle.sail_core.specs.Run as R
-use Rattle.sail_core.specs.Run.{Now, Ended, Run, needs, held_in, changed_in, kept, local, goes_on, ◌then◌}
+use Rattle.sail_core.specs.Run.{Ended, needs, changed_in, kept, local, goes_on, ◌then◌}
 use Rattle.sail_core.specs.Making as Core
 use Rattle.sail_core.specs.Making.{plainly}
 use Rattle.sail_core.specs.Targets as Spotted
 use Rattle.shape_joins.specs.Filling.{fills}
 use Rattle.shape_joins.proofs.JoinsLeast.{some_same, none}
 use Rattle.sail_meaning.specs.World as Source
-use Rattle.sail_meaning.specs.World.{register_named}
 use Rattle.sail_meaning.specs.Targets.{name_write, local_changed, register_write}
 use Rattle.shape_rules.specs.declared.locals.Local.{Local}
 use Rattle.shape_rules.specs.declared.callees.Meant.TheVariants as M

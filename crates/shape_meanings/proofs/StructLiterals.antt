@@ -22,7 +22,7 @@ use Rattle.sail_syntax.specs.declared.name.Name.{Name}
 use Rattle.sail_core.specs.declared.tree.Kind.TheVariants as K
 use Rattle.sail_core.specs.declared.tree.Core.{Core}
 use Rattle.sail_core.specs.Run as R
-use Rattle.sail_core.specs.Run.{Now, Run, needs, gives, goes_on, in_turn, ◌then◌}
+use Rattle.sail_core.specs.Run.{Run, needs, gives, goes_on, in_turn, ◌then◌}
 use Rattle.sail_core.specs.Values.{struct_of}
 use Rattle.sail_core.specs.Making.{plainly, made}
 use Rattle.sail_core.specs.Meaning.{core_meaning}
@@ -39,7 +39,8 @@ use Rattle.shape_rules.specs.Findings.{over, refused}
 use Rattle.shape_rules.specs.Scopes.{Setting, Locals}
 use Rattle.shape_rules.specs.Calls.{Solved, solved, counted}
 use Rattle.shape_rules.specs.Targets.{InStruct, one_further, field_named}
-use Rattle.shape_rules.specs.Values.{FieldPart, values_of, Named, fields_named, field_count, struct_place, struct_at, struct_named, struct_solved, struct_found}
+use Rattle.shape_rules.specs.Values.{FieldPart, values_of, Named, fields_named, field_count, struct_place, struct_at, struct_named, struct_solved}
+use Rattle.shape_rules.specs.Values.{struct_found}
 use Rattle.shape_rules.specs.Values.{variables_of_type}
 use Rattle.shape_meanings.specs.Whole.{Choice}
 use Rattle.shape_meanings.specs.Keeping.{Fits, FitAll, Reach, reach_of, Keeps}

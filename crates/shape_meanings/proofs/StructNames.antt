@@ -1,5 +1,6 @@
 -- Which struct a literal is of: the one of its name, or the one that has just its fields.
-use Rattle.std.proofs.Common.{◌≡◌, ℕ, zero, suc, ◌+◌, List, [], ◌∷◌, length, ap, sym, ◌∙◌, refl, subst, Bool, true, false, ◌&&◌, ◌||◌, Option, Some, None}
+use Rattle.std.proofs.Common.{◌≡◌, ℕ, zero, suc, ◌+◌, List, [], ◌∷◌, length, ap, sym, ◌∙◌, refl, subst, Bool, true, false, ◌&&◌, ◌||◌, Option, Some}
+use Rattle.std.proofs.Common.{None}
 use Rattle.std.proofs.Common.{is_some, nat_eq, slice_get, if◌then◌else◌, arith}
 use Rattle.std.proofs.lemmas.Bool.{and_parts}
 use Rattle.std.proofs.lemmas.Slice.Eq.{bytes_eq-Decides}
@@ -13,12 +14,12 @@ use Rattle.sail_types.specs.declared.table.Types.{Types}
 use Rattle.sail_syntax.specs.declared.name.Name.{Name}
 use Rattle.shape_joins.proofs.Order.{two, same_nat, equal}
 use Rattle.shape_joins.proofs.JoinsLeast.{some_same, none}
-use Rattle.sail_meaning.specs.Named.{is_one_of, are_all, is_called, is_struct_with, places_where, struct_with}
+use Rattle.sail_meaning.specs.Named.{is_one_of, are_all, is_struct_with, places_where, struct_with}
 use Rattle.sail_meaning.specs.Named as Written
 use Rattle.sail_meaning.specs.Expressions.{Field, names_of, name_of}
 use Rattle.shape_rules.specs.Scopes.{Setting, Locals}
 use Rattle.shape_rules.specs.Targets.{InStruct, one_further, field_named}
-use Rattle.shape_rules.specs.Values.{FieldPart, Named, also_named, fields_named, field_count, has_just, structs_from, struct_place}
+use Rattle.shape_rules.specs.Values.{FieldPart, Named, also_named, fields_named, has_just, structs_from, struct_place}
 use Rattle.shape_rules.specs.Values as Rules
 use Rattle.shape_meanings.specs.Worlds.{IsStruct}
 use Rattle.shape_meanings.specs.Parts.{FieldsAre}

@@ -1,5 +1,5 @@
 -- Parts of values: indexes and fields behind a base.
-use Rattle.std.proofs.Common.{◌≡◌, ℕ, ℤ, List, [], ◌∷◌, ◌++◌, map, sym, ◌∙◌, refl, subst, true, Option, Some, None, if◌then◌else◌}
+use Rattle.std.proofs.Common.{◌≡◌, ℕ, ℤ, List, [], ◌∷◌, ◌++◌, map, sym, ◌∙◌, refl, subst, true, Option, Some, None}
 use Rattle.sail_types.specs.Named.{fields}
 use Rattle.sail_types.specs.Shapes.{at, fits, form_fits, put, shape, Asked}
 use Rattle.sail_types.specs.declared.shapes.Shape.{Shape, Shape-F, out-Shape}
@@ -16,7 +16,6 @@ use Rattle.sail_core.specs.Run as R
 use Rattle.sail_core.specs.Run.{Now, Ended, Run, needs, gives, stuck, goes_on, ◌then◌}
 use Rattle.sail_core.specs.Values.{Into, field_way, item_way, slice_way, integer_in}
 use Rattle.sail_core.specs.Making as Core
-use Rattle.sail_core.specs.Making.{plainly, made}
 use Rattle.sail_core.specs.Meaning.{core_meaning}
 use Rattle.shape_joins.proofs.Order.{no}
 use Rattle.shape_joins.proofs.JoinsLeast.{some_same, none}
@@ -28,9 +27,9 @@ use Rattle.shape_rules.specs.declared.locals.Local.{Local}
 use Rattle.shape_rules.specs.Findings.{Found}
 use Rattle.shape_rules.specs.Scopes.{Setting, Locals}
 use Rattle.shape_rules.specs.Targets as Aims
-use Rattle.shape_rules.specs.Targets.{Part, IndexPart, SuffixPart, field_part, at_part, InStruct, Led, field_led, field_in, into_item, into_slice, led_form}
-use Rattle.shape_rules.specs.Targets.{is_open, is_open_form, index_found, suffix_found, suffix_place, cores_of, faults_of, led_shape, base_faults}
-use Rattle.shape_rules.specs.Targets.{Walked, walked, also_walked}
+use Rattle.shape_rules.specs.Targets.{Part, IndexPart, SuffixPart, field_part, at_part, InStruct, Led, field_led, field_in, into_item, into_slice}
+use Rattle.shape_rules.specs.Targets.{led_form}
+use Rattle.shape_rules.specs.Targets.{is_open, is_open_form, index_found, suffix_found, cores_of, faults_of}
 use Rattle.shape_meanings.specs.Whole.{Choice}
 use Rattle.shape_meanings.specs.Keeping.{Fits, SeenAs, Reach, Good, reach_of, Keeps, Agree}
 use Rattle.shape_meanings.specs.Worlds.{Describes}

@@ -1,6 +1,5 @@
 -- `if` without `else`, `assert`, `sizeof` and `constraint`, and `&` and `|` on truths.
 use Rattle.std.proofs.Common.{◌≡◌, ℕ, ℤ, List, [], ◌∷◌, ◌++◌, ap, sym, ◌∙◌, refl, subst, Bool, true, Option, Some, None, option_map}
-use Rattle.std.proofs.Common.{if◌then◌else◌}
 use Rattle.sail_base.specs.declared.place.Place.{Place}
 use Rattle.sail_types.specs.Sums.{and_then}
 use Rattle.sail_types.specs.declared.numbers.Num.{Num}
@@ -23,7 +22,7 @@ use Rattle.sail_core.specs.Numbers.{known, known_truth}
 use Rattle.sail_core.specs.Meaning.{core_meaning}
 use Rattle.shape_joins.specs.Filling.{fills}
 use Rattle.sail_meaning.specs.World as Source
-use Rattle.sail_meaning.specs.World.{Piece, truth, written_number, written_constraint}
+use Rattle.sail_meaning.specs.World.{truth}
 use Rattle.sail_meaning.specs.Expressions.{asked}
 use Rattle.shape_rules.specs.Findings.{Found, over, leaf}
 use Rattle.shape_rules.specs.Scopes.{Setting, Locals}

@@ -54,7 +54,7 @@ thrown_put c None = never_put c
 thrown_put c (Some i) = named_put i c
 
 pub try_right : (setting : Setting) (locals : Locals) (place : Place) (value : Part) (cs : List CasePart) (mv : Source.Meaning) (ms : List Case)
-    → IsRight setting locals value.elaborate mv → CasesAre setting locals cs ms
+    → IsRight setting locals value.elaborate mv → CasesAre setting locals (thrown_shape setting) cs ms
     → IsRight setting locals (choose_found place Try value cs) (chosen Try place mv ms)
 try_right setting locals place value cs mv ms right are want e =
     let a : Found = value.elaborate setting locals want in

@@ -1,5 +1,5 @@
 -- `[v with i = e]` and `[v with h .. l = e]`.
-use Rattle.std.proofs.Common.{◌≡◌, ℤ, List, [], ◌∷◌, ◌++◌, map, ap, sym, ◌∙◌, refl, subst, true, Option, Some, None, if◌then◌else◌}
+use Rattle.std.proofs.Common.{◌≡◌, ℤ, List, [], ◌∷◌, ◌++◌, map, ap, sym, ◌∙◌, refl, subst, true, Option, Some, None}
 use Rattle.sail_base.specs.declared.place.Place.{Place}
 use Rattle.sail_types.specs.declared.shapes.Shape.{Shape, Shape-F, out-Shape, roll-Shape}
 use Rattle.sail_types.specs.declared.shapes.Shape.TheOpen as S

@@ -18,7 +18,7 @@ use Rattle.sail_syntax.specs.declared.words.Brackets.TheVariants as B
 use Rattle.sail_core.specs.declared.tree.Kind.TheVariants as K
 use Rattle.sail_core.specs.declared.tree.Core.{Core}
 use Rattle.sail_core.specs.Run as R
-use Rattle.sail_core.specs.Run.{Now, Run, needs, gives, goes_on, in_turn, ◌then◌}
+use Rattle.sail_core.specs.Run.{Now, Run, needs, goes_on, in_turn, ◌then◌}
 use Rattle.sail_core.specs.Values.{vector_of}
 use Rattle.sail_core.specs.Making.{plainly, made}
 use Rattle.sail_core.specs.Meaning.{core_meaning}

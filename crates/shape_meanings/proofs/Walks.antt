@@ -16,7 +16,7 @@ use Rattle.sail_core.specs.Values.{Into, field_way, item_way, slice_way, integer
 use Rattle.sail_core.specs.Making as Core
 use Rattle.sail_core.specs.Making.{plainly, made}
 use Rattle.sail_core.specs.Meaning as Means
-use Rattle.sail_core.specs.Meaning.{core_meaning, kind_meaning}
+use Rattle.sail_core.specs.Meaning.{core_meaning}
 use Rattle.shape_joins.proofs.JoinsLeast.{some_same, none}
 use Rattle.sail_meaning.specs.World as Source
 use Rattle.sail_meaning.specs.Targets.{Suffix, suffixes_of}
@@ -24,7 +24,7 @@ use Rattle.shape_rules.specs.declared.locals.Local.{Local}
 use Rattle.shape_rules.specs.Findings.{Found, over, ill_shaped}
 use Rattle.shape_rules.specs.Scopes.{Setting, Locals}
 use Rattle.shape_rules.specs.Targets as Aims
-use Rattle.shape_rules.specs.Targets.{Part, IndexPart, SuffixPart, field_part, at_part, Led, into_item, into_slice, led_index, led_form, is_open}
+use Rattle.shape_rules.specs.Targets.{Part, IndexPart, SuffixPart, field_part, at_part, Led, led_index, led_form, is_open}
 use Rattle.shape_rules.specs.Targets.{index_found, suffix_found, suffix_place, cores_of, faults_of, led_shape, base_faults, Walked, walked}
 use Rattle.shape_rules.specs.Values.{last_place, part_found}
 use Rattle.shape_meanings.specs.Whole.{Choice}

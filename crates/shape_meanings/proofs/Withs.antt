@@ -1,5 +1,5 @@
 -- `{ e with f = v, .. }`.
-use Rattle.std.proofs.Common.{◌≡◌, ℕ, suc, List, [], ◌∷◌, ◌++◌, map, length, ap, sym, ◌∙◌, refl, subst, Bool, true, false, Option, Some, None, if◌then◌else◌}
+use Rattle.std.proofs.Common.{◌≡◌, ℕ, suc, List, [], ◌∷◌, ◌++◌, map, length, ap, sym, ◌∙◌, refl, subst, true, Option, Some, None}
 use Rattle.std.proofs.Common.{nat_eq}
 use Rattle.std.proofs.lemmas.Bool.{and_parts}
 use Rattle.sail_base.specs.declared.place.Place.{Place}
@@ -27,13 +27,13 @@ use Rattle.sail_meaning.specs.World.{Bindings}
 use Rattle.sail_meaning.specs.Expressions.{Field, each, fields_of}
 use Rattle.sail_meaning.specs.Targets as Written
 use Rattle.sail_meaning.specs.Targets.{into_field}
-use Rattle.shape_rules.specs.declared.error.ShapeError.{ShapeError}
-use Rattle.shape_rules.specs.Findings.{Found, over, ill_shaped}
+use Rattle.shape_rules.specs.Findings.{Found, over}
 use Rattle.shape_rules.specs.Scopes.{Setting, Locals}
 use Rattle.shape_rules.specs.Calls.{Solved, solved}
 use Rattle.shape_rules.specs.Targets.{Part, InStruct, field_in, is_open, base_faults}
 use Rattle.shape_rules.specs.Values as Values
-use Rattle.shape_rules.specs.Values.{FieldPart, values_of, Named, also_named, fields_named, parts_found, named_place, with_failed, with_named, with_found}
+use Rattle.shape_rules.specs.Values.{FieldPart, values_of, Named, also_named, fields_named, parts_found, named_place, with_failed, with_named}
+use Rattle.shape_rules.specs.Values.{with_found}
 use Rattle.shape_meanings.specs.Whole.{Choice}
 use Rattle.shape_meanings.specs.Keeping.{Fits, FitAll, Reach, Good, reach_of, Keeps, Agree}
 use Rattle.shape_meanings.specs.Parts.{IsRight, AreRight, FieldsAre}
@@ -43,7 +43,8 @@ use Rattle.shape_meanings.proofs.Settling.{RunsAs, widened, settled_right, behin
 use Rattle.shape_meanings.proofs.Arguments.{RunAll}
 use Rattle.shape_meanings.proofs.Solved.{solved_right}
 use Rattle.shape_meanings.proofs.Ways.{field_alike}
-use Rattle.shape_meanings.proofs.Suffixes.{then_then}
+use Rattle.shape_meanings.proofs.Suffixes.{then_then, open_fits}
+use Rattle.shape_meanings.proofs.Walks.{no_part}
 
 -- ---- fields by their places
 
@@ -206,32 +207,36 @@ with_runs setting locals place i ks known fs ms is ss a cores ma there are place
     kept reach s None now good f = tt
     kept reach s (Some x) now good f = (f x refl, good)
 
--- ---- a base whose shape is known
-
-abbrev fails_open : Place → Shape → Bool → List ShapeError
-fails_open base s b = if b then [] else ill_shaped base ∷ []
-
-not_failed : (base : Place) (s : Shape) (b : Bool) → b ≡ false → fails_open base s b ≡ [] → ⊥
-not_failed base s true is e = true_false is
-  where
-    true_false : true ≡ false → ⊥
-    true_false h = cc
-not_failed base s false is e = not_none e
-  where
-    not_none : {A : Type 0} {x : A} → (x ∷ []) ≡ [] → ⊥
-    not_none e = cc
+-- ---- over its base
 
 named_fills : (s : Shape) (i : ℕ) (ss ks : List Shape) → out-Shape s ≡ S.Named i ss → fill_all ss ks ≡ true → fills s (V.Named i ks) ≡ true
 named_fills s i ss ks is h =
     ap (fills s) (sym (V.rolls-Named i ks)) ∙ ap (λ t. fills t (roll-Shape (S.Named i ks))) (sym (roll-out-Shape s) ∙ ap roll-Shape is)
     ∙ opens (S.Named i ss) (S.Named i ks) ∙ two (nat_eq i i) (fill_all ss ks) (same_nat i) h
 
+-- what never ends has no value whose fields could be replaced
+open_runs : (setting : Setting) (locals : Locals) (place : Place) (a : Found) (cores : List Core) (ma : Source.Meaning) (ms : List Field)
+    → is_open a.shape ≡ true → RunsAs setting locals a.shape a.core ma
+    → RunsAs setting locals V.Never (over place (K.With 0 []) (a.core ∷ cores)) (with_source ma ms)
+open_runs setting locals place a cores ma ms hollow ra registers c wc ws d slots seen now good =
+    let reach : Reach = reach_of setting registers c slots in
+    let rest_c : Run Value (List Value) = in_turn (map (core_meaning wc) cores) in
+    let last_c : List Value → Run Value Value = λ xs. needs (with_of 0 [] xs) then λ v. made plainly 0 [] v in
+    let last_m : Value → Bindings → Run Value Value = λ v found. needs (Written.with_fields ws.text.types found v) in
+    let r = then_agree reach (Fits setting.types c a.shape) (Fits setting.types c V.Never) (core_meaning wc a.core now) (ma ws now)
+    (λ x. (rest_c then λ xs. gives (x ∷ xs)) then last_c) (λ v. fields_of ms ws then last_m v) (ra registers c wc ws d slots seen now good)
+    (λ v later fit good2. absurd (open_fits setting.types c a.shape v hollow fit)) in (
+      ap (λ (x : Run Value Value). x now) (unrolled wc place 0 (K.With 0 []) (a.core ∷ cores))
+          ∙ then_then (core_meaning wc a.core now) (λ x. rest_c then λ xs. gives (x ∷ xs)) last_c ∙ r.0,
+      r.1,
+    )
+
 -- a struct that is there, with other values in some fields
 pub with_right : (setting : Setting) (locals : Locals) (place : Place) (base : Part) (fs : List FieldPart) (ma : Source.Meaning) (ms : List Field)
-    → is_open (base.elaborate setting locals V.Never).shape ≡ false → IsRight setting locals base.elaborate ma → FieldsAre setting locals fs ms
+    → IsRight setting locals base.elaborate ma → FieldsAre setting locals fs ms
     → IsRight setting locals (with_found place base fs)
     (λ w. ma w then λ v. fields_of ms w then λ found. needs (Written.with_fields w.text.types found v))
-with_right setting locals place base fs ma ms closed ra are want e = by_shape (named_place (out-Shape a.shape)) (shape_is (out-Shape a.shape) refl) e
+with_right setting locals place base fs ma ms ra are want e = by_shape (named_place (out-Shape a.shape)) (shape_is (out-Shape a.shape) refl) e
   where
     a : Found
     a = base.elaborate setting locals V.Never
@@ -244,12 +249,17 @@ with_right setting locals place base fs ma ms closed ra are want e = by_shape (n
     shape_is (S.Named i ss) is = is
     shape_is y is = tt
 
-    failed : {A : Type 0} → (with_failed place base.place fs a setting locals want).faults ≡ [] → A
+    failed : (with_failed place base.place fs a setting locals want).faults ≡ []
+        → Right setting locals want (with_failed place base.place fs a setting locals want) (with_source ma ms)
     failed e =
         let parts = parts_found (values_of fs) setting locals [] in
-        let h = both_empty ((a.faults ++ base_faults base.place a.shape None) ++ parts.faults) [] e in
+        let faults = (a.faults ++ base_faults base.place a.shape None) ++ parts.faults in
+        let h = both_empty faults _ e in
         let h2 = both_empty (a.faults ++ base_faults base.place a.shape None) parts.faults h.0 in
-        absurd (not_failed base.place a.shape (is_open a.shape) closed (both_empty a.faults (base_faults base.place a.shape None) h2.0).1)
+        let h3 = both_empty a.faults (base_faults base.place a.shape None) h2.0 in
+        behind_right setting locals want faults _ (with_source ma ms)
+        (settled_right setting locals place want V.Never (λ s. over place (K.With 0 []) (a.core ∷ parts.cores)) (with_source ma ms) h.1
+        (λ t. open_runs setting locals place a parts.cores ma ms (no_part base.place a.shape (is_open a.shape) refl h3.1) (ra V.Never h3.0).runs))
 
     by_named : (i : ℕ) (ss : List Shape) → out-Shape a.shape ≡ S.Named i ss → (o : Option Named) → fields_named fs (fields setting.types i) ≡ o
         → (with_named place base.place fs a i ss o setting locals want).faults ≡ []

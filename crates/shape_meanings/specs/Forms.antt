@@ -33,7 +33,8 @@ use Rattle.shape_rules.specs.declared.callees.Candidate.{Candidate}
 use Rattle.shape_rules.specs.declared.callees.Meant.TheVariants as M
 use Rattle.shape_rules.specs.Written.{typ_in}
 use Rattle.shape_rules.specs.Calls.{Elaborate, several_called, or_unit, one_called, arguments_for}
-use Rattle.shape_rules.specs.Values.{constant_found, name_found, unit_found, group_found, typed_found, leave_found, prefix_found, infix_found, logical_kind}
+use Rattle.shape_rules.specs.Values.{constant_found, name_found, unit_found, group_found, typed_found, leave_found, prefix_found, infix_found}
+use Rattle.shape_rules.specs.Values.{logical_kind}
 use Rattle.shape_rules.specs.Values.{logical_found, is_truth_form, does_convert}
 use Rattle.shape_rules.specs.Statements.{CasePart, StatementPart, if_between, if_found, assert_found, choose_found, blocked, block_found, evaluated}
 use Rattle.shape_rules.specs.Statements.{defined_as, bound}
@@ -156,7 +157,7 @@ ListsAreRight =
 abbrev pub MatchesAreRight : Type 0
 MatchesAreRight =
     (setting : Setting) (locals : Locals) (place : Place) (value : Part) (cs : List CasePart) (mv : Source.Meaning) (ms : List Case)
-    → IsRight setting locals value.elaborate mv → CasesAre setting locals cs ms
+    → IsRight setting locals value.elaborate mv → CasesAre setting locals (value.elaborate setting locals V.Never).shape cs ms
     → IsRight setting locals (choose_found place Match value cs) (chosen Match place mv ms)
 
 -- a block with a value, and one without

@@ -1,5 +1,6 @@
 -- shapes without an open part, and trees as texts have them
 pub mod Whole
+pub mod Counted
 pub mod Trees
 -- what a run keeps, and what a name means on both sides
 pub mod Keeping
@@ -19,4 +20,3 @@ pub mod StepForms
 pub mod PartForms
 pub mod PatternForms
 pub mod CallForms
-pub mod Covered

@@ -3,25 +3,22 @@
 use Rattle.std.specs.Prelude.{◌≡◌, ℕ, List, [], ◌∷◌, map, Option, Some, None}
 use Rattle.sail_types.specs.Shapes.{shape}
 use Rattle.sail_types.specs.declared.shapes.Shape.{Shape}
-use Rattle.sail_types.specs.declared.shapes.Shape.TheVariants as V
 use Rattle.sail_types.specs.declared.values.Value.{Value}
 use Rattle.model_state.specs.declared.state.Register.{Register}
 use Rattle.model_state.specs.RunState.{RunState, Ran}
 use Rattle.sail_core.specs.declared.model.CoreModel.{CoreModel}
 use Rattle.sail_core.specs.declared.tree.Core.{Core}
-use Rattle.sail_core.specs.Run.{Now, stuck, within, ◌then◌}
+use Rattle.sail_core.specs.Run.{Now, stuck}
 use Rattle.sail_core.specs.Making as Core
 use Rattle.sail_core.specs.Meaning.{core_meaning}
 use Rattle.sail_core.specs.Program.{plain as plain_sizing}
 use Rattle.sail_core.specs.Start as CoreStart
-use Rattle.sail_meaning.specs.Text.{Text, Function, Direction, Measure}
+use Rattle.sail_meaning.specs.Text.{Text, Function, Direction}
 use Rattle.sail_meaning.specs.World as Source
-use Rattle.sail_meaning.specs.World.{Piece, plain}
-use Rattle.sail_meaning.specs.Patterns.{arguments_match}
-use Rattle.sail_meaning.specs.Expressions.{meaning}
+use Rattle.sail_meaning.specs.World.{Piece}
 use Rattle.sail_meaning.specs.Calls.{first_clause, first_crossing}
 use Rattle.sail_meaning.specs.Start as SourceStart
-use Rattle.shape_rules.specs.Scopes.{Setting, plainly, answering}
+use Rattle.shape_rules.specs.Scopes.{Setting, answering}
 use Rattle.shape_meanings.specs.Whole.{Choice}
 use Rattle.shape_meanings.specs.Keeping.{Fits, FitAll, RegistersFit, Good, reach_of, Agree}
 use Rattle.shape_meanings.specs.Worlds.{Describes}
@@ -40,16 +37,6 @@ BodyIs setting params answer body clauses =
 -- the clauses of a function
 abbrev pub FunctionIs : Setting → List Shape → Shape → Core → Function → Type 0
 FunctionIs setting params answer body f = BodyIs (answering (Some answer) setting) params answer body (λ ws. first_clause ws f.clauses)
-
--- what a measure gives for these arguments
-abbrev pub measured : Measure → Source.World → List Value → Piece Value
-measured m ws vs = arguments_match ws m.parameters vs then λ found. within found (meaning m.value (plain ws))
-
--- a function's measure, which is a plain expression
-abbrev pub MeasureIs : Setting → List Shape → Option Core → Option Measure → Type 0
-MeasureIs setting params None None = Unit {0}
-MeasureIs setting params (Some core) (Some m) = BodyIs (plainly setting) params V.Int core (measured m)
-MeasureIs setting params core m = ⊥
 
 -- the clauses of a direction of a mapping
 abbrev pub crossing : Direction → Source.World → List Value → Piece Value

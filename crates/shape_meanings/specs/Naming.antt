@@ -1,5 +1,5 @@
 -- Names that the tables have found to mean something: what is known there is what names mean where shapes are found.
-use Rattle.std.specs.Prelude.{◌≡◌, ℕ, Bool, true, false, List, [], Option, Some, None}
+use Rattle.std.specs.Prelude.{◌≡◌, ℕ, Bool, true, false, List, [], ◌∷◌, Option, Some, None}
 use Rattle.sail_base.specs.declared.kind.Kind.TheVariants as Sort
 use Rattle.sail_syntax.specs.declared.types.TyExp.{TyExp}
 use Rattle.sail_types.specs.Shapes.{shape}
@@ -21,13 +21,16 @@ use Rattle.sail_names.specs.Locals.{binding_of}
 use Rattle.shape_rules.specs.declared.callees.Candidate.{Candidate}
 use Rattle.shape_rules.specs.declared.callees.Doing.{Doing}
 use Rattle.shape_rules.specs.declared.callees.Doing.TheVariants as D
+use Rattle.sail_core.specs.declared.tree.Callee.{Callee}
 use Rattle.sail_core.specs.declared.tree.Callee.TheVariants as C
 use Rattle.shape_rules.specs.declared.callees.Meant.{Meant}
 use Rattle.shape_rules.specs.declared.callees.Meant.TheVariants as M
 use Rattle.shape_rules.specs.declared.locals.Local.{Local}
 use Rattle.shape_rules.specs.Scopes.{Setting, Locals, local_of}
+use Rattle.shape_rules.specs.Targets.{callees_of}
 use Rattle.shape_rules.specs.Written.{typ_in, number_in, constraint_in}
 use Rattle.shape_meanings.specs.Whole.{below}
+use Rattle.shape_meanings.specs.Counted.{Counts, counted}
 
 -- ---- names of values
 
@@ -57,15 +60,27 @@ MeantAs names (Some G.Builtin) meant = (row : _) × (meant ≡ Some (M.Row row))
 MeantAs names (Some G.StateBuiltin) meant = (row : _) × (meant ≡ Some (M.Row row))
 MeantAs names None meant = Unit {0}
 
+-- a name's candidate calls a callee, which takes something
+abbrev pub IsCallee : Candidate → Type 0
+IsCallee f = ((callee : Callee) × (f.doing ≡ D.Calls callee)) × ((p : Shape) × (ps : List Shape) × (f.params ≡ (p ∷ ps)))
+
+abbrev pub AreCallees : List Candidate → Type 0
+AreCallees [] = Unit {0}
+AreCallees (f ∷ fs) = IsCallee f × AreCallees fs
+
 -- where shapes are found, the same types can be named, names mean what is known of them, there is a union `exception` where one is known, types,
 -- numbers and constraints that are written well stand for something, what `return` gives has a shape that leaves nothing open, and structs have fields
 pub record AreKnown (setting : Setting) (names : Tables.Setting) : Type 0 where
   pub within : names.types ≡ setting.within
   pub values : (name : List ℕ) → MeantAs names (names.known.value name) (setting.value name)
+  pub called : (name : List ℕ) → AreCallees (callees_of setting.types (setting.value name))
   pub members : (name : List ℕ) (i k : ℕ) → setting.value name ≡ Some (M.Member i k) → names.known.value name ≡ Some G.Member
   pub exception : names.known.has_exception ≡ true → (i : ℕ) × (setting.exception ≡ Some i)
   pub typs : (typ : TyExp) → type_failures Sort.Type typ names ≡ []
       → (t : Typ) × (typ_in setting.within typ ≡ Some t) × ((n : ℕ) × (below n (shape t) ≡ true))
+  pub counted_typs : (typ : TyExp) (t : Typ) → type_failures Sort.Type typ names ≡ [] → typ_in setting.within typ ≡ Some t
+      → counted setting.types (shape t) ≡ true
+  pub counts : Counts setting
   pub numbers : (typ : TyExp) → type_failures Sort.Int typ names ≡ [] → (t : Num) × (number_in setting.within typ ≡ Some t)
   pub constraints : (typ : TyExp) → type_failures Sort.Bool typ names ≡ [] → (t : Con) × (constraint_in setting.within typ ≡ Some t)
   pub answer : (s : Shape) → setting.answer ≡ Some s → (n : ℕ) × (below n s ≡ true)

@@ -4,7 +4,6 @@ use Rattle.sail_base.specs.declared.place.Place.{Place}
 use Rattle.sail_types.specs.Named.{fields}
 use Rattle.sail_types.specs.Sums.{and_then}
 use Rattle.sail_types.specs.declared.shapes.Shape.{Shape}
-use Rattle.sail_types.specs.declared.shapes.Shape.TheVariants as V
 use Rattle.sail_types.specs.declared.table.Field.{Field as TypeField}
 use Rattle.sail_types.specs.declared.table.Types.{Types}
 use Rattle.sail_syntax.specs.declared.name.Name.{Name}
@@ -18,11 +17,11 @@ use Rattle.shape_rules.specs.declared.callees.Meant.{Meant}
 use Rattle.shape_rules.specs.declared.callees.Meant.TheVariants as M
 use Rattle.shape_rules.specs.declared.locals.Local.{Local}
 use Rattle.shape_rules.specs.Scopes.{Setting, Locals, local_of}
-use Rattle.shape_rules.specs.Targets.{Part, IndexPart, SuffixPart, Aimed, TargetPart, is_open, leaves_open, name_aimed, each_aimed, tuple_aimed, part_aimed}
+use Rattle.shape_rules.specs.Targets.{Part, IndexPart, SuffixPart, Aimed, TargetPart, leaves_open, name_aimed, each_aimed, tuple_aimed, part_aimed}
 use Rattle.shape_rules.specs.Targets.{walked}
 use Rattle.shape_rules.specs.Calls.{Elaborate}
 use Rattle.shape_rules.specs.Values.{FieldPart, part_found, update_found, struct_place, struct_found, with_found}
-use Rattle.shape_rules.specs.Statements.{FurtherPart, assign_to}
+use Rattle.shape_rules.specs.Statements.{FurtherPart, assign_to, chained_faults}
 use Rattle.shape_meanings.specs.Whole.{IsSettled, below}
 use Rattle.shape_meanings.specs.Parts.{IsRight, IndexIs, SuffixesAre, FieldsAre, NamesApart}
 use Rattle.shape_meanings.specs.Aims.{AimIs, BaseIs, AimsAre, FurtherAre, Leads}
@@ -42,11 +41,11 @@ UpdatesAreRight =
     → IsRight setting locals base.elaborate ma → IndexIs setting locals index mi → IsRight setting locals value.elaborate mv
     → IsRight setting locals (update_found place base index value) (λ w. ma w then λ old. mi w then λ way. mv w then λ v. needs (way.put_in old v))
 
--- `{ e with f = v, .. }`, whose base has a shape that is known
+-- `{ e with f = v, .. }`
 abbrev pub WithsAreRight : Type 0
 WithsAreRight =
     (setting : Setting) (locals : Locals) (place : Place) (base : Part) (fs : List FieldPart) (ma : Source.Meaning) (ms : List Field)
-    → is_open (base.elaborate setting locals V.Never).shape ≡ false → IsRight setting locals base.elaborate ma → FieldsAre setting locals fs ms
+    → IsRight setting locals base.elaborate ma → FieldsAre setting locals fs ms
     → IsRight setting locals (with_found place base fs) (λ w. ma w then λ v. fields_of ms w then λ found. needs (with_fields w.text.types found v))
 
 -- `struct { f = v, .. }`, with a name or without, of a struct that has these fields
@@ -97,7 +96,7 @@ abbrev pub AssignmentsAreRight : Type 0
 AssignmentsAreRight =
     (setting : Setting) (locals : Locals) (place : Place) (a : Aimed) (more : List FurtherPart) (value : Part) (m : Written.Target)
     (ms : List Written.Target) (mv : Source.Meaning)
-    → (a.faults ≡ [] → AimIs setting locals a m) → FurtherAre setting locals more ms → IsRight setting locals value.elaborate mv
+    → (chained_faults place a ≡ [] → AimIs setting locals a m) → FurtherAre setting locals more ms → IsRight setting locals value.elaborate mv
     → IsRight setting locals (assign_to place a more value) (assigned m ms mv)
 
 -- `f(a) = e` by itself means what the call `f(a, e)` does

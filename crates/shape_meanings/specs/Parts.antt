@@ -54,20 +54,20 @@ MaybeIs setting locals None None = Unit {0}
 MaybeIs setting locals (Some g) (Some m) = IsRight setting locals g.elaborate m
 MaybeIs setting locals part m = ⊥
 
--- a case is right, whatever shape comes to it: its pattern, and under the names that this binds its guard and its body
-abbrev pub CaseIs : Setting → Locals → CasePart → Case → Type 0
-CaseIs setting locals c m =
+-- a case to which values of this shape come is right: its pattern, and under the names that this binds its guard and its body
+abbrev pub CaseIs : Setting → Locals → Shape → CasePart → Case → Type 0
+CaseIs setting locals subject c m =
     (m.pattern ≡ c.pattern)
-    × ((subject : Shape) → (look c.pattern setting no_widths subject).faults ≡ []
+    × ((look c.pattern setting no_widths subject).faults ≡ []
     → LooksRight setting no_widths subject (look c.pattern setting no_widths subject) (λ w. matching w c.pattern)
     × EitherWay (look c.pattern setting no_widths subject).binds
     × MaybeIs setting (under (look c.pattern setting no_widths subject).binds locals) c.guard m.guard
     × IsRight setting (under (look c.pattern setting no_widths subject).binds locals) c.body.elaborate m.body)
 
-abbrev pub CasesAre : Setting → Locals → List CasePart → List Case → Type 0
-CasesAre setting locals [] [] = Unit {0}
-CasesAre setting locals (c ∷ cs) (m ∷ ms) = CaseIs setting locals c m × CasesAre setting locals cs ms
-CasesAre setting locals cs ms = ⊥
+abbrev pub CasesAre : Setting → Locals → Shape → List CasePart → List Case → Type 0
+CasesAre setting locals subject [] [] = Unit {0}
+CasesAre setting locals subject (c ∷ cs) (m ∷ ms) = CaseIs setting locals subject c m × CasesAre setting locals subject cs ms
+CasesAre setting locals subject cs ms = ⊥
 
 -- two runs that agree, whatever they are made of, and give values of a shape
 abbrev pub PairRuns : Setting → Locals → Shape → (Core.World Value → Run Value Value) → Source.Meaning → Type 0

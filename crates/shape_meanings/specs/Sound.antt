@@ -19,6 +19,7 @@ use Rattle.shape_rules.specs.Scopes.{Setting, Locals, local_of}
 use Rattle.shape_rules.specs.Calls.{Elaborate}
 use Rattle.shape_rules.specs.Expressions.{elaborate}
 use Rattle.shape_meanings.specs.Whole.{Choice, IsSettled}
+use Rattle.shape_meanings.specs.Counted.{LocalsCounted}
 use Rattle.shape_meanings.specs.Trees.{written}
 use Rattle.shape_meanings.specs.Keeping.{Fits, SeenAs, Good, reach_of, Agree}
 use Rattle.shape_meanings.specs.Worlds.{Describes}
@@ -41,8 +42,8 @@ VarsSettled setting locals = (name : List ℕ) (l : Local) → local_of name loc
 abbrev pub Sound : Elaborate → Source.Meaning → Failures → Bool → Type 0
 Sound el m failures is_written =
     is_written ≡ true → (setting : Setting) (names : Tables.Setting) → AreKnown setting names
-    → (locals : Locals) (bound : Bound.Locals) → AreBound bound locals → VarsSettled setting locals → (want : Shape)
-    → failures names bound ≡ [] → (el setting locals want).faults ≡ []
+    → (locals : Locals) (bound : Bound.Locals) → AreBound bound locals → VarsSettled setting locals → LocalsCounted setting.types locals
+    → (want : Shape) → failures names bound ≡ [] → (el setting locals want).faults ≡ []
     → Right setting locals want (el setting locals want) m
 
 -- the core of each expression means what the expression means

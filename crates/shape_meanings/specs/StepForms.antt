@@ -16,12 +16,13 @@ use Rattle.sail_meaning.specs.World as Source
 use Rattle.sail_meaning.specs.World.{integer}
 use Rattle.sail_meaning.specs.Loops as Turns
 use Rattle.sail_meaning.specs.Expressions.{Case, each, group, or_one, asked, chosen, let_in, var_in}
-use Rattle.shape_rules.specs.Scopes.{Setting, Locals, constant, under, plainly}
+use Rattle.shape_rules.specs.Scopes.{Setting, Locals, constant, under, plainly, thrown_shape}
 use Rattle.shape_rules.specs.Written.{number_in, constraint_in}
 use Rattle.shape_rules.specs.Targets.{Part}
 use Rattle.shape_rules.specs.Calls.{Elaborate}
 use Rattle.shape_rules.specs.Values.{group_found}
-use Rattle.shape_rules.specs.Statements.{CasePart, RangePart, bound, declaring, declared_as, let_found, var_found, choose_found, foreach_found, loop_found}
+use Rattle.shape_rules.specs.Statements.{CasePart, RangePart, bound, declaring, declared_as, let_found, var_found, choose_found, foreach_found}
+use Rattle.shape_rules.specs.Statements.{loop_found}
 use Rattle.shape_rules.specs.Statements.{of_type_found}
 use Rattle.shape_meanings.specs.Parts.{IsRight, AreRight, MaybeIs, TypIs, CasesAre, StatementIs, PatternIs}
 
@@ -75,7 +76,7 @@ RepeatsAreRight =
 abbrev pub TriesAreRight : Type 0
 TriesAreRight =
     (setting : Setting) (locals : Locals) (place : Place) (value : Part) (cs : List CasePart) (mv : Source.Meaning) (ms : List Case)
-    → IsRight setting locals value.elaborate mv → CasesAre setting locals cs ms
+    → IsRight setting locals value.elaborate mv → CasesAre setting locals (thrown_shape setting) cs ms
     → IsRight setting locals (choose_found place Try value cs) (chosen Try place mv ms)
 
 abbrev pub VectorsAreRight : Type 0

@@ -1,5 +1,5 @@
--- What the grammar leaves out though the trees have it: a tuple of one part, and `_` and `as` in a side of a mapping that is read as an
--- expression.
+-- What the grammar leaves out though the trees have it: a tuple of one part, a part of a target without an index or a field, and `_` and `as` in
+-- a side of a mapping that is read as an expression.
 use Rattle.std.specs.Prelude.{Bool, true, false, ◌&&◌, List, [], ◌∷◌, Option, Some, None}
 use Rattle.sail_syntax.specs.declared.words.Brackets.{Brackets}
 use Rattle.sail_syntax.specs.declared.words.Brackets.TheVariants as B
@@ -73,11 +73,16 @@ expression_form (E.With place a bs) = a && all_of bs
 expression_form (E.Assert place a text) = a
 expression_form form = true
 
+-- a part of a target has an index or a field
+abbrev pub is_part : List Bool → Bool
+is_part [] = false
+is_part (b ∷ bs) = true
+
 abbrev pub target_form : Form LExp-F → Bool
 target_form (E.ToName name) = true
 target_form (E.ToCall name bs) = all_of bs
 target_form (E.ToTuple place bs) = all_of bs
-target_form (E.ToPart place a bs) = a && all_of bs
+target_form (E.ToPart place a bs) = a && all_of bs && is_part bs
 
 abbrev pub statement_form : Form Stmt-F → Bool
 statement_form (E.Evaluate a) = a

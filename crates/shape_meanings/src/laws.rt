@@ -17,7 +17,7 @@ ghost use Rattle.shape_meanings.specs.CallForms.{RowsAreRight, ConversionsAreRig
 ghost use Rattle.shape_meanings.specs.PatternForms.{ConstructorPatternsAreRight, DirectionPatternsAreRight, MappingPatternsAreRight, WordPatternsAreRight};
 ghost use Rattle.shape_meanings.specs.Matching.{PatternsAreSound};
 ghost use Rattle.shape_meanings.specs.PatternForms.{PatternsAreRight};
-ghost use Rattle.shape_meanings.specs.Covered.{ExpressionsAreRight};
+ghost use Rattle.shape_meanings.specs.Sound.{ElaborationIsSound};
 
 /// A value of a shape is one of the shape with its open parts filled, and shapes that one value has may share values. Where some
 /// shapes in the place of a callee's variables make its parameters those of the arguments, the variables can be learnt.
@@ -130,8 +130,7 @@ pub fn patterns_are_right()
     ensures once { PatternsAreRight }
 {}
 
-/// And so do all expressions that are made of these forms, but for those in which somewhere fields of a struct are changed
-/// (`{ e with .. }`), a field or a part of `f(a)` is assigned, or `f(a)` is a target among others.
+/// And so do all expressions, as the grammar has them.
 pub fn expressions_are_right()
-    ensures { ExpressionsAreRight }
+    ensures { ElaborationIsSound }
 {}

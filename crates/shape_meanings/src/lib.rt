@@ -2,8 +2,7 @@
 //!
 //! `specs/Sound` says it of expressions: `ElaborationIsSound`, over `Describes` of `specs/Worlds`, which says that names mean the
 //! same on both sides, and `Keeps` of `specs/Keeping`, which says what a run keeps; `specs/Matching` says it of patterns. What is
-//! proved of them are the laws of this crate: of each form, over whatever its parts are, and of all expressions but for those that
-//! `specs/Covered` leaves out.
+//! proved of them are the laws of this crate: of each form, over whatever its parts are, and of all expressions.
 #![tactic(auto)]
 
 mod laws;

@@ -32,14 +32,18 @@ use Rattle.sail_core.specs.declared.tree.Core.{Core}
 use Rattle.sail_core.specs.declared.written.Written.{Written}
 use Rattle.shape_rules.specs.declared.locals.Local.{Local}
 use Rattle.shape_rules.specs.declared.error.ShapeError.{ShapeError}
-use Rattle.shape_rules.specs.Findings.{Found, leaf, over, missing, unknown, behind, settled, given_on, cast, ill_shaped}
+use Rattle.shape_rules.specs.Findings.{Found, leaf, over, missing, unknown, behind, settled, given_on, cast, ill_shaped, first_failure}
 use Rattle.shape_rules.specs.Written.{number_in, constraint_in, shape_in, written, written_faults, numbers_in}
 use Rattle.shape_rules.specs.Scopes.{Setting, Locals, plainly, constant, variable, under, thrown_shape}
-use Rattle.shape_rules.specs.Calls.{Elaborate}
+use Rattle.shape_rules.specs.Calls.{Elaborate, has_never}
 use Rattle.shape_rules.specs.Patterns.{Looked, look, no_widths, wanted_by, has_typ, written_shape}
-use Rattle.shape_rules.specs.Targets.{Part, leaves_open}
+use Rattle.shape_rules.specs.Targets.{Part, open_faults}
 use Rattle.shape_rules.specs.Targets.{Aimed, TargetPart}
 use Rattle.shape_rules.specs.Values.{call_named}
+
+-- a hole that is left without a type (M14)
+abbrev pub hole_faults : Place → Bool → Shape → List ShapeError
+hole_faults place is_typed s = if is_typed then [] else open_faults place s
 
 -- ---- assignments
 
@@ -57,11 +61,21 @@ pub record Righted : Type 0 where
 abbrev pub inner_faults : Place → Shape → Shape → List ShapeError
 inner_faults place want answer = (settled place want answer (λ s. missing place)).faults
 
+abbrev pub any_failed : List ShapeError → Bool
+any_failed faults = is_some (first_failure None faults)
+
+-- what a writer gives in a chain is known in each part, unless its arguments failed (M14)
+abbrev pub answer_faults : Place → Bool → Shape → List ShapeError
+answer_faults place is_failed s = if is_failed then [] else (if has_never s then ill_shaped place ∷ [] else open_faults place s)
+
+abbrev pub chained_faults : Place → Aimed → List ShapeError
+chained_faults place a = answer_faults place (any_failed a.faults) a.answer ++ a.faults
+
 abbrev pub also_righted : Place → Shape → Aimed → Righted → Righted
 also_righted place want a more = record {
   targets = a.target ∷ more.targets;
   parts = a.parts ++ more.parts;
-  faults = inner_faults place want a.answer ++ a.faults ++ more.faults;
+  faults = inner_faults place want a.answer ++ chained_faults place a ++ more.faults;
 }
 
 -- what stands on the right: the value, or further assignments
@@ -76,7 +90,7 @@ righted (f ∷ fs) value setting locals want =
 
 abbrev pub assigned_found : Place → Shape → Aimed → Righted → Found
 assigned_found place want a right =
-    behind (a.faults ++ right.faults) (settled place want a.answer (λ s. over place (K.Assign (a.target ∷ right.targets)) (a.parts ++ right.parts)))
+    behind (chained_faults place a ++ right.faults) (settled place want a.answer (λ s. over place (K.Assign (a.target ∷ right.targets)) (a.parts ++ right.parts)))
 
 abbrev pub assign_to : Place → Aimed → List FurtherPart → Part → Elaborate
 assign_to place a more value setting locals want = assigned_found place want a (righted more value setting locals a.shape)
@@ -96,10 +110,6 @@ pub record Binding : Type 0 where
   pub part : Core
   pub binds : List Local
   pub faults : List ShapeError
-
--- a hole that is left without a type (M14)
-abbrev pub hole_faults : Place → Bool → Shape → List ShapeError
-hole_faults place is_typed s = if is_typed then [] else (if leaves_open s then ill_shaped place ∷ [] else [])
 
 abbrev pub binding_of : Place → Bool → Place → Found → Looked → Binding
 binding_of place is_typed at_value a p = record {

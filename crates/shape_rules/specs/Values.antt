@@ -395,10 +395,11 @@ abbrev pub with_values : Place → Shape → ℕ → Found → List ℕ → Solv
 with_values place want i a places args =
     behind (a.faults ++ args.faults) (settled place want (V.Named i args.known) (λ s. over place (K.With i places) (a.core ∷ args.cores)))
 
--- a base that isn't a struct with these fields (M14)
+-- a base that isn't a struct with these fields (M14), unless it never ends: then what comes behind it isn't reached
 abbrev pub with_failed : Place → Place → List FieldPart → Found → Elaborate
 with_failed place at_base fs a setting locals want =
-    behind ((a.faults ++ base_faults at_base a.shape None) ++ (parts_found (values_of fs) setting locals []).faults) (unknown place)
+    behind ((a.faults ++ base_faults at_base a.shape None) ++ (parts_found (values_of fs) setting locals []).faults)
+    (settled place want V.Never (λ s. over place (K.With 0 []) (a.core ∷ (parts_found (values_of fs) setting locals []).cores)))
 
 abbrev pub with_named : Place → Place → List FieldPart → Found → ℕ → List Shape → Option Named → Elaborate
 with_named place at_base fs a i ss None setting locals want = with_failed place at_base fs a setting locals want

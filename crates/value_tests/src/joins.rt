@@ -1,6 +1,6 @@
 use sail_base::{Boxed, Items};
 use sail_types::{Shape, copy_shape, same_shape, same_shapes};
-use shape_joins::{has_hole, holes, join_shapes, learn_shapes, overlap, put_shape};
+use shape_joins::{holes, join_shapes, learn_shapes, overlap, put_shape};
 use std::alloc::{AllocError, Global};
 use std::test::Fail;
 
@@ -56,8 +56,6 @@ fn open_shapes_take_what_is_wanted(rt: HostRuntime) -> Result<(), Fail> {
             (found, wanted) => assert!(rt; found.is_none() && wanted.is_none()),
         }
     }
-    let open = list(alloc, Shape::Hole)?;
-    assert!(rt; has_hole(&open) && !has_hole(&Shape::Never));
     Ok(())
 }
 

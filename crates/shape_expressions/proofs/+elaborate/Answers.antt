@@ -8,7 +8,7 @@ use Rattle.shape_rules.proofs.Firsts.{first_failure_append}
 use Rattle.sail_syntax.specs.declared.expressions.Case.{Case, out-Case}
 use Rattle.sail_types.specs.declared.shapes.Shape.{Shape, out-Shape}
 use Rattle.shape_rules.specs.Statements.{Cases, cases_found, by_found, Blocked, blocked, also_stated, Stated, assign_found}
-use Rattle.shape_rules.specs.Statements.{assign_to, FurtherPart, Righted, righted, also_righted, inner_faults}
+use Rattle.shape_rules.specs.Statements.{assign_to, FurtherPart, Righted, righted, also_righted, inner_faults, chained_faults, any_failed, answer_faults}
 use Rattle.shape_walks.specs.Trees.{case_part, elaborates, suffix_part, index_part, statement_part, target_part, further_part}
 use Rattle.shape_forms.specs.Steps.{Cased, cased, case_faults}
 use Rattle.sail_syntax.specs.declared.patterns.Pat.{Pat}
@@ -58,6 +58,7 @@ use Rattle.sail_core.specs.declared.tree.Core.{Core}
 use Rattle.sail_syntax.specs.declared.expressions.LExp.{LExp}
 use Rattle.sail_syntax.specs.declared.name.Name.{Name}
 use Rattle.std.proofs.Common.{None}
+use Rattle.std.specs.Prelude.{is_some}
 use Rattle.std.specs.Option.{option_copied}
 use Rattle.shape_calls.specs.Apart.{note_of}
 use Rattle.shape_calls.proofs.Apart.{noted_apart}
@@ -554,8 +555,10 @@ targets::push_right-loop-further-preserved t c =
     c.in_ok-wanted.ensures.targets ∙ ap (λ (l : Locals). targets ++ (here.to.aim setting l).target ∷ []) same in
     let parted : c.push_further.new.parts ≡ parts ++ found.parts =
     c.in_ok-wanted.ensures.parts ∙ ap (λ (l : Locals). parts ++ (here.to.aim setting l).parts) same in
-    let noted : c.push_further.new.first.error ≡ first_failure old (inner ++ found.faults) =
-    c.in_ok-wanted.ensures.failures ∙ ap (λ (l : Locals). first_failure old (inner_faults here.place wanted (here.to.aim setting l).answer ++ (here.to.aim setting l).faults)) same in
+    let apart : List ShapeError = chained_faults here.place found in
+    let noted : c.push_further.new.first.error ≡ first_failure old (inner ++ apart) =
+    c.in_ok-wanted.ensures.failures ∙ ap (λ (l : Locals). first_failure old
+    (inner_faults here.place wanted (here.to.aim setting l).answer ++ chained_faults here.place (here.to.aim setting l))) same in
     record {
       locals = c.in_ok-wanted.ensures.locals ∙ same;
       targets = (λ j. targeted j ++ (righted left value setting names (next j)).targets) ∙ append_assoc targets (found.target ∷ []) more.targets
@@ -563,7 +566,7 @@ targets::push_right-loop-further-preserved t c =
       parts = (λ j. parted j ++ (righted left value setting names (next j)).parts) ∙ append_assoc parts found.parts more.parts
           ∙ ap (λ (x : Righted). parts ++ x.parts) (sym opened) ∙ c.loop-further.invariant.parts;
       failures = (λ j. first_failure (noted j) (righted left value setting names (next j)).faults)
-          ∙ sym (first_failure_append old (inner ++ found.faults) more.faults)
+          ∙ sym (first_failure_append old (inner ++ apart) more.faults)
           ∙ ap (λ (x : Righted). first_failure old x.faults) (sym opened) ∙ c.loop-further.invariant.failures;
     }
 
@@ -640,12 +643,29 @@ targets::push_further-returns-clause-failures t c =
     let inner : List ShapeError = inner_faults (further_part f).place want a.answer in
     let aimed : (target_part c.get.result.now).aim setting names ≡ a = further_to f setting names c.get.result.now c.get.ensures in
     let answer : c.in_ok-aim.aim.answer ≡ a.answer = ap (λ (x : Aim). x.answer) c.in_ok-aim.ensures.aim ∙ ap (λ (x : Aimed). x.answer) aimed in
-    let apart : c.aim.new.first.error ≡ first_failure None a.faults =
-    c.in_ok-aim.ensures.failures ∙ (λ j. first_failure (c.none-apart.ensures j) (aimed j).faults) in
+    let faults : List ShapeError = chained_faults (further_part f).place a in
+    let apart : c.aim_chained.new.first.error ≡ first_failure None faults =
+    c.in_ok-aim.ensures.failures ∙ (λ j. first_failure (c.none-apart.ensures j) (chained_faults (further_place f j) (aimed j))) in
     on_ok_of c.into_shape.result
     (c.in_ok-note_inner.ensures
     ∙ (λ j. note_of (first_failure old (inner_faults (further_place f j) want (answer j))) (apart j))
-    ∙ noted_apart (first_failure old inner) a.faults ∙ sym (first_failure_append old inner a.faults))
+    ∙ noted_apart (first_failure old inner) faults ∙ sym (first_failure_append old inner faults))
+
+pub targets::aim_chained-returns-clause-failures : goal.targets::aim_chained-returns-clause-failures
+targets::aim_chained-returns-clause-failures t c =
+    let setting = setting_of c.args.around.now in
+    let names = c.args.locals.now in
+    let old = c.args.first.now.error in
+    let a : Aimed = (target_part c.args.target.now).aim setting names in
+    let open_left : List ShapeError = answer_faults c.args.place (any_failed a.faults) a.answer in
+    let answer : c.in_ok-aim.aim.answer ≡ a.answer = ap (λ (x : Aim). x.answer) c.in_ok-aim.ensures.aim in
+    let apart : c.aim.new.first.error ≡ first_failure None a.faults =
+    c.in_ok-aim.ensures.failures ∙ ap (λ (kept : Option ShapeError). first_failure kept a.faults) c.none-apart.ensures in
+    let failed : c.is_some.result ≡ any_failed a.faults = c.is_some.ensures ∙ ap is_some apart in
+    let noted : c.note_answer.new.first.error ≡ first_failure old open_left =
+    c.note_answer.ensures ∙ (λ j. first_failure old (answer_faults c.args.place (failed j) (answer j))) in
+    c.note_apart.ensures ∙ (λ j. note_of (noted j) (apart j)) ∙ noted_apart (first_failure old open_left) a.faults
+    ∙ sym (first_failure_append old open_left a.faults)
 
 pub targets::aim_read-returns-clause-aim : goal.targets::aim_read-returns-clause-aim
 targets::aim_read-returns-clause-aim t c =

@@ -261,6 +261,9 @@ decreases-targets::push_right l = 32 * (max (most further_size l.more.now) (the_
 abbrev pub decreases-targets::push_further : goal.decreases-targets::push_further
 decreases-targets::push_further l = 32 * goal.size-targets::push_further l + 2
 
+abbrev pub decreases-targets::aim_chained : goal.decreases-targets::aim_chained
+decreases-targets::aim_chained l = 32 * goal.size-targets::aim_chained l + 1
+
 abbrev pub decreases-targets::push_target : goal.decreases-targets::push_target
 decreases-targets::push_target l = 32 * goal.size-targets::push_target l + 1
 

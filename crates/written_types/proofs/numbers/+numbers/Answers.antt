@@ -27,7 +27,8 @@ push_numbers-returns-in_ok-typ-in-Named t c =
     let inside = exponents_in (pieces_numbers (map piece ts) w) in
     let all : numbers_in w c.args.text.now ≡ inside ++ sizes_if name.place c.in_ok-typ-in-Named.typ =
     ap (numbers_in w) c.in-Named.is ∙ named_numbers name ts w
-    ∙ ap (λ b. cond b (inside ++ sizes_if name.place (typ_in w (V.Named name ts))) (own_size name.text w (map piece ts) ++ pieces_numbers (map piece ts) w)) alias
+    ∙ ap (λ b. cond b (inside ++ sizes_if name.place (typ_in w (V.Named name ts)))
+    (own_size name.text w (map piece ts) ++ pieces_numbers (map piece ts) w)) alias
     ∙ ap (λ (x : TyExp). inside ++ sizes_if name.place (typ_in w x)) (sym c.in-Named.is)
     ∙ ap (λ found. inside ++ sizes_if name.place found) (sym c.in_ok-typ-in-Named.ensures) in
     let first : c.push_exponents_in.new.numbers ≡ old ++ inside =

@@ -1,0 +1,7 @@
+pub mod Bodies
+pub mod Sides
+pub mod Calls
+pub mod Numbers
+pub mod Standing
+pub mod Directions
+pub mod Callees
