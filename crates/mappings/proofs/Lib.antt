@@ -1,0 +1,9 @@
+pub mod Options
+pub mod FreeArms
+pub mod FreeNodes
+pub mod FreeCalls
+pub mod FreeModels
+pub mod MapFree
+pub mod Sizes
+pub mod Numbered
+pub mod Forms

@@ -1,0 +1,4 @@
+pub mod Rewriting
+pub mod Laws
+pub mod Sizes
+pub mod Pushed
