@@ -1,0 +1,24 @@
+//! What is wanted of the arguments of a call, what a callee's variables stand for, and what the arguments owe.
+//!
+//! `specs/Aims` has how a wanted type goes into an expression, `specs/Callees` what a callee's variables stand for, `specs/Placing` what
+//! arguments owe.
+#![tactic(auto)]
+
+mod aims;
+mod arguments;
+mod callees;
+mod closed;
+mod counts;
+mod places;
+mod through;
+mod typed;
+
+pub use aims::Aim;
+pub use arguments::call_conditions;
+pub use callees::{
+    argument_aim, indices_from, numbers_from, part_aim, payload_types, types_or, was_due,
+};
+pub use closed::{is_closed, is_numberless};
+pub use counts::least_of_three;
+pub use through::{Seen, item_type, part_types, see, type_arguments, under};
+pub use typed::types_from;

@@ -1,0 +1,6 @@
+pub mod Firsts
+pub mod Freshes
+pub mod Integers
+pub mod KnownCalls
+pub mod Owed
+pub mod Turns

@@ -1,0 +1,4 @@
+pub mod Rests
+pub mod Walked
+pub mod Opened
+pub mod Unwritten

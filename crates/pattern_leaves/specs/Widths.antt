@@ -1,0 +1,68 @@
+-- Widths of the parts of a concatenation `p @ q` (Sail language manual, "Pattern matching").
+use Rattle.std.specs.Prelude.{Bool, true, false, List, [], ◌∷◌, map, Option, Some, None, option_map}
+use Rattle.sail_base.specs.declared.place.Place.{Place}
+use Rattle.sail_types.specs.Sums.{and_then, read, sum, zero_num}
+use Rattle.sail_types.specs.declared.numbers.Num.{Num}
+use Rattle.value_indices.specs.declared.indices.Indices.{Indices}
+use Rattle.value_indices.specs.declared.indices.Indices.TheVariants as I
+use Rattle.value_indices.specs.declared.notes.Fact.{Fact}
+use Rattle.value_indices.specs.Steps.{Walk, Conditions, bind, give, owe_under}
+use Rattle.value_indices.specs.Opening.{at_most, equal, number_or_fresh}
+use Rattle.pattern_leaves.specs.Settings.{Around}
+
+-- what is known of widths: nothing where none is written, and a number where one can be said
+abbrev pub known_widths : Around → List (Option Num) → List (Option (Option Num))
+known_widths around ws = map (option_map (read around.numbers)) ws
+
+-- the sum of those that are known, from the left
+abbrev pub sum_of : Option Num → Option Num → Option Num
+sum_of total w = and_then total (λ t. and_then w (sum t))
+
+-- from this one on
+abbrev pub sum_from : Option Num → List (Option (Option Num)) → Option Num
+sum_from total [] = total
+sum_from total (None ∷ ws) = sum_from total ws
+sum_from total (Some w ∷ ws) = sum_from (sum_of total w) ws
+
+-- from the first that is known; nothing comes to 0
+abbrev pub first_sum : List (Option (Option Num)) → Option Num
+first_sum [] = Some zero_num
+first_sum (None ∷ ws) = first_sum ws
+first_sum (Some w ∷ ws) = sum_from w ws
+
+-- whether no part is left to have the rest
+abbrev pub all_known : List (Option (Option Num)) → Bool
+all_known [] = true
+all_known (None ∷ ws) = false
+all_known (Some w ∷ ws) = all_known ws
+
+-- the parts make up the value, or leave some of it to one that isn't known
+abbrev pub cut_condition : Num → Option Num → Bool → Conditions
+cut_condition w total true = option_map (λ s. equal s w) total ∷ []
+cut_condition w total false = option_map (λ s. at_most s w) total ∷ []
+
+-- bits of a width; a variable stands for one that can't be said
+abbrev pub bits_part : Option Num → Walk Indices
+bits_part w = bind (number_or_fresh w) (λ n. give (I.Bits n))
+
+-- a part that isn't known has the rest
+abbrev pub cut_width : Option Num → Option (Option Num) → Walk Indices
+cut_width rest None = bits_part rest
+cut_width rest (Some w) = bits_part w
+
+-- under what was in force before the parts
+abbrev pub cut_owed : Place → List (Option (Option Num)) → Num → List Fact → Walk (Unit {0})
+cut_owed place ws w earlier = owe_under earlier place (cut_condition w (first_sum ws) (all_known ws))
+
+-- ---- sums from the left
+
+-- the sum of those before, if one is known, with one width more
+abbrev pub with_width : Option (Option Num) → Option (Option Num) → Option (Option Num)
+with_width total None = total
+with_width None (Some w) = Some w
+with_width (Some total) (Some w) = Some (sum_of total w)
+
+-- with those that are behind
+abbrev pub summed : Option (Option Num) → List (Option (Option Num)) → Option Num
+summed None ws = first_sum ws
+summed (Some total) ws = sum_from total ws

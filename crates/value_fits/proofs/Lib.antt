@@ -1,0 +1,4 @@
+pub mod Depths
+pub mod EachPair
+pub mod Ends
+pub mod Owed

@@ -1,0 +1,7 @@
+use Rattle.std.proofs.Common.{◌≡◌, OnOk, subst, sym}
+use Rattle.value_indices.specs.Walking.{seen}
+use Rattle.value_indices.proofs.Methods.{sizes_read}
+use Rattle.value_indices.proofs.walking.Walking.note_sizes.Goals as goal
+
+pub returns : goal.returns
+returns c = subst (λ w. OnOk c.write.result (seen c.write.new.self ≡ w)) (sym (sizes_read c.args.place c.args.made (seen c.args.self.now))) c.write.ensures

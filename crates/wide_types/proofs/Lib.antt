@@ -1,0 +1,4 @@
+pub mod Agreed
+pub mod ShapeForms
+pub mod Turns
+pub mod ValueForms
