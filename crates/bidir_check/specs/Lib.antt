@@ -1,0 +1,4 @@
+pub mod Certification
+pub mod Checking
+pub mod Printed
+pub mod laws
