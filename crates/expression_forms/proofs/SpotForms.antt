@@ -1,0 +1,76 @@
+-- What is assigned to, form by form, and one after the other.
+use Rattle.std.proofs.Common.{◌≡◌, ◌∙◌, ◌<◌, ◌≤◌, ◌+◌, ap, sym, refl, arith, Bool, ℕ, List, [], ◌∷◌, map, length, drop, get_or, Option}
+use Rattle.std.specs.Prelude.{IfOk, Result, Ok, Err}
+use Rattle.sail_base.specs.declared.place.Place.{Place}
+use Rattle.sail_core.specs.declared.targets.Caller.{Caller}
+use Rattle.value_indices.specs.Steps.{give}
+use Rattle.value_indices.specs.declared.indices.Indices.{Indices, out-Indices, roll-Indices}
+use Rattle.value_indices.specs.declared.indices.Indices.TheOpen as W
+use Rattle.value_indices.specs.declared.indices.Indices.TheOpen.{Indices-F}
+use Rattle.value_indices.specs.declared.indices.Indices.TheVariants as I
+use Rattle.value_indices.specs.declared.indices.Indices.TheViews.{roll-out-Indices}
+use Rattle.value_indices.specs.declared.indices.Reading.{Reading}
+use Rattle.pattern_leaves.specs.Settings.{Around}
+use Rattle.pattern_leaves.proofs.Walked.{consed}
+use Rattle.expression_forms.specs.Spots.{Spot, Wrote, call_spot, each_read, each_written, named_spot, spot_form, spot_of, tuple_spot}
+use Rattle.expression_forms.specs.Spots.{tuple_write, wrong_spot, wrong_write, wrote_of}
+use Rattle.expression_forms.specs.declared.pending.Wrote as written
+use Rattle.expression_forms.specs.declared.spots.Spot as code
+use Rattle.expression_forms.specs.declared.spots.Spot.TheOpen as S
+use Rattle.expression_forms.specs.declared.spots.Spot.TheVariants as V
+use Rattle.expression_forms.proofs.Rests.{all_behind, rest_is}
+
+pub wrong_is : (around : Around) (s : code.Spot) (place : Place) → s ≡ V.Wrong place → spot_of around s ≡ wrong_spot place
+wrong_is around s place is = ap (spot_of around) (is ∙ sym (V.rolls-Wrong place)) ∙ code.fold-roll-Spot Spot (spot_form around) (S.Wrong place)
+
+pub named_is : (around : Around) (s : code.Spot) (place : Place) (name : List ℕ) (r : Reading) → s ≡ V.Named place name r
+    → spot_of around s ≡ named_spot around place name r
+named_is around s place name r is =
+    ap (spot_of around) (is ∙ sym (V.rolls-Named place name r)) ∙ code.fold-roll-Spot Spot (spot_form around) (S.Named place name r)
+
+pub call_is : (around : Around) (s : code.Spot) (place : Place) (reader : Option Caller) (writer : Caller) (bs cs : List Bool) (is js : List Indices)
+    → s ≡ V.Call place reader writer bs is → cs ≡ bs → js ≡ is → spot_of around s ≡ call_spot around place reader writer cs js
+call_is around s place reader writer bs cs is js at same like =
+    ap (spot_of around) (at ∙ sym (V.rolls-Call place reader writer bs is))
+    ∙ code.fold-roll-Spot Spot (spot_form around) (S.Call place reader writer bs is)
+    ∙ (λ j. call_spot around place reader writer (sym same j) (sym like j))
+
+pub tuple_is : (around : Around) (s : code.Spot) (place : Place) (ss ts : List code.Spot) → s ≡ V.Tuple place ss → ts ≡ ss
+    → spot_of around s ≡ tuple_spot place (map (spot_of around) ts)
+tuple_is around s place ss ts is same =
+    ap (spot_of around) (is ∙ sym (V.rolls-Tuple place ss)) ∙ code.fold-roll-Spot Spot (spot_form around) (S.Tuple place ss)
+    ∙ (λ j. tuple_spot place (map (spot_of around) (sym same j)))
+
+-- ---- several, read in order
+
+pub read_more : (around : Around) (ss : List code.Spot) (k : ℕ) (s : code.Spot) → k < length ss → s ≡ get_or ss k s
+    → each_read (map (spot_of around) (drop k ss)) ≡ consed ((spot_of around s).read) (each_read (map (spot_of around) (drop (k + 1) ss)))
+read_more around ss k s within is = (λ j. each_read (map (spot_of around) (rest_is ss k s within is j)))
+
+pub read_end : (around : Around) (ss : List code.Spot) (k : ℕ) → length ss ≤ k → each_read (map (spot_of around) (drop k ss)) ≡ give []
+read_end around ss k past = (λ j. each_read (map (spot_of around) (all_behind ss k past j)))
+
+-- ---- what isn't written
+
+-- values where no target is left
+pub none_written : (place : Place) (b : Bool) (is : List Indices) → 1 ≤ length is → each_written place [] b is ≡ wrong_write place
+none_written place b [] some = absurd (omega arith)
+none_written place b (i ∷ is) some = refl
+
+other_form : (place : Place) (ss : List Spot) (b : Bool) (i : Indices) (f : Indices-F Indices Reading) → i ≡ roll-Indices f
+    → ((is : List Indices) → i ≡ I.Tuple is → ⊥) → (i ≡ I.Never → ⊥) → tuple_write place ss b f ≡ wrong_write place
+other_form place ss b i (W.Tuple is) at some never = absurd (some is (at ∙ I.rolls-Tuple is))
+other_form place ss b i W.Never at some never = absurd (never (at ∙ I.rolls-Never))
+other_form place ss b i f at some never = refl
+
+-- a value that is no tuple
+pub no_tuple : (place : Place) (ss : List Spot) (b : Bool) (i : Indices) → ((is : List Indices) → i ≡ I.Tuple is → ⊥) → (i ≡ I.Never → ⊥)
+    → tuple_write place ss b (out-Indices i) ≡ wrong_write place
+no_tuple place ss b i some never = other_form place ss b i (out-Indices i) (sym (roll-out-Indices i)) some never
+
+-- ---- what a call gives, where it gives the same wherever it stands
+
+pub wrote_in : {E : Type 0} (r : Result written.Wrote E) (around : Around) (x : Around → Wrote) (y : Wrote)
+    → IfOk r (λ made. (a : Around) → wrote_of a made ≡ x a) → x around ≡ y → IfOk r (λ made. wrote_of around made ≡ y)
+wrote_in (Ok made) around x y h is = h around ∙ is
+wrote_in (Err e) around x y h is = tt

@@ -1,0 +1,52 @@
+-- Literals, and names that are read (Sail language manual, "Literals", "Variables and assignment", "Registers").
+use Rattle.std.specs.Prelude.{List, None, Option, Some, length, pos, ℕ, []}
+use Rattle.sail_base.specs.declared.place.Place.{Place}
+use Rattle.sail_types.specs.Sums.{constant}
+use Rattle.sail_types.specs.declared.numbers.Con.TheVariants as C
+use Rattle.model_state.specs.declared.state.Register.{Register}
+use Rattle.sail_core.specs.declared.patterns.Literal.{Literal}
+use Rattle.sail_core.specs.declared.patterns.Literal.TheVariants as L
+use Rattle.value_indices.specs.Opening.{opened_for}
+use Rattle.value_indices.specs.Steps.{Walk, bind, give}
+use Rattle.value_indices.specs.declared.indices.Indices.{Indices}
+use Rattle.value_indices.specs.declared.indices.Indices.TheVariants as I
+use Rattle.value_indices.specs.declared.indices.Naming.TheVariants as M
+use Rattle.value_indices.specs.declared.indices.Reading.{Reading}
+use Rattle.value_indices.specs.declared.indices.Reading.TheVariants as R
+use Rattle.pattern_leaves.specs.declared.names.Held.{Held}
+use Rattle.pattern_leaves.specs.declared.names.Held.TheVariants as H
+use Rattle.pattern_leaves.specs.declared.names.TopLevel.{TopLevel}
+use Rattle.pattern_leaves.specs.declared.names.TopLevel.TheVariants as T
+use Rattle.call_notes.specs.Ends.{sized_by, wrong_value}
+
+abbrev pub literal_indices : Literal → Indices
+literal_indices L.Unit = I.Unit
+literal_indices (L.Integer z) = I.Integer (constant z)
+literal_indices (L.Truth b) = I.Truth (C.Truth b)
+literal_indices (L.Bit b) = I.Bit
+literal_indices (L.Bits bits) = I.Bits (constant (pos (length bits)))
+literal_indices (L.String text) = I.String
+literal_indices (L.Member e k) = I.Named e [] []
+
+-- a value of this type, opened for this name; its sizes are read before
+abbrev pub named_opened : Place → List ℕ → Reading → Walk Indices
+named_opened place name r = bind (sized_by place r) (λ t. opened_for (M.Named name) r)
+
+-- a name in scope
+abbrev pub held_walk : Place → List ℕ → Option Held → Walk Indices
+held_walk place name None = wrong_value place
+held_walk place name (Some (H.Value i)) = give i
+held_walk place name (Some (H.Var r)) = named_opened place name r
+
+-- a name that a top-level `let` bound
+abbrev pub top_level_walk : Place → Option TopLevel → Walk Indices
+top_level_walk place None = wrong_value place
+top_level_walk place (Some (T.Known i)) = give i
+top_level_walk place (Some (T.Read name r)) = opened_for (M.Named name) r
+
+abbrev pub register_type : Register → Reading
+register_type r = R.Of r.typ [] []
+
+abbrev pub register_walk : Place → Option Register → Walk Indices
+register_walk place None = wrong_value place
+register_walk place (Some r) = named_opened place r.name (register_type r)

@@ -1,0 +1,195 @@
+-- What is assigned to, once the indexes in it have been walked (Sail language manual, "Variables and assignment").
+use Rattle.std.specs.Prelude.{Bool, List, None, Option, Some, false, if◌then◌else◌, map, true, ℕ, [], ◌++◌, ◌∷◌}
+use Rattle.sail_base.specs.declared.place.Place.{Place}
+use Rattle.sail_types.specs.declared.types.Typ.{Typ}
+use Rattle.model_state.specs.declared.state.Register.{Register}
+use Rattle.sail_core.specs.declared.targets.Caller.{Caller}
+use Rattle.sail_core.specs.declared.targets.Way.{Way}
+use Rattle.sail_core.specs.declared.targets.Way.TheVariants as Y
+use Rattle.value_indices.specs.Steps.{Walk, bind, give}
+use Rattle.value_indices.specs.declared.indices.Indices.{Indices, out-Indices}
+use Rattle.value_indices.specs.declared.indices.Indices.TheOpen as W
+use Rattle.value_indices.specs.declared.indices.Indices.TheOpen.{Indices-F}
+use Rattle.value_indices.specs.declared.indices.Indices.TheVariants as I
+use Rattle.value_indices.specs.declared.indices.Reading.{Reading}
+use Rattle.value_indices.specs.declared.indices.Reading.TheVariants as R
+use Rattle.value_fits.specs.Fitting.{also, owe_fit, says}
+use Rattle.value_fits.specs.declared.fitted.Fitted.{Fitted}
+use Rattle.pattern_leaves.specs.Settings.{Around}
+use Rattle.pattern_leaves.specs.declared.names.Held.{Held}
+use Rattle.pattern_leaves.specs.declared.names.Held.TheVariants as H
+use Rattle.call_notes.specs.Ends.{fits_unless, wrong_value}
+use Rattle.call_arguments.specs.Callees.{is_closed}
+use Rattle.call_notes.specs.Calls.{called, callee_types}
+use Rattle.expression_forms.specs.Names.{named_opened, register_type}
+use Rattle.expression_forms.specs.Ways.{owe_part, part_fits, part_read}
+use Rattle.expression_forms.specs.declared.pending.Left as pending
+use Rattle.expression_forms.specs.declared.pending.Left.TheOpen as L
+use Rattle.expression_forms.specs.declared.pending.Wrote as written
+use Rattle.expression_forms.specs.declared.spots.Spot as code
+use Rattle.expression_forms.specs.declared.spots.Spot.TheOpen as S
+use Rattle.expression_forms.specs.declared.ways.Reached.{Reached}
+
+-- what a new value still owes, at the assignment's place; and what the assignment gives: what a writer gives, and else `()`
+pub record Wrote : Type 0 where
+  pub left : ℕ → Fitted
+  pub answer : Indices
+
+abbrev pub wrote : (ℕ → Fitted) → Indices → Wrote
+wrote left answer = record { left = left; answer = answer }
+
+-- the type of what is assigned; how it is read as the base of a part; what a new value owes, and what one of which a part is replaced does
+pub record Spot : Type 0 where
+  pub typ : Reading
+  pub read : Walk Indices
+  pub write : Bool → Indices → Walk Wrote
+  pub renew : Indices → Walk Indices
+
+-- nothing is left to owe
+abbrev pub gives : Indices → Walk Wrote
+gives i = give (wrote (says []) i)
+
+abbrev pub wrong_write : Place → Walk Wrote
+wrong_write place = bind (wrong_value place) gives
+
+-- ---- names: the assignment owes
+
+abbrev pub named_spot : Around → Place → List ℕ → Reading → Spot
+named_spot around place name r = record {
+  typ = r;
+  read = named_opened place name r;
+  write = λ is_nested i. give (wrote (fits_unless is_nested around i r) I.Unit);
+  renew = λ i. give I.Unit;
+}
+
+abbrev pub wrong_spot : Place → Spot
+wrong_spot place = record {
+  typ = R.Hole;
+  read = wrong_value place;
+  write = λ is_nested i. wrong_write place;
+  renew = λ i. wrong_value place;
+}
+
+abbrev pub held_spot : Around → Place → List ℕ → Option Held → Spot
+held_spot around place name (Some (H.Var r)) = named_spot around place name r
+held_spot around place name held = wrong_spot place
+
+abbrev pub register_spot : Around → Place → Option Register → Spot
+register_spot around place None = wrong_spot place
+register_spot around place (Some r) = named_spot around place r.name (register_type r)
+
+-- ---- parts: by an index one owes as reading and then the new value, at its bracket; by a field, the assignment does
+
+abbrev pub owes_itself : Way → Bool
+owes_itself (Y.Field u k) = false
+owes_itself way = true
+
+abbrev pub part_left : Around → Reached → Bool → Indices → Indices → Walk Wrote
+part_left around x is_nested i answer = give (wrote (part_fits around x is_nested i) answer)
+
+abbrev pub part_write : Around → Place → Bool → Reached → Walk Indices → Bool → Indices → Walk Wrote
+part_write around place false x again is_nested i = bind again (part_left around x is_nested i)
+part_write around place true x again is_nested i = bind (owe_part around place x is_nested i) (λ t. bind again gives)
+
+-- behind it the base is written again, of which a part is replaced
+abbrev pub reached_spot : Around → Place → Way → Walk Indices → Reached → Spot
+reached_spot around place way again x = record {
+  typ = x.typ;
+  read = part_read place x;
+  write = part_write around place (owes_itself way) x again;
+  renew = λ j. again;
+}
+
+abbrev pub part_spot : Around → Place → Way → Walk Indices → Option Reached → Spot
+part_spot around place way again None = wrong_spot place
+part_spot around place way again (Some x) = reached_spot around place way again x
+
+-- ---- calls: `f(a) = e` is `f(a, e)`
+
+abbrev pub closed_type : Typ → Reading
+closed_type t = if is_closed t then R.Of t [] [] else R.Hole
+
+abbrev pub last_type : List Typ → Reading
+last_type [] = R.Hole
+last_type (t ∷ []) = closed_type t
+last_type (t ∷ u ∷ ts) = last_type (u ∷ ts)
+
+abbrev pub asked : Around → Place → Option Caller → List Bool → List Indices → Walk Indices
+asked around place None bs is = wrong_value place
+asked around place (Some c) bs is = called around place c.number c.callee bs is
+
+-- with the new value behind the arguments
+abbrev pub asked_with : Around → Place → Caller → List Bool → List Indices → Bool → Indices → Walk Indices
+asked_with around place writer bs is b i = asked around place (Some writer) (bs ++ b ∷ []) (is ++ i ∷ [])
+
+abbrev pub call_spot : Around → Place → Option Caller → Caller → List Bool → List Indices → Spot
+call_spot around place reader writer bs is = record {
+  typ = last_type (callee_types around writer.callee);
+  read = asked around place reader bs is;
+  write = λ is_nested i. bind (asked_with around place writer bs is is_nested i) gives;
+  renew = λ i. asked_with around place writer bs is false i;
+}
+
+-- ---- tuples
+
+abbrev pub each_read : List Spot → Walk (List Indices)
+each_read [] = give []
+each_read (s ∷ ss) = bind s.read (λ i. bind (each_read ss) (λ is. give (i ∷ is)))
+
+-- a tuple of targets gives `()`
+abbrev pub both_left : (ℕ → Fitted) → (ℕ → Fitted) → ℕ → Fitted
+both_left f g n = also (f n) g
+
+abbrev pub both_wrote : Wrote → Wrote → Wrote
+both_wrote a b = wrote (both_left a.left b.left) I.Unit
+
+abbrev pub each_written : Place → List Spot → Bool → List Indices → Walk Wrote
+each_written place [] is_nested [] = gives I.Unit
+each_written place (s ∷ ss) is_nested (i ∷ is) =
+    bind (s.write is_nested i) (λ a. bind (each_written place ss is_nested is) (λ b. give (both_wrote a b)))
+each_written place ss is_nested is = wrong_write place
+
+abbrev pub tuple_write : Place → List Spot → Bool → Indices-F Indices Reading → Walk Wrote
+tuple_write place ss is_nested (W.Tuple is) = each_written place ss is_nested is
+tuple_write place ss is_nested W.Never = gives I.Unit
+tuple_write place ss is_nested form = wrong_write place
+
+abbrev pub tuple_spot : Place → List Spot → Spot
+tuple_spot place ss = record {
+  typ = R.Parts (map (λ s. s.typ) ss);
+  read = bind (each_read ss) (λ is. give (I.Tuple is));
+  write = λ is_nested i. tuple_write place ss is_nested (out-Indices i);
+  renew = λ i. wrong_value place;
+}
+
+-- ---- a new value, written
+
+abbrev pub owed_answer : Place → Wrote → Walk Indices
+owed_answer place w = bind (owe_fit place w.left) (λ t. give w.answer)
+
+abbrev pub written_by : Place → Spot → Bool → Indices → Walk Indices
+written_by place s is_nested i = bind (s.write is_nested i) (owed_answer place)
+
+-- ---- as the code holds them
+
+abbrev pub spot_form : Around → code.Spot-F Spot → Spot
+spot_form around (S.Wrong place) = wrong_spot place
+spot_form around (S.Named place name r) = named_spot around place name r
+spot_form around (S.Part place way base held x) = reached_spot around place way (base.renew held) x
+spot_form around (S.Call place reader writer bs is) = call_spot around place reader writer bs is
+spot_form around (S.Tuple place ss) = tuple_spot place ss
+
+abbrev pub spot_of : Around → code.Spot → Spot
+spot_of around = code.fold-Spot Spot (spot_form around)
+
+abbrev pub left_form : Around → pending.Left-F (ℕ → Fitted) → ℕ → Fitted
+left_form around L.Nothing = says []
+left_form around (L.Value is_nested i r) = fits_unless is_nested around i r
+left_form around (L.Part x is_nested i) = part_fits around x is_nested i
+left_form around (L.Both f g) = both_left f g
+
+abbrev pub left_of : Around → pending.Left → ℕ → Fitted
+left_of around = pending.fold-Left (ℕ → Fitted) (left_form around)
+
+abbrev pub wrote_of : Around → written.Wrote → Wrote
+wrote_of around w = wrote (left_of around w.left) w.answer

@@ -1,0 +1,29 @@
+//! What forms of expressions owe and make known, but for the walk over their parts.
+//!
+//! `specs/Names` has literals and names that are read, `specs/Sizes` `sizeof` and `constraint`, `specs/Truths` conditions, `specs/Ways` ways
+//! into values, `specs/Meeting` where branches meet, `specs/Spots` what is assigned to, `specs/Scopes` the names in scope,
+//! `specs/Nodes` the end of a node.
+#![tactic(auto)]
+
+mod meeting;
+mod names;
+mod nodes;
+mod pending;
+mod scopes;
+mod sizes;
+mod spots;
+mod truths;
+mod ways;
+
+pub use meeting::{first_way, like_first, met_ways, thrown};
+pub use names::{literal_indices, read_held, read_register, read_top_level};
+pub use nodes::made_at;
+pub use pending::{Left, Wrote};
+pub use scopes::{Scope, look_up};
+pub use sizes::{constraint, size};
+pub use spots::Spot;
+pub use truths::{and_right, claim_of, negated, or_right, truth_of};
+pub use ways::{
+    Ends, Reached, fields_of, if_never_value, into_field, into_item, into_slice, owe_part,
+    read_into, with_width,
+};

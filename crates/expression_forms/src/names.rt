@@ -1,0 +1,128 @@
+//! Literals, and names that are read.
+ghost use Rattle.std.specs.Prelude.{◌≡◌, IfOk, OnOk};
+ghost use Rattle.std.specs.Option.{option_copied};
+ghost use Rattle.value_indices.specs.Walking as walk;
+ghost use Rattle.value_indices.specs.declared.indices.Naming.TheVariants as M;
+ghost use Rattle.expression_forms.specs.Names as names;
+
+use call_notes::{note_type, under, wrong_value};
+use model_state::Register;
+use pattern_leaves::{Held, TopLevel};
+use sail_base::{Items, Place, Text};
+use sail_core::Literal;
+use sail_types::{Con, Num};
+use std::alloc::{AllocError, Global};
+use value_indices::{Indices, Naming, Reading, Walking, copy_indices, opened_for};
+
+/// What is known of the value of a literal. It takes no memory.
+pub fn literal_indices(alloc: Global, literal: &Literal) -> Indices
+    ensures { result ≡ names.literal_indices literal.now }
+{
+    match literal {
+        Literal::Unit => Indices::Unit,
+        Literal::Integer(z) => Indices::Integer(Num::constant(alloc, *z)),
+        Literal::Truth(b) => Indices::Truth(Con::Truth(*b)),
+        Literal::Bit(_) => Indices::Bit,
+        Literal::Bits(bits) => Indices::Bits(Num::constant(alloc, bits.width() as i128)),
+        Literal::String(_) => Indices::String,
+        Literal::Member(place, _) => {
+            Indices::Named(*place, Items::new(alloc), Items::new(alloc))
+        }
+    }
+}
+
+/// The identifier for which a value is opened. It fails where memory is wanting.
+fn named(name: &Text) -> Result<Naming, AllocError>
+    ensures { IfOk result (λ made. made ≡ M.Named name.now) }
+{
+    Ok(Naming::Named(name.clone()?))
+}
+
+/// A value of a type, opened for a name; its sizes are noted before. It fails where memory is wanting, and where variables are too many.
+#[tactic(auto, using(value_indices::proofs::Walks::walks))]
+pub(crate) fn named_opened(
+    alloc: Global,
+    walking: &mut Walking,
+    place: Place,
+    name: &Text,
+    reading: &Reading,
+) -> Result<Indices, AllocError>
+    ensures value { IfOk result (λ made. made ≡ walk.got (names.named_opened place name.now reading.now) (walk.seen walking.old)) }
+    ensures walked { OnOk result (walk.seen walking.new ≡ walk.run (names.named_opened place name.now reading.now) (walk.seen walking.old)) }
+{
+    note_type(alloc, walking, place, reading)?;
+    let naming = named(name)?;
+    opened_for(alloc, walking, &naming, reading)
+}
+
+/// A name in scope, by what it is. It fails where memory is wanting, and where variables are too many.
+#[tactic(auto, using(value_indices::proofs::Walks::walks))]
+pub fn read_held(
+    alloc: Global,
+    walking: &mut Walking,
+    place: Place,
+    name: &Text,
+    held: Option<&Held>,
+) -> Result<Indices, AllocError>
+    ensures value { IfOk result (λ made. made
+        ≡ walk.got (names.held_walk place name.now (option_copied held.entry)) (walk.seen walking.old)) }
+    ensures walked { OnOk result (walk.seen walking.new
+        ≡ walk.run (names.held_walk place name.now (option_copied held.entry)) (walk.seen walking.old)) }
+{
+    match held {
+        None => wrong_value(alloc, walking, place),
+        Some(Held::Value(value)) => copy_indices(alloc, value),
+        Some(Held::Var(reading)) => named_opened(alloc, walking, place, name, reading),
+    }
+}
+
+/// A name that a top-level `let` bound. It fails where memory is wanting, and where variables are too many.
+#[tactic(auto, using(value_indices::proofs::Walks::walks))]
+pub fn read_top_level(
+    alloc: Global,
+    walking: &mut Walking,
+    place: Place,
+    bound: Option<&TopLevel>,
+) -> Result<Indices, AllocError>
+    ensures value { IfOk result (λ made. made
+        ≡ walk.got (names.top_level_walk place (option_copied bound.entry)) (walk.seen walking.old)) }
+    ensures walked { OnOk result (walk.seen walking.new
+        ≡ walk.run (names.top_level_walk place (option_copied bound.entry)) (walk.seen walking.old)) }
+{
+    match bound {
+        None => wrong_value(alloc, walking, place),
+        Some(TopLevel::Known(value)) => copy_indices(alloc, value),
+        Some(TopLevel::Read(name, reading)) => {
+            let naming = named(name)?;
+            opened_for(alloc, walking, &naming, reading)
+        }
+    }
+}
+
+/// The type of a register. It fails where memory is wanting.
+pub(crate) fn register_type(alloc: Global, register: &Register) -> Result<Reading, AllocError>
+    ensures { IfOk result (λ made. made ≡ names.register_type register.now) }
+{
+    under(alloc, &register.typ, &[], &[])
+}
+
+/// A register. It fails where memory is wanting, and where variables are too many.
+pub fn read_register(
+    alloc: Global,
+    walking: &mut Walking,
+    place: Place,
+    register: Option<&Register>,
+) -> Result<Indices, AllocError>
+    ensures value { IfOk result (λ made. made
+        ≡ walk.got (names.register_walk place (option_copied register.entry)) (walk.seen walking.old)) }
+    ensures walked { OnOk result (walk.seen walking.new
+        ≡ walk.run (names.register_walk place (option_copied register.entry)) (walk.seen walking.old)) }
+{
+    match register {
+        None => wrong_value(alloc, walking, place),
+        Some(register) => {
+            let reading = register_type(alloc, register)?;
+            named_opened(alloc, walking, place, &register.name, &reading)
+        }
+    }
+}

@@ -1,0 +1,576 @@
+//! What is assigned to, once the indexes in it have been walked.
+ghost use Rattle.std.specs.Prelude.{◌≡◌, Some, [], ◌∷◌, ◌++◌, map, IfOk, OnOk};
+ghost use Rattle.std.specs.Option.{option_copied};
+ghost use Rattle.value_indices.specs.Walking as walk;
+ghost use Rattle.value_indices.specs.declared.indices.Indices.{out-Indices};
+ghost use Rattle.pattern_leaves.specs.Settings as settings;
+ghost use Rattle.pattern_leaves.specs.Settings.{around_of};
+ghost use Rattle.expression_forms.specs.Spots as spec;
+
+use crate::names::{named_opened, register_type};
+use crate::pending::Wrote;
+use crate::ways::{Reached, owe_part};
+use call_notes::{called, callee_types, is_closed, under, wrong_value};
+use model_state::Register;
+use pattern_leaves::{Around, Held};
+use sail_base::{Boxed, Items, Place, Text};
+use sail_core::{Caller, Way};
+use sail_types::Typ;
+use std::alloc::{AllocError, Global};
+use value_indices::{Indices, Reading, Walking, copy_each, copy_indices, copy_reading};
+
+/// What is assigned to, once the indexes in it have been walked.
+pub enum Spot {
+    /// Nothing that can be assigned to, at this place.
+    Wrong(Place),
+    /// A `var` or a register at a place: its name, and its type.
+    Named(Place, Text, Reading),
+    /// A part at a place: the last way into it, the spot of which it is a part, the value there, and the part.
+    Part(Place, Way, Boxed<Spot>, Indices, Reached),
+    /// A call at a place: what reads it, what writes it, and the arguments, each with whether it owes what is wanted of it further in.
+    Call(Place, Option<Caller>, Caller, Items<bool>, Items<Indices>),
+    /// A tuple at a place.
+    Tuple(Place, Items<Spot>),
+}
+
+impl Drop for Spot {
+    #[cycle(spot_drop)]
+    fn drop(self) {
+        match self {
+            Spot::Wrong(_) => {}
+            Spot::Named(_, _, _) => {}
+            Spot::Part(_, _, _, _, _) => {}
+            Spot::Call(_, _, _, _, _) => {}
+            Spot::Tuple(_, _) => {}
+        }
+    }
+}
+
+impl Spot {
+    /// A name in scope, by what it is. It fails where memory is wanting.
+    pub fn held(
+        alloc: Global,
+        place: Place,
+        name: &Text,
+        held: Option<&Held>,
+    ) -> Result<Spot, AllocError>
+        ensures { IfOk result (λ made. (around : settings.Around)
+            → spec.spot_of around made ≡ spec.held_spot around place name.now (option_copied held.entry)) }
+    {
+        match held {
+            Some(Held::Var(reading)) => {
+                let name = name.clone()?;
+                Ok(Spot::Named(place, name, copy_reading(alloc, reading)?))
+            }
+            _ => Ok(Spot::Wrong(place)),
+        }
+    }
+
+    /// A register. It fails where memory is wanting.
+    pub fn register(
+        alloc: Global,
+        place: Place,
+        register: Option<&Register>,
+    ) -> Result<Spot, AllocError>
+        ensures { IfOk result (λ made. (around : settings.Around)
+            → spec.spot_of around made ≡ spec.register_spot around place (option_copied register.entry)) }
+    {
+        match register {
+            None => Ok(Spot::Wrong(place)),
+            Some(register) => {
+                let name = register.name.clone()?;
+                Ok(Spot::Named(place, name, register_type(alloc, register)?))
+            }
+        }
+    }
+
+    /// A part of a spot in which this value is, if there is such a part. It fails where memory is wanting.
+    pub fn part(
+        alloc: Global,
+        place: Place,
+        way: Way,
+        base: Spot,
+        held: Indices,
+        reached: Option<Reached>,
+    ) -> Result<Spot, AllocError>
+        ensures { IfOk result (λ made. (around : settings.Around)
+            → spec.spot_of around made ≡ spec.part_spot around place way (spec.Spot.renew (spec.spot_of around base) held) reached) }
+    {
+        match reached {
+            None => Ok(Spot::Wrong(place)),
+            Some(reached) => Ok(Spot::Part(place, way, Boxed::new(alloc, base)?, held, reached)),
+        }
+    }
+
+    /// The type of what is assigned. It fails where memory is wanting, and where binders are too many.
+    #[cycle(spot_typ)]
+    pub fn typ(&self, alloc: Global, around: &Around<'_>) -> Result<Reading, AllocError>
+        ensures { IfOk result (λ made. made ≡ spec.Spot.typ (spec.spot_of (around_of around.now) self.now)) }
+    {
+        match self {
+            Spot::Wrong(_) => Ok(Reading::Hole),
+            Spot::Named(_, _, reading) => copy_reading(alloc, reading),
+            Spot::Part(_, _, _, _, reached) => copy_reading(alloc, &reached.typ),
+            Spot::Call(_, _, writer, _, _) => last_type(alloc, callee_types(around, writer.callee)),
+            Spot::Tuple(_, spots) => {
+                let parts = each_typ(alloc, around, spots.as_slice())?;
+                Ok(Reading::Parts(parts))
+            }
+        }
+    }
+
+    /// What is there, read as the base of a part. It fails where memory is wanting, and where variables are too many.
+    #[cycle(spot_read)]
+    #[tactic(auto, using(value_indices::proofs::Walks::walks))]
+    pub fn read(
+        &self,
+        alloc: Global,
+        walking: &mut Walking,
+        around: &Around<'_>,
+    ) -> Result<Indices, AllocError>
+        ensures value { IfOk result (λ made. made
+            ≡ walk.got (spec.Spot.read (spec.spot_of (around_of around.now) self.now)) (walk.seen walking.old)) }
+        ensures walked { OnOk result (walk.seen walking.new
+            ≡ walk.run (spec.Spot.read (spec.spot_of (around_of around.now) self.now)) (walk.seen walking.old)) }
+    {
+        match self {
+            Spot::Wrong(place) => wrong_value(alloc, walking, *place),
+            Spot::Named(place, name, reading) => {
+                named_opened(alloc, walking, *place, name, reading)
+            }
+            Spot::Part(place, _, _, _, reached) => reached.read(alloc, walking, *place),
+            Spot::Call(place, reader, _, nested, arguments) => asked(
+                alloc,
+                walking,
+                around,
+                *place,
+                *reader,
+                nested.as_slice(),
+                arguments.as_slice(),
+            ),
+            Spot::Tuple(_, spots) => {
+                let parts = read_each(alloc, walking, around, spots.as_slice())?;
+                Ok(Indices::Tuple(parts))
+            }
+        }
+    }
+
+    /// Writes it again with this value, of which a part was replaced. It fails where memory is wanting, and where variables are too
+    /// many.
+    #[tactic(auto, using(value_indices::proofs::Walks::walks))]
+    fn renew(
+        &self,
+        alloc: Global,
+        walking: &mut Walking,
+        around: &Around<'_>,
+        value: &Indices,
+    ) -> Result<Indices, AllocError>
+        ensures value { IfOk result (λ made. made
+            ≡ walk.got (spec.Spot.renew (spec.spot_of (around_of around.now) self.now) value.now) (walk.seen walking.old)) }
+        ensures walked { OnOk result (walk.seen walking.new
+            ≡ walk.run (spec.Spot.renew (spec.spot_of (around_of around.now) self.now) value.now) (walk.seen walking.old)) }
+    {
+        match self {
+            Spot::Wrong(place) => wrong_value(alloc, walking, *place),
+            Spot::Named(_, _, _) => Ok(Indices::Unit),
+            Spot::Part(_, _, base, held, _) => base.get().renew(alloc, walking, around, held),
+            Spot::Call(place, _, writer, nested, arguments) => asked_with(
+                alloc,
+                walking,
+                around,
+                *place,
+                *writer,
+                nested.as_slice(),
+                arguments.as_slice(),
+                false,
+                value,
+            ),
+            Spot::Tuple(place, _) => wrong_value(alloc, walking, *place),
+        }
+    }
+
+    /// Writes a new value, unless it owes its type further in. It fails where memory is wanting, and where variables are too many.
+    #[cycle(spot_write)]
+    #[tactic(auto, using(value_indices::proofs::Walks::walks))]
+    fn write(
+        &self,
+        alloc: Global,
+        walking: &mut Walking,
+        around: &Around<'_>,
+        is_nested: bool,
+        value: &Indices,
+    ) -> Result<Wrote, AllocError>
+        ensures value { IfOk result (λ made. spec.wrote_of (around_of around.now) made
+            ≡ walk.got (spec.Spot.write (spec.spot_of (around_of around.now) self.now) is_nested value.now) (walk.seen walking.old)) }
+        ensures walked { OnOk result (walk.seen walking.new
+            ≡ walk.run (spec.Spot.write (spec.spot_of (around_of around.now) self.now) is_nested value.now) (walk.seen walking.old)) }
+    {
+        match self {
+            Spot::Wrong(place) => wrong_write(alloc, walking, *place),
+            Spot::Named(_, _, reading) => Wrote::of_value(alloc, is_nested, value, reading),
+            Spot::Part(place, way, base, held, reached) => write_part(
+                alloc,
+                walking,
+                around,
+                *place,
+                *way,
+                base.get(),
+                held,
+                reached,
+                is_nested,
+                value,
+            ),
+            Spot::Call(place, _, writer, nested, arguments) => {
+                let answer = asked_with(
+                    alloc,
+                    walking,
+                    around,
+                    *place,
+                    *writer,
+                    nested.as_slice(),
+                    arguments.as_slice(),
+                    is_nested,
+                    value,
+                )?;
+                Ok(Wrote::gives(answer))
+            }
+            Spot::Tuple(place, spots) => write_tuple(
+                alloc,
+                walking,
+                around,
+                *place,
+                spots.as_slice(),
+                is_nested,
+                value,
+            ),
+        }
+    }
+
+    /// Writes a new value, unless it owes its type further in, and owes what is left at a place; what the assignment gives. It fails
+    /// where memory is wanting, and where variables are too many.
+    #[tactic(auto, using(value_indices::proofs::Walks::walks))]
+    pub fn assign(
+        &self,
+        alloc: Global,
+        walking: &mut Walking,
+        around: &Around<'_>,
+        place: Place,
+        is_nested: bool,
+        value: &Indices,
+    ) -> Result<Indices, AllocError>
+        ensures value { IfOk result (λ made. made
+            ≡ walk.got (spec.written_by place (spec.spot_of (around_of around.now) self.now) is_nested value.now) (walk.seen walking.old)) }
+        ensures walked { OnOk result (walk.seen walking.new
+            ≡ walk.run (spec.written_by place (spec.spot_of (around_of around.now) self.now) is_nested value.now) (walk.seen walking.old)) }
+    {
+        let wrote = self.write(alloc, walking, around, is_nested, value)?;
+        wrote.owe(alloc, walking, around, place)
+    }
+}
+
+/// The type of a parameter, where it names no variable; no type of another one. It fails where memory is wanting, and where binders are
+/// too many.
+fn closed_type(alloc: Global, typ: &Typ) -> Result<Reading, AllocError>
+    ensures { IfOk result (λ made. made ≡ spec.closed_type typ.now) }
+{
+    if is_closed(typ)? {
+        under(alloc, typ, &[], &[])
+    } else {
+        Ok(Reading::Hole)
+    }
+}
+
+/// That of the last of these. It fails where memory is wanting, and where binders are too many.
+fn last_type(alloc: Global, types: &[Typ]) -> Result<Reading, AllocError>
+    ensures { IfOk result (λ made. made ≡ spec.last_type types.now) }
+{
+    match types.last() {
+        None => Ok(Reading::Hole),
+        Some(typ) => closed_type(alloc, typ),
+    }
+}
+
+/// The types of what is assigned to several. It fails where memory is wanting, and where binders are too many.
+#[cycle(spot_typ)]
+fn each_typ(
+    alloc: Global,
+    around: &Around<'_>,
+    spots: &[Spot],
+) -> Result<Items<Reading>, AllocError>
+    ensures { IfOk result (λ made. made ≡ map (λ s. spec.Spot.typ s) (map (spec.spot_of (around_of around.now)) spots.now)) }
+{
+    let mut made = Items::new(alloc);
+    for spot in spots {
+        made.push(spot.typ(alloc, around)?)?;
+    }
+    Ok(made)
+}
+
+/// A call on these arguments; what is false is owed where there is none. It fails where memory is wanting, and where variables are too
+/// many.
+fn asked(
+    alloc: Global,
+    walking: &mut Walking,
+    around: &Around<'_>,
+    place: Place,
+    caller: Option<Caller>,
+    nested: &[bool],
+    arguments: &[Indices],
+) -> Result<Indices, AllocError>
+    ensures value { IfOk result (λ made. made
+        ≡ walk.got (spec.asked (around_of around.now) place caller nested.now arguments.now) (walk.seen walking.old)) }
+    ensures walked { OnOk result (walk.seen walking.new
+        ≡ walk.run (spec.asked (around_of around.now) place caller nested.now arguments.now) (walk.seen walking.old)) }
+{
+    match caller {
+        None => wrong_value(alloc, walking, place),
+        Some(caller) => called(
+            alloc,
+            walking,
+            around,
+            place,
+            caller.number,
+            caller.callee,
+            nested,
+            arguments,
+        ),
+    }
+}
+
+/// A call on these arguments and a new value behind them. It fails where memory is wanting, and where variables are too many.
+fn asked_with(
+    alloc: Global,
+    walking: &mut Walking,
+    around: &Around<'_>,
+    place: Place,
+    writer: Caller,
+    nested: &[bool],
+    arguments: &[Indices],
+    is_nested: bool,
+    value: &Indices,
+) -> Result<Indices, AllocError>
+    ensures value { IfOk result (λ made. made
+        ≡ walk.got (spec.asked_with (around_of around.now) place writer nested.now arguments.now is_nested value.now) (walk.seen walking.old)) }
+    ensures walked { OnOk result (walk.seen walking.new
+        ≡ walk.run (spec.asked_with (around_of around.now) place writer nested.now arguments.now is_nested value.now) (walk.seen walking.old)) }
+{
+    let mut all_nested = Items::from_slice(alloc, nested)?;
+    all_nested.push(is_nested)?;
+    let mut all = copy_each(alloc, arguments)?;
+    all.push(copy_indices(alloc, value)?)?;
+    asked(
+        alloc,
+        walking,
+        around,
+        place,
+        Some(writer),
+        all_nested.as_slice(),
+        all.as_slice(),
+    )
+}
+
+/// Several, read in order. It fails where memory is wanting, and where variables are too many.
+#[cycle(spot_read)]
+fn read_each(
+    alloc: Global,
+    walking: &mut Walking,
+    around: &Around<'_>,
+    spots: &[Spot],
+) -> Result<Items<Indices>, AllocError>
+    ensures value { IfOk result (λ made. made
+        ≡ walk.got (spec.each_read (map (spec.spot_of (around_of around.now)) spots.now)) (walk.seen walking.old)) }
+    ensures walked { OnOk result (walk.seen walking.new
+        ≡ walk.run (spec.each_read (map (spec.spot_of (around_of around.now)) spots.now)) (walk.seen walking.old)) }
+{
+    let mut made = Items::new(alloc);
+    for spot in spots {
+        made.push(spot.read(alloc, walking, around)?)?;
+    }
+    Ok(made)
+}
+
+/// Whether a part owes at its own place.
+fn owes_itself(way: Way) -> bool
+    ensures { result ≡ spec.owes_itself way }
+{
+    match way {
+        Way::Field(_, _) => false,
+        _ => true,
+    }
+}
+
+/// Writes nothing: what is false is owed. It fails where memory is wanting.
+#[tactic(auto, using(value_indices::proofs::Walks::walks))]
+fn wrong_write(alloc: Global, walking: &mut Walking, place: Place) -> Result<Wrote, AllocError>
+    ensures value { IfOk result (λ made. (around : settings.Around)
+        → spec.wrote_of around made ≡ walk.got (spec.wrong_write place) (walk.seen walking.old)) }
+    ensures walked { OnOk result (walk.seen walking.new ≡ walk.run (spec.wrong_write place) (walk.seen walking.old)) }
+{
+    let answer = wrong_value(alloc, walking, place)?;
+    Ok(Wrote::gives(answer))
+}
+
+/// Writes a part: the base is written again. It fails where memory is wanting, and where variables are too many.
+#[tactic(auto, using(value_indices::proofs::Walks::walks))]
+fn write_part(
+    alloc: Global,
+    walking: &mut Walking,
+    around: &Around<'_>,
+    place: Place,
+    way: Way,
+    base: &Spot,
+    held: &Indices,
+    reached: &Reached,
+    is_nested: bool,
+    value: &Indices,
+) -> Result<Wrote, AllocError>
+    ensures value { IfOk result (λ made. spec.wrote_of (around_of around.now) made
+        ≡ walk.got (spec.part_write (around_of around.now) place (spec.owes_itself way) reached.now
+        (spec.Spot.renew (spec.spot_of (around_of around.now) base.now) held.now) is_nested value.now) (walk.seen walking.old)) }
+    ensures walked { OnOk result (walk.seen walking.new
+        ≡ walk.run (spec.part_write (around_of around.now) place (spec.owes_itself way) reached.now
+        (spec.Spot.renew (spec.spot_of (around_of around.now) base.now) held.now) is_nested value.now) (walk.seen walking.old)) }
+{
+    if owes_itself(way) {
+        owe_part(alloc, walking, around, place, reached, is_nested, value)?;
+        let answer = base.renew(alloc, walking, around, held)?;
+        Ok(Wrote::gives(answer))
+    } else {
+        let answer = base.renew(alloc, walking, around, held)?;
+        Wrote::of_part(alloc, reached, is_nested, value, answer)
+    }
+}
+
+/// Writes a tuple: each its part of the value. It fails where memory is wanting, and where variables are too many.
+#[cycle(spot_write)]
+#[tactic(auto, using(value_indices::proofs::Walks::walks))]
+fn write_tuple(
+    alloc: Global,
+    walking: &mut Walking,
+    around: &Around<'_>,
+    place: Place,
+    spots: &[Spot],
+    is_nested: bool,
+    value: &Indices,
+) -> Result<Wrote, AllocError>
+    ensures value { IfOk result (λ made. spec.wrote_of (around_of around.now) made
+        ≡ walk.got (spec.tuple_write place (map (spec.spot_of (around_of around.now)) spots.now) is_nested (out-Indices value.now))
+        (walk.seen walking.old)) }
+    ensures walked { OnOk result (walk.seen walking.new
+        ≡ walk.run (spec.tuple_write place (map (spec.spot_of (around_of around.now)) spots.now) is_nested (out-Indices value.now))
+        (walk.seen walking.old)) }
+{
+    match value {
+        Indices::Tuple(values) => write_each(
+            alloc,
+            walking,
+            around,
+            place,
+            spots,
+            is_nested,
+            values.as_slice(),
+        ),
+        Indices::Never => Ok(Wrote::gives(Indices::Unit)),
+        _ => wrong_write(alloc, walking, place),
+    }
+}
+
+/// Writes nothing, where there are no values. It fails where memory is wanting.
+#[tactic(auto, using(value_indices::proofs::Walks::walks))]
+fn write_none(
+    alloc: Global,
+    walking: &mut Walking,
+    around: &Around<'_>,
+    place: Place,
+    is_nested: bool,
+    values: &[Indices],
+) -> Result<Wrote, AllocError>
+    ensures value { IfOk result (λ made. spec.wrote_of (around_of around.now) made
+        ≡ walk.got (spec.each_written place [] is_nested values.now) (walk.seen walking.old)) }
+    ensures walked { OnOk result (walk.seen walking.new
+        ≡ walk.run (spec.each_written place [] is_nested values.now) (walk.seen walking.old)) }
+{
+    match values {
+        [] => Ok(Wrote::gives(Indices::Unit)),
+        _ => wrong_write(alloc, walking, place),
+    }
+}
+
+/// Writes one and others, each its value. It fails where memory is wanting, and where variables are too many.
+#[cycle(spot_write)]
+#[tactic(auto, using(value_indices::proofs::Walks::walks))]
+fn write_both(
+    alloc: Global,
+    walking: &mut Walking,
+    around: &Around<'_>,
+    place: Place,
+    spot: &Spot,
+    spots: &[Spot],
+    is_nested: bool,
+    value: &Indices,
+    values: &[Indices],
+) -> Result<Wrote, AllocError>
+    ensures value { IfOk result (λ made. spec.wrote_of (around_of around.now) made
+        ≡ walk.got (spec.each_written place (spec.spot_of (around_of around.now) spot.now ∷ map (spec.spot_of (around_of around.now)) spots.now) is_nested
+        (value.now ∷ values.now)) (walk.seen walking.old)) }
+    ensures walked { OnOk result (walk.seen walking.new
+        ≡ walk.run (spec.each_written place (spec.spot_of (around_of around.now) spot.now ∷ map (spec.spot_of (around_of around.now)) spots.now) is_nested
+        (value.now ∷ values.now)) (walk.seen walking.old)) }
+{
+    let first = spot.write(alloc, walking, around, is_nested, value)?;
+    let others = write_each(alloc, walking, around, place, spots, is_nested, values)?;
+    Wrote::of_both(alloc, first, others)
+}
+
+/// The same, where there are as many values. It fails where memory is wanting, and where variables are too many.
+#[cycle(spot_write)]
+#[tactic(auto, using(value_indices::proofs::Walks::walks))]
+fn write_more(
+    alloc: Global,
+    walking: &mut Walking,
+    around: &Around<'_>,
+    place: Place,
+    spot: &Spot,
+    spots: &[Spot],
+    is_nested: bool,
+    values: &[Indices],
+) -> Result<Wrote, AllocError>
+    ensures value { IfOk result (λ made. spec.wrote_of (around_of around.now) made
+        ≡ walk.got (spec.each_written place (spec.spot_of (around_of around.now) spot.now ∷ map (spec.spot_of (around_of around.now)) spots.now) is_nested
+        values.now) (walk.seen walking.old)) }
+    ensures walked { OnOk result (walk.seen walking.new
+        ≡ walk.run (spec.each_written place (spec.spot_of (around_of around.now) spot.now ∷ map (spec.spot_of (around_of around.now)) spots.now) is_nested
+        values.now) (walk.seen walking.old)) }
+{
+    match values {
+        [] => wrong_write(alloc, walking, place),
+        [value, others @ ..] => write_both(
+            alloc, walking, around, place, spot, spots, is_nested, value, others,
+        ),
+    }
+}
+
+/// Writes several, each its value. It fails where memory is wanting, and where variables are too many.
+#[cycle(spot_write)]
+#[tactic(auto, using(value_indices::proofs::Walks::walks))]
+fn write_each(
+    alloc: Global,
+    walking: &mut Walking,
+    around: &Around<'_>,
+    place: Place,
+    spots: &[Spot],
+    is_nested: bool,
+    values: &[Indices],
+) -> Result<Wrote, AllocError>
+    ensures value { IfOk result (λ made. spec.wrote_of (around_of around.now) made
+        ≡ walk.got (spec.each_written place (map (spec.spot_of (around_of around.now)) spots.now) is_nested values.now) (walk.seen walking.old)) }
+    ensures walked { OnOk result (walk.seen walking.new
+        ≡ walk.run (spec.each_written place (map (spec.spot_of (around_of around.now)) spots.now) is_nested values.now) (walk.seen walking.old)) }
+{
+    match spots {
+        [] => write_none(alloc, walking, around, place, is_nested, values),
+        [spot, others @ ..] => write_more(
+            alloc, walking, around, place, spot, others, is_nested, values,
+        ),
+    }
+}
