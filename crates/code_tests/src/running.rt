@@ -147,101 +147,125 @@ fn case(alloc: Global, code: &mut Items<Instruction>, number: u32) -> Result<(),
     }
 }
 
+/// Puts the item of a slot at an index into slot 1.
+fn put_item(
+    alloc: Global,
+    code: &mut Items<Instruction>,
+    slot: u32,
+    index: i128,
+) -> Result<(), AllocError> {
+    let sources = two(alloc, Source::Slot(slot), int(index))?;
+    code.push(apply(alloc, 1, Operation::Item, sources)?)
+}
+
+/// The first item of a vector in which 9 stands at an index.
+fn replaced_item(
+    alloc: Global,
+    code: &mut Items<Instruction>,
+    index: i128,
+) -> Result<(), AllocError> {
+    let sources = three(alloc, Source::Slot(7), int(index), int(9))?;
+    code.push(apply(alloc, 7, Operation::WithItem, sources)?)?;
+    put_item(alloc, code, 7, 0)
+}
+
+/// Puts the first field of the tuple in slot 8 into slot 1.
+fn put_field(alloc: Global, code: &mut Items<Instruction>) -> Result<(), AllocError> {
+    let sources = one(alloc, Source::Slot(8))?;
+    code.push(apply(alloc, 1, Operation::Field(0), sources)?)
+}
+
+/// The first field of a tuple, which 7 has replaced.
+fn replaced_field(alloc: Global, code: &mut Items<Instruction>) -> Result<(), AllocError> {
+    let sources = two(alloc, Source::Slot(8), int(7))?;
+    code.push(apply(alloc, 8, Operation::WithField(0), sources)?)?;
+    put_field(alloc, code)
+}
+
+/// The integer of a value that a constructor of the union makes.
+fn payload(
+    alloc: Global,
+    code: &mut Items<Instruction>,
+    constructor: u32,
+    value: Source,
+) -> Result<(), AllocError> {
+    let sources = one(alloc, value)?;
+    code.push(apply(alloc, 5, Operation::Construct(constructor), sources)?)?;
+    code.push(Instruction::Payload(1, Source::Slot(5), 0, 0))
+}
+
+/// Puts the number of the word in a slot into slot 1.
+fn put_unsigned(alloc: Global, code: &mut Items<Instruction>, slot: u32) -> Result<(), AllocError> {
+    let sources = one(alloc, Source::Slot(slot))?;
+    code.push(apply(alloc, 1, Operation::Builtin(Row::Unsigned), sources)?)
+}
+
+/// The upper half of a byte.
+fn half_read(alloc: Global, code: &mut Items<Instruction>) -> Result<(), AllocError> {
+    let sources = three(alloc, byte(0xa5), int(7), int(4))?;
+    code.push(apply(alloc, 4, Operation::Slice, sources)?)?;
+    put_unsigned(alloc, code, 4)
+}
+
+/// A byte in which the lower half is replaced.
+fn half_replaced(alloc: Global, code: &mut Items<Instruction>) -> Result<(), AllocError> {
+    let mut sources = three(alloc, byte(0xa5), int(3), int(0))?;
+    sources.push(half(0xc))?;
+    code.push(apply(alloc, 3, Operation::WithSlice, sources)?)?;
+    put_unsigned(alloc, code, 3)
+}
+
+/// Puts an integer before the list in slot 6.
+fn put_before(
+    alloc: Global,
+    code: &mut Items<Instruction>,
+    integer: i128,
+) -> Result<(), AllocError> {
+    let sources = two(alloc, int(integer), Source::Slot(6))?;
+    code.push(apply(alloc, 6, Operation::Cons, sources)?)
+}
+
+/// The first item of the rest of a list of 4 and 3.
+fn rest_read(alloc: Global, code: &mut Items<Instruction>) -> Result<(), AllocError> {
+    put_before(alloc, code, 3)?;
+    put_before(alloc, code, 4)?;
+    let sources = one(alloc, Source::Slot(6))?;
+    code.push(apply(alloc, 6, Operation::Rest, sources)?)?;
+    put_item(alloc, code, 6, 0)
+}
+
+/// A jump where a list is empty.
+fn empty_found(alloc: Global, code: &mut Items<Instruction>) -> Result<(), AllocError> {
+    let sources = one(alloc, Source::Slot(6))?;
+    code.push(apply(alloc, 2, Operation::IsEmpty, sources)?)?;
+    code.push(Instruction::JumpIf(Source::Slot(2), 0))?;
+    code.push(Instruction::Copy(Target::Slot(1), int(8)))
+}
+
+/// Builds the vector in slot 7 and the tuple in slot 8.
+fn built(alloc: Global, code: &mut Items<Instruction>) -> Result<(), AllocError> {
+    let sources = two(alloc, int(4), int(6))?;
+    code.push(apply(alloc, 7, Operation::Build, sources)?)?;
+    let sources = two(alloc, int(3), truth(true))?;
+    code.push(apply(alloc, 8, Operation::Build, sources)?)
+}
+
 /// The instructions of a case on vectors, tuples, unions, words and lists.
 fn part_case(alloc: Global, code: &mut Items<Instruction>, number: u32) -> Result<(), AllocError> {
-    code.push(apply(alloc, 7, Operation::Build, two(alloc, int(4), int(6))?)?)?;
-    code.push(apply(alloc, 8, Operation::Build, two(alloc, int(3), truth(true))?)?)?;
+    built(alloc, code)?;
     match number {
-        0 => code.push(apply(
-            alloc,
-            1,
-            Operation::Item,
-            two(alloc, Source::Slot(7), int(1))?,
-        )?),
-        1 => code.push(apply(
-            alloc,
-            1,
-            Operation::Item,
-            two(alloc, Source::Slot(7), int(2))?,
-        )?),
-        2 => {
-            let sources = three(alloc, Source::Slot(7), int(0), int(9))?;
-            code.push(apply(alloc, 7, Operation::WithItem, sources)?)?;
-            code.push(apply(
-                alloc,
-                1,
-                Operation::Item,
-                two(alloc, Source::Slot(7), int(0))?,
-            )?)
-        }
-        3 => {
-            let sources = three(alloc, Source::Slot(7), int(5), int(9))?;
-            code.push(apply(alloc, 7, Operation::WithItem, sources)?)?;
-            code.push(apply(
-                alloc,
-                1,
-                Operation::Item,
-                two(alloc, Source::Slot(7), int(0))?,
-            )?)
-        }
-        4 => code.push(apply(alloc, 1, Operation::Field(0), one(alloc, Source::Slot(8))?)?),
-        5 => {
-            let sources = two(alloc, Source::Slot(8), int(7))?;
-            code.push(apply(alloc, 8, Operation::WithField(0), sources)?)?;
-            code.push(apply(alloc, 1, Operation::Field(0), one(alloc, Source::Slot(8))?)?)
-        }
-        6 => {
-            code.push(apply(alloc, 5, Operation::Construct(0), one(alloc, int(11))?)?)?;
-            code.push(Instruction::Payload(1, Source::Slot(5), 0, 0))
-        }
-        7 => {
-            let unit = Source::Constant(UNIT, Literal::Unit);
-            code.push(apply(alloc, 5, Operation::Construct(1), one(alloc, unit)?)?)?;
-            code.push(Instruction::Payload(1, Source::Slot(5), 0, 0))
-        }
-        8 => {
-            code.push(apply(
-                alloc,
-                4,
-                Operation::Slice,
-                three(alloc, byte(0xa5), int(7), int(4))?,
-            )?)?;
-            let sources = one(alloc, Source::Slot(4))?;
-            code.push(apply(alloc, 1, Operation::Builtin(Row::Unsigned), sources)?)
-        }
-        9 => {
-            let mut sources = three(alloc, byte(0xa5), int(3), int(0))?;
-            sources.push(half(0xc))?;
-            code.push(apply(alloc, 3, Operation::WithSlice, sources)?)?;
-            let sources = one(alloc, Source::Slot(3))?;
-            code.push(apply(alloc, 1, Operation::Builtin(Row::Unsigned), sources)?)
-        }
-        10 => {
-            code.push(apply(
-                alloc,
-                6,
-                Operation::Cons,
-                two(alloc, int(3), Source::Slot(6))?,
-            )?)?;
-            code.push(apply(
-                alloc,
-                6,
-                Operation::Cons,
-                two(alloc, int(4), Source::Slot(6))?,
-            )?)?;
-            code.push(apply(alloc, 6, Operation::Rest, one(alloc, Source::Slot(6))?)?)?;
-            code.push(apply(
-                alloc,
-                1,
-                Operation::Item,
-                two(alloc, Source::Slot(6), int(0))?,
-            )?)
-        }
-        11 => {
-            code.push(apply(alloc, 2, Operation::IsEmpty, one(alloc, Source::Slot(6))?)?)?;
-            code.push(Instruction::JumpIf(Source::Slot(2), 0))?;
-            code.push(Instruction::Copy(Target::Slot(1), int(8)))
-        }
+        0 => put_item(alloc, code, 7, 1),
+        1 => put_item(alloc, code, 7, 2),
+        2 => replaced_item(alloc, code, 0),
+        3 => replaced_item(alloc, code, 5),
+        4 => put_field(alloc, code),
+        5 => replaced_field(alloc, code),
+        6 => payload(alloc, code, 0, int(11)),
+        7 => payload(alloc, code, 1, Source::Constant(UNIT, Literal::Unit)),
+        8 => half_read(alloc, code),
+        9 => half_replaced(alloc, code),
+        10 => rest_read(alloc, code),
+        11 => empty_found(alloc, code),
         _ => register_case(alloc, code, number),
     }
 }

@@ -1,11 +1,10 @@
-use farkas::{Cert, FarkasError, Verdict, check_cases, eliminate_cases};
+use crate::answers::numbers_of;
+use crate::sums::{LARGEST, LEAST, PAST_LEAST};
+use farkas::{FarkasError, Verdict, check_cases, eliminate_cases};
 use linear::{Number, Row};
 use sail_base::Items;
 use std::alloc::{AllocError, Global};
 use std::test::Fail;
-
-/// The 126th power of two, the largest integer of the language.
-const LARGEST: i128 = 1 << 126;
 
 /// A number, which is within the limit.
 fn number(value: i128) -> Number {
@@ -39,108 +38,74 @@ fn cases_of(alloc: Global, cases: &[&[[i128; 3]]]) -> Result<Items<Items<Row>>, 
     Ok(all)
 }
 
-/// A point's denominator and numerators, or for each case the bounds of the rows to start with and the five numbers of each step;
-/// -1 for a number past the limit, -2 for too many rows.
-fn numbers_of(
-    alloc: Global,
-    answer: &Result<Verdict, FarkasError>,
-) -> Result<Vec<i128>, AllocError> {
-    let mut numbers = Vec::new(alloc);
-    match answer {
-        Ok(Verdict::Open(point)) => {
-            numbers.push(point.denominator.value())?;
-            for value in point.numerators.as_slice() {
-                numbers.push(value.value())?;
-            }
-        }
-        Ok(Verdict::Closed(certificate)) => push_certificate(&mut numbers, certificate)?,
-        Err(FarkasError::NumberLimit) => numbers.push(-1)?,
-        Err(_) => numbers.push(-2)?,
-    }
-    Ok(numbers)
-}
+/// 2 less than the least integer.
+const TWO_PAST_LEAST: i128 = -(1 << 126) - 2;
 
-/// Puts the bounds of each case's rows to start with and the numbers of its steps.
-fn push_certificate(numbers: &mut Vec<i128>, certificate: &Cert) -> Result<(), AllocError> {
-    for case in certificate.cases.as_slice() {
-        for row in case.starts.as_slice() {
-            numbers.push(row.bound.value())?;
-        }
-        for step in case.steps.as_slice() {
-            numbers.push(step.first as i128)?;
-            numbers.push(step.first_times.value())?;
-            numbers.push(step.second as i128)?;
-            numbers.push(step.second_times.value())?;
-            numbers.push(step.divisor.value())?;
-        }
-    }
-    Ok(())
-}
+/// Cases of rows in two variables, each with its bound; the numbers of the answer.
+const CASES: [(&[&[[i128; 3]]], &[i128]); 8] = [
+    // 0 <= i <= 8, and not 0 <= i < 8
+    (
+        &[
+            &[[-1, 0, 0], [1, 0, 8], [1, 0, -1]],
+            &[[-1, 0, 0], [1, 0, 8], [-1, 0, -8]],
+        ],
+        &[0, 1, 8, 0],
+    ),
+    // the same with i < 8
+    (
+        &[
+            &[[-1, 0, 0], [1, 0, 8], [1, 0, 7], [1, 0, -1]],
+            &[[-1, 0, 0], [1, 0, 8], [1, 0, 7], [-1, 0, -8]],
+        ],
+        &[1, 0, -1, 2, 1, 1, 1, 1, -8, 7, 2, 1, 1, 1, 1],
+    ),
+    // the largest integer and 1 more
+    (
+        &[
+            &[[-1, 0, LARGEST], [1, 0, LARGEST], [1, 0, TWO_PAST_LEAST]],
+            &[[-1, 0, LARGEST], [1, 0, LARGEST], [-1, 0, LEAST]],
+        ],
+        &[0, 1, LARGEST, 0],
+    ),
+    // 2 n == 2 m + 1, with n and m from 0 to 128
+    (
+        &[&[
+            [2, -2, 1],
+            [-2, 2, -1],
+            [-1, 0, 0],
+            [1, 0, 128],
+            [0, -1, 0],
+            [0, 1, 128],
+            [0, 0, 0],
+        ]],
+        &[0, 2, 1, 0],
+    ),
+    // any integer, and below 0
+    (
+        &[&[[-1, 0, LARGEST], [1, 0, LARGEST], [1, 0, -1]]],
+        &[0, 1, LEAST, 0],
+    ),
+    // the sum of any two integers, and below the least
+    (
+        &[&[
+            [-1, 0, LARGEST],
+            [1, 0, LARGEST],
+            [0, -1, LARGEST],
+            [0, 1, LARGEST],
+            [1, 1, PAST_LEAST],
+        ]],
+        &[-1],
+    ),
+    // no variable, and false
+    (&[&[[0, 0, 4], [0, 0, -5]]], &[1, -1]),
+    // no case
+    (&[], &[1]),
+];
 
 #[test]
 fn cases_have_the_answers_of_the_definition_by_hand(rt: HostRuntime) -> Result<(), Fail> {
     let alloc = rt.alloc();
-    // cases of rows in two variables, each with its bound; the numbers of the answer
-    let rows: [(&[&[[i128; 3]]], &[i128]); 8] = [
-        // 0 <= i <= 8, and not 0 <= i < 8
-        (
-            &[
-                &[[-1, 0, 0], [1, 0, 8], [1, 0, -1]],
-                &[[-1, 0, 0], [1, 0, 8], [-1, 0, -8]],
-            ],
-            &[1, 8, 0],
-        ),
-        // the same with i < 8
-        (
-            &[
-                &[[-1, 0, 0], [1, 0, 8], [1, 0, 7], [1, 0, -1]],
-                &[[-1, 0, 0], [1, 0, 8], [1, 0, 7], [-1, 0, -8]],
-            ],
-            &[0, -1, 2, 1, 1, 1, 1, -8, 7, 2, 1, 1, 1, 1],
-        ),
-        // the largest integer and 1 more
-        (
-            &[
-                &[[-1, 0, LARGEST], [1, 0, LARGEST], [1, 0, -LARGEST - 2]],
-                &[[-1, 0, LARGEST], [1, 0, LARGEST], [-1, 0, -LARGEST]],
-            ],
-            &[1, LARGEST, 0],
-        ),
-        // 2 n == 2 m + 1, with n and m from 0 to 128
-        (
-            &[&[
-                [2, -2, 1],
-                [-2, 2, -1],
-                [-1, 0, 0],
-                [1, 0, 128],
-                [0, -1, 0],
-                [0, 1, 128],
-                [0, 0, 0],
-            ]],
-            &[2, 1, 0],
-        ),
-        // any integer, and below 0
-        (
-            &[&[[-1, 0, LARGEST], [1, 0, LARGEST], [1, 0, -1]]],
-            &[1, -LARGEST, 0],
-        ),
-        // the sum of any two integers, and below the least
-        (
-            &[&[
-                [-1, 0, LARGEST],
-                [1, 0, LARGEST],
-                [0, -1, LARGEST],
-                [0, 1, LARGEST],
-                [1, 1, -LARGEST - 1],
-            ]],
-            &[-1],
-        ),
-        // no variable, and false
-        (&[&[[0, 0, 4], [0, 0, -5]]], &[-1]),
-        // no case
-        (&[], &[]),
-    ];
-    for (cases, numbers) in rows {
+    for (cases, numbers) in CASES {
         let cases = cases_of(alloc, cases)?;
         let answer = eliminate_cases(alloc, cases.as_slice(), 2);
         assert_eq!(rt; numbers_of(alloc, &answer)?.as_slice(), numbers);

@@ -5,8 +5,12 @@
 #![tactic(auto)]
 
 #[cfg(test)]
+mod answers;
+#[cfg(test)]
 mod case_rows;
 #[cfg(test)]
 mod problems;
 #[cfg(test)]
 mod scripts;
+#[cfg(test)]
+mod sums;

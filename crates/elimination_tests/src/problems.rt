@@ -1,13 +1,14 @@
 //! Problems with their answers: those of the models that `docs/LANGUAGE.md` speaks of, and those at the limits.
-use farkas::{Cert, FarkasError, Verdict, check_cert, discharge};
+use crate::answers::numbers_of;
+use crate::sums::{LARGEST, LEAST, PAST_LEAST, compare, sum};
+use Comparison::{Equal, Greater, GreaterEqual, Less, LessEqual, NotEqual};
+use Said::{Below, Fails, Holds, Nowhere, Outside, Sum, Truth};
+use farkas::{FarkasError, Verdict, check_cert, discharge};
 use linear::{LinearError, Problem, cases, list_variables};
 use sail_base::{Boxed, Items};
-use sail_types::{Atom, Comparison, Con, Num, Term};
+use sail_types::{Comparison, Con};
 use std::alloc::{AllocError, Global};
 use std::test::Fail;
-
-/// The largest integer of the language.
-const LARGEST: i128 = 1 << 126;
 
 /// A constraint on the variables x and y, and on the Bool variable p.
 #[derive(Clone, Copy)]
@@ -28,30 +29,11 @@ enum Said {
     Truth(bool),
 }
 
-/// The sum of so many x and so many y.
-fn sum(alloc: Global, x: i128, y: i128) -> Result<Num, AllocError> {
-    let mut terms = Items::new(alloc);
-    for (variable, coefficient) in [(0, x), (1, y)] {
-        if coefficient != 0 {
-            terms.push(Term {
-                coefficient,
-                atom: Atom::Variable(variable),
-            })?;
-        }
-    }
-    Ok(Num { terms, constant: 0 })
-}
-
-/// A comparison.
-fn compare(alloc: Global, how: Comparison, x: i128, y: i128, z: i128) -> Result<Con, AllocError> {
-    Ok(Con::Compare(how, sum(alloc, x, y)?, Num::constant(alloc, z)))
-}
-
 /// x < 0 and x > 9.
 fn ends(alloc: Global) -> Result<Items<Con>, AllocError> {
     let mut parts = Items::new(alloc);
-    parts.push(compare(alloc, Comparison::Less, 1, 0, 0)?)?;
-    parts.push(compare(alloc, Comparison::Greater, 1, 0, 9)?)?;
+    parts.push(compare(alloc, Less, 1, 0, 0)?)?;
+    parts.push(compare(alloc, Greater, 1, 0, 9)?)?;
     Ok(parts)
 }
 
@@ -83,56 +65,6 @@ fn all_of(alloc: Global, parts: &[Said]) -> Result<Items<Con>, AllocError> {
     Ok(cons)
 }
 
-/// An answer in numbers: 0, a point's denominator and numerators; or 1, the bounds of the rows that each case starts with and the five
-/// numbers of each of its steps; or below 0 a limit, with its variable or its count.
-fn numbers_of(
-    alloc: Global,
-    answer: &Result<Verdict, FarkasError>,
-) -> Result<Vec<i128>, AllocError> {
-    let mut numbers = Vec::new(alloc);
-    match answer {
-        Ok(Verdict::Open(point)) => {
-            numbers.push(0)?;
-            numbers.push(point.denominator.value())?;
-            for value in point.numerators.as_slice() {
-                numbers.push(value.value())?;
-            }
-        }
-        Ok(Verdict::Closed(certificate)) => {
-            numbers.push(1)?;
-            push_certificate(&mut numbers, certificate)?;
-        }
-        Err(FarkasError::NumberLimit) => numbers.push(-1)?,
-        Err(FarkasError::RowLimit { variable }) => {
-            numbers.push(-2)?;
-            numbers.push(*variable as i128)?;
-        }
-        Err(FarkasError::CaseLimit { count }) => {
-            numbers.push(-3)?;
-            numbers.push(*count as i128)?;
-        }
-        Err(FarkasError::OutOfMemory) => numbers.push(-4)?,
-    }
-    Ok(numbers)
-}
-
-/// Puts the bounds of each case's rows to start with and the numbers of its steps.
-fn push_certificate(numbers: &mut Vec<i128>, certificate: &Cert) -> Result<(), AllocError> {
-    for case in certificate.cases.as_slice() {
-        for row in case.starts.as_slice() {
-            numbers.push(row.bound.value())?;
-        }
-        for step in case.steps.as_slice() {
-            numbers.push(step.first as i128)?;
-            numbers.push(step.first_times.value())?;
-            numbers.push(step.second as i128)?;
-            numbers.push(step.second_times.value())?;
-            numbers.push(step.divisor.value())?;
-        }
-    }
-    Ok(())
-}
-
 /// How many cases a problem has, or -1 where a number is past the limit, or the count of too many.
 fn count_of(alloc: Global, problem: &Problem) -> i128 {
     match cases(alloc, problem) {
@@ -143,171 +75,242 @@ fn count_of(alloc: Global, problem: &Problem) -> i128 {
     }
 }
 
+/// The problem of facts and of a goal that all of some constraints make.
+fn problem_of(alloc: Global, facts: &[Said], goals: &[Said]) -> Result<Problem, AllocError> {
+    let facts = all_of(alloc, facts)?;
+    let goal = Con::All(all_of(alloc, goals)?);
+    Ok(Problem { facts, goal })
+}
+
+/// Whether a certificate is one of a problem; other answers have none.
+fn is_certified(
+    alloc: Global,
+    problem: &Problem,
+    answer: &Result<Verdict, FarkasError>,
+) -> Result<bool, AllocError> {
+    match answer {
+        Ok(Verdict::Closed(certificate)) => check_cert(alloc, problem, certificate),
+        _ => Ok(true),
+    }
+}
+
+/// Whether the answer to a problem is this, and its certificate holds.
+fn is_answered(alloc: Global, problem: &Problem, numbers: &[i128]) -> Result<bool, AllocError> {
+    let answer = discharge(alloc, problem);
+    let is_certified = is_certified(alloc, problem, &answer)?;
+    let found = numbers_of(alloc, &answer)?;
+    Ok(is_certified && found.as_slice() == numbers)
+}
+
+/// Whether a problem of such facts and of a goal that all of some constraints make has so many variables and cases, and this answer.
+fn has_answer(
+    alloc: Global,
+    facts: &[Said],
+    goals: &[Said],
+    variables: usize,
+    count: i128,
+    numbers: &[i128],
+) -> Result<bool, AllocError> {
+    let problem = problem_of(alloc, facts, goals)?;
+    let found = list_variables(alloc, &problem)?;
+    let is_counted = found.len() == variables && count_of(alloc, &problem) == count;
+    let is_answered = is_answered(alloc, &problem, numbers)?;
+    Ok(is_counted && is_answered)
+}
+
+/// The largest integer but one.
+const BEFORE_LARGEST: i128 = (1 << 126) - 1;
+
+/// Of integers in ranges: facts, goals, how many variables and cases there are, and the answer.
+const RANGES: [(&[Said], &[Said], usize, i128, &[i128]); 4] = [
+    // an index from 0 to 8 of eight bits
+    (
+        &[Sum(GreaterEqual, 1, 0, 0), Sum(LessEqual, 1, 0, 8)],
+        &[Sum(GreaterEqual, 1, 0, 0), Sum(Less, 1, 0, 8)],
+        1,
+        2,
+        &[0, 1, 8],
+    ),
+    // one from 0 to 7: both certificates as they are printed
+    (
+        &[Sum(GreaterEqual, 1, 0, 0), Sum(LessEqual, 1, 0, 7)],
+        &[Sum(GreaterEqual, 1, 0, 0), Sum(Less, 1, 0, 8)],
+        1,
+        2,
+        &[1, 0, -1, 2, 1, 1, 1, 1, -8, 7, 2, 1, 1, 1, 1],
+    ),
+    // any integer and 1 more
+    (
+        &[
+            Sum(GreaterEqual, 1, 0, LEAST),
+            Sum(LessEqual, 1, 0, LARGEST),
+        ],
+        &[
+            Sum(GreaterEqual, 1, 0, PAST_LEAST),
+            Sum(LessEqual, 1, 0, BEFORE_LARGEST),
+        ],
+        1,
+        2,
+        &[0, 1, LARGEST],
+    ),
+    // twice a size from 0 to 128 is twice another and 1 more: open over the fractions
+    (
+        &[
+            Sum(Equal, 2, -2, 1),
+            Sum(GreaterEqual, 1, 0, 0),
+            Sum(LessEqual, 1, 0, 128),
+            Sum(GreaterEqual, 0, 1, 0),
+            Sum(LessEqual, 0, 1, 128),
+        ],
+        &[Truth(false)],
+        2,
+        1,
+        &[0, 2, 1, 0],
+    ),
+];
+
 #[test]
-fn problems_have_their_answers(rt: HostRuntime) -> Result<(), Fail> {
-    use Comparison::{Equal, Greater, GreaterEqual, Less, LessEqual, NotEqual};
-    use Said::{Below, Fails, Holds, Nowhere, Outside, Sum, Truth};
+fn integers_in_ranges_have_their_answers(rt: HostRuntime) -> Result<(), Fail> {
     let alloc = rt.alloc();
-    // facts, a goal that all of some constraints make, how many variables and cases there are, and the answer
-    let rows: [(&[Said], &[Said], usize, i128, &[i128]); 18] = [
-        // an index from 0 to 8 of eight bits
-        (
-            &[Sum(GreaterEqual, 1, 0, 0), Sum(LessEqual, 1, 0, 8)],
-            &[Sum(GreaterEqual, 1, 0, 0), Sum(Less, 1, 0, 8)],
-            1,
-            2,
-            &[0, 1, 8],
-        ),
-        // one from 0 to 7: both certificates as they are printed
-        (
-            &[Sum(GreaterEqual, 1, 0, 0), Sum(LessEqual, 1, 0, 7)],
-            &[Sum(GreaterEqual, 1, 0, 0), Sum(Less, 1, 0, 8)],
-            1,
-            2,
-            &[1, 0, -1, 2, 1, 1, 1, 1, -8, 7, 2, 1, 1, 1, 1],
-        ),
-        // any integer and 1 more
-        (
-            &[
-                Sum(GreaterEqual, 1, 0, -LARGEST),
-                Sum(LessEqual, 1, 0, LARGEST),
-            ],
-            &[
-                Sum(GreaterEqual, 1, 0, -LARGEST - 1),
-                Sum(LessEqual, 1, 0, LARGEST - 1),
-            ],
-            1,
-            2,
-            &[0, 1, LARGEST],
-        ),
-        // twice a size from 0 to 128 is twice another and 1 more: open over the fractions
-        (
-            &[
-                Sum(Equal, 2, -2, 1),
-                Sum(GreaterEqual, 1, 0, 0),
-                Sum(LessEqual, 1, 0, 128),
-                Sum(GreaterEqual, 0, 1, 0),
-                Sum(LessEqual, 0, 1, 128),
-            ],
-            &[Truth(false)],
-            2,
-            1,
-            &[0, 2, 1, 0],
-        ),
-        // a register's integer, and the same behind an assertion
-        (
-            &[
-                Sum(GreaterEqual, 1, 0, -LARGEST),
-                Sum(LessEqual, 1, 0, LARGEST),
-            ],
-            &[Sum(GreaterEqual, 1, 0, 0), Sum(Less, 1, 0, 32)],
-            1,
-            2,
-            &[0, 1, -LARGEST],
-        ),
-        (
-            &[
-                Sum(GreaterEqual, 1, 0, -LARGEST),
-                Sum(LessEqual, 1, 0, LARGEST),
-                Sum(GreaterEqual, 1, 0, 0),
-                Sum(Less, 1, 0, 32),
-            ],
-            &[Sum(GreaterEqual, 1, 0, 0), Sum(Less, 1, 0, 32)],
-            1,
-            2,
-            &[1, 0, -1, 2, 1, 1, 1, 1, -32, 31, 2, 1, 1, 1, 1],
-        ),
-        // the sum of any two integers
-        (
-            &[
-                Sum(GreaterEqual, 1, 0, -LARGEST),
-                Sum(LessEqual, 1, 0, LARGEST),
-                Sum(GreaterEqual, 0, 1, -LARGEST),
-                Sum(LessEqual, 0, 1, LARGEST),
-            ],
-            &[
-                Sum(GreaterEqual, 1, 1, -LARGEST),
-                Sum(LessEqual, 1, 1, LARGEST),
-            ],
-            2,
-            2,
-            &[-1],
-        ),
-        // a row whose bound is 2^127 - 1, and one more
-        (
-            &[Sum(LessEqual, 1, 0, i128::MAX)],
-            &[Sum(LessEqual, 1, 0, 0)],
-            1,
-            1,
-            &[0, 1, 1],
-        ),
-        (
-            &[Sum(LessEqual, 1, 0, i128::MIN)],
-            &[Sum(LessEqual, 1, 0, 0)],
-            1,
-            -1,
-            &[-1],
-        ),
-        (
-            &[Sum(GreaterEqual, 1, 0, 0)],
-            &[Sum(LessEqual, 1, 0, i128::MAX)],
-            1,
-            -1,
-            &[-1],
-        ),
-        // a Bool variable is 1 or more where it is true
-        (&[Holds], &[Fails], 1, 1, &[0, 1, 1]),
-        (&[Holds], &[Holds], 1, 1, &[1, -1, 0, 2, 1, 1, 1, 1]),
-        // a false goal has one alternative, a true one none
-        (
-            &[Sum(LessEqual, 1, 0, 5)],
-            &[Truth(false)],
-            1,
-            1,
-            &[0, 1, 5],
-        ),
-        (&[Sum(LessEqual, 1, 0, 5)], &[Truth(true)], 1, 0, &[1]),
-        // facts that are never true together
-        (
-            &[Nowhere],
-            &[Truth(false)],
-            1,
-            1,
-            &[1, -1, -10, 1, 1, 2, 1, 11],
-        ),
-        // the lesser alternative is looked at first
-        (
-            &[Outside],
-            &[Sum(GreaterEqual, 1, 0, 10)],
-            1,
-            2,
-            &[0, 1, -1],
-        ),
-        (
-            &[Sum(NotEqual, 1, 0, 3)],
-            &[Sum(Greater, 1, 0, 3)],
-            1,
-            2,
-            &[0, 1, 2],
-        ),
-        // a set has an alternative a value, of two rows; 65 of them are too many
-        (&[Below(65)], &[Sum(Less, 1, 0, 65)], 1, 65, &[-3, 65]),
-    ];
-    for (facts, goals, variables, count, numbers) in rows {
-        let problem = Problem {
-            facts: all_of(alloc, facts)?,
-            goal: Con::All(all_of(alloc, goals)?),
-        };
-        let answer = discharge(alloc, &problem);
-        let valid = match &answer {
-            Ok(Verdict::Closed(certificate)) => check_cert(alloc, &problem, certificate)?,
-            _ => true,
-        };
-        let same = list_variables(alloc, &problem)?.len() == variables
-            && count_of(alloc, &problem) == count
-            && valid;
-        let found = numbers_of(alloc, &answer)?;
-        assert!(rt; same && found.as_slice() == numbers);
+    for (facts, goals, variables, count, numbers) in RANGES {
+        assert!(rt; has_answer(alloc, facts, goals, variables, count, numbers)?);
+    }
+    Ok(())
+}
+
+/// Of registers, and at the limits of integers: facts, goals, how many variables and cases there are, and the answer.
+const ENDS: [(&[Said], &[Said], usize, i128, &[i128]); 6] = [
+    // a register's integer, and the same behind an assertion
+    (
+        &[
+            Sum(GreaterEqual, 1, 0, LEAST),
+            Sum(LessEqual, 1, 0, LARGEST),
+        ],
+        &[Sum(GreaterEqual, 1, 0, 0), Sum(Less, 1, 0, 32)],
+        1,
+        2,
+        &[0, 1, LEAST],
+    ),
+    (
+        &[
+            Sum(GreaterEqual, 1, 0, LEAST),
+            Sum(LessEqual, 1, 0, LARGEST),
+            Sum(GreaterEqual, 1, 0, 0),
+            Sum(Less, 1, 0, 32),
+        ],
+        &[Sum(GreaterEqual, 1, 0, 0), Sum(Less, 1, 0, 32)],
+        1,
+        2,
+        &[1, 0, -1, 2, 1, 1, 1, 1, -32, 31, 2, 1, 1, 1, 1],
+    ),
+    // the sum of any two integers
+    (
+        &[
+            Sum(GreaterEqual, 1, 0, LEAST),
+            Sum(LessEqual, 1, 0, LARGEST),
+            Sum(GreaterEqual, 0, 1, LEAST),
+            Sum(LessEqual, 0, 1, LARGEST),
+        ],
+        &[
+            Sum(GreaterEqual, 1, 1, LEAST),
+            Sum(LessEqual, 1, 1, LARGEST),
+        ],
+        2,
+        2,
+        &[-1],
+    ),
+    // a row whose bound is 2^127 - 1, and one more
+    (
+        &[Sum(LessEqual, 1, 0, i128::MAX)],
+        &[Sum(LessEqual, 1, 0, 0)],
+        1,
+        1,
+        &[0, 1, 1],
+    ),
+    (
+        &[Sum(LessEqual, 1, 0, i128::MIN)],
+        &[Sum(LessEqual, 1, 0, 0)],
+        1,
+        -1,
+        &[-1],
+    ),
+    (
+        &[Sum(GreaterEqual, 1, 0, 0)],
+        &[Sum(LessEqual, 1, 0, i128::MAX)],
+        1,
+        -1,
+        &[-1],
+    ),
+];
+
+#[test]
+fn integers_at_the_limits_have_their_answers(rt: HostRuntime) -> Result<(), Fail> {
+    let alloc = rt.alloc();
+    for (facts, goals, variables, count, numbers) in ENDS {
+        assert!(rt; has_answer(alloc, facts, goals, variables, count, numbers)?);
+    }
+    Ok(())
+}
+
+/// Of truths: facts, goals, how many variables and cases there are, and the answer.
+const TRUTHS: [(&[Said], &[Said], usize, i128, &[i128]); 4] = [
+    // a Bool variable is 1 or more where it is true
+    (&[Holds], &[Fails], 1, 1, &[0, 1, 1]),
+    (&[Holds], &[Holds], 1, 1, &[1, -1, 0, 2, 1, 1, 1, 1]),
+    // a false goal has one alternative, a true one none
+    (
+        &[Sum(LessEqual, 1, 0, 5)],
+        &[Truth(false)],
+        1,
+        1,
+        &[0, 1, 5],
+    ),
+    (&[Sum(LessEqual, 1, 0, 5)], &[Truth(true)], 1, 0, &[1]),
+];
+
+#[test]
+fn truths_have_their_answers(rt: HostRuntime) -> Result<(), Fail> {
+    let alloc = rt.alloc();
+    for (facts, goals, variables, count, numbers) in TRUTHS {
+        assert!(rt; has_answer(alloc, facts, goals, variables, count, numbers)?);
+    }
+    Ok(())
+}
+
+/// Of constraints with alternatives: facts, goals, how many variables and cases there are, and the answer.
+const ALTERNATIVES: [(&[Said], &[Said], usize, i128, &[i128]); 4] = [
+    // facts that are never true together
+    (
+        &[Nowhere],
+        &[Truth(false)],
+        1,
+        1,
+        &[1, -1, -10, 1, 1, 2, 1, 11],
+    ),
+    // the lesser alternative is looked at first
+    (
+        &[Outside],
+        &[Sum(GreaterEqual, 1, 0, 10)],
+        1,
+        2,
+        &[0, 1, -1],
+    ),
+    (
+        &[Sum(NotEqual, 1, 0, 3)],
+        &[Sum(Greater, 1, 0, 3)],
+        1,
+        2,
+        &[0, 1, 2],
+    ),
+    // a set has an alternative a value, of two rows; 65 of them are too many
+    (&[Below(65)], &[Sum(Less, 1, 0, 65)], 1, 65, &[-3, 65]),
+];
+
+#[test]
+fn alternatives_have_their_answers(rt: HostRuntime) -> Result<(), Fail> {
+    let alloc = rt.alloc();
+    for (facts, goals, variables, count, numbers) in ALTERNATIVES {
+        assert!(rt; has_answer(alloc, facts, goals, variables, count, numbers)?);
     }
     Ok(())
 }
@@ -316,12 +319,11 @@ fn problems_have_their_answers(rt: HostRuntime) -> Result<(), Fail> {
 fn unequal(alloc: Global, count: u32) -> Result<Problem, AllocError> {
     let mut facts = Items::new(alloc);
     for value in 0..count {
-        facts.push(compare(alloc, Comparison::NotEqual, 1, 0, value as i128)?)?;
+        let fact = compare(alloc, NotEqual, 1, 0, value as i128)?;
+        facts.push(fact)?;
     }
-    Ok(Problem {
-        facts,
-        goal: compare(alloc, Comparison::Less, 1, 0, 6)?,
-    })
+    let goal = compare(alloc, Less, 1, 0, 6)?;
+    Ok(Problem { facts, goal })
 }
 
 /// 64 rows in which x has the coefficient 1 and 64 in which it has -1, behind a variable that stands alone, and perhaps one
@@ -331,11 +333,11 @@ fn crossing(alloc: Global, one_more: bool) -> Result<Problem, AllocError> {
     facts.push(Con::Holds(2))?;
     for place in 0..64u8 {
         let y = place as i128;
-        facts.push(compare(alloc, Comparison::LessEqual, 1, 64 * y, 1)?)?;
-        facts.push(compare(alloc, Comparison::LessEqual, -1, 1 + y, 0)?)?;
+        facts.push(compare(alloc, LessEqual, 1, 64 * y, 1)?)?;
+        facts.push(compare(alloc, LessEqual, -1, 1 + y, 0)?)?;
     }
     if one_more {
-        facts.push(compare(alloc, Comparison::LessEqual, 0, 5000, 1)?)?;
+        facts.push(compare(alloc, LessEqual, 0, 5000, 1)?)?;
     }
     Ok(Problem {
         facts,
@@ -354,16 +356,9 @@ fn the_limits_of_cases_and_rows_are_kept_to_one(rt: HostRuntime) -> Result<(), F
         (64, &[-3, 18446744073709551615]),
     ];
     for (count, numbers) in counts {
-        let answer = discharge(alloc, &unequal(alloc, count)?);
-        let found = numbers_of(alloc, &answer)?;
-        assert!(rt; found.as_slice() == numbers);
+        assert!(rt; is_answered(alloc, &unequal(alloc, count)?, numbers)?);
     }
-    let few = discharge(alloc, &crossing(alloc, false)?);
-    let many = discharge(alloc, &crossing(alloc, true)?);
-    let first = numbers_of(alloc, &few)?;
-    let second = numbers_of(alloc, &many)?;
-    let few_numbers: &[i128] = &[0, 4096, 4096, 64, 1];
-    let many_numbers: &[i128] = &[-2, 1];
-    assert!(rt; first.as_slice() == few_numbers && second.as_slice() == many_numbers);
+    assert!(rt; is_answered(alloc, &crossing(alloc, false)?, &[0, 4096, 4096, 64, 1])?);
+    assert!(rt; is_answered(alloc, &crossing(alloc, true)?, &[-2, 1])?);
     Ok(())
 }

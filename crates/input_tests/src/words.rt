@@ -21,6 +21,15 @@ fn told(alloc: Global, run: &Run) -> Result<String, AllocError> {
     )
 }
 
+/// The words of a text.
+fn words<'a>(alloc: Global, text: &'a str) -> Result<Vec<&'a str>, AllocError> {
+    let mut words = Vec::new(alloc);
+    for word in text.split_whitespace() {
+        words.push(word)?;
+    }
+    Ok(words)
+}
+
 /// The answer to words, as text.
 fn answer(alloc: Global, words: &[&str]) -> Result<String, AllocError> {
     let mut list = Vec::new(alloc);
@@ -34,92 +43,100 @@ fn answer(alloc: Global, words: &[&str]) -> Result<String, AllocError> {
     }
 }
 
+/// Words, and what they ask for.
+const RUNS: [(&str, &str); 11] = [
+    ("run --elf Q M", "Q M 1000 1 [0] 2147483648 1048576"),
+    ("run M --elf=Q N", "Q M N 1000 1 [0] 2147483648 1048576"),
+    ("run --elf= M", " M 1000 1 [0] 2147483648 1048576"),
+    ("run --elf - -", "- - 1000 1 [0] 2147483648 1048576"),
+    (
+        "run --elf=-Q -- -M -- run",
+        "-Q -M -- run 1000 1 [0] 2147483648 1048576",
+    ),
+    (
+        "run --order=10 --harts 002 --elf=Q help",
+        "Q help 1000 2 [1, 0] 2147483648 1048576",
+    ),
+    (
+        "run --harts 8 --elf=Q M",
+        "Q M 1000 8 [0, 1, 2, 3, 4, 5, 6, 7] 2147483648 1048576",
+    ),
+    (
+        "run --steps=4294967295 --elf=Q M",
+        "Q M 4294967295 1 [0] 2147483648 1048576",
+    ),
+    (
+        "run --steps=0 --elf=Q M --order 000",
+        "Q M 0 1 [0, 0, 0] 2147483648 1048576",
+    ),
+    (
+        "run --ram-base=18446744073709551615 --ram-size=1 --elf=Q M",
+        "Q M 1000 1 [0] 18446744073709551615 1",
+    ),
+    (
+        "run --ram-base=0 --ram-size=67108864 --elf=Q M",
+        "Q M 1000 1 [0] 0 67108864",
+    ),
+];
+
+/// Words that ask for nothing.
+const REFUSED: [&str; 25] = [
+    "",
+    "run",
+    "help",
+    "--help",
+    "check M",
+    "M run --elf=Q",
+    "-- run --elf=Q M",
+    "run --elf=Q",
+    "run M",
+    "run --elf=Q --elf=Q M",
+    "run --elf -Q M",
+    "run --elf -- Q M",
+    "run --elf=Q -M",
+    "run --elf=Q --step 1 M",
+    "run --elf=Q --steps=+5 M",
+    "run --elf=Q --steps= M",
+    "run --elf=Q --steps=4294967296 M",
+    "run --elf=Q --harts=0 M",
+    "run --elf=Q --harts=9 M",
+    "run --elf=Q --order= M",
+    "run --elf=Q --harts=2 --order=02 M",
+    "run --elf=Q --ram-size=0 M",
+    "run --elf=Q --ram-size=67108865 M",
+    "run --elf=Q --ram-base=18446744073708503041 M",
+    "run --elf=Q --ram-base=18446744073709551616 M",
+];
+
 #[test]
 fn words_ask_for_runs(rt: HostRuntime) -> Result<(), Fail> {
     let alloc = rt.alloc();
-    let rows: [(&[&str], &str); 36] = [
-        (
-            &["run", "--elf", "Q", "M"],
-            "Q M 1000 1 [0] 2147483648 1048576",
-        ),
-        (
-            &["run", "M", "--elf=Q", "N"],
-            "Q M N 1000 1 [0] 2147483648 1048576",
-        ),
-        (&["run", "--elf=", "M"], " M 1000 1 [0] 2147483648 1048576"),
-        (
-            &["run", "--elf", "-", "-"],
-            "- - 1000 1 [0] 2147483648 1048576",
-        ),
-        (
-            &["run", "--elf=-Q", "--", "-M", "--", "run"],
-            "-Q -M -- run 1000 1 [0] 2147483648 1048576",
-        ),
-        (
-            &["run", "--order=10", "--harts", "002", "--elf=Q", "help"],
-            "Q help 1000 2 [1, 0] 2147483648 1048576",
-        ),
-        (
-            &["run", "--harts", "8", "--elf=Q", "M"],
-            "Q M 1000 8 [0, 1, 2, 3, 4, 5, 6, 7] 2147483648 1048576",
-        ),
-        (
-            &["run", "--steps=4294967295", "--elf=Q", "M"],
-            "Q M 4294967295 1 [0] 2147483648 1048576",
-        ),
-        (
-            &["run", "--steps=0", "--elf=Q", "M", "--order", "000"],
-            "Q M 0 1 [0, 0, 0] 2147483648 1048576",
-        ),
-        (
-            &[
-                "run",
-                "--ram-base=18446744073709551615",
-                "--ram-size=1",
-                "--elf=Q",
-                "M",
-            ],
-            "Q M 1000 1 [0] 18446744073709551615 1",
-        ),
-        (
-            &["run", "--ram-base=0", "--ram-size=67108864", "--elf=Q", "M"],
-            "Q M 1000 1 [0] 0 67108864",
-        ),
-        (&[], "usage"),
-        (&["run"], "usage"),
-        (&["help"], "usage"),
-        (&["--help"], "usage"),
-        (&["check", "M"], "usage"),
-        (&["M", "run", "--elf=Q"], "usage"),
-        (&["--", "run", "--elf=Q", "M"], "usage"),
-        (&["run", "--elf=Q"], "usage"),
-        (&["run", "M"], "usage"),
-        (&["run", "--elf=Q", "--elf=Q", "M"], "usage"),
-        (&["run", "--elf", "-Q", "M"], "usage"),
-        (&["run", "--elf", "--", "Q", "M"], "usage"),
-        (&["run", "--elf=Q", "-M"], "usage"),
-        (&["run", "--elf=Q", "--step", "1", "M"], "usage"),
-        (&["run", "--elf=Q", "--steps=+5", "M"], "usage"),
-        (&["run", "--elf=Q", "--steps=", "M"], "usage"),
-        (&["run", "--elf=Q", "--steps=4294967296", "M"], "usage"),
-        (&["run", "--elf=Q", "--harts=0", "M"], "usage"),
-        (&["run", "--elf=Q", "--harts=9", "M"], "usage"),
-        (&["run", "--elf=Q", "--order=", "M"], "usage"),
-        (&["run", "--elf=Q", "--harts=2", "--order=02", "M"], "usage"),
-        (&["run", "--elf=Q", "--ram-size=0", "M"], "usage"),
-        (&["run", "--elf=Q", "--ram-size=67108865", "M"], "usage"),
-        (
-            &["run", "--elf=Q", "--ram-base=18446744073708503041", "M"],
-            "usage",
-        ),
-        (
-            &["run", "--elf=Q", "--ram-base=18446744073709551616", "M"],
-            "usage",
-        ),
-    ];
-    for (words, want) in rows {
-        assert!(rt; answer(alloc, words)?.as_str() == want, "{words:?}");
+    for (text, want) in &RUNS {
+        let words = words(alloc, text)?;
+        assert!(rt;
+            answer(alloc, words.as_slice())?.as_str() == *want,
+            "{text}"
+        );
     }
+    Ok(())
+}
+
+#[test]
+fn other_words_are_refused(rt: HostRuntime) -> Result<(), Fail> {
+    let alloc = rt.alloc();
+    for text in &REFUSED {
+        let words = words(alloc, text)?;
+        assert!(rt;
+            answer(alloc, words.as_slice())?.as_str() == "usage",
+            "{text}"
+        );
+    }
+    Ok(())
+}
+
+#[test]
+fn sixty_four_models_are_asked_for(rt: HostRuntime) -> Result<(), Fail> {
+    let alloc = rt.alloc();
     let mut words = vec![in alloc; "run", "--elf=Q"]?;
     for _ in 0..64 {
         words.push("M")?;

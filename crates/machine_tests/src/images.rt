@@ -56,60 +56,69 @@ fn refusal(alloc: Global, file: &[u8], wanted: Option<i128>) -> Result<Option<El
     }
 }
 
+/// An edit that changes nothing.
+const SAME: (usize, u8) = (0, 0x7f);
+
+/// So many program headers, bytes that are written over an image of them at places, and the refusal.
+const FIELDS: [(u8, [(usize, u8); 3], Option<ElfRefusal>); 22] = [
+    (1, [SAME, SAME, SAME], None),
+    (1, [(3, 9), SAME, SAME], Some(ElfRefusal::Magic)),
+    (1, [(4, 1), SAME, SAME], Some(ElfRefusal::Class)),
+    (1, [(5, 64), (6, 0), SAME], Some(ElfRefusal::Encoding)),
+    (1, [(6, 0), (16, 3), SAME], Some(ElfRefusal::Version)),
+    (1, [(23, 3), SAME, SAME], Some(ElfRefusal::Version)),
+    (1, [(17, 3), SAME, SAME], Some(ElfRefusal::FileType)),
+    (1, [(54, 0), SAME, SAME], Some(ElfRefusal::HeaderSize)),
+    (1, [(54, 0), (56, 0), SAME], None),
+    (1, [(56, 65), SAME, SAME], Some(ElfRefusal::Count)),
+    (1, [(56, 2), SAME, SAME], Some(ElfRefusal::TableOutside)),
+    (1, [(39, 0xff), SAME, SAME], Some(ElfRefusal::TableOutside)),
+    (
+        1,
+        [(103, 2), SAME, SAME],
+        Some(ElfRefusal::SegmentOutside { index: 0 }),
+    ),
+    (
+        1,
+        [(96, 9), (104, 8), SAME],
+        Some(ElfRefusal::SegmentOutside { index: 0 }),
+    ),
+    (
+        1,
+        [(104, 7), SAME, SAME],
+        Some(ElfRefusal::FileOverMemory { index: 0 }),
+    ),
+    (1, [(79, 0xff), (96, 0), SAME], None),
+    (
+        1,
+        [(64, 2), SAME, SAME],
+        Some(ElfRefusal::Dynamic { index: 0 }),
+    ),
+    (
+        2,
+        [(56, 2), (95, 1), (120, 3)],
+        Some(ElfRefusal::Dynamic { index: 1 }),
+    ),
+    (
+        2,
+        [(56, 2), (104, 7), (120, 3)],
+        Some(ElfRefusal::FileOverMemory { index: 0 }),
+    ),
+    (2, [(56, 2), (120, 4), (159, 0xff)], None),
+    (
+        2,
+        [(56, 2), (159, 0xff), SAME],
+        Some(ElfRefusal::SegmentOutside { index: 1 }),
+    ),
+    (1, [(67, 0x70), SAME, SAME], None),
+];
+
 #[test]
 fn each_field_is_tested_in_order(rt: HostRuntime) -> Result<(), Fail> {
     let alloc = rt.alloc();
-    let cases: [(u8, &[(usize, u8)], Option<ElfRefusal>); 22] = [
-        (1, &[], None),
-        (1, &[(3, 9)], Some(ElfRefusal::Magic)),
-        (1, &[(4, 1)], Some(ElfRefusal::Class)),
-        (1, &[(5, 64), (6, 0)], Some(ElfRefusal::Encoding)),
-        (1, &[(6, 0), (16, 3)], Some(ElfRefusal::Version)),
-        (1, &[(23, 3)], Some(ElfRefusal::Version)),
-        (1, &[(17, 3)], Some(ElfRefusal::FileType)),
-        (1, &[(54, 0)], Some(ElfRefusal::HeaderSize)),
-        (1, &[(54, 0), (56, 0)], None),
-        (1, &[(56, 65)], Some(ElfRefusal::Count)),
-        (1, &[(56, 2)], Some(ElfRefusal::TableOutside)),
-        (1, &[(39, 0xff)], Some(ElfRefusal::TableOutside)),
-        (
-            1,
-            &[(103, 2)],
-            Some(ElfRefusal::SegmentOutside { index: 0 }),
-        ),
-        (
-            1,
-            &[(96, 9), (104, 8)],
-            Some(ElfRefusal::SegmentOutside { index: 0 }),
-        ),
-        (
-            1,
-            &[(104, 7)],
-            Some(ElfRefusal::FileOverMemory { index: 0 }),
-        ),
-        (1, &[(79, 0xff), (96, 0)], None),
-        (1, &[(64, 2)], Some(ElfRefusal::Dynamic { index: 0 })),
-        (
-            2,
-            &[(56, 2), (95, 1), (120, 3)],
-            Some(ElfRefusal::Dynamic { index: 1 }),
-        ),
-        (
-            2,
-            &[(56, 2), (104, 7), (120, 3)],
-            Some(ElfRefusal::FileOverMemory { index: 0 }),
-        ),
-        (2, &[(56, 2), (120, 4), (159, 0xff)], None),
-        (
-            2,
-            &[(56, 2), (159, 0xff)],
-            Some(ElfRefusal::SegmentOutside { index: 1 }),
-        ),
-        (1, &[(67, 0x70)], None),
-    ];
-    for (headers, edits, wanted) in cases {
-        let file = image(alloc, headers, edits, 4096)?;
-        assert!(rt; refusal(alloc, &file, None)? == wanted);
+    for (headers, edits, wanted) in &FIELDS {
+        let file = image(alloc, *headers, edits.as_slice(), 4096)?;
+        assert!(rt; refusal(alloc, &file, None)? == *wanted);
     }
     let file = image(alloc, 1, &[], 4096)?;
     let found = Some(ElfRefusal::Machine {

@@ -163,69 +163,8 @@ fn answer(
     normal(alloc, typ, &scope)
 }
 
-/// Texts under the parameters `'n : Int`, `'m : Int`, `'p : Bool` and `'a : Type`: the number of the refusal, its
-/// column, and its detail or what the text stands for.
-#[test]
-fn types_are_read(rt: HostRuntime) -> Result<(), Fail> {
-    let alloc = rt.alloc();
-    let largest = 85070591730234615865843651857942052864;
-    let n = variable(alloc, 1, "'n")?;
-    let twice = infix(alloc, 3, TypeOperator::Star, number(1, 2), n)?;
-    let n = variable(alloc, 1, "'n")?;
-    let more = infix(alloc, 4, TypeOperator::Plus, n, number(6, 1))?;
-    let product = infix(
-        alloc,
-        4,
-        TypeOperator::Star,
-        variable(alloc, 1, "'n")?,
-        variable(alloc, 6, "'m")?,
-    )?;
-    let past = infix(
-        alloc,
-        9,
-        TypeOperator::Plus,
-        number(1, largest),
-        number(11, 1),
-    )?;
-    let high = prefix(alloc, 3, TypePrefix::Power, number(5, 127))?;
-    let power = prefix(alloc, 3, TypePrefix::Power, number(5, 126))?;
-    let less = infix(
-        alloc,
-        4,
-        TypeOperator::Less,
-        variable(alloc, 1, "'n")?,
-        number(6, 9),
-    )?;
-    let negative = prefix(alloc, 6, TypePrefix::Negate, number(7, 1))?;
-    let bit = named(alloc, 5, "bit", Items::new(alloc))?;
-    let choice = TyExp::Truth(at(6), true);
-    let other = TyExp::Truth(at(12), false);
-    let unknown = named(alloc, 6, "word", Items::new(alloc))?;
-    let inner = of_one(alloc, 9, "bits", variable(alloc, 14, "'k")?)?;
-    let twice_bound = of_one(alloc, 9, "bits", number(14, 1))?;
-    let raised = prefix(alloc, 3, TypePrefix::Power, more)?;
-    let rows = [
-        (twice, 0, 0, "2 * 'n"),
-        (raised, 0, 0, "2 ^ ('n + 1)"),
-        (power, 0, 0, "85070591730234615865843651857942052864"),
-        (product, 11, 4, "refused"),
-        (past, 11, 9, "refused"),
-        (high, 11, 3, "refused"),
-        (less, 0, 0, "constraint"),
-        (of_one(alloc, 1, "bits", negative)?, 11, 1, "refused"),
-        (of_one(alloc, 1, "int", bit)?, 11, 5, "IntType"),
-        (of_two(alloc, 1, "bool", choice, other)?, 11, 1, "1 for 2"),
-        (
-            of_two(alloc, 1, "range", number(7, 3), number(10, 2))?,
-            11,
-            1,
-            "refused",
-        ),
-        (of_one(alloc, 1, "list", unknown)?, 10, 6, "word"),
-        (variable(alloc, 1, "'k")?, 10, 1, "'k"),
-        (exists(alloc, 2, &["'k"], inner)?, 0, 0, "exists"),
-        (exists(alloc, 2, &["'k", "'k"], twice_bound)?, 9, 99, "'k"),
-    ];
+/// The parameters of a text: Ints 'n and 'm, a Bool 'p and a Type 'a.
+fn parameters(alloc: Global) -> Result<Items<Variable>, AllocError> {
     let mut parameters = Items::new(alloc);
     for (name, kind) in [
         ("'n", Kind::Int),
@@ -236,17 +175,91 @@ fn types_are_read(rt: HostRuntime) -> Result<(), Fail> {
         let name = Text::new(alloc, name)?;
         parameters.push(Variable { name, kind })?;
     }
+    Ok(parameters)
+}
+
+/// Whether a text stands for this, or is refused by this number at this column (both 0 where it isn't refused) with this text.
+fn is_read(
+    alloc: Global,
+    typ: TyExp,
+    number: u8,
+    column: u32,
+    text: &str,
+) -> Result<bool, AllocError> {
+    let parameters = parameters(alloc)?;
     let mut names = Items::new(alloc);
     for name in ["'n", "'m", "'p"] {
         names.push(Text::new(alloc, name)?)?;
     }
     let types = TypeNames::new(alloc);
-    for (typ, number, column, text) in &rows {
-        let answer = answer(alloc, typ, &types, parameters.as_slice());
-        let mut out = Vec::new(alloc);
-        push_answer(&mut out, names.as_slice(), &answer)?;
-        assert!(rt; refusal(&answer) == (*number, *column));
-        assert!(rt; out.as_slice() == text.as_bytes());
-    }
+    let answer = answer(alloc, &typ, &types, parameters.as_slice());
+    let mut out = Vec::new(alloc);
+    push_answer(&mut out, names.as_slice(), &answer)?;
+    Ok(refusal(&answer) == (number, column) && out.as_slice() == text.as_bytes())
+}
+
+#[test]
+fn numbers_are_read(rt: HostRuntime) -> Result<(), Fail> {
+    let alloc = rt.alloc();
+    let n = variable(alloc, 1, "'n")?;
+    let twice = infix(alloc, 3, TypeOperator::Star, number(1, 2), n)?;
+    assert!(rt; is_read(alloc, twice, 0, 0, "2 * 'n")?);
+    let n = variable(alloc, 1, "'n")?;
+    let more = infix(alloc, 4, TypeOperator::Plus, n, number(6, 1))?;
+    let raised = prefix(alloc, 3, TypePrefix::Power, more)?;
+    assert!(rt; is_read(alloc, raised, 0, 0, "2 ^ ('n + 1)")?);
+    let power = prefix(alloc, 3, TypePrefix::Power, number(5, 126))?;
+    assert!(rt; is_read(alloc, power, 0, 0, "85070591730234615865843651857942052864")?);
+    Ok(())
+}
+
+#[test]
+fn numbers_past_the_limits_are_refused(rt: HostRuntime) -> Result<(), Fail> {
+    let alloc = rt.alloc();
+    let largest = 85070591730234615865843651857942052864;
+    let n = variable(alloc, 1, "'n")?;
+    let product = infix(alloc, 4, TypeOperator::Star, n, variable(alloc, 6, "'m")?)?;
+    assert!(rt; is_read(alloc, product, 11, 4, "refused")?);
+    let past = infix(
+        alloc,
+        9,
+        TypeOperator::Plus,
+        number(1, largest),
+        number(11, 1),
+    )?;
+    assert!(rt; is_read(alloc, past, 11, 9, "refused")?);
+    let high = prefix(alloc, 3, TypePrefix::Power, number(5, 127))?;
+    assert!(rt; is_read(alloc, high, 11, 3, "refused")?);
+    Ok(())
+}
+
+#[test]
+fn constraints_and_variables_are_read(rt: HostRuntime) -> Result<(), Fail> {
+    let alloc = rt.alloc();
+    let n = variable(alloc, 1, "'n")?;
+    let less = infix(alloc, 4, TypeOperator::Less, n, number(6, 9))?;
+    assert!(rt; is_read(alloc, less, 0, 0, "constraint")?);
+    assert!(rt; is_read(alloc, variable(alloc, 1, "'k")?, 10, 1, "'k")?);
+    let inner = of_one(alloc, 9, "bits", variable(alloc, 14, "'k")?)?;
+    assert!(rt; is_read(alloc, exists(alloc, 2, &["'k"], inner)?, 0, 0, "exists")?);
+    let inner = of_one(alloc, 9, "bits", number(14, 1))?;
+    assert!(rt; is_read(alloc, exists(alloc, 2, &["'k", "'k"], inner)?, 9, 99, "'k")?);
+    Ok(())
+}
+
+#[test]
+fn wrong_arguments_are_refused(rt: HostRuntime) -> Result<(), Fail> {
+    let alloc = rt.alloc();
+    let negative = prefix(alloc, 6, TypePrefix::Negate, number(7, 1))?;
+    assert!(rt; is_read(alloc, of_one(alloc, 1, "bits", negative)?, 11, 1, "refused")?);
+    let bit = named(alloc, 5, "bit", Items::new(alloc))?;
+    assert!(rt; is_read(alloc, of_one(alloc, 1, "int", bit)?, 11, 5, "IntType")?);
+    let truth = TyExp::Truth(at(6), true);
+    let truths = of_two(alloc, 1, "bool", truth, TyExp::Truth(at(12), false))?;
+    assert!(rt; is_read(alloc, truths, 11, 1, "1 for 2")?);
+    let empty = of_two(alloc, 1, "range", number(7, 3), number(10, 2))?;
+    assert!(rt; is_read(alloc, empty, 11, 1, "refused")?);
+    let unknown = named(alloc, 6, "word", Items::new(alloc))?;
+    assert!(rt; is_read(alloc, of_one(alloc, 1, "list", unknown)?, 10, 6, "word")?);
     Ok(())
 }

@@ -76,95 +76,91 @@ fn below(alloc: Global, part: Typ) -> Result<Typ, AllocError> {
     Ok(Typ::Exists(name, less, Boxed::new(alloc, part)?))
 }
 
-/// The right sides of named types with the parameters 'n, 'p (a Bool) and 'a, applied to a number, `true` and
-/// `range(0, 'm)`, where 'm is variable 0 of the place where they are applied.
-#[test]
-fn named_types_are_applied(rt: HostRuntime) -> Result<(), Fail> {
-    let alloc = rt.alloc();
-    let mut names = Items::new(alloc);
-    names.push(Text::new(alloc, "'0")?)?;
+/// The right side of a named type with the parameters 'n, 'p (a Bool) and 'a, applied to a number, `true` and `range(0, 'm)`, where 'm
+/// is variable 0 of the place where it is applied: as text, `none` where it can't be said.
+fn applied_text(alloc: Global, number: Num, right: Normal) -> Result<Vec<u8>, AllocError> {
+    let mut names = one_of(alloc, Text::new(alloc, "'0")?)?;
     names.push(Text::new(alloc, "'1")?)?;
     let zero = Num::constant(alloc, 0);
     let types = one_of(alloc, Typ::Range(zero, line(alloc, 1, 0, 0)?))?;
-    let more = line(alloc, 1, 0, 1)?;
-    let large = line(alloc, 1 << 126, 0, 1 << 126)?;
-    let raised = power(alloc, line(alloc, 1, 0, 0)?)?;
-    let again = copy_normal(alloc, &Normal::Number(power(alloc, line(alloc, 1, 0, 0)?)?))?;
-    let argument = Typ::Variable(0);
-    let list = Typ::List(Boxed::new(alloc, Typ::Variable(0))?);
-    let width = Typ::Bits(line(alloc, 1, 0, -1)?);
-    let inner = below(alloc, Typ::Bits(line(alloc, 3, 1, 0)?))?;
-    let own = below(alloc, Typ::Variable(0))?;
-    let rows = [
-        (
-            line(alloc, 1, 0, 1)?,
-            Normal::Number(line(alloc, 8, 0, 0)?),
-            "8 * '0 + 8",
-        ),
-        (
-            line(alloc, 1, 0, 1)?,
-            Normal::Number(raised),
-            "2 ^ ('0 + 1)",
-        ),
-        (Num::constant(alloc, 200), again, "2 ^ (200)"),
-        (more, Normal::Number(large), "none"),
-        (line(alloc, 1, 0, 1)?, Normal::Typ(width), "bits('0)"),
-        (line(alloc, 1, 0, 1)?, Normal::Typ(argument), "range(0, '0)"),
-        (
-            line(alloc, 1, 0, 1)?,
-            Normal::Typ(list),
-            "list(range(0, '0))",
-        ),
-        (
-            line(alloc, 1, 0, 1)?,
-            Normal::Typ(Typ::Truth(Con::Holds(1))),
-            "bool(true)",
-        ),
-        (
-            line(alloc, 1, 0, 1)?,
-            Normal::Typ(inner),
-            "{('0 < '1 + 1). bits(3 * '1 + 3)}",
-        ),
-        (
-            Num::constant(alloc, 9),
-            Normal::Typ(own),
-            "{('0 < 9). range(0, '1)}",
-        ),
-    ];
-    for (number, right, text) in &rows {
-        let mut indices = one_of(alloc, Index::Number(sail_types::copy_num(alloc, number)?))?;
-        indices.push(Index::Truth(Con::Truth(true)))?;
-        let mut out = Vec::new(alloc);
-        match applied(alloc, indices.as_slice(), types.as_slice(), right)? {
-            None => out.extend_from_slice(b"none")?,
-            Some(made) => push_normal(&mut out, names.as_slice(), &made)?,
-        }
-        assert!(rt; out.as_slice() == text.as_bytes());
+    let mut indices = one_of(alloc, Index::Number(number))?;
+    indices.push(Index::Truth(Con::Truth(true)))?;
+    let mut out = Vec::new(alloc);
+    match applied(alloc, indices.as_slice(), types.as_slice(), &right)? {
+        None => out.extend_from_slice(b"none")?,
+        Some(made) => push_normal(&mut out, names.as_slice(), &made)?,
     }
+    Ok(out)
+}
+
+/// Whether the right side of a named type is this text where it is applied to variable 0 and 1 more.
+fn is_made(alloc: Global, right: Normal, text: &str) -> Result<bool, AllocError> {
+    let made = applied_text(alloc, line(alloc, 1, 0, 1)?, right)?;
+    Ok(made.as_slice() == text.as_bytes())
+}
+
+#[test]
+fn named_numbers_are_applied(rt: HostRuntime) -> Result<(), Fail> {
+    let alloc = rt.alloc();
+    let eight = line(alloc, 8, 0, 0)?;
+    assert!(rt; is_made(alloc, Normal::Number(eight), "8 * '0 + 8")?);
+    let raised = power(alloc, line(alloc, 1, 0, 0)?)?;
+    assert!(rt; is_made(alloc, Normal::Number(raised), "2 ^ ('0 + 1)")?);
+    let again = copy_normal(alloc, &Normal::Number(power(alloc, line(alloc, 1, 0, 0)?)?))?;
+    let made = applied_text(alloc, Num::constant(alloc, 200), again)?;
+    assert!(rt; made.as_slice() == "2 ^ (200)".as_bytes());
+    let large = line(alloc, 1 << 126, 0, 1 << 126)?;
+    assert!(rt; is_made(alloc, Normal::Number(large), "none")?);
     Ok(())
+}
+
+#[test]
+fn named_types_are_applied(rt: HostRuntime) -> Result<(), Fail> {
+    let alloc = rt.alloc();
+    let width = Typ::Bits(line(alloc, 1, 0, -1)?);
+    assert!(rt; is_made(alloc, Normal::Typ(width), "bits('0)")?);
+    assert!(rt; is_made(alloc, Normal::Typ(Typ::Variable(0)), "range(0, '0)")?);
+    let list = Typ::List(Boxed::new(alloc, Typ::Variable(0))?);
+    assert!(rt; is_made(alloc, Normal::Typ(list), "list(range(0, '0))")?);
+    let truth = Typ::Truth(Con::Holds(1));
+    assert!(rt; is_made(alloc, Normal::Typ(truth), "bool(true)")?);
+    Ok(())
+}
+
+#[test]
+fn named_types_with_binders_are_applied(rt: HostRuntime) -> Result<(), Fail> {
+    let alloc = rt.alloc();
+    let inner = below(alloc, Typ::Bits(line(alloc, 3, 1, 0)?))?;
+    assert!(rt;
+        is_made(
+            alloc,
+            Normal::Typ(inner),
+            "{('0 < '1 + 1). bits(3 * '1 + 3)}"
+        )?
+    );
+    let own = below(alloc, Typ::Variable(0))?;
+    let made = applied_text(alloc, Num::constant(alloc, 9), Normal::Typ(own))?;
+    assert!(rt; made.as_slice() == "{('0 < 9). range(0, '1)}".as_bytes());
+    Ok(())
+}
+
+/// Whether a copy of a type has no values.
+fn is_void(alloc: Global, typ: Typ) -> Result<bool, AllocError> {
+    Ok(is_void_normal(&Normal::Typ(copy_typ(alloc, &typ)?)))
 }
 
 #[test]
 fn empty_ranges_and_negative_widths_are_found(rt: HostRuntime) -> Result<(), Fail> {
     let alloc = rt.alloc();
+    let one = Typ::Range(Num::constant(alloc, 2), Num::constant(alloc, 2));
+    assert!(rt; !is_void(alloc, one)?);
+    let unknown = Typ::Range(line(alloc, 1, 0, 0)?, Num::constant(alloc, -1));
+    assert!(rt; !is_void(alloc, unknown)?);
+    assert!(rt; !is_void(alloc, Typ::Bits(Num::constant(alloc, 0)))?);
+    assert!(rt; is_void(alloc, Typ::Bits(Num::constant(alloc, -1)))?);
+    assert!(rt; !is_void(alloc, Typ::Bits(line(alloc, 1, 0, -1)?))?);
     let empty = Typ::Range(Num::constant(alloc, 3), Num::constant(alloc, 2));
-    let rows = [
-        (
-            Typ::Range(Num::constant(alloc, 2), Num::constant(alloc, 2)),
-            false,
-        ),
-        (
-            Typ::Range(line(alloc, 1, 0, 0)?, Num::constant(alloc, -1)),
-            false,
-        ),
-        (Typ::Bits(Num::constant(alloc, 0)), false),
-        (Typ::Bits(Num::constant(alloc, -1)), true),
-        (Typ::Bits(line(alloc, 1, 0, -1)?), false),
-        (below(alloc, Typ::List(Boxed::new(alloc, empty)?))?, true),
-    ];
-    for (typ, wanted) in &rows {
-        let copy = Normal::Typ(copy_typ(alloc, typ)?);
-        assert!(rt; is_void_normal(&copy) == *wanted);
-    }
+    let inside = below(alloc, Typ::List(Boxed::new(alloc, empty)?))?;
+    assert!(rt; is_void(alloc, inside)?);
     Ok(())
 }

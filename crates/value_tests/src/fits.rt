@@ -78,80 +78,92 @@ fn list(alloc: Global, item: Shape) -> Result<Shape, AllocError> {
     Ok(Shape::List(Boxed::new(alloc, item)?))
 }
 
+/// Whether a value fits a shape.
+fn fits(types: &Types, value: Value, shape: Shape) -> bool {
+    value_fits(types, &value, &shape)
+}
+
+/// The shape of a named type without arguments.
+fn of(alloc: Global, place: u32) -> Shape {
+    Shape::Named(place, Items::new(alloc))
+}
+
 #[test]
-fn values_fit_their_shapes(rt: HostRuntime) -> Result<(), Fail> {
+fn lists_fit_their_shapes(rt: HostRuntime) -> Result<(), Fail> {
     let alloc = rt.alloc();
     let types = table(alloc)?;
-    let int_list = Value::List(one_of(alloc, Value::Integer(1))?);
+    assert!(rt;
+        fits(
+            &types,
+            Value::List(Items::new(alloc)),
+            list(alloc, Shape::Int)?
+        )
+    );
+    assert!(rt;
+        fits(
+            &types,
+            Value::List(Items::new(alloc)),
+            list(alloc, Shape::Hole)?
+        )
+    );
+    let vector = Shape::Vector(Boxed::new(alloc, Shape::Int)?);
+    assert!(rt; !fits(&types, Value::List(Items::new(alloc)), vector));
+    let integers = Value::List(one_of(alloc, Value::Integer(1))?);
+    assert!(rt; !fits(&types, integers, list(alloc, Shape::Bool)?));
+    Ok(())
+}
+
+#[test]
+fn options_fit_their_shapes(rt: HostRuntime) -> Result<(), Fail> {
+    let alloc = rt.alloc();
+    let types = table(alloc)?;
+    assert!(rt;
+        fits(
+            &types,
+            some(alloc, Value::Truth(true))?,
+            option(alloc, Shape::Bool)?
+        )
+    );
+    assert!(rt;
+        !fits(
+            &types,
+            some(alloc, Value::Truth(true))?,
+            option(alloc, Shape::Int)?
+        )
+    );
+    assert!(rt; !fits(&types, some(alloc, Value::Unit)?, of(alloc, COLOR)));
     let wrapped = Value::Struct(WRAPPED, one_of(alloc, some(alloc, Value::Truth(true))?)?);
-    let short = Value::Struct(PAIR, one_of(alloc, Value::Truth(true))?);
+    let shape = Shape::Named(WRAPPED, one_of(alloc, Shape::Bool)?);
+    assert!(rt; fits(&types, wrapped, shape));
+    Ok(())
+}
+
+#[test]
+fn structs_and_tuples_fit_their_shapes(rt: HostRuntime) -> Result<(), Fail> {
+    let alloc = rt.alloc();
+    let types = table(alloc)?;
     let pair = Value::Struct(PAIR, pair_of(alloc, Value::Truth(true), Value::Bit(true))?);
+    assert!(rt; fits(&types, pair, of(alloc, PAIR)));
     let crossed = Value::Struct(PAIR, pair_of(alloc, Value::Bit(true), Value::Truth(true))?);
+    assert!(rt; !fits(&types, crossed, of(alloc, PAIR)));
+    let short = Value::Struct(PAIR, one_of(alloc, Value::Truth(true))?);
+    assert!(rt; !fits(&types, short, of(alloc, PAIR)));
     let two = Value::Tuple(pair_of(alloc, Value::Integer(1), Value::Unit)?);
-    let two_shapes = pair_of(alloc, Shape::Int, Shape::Unit)?;
-    let cases = [
-        (
-            Value::List(Items::new(alloc)),
-            list(alloc, Shape::Int)?,
-            true,
-        ),
-        (
-            Value::List(Items::new(alloc)),
-            list(alloc, Shape::Hole)?,
-            true,
-        ),
-        (
-            Value::List(Items::new(alloc)),
-            Shape::Vector(Boxed::new(alloc, Shape::Int)?),
-            false,
-        ),
-        (int_list, list(alloc, Shape::Bool)?, false),
-        (
-            some(alloc, Value::Truth(true))?,
-            option(alloc, Shape::Bool)?,
-            true,
-        ),
-        (
-            some(alloc, Value::Truth(true))?,
-            option(alloc, Shape::Int)?,
-            false,
-        ),
-        (
-            some(alloc, Value::Unit)?,
-            Shape::Named(COLOR, Items::new(alloc)),
-            false,
-        ),
-        (
-            wrapped,
-            Shape::Named(WRAPPED, one_of(alloc, Shape::Bool)?),
-            true,
-        ),
-        (pair, Shape::Named(PAIR, Items::new(alloc)), true),
-        (crossed, Shape::Named(PAIR, Items::new(alloc)), false),
-        (short, Shape::Named(PAIR, Items::new(alloc)), false),
-        (
-            Value::Member(COLOR, 1),
-            Shape::Named(COLOR, Items::new(alloc)),
-            true,
-        ),
-        (
-            Value::Member(COLOR, 2),
-            Shape::Named(COLOR, Items::new(alloc)),
-            false,
-        ),
-        (
-            Value::Member(COLOR, 0),
-            Shape::Named(SHADE, Items::new(alloc)),
-            false,
-        ),
-        (two, Shape::Tuple(two_shapes), true),
-        (Value::Integer(-1), Shape::Variable(0), true),
-        (Value::Unit, Shape::Hole, false),
-        (Value::Unit, Shape::Never, false),
-    ];
-    for (value, shape, fit) in &cases {
-        assert!(rt; value_fits(&types, value, shape) == *fit);
-    }
+    let shape = Shape::Tuple(pair_of(alloc, Shape::Int, Shape::Unit)?);
+    assert!(rt; fits(&types, two, shape));
+    Ok(())
+}
+
+#[test]
+fn members_and_plain_values_fit_their_shapes(rt: HostRuntime) -> Result<(), Fail> {
+    let alloc = rt.alloc();
+    let types = table(alloc)?;
+    assert!(rt; fits(&types, Value::Member(COLOR, 1), of(alloc, COLOR)));
+    assert!(rt; !fits(&types, Value::Member(COLOR, 2), of(alloc, COLOR)));
+    assert!(rt; !fits(&types, Value::Member(COLOR, 0), of(alloc, SHADE)));
+    assert!(rt; fits(&types, Value::Integer(-1), Shape::Variable(0)));
+    assert!(rt; !fits(&types, Value::Unit, Shape::Hole));
+    assert!(rt; !fits(&types, Value::Unit, Shape::Never));
     Ok(())
 }
 
@@ -171,33 +183,21 @@ fn named(alloc: Global, index: i128, argument: Typ) -> Result<Typ, AllocError> {
     Ok(Typ::Named(WRAPPED, indices, one_of(alloc, argument)?))
 }
 
+/// Whether two types are the same.
+fn same(a: Typ, b: Typ) -> bool {
+    same_type(&a, &b)
+}
+
 #[test]
 fn types_are_the_same_but_for_names(rt: HostRuntime) -> Result<(), Fail> {
     let alloc = rt.alloc();
-    let cases = [
-        (some_int(alloc, "'n")?, some_int(alloc, "'m")?, true),
-        (
-            some_int(alloc, "'n")?,
-            Typ::Int(Num::variable(alloc, 0)?),
-            false,
-        ),
-        (range(alloc, 0, 1), range(alloc, 0, 1), true),
-        (range(alloc, 0, 1), range(alloc, 0, 2), false),
-        (named(alloc, 3, Typ::Bit)?, named(alloc, 3, Typ::Bit)?, true),
-        (
-            named(alloc, 3, Typ::Bit)?,
-            named(alloc, 4, Typ::Bit)?,
-            false,
-        ),
-        (
-            named(alloc, 3, Typ::Bit)?,
-            named(alloc, 3, Typ::Bool)?,
-            false,
-        ),
-        (Typ::Variable(0), Typ::Variable(1), false),
-    ];
-    for (a, b, same) in &cases {
-        assert!(rt; same_type(a, b) == *same);
-    }
+    assert!(rt; same(some_int(alloc, "'n")?, some_int(alloc, "'m")?));
+    assert!(rt; !same(some_int(alloc, "'n")?, Typ::Int(Num::variable(alloc, 0)?)));
+    assert!(rt; same(range(alloc, 0, 1), range(alloc, 0, 1)));
+    assert!(rt; !same(range(alloc, 0, 1), range(alloc, 0, 2)));
+    assert!(rt; same(named(alloc, 3, Typ::Bit)?, named(alloc, 3, Typ::Bit)?));
+    assert!(rt; !same(named(alloc, 3, Typ::Bit)?, named(alloc, 4, Typ::Bit)?));
+    assert!(rt; !same(named(alloc, 3, Typ::Bit)?, named(alloc, 3, Typ::Bool)?));
+    assert!(rt; !same(Typ::Variable(0), Typ::Variable(1)));
     Ok(())
 }

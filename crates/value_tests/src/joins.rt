@@ -1,5 +1,5 @@
 use sail_base::{Boxed, Items};
-use sail_types::{Shape, copy_shape, same_shape, same_shapes};
+use sail_types::{Shape, same_shape, same_shapes};
 use shape_joins::{holes, join_shapes, learn_shapes, overlap, put_shape};
 use std::alloc::{AllocError, Global};
 use std::test::Fail;
@@ -25,37 +25,39 @@ fn option(alloc: Global, item: Shape) -> Result<Shape, AllocError> {
     Ok(Shape::Named(0, one(alloc, item)?))
 }
 
+/// Whether two shapes are this one together, or none.
+fn is_join(alloc: Global, a: Shape, b: Shape, wanted: Option<Shape>) -> Result<bool, AllocError> {
+    match (join_shapes(alloc, &a, &b)?, wanted) {
+        (Some(found), Some(wanted)) => Ok(same_shape(&found, &wanted)),
+        (found, wanted) => Ok(found.is_none() && wanted.is_none()),
+    }
+}
+
+/// An empty list takes the wanted shape, and `None()` the payload that stands beside it.
 #[test]
 fn open_shapes_take_what_is_wanted(rt: HostRuntime) -> Result<(), Fail> {
     let alloc = rt.alloc();
-    // what two shapes are: an empty list takes the wanted shape, and `None()` the payload that stands beside it
-    let joins = [
-        (
-            list(alloc, Shape::Hole)?,
-            list(alloc, Shape::Int)?,
-            Some(list(alloc, Shape::Int)?),
-        ),
-        (
-            Shape::Tuple(two(alloc, Shape::Bool, option(alloc, Shape::Hole)?)?),
-            Shape::Tuple(two(alloc, Shape::Never, option(alloc, Shape::Bits)?)?),
-            Some(Shape::Tuple(two(alloc, Shape::Bool, option(alloc, Shape::Bits)?)?)),
-        ),
-        (Shape::Hole, Shape::Never, Some(Shape::Hole)),
-        (Shape::Unit, Shape::Never, Some(Shape::Unit)),
-        (Shape::Int, Shape::Bits, None),
-        (list(alloc, Shape::Int)?, list(alloc, Shape::Bool)?, None),
-        (
-            Shape::Named(0, Items::new(alloc)),
-            Shape::Named(1, Items::new(alloc)),
-            None,
-        ),
-    ];
-    for (a, b, wanted) in &joins {
-        match (join_shapes(alloc, a, b)?, wanted) {
-            (Some(found), Some(wanted)) => assert!(rt; same_shape(&found, wanted)),
-            (found, wanted) => assert!(rt; found.is_none() && wanted.is_none()),
-        }
-    }
+    let open = list(alloc, Shape::Hole)?;
+    let wanted = list(alloc, Shape::Int)?;
+    assert!(rt; is_join(alloc, open, list(alloc, Shape::Int)?, Some(wanted))?);
+    let open = Shape::Tuple(two(alloc, Shape::Bool, option(alloc, Shape::Hole)?)?);
+    let beside = Shape::Tuple(two(alloc, Shape::Never, option(alloc, Shape::Bits)?)?);
+    let wanted = Shape::Tuple(two(alloc, Shape::Bool, option(alloc, Shape::Bits)?)?);
+    assert!(rt; is_join(alloc, open, beside, Some(wanted))?);
+    assert!(rt; is_join(alloc, Shape::Hole, Shape::Never, Some(Shape::Hole))?);
+    assert!(rt; is_join(alloc, Shape::Unit, Shape::Never, Some(Shape::Unit))?);
+    Ok(())
+}
+
+#[test]
+fn other_shapes_are_none_together(rt: HostRuntime) -> Result<(), Fail> {
+    let alloc = rt.alloc();
+    assert!(rt; is_join(alloc, Shape::Int, Shape::Bits, None)?);
+    let integers = list(alloc, Shape::Int)?;
+    assert!(rt; is_join(alloc, integers, list(alloc, Shape::Bool)?, None)?);
+    let first = Shape::Named(0, Items::new(alloc));
+    let second = Shape::Named(1, Items::new(alloc));
+    assert!(rt; is_join(alloc, first, second, None)?);
     Ok(())
 }
 
@@ -81,45 +83,35 @@ fn variables_stand_for_what_arguments_tell(rt: HostRuntime) -> Result<(), Fail> 
     Ok(())
 }
 
+/// Whether members of these parameters clash.
+fn clash(alloc: Global, a: Items<Shape>, b: Items<Shape>) -> Result<bool, AllocError> {
+    overlap(alloc, a.as_slice(), b.as_slice())
+}
+
+/// `list(int) -> int` and `list(bool) -> int` share the empty list.
 #[test]
 fn members_that_may_share_values_clash(rt: HostRuntime) -> Result<(), Fail> {
     let alloc = rt.alloc();
-    let a = Shape::Variable(0);
-    let b = Shape::Variable(1);
-    let clashes = [
-        // `int -> int` twice, and `'a -> int` beside `'b -> int`, are equal
-        (one(alloc, Shape::Int)?, one(alloc, Shape::Int)?, false),
-        (
-            one(alloc, copy_shape(alloc, &a)?)?,
-            one(alloc, copy_shape(alloc, &b)?)?,
-            false,
-        ),
-        // `list(int) -> int` and `list(bool) -> int` share the empty list
-        (
-            one(alloc, list(alloc, Shape::Int)?)?,
-            one(alloc, list(alloc, Shape::Bool)?)?,
-            true,
-        ),
-        (
-            one(alloc, copy_shape(alloc, &a)?)?,
-            one(alloc, Shape::Int)?,
-            true,
-        ),
-        (
-            two(alloc, copy_shape(alloc, &a)?, copy_shape(alloc, &a)?)?,
-            two(alloc, copy_shape(alloc, &a)?, copy_shape(alloc, &b)?)?,
-            true,
-        ),
-        // other counts and other heads never clash
-        (
-            one(alloc, Shape::Int)?,
-            two(alloc, Shape::Int, Shape::Int)?,
-            false,
-        ),
-        (one(alloc, Shape::Int)?, one(alloc, Shape::Bits)?, false),
-    ];
-    for (a, b, wanted) in &clashes {
-        assert!(rt; overlap(alloc, a.as_slice(), b.as_slice())? == *wanted);
-    }
+    let integers = one(alloc, list(alloc, Shape::Int)?)?;
+    let truths = one(alloc, list(alloc, Shape::Bool)?)?;
+    assert!(rt; clash(alloc, integers, truths)?);
+    let any = one(alloc, Shape::Variable(0))?;
+    assert!(rt; clash(alloc, any, one(alloc, Shape::Int)?)?);
+    let same = two(alloc, Shape::Variable(0), Shape::Variable(0))?;
+    let other = two(alloc, Shape::Variable(0), Shape::Variable(1))?;
+    assert!(rt; clash(alloc, same, other)?);
+    Ok(())
+}
+
+/// `int -> int` twice, and `'a -> int` beside `'b -> int`, are equal; other counts and other heads never clash.
+#[test]
+fn equal_members_and_others_dont_clash(rt: HostRuntime) -> Result<(), Fail> {
+    let alloc = rt.alloc();
+    assert!(rt; !clash(alloc, one(alloc, Shape::Int)?, one(alloc, Shape::Int)?)?);
+    let first = one(alloc, Shape::Variable(0))?;
+    assert!(rt; !clash(alloc, first, one(alloc, Shape::Variable(1))?)?);
+    let single = one(alloc, Shape::Int)?;
+    assert!(rt; !clash(alloc, single, two(alloc, Shape::Int, Shape::Int)?)?);
+    assert!(rt; !clash(alloc, one(alloc, Shape::Int)?, one(alloc, Shape::Bits)?)?);
     Ok(())
 }

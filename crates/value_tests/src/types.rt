@@ -54,135 +54,149 @@ fn one_of<T: Drop>(alloc: Global, a: T) -> Result<Items<T>, AllocError> {
     Ok(items)
 }
 
+/// Whether a shape prints as this text, where 'a is variable 0.
+fn is_shape_text(
+    alloc: Global,
+    types: &Types,
+    shape: Shape,
+    text: &str,
+) -> Result<bool, AllocError> {
+    let names = one_of(alloc, Text::new(alloc, "'a")?)?;
+    let mut out = Vec::new(alloc);
+    push_shape(&mut out, types, names.as_slice(), &shape)?;
+    Ok(out.as_slice() == text.as_bytes())
+}
+
 #[test]
 fn shapes_print_as_the_manual_writes_types(rt: HostRuntime) -> Result<(), Fail> {
     let alloc = rt.alloc();
     let types = table(alloc)?;
-    let names = one_of(alloc, Text::new(alloc, "'a")?)?;
-    let shapes = [
-        (Shape::Bits, "bits"),
-        (Shape::List(Boxed::new(alloc, Shape::Int)?), "list(int)"),
-        (
-            Shape::Vector(Boxed::new(alloc, Shape::Bits)?),
-            "vector(bits)",
-        ),
-        (
-            Shape::Tuple(pair_of(alloc, Shape::Int, Shape::Bits)?),
-            "(int, bits)",
-        ),
-        (Shape::Named(0, one_of(alloc, Shape::Int)?), "option(int)"),
-        (Shape::Named(2, Items::new(alloc)), "color"),
-        (Shape::Variable(0), "'a"),
-        (Shape::Hole, "_"),
-    ];
-    for (shape, text) in &shapes {
-        let mut out = Vec::new(alloc);
-        push_shape(&mut out, &types, names.as_slice(), shape)?;
-        assert!(rt; out.as_slice() == text.as_bytes());
-    }
+    assert!(rt; is_shape_text(alloc, &types, Shape::Bits, "bits")?);
+    let list = Shape::List(Boxed::new(alloc, Shape::Int)?);
+    assert!(rt; is_shape_text(alloc, &types, list, "list(int)")?);
+    let vector = Shape::Vector(Boxed::new(alloc, Shape::Bits)?);
+    assert!(rt; is_shape_text(alloc, &types, vector, "vector(bits)")?);
+    let tuple = Shape::Tuple(pair_of(alloc, Shape::Int, Shape::Bits)?);
+    assert!(rt; is_shape_text(alloc, &types, tuple, "(int, bits)")?);
+    let option = Shape::Named(0, one_of(alloc, Shape::Int)?);
+    assert!(rt; is_shape_text(alloc, &types, option, "option(int)")?);
+    assert!(rt; is_shape_text(alloc, &types, Shape::Named(2, Items::new(alloc)), "color")?);
+    assert!(rt; is_shape_text(alloc, &types, Shape::Variable(0), "'a")?);
+    assert!(rt; is_shape_text(alloc, &types, Shape::Hole, "_")?);
     Ok(())
 }
 
-#[test]
-fn numbers_print_in_normal_form(rt: HostRuntime) -> Result<(), Fail> {
-    let alloc = rt.alloc();
+/// Whether a number prints as this text, where 'n and 'm are variables 0 and 1.
+fn is_number_text(alloc: Global, number: &Num, text: &str) -> Result<bool, AllocError> {
     let names = pair_of(alloc, Text::new(alloc, "'n")?, Text::new(alloc, "'m")?)?;
+    let mut out = Vec::new(alloc);
+    push_number(&mut out, names.as_slice(), number)?;
+    Ok(out.as_slice() == text.as_bytes())
+}
+
+#[test]
+fn sums_print_in_normal_form(rt: HostRuntime) -> Result<(), Fail> {
+    let alloc = rt.alloc();
     let n = Num::variable(alloc, 0)?;
-    let m = Num::variable(alloc, 1)?;
-    let zero = Num::constant(alloc, 0);
+    assert!(rt; is_number_text(alloc, &n, "'n")?);
+    assert!(rt; is_number_text(alloc, &Num::constant(alloc, 0), "0")?);
     let before = plus(alloc, -1, &n, Num::constant(alloc, 0))?.ok_or("a product")?;
+    assert!(rt; is_number_text(alloc, &before, "-1 * 'n")?);
     let less = add(alloc, &n, &Num::constant(alloc, -1))?.ok_or("a sum")?;
-    let both = plus(alloc, 2, &m, copy_num(alloc, &less)?)?.ok_or("a sum")?;
+    assert!(rt; is_number_text(alloc, &less, "'n + -1")?);
+    let both = plus(alloc, 2, &Num::variable(alloc, 1)?, less)?.ok_or("a sum")?;
+    assert!(rt; is_number_text(alloc, &both, "'n + 2 * 'm + -1")?);
     let none = subtract(alloc, &n, &n)?.ok_or("a difference")?;
-    let double = multiply(alloc, &Num::constant(alloc, 2), &n)?.ok_or("a product")?;
-    let raised = power(alloc, copy_num(alloc, &less)?)?;
-    let placed = subst(alloc, &raised, 0, &Num::constant(alloc, 9))?.ok_or("a power")?;
-    let numbers = [
-        (n, "'n"),
-        (zero, "0"),
-        (before, "-1 * 'n"),
-        (less, "'n + -1"),
-        (both, "'n + 2 * 'm + -1"),
-        (none, "0"),
-        (double, "2 * 'n"),
-        (raised, "2 ^ ('n + -1)"),
-        (placed, "256"),
-    ];
-    for (number, text) in &numbers {
-        let mut out = Vec::new(alloc);
-        push_number(&mut out, names.as_slice(), number)?;
-        assert!(rt; out.as_slice() == text.as_bytes());
-    }
+    assert!(rt; is_number_text(alloc, &none, "0")?);
     Ok(())
 }
 
 #[test]
-fn values_print_as_in_the_report(rt: HostRuntime) -> Result<(), Fail> {
+fn products_and_powers_print_in_normal_form(rt: HostRuntime) -> Result<(), Fail> {
+    let alloc = rt.alloc();
+    let n = Num::variable(alloc, 0)?;
+    let double = multiply(alloc, &Num::constant(alloc, 2), &n)?.ok_or("a product")?;
+    assert!(rt; is_number_text(alloc, &double, "2 * 'n")?);
+    let less = add(alloc, &n, &Num::constant(alloc, -1))?.ok_or("a sum")?;
+    let raised = power(alloc, less)?;
+    assert!(rt; is_number_text(alloc, &raised, "2 ^ ('n + -1)")?);
+    let placed = subst(alloc, &raised, 0, &Num::constant(alloc, 9))?.ok_or("a power")?;
+    assert!(rt; is_number_text(alloc, &placed, "256")?);
+    Ok(())
+}
+
+/// Whether a value prints as this text.
+fn is_value_text(
+    alloc: Global,
+    types: &Types,
+    value: Value,
+    text: &str,
+) -> Result<bool, AllocError> {
+    let mut out = Vec::new(alloc);
+    push_value(&mut out, types, &value)?;
+    Ok(out.as_slice() == text.as_bytes())
+}
+
+/// Integers with their texts.
+const INTEGERS: [(i128, &str); 3] = [
+    (-5, "-5"),
+    (1 << 126, "85070591730234615865843651857942052864"),
+    (-(1 << 126), "-85070591730234615865843651857942052864"),
+];
+
+#[test]
+fn words_print_as_in_the_report(rt: HostRuntime) -> Result<(), Fail> {
     let alloc = rt.alloc();
     let types = table(alloc)?;
-    let values = [
-        (Value::Bits(Word::new(8, 3)), "0x03"),
-        (Value::Bits(Word::new(12, 0x0af)), "0x0af"),
-        (Value::Bits(Word::new(3, 5)), "0b101"),
-        (Value::Bits(Word::zeros(0)), "0b"),
-        (Value::Bit(false), "bitzero"),
-        (Value::Truth(true), "true"),
-        (Value::Bit(true), "bitone"),
-        (Value::Integer(-5), "-5"),
-        (
-            Value::Integer(1 << 126),
-            "85070591730234615865843651857942052864",
-        ),
-        (
-            Value::Integer(-(1 << 126)),
-            "-85070591730234615865843651857942052864",
-        ),
-        (Value::Unit, "()"),
-        (Value::Member(2, 1), "Green"),
-        (
-            Value::Tuple(pair_of(alloc, Value::Integer(1), Value::Truth(false))?),
-            "(1, false)",
-        ),
-        (
-            Value::Vector(pair_of(alloc, Value::Integer(1), Value::Integer(2))?),
-            "[1, 2]",
-        ),
-        (
-            Value::Vector(pair_of(
-                alloc,
-                Value::Bits(Word::new(8, 1)),
-                Value::Bits(Word::new(8, 2)),
-            )?),
-            "[0x01, 0x02]",
-        ),
-        (
-            Value::Struct(3, one_of(alloc, Value::Bits(Word::new(8, 0xa8)))?),
-            "{bits = 0xa8}",
-        ),
-        (
-            zero_of(
-                alloc,
-                &types,
-                &Typ::Named(1, Items::new(alloc), Items::new(alloc)),
-            )?
-            .ok_or("a zero")?,
-            "{f = false, g = bitzero}",
-        ),
-        (
-            zero_of(
-                alloc,
-                &types,
-                &Typ::Range(Num::constant(alloc, 3), Num::constant(alloc, 9)),
-            )?
-            .ok_or("a zero")?,
-            "3",
-        ),
-    ];
-    for (value, text) in &values {
-        let mut out = Vec::new(alloc);
-        push_value(&mut out, &types, value)?;
-        assert!(rt; out.as_slice() == text.as_bytes());
+    assert!(rt; is_value_text(alloc, &types, Value::Bits(Word::new(8, 3)), "0x03")?);
+    assert!(rt; is_value_text(alloc, &types, Value::Bits(Word::new(12, 0x0af)), "0x0af")?);
+    assert!(rt; is_value_text(alloc, &types, Value::Bits(Word::new(3, 5)), "0b101")?);
+    assert!(rt; is_value_text(alloc, &types, Value::Bits(Word::zeros(0)), "0b")?);
+    Ok(())
+}
+
+#[test]
+fn plain_values_print_as_in_the_report(rt: HostRuntime) -> Result<(), Fail> {
+    let alloc = rt.alloc();
+    let types = table(alloc)?;
+    for (integer, text) in &INTEGERS {
+        assert!(rt; is_value_text(alloc, &types, Value::Integer(*integer), text)?);
     }
+    assert!(rt; is_value_text(alloc, &types, Value::Bit(false), "bitzero")?);
+    assert!(rt; is_value_text(alloc, &types, Value::Bit(true), "bitone")?);
+    assert!(rt; is_value_text(alloc, &types, Value::Truth(true), "true")?);
+    assert!(rt; is_value_text(alloc, &types, Value::Unit, "()")?);
+    assert!(rt; is_value_text(alloc, &types, Value::Member(2, 1), "Green")?);
+    Ok(())
+}
+
+#[test]
+fn values_of_parts_print_as_in_the_report(rt: HostRuntime) -> Result<(), Fail> {
+    let alloc = rt.alloc();
+    let types = table(alloc)?;
+    let tuple = Value::Tuple(pair_of(alloc, Value::Integer(1), Value::Truth(false))?);
+    assert!(rt; is_value_text(alloc, &types, tuple, "(1, false)")?);
+    let vector = Value::Vector(pair_of(alloc, Value::Integer(1), Value::Integer(2))?);
+    assert!(rt; is_value_text(alloc, &types, vector, "[1, 2]")?);
+    let first = Value::Bits(Word::new(8, 1));
+    let second = Value::Bits(Word::new(8, 2));
+    let words = Value::Vector(pair_of(alloc, first, second)?);
+    assert!(rt; is_value_text(alloc, &types, words, "[0x01, 0x02]")?);
+    let flags = Value::Struct(3, one_of(alloc, Value::Bits(Word::new(8, 0xa8)))?);
+    assert!(rt; is_value_text(alloc, &types, flags, "{bits = 0xa8}")?);
+    Ok(())
+}
+
+#[test]
+fn zeros_print_as_in_the_report(rt: HostRuntime) -> Result<(), Fail> {
+    let alloc = rt.alloc();
+    let types = table(alloc)?;
+    let pair = Typ::Named(1, Items::new(alloc), Items::new(alloc));
+    let zero = zero_of(alloc, &types, &pair)?.ok_or("a zero")?;
+    assert!(rt; is_value_text(alloc, &types, zero, "{f = false, g = bitzero}")?);
+    let range = Typ::Range(Num::constant(alloc, 3), Num::constant(alloc, 9));
+    let zero = zero_of(alloc, &types, &range)?.ok_or("a zero")?;
+    assert!(rt; is_value_text(alloc, &types, zero, "3")?);
     Ok(())
 }
 
