@@ -1,0 +1,16 @@
+pub mod Rests
+pub mod Masses
+pub mod Walked
+pub mod Opened
+pub mod Onward
+pub mod Left
+pub mod Spots
+pub mod Meeting
+pub mod Turns
+pub mod Conditions
+pub mod EachOf
+pub mod Rows
+pub mod ConsLaws
+pub mod Counted
+pub mod BranchEnds
+pub mod LeafKinds

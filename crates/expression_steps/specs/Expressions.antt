@@ -1,0 +1,212 @@
+-- The walk over an expression: one case for each kind of node (Sail language manual, "Expressions", "Exceptions").
+use Rattle.std.specs.Prelude.{Bool, List, None, Option, Some, false, if◌then◌else◌, map, slice_get, true, ℕ, [], ◌&&◌, ◌∷◌}
+use Rattle.sail_base.specs.declared.place.Place.{Place}
+use Rattle.sail_types.specs.declared.numbers.Con.{Con}
+use Rattle.sail_types.specs.declared.types.Typ.{Typ}
+use Rattle.sail_core.specs.declared.targets.Way.TheVariants as Y
+use Rattle.sail_core.specs.declared.tree.Core.{Core, Core-F, fold-Core}
+use Rattle.sail_core.specs.declared.tree.Kind.{Kind}
+use Rattle.sail_core.specs.declared.tree.Kind.TheVariants as K
+use Rattle.sail_core.specs.declared.written.Written.{Written}
+use Rattle.value_indices.specs.Steps.{Walk, bind, give}
+use Rattle.value_indices.specs.declared.indices.Indices.{Indices}
+use Rattle.value_indices.specs.declared.indices.Indices.TheVariants as I
+use Rattle.value_indices.specs.declared.indices.Reading.{Reading}
+use Rattle.value_indices.specs.declared.indices.Reading.TheVariants as R
+use Rattle.pattern_leaves.specs.Settings.{Around, Scope, exponents_owed, held_in, written_in}
+use Rattle.call_arguments.specs.Aims.{aimed}
+use Rattle.call_notes.specs.Ends.{never_value, settled, wrong_value}
+use Rattle.call_notes.specs.Calls.{part_owed}
+use Rattle.call_arguments.specs.declared.aims.Aim.{Aim}
+use Rattle.call_arguments.specs.declared.aims.Aim.TheVariants as Aims
+use Rattle.expression_forms.specs.Names.{held_walk, literal_indices, register_walk, top_level_walk}
+use Rattle.expression_forms.specs.Nodes.{made_at}
+use Rattle.expression_forms.specs.Sizes.{constraint_walk, size_walk}
+use Rattle.expression_steps.specs.Calls.{call_walk}
+use Rattle.expression_steps.specs.Parts.{Part, four, led, none, one, three, two}
+use Rattle.expression_steps.specs.Statements.{and_walk, assert_state, block_walk, foreach_walk, guarded, if_forms, if_state, last_never_ends}
+use Rattle.expression_steps.specs.Statements.{let_walk, loop_walk, match_walk, or_walk, plain_state, try_walk, var_walk}
+use Rattle.expression_steps.specs.Targets.{assigned, spotting}
+use Rattle.expression_steps.specs.Values.{cons_walk, list_walk, part_forms, struct_walk, tuple_walk, update_forms, vector_walk, with_walk}
+
+-- ---- `e : T`: it owes once, and keeps the indices of e
+
+abbrev pub cast_owed : Around → Place → Written → Bool → Indices → Walk Indices
+cast_owed around place w is_nested i =
+    bind (exponents_owed around w.numbers) (λ t. bind (part_owed around is_nested place i (written_in around w)) (λ u. give i))
+
+abbrev pub cast_walk : Place → Option Written → Part → Around → Scope → Aim → Walk Indices
+cast_walk place None a around scope aim = a.walk around scope aim
+cast_walk place (Some w) a around scope aim =
+    bind (a.walk around scope (aimed Aims.Given (written_in around w))) (cast_owed around place w a.is_nested)
+
+-- ---- leaving
+
+abbrev pub left_walk : Part → Around → Scope → Aim → Walk Indices
+left_walk a around scope aim = bind (a.walk around scope aim) (λ i. never_value)
+
+abbrev pub return_owed : Around → Place → Bool → Reading → Indices → Walk Indices
+return_owed around place is_nested r i = bind (part_owed around is_nested place i r) (λ t. never_value)
+
+abbrev pub return_walk : Place → Part → Around → Scope → Option Reading → Walk Indices
+return_walk place a around scope None = wrong_value place
+return_walk place a around scope (Some r) = bind (a.walk around scope (aimed Aims.Given r)) (return_owed around place a.is_nested r)
+
+abbrev pub thrown_aim : Option ℕ → Aim
+thrown_aim None = Aims.Free
+thrown_aim (Some u) = Aims.Given (R.Widened (I.Named u [] []))
+
+-- ---- conditions that are asserted, and options
+
+-- of which nothing is wanted, and which gives this
+abbrev pub free_giving : Part → Around → Scope → Indices → Walk Indices
+free_giving a around scope i = bind (a.walk around scope Aims.Free) (λ j. give i)
+
+abbrev pub option_indices : Typ → Indices
+option_indices t = I.Named 0 [] (R.Of t [] [] ∷ [])
+
+-- ---- one case for each kind
+
+abbrev pub Walking : Type 0
+Walking = Around → Scope → Aim → Walk Indices
+
+-- a kind that takes a wanted type further in, or owes it by itself
+abbrev pub inward : Place → Kind → List Part → Walking
+inward place (K.Cast None) parts around scope aim = one place (λ a. a.walk around scope aim) parts
+inward place (K.Block statements) parts around scope aim = block_walk place statements parts around scope aim
+inward place (K.Let arm) parts around scope aim = two place (λ a b. let_walk place arm a b around scope aim) parts
+inward place (K.Var name written) parts around scope aim = two place (λ a b. var_walk name written a b around scope aim) parts
+inward place (K.If shape) parts around scope aim = if_forms place shape parts around scope aim
+inward place (K.Match arms shape) parts around scope aim = led place (λ a bodies. match_walk place shape arms a bodies around scope aim) parts
+inward place (K.Try arms shape) parts around scope aim = led place (λ a bodies. try_walk place shape arms a bodies around scope aim) parts
+inward place K.When parts around scope aim = two place (λ a b. guarded a b around scope aim) parts
+inward place kind parts around scope aim = wrong_value place
+
+-- a kind that has no parts
+abbrev pub leaf_form : Place → Kind → Around → Scope → Walk Indices
+leaf_form place (K.Constant literal) around scope = give (literal_indices literal)
+leaf_form place (K.Local name) around scope = held_walk place name (held_in name scope)
+leaf_form place (K.Variable name) around scope = held_walk place name (held_in name scope)
+leaf_form place (K.TopLevel i) around scope = top_level_walk place (slice_get around.lets i)
+leaf_form place (K.Register r) around scope = register_walk place (slice_get around.registers r)
+leaf_form place (K.SizeOf t numbers) around scope = size_walk place t numbers around
+leaf_form place (K.Constraint c numbers) around scope = constraint_walk c numbers around
+leaf_form place kind around scope = wrong_value place
+
+abbrev pub leaf_walk : Place → Kind → List Part → Around → Scope → Walk Indices
+leaf_walk place kind parts around scope = none place (leaf_form place kind around scope) parts
+
+-- a kind whose parts are walked from left to right, each with what is wanted of it from the start, or that has none
+abbrev pub made_plain : Place → ℕ → Kind → List Part → Walking
+made_plain place k (K.Call callee) args around scope aim = call_walk place k callee args around scope aim
+made_plain place k (K.Cast written) parts around scope aim = one place (λ a. cast_walk place written a around scope aim) parts
+made_plain place k K.Tuple parts around scope aim = tuple_walk parts around scope aim
+made_plain place k (K.Cons shape) parts around scope aim = two place (λ a b. cons_walk shape a b around scope aim) parts
+made_plain place k (K.Struct u fields) parts around scope aim = struct_walk u fields parts around scope
+made_plain place k K.Return parts around scope aim = one place (λ a. return_walk place a around scope around.answer) parts
+made_plain place k K.Throw parts around scope aim = one place (λ a. left_walk a around scope (thrown_aim around.exception)) parts
+made_plain place k K.Exit parts around scope aim = one place (λ a. left_walk a around scope Aims.Free) parts
+made_plain place k (K.Assert text) parts around scope aim = one place (λ a. free_giving a around scope I.Unit) parts
+made_plain place k (K.Optional t) parts around scope aim = one place (λ a. free_giving a around scope (option_indices t)) parts
+made_plain place k kind parts around scope aim = leaf_walk place kind parts around scope
+
+-- a kind whose parts depend on one another
+abbrev pub parted : Place → Kind → List Part → Walking
+parted place K.And parts around scope aim = two place (λ a b. and_walk a b around scope) parts
+parted place K.Or parts around scope aim = two place (λ a b. or_walk a b around scope) parts
+parted place (K.Vector shape) items around scope aim = vector_walk place shape items around scope aim
+parted place (K.List shape) items around scope aim = list_walk shape items around scope aim
+parted place (K.With u fields) parts around scope aim = led place (λ a values. with_walk place u fields a values around scope) parts
+parted place (K.Part suffixes) parts around scope aim = part_forms suffixes parts around scope
+parted place K.WithItem parts around scope aim = update_forms place Y.Item parts around scope
+parted place K.WithSlice parts around scope aim = update_forms place Y.Slice parts around scope
+parted place (K.Assign targets) parts around scope aim = assigned place (map spotting targets) around scope parts
+parted place (K.Foreach name way) parts around scope aim = four place (λ a b c body. foreach_walk place name way a b c body around scope) parts
+parted place K.While parts around scope aim = three place (λ measure a b. loop_walk measure a b around scope) parts
+parted place K.Repeat parts around scope aim = three place (λ measure a b. loop_walk measure a b around scope) parts
+parted place kind parts around scope aim = wrong_value place
+
+abbrev pub is_made : Kind → Bool
+is_made K.And = false
+is_made K.Or = false
+is_made (K.Vector shape) = false
+is_made (K.List shape) = false
+is_made (K.With u fields) = false
+is_made (K.Part suffixes) = false
+is_made K.WithItem = false
+is_made K.WithSlice = false
+is_made (K.Assign targets) = false
+is_made (K.Foreach name way) = false
+is_made K.While = false
+is_made K.Repeat = false
+is_made kind = true
+
+-- any kind that takes no wanted type further in
+abbrev pub plain : Place → ℕ → Kind → List Part → Walking
+plain place k kind parts around scope aim =
+    if is_made kind then made_plain place k kind parts around scope aim else parted place kind parts around scope aim
+
+-- whether a kind takes a wanted type further in
+abbrev pub goes_inward : Kind → Bool
+goes_inward (K.Cast None) = true
+goes_inward (K.Block statements) = true
+goes_inward (K.Let arm) = true
+goes_inward (K.Var name written) = true
+goes_inward (K.If shape) = true
+goes_inward (K.Match arms shape) = true
+goes_inward (K.Try arms shape) = true
+goes_inward K.When = true
+goes_inward kind = false
+
+abbrev pub settled_walk : Place → ℕ → Kind → List Part → Walking
+settled_walk place k kind parts around scope aim = bind (plain place k kind parts around scope aim) (settled around place aim)
+
+abbrev pub form_walk : Place → ℕ → Kind → List Part → Walking
+form_walk place k kind parts around scope aim =
+    if goes_inward kind then inward place kind parts around scope aim else settled_walk place k kind parts around scope aim
+
+abbrev pub kind_walk : Place → ℕ → Kind → List Part → Walking
+kind_walk place k kind parts around scope aim = bind (form_walk place k kind parts around scope aim) (made_at k)
+
+-- ---- what is known of a node besides
+
+-- whether what is wanted of it is owed further in
+abbrev pub kind_nested : Kind → List Part → Bool
+kind_nested (K.Cast None) (a ∷ []) = a.is_nested
+kind_nested K.When (a ∷ b ∷ []) = b.is_nested
+kind_nested kind parts = goes_inward kind
+
+abbrev pub both_never_end : List Part → Bool
+both_never_end (c ∷ a ∷ b ∷ []) = a.never_ends && b.never_ends
+both_never_end parts = false
+
+abbrev pub kind_never_ends : Kind → List Part → Bool
+kind_never_ends (K.Cast None) (a ∷ []) = a.never_ends
+kind_never_ends K.When (a ∷ b ∷ []) = b.never_ends
+kind_never_ends (K.Block statements) parts = last_never_ends parts
+kind_never_ends (K.If shape) parts = both_never_end parts
+kind_never_ends K.Return parts = true
+kind_never_ends K.Throw parts = true
+kind_never_ends K.Exit parts = true
+kind_never_ends kind parts = false
+
+abbrev pub kind_place : Place → Kind → List Part → Place
+kind_place place K.When (a ∷ b ∷ []) = b.place
+kind_place place kind parts = place
+
+abbrev pub kind_state : Place → ℕ → Kind → List Part → Around → Scope → Walk (Option Con)
+kind_state place k (K.If shape) parts around scope = if_state place k shape parts around scope
+kind_state place k (K.Assert text) parts around scope = assert_state place k parts around scope
+kind_state place k kind parts around scope = plain_state (kind_walk place k kind parts around scope Aims.Free)
+
+abbrev pub core_part : Core-F Part → Part
+core_part c = record {
+  place = kind_place c.place c.kind c.parts;
+  is_nested = kind_nested c.kind c.parts;
+  never_ends = kind_never_ends c.kind c.parts;
+  walk = kind_walk c.place c.number c.kind c.parts;
+  state = kind_state c.place c.number c.kind c.parts;
+}
+
+abbrev pub part : Core → Part
+part = fold-Core Part core_part

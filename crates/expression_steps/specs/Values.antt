@@ -1,0 +1,302 @@
+-- Values that are made of parts, and parts of values (Sail language manual, "Vectors", "Lists", "Structs", "Bitvectors").
+use Rattle.std.specs.Prelude.{Bool, List, None, Option, Some, drop, if◌then◌else◌, length, map, nat_lt, pos, suc, take, zero, ℕ, [], ◌∷◌}
+use Rattle.sail_base.specs.declared.place.Place.{Place}
+use Rattle.sail_types.specs.Sums.{constant}
+use Rattle.sail_types.specs.declared.numbers.Num.{Num}
+use Rattle.sail_types.specs.declared.shapes.Shape.{Shape}
+use Rattle.sail_core.specs.declared.targets.Suffix.{Suffix}
+use Rattle.sail_core.specs.declared.targets.Way.{Way}
+use Rattle.sail_core.specs.declared.targets.Way.TheVariants as Y
+use Rattle.value_indices.specs.Steps.{Walk, bind, give, next_variable, wrong}
+use Rattle.value_indices.specs.declared.indices.Indices.{Indices, out-Indices}
+use Rattle.value_indices.specs.declared.indices.Indices.TheOpen as W
+use Rattle.value_indices.specs.declared.indices.Indices.TheOpen.{Indices-F, Reading-F}
+use Rattle.value_indices.specs.declared.indices.Indices.TheVariants as I
+use Rattle.value_indices.specs.declared.indices.Reading.{Reading, out-Reading}
+use Rattle.value_indices.specs.declared.indices.Reading.TheVariants as R
+use Rattle.value_fits.specs.Fitting.{fits, owe_fit}
+use Rattle.wide_types.specs.Widening.{filled}
+use Rattle.pattern_leaves.specs.Settings.{Around, Scope}
+use Rattle.call_arguments.specs.Aims.{aimed, each_under, item_type, of_wanted, part_types, wanted}
+use Rattle.call_notes.specs.Ends.{any_never, never_value, sized, wrong_value}
+use Rattle.call_arguments.specs.declared.aims.Aim.{Aim}
+use Rattle.call_arguments.specs.declared.aims.Aim.TheVariants as Aims
+use Rattle.expression_forms.specs.Ways.{fields_of, if_never_value, into_field, into_item, into_slice, owe_part, read_into, with_width}
+use Rattle.expression_forms.specs.declared.ways.Ends.{Ends}
+use Rattle.expression_forms.specs.declared.ways.Reached.{Reached}
+use Rattle.expression_steps.specs.Calls.{named_made, part_aims}
+use Rattle.expression_steps.specs.Parts.{Part, each_walk, numbers_walk}
+
+-- ---- tuples: the form around one owes for its parts
+
+-- there is none where there is none of a part
+abbrev pub tuple_indices : List Indices → Indices
+tuple_indices is = if any_never is then I.Never else I.Tuple is
+
+abbrev pub tuple_of : List Indices → Walk Indices
+tuple_of is = give (tuple_indices is)
+
+abbrev pub tuple_aims : Aim → List Aim
+tuple_aims aim = map (aimed Aims.PartOf) (of_wanted [] part_types (wanted aim))
+
+abbrev pub tuple_walk : List Part → Around → Scope → Aim → Walk Indices
+tuple_walk parts around scope aim = bind (each_walk parts around scope (tuple_aims aim)) tuple_of
+
+-- ---- vectors and lists: each item owes at itself
+
+-- items of which a type is wanted
+abbrev pub items_due : List Part → Around → Scope → Aim → Walk (Unit {0})
+items_due [] around scope aim = give tt
+items_due (a ∷ items) around scope aim = bind (a.walk around scope aim) (λ i. items_due items around scope aim)
+
+abbrev pub item_owed : Around → Place → Reading → Indices → Walk (Unit {0})
+item_owed around place r i = owe_fit place (fits around.types i r)
+
+-- items of which none is wanted: the widened type of the first, which each owes
+abbrev pub item_like : Part → Around → Scope → Reading → Walk (Unit {0})
+item_like a around scope r = bind (a.walk around scope Aims.Free) (item_owed around a.place r)
+
+abbrev pub items_like : List Part → Around → Scope → Reading → Walk (Unit {0})
+items_like [] around scope r = give tt
+items_like (a ∷ items) around scope r = bind (item_like a around scope r) (λ t. items_like items around scope r)
+
+-- holes in it take what the literal's shape says
+abbrev pub filled_here : Around → Shape → Indices → Walk Reading
+filled_here around shape i = bind next_variable (λ m. filled around.types m shape i)
+
+abbrev pub first_like : List Part → Around → Scope → Place → Indices → Reading → Walk Reading
+first_like items around scope place i r = bind (item_owed around place r i) (λ t. bind (items_like items around scope r) (λ u. give r))
+
+abbrev pub first_free : Part → List Part → Around → Scope → Shape → Walk Reading
+first_free a items around scope shape =
+    bind (a.walk around scope Aims.Free) (λ i. bind (filled_here around shape i) (first_like items around scope a.place i))
+
+abbrev pub items_free : List Part → Around → Scope → Shape → Walk Reading
+items_free [] around scope shape = give R.Hole
+items_free (a ∷ items) around scope shape = first_free a items around scope shape
+
+abbrev pub items_wanted : List Part → Around → Scope → Reading → Walk Reading
+items_wanted items around scope r = bind (items_due items around scope (aimed Aims.Due r)) (λ t. give r)
+
+abbrev pub items_of : List Part → Around → Scope → Shape → Reading-F Indices Reading → Reading → Walk Reading
+items_of items around scope shape W.Hole r = items_free items around scope shape
+items_of items around scope shape form r = items_wanted items around scope r
+
+-- the type of the items
+abbrev pub items_walk : List Part → Around → Scope → Shape → Reading → Walk Reading
+items_walk items around scope shape r = items_of items around scope shape (out-Reading r) r
+
+abbrev pub wanted_item : Aim → Reading
+wanted_item aim = of_wanted R.Hole item_type (wanted aim)
+
+abbrev pub sized_vector : Place → Num → Reading → Walk Indices
+sized_vector place n r = bind (sized place (I.Vector n r)) (λ t. give (I.Vector n r))
+
+abbrev pub vector_walk : Place → Shape → List Part → Around → Scope → Aim → Walk Indices
+vector_walk place shape items around scope aim =
+    bind (items_walk items around scope shape (wanted_item aim)) (sized_vector place (constant (pos (length items))))
+
+abbrev pub list_walk : Shape → List Part → Around → Scope → Aim → Walk Indices
+list_walk shape items around scope aim = bind (items_walk items around scope shape (wanted_item aim)) (λ r. give (I.List r))
+
+-- one of the two
+abbrev pub row_of : Place → Bool → Num → Reading → Walk Indices
+row_of place is_list n r = if is_list then give (I.List r) else sized_vector place n r
+
+abbrev pub row_walk : Place → Bool → Shape → List Part → Around → Scope → Aim → Walk Indices
+row_walk place is_list shape items around scope aim =
+    bind (items_walk items around scope shape (wanted_item aim)) (row_of place is_list (constant (pos (length items))))
+
+-- ---- `a :: b`
+
+abbrev pub cons_due : Part → Part → Around → Scope → Reading → Walk Indices
+cons_due a b around scope r =
+    bind (a.walk around scope (aimed Aims.Due r)) (λ i. bind (b.walk around scope (Aims.Due (R.Widened (I.List r)))) (λ j. give (I.List r)))
+
+abbrev pub list_owing : Around → Place → Indices → Reading → Walk Indices
+list_owing around place i r = bind (item_owed around place r i) (λ t. give (I.List r))
+
+abbrev pub cons_onto : Around → Shape → Place → Indices → Reading-F Indices Reading → Reading → Walk Indices
+cons_onto around shape place i W.Hole r = bind (filled_here around shape i) (list_owing around place i)
+cons_onto around shape place i form r = list_owing around place i r
+
+abbrev pub cons_before : Around → Shape → Place → Indices → Indices-F Indices Reading → Walk Indices
+cons_before around shape place i (W.List r) = cons_onto around shape place i (out-Reading r) r
+cons_before around shape place i W.Never = never_value
+cons_before around shape place i form = wrong_value place
+
+abbrev pub cons_free : Shape → Part → Part → Around → Scope → Walk Indices
+cons_free shape a b around scope =
+    bind (a.walk around scope Aims.Free) (λ i. bind (b.walk around scope Aims.Free) (λ j. cons_before around shape a.place i (out-Indices j)))
+
+abbrev pub cons_of : Shape → Part → Part → Around → Scope → Reading-F Indices Reading → Reading → Walk Indices
+cons_of shape a b around scope W.Hole r = cons_free shape a b around scope
+cons_of shape a b around scope form r = cons_due a b around scope r
+
+abbrev pub cons_walk : Shape → Part → Part → Around → Scope → Aim → Walk Indices
+cons_walk shape a b around scope aim = cons_of shape a b around scope (out-Reading (wanted_item aim)) (wanted_item aim)
+
+-- ---- structs: what is wanted of the values of fields, how many of them there are, and what is made of them
+
+abbrev pub struct_aims : Around → ℕ → List ℕ → List Aim
+struct_aims around u ks = part_aims None (fields_of around u ks)
+
+abbrev pub struct_count : Around → ℕ → List ℕ → ℕ
+struct_count around u ks = length (fields_of around u ks)
+
+abbrev pub struct_made : Around → ℕ → List ℕ → List Part → List Indices → Walk Indices
+struct_made around u ks parts is = named_made around u parts None (fields_of around u ks) is
+
+abbrev pub struct_walk : ℕ → List ℕ → List Part → Around → Scope → Walk Indices
+struct_walk u ks parts around scope =
+    bind (each_walk (take (struct_count around u ks) parts) around scope (struct_aims around u ks)) (struct_made around u ks parts)
+
+abbrev pub due_aims : List Reading → List Aim
+due_aims rs = map (aimed Aims.Due) rs
+
+-- what is wanted of new values of fields, if there is a struct
+abbrev pub with_aims : Around → ℕ → List ℕ → Indices-F Indices Reading → Option (List Aim)
+with_aims around u ks (W.Named v is rs) = Some (due_aims (each_under is rs (fields_of around u ks)))
+with_aims around u ks form = None
+
+-- what a value gives that is no struct
+abbrev pub no_struct : Place → Indices-F Indices Reading → Walk Indices
+no_struct place W.Never = never_value
+no_struct place form = wrong_value place
+
+-- the value is what it was
+abbrev pub with_behind : Place → List Part → Around → Scope → Indices → Option (List Aim) → Walk Indices
+with_behind place parts around scope i None = no_struct place (out-Indices i)
+with_behind place parts around scope i (Some aims) = bind (each_walk (take (length aims) parts) around scope aims) (λ is. give i)
+
+abbrev pub with_walk : Place → ℕ → List ℕ → Part → List Part → Around → Scope → Walk Indices
+with_walk place u ks a parts around scope =
+    bind (a.walk around scope Aims.Free) (λ i. with_behind place parts around scope i (with_aims around u ks (out-Indices i)))
+
+-- ---- ways into a value
+
+-- how many indexes a way has
+abbrev pub indexes_of : Way → ℕ
+indexes_of (Y.Field u k) = 0
+indexes_of Y.Item = 1
+indexes_of Y.Slice = 2
+
+abbrev pub slice_reached : Indices → Option Ends → Walk (Option Reached)
+slice_reached i None = give None
+slice_reached i (Some e) = give (into_slice e.high e.low e.width (out-Indices i))
+
+-- a slice between two ends
+abbrev pub slice_between : Indices → Num → Num → Walk (Option Reached)
+slice_between i high low = bind (with_width high low) (slice_reached i)
+
+-- the part that a way reaches by the numbers of its indexes, if there is such a part
+abbrev pub reached_by : Around → Indices → Way → List Num → Walk (Option Reached)
+reached_by around i (Y.Field u k) ns = give (into_field around u k (out-Indices i))
+reached_by around i Y.Item (n ∷ []) = give (into_item n (out-Indices i))
+reached_by around i Y.Slice (high ∷ low ∷ []) = slice_between i high low
+reached_by around i way ns = give None
+
+-- a part that a way reaches, and the parts of the expression that are left behind its indexes
+pub record Taken : Type 0 where
+  pub reached : Option Reached
+  pub left : List Part
+
+abbrev pub taken : Option Reached → List Part → Option Taken
+taken x left = Some (record { reached = x; left = left })
+
+abbrev pub way_taken : Around → Indices → Way → List Part → Option (List Num) → Walk (Option Taken)
+way_taken around i way left None = give None
+way_taken around i way left (Some ns) = bind (reached_by around i way ns) (λ x. give (taken x left))
+
+abbrev pub no_way : Place → Walk (Option Taken)
+no_way place = bind (wrong place) (λ t. give None)
+
+-- none where an index gives no number
+abbrev pub way_walk : Place → List Part → Around → Scope → Indices → Way → Walk (Option Taken)
+way_walk place parts around scope i way =
+    if nat_lt (length parts) (indexes_of way) then no_way place
+    else bind (numbers_walk (take (indexes_of way) parts) around scope) (way_taken around i way (drop (indexes_of way) parts))
+
+-- ---- parts that are read
+
+-- a value on the way, and the parts of the expression that are left
+pub record Passed : Type 0 where
+  pub value : Indices
+  pub left : List Part
+
+abbrev pub passed : List Part → Indices → Option Passed
+passed left i = Some (record { value = i; left = left })
+
+abbrev pub read_taken : Place → Indices → Option Taken → Walk (Option Passed)
+read_taken place i None = give None
+read_taken place i (Some w) = bind (read_into place i w.reached) (λ j. give (passed w.left j))
+
+abbrev pub suffix_walk : Suffix → List Part → Around → Scope → Indices → Walk (Option Passed)
+suffix_walk s parts around scope i = bind (way_walk s.place parts around scope i s.way) (read_taken s.place i)
+
+abbrev pub then_on : {A : Type 0} → (List Part → Indices → Walk (Option A)) → Option Passed → Walk (Option A)
+then_on next None = give None
+then_on next (Some w) = next w.left w.value
+
+abbrev pub suffixes_walk : List Suffix → Around → Scope → List Part → Indices → Walk (Option Passed)
+suffixes_walk [] around scope parts i = give (passed parts i)
+suffixes_walk (s ∷ ss) around scope parts i = bind (suffix_walk s parts around scope i) (then_on (suffixes_walk ss around scope))
+
+abbrev pub value_on : Option Passed → Walk Indices
+value_on None = never_value
+value_on (Some w) = give w.value
+
+abbrev pub part_walk : List Suffix → Part → List Part → Around → Scope → Walk Indices
+part_walk ss a parts around scope =
+    bind (a.walk around scope Aims.Free) (λ i. bind (suffixes_walk ss around scope parts i) value_on)
+
+abbrev pub part_forms : List Suffix → List Part → Around → Scope → Walk Indices
+part_forms ss [] around scope = never_value
+part_forms ss (a ∷ parts) around scope = part_walk ss a parts around scope
+
+-- ---- `[v with i = e]`, `[v with h .. l = e]`
+
+abbrev pub part_updated : Place → Part → Around → Scope → Indices → Reached → Walk Indices
+part_updated place c around scope i x =
+    bind (c.walk around scope (aimed Aims.Given x.typ)) (λ j. bind (owe_part around place x c.is_nested j) (λ t. give i))
+
+abbrev pub updated : Place → Part → Around → Scope → Indices → Option Reached → Walk Indices
+updated place c around scope i None = if_never_value place i
+updated place c around scope i (Some x) = part_updated place c around scope i x
+
+abbrev pub numbers_updated : Place → Way → Part → Around → Scope → Indices → Option (List Num) → Walk Indices
+numbers_updated place way c around scope i None = never_value
+numbers_updated place way c around scope i (Some ns) = bind (reached_by around i way ns) (updated place c around scope i)
+
+abbrev pub update_walk : Place → Way → Part → List Part → Part → Around → Scope → Walk Indices
+update_walk place way a indexes c around scope =
+    bind (a.walk around scope Aims.Free) (λ i. bind (numbers_walk indexes around scope) (numbers_updated place way c around scope i))
+
+-- a value, as many indexes as the way has, and what is put there
+abbrev pub update_forms : Place → Way → List Part → Around → Scope → Walk Indices
+update_forms place (Y.Field u k) (a ∷ c ∷ []) around scope = update_walk place (Y.Field u k) a [] c around scope
+update_forms place Y.Item (a ∷ b ∷ c ∷ []) around scope = update_walk place Y.Item a (b ∷ []) c around scope
+update_forms place Y.Slice (a ∷ b ∷ c ∷ d ∷ []) around scope = update_walk place Y.Slice a (b ∷ c ∷ []) d around scope
+update_forms place way parts around scope = wrong_value place
+
+-- ---- tuples and `a :: b`: what is wanted of the parts, of how many, and what is made of them
+
+abbrev pub cons_aims : Reading-F Indices Reading → Reading → List Aim
+cons_aims W.Hole r = []
+cons_aims form r = aimed Aims.Due r ∷ Aims.Due (R.Widened (I.List r)) ∷ []
+
+abbrev pub cons_made : Around → Shape → Place → Reading-F Indices Reading → Reading → Indices → Indices → Walk Indices
+cons_made around shape place W.Hole r i j = cons_before around shape place i (out-Indices j)
+cons_made around shape place form r i j = give (I.List r)
+
+-- of two parts alone
+abbrev pub cons_end : Around → Shape → Place → Reading-F Indices Reading → Reading → List Part → List Indices → Walk Indices
+cons_end around shape place form r (a ∷ b ∷ []) (i ∷ j ∷ []) = cons_made around shape a.place form r i j
+cons_end around shape place form r parts is = wrong_value place
+
+abbrev pub cons_ended : Around → Shape → Place → Reading → List Part → List Indices → Walk Indices
+cons_ended around shape place r parts is = cons_end around shape place (out-Reading r) r parts is
+
+abbrev pub two_or_none : ℕ → ℕ
+two_or_none (suc (suc zero)) = 2
+two_or_none n = 0

@@ -1,0 +1,60 @@
+//! Kinds that have no parts.
+ghost use Rattle.std.specs.Prelude.{◌≡◌, IfOk, OnOk};
+ghost use Rattle.value_indices.specs.Walking as walk;
+ghost use Rattle.pattern_leaves.specs.Settings.{around_of};
+ghost use Rattle.expression_forms.specs.Scopes.{scope_of};
+ghost use Rattle.expression_steps.specs.Coded as coded;
+ghost use Rattle.expression_steps.specs.Expressions as spec;
+
+use call_notes::wrong_value;
+use expression_forms::{
+    Scope, constraint, literal_indices, look_up, read_held, read_register, read_top_level, size,
+};
+use pattern_leaves::Around;
+use sail_base::Place;
+use sail_core::{Core, Kind};
+use std::alloc::{AllocError, Global};
+use value_indices::{Indices, Walking};
+
+/// A kind that has no parts. It fails where memory is wanting, and where variables are too many.
+#[tactic(auto, using(value_indices::proofs::Walks::walks))]
+pub(crate) fn leaf(
+    alloc: Global,
+    walking: &mut Walking,
+    around: &Around<'_>,
+    scope: &Scope<'_>,
+    place: Place,
+    kind: &Kind,
+    parts: &[Core],
+) -> Result<Indices, AllocError>
+    ensures value { IfOk result (λ made. made ≡ walk.got (spec.leaf_walk place kind.now (coded.each_part parts.now) (around_of around.now)
+        (scope_of scope.now)) (walk.seen walking.old)) }
+    ensures walked { OnOk result (walk.seen walking.new ≡ walk.run (spec.leaf_walk place kind.now (coded.each_part parts.now) (around_of around.now)
+        (scope_of scope.now)) (walk.seen walking.old)) }
+{
+    if !parts.is_empty() {
+        return wrong_value(alloc, walking, place);
+    }
+    match kind {
+        Kind::Constant(literal) => Ok(literal_indices(alloc, literal)),
+        Kind::Local(name) => {
+            read_held(alloc, walking, place, name, look_up(name.as_str(), scope))
+        }
+        Kind::Variable(name) => {
+            read_held(alloc, walking, place, name, look_up(name.as_str(), scope))
+        }
+        Kind::TopLevel(index) => {
+            read_top_level(alloc, walking, place, around.lets.get(*index as usize))
+        }
+        Kind::Register(index) => {
+            read_register(alloc, walking, place, around.registers.get(*index as usize))
+        }
+        Kind::SizeOf(typ, numbers) => {
+            size(alloc, walking, around, place, typ, numbers.as_slice())
+        }
+        Kind::Constraint(condition, numbers) => {
+            constraint(alloc, walking, around, condition, numbers.as_slice())
+        }
+        _ => wrong_value(alloc, walking, place),
+    }
+}

@@ -1,0 +1,115 @@
+//! Structs: what is wanted of the values of their fields, and what is made of these.
+ghost use Rattle.std.specs.Prelude.{◌≡◌, IfOk, OnOk};
+ghost use Rattle.value_indices.specs.Walking as walk;
+ghost use Rattle.value_indices.specs.declared.indices.Indices.{out-Indices};
+ghost use Rattle.pattern_leaves.specs.Settings.{around_of};
+ghost use Rattle.expression_steps.specs.Coded as coded;
+ghost use Rattle.expression_steps.specs.Values as value_spec;
+
+use crate::aims::{field_aims, part_aims};
+use crate::calls::named_made;
+use call_notes::{Aim, wrong_value};
+use expression_forms::fields_of;
+use pattern_leaves::Around;
+use sail_base::{Items, Place};
+use sail_core::Core;
+use std::alloc::{AllocError, Global};
+use value_indices::{Indices, Walking};
+
+/// What is wanted of the values of fields, by the place of their struct in the table and theirs as they are written. It fails where memory
+/// is wanting, and where binders are too many.
+pub(crate) fn struct_aims(
+    alloc: Global,
+    around: &Around<'_>,
+    named: u32,
+    fields: &[u32],
+) -> Result<Items<Aim>, AllocError>
+    ensures { IfOk result (λ made. made ≡ value_spec.struct_aims (around_of around.now) named fields.now) }
+{
+    let types = fields_of(alloc, around, named, fields)?;
+    part_aims(alloc, &None, types.as_slice())
+}
+
+/// How many of these fields there are. It fails where memory is wanting.
+pub(crate) fn struct_count(
+    alloc: Global,
+    around: &Around<'_>,
+    named: u32,
+    fields: &[u32],
+) -> Result<usize, AllocError>
+    ensures { IfOk result (λ made. made ≡ value_spec.struct_count (around_of around.now) named fields.now) }
+{
+    let types = fields_of(alloc, around, named, fields)?;
+    Ok(types.len())
+}
+
+/// What is made of the values of these fields. It fails where memory is wanting, and where variables are too many.
+pub(crate) fn struct_made(
+    alloc: Global,
+    walking: &mut Walking,
+    around: &Around<'_>,
+    named: u32,
+    fields: &[u32],
+    parts: &[Core],
+    values: &[Indices],
+) -> Result<Indices, AllocError>
+    ensures value { IfOk result (λ made. made ≡ walk.got (value_spec.struct_made (around_of around.now) named fields.now (coded.each_part parts.now)
+        values.now) (walk.seen walking.old)) }
+    ensures walked { OnOk result (walk.seen walking.new ≡ walk.run (value_spec.struct_made (around_of around.now) named fields.now
+        (coded.each_part parts.now) values.now) (walk.seen walking.old)) }
+{
+    let types = fields_of(alloc, around, named, fields)?;
+    named_made(
+        alloc,
+        walking,
+        around,
+        named,
+        parts,
+        &None,
+        types.as_slice(),
+        values,
+    )
+}
+
+/// What is wanted of new values of fields of a struct; none of a value that is no struct. It fails where memory is wanting.
+pub fn with_aims(
+    alloc: Global,
+    around: &Around<'_>,
+    named: u32,
+    fields: &[u32],
+    value: &Indices,
+) -> Result<Option<Items<Aim>>, AllocError>
+    ensures { IfOk result (λ made. made ≡ value_spec.with_aims (around_of around.now) named fields.now (out-Indices value.now)) }
+{
+    match value {
+        Indices::Named(_, indices, readings) => {
+            let types = fields_of(alloc, around, named, fields)?;
+            let aims = field_aims(
+                alloc,
+                types.as_slice(),
+                indices.as_slice(),
+                readings.as_slice(),
+            )?;
+            Ok(Some(aims))
+        }
+        _ => Ok(None),
+    }
+}
+
+/// What a value gives that is no struct: what never ends normally stays so, any other one owes what is false. It fails where memory is
+/// wanting.
+#[tactic(auto, using(value_indices::proofs::Walks::walks))]
+pub fn no_struct(
+    alloc: Global,
+    walking: &mut Walking,
+    place: Place,
+    value: &Indices,
+) -> Result<Indices, AllocError>
+    ensures value { IfOk result (λ made. made ≡ walk.got (value_spec.no_struct place (out-Indices value.now)) (walk.seen walking.old)) }
+    ensures walked { OnOk result (walk.seen walking.new ≡ walk.run (value_spec.no_struct place (out-Indices value.now)) (walk.seen walking.old)) }
+{
+    match value {
+        Indices::Never => Ok(Indices::Never),
+        _ => wrong_value(alloc, walking, place),
+    }
+}

@@ -1,0 +1,290 @@
+//! Ways that meet others: what each makes known, and what is owed and made where they meet.
+ghost use Rattle.std.specs.Prelude.{◌≡◌, ◌∷◌, [], ◌++◌, is_none, length, take, IfOk, OnOk};
+ghost use Rattle.std.specs.Option.{option_copied};
+ghost use Rattle.value_indices.specs.Walking as walk;
+ghost use Rattle.pattern_leaves.specs.Settings as settings;
+ghost use Rattle.pattern_leaves.specs.Settings.{around_of};
+ghost use Rattle.call_arguments.specs.Aims.{wanted as wanted_by};
+ghost use Rattle.call_arguments.specs.declared.aims.Aim as aims;
+ghost use Rattle.expression_steps.specs.Coded as coded;
+ghost use Rattle.expression_steps.specs.Expressions.{part};
+ghost use Rattle.expression_steps.specs.Parts.{Part};
+ghost use Rattle.expression_steps.specs.Statements as statement_spec;
+
+use crate::knowing::{never_ends, place_of};
+use call_notes::{Aim, opened_at, wrong_value};
+use expression_forms::{first_way, like_first, met_ways};
+use pattern_leaves::{Around, Bound};
+use pattern_notes::{Matching, match_arm};
+use sail_base::{Items, Place};
+use sail_core::{Arm, Core};
+use sail_types::{Con, Shape, copy_con};
+use std::alloc::{AllocError, Global};
+use value_indices::{Indices, Walking};
+
+/// A way that meets others.
+#[derive(Clone, Copy)]
+pub enum Way<'a> {
+    /// This part, under a condition.
+    Under(&'a Con, &'a Core),
+    /// A case at a place: this part, where the arm matches the value.
+    Case(Place, &'a Arm, &'a Core, &'a Indices),
+    /// This part.
+    Whole(&'a Core),
+}
+
+impl Way<'_> {
+    /// The part whose value it gives.
+    pub fn core(&self) -> &Core
+        ensures { result.now ≡ coded.way_core self.now }
+    {
+        match self {
+            Way::Under(_, core) => core,
+            Way::Case(_, _, core, _) => core,
+            Way::Whole(core) => core,
+        }
+    }
+}
+
+/// The cases at a place over a value, behind other ways. They fail where memory is wanting.
+fn case_ways<'a>(
+    place: Place,
+    arms: &'a [Arm],
+    bodies: &'a [Core],
+    value: &'a Indices,
+    ways: &mut Items<Way<'a>>,
+) -> Result<(), AllocError>
+    ensures ways { OnOk result ((around : settings.Around) (scope : settings.Scope) (aim : aims.Aim)
+        → coded.ways_seen around scope aim ways.new ≡ coded.ways_seen around scope aim ways.old
+        ++ statement_spec.case_ways place arms.now (coded.each_part bodies.now) around scope aim value.now) }
+    ensures cores { OnOk result (coded.way_cores ways.new ≡ coded.way_cores ways.old ++ take (length arms.now) bodies.now) }
+{
+    for index in 0..arms.len().min(bodies.len()) {
+        ways.push(Way::Case(place, &arms[index], &bodies[index], value))?;
+    }
+    Ok(())
+}
+
+/// The cases at a place over a value. They fail where memory is wanting.
+pub fn match_ways<'a>(
+    alloc: Global,
+    place: Place,
+    arms: &'a [Arm],
+    bodies: &'a [Core],
+    value: &'a Indices,
+) -> Result<Items<Way<'a>>, AllocError>
+    ensures ways { IfOk result (λ made. (around : settings.Around) (scope : settings.Scope) (aim : aims.Aim)
+        → coded.ways_seen around scope aim made ≡ statement_spec.case_ways place arms.now (coded.each_part bodies.now) around scope aim value.now) }
+    ensures cores { IfOk result (λ made. coded.way_cores made ≡ take (length arms.now) bodies.now) }
+{
+    let mut ways = Items::new(alloc);
+    case_ways(place, arms, bodies, value, &mut ways)?;
+    Ok(ways)
+}
+
+/// A first way, and the cases at a place over a value. They fail where memory is wanting.
+pub fn try_ways<'a>(
+    alloc: Global,
+    place: Place,
+    arms: &'a [Arm],
+    core: &'a Core,
+    bodies: &'a [Core],
+    value: &'a Indices,
+) -> Result<Items<Way<'a>>, AllocError>
+    ensures ways { IfOk result (λ made. (around : settings.Around) (scope : settings.Scope) (aim : aims.Aim)
+        → coded.ways_seen around scope aim made ≡ statement_spec.try_way (part core.now) around scope aim
+        ∷ statement_spec.case_ways place arms.now (coded.each_part bodies.now) around scope aim value.now) }
+    ensures cores { IfOk result (λ made. coded.way_cores made ≡ core.now ∷ take (length arms.now) bodies.now) }
+{
+    let mut ways = Items::new(alloc);
+    ways.push(Way::Whole(core))?;
+    case_ways(place, arms, bodies, value, &mut ways)?;
+    Ok(ways)
+}
+
+/// Two ways: these parts, under a condition each.
+pub fn either_ways<'a>(
+    given: &'a Con,
+    other: &'a Con,
+    then: &'a Core,
+    otherwise: &'a Core,
+) -> [Way<'a>; 2]
+    ensures ways { (around : settings.Around) (scope : settings.Scope) (aim : aims.Aim)
+        → coded.ways_seen around scope aim result ≡ statement_spec.two_ways (part then.now) (part otherwise.now) around scope aim given.now other.now }
+    ensures cores { coded.way_cores result ≡ then.now ∷ otherwise.now ∷ [] }
+{
+    [Way::Under(given, then), Way::Under(other, otherwise)]
+}
+
+/// What a way makes known, and the names that it binds. It fails where memory is wanting, and where variables are too many.
+#[tactic(auto, using(value_indices::proofs::Walks::walks))]
+pub fn open_way(
+    alloc: Global,
+    walking: &mut Walking,
+    around: &Around<'_>,
+    way: &Way<'_>,
+) -> Result<Items<Bound>, AllocError>
+    ensures value { IfOk result (λ made. made ≡ walk.got (coded.way_opened (around_of around.now) way.now) (walk.seen walking.old)) }
+    ensures walked { OnOk result (walk.seen walking.new ≡ walk.run (coded.way_opened (around_of around.now) way.now) (walk.seen walking.old)) }
+{
+    match way {
+        Way::Under(condition, _) => {
+            walking.assume(copy_con(alloc, condition)?)?;
+            Ok(Items::new(alloc))
+        }
+        Way::Case(place, arm, _, value) => {
+            let how = Matching {
+                in_case: true,
+                is_owed: false,
+            };
+            let values = std::slice::from_ref(*value);
+            match_arm(alloc, *place, arm, around, how, values, walking)
+        }
+        Way::Whole(_) => Ok(Items::new(alloc)),
+    }
+}
+
+/// The first way that ends normally, where no type is wanted, with a way behind it.
+fn first_behind(
+    is_free: bool,
+    never_ends: bool,
+    first: Option<Indices>,
+    value: Indices,
+) -> Option<Indices>
+    ensures { result ≡ statement_spec.first_behind is_free never_ends first value }
+{
+    match first {
+        None => {
+            if is_free {
+                first_way(never_ends, value)
+            } else {
+                None
+            }
+        }
+        Some(first) => Some(first),
+    }
+}
+
+/// Owes what is kept of the first way, where no type is wanted. It fails where memory is wanting, and where variables are too many.
+#[tactic(auto, using(value_indices::proofs::Walks::walks))]
+fn owe_first(
+    alloc: Global,
+    walking: &mut Walking,
+    core: &Core,
+    is_free: bool,
+    before: u32,
+    first: Option<&Indices>,
+    value: &Indices,
+) -> Result<(), AllocError>
+    ensures { OnOk result (walk.seen walking.new ≡ walk.run (statement_spec.owed_of_first is_free (Part.place (part core.now))
+        (Part.never_ends (part core.now)) before (option_copied first.entry) value.now) (walk.seen walking.old)) }
+{
+    if is_free {
+        match first {
+            None => Ok(()),
+            Some(first) => like_first(
+                alloc,
+                walking,
+                place_of(core),
+                never_ends(core),
+                before,
+                first,
+                value,
+            ),
+        }
+    } else {
+        Ok(())
+    }
+}
+
+/// The end of a way that gave a value: what is owed of the first one, and that one. What was remembered before the way is in force again.
+/// It fails where memory is wanting, and where variables are too many.
+pub fn end_way(
+    alloc: Global,
+    walking: &mut Walking,
+    core: &Core,
+    is_free: bool,
+    before: u32,
+    first: Option<Indices>,
+    value: Indices,
+) -> Result<Option<Indices>, AllocError>
+    ensures value { IfOk result (λ made. made ≡ statement_spec.first_behind is_free (Part.never_ends (part core.now)) first value) }
+    ensures walked { OnOk result (walk.seen walking.new ≡ walk.restored (walk.run (statement_spec.owed_of_first is_free (Part.place (part core.now))
+        (Part.never_ends (part core.now)) before first value) (walk.seen walking.old))) }
+{
+    owe_first(
+        alloc,
+        walking,
+        core,
+        is_free,
+        before,
+        first.as_ref(),
+        &value,
+    )?;
+    walking.restore()?;
+    Ok(first_behind(is_free, never_ends(core), first, value))
+}
+
+/// Whether no type is wanted.
+pub fn is_free(aim: &Aim) -> bool
+    ensures { result ≡ is_none (wanted_by aim.now) }
+{
+    match aim.wanted() {
+        None => true,
+        Some(_) => false,
+    }
+}
+
+/// The value where ways of this shape meet, of which this is wanted, by the first that ends normally. It fails where memory is wanting,
+/// and where variables are too many.
+pub fn met_value(
+    alloc: Global,
+    walking: &mut Walking,
+    around: &Around<'_>,
+    place: Place,
+    shape: &Shape,
+    aim: &Aim,
+    before: u32,
+    first: Option<&Indices>,
+) -> Result<Indices, AllocError>
+    ensures value { IfOk result (λ made. made ≡ walk.got (statement_spec.met_value (around_of around.now) place shape.now (wanted_by aim.now) before
+        (option_copied first.entry)) (walk.seen walking.old)) }
+    ensures walked { OnOk result (walk.seen walking.new ≡ walk.run (statement_spec.met_value (around_of around.now) place shape.now
+        (wanted_by aim.now) before (option_copied first.entry)) (walk.seen walking.old)) }
+{
+    match aim.wanted() {
+        None => met_ways(alloc, walking, around, place, before, shape, first),
+        Some(wanted) => opened_at(alloc, walking, place, wanted),
+    }
+}
+
+/// A value that was met with its condition; none where there is no condition.
+fn value_met(met: Option<(Con, Indices)>) -> Indices
+    ensures { result ≡ statement_spec.value_met met }
+{
+    match met {
+        None => Indices::Never,
+        Some((_, value)) => value,
+    }
+}
+
+/// The value of an `if` whose condition and value these are; of another number of parts than two or three it owes what is false. It fails
+/// where memory is wanting.
+#[tactic(auto, using(value_indices::proofs::Walks::walks))]
+pub fn if_end(
+    alloc: Global,
+    walking: &mut Walking,
+    place: Place,
+    parts: &[Core],
+    met: Option<(Con, Indices)>,
+) -> Result<Indices, AllocError>
+    ensures value { IfOk result (λ made. made ≡ walk.got (statement_spec.if_end place (coded.each_part parts.now) met) (walk.seen walking.old)) }
+    ensures walked { OnOk result (walk.seen walking.new ≡ walk.run (statement_spec.if_end place (coded.each_part parts.now) met)
+        (walk.seen walking.old)) }
+{
+    match parts {
+        [_, _] => Ok(value_met(met)),
+        [_, _, _] => Ok(value_met(met)),
+        _ => wrong_value(alloc, walking, place),
+    }
+}
