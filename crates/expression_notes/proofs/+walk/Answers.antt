@@ -1,0 +1,799 @@
+use Rattle.std.proofs.Common.{take, ◌≡◌, ◌∙◌, ◌+◌, ◌++◌, ◌∷◌, [], List, Some, map, slice_get, ap, sym, refl, arith, ◌≤◌, length, ◌-◌}
+use Rattle.std.proofs.lemmas.List.{map-append}
+use Rattle.sail_types.specs.declared.numbers.Con.TheVariants as C
+use Rattle.sail_types.specs.declared.numbers.Con.{Con}
+use Rattle.sail_core.specs.declared.targets.Target.{Target, out-Target}
+use Rattle.sail_core.specs.declared.targets.TargetKind.TheVariants as T
+use Rattle.sail_core.specs.declared.tree.Core.{out-Core}
+use Rattle.value_indices.proofs.Walks.{got_give, run_give}
+use Rattle.value_indices.specs.Steps.{Walk, bind}
+use Rattle.value_indices.specs.Walking.{got, run, seen}
+use Rattle.value_indices.specs.declared.indices.Indices.TheVariants as I
+use Rattle.value_indices.specs.declared.indices.Indices.{Indices}
+use Rattle.value_indices.specs.declared.indices.Reading.TheVariants as R
+use Rattle.value_indices.specs.declared.indices.Reading.{Reading}
+use Rattle.wide_types.proofs.Turns.{found}
+use Rattle.pattern_leaves.proofs.Rests.{two_of, one_of}
+use Rattle.pattern_leaves.proofs.Walked.{ended_by, pushed_got, pushed_run, then_got, then_run, made_got, made_run}
+use Rattle.pattern_leaves.specs.Settings.{around_of}
+use Rattle.pattern_leaves.specs.declared.names.Bound.{Bound}
+use Rattle.call_arguments.proofs.Lists.{item_is}
+use Rattle.call_arguments.specs.Aims.{aimed}
+use Rattle.call_arguments.specs.declared.aims.Aim.TheVariants as Aims
+use Rattle.call_arguments.specs.declared.aims.Aim.{Aim}
+use Rattle.call_notes.specs.Ends.{settled}
+use Rattle.expression_forms.specs.Scopes.{scope_of}
+use Rattle.expression_forms.specs.Spots.{spot_of, written_by}
+use Rattle.expression_steps.specs.Calls.{argument_aims}
+use Rattle.expression_steps.specs.Coded.{aim_or_free, left_behind, spotted_in, ways_seen, taken_in}
+use Rattle.expression_steps.specs.Expressions.{part}
+use Rattle.expression_steps.specs.Parts.{three, under}
+use Rattle.expression_steps.specs.Statements.{alone_walk, measure_walk, natural_type, joined_under}
+use Rattle.expression_steps.specs.Targets.{spotting, part_of, tuple_spotted, assigned}
+use Rattle.expression_steps.specs.Values.{taken, no_way}
+use Rattle.expression_notes.proofs.Bindings.{names_alike}
+use Rattle.expression_steps.proofs.Conditions.{value_same, walked_same, scoped_run}
+use Rattle.expression_notes.proofs.JoinLaws.{guarded_alike, joined_alike, none_alike}
+use Rattle.expression_notes.proofs.LeftMasses.{ends_masses, left_mass, only_target, taken_mass, between, ends_are, cased_masses, tried_masses}
+use Rattle.expression_notes.proofs.MadeLaws.{made_ends, with_values, without}
+use Rattle.expression_steps.proofs.Masses.{either_masses, kind_mass, mass_at, mass_opens, masses, masses_take, one_mass, rest_mass, rest_target, target_at}
+use Rattle.expression_steps.proofs.Masses.{mass_some, target_masses, target_opens, target_some, two_masses, way_at, way_mass, mass}
+use Rattle.expression_steps.proofs.Meeting.{Opened, match_got, match_run, try_is, way_got, way_run}
+use Rattle.expression_notes.proofs.Numbers.{numbers_end, numbers_walked, number_is, number_onward, number_stop}
+use Rattle.expression_steps.proofs.Onward.{given_got, given_run, same_got, same_run, then_got_in, then_run_in, on_ok, ok_then}
+use Rattle.expression_steps.proofs.Opened.{inward_is, plain_is}
+use Rattle.expression_steps.proofs.Rests.{first_of, none_of, others, three_of}
+use Rattle.expression_steps.proofs.Rows.{item_walked, items_got, items_run}
+use Rattle.expression_steps.proofs.Spots.{call_got, call_run, one_assigned, call_alone, no_further, of_any, part_opens, further}
+use Rattle.expression_notes.proofs.Spotted.{last_there, none_within_got, spots_onward, spots_stop, none_within_run, part_got, part_run, last_is, kind_opens}
+use Rattle.expression_notes.proofs.Spotted.{absent_alike, spots_ended, stopped_alike}
+use Rattle.expression_notes.proofs.Taken.{never_alike, part_alike, step_alike, stop_alike, taken_got, reached_got, reached_run, updated_got, updated_run}
+use Rattle.expression_notes.proofs.Taken.{way_opens, few_way, no_way_got, one_value, suffixes_ended, uncounted}
+use Rattle.expression_steps.proofs.Turns.{turns_got, turns_run}
+use Rattle.expression_steps.proofs.Walked.{each_end, each_more, like_end, like_more}
+use Rattle.expression_notes.proofs.RowLaws.{row_due, row_free}
+use Rattle.expression_notes.proofs.+walk.Goals as goal
+use Rattle.expression_notes.proofs.Blocks.{assert_alike, if_alike, in_alike, more_alike, other_alike}
+use Rattle.expression_notes.proofs.BranchLaws.{no_either_alike, no_turns, no_when_alike, some_either_alike, some_turns, some_when_alike, ways_met, ways_onward}
+use Rattle.expression_notes.proofs.FewParts.{few_alike, many_alike}
+
+pub expressions::walk_expression-returns-in_ok-value : goal.expressions::walk_expression-returns-in_ok-value
+expressions::walk_expression-returns-in_ok-value t c = let around = around_of c.args.around.now in let scope = scope_of c.args.scope.now in
+    let aim = c.args.aim.now in let opens = inward_is _ _ around scope aim c.as_slice.ensures (sym c.goes_inward.ensures ∙ c.if-goes_inward.true) in
+    record {
+      value = then_got_in _ (λ (i : Indices). i) _ _ _ _ _ _ opens c.in_ok-value.ensures.value c.in_ok-value.ensures.walked c.made_at.ensures.value;
+      walked = then_run_in _ _ _ _ _ _ _ _ opens c.in_ok-value.ensures.value c.in_ok-value.ensures.walked c.made_at.ensures.walked;
+    }
+
+pub expressions::walk_expression-returns-in_ok-ended : goal.expressions::walk_expression-returns-in_ok-ended
+expressions::walk_expression-returns-in_ok-ended t c = let around = around_of c.args.around.now in let scope = scope_of c.args.scope.now in
+    let aim = c.args.aim.now in let core = c.args.core.now in let settles = settled around (out-Core core).place aim in
+    let opens = plain_is _ _ around scope aim c.as_slice-else-goes_inward.ensures (sym c.goes_inward.ensures ∙ c.if-goes_inward.false) in
+    let is = c.in_ok-ended.ensures.value ∙ then_got _ settles _ _ _ c.in_ok-plain.ensures.value c.in_ok-plain.ensures.walked in
+    let was = c.in_ok-ended.ensures.walked ∙ then_run _ settles _ _ _ c.in_ok-plain.ensures.value c.in_ok-plain.ensures.walked in
+    record {
+      value = then_got_in _ (λ (i : Indices). i) _ _ _ _ _ _ opens is was c.made_at-else-goes_inward.ensures.value;
+      walked = then_run_in _ _ _ _ _ _ _ _ opens is was c.made_at-else-goes_inward.ensures.walked;
+    }
+
+pub parts::walk_each-loop-index-preserved : goal.parts::walk_each-loop-index-preserved
+parts::walk_each-loop-index-preserved t c = let around = around_of c.args.around.now in let scope = scope_of c.args.scope.now in let aims = c.args.aims.now in
+    let k = c.loop-index.index in let a = c.index-parts-index.result in let first = (part a).walk around scope (aim_or_free (slice_get aims k)) in
+    let opens = each_more _ around scope aims _ _ c.loop-index-test.true c.index-parts-index.is in let v = seen c.loop-index.walking in
+    let w = seen c.walk_expression.new.walking in
+    let is : c.in_ok-walk_expression.field-0 ≡ got first v = c.in_ok-walk_expression.ensures.value ∙ ap (λ (o : Aim). got ((part a).walk around scope o) v)
+    c.aim_at-aim.ensures in
+    let was : w ≡ run first v = c.in_ok-walk_expression.ensures.walked ∙ ap (λ (o : Aim). run ((part a).walk around scope o) v) c.aim_at-aim.ensures in
+    record {
+      value = pushed_got _ _ _ _ _ _ _ _ c.in_ok-push.ensures.pushed is was opens ∙ c.loop-index.invariant.value;
+      walked = pushed_run _ _ _ _ _ was opens ∙ c.loop-index.invariant.walked;
+    }
+
+pub parts::walk_each-returns : goal.parts::walk_each-returns
+parts::walk_each-returns t c = let v = seen c.loop-index.walking in
+    let ends = each_end _ (around_of c.args.around.now) (scope_of c.args.scope.now) c.args.aims.now _ c.loop-index-test.false in
+    record {
+      value = ended_by _ _ _ _ ends c.loop-index.invariant.value;
+      walked = sym (run_give {A = List Indices} [] v) ∙ ap (λ (a : Walk (List Indices)). run a v) (sym ends) ∙ c.loop-index.invariant.walked;
+    }
+
+pub parts::walk_numbers-loop-core-preserved : goal.parts::walk_numbers-loop-core-preserved
+parts::walk_numbers-loop-core-preserved t c = let h = c.in_ok-value.ensures in let n = c.in_ok-integer_number.ensures in let a = c.core-item.result in
+    let is = number_is (part a) _ _ _ _ _ _ _ _ c.place_of.ensures h.value h.walked n.value n.walked in
+    let same = number_onward _ _ _ _ _ _ _ c.loop-core-test.true c.core-item.is is.walked _ _ _ (sym c.in-Some.is ∙ is.value)
+    c.in_ok-push-in-Some.ensures.pushed in
+    record { value = same.value ∙ c.loop-core.invariant.value; walked = same.walked ∙ c.loop-core.invariant.walked }
+
+pub parts::walk_numbers-returns-in-None : goal.parts::walk_numbers-returns-in-None
+parts::walk_numbers-returns-in-None t c = let h = c.in_ok-value.ensures in let n = c.in_ok-integer_number.ensures in let a = c.core-item.result in
+    let is = number_is (part a) _ _ _ _ _ _ _ _ c.place_of.ensures h.value h.walked n.value n.walked in
+    let same = number_stop _ _ _ _ _ _ _ c.loop-core-test.true c.core-item.is is.walked c.loop-core.made (sym c.in-None.is ∙ is.value) in
+    record { value = same.value ∙ c.loop-core.invariant.value; walked = same.walked ∙ c.loop-core.invariant.walked }
+
+pub parts::walk_numbers-returns : goal.parts::walk_numbers-returns
+parts::walk_numbers-returns t c = let around = around_of c.args.around.now in let scope = scope_of c.args.scope.now in let w = seen c.loop-core.walking in
+    record {
+      value = numbers_end around scope _ _ c.loop-core.made w c.loop-core-test.false ∙ c.loop-core.invariant.value;
+      walked = numbers_walked around scope _ _ w c.loop-core-test.false ∙ c.loop-core.invariant.walked;
+    }
+
+pub truths::walk_joined-returns-in_ok-restore-in-Some : goal.truths::walk_joined-returns-in_ok-restore-in-Some
+truths::walk_joined-returns-in_ok-restore-in-Some t c = let truth = c.in_ok-walk_truth-in-len2.ensures in let walked = c.in_ok-value-in-Some.ensures in
+    let same = joined_alike _ (part c.left-item.result) (part c.right-item.result) _ _ _ _ _ _ _ _ _ _ _ _ truth.value truth.walked c.in-Some.is
+    c.in_ok-given-in-Some.ensures c.in_ok-remember-in-Some.ensures c.in_ok-assume-in-Some.ensures walked.value walked.walked c.in_ok-restore-in-Some.ensures _
+    c.place_of.ensures in let two = two_of _ _ _ c.in-len2.len_at_least c.in-len2.len_below c.left-item.is c.right-item.is in
+    record { value = rw two (value_same _ _ _ same.value c.joined.ensures.value); walked = rw two (walked_same _ _ _ _ same.walked c.joined.ensures.walked) }
+
+pub truths::walk_joined-returns-in-None : goal.truths::walk_joined-returns-in-None
+truths::walk_joined-returns-in-None t c = let truth = c.in_ok-walk_truth-in-len2.ensures in let b = part c.right-item.result in
+    let none = none_alike (part c.left-item.result) _ _ _ _ (joined_under c.args.is_or b (around_of c.args.around.now) (scope_of c.args.scope.now)) _
+    truth.value truth.walked c.in-None.is in let two = two_of _ _ _ c.in-len2.len_at_least c.in-len2.len_below c.left-item.is c.right-item.is in
+    record { value = rw two none.value; walked = rw two none.walked }
+
+pub truths::walk_guarded-returns-in_ok-assume-in-Some : goal.truths::walk_guarded-returns-in_ok-assume-in-Some
+truths::walk_guarded-returns-in_ok-assume-in-Some t c = let truth = c.in_ok-walk_truth-in-len2.ensures in
+    let same = guarded_alike (part c.guard-item.result) (part c.body-item.result) _ _ c.args.aim.now _ _ _ _ _ truth.value truth.walked c.in-Some.is
+    c.in_ok-assume-in-Some.ensures in let two = two_of _ _ _ c.in-len2.len_at_least c.in-len2.len_below c.guard-item.is c.body-item.is in
+    record {
+      value = rw two (value_same _ _ _ same.value c.walk_expression.ensures.value);
+      walked = rw two (walked_same _ _ _ _ same.walked c.walk_expression.ensures.walked);
+    }
+
+pub truths::walk_guarded-returns-in-None : goal.truths::walk_guarded-returns-in-None
+truths::walk_guarded-returns-in-None t c = let truth = c.in_ok-walk_truth-in-len2.ensures in let b = part c.body-item.result in let aim = c.args.aim.now in
+    let guards = λ (d : Con). under d b (around_of c.args.around.now) (scope_of c.args.scope.now) aim in
+    let none = none_alike (part c.guard-item.result) _ _ _ _ guards _ truth.value truth.walked c.in-None.is in
+    let two = two_of _ _ _ c.in-len2.len_at_least c.in-len2.len_below c.guard-item.is c.body-item.is in
+    record { value = rw two none.value; walked = rw two none.walked }
+
+pub values::walk_like-loop-item-preserved : goal.values::walk_like-loop-item-preserved
+values::walk_like-loop-item-preserved t c = let around = around_of c.args.around.now in let scope = scope_of c.args.scope.now in let a = c.item-item.result in
+    let w = seen c.loop-item.walking in let v = seen c.owe_item.new.walking in
+    like_more _ around scope c.args.reading.now _ _ w v c.loop-item-test.true c.item-item.is (item_walked (part a) _ _ _ _ _ _ _ _ c.place_of.ensures
+    c.in_ok-value.ensures.value c.in_ok-value.ensures.walked c.in_ok-owe_item.ensures) ∙ c.loop-item.invariant
+
+pub values::walk_like-returns : goal.values::walk_like-returns
+values::walk_like-returns t c =
+    sym (like_end _ (around_of c.args.around.now) (scope_of c.args.scope.now) c.args.reading.now _ (seen c.loop-item.walking) c.loop-item-test.false) ∙
+    c.loop-item.invariant
+
+pub values::walk_first-returns-in-empty : goal.values::walk_first-returns-in-empty
+values::walk_first-returns-in-empty t c = let is = none_of _ c.in-empty.len_below in let v = seen c.args.walking.now in
+    record { value = rw is (sym (got_give R.Hole v)); walked = rw is (sym (run_give {A = Reading} R.Hole v)) }
+
+pub values::walk_first-returns-in_ok-walk_like-in-len1-up : goal.values::walk_first-returns-in_ok-walk_like-in-len1-up
+values::walk_first-returns-in_ok-walk_like-in-len1-up t c = let a = c.first-item.result in let is = first_of _ _ c.in-len1-up.len_at_least c.first-item.is in
+    record {
+      value = rw is (items_got (part a) _ _ _ _ _ _ _ _ _ _ _ _ c.place_of.ensures c.in_ok-value-in-len1-up.ensures.value
+          c.in_ok-value-in-len1-up.ensures.walked c.in_ok-reading-in-len1-up.ensures.value c.in_ok-reading-in-len1-up.ensures.walked
+          c.in_ok-owe_item-in-len1-up.ensures c.in_ok-walk_like-in-len1-up.ensures);
+      walked = rw is (items_run (part a) _ _ _ _ _ _ _ _ _ _ _ _ c.place_of.ensures c.in_ok-value-in-len1-up.ensures.value
+          c.in_ok-value-in-len1-up.ensures.walked c.in_ok-reading-in-len1-up.ensures.value c.in_ok-reading-in-len1-up.ensures.walked
+          c.in_ok-owe_item-in-len1-up.ensures c.in_ok-walk_like-in-len1-up.ensures);
+    }
+
+pub values::walk_row-returns-in_ok-reading : goal.values::walk_row-returns-in_ok-reading
+values::walk_row-returns-in_ok-reading t c =
+    let same = row_free c.args.place c.args.is_list _ _ _ _ _ _ _ _ c.in_ok-wanted.ensures _ (sym c.is_hole.ensures ∙ c.if-is_hole.true)
+    c.in_ok-reading.ensures.value c.in_ok-reading.ensures.walked in
+    record { value = value_same _ _ _ same.value c.row_of.ensures.value; walked = walked_same _ _ _ _ same.walked c.row_of.ensures.walked }
+
+pub values::walk_row-returns-in_ok-walk_each : goal.values::walk_row-returns-in_ok-walk_each
+values::walk_row-returns-in_ok-walk_each t c =
+    let same = row_due c.args.place c.args.is_list c.args.shape.now _ _ _ _ _ _ _ c.in_ok-wanted.ensures _ (sym c.is_hole.ensures ∙ c.if-is_hole.false)
+    (c.as_slice.ensures ∙ c.in_ok-aims.ensures) c.in_ok-walk_each.ensures.walked in
+    record {
+      value = value_same _ _ _ same.value c.row_of-else-is_hole.ensures.value;
+      walked = walked_same _ _ _ _ same.walked c.row_of-else-is_hole.ensures.walked;
+    }
+
+pub made::walk_made-returns : goal.made::walk_made-returns
+made::walk_made-returns t c =
+    let same = made_ends _ _ c.args.place c.args.number _ _ _ c.args.aim.now _ _ _ _ _ c.in_ok-count.ensures c.first_parts-first.ensures (c.as_slice.ensures ∙
+    c.in_ok-aims.ensures) c.in_ok-values.ensures.value c.in_ok-values.ensures.walked in
+    record { value = value_same _ _ _ same.value c.made_end.ensures.value; walked = walked_same _ _ _ _ same.walked c.made_end.ensures.walked }
+
+pub made::walk_with-returns-in-empty : goal.made::walk_with-returns-in-empty
+made::walk_with-returns-in-empty t c = let is = none_of _ c.in-empty.len_below in
+    record { value = rw is c.wrong_value.ensures.value; walked = rw is c.wrong_value.ensures.walked }
+
+pub made::walk_with-returns-in-None : goal.made::walk_with-returns-in-None
+made::walk_with-returns-in-None t c =
+    let same = without c.args.place _ _ _ c.args.parts.now _ _ _ _ _ (first_of _ _ c.in-len1-up.len_at_least c.base-item.is)
+    c.in_ok-value-in-len1-up.ensures.value c.in_ok-value-in-len1-up.ensures.walked _ c.in_ok-with_aims-in-len1-up.ensures c.in-None.is in
+    record { value = value_same _ _ _ same.value c.no_struct.ensures.value; walked = walked_same _ _ _ _ same.walked c.no_struct.ensures.walked }
+
+pub made::walk_with-returns-in_ok-walk_each-in-Some : goal.made::walk_with-returns-in_ok-walk_each-in-Some
+made::walk_with-returns-in_ok-walk_each-in-Some t c =
+    let same = with_values c.args.place _ _ _ c.args.parts.now _ _ _ _ _ (first_of _ _ c.in-len1-up.len_at_least c.base-item.is)
+    c.in_ok-value-in-len1-up.ensures.value c.in_ok-value-in-len1-up.ensures.walked _ _ _ _ _ c.in_ok-with_aims-in-len1-up.ensures c.in-Some.is
+    (c.first_parts-others.ensures ∙ ap (λ n. take n (others c.args.parts.now)) c.len.ensures) c.as_slice.ensures c.in_ok-walk_each-in-Some.ensures.walked in
+    record { value = same.value; walked = same.walked }
+
+pub reading::walk_way-returns-then-left-count : goal.reading::walk_way-returns-then-left-count
+reading::walk_way-returns-then-left-count t c = let around = around_of c.args.around.now in let scope = scope_of c.args.scope.now in
+    let parts = c.args.parts.now in
+    let none = few_way c.args.place around scope c.args.value.now c.args.way c.args.at c.indexes_of-count.result parts c.left_at-left.result.now
+    c.left_at-left.ensures c.indexes_of-count.ensures c.if-left-count.true in
+    record {
+      value = no_way_got c.no_way.result parts c.args.place _ (seen c.args.walking.now) none c.no_way.ensures.value;
+      walked = same_run c.no_way.result (no_way c.args.place) _ _ _ none c.no_way.ensures.walked;
+    }
+
+pub reading::walk_way-returns-in-None : goal.reading::walk_way-returns-in-None
+reading::walk_way-returns-in-None t c = let numbers = c.in_ok-walk_numbers.ensures in
+    let same = uncounted c.args.place (around_of c.args.around.now) (scope_of c.args.scope.now) c.args.value.now c.args.way c.args.at _ c.args.parts.now
+    c.left_at-left.result.now c.first_parts.result.now c.left_at-left.ensures c.indexes_of-count.ensures c.if-left-count.false c.first_parts.ensures _ _ _
+    numbers.value numbers.walked c.in-None.is in
+    record { value = same.value; walked = same.walked }
+
+pub reading::walk_way-returns-in-Some : goal.reading::walk_way-returns-in-Some
+reading::walk_way-returns-in-Some t c = let around = around_of c.args.around.now in let scope = scope_of c.args.scope.now in let parts = c.args.parts.now in
+    let opens = way_opens c.args.place around scope c.args.value.now c.args.way c.args.at c.indexes_of-count.result parts c.left_at-left.result.now
+    c.first_parts.result.now c.left_at-left.ensures c.indexes_of-count.ensures c.if-left-count.false c.first_parts.ensures in
+    let found = (λ j. Some (c.as_slice.ensures j)) ∙ sym c.in-Some.is ∙ c.in_ok-walk_numbers.ensures.value in
+    record {
+      value = taken_got c.way_reached.result parts _ c.behind.result (c.args.at + c.indexes_of-count.result) _ (seen c.args.walking.now) c.behind.ensures
+          (reached_got around c.args.value.now c.args.way (left_behind parts (c.args.at + c.indexes_of-count.result)) _ _ c.as_slice.result.now (seen
+          c.args.walking.now) (seen c.walk_numbers.new.walking) opens found c.in_ok-walk_numbers.ensures.walked) c.way_reached.ensures.value;
+      walked = ok_then c.way_reached.result (reached_run around c.args.value.now c.args.way (left_behind parts (c.args.at + c.indexes_of-count.result)) _ _
+          c.as_slice.result.now (seen c.args.walking.now) (seen c.walk_numbers.new.walking) (seen c.way_reached.new.walking) opens found
+          c.in_ok-walk_numbers.ensures.walked) c.way_reached.ensures.walked;
+    }
+
+pub reading::walk_suffixes-loop-suffix-preserved : goal.reading::walk_suffixes-loop-suffix-preserved
+reading::walk_suffixes-loop-suffix-preserved t c = let parts = c.args.parts.now in let is = item_is _ _ _ c.loop-suffix-test.true in
+    let found = (λ j. taken_in parts (sym c.in-Some.is j)) ∙ c.in_ok-walk_way.ensures.value in let read = c.in_ok-value-in-Some.ensures in
+    let same = step_alike _ _ _ _ _ _ _ _ _ _ _ c.as_ref.ensures.value _ _ _ c.loop-suffix-test.true is found c.in_ok-walk_way.ensures.walked read.value
+    read.walked in
+    record { value = same.value ∙ c.loop-suffix.invariant.value; walked = same.walked ∙ c.loop-suffix.invariant.walked }
+
+pub reading::walk_suffixes-returns-in-None : goal.reading::walk_suffixes-returns-in-None
+reading::walk_suffixes-returns-in-None t c = let parts = c.args.parts.now in
+    let found = (λ j. taken_in parts (sym c.in-None.is j)) ∙ c.in_ok-walk_way.ensures.value in
+    let same = stop_alike _ _ _ _ _ _ _ _ _ c.loop-suffix-test.true (item_is _ _ _ c.loop-suffix-test.true) found c.in_ok-walk_way.ensures.walked in
+    record { value = same.value ∙ c.loop-suffix.invariant.value; walked = same.walked ∙ c.loop-suffix.invariant.walked }
+
+pub reading::walk_suffixes-returns : goal.reading::walk_suffixes-returns
+reading::walk_suffixes-returns t c =
+    let same = suffixes_ended (around_of c.args.around.now) (scope_of c.args.scope.now) c.args.suffixes.now _ (left_behind c.args.parts.now c.loop-suffix.at)
+    c.loop-suffix.value (seen c.loop-suffix.walking) c.loop-suffix-test.false in
+    record { value = same.value ∙ c.loop-suffix.invariant.value; walked = same.walked ∙ c.loop-suffix.invariant.walked }
+
+pub reading::walk_part-returns-in-empty : goal.reading::walk_part-returns-in-empty
+reading::walk_part-returns-in-empty t c = let none = none_of _ c.in-empty.len_below in let v = seen c.args.walking.now in
+    record { value = rw none (sym (got_give I.Never v)); walked = rw none (sym (run_give {A = Indices} I.Never v)) }
+
+pub reading::walk_part-returns-in_ok-found-in-len1-up : goal.reading::walk_part-returns-in_ok-found-in-len1-up
+reading::walk_part-returns-in_ok-found-in-len1-up t c = let first = first_of _ _ c.in-len1-up.len_at_least c.base-item.is in
+    let same = part_alike (around_of c.args.around.now) (scope_of c.args.scope.now) c.args.suffixes.now c.base-item.result _ _ _ _ _ _
+    c.in_ok-value-in-len1-up.ensures.value c.in_ok-value-in-len1-up.ensures.walked c.in_ok-found-in-len1-up.ensures.value
+    c.in_ok-found-in-len1-up.ensures.walked in
+    record { value = rw first (c.value_of.ensures ∙ same.value); walked = rw first same.walked }
+
+pub reading::walk_update-returns-in-None : goal.reading::walk_update-returns-in-None
+reading::walk_update-returns-in-None t c = let around = around_of c.args.around.now in let scope = scope_of c.args.scope.now in
+    let parts = c.args.parts.now in
+    let opens = one_value c.args.place c.args.way around scope parts (between parts) c.base-item.result c.core-item.result (ends_are _ _ _
+    c.in-len2-up.len_at_least c.base-item.is c.core-item.is) (c.if-indexes-count.false ∙ c.indexes_of-count.ensures) in
+    let value = c.in_ok-value-in-len2-up.ensures in
+    let same = never_alike c.args.place c.args.way around scope c.base-item.result c.core-item.result (between parts) _ _ _ _ value.value value.walked (sym
+    c.in-None.is ∙ c.in_ok-walk_numbers-in-len2-up.ensures.value) c.in_ok-walk_numbers-in-len2-up.ensures.walked in let w = seen c.args.walking.now in
+    record { value = same.value ∙ (λ j. got (sym opens j) w); walked = same.walked ∙ (λ j. run (sym opens j) w) }
+
+pub reading::walk_update-returns-in_ok-reached-in-Some : goal.reading::walk_update-returns-in_ok-reached-in-Some
+reading::walk_update-returns-in_ok-reached-in-Some t c = let around = around_of c.args.around.now in let scope = scope_of c.args.scope.now in
+    let parts = c.args.parts.now in
+    let opens = one_value c.args.place c.args.way around scope parts (between parts) c.base-item.result c.core-item.result (ends_are _ _ _
+    c.in-len2-up.len_at_least c.base-item.is c.core-item.is) (c.if-indexes-count.false ∙ c.indexes_of-count.ensures) in
+    let value = c.in_ok-value-in-len2-up.ensures in let numbers = c.in_ok-walk_numbers-in-len2-up.ensures in let reached = c.in_ok-reached-in-Some.ensures in
+    let found = (λ j. Some (c.as_slice.ensures j)) ∙ sym c.in-Some.is ∙ numbers.value in let is = c.as_ref.ensures.value ∙ reached.value in
+    record {
+      value = same_got c.updated.result (λ made. made) _ _ _ opens (updated_got _ _ _ _ c.base-item.result _ (between parts) _ _ _ _ _ _ _ _ value.value
+          value.walked found numbers.walked is reached.walked c.updated.ensures.value);
+      walked = same_run c.updated.result _ _ _ _ opens (updated_run _ _ _ _ c.base-item.result _ (between parts) _ _ _ _ _ _ _ _ _ value.value value.walked
+          found numbers.walked is reached.walked c.updated.ensures.walked);
+    }
+
+pub targets::spot_each-loop-target-preserved : goal.targets::spot_each-loop-target-preserved
+targets::spot_each-loop-target-preserved t c = let around = around_of c.args.around.now in let parts = c.args.parts.now in
+    let found = (λ j. spotted_in around parts (sym c.in-Some.is j)) ∙ c.in_ok-spot_target.ensures.value in
+    let grown = ap (map (spot_of around)) c.in_ok-push-in-Some.ensures.pushed ∙ map-append (spot_of around) c.loop-target.spots (c.in-Some.spot ∷ []) in
+    let same = spots_onward _ _ _ _ _ _ _ _ _ _ _ _ c.loop-target-test.true c.target-item.is found c.in_ok-spot_target.ensures.walked grown in
+    record { value = same.value ∙ c.loop-target.invariant.value; walked = same.walked ∙ c.loop-target.invariant.walked }
+
+pub targets::spot_each-returns-in-None : goal.targets::spot_each-returns-in-None
+targets::spot_each-returns-in-None t c = let around = around_of c.args.around.now in let parts = c.args.parts.now in
+    let found = (λ j. spotted_in around parts (sym c.in-None.is j)) ∙ c.in_ok-spot_target.ensures.value in
+    let same = spots_stop _ _ _ _ _ _ (map (spot_of around) c.loop-target.spots) _ _ c.loop-target-test.true c.target-item.is found
+    c.in_ok-spot_target.ensures.walked in
+    record { value = same.value ∙ c.loop-target.invariant.value; walked = same.walked ∙ c.loop-target.invariant.walked }
+
+pub targets::spot_each-returns : goal.targets::spot_each-returns
+targets::spot_each-returns t c = let around = around_of c.args.around.now in
+    let same = spots_ended around (scope_of c.args.scope.now) c.args.targets.now _ (left_behind c.args.parts.now c.loop-target.at) (map (spot_of around)
+    c.loop-target.spots) (seen c.loop-target.walking) c.loop-target-test.false in
+    record { value = same.value ∙ c.loop-target.invariant.value; walked = same.walked ∙ c.loop-target.invariant.walked }
+
+pub targets::spot_within-returns-in-None : goal.targets::spot_within-returns-in-None
+targets::spot_within-returns-in-None t c = let around = around_of c.args.around.now in
+    let next = part_of c.args.place c.args.suffixes.now around (scope_of c.args.scope.now) in
+    let same = absent_alike around c.args.parts.now c.args.found next (seen c.args.walking.now) c.in-None.is in
+    record { value = same.value; walked = same.walked }
+
+pub targets::spot_within-returns-in-empty : goal.targets::spot_within-returns-in-empty
+targets::spot_within-returns-in-empty t c = let scope = scope_of c.args.scope.now in let parts = c.args.parts.now in
+    let held = c.in_ok-held-in-Some.ensures in
+    record {
+      value = none_within_got _ scope _ _ parts _ _ _ c.in-Some.is _ _ _ held.value held.walked _ c.in-empty.len_below c.no_spot.ensures.value;
+      walked = none_within_run _ scope _ _ parts _ _ _ c.in-Some.is _ _ _ held.value held.walked _ _ c.in-empty.len_below c.no_spot.ensures.walked;
+    }
+
+pub targets::spot_within-returns-in-None-2 : goal.targets::spot_within-returns-in-None-2
+targets::spot_within-returns-in-None-2 t c = let ss = c.args.suffixes.now in let held = c.in_ok-held-in-Some.ensures in
+    let went = c.in_ok-walk_suffixes-in-len1-up.ensures in let last = last_is ss c.in-len1-up.len_at_least in
+    let same = stopped_alike (around_of c.args.around.now) (scope_of c.args.scope.now) c.args.place ss c.args.parts.now _ _ _ c.in-Some.is _ _ _ held.value
+    held.walked _ last.0 last.1 refl _ c.in_ok-value-in-len1-up.ensures _ _ went.value went.walked c.in-None-2.is in
+    record { value = same.value; walked = same.walked }
+
+pub targets::spot_within-returns-in_ok-reached-in-Some-2 : goal.targets::spot_within-returns-in_ok-reached-in-Some-2
+targets::spot_within-returns-in_ok-reached-in-Some-2 t c = let ss = c.args.suffixes.now in let held = c.in_ok-held-in-Some.ensures in
+    let went = c.in_ok-walk_suffixes-in-len1-up.ensures in let reached = c.in_ok-reached-in-Some-2.ensures in
+    record {
+      value = part_got _ _ c.args.place ss _ _ _ _ c.in-Some.is _ _ _ held.value held.walked _ _ (last_there _ _ c.in-len1-up.len_at_least) refl _
+          c.in_ok-value-in-len1-up.ensures _ _ went.value went.walked _ _ c.in-Some-2.is _ (seen c.walk_way.new.walking) _ reached.value c.part_found.ensures;
+      walked = part_run _ _ c.args.place ss _ _ _ _ c.in-Some.is _ _ _ held.value held.walked _ _ (last_there _ _ c.in-len1-up.len_at_least) refl _
+          c.in_ok-value-in-len1-up.ensures _ _ went.value went.walked _ _ c.in-Some-2.is c.in_ok-reached-in-Some-2.reached _ c.part_found.result
+          reached.walked;
+    }
+
+pub targets::spot_target-returns-in-Variable : goal.targets::spot_target-returns-in-Variable
+targets::spot_target-returns-in-Variable t c =
+    let opens = kind_opens _ _ _ (around_of c.args.around.now) (scope_of c.args.scope.now) (left_behind c.args.parts.now c.args.at) c.as_slice-targets.ensures
+    c.in-Variable.is in
+    record { value = same_got _ _ _ _ _ opens c.spot_name.ensures.value; walked = same_run _ _ _ _ _ opens c.spot_name.ensures.walked }
+
+pub targets::spot_target-returns-in-Register : goal.targets::spot_target-returns-in-Register
+targets::spot_target-returns-in-Register t c =
+    let opens = kind_opens _ _ _ (around_of c.args.around.now) (scope_of c.args.scope.now) (left_behind c.args.parts.now c.args.at) c.as_slice-targets.ensures
+    c.in-Register.is in
+    record { value = same_got _ _ _ _ _ opens c.spot_register.ensures.value; walked = same_run _ _ _ _ _ opens c.spot_register.ensures.walked }
+
+pub targets::spot_target-returns-in_ok-found-in-Tuple : goal.targets::spot_target-returns-in_ok-found-in-Tuple
+targets::spot_target-returns-in_ok-found-in-Tuple t c = let place = (out-Target c.args.target.now).place in let found = c.in_ok-found-in-Tuple.ensures in
+    let opens = kind_opens _ _ _ (around_of c.args.around.now) (scope_of c.args.scope.now) (left_behind c.args.parts.now c.args.at) c.as_slice-targets.ensures
+    c.in-Tuple.is in let w = seen c.args.walking.now in
+    record {
+      value = c.tuple_found.ensures (around_of c.args.around.now) c.args.parts.now ∙ made_got _ (tuple_spotted place) _ _ found.value ∙ (λ j. got (sym opens
+          j) w);
+      walked = made_run _ (tuple_spotted place) _ _ found.walked ∙ (λ j. run (sym opens j) w);
+    }
+
+pub targets::spot_target-returns-in_ok-values-in-empty : goal.targets::spot_target-returns-in_ok-values-in-empty
+targets::spot_target-returns-in_ok-values-in-empty t c = let around = around_of c.args.around.now in let scope = scope_of c.args.scope.now in
+    let parts = c.args.parts.now in let place = (out-Target c.args.target.now).place in
+    let taken = c.first_parts-arguments.ensures ∙ ap (take _) c.left_at.ensures in
+    let aims = c.as_slice.ensures ∙ c.in_ok-aims-in-empty.ensures ∙ ap argument_aims c.callee_types.ensures in
+    let left = left_behind parts c.args.at in let ts = c.as_slice-targets.result.now in
+    let opens = kind_opens _ _ _ around scope left c.as_slice-targets.ensures c.in-Call.is ∙ call_alone place around scope left _ _ _ ts c.in-empty.len_below in
+    record {
+      value = of_any c.call_found.result _ around parts _ (call_got around scope _ _ _ _ c.args.at parts c.first_parts-arguments.result.now
+          c.as_slice.result.now c.in_ok-values-in-empty.values (seen c.args.walking.now) (seen c.walk_each.new.walking) taken aims
+          c.in_ok-values-in-empty.ensures.value c.in_ok-values-in-empty.ensures.walked ∙ (λ j. got (sym opens j) (seen c.args.walking.now)))
+          c.call_found.ensures;
+      walked = on_ok c.call_found.result (call_run around scope _ _ _ _ c.args.at parts c.first_parts-arguments.result.now c.as_slice.result.now
+          c.in_ok-values-in-empty.values (seen c.args.walking.now) (seen c.walk_each.new.walking) taken aims c.in_ok-values-in-empty.ensures.value
+          c.in_ok-values-in-empty.ensures.walked ∙ (λ j. run (sym opens j) (seen c.args.walking.now)));
+    }
+
+pub targets::spot_target-returns-in_ok-found-in-len1 : goal.targets::spot_target-returns-in_ok-found-in-len1
+targets::spot_target-returns-in_ok-found-in-len1 t c = let around = around_of c.args.around.now in let scope = scope_of c.args.scope.now in
+    let parts = c.args.parts.now in let place = (out-Target c.args.target.now).place in
+    let kind = c.in-Part.is ∙ (λ j. T.Part (sym c.as_slice-suffixes.ensures j)) in let left = left_behind parts c.args.at in
+    let opens = kind_opens _ _ _ around scope left c.as_slice-targets.ensures kind ∙ part_opens place around scope left c.as_slice-suffixes.result.now _ _
+    c.in-len1.len_at_least c.in-len1.len_below c.base-item.is in
+    record {
+      value = then_got_in _ _ _ _ _ _ _ _ opens c.in_ok-found-in-len1.ensures.value c.in_ok-found-in-len1.ensures.walked c.spot_within.ensures.value;
+      walked = then_run_in _ _ _ _ _ _ _ _ opens c.in_ok-found-in-len1.ensures.value c.in_ok-found-in-len1.ensures.walked c.spot_within.ensures.walked;
+    }
+
+pub targets::assign-returns-in-empty : goal.targets::assign-returns-in-empty
+targets::assign-returns-in-empty t c = let around = around_of c.args.around.now in let scope = scope_of c.args.scope.now in let parts = c.args.parts.now in
+    let opens = ap (λ (ts : List Target). assigned c.args.place (map spotting ts) around scope (left_behind parts c.args.at)) (none_of _ c.in-empty.len_below)
+    in
+    record { value = same_got _ (λ made. made) _ _ _ opens c.wrong_value.ensures.value; walked = same_run _ _ _ _ _ opens c.wrong_value.ensures.walked }
+
+pub targets::assign-returns-in-None : goal.targets::assign-returns-in-None
+targets::assign-returns-in-None t c = let around = around_of c.args.around.now in let scope = scope_of c.args.scope.now in let parts = c.args.parts.now in
+    let opens = ap (λ (ts : List Target). assigned c.args.place (map spotting ts) around scope (left_behind parts c.args.at)) (first_of _ _
+    c.in-len1-up.len_at_least c.target-item.is) in
+    let found = (λ j. spotted_in around parts (sym c.in-None.is j)) ∙ c.in_ok-spot_target-in-len1-up.ensures.value in
+    record {
+      value = given_got _ _ _ _ _ _ I.Never opens found c.in_ok-spot_target-in-len1-up.ensures.walked refl;
+      walked = given_run _ _ _ _ _ _ I.Never opens found c.in_ok-spot_target-in-len1-up.ensures.walked refl;
+    }
+
+pub targets::assign-returns-in-Some : goal.targets::assign-returns-in-Some
+targets::assign-returns-in-Some t c = let around = around_of c.args.around.now in let scope = scope_of c.args.scope.now in let parts = c.args.parts.now in
+    let opens = ap (λ (ts : List Target). assigned c.args.place (map spotting ts) around scope (left_behind parts c.args.at)) (first_of _ _
+    c.in-len1-up.len_at_least c.target-item.is) in
+    let found = (λ j. spotted_in around parts (sym c.in-Some.is j)) ∙ c.in_ok-spot_target-in-len1-up.ensures.value in
+    record {
+      value = then_got_in _ (λ made. made) _ _ _ _ _ _ opens found c.in_ok-spot_target-in-len1-up.ensures.walked c.assign_to.ensures.value;
+      walked = then_run_in _ _ _ _ _ _ _ _ opens found c.in_ok-spot_target-in-len1-up.ensures.walked c.assign_to.ensures.walked;
+    }
+
+pub targets::assign_to-returns-in-len1 : goal.targets::assign_to-returns-in-len1
+targets::assign_to-returns-in-len1 t c = let around = around_of c.args.around.now in let scope = scope_of c.args.scope.now in let parts = c.args.parts.now in
+    let aim = c.given-aim.ensures ∙ (λ j. aimed Aims.Given (c.in_ok-typ-in-len1.ensures j)) in
+    let opens = no_further c.args.place around scope (spot_of around c.args.spot) c.args.targets.now (left_behind parts c.args.at) c.in-empty.len_below ∙
+    one_assigned c.args.place around scope (spot_of around c.args.spot) c.args.at parts c.left_at.result.now c.core-item.result c.left_at.ensures
+    c.in-len1.len_at_least c.in-len1.len_below c.core-item.is ∙ (λ j. bind ((part c.core-item.result).walk around scope (sym aim j)) (written_by c.args.place
+    (spot_of around c.args.spot) (sym c.is_nested.ensures j))) in
+    record {
+      value = then_got_in c.assign.result (λ made. made) ((part c.core-item.result).walk around scope c.given-aim.result) (written_by c.args.place (spot_of
+          around c.args.spot) c.is_nested.result) _ (seen c.args.walking.now) (seen c.walk_expression.new.walking) c.in_ok-value-in-len1.value opens
+          c.in_ok-value-in-len1.ensures.value c.in_ok-value-in-len1.ensures.walked c.assign.ensures.value;
+      walked = then_run_in c.assign.result ((part c.core-item.result).walk around scope c.given-aim.result) (written_by c.args.place (spot_of around
+          c.args.spot) c.is_nested.result) _ (seen c.args.walking.now) (seen c.walk_expression.new.walking) (seen c.assign.new.walking)
+          c.in_ok-value-in-len1.value opens c.in_ok-value-in-len1.ensures.value c.in_ok-value-in-len1.ensures.walked c.assign.ensures.walked;
+    }
+
+pub targets::assign_to-returns : goal.targets::assign_to-returns
+targets::assign_to-returns t c = let around = around_of c.args.around.now in let scope = scope_of c.args.scope.now in let parts = c.args.parts.now in
+    let left = left_behind parts c.args.at in let spot = spot_of around c.args.spot in let place = c.args.place in
+    let opens = further place around scope spot c.args.targets.now left (omega arith) in let gave = c.in_ok-value-in_default.ensures in
+    record {
+      value = then_got_in _ (λ made. made) _ _ _ _ _ _ opens gave.value gave.walked c.assign-in_default-2.ensures.value;
+      walked = then_run_in _ _ _ _ _ _ _ _ opens gave.value gave.walked c.assign-in_default-2.ensures.walked;
+    }
+
+pub branches::walk_branch-returns : goal.branches::walk_branch-returns
+branches::walk_branch-returns t c = let around = around_of c.args.around.now in let scope = scope_of c.args.scope.now in
+    let o : Opened around scope c.args.aim.now c.args.way.now (seen c.remember.new.self) (seen c.open_way.new.walking) c.core-core.result.now (scope_of
+    c.with-inside.result) c.in_ok-aim.aim = record {
+      found = c.in_ok-found.found;
+      names = c.in_ok-found.ensures.value;
+      opens = c.in_ok-found.ensures.walked;
+      within = c.with-inside.ensures ∙ ap (λ (bs : List Bound). bs ++ scope) c.as_slice.ensures;
+      due = c.in_ok-aim.ensures;
+      whose = c.core-core.ensures;
+    } in
+    record {
+      value = value_same _ _ _ (way_got c.args.is_free c.args.before _ scope c.args.aim.now c.args.way.now c.args.first _ _ _ _ _ o _ _ _
+          c.in_ok-remember.ensures c.in_ok-value.ensures.value c.in_ok-value.ensures.walked) c.end_way.ensures.value;
+      walked = walked_same _ _ _ _ (way_run c.args.is_free c.args.before _ scope c.args.aim.now c.args.way.now c.args.first _ _ _ _ _ o _ _ _
+          c.in_ok-remember.ensures c.in_ok-value.ensures.value c.in_ok-value.ensures.walked) c.end_way.ensures.walked;
+    }
+
+pub branches::walk_ways-loop-way-preserved : goal.branches::walk_ways-loop-way-preserved
+branches::walk_ways-loop-way-preserved t c = let way = c.in_ok-first.ensures in
+    let same = ways_onward c.is_free-free.result c.next-before.result (around_of c.args.around.now) (scope_of c.args.scope.now) c.args.aim.now c.args.ways.now
+    _ _ _ _ _ _ c.loop-way-test.true c.way-item.is way.value way.walked in
+    record { value = same.value ∙ c.loop-way.invariant.value; walked = same.walked ∙ c.loop-way.invariant.walked }
+
+pub branches::walk_ways-returns : goal.branches::walk_ways-returns
+branches::walk_ways-returns t c =
+    let same = ways_met c.is_free-free.result c.next-before.result (around_of c.args.around.now) (scope_of c.args.scope.now) c.args.aim.now c.args.ways.now
+    c.args.place c.args.shape.now c.is_free-free.ensures c.loop-way.first _ _ (seen c.args.walking.now) (seen c.loop-way.walking) c.next-before.ensures
+    c.loop-way-test.false c.as_ref.ensures.value c.loop-way.invariant.value c.loop-way.invariant.walked in
+    record { value = value_same _ _ _ same.value c.met_value.ensures.value; walked = walked_same _ _ _ _ same.walked c.met_value.ensures.walked }
+
+pub branches::walk_either-returns-in-None : goal.branches::walk_either-returns-in-None
+branches::walk_either-returns-in-None t c = let truth = c.in_ok-walk_truth.ensures in
+    let same = no_either_alike _ _ c.args.condition.now _ _ _ truth.value truth.walked c.args.place c.args.shape.now c.args.aim.now c.args.then.now
+    c.args.otherwise.now c.in-None.is in
+    record { value = same.value; walked = same.walked }
+
+pub branches::walk_either-returns-in_ok-value-in-Some : goal.branches::walk_either-returns-in_ok-value-in-Some
+branches::walk_either-returns-in_ok-value-in-Some t c = let around = around_of c.args.around.now in let scope = scope_of c.args.scope.now in
+    let truth = c.in_ok-walk_truth.ensures in let value = c.in_ok-value-in-Some.ensures in
+    let not = c.in_ok-other-in-Some.ensures ∙ ap (λ (d : Con). C.Not d) c.in_ok-copy_con-in-Some.ensures in
+    let same = some_either_alike around scope c.args.condition.now _ _ _ truth.value truth.walked c.args.place c.args.shape.now c.args.aim.now c.args.then.now
+    c.args.otherwise.now _ _ c.in-Some.is not _ _ _ (c.either_ways-ways.ensures.ways around scope c.args.aim.now) value.value value.walked in
+    record { value = same.value; walked = same.walked }
+
+pub branches::walk_branches-returns-in-None : goal.branches::walk_branches-returns-in-None
+branches::walk_branches-returns-in-None t c = let truth = c.in_ok-walk_truth-in-len2.ensures in
+    let two = two_of _ _ _ c.in-len2.len_at_least c.in-len2.len_below c.condition-item.is c.body-item.is in
+    let same = no_when_alike _ _ c.condition-item.result _ _ _ truth.value truth.walked c.args.place c.args.shape.now c.args.aim.now c.args.parts.now
+    c.body-item.result two c.in-None.is in
+    record { value = same.value; walked = same.walked }
+
+pub branches::walk_branches-returns-in_ok-restore-in-Some : goal.branches::walk_branches-returns-in_ok-restore-in-Some
+branches::walk_branches-returns-in_ok-restore-in-Some t c = let truth = c.in_ok-walk_truth-in-len2.ensures in
+    let two = two_of _ _ _ c.in-len2.len_at_least c.in-len2.len_below c.condition-item.is c.body-item.is in
+    let same = some_when_alike _ _ c.condition-item.result _ _ _ truth.value truth.walked c.args.place c.args.shape.now c.args.aim.now c.args.parts.now
+    c.body-item.result two _ c.in-Some.is _ _ _ _ _ c.in_ok-copy_con-in-Some.ensures c.in_ok-remember-in-Some.ensures c.in_ok-assume-in-Some.ensures
+    c.in_ok-walk_expression-in-Some.ensures.walked c.in_ok-restore-in-Some.ensures in
+    record { value = same.value; walked = same.walked }
+
+pub branches::walk_branches-returns-in-len3 : goal.branches::walk_branches-returns-in-len3
+branches::walk_branches-returns-in-len3 t c =
+    let parts = three_of _ _ _ _ c.in-len3.len_at_least c.in-len3.len_below c.test-item.is c.then-item.is c.otherwise-item.is in
+    record { value = rw parts c.walk_either.ensures.value; walked = rw parts c.walk_either.ensures.walked }
+
+pub branches::walk_branches-returns-in-empty : goal.branches::walk_branches-returns-in-empty
+branches::walk_branches-returns-in-empty t c =
+    let same = few_alike c.args.place c.args.shape.now (around_of c.args.around.now) (scope_of c.args.scope.now) c.args.aim.now (seen c.args.walking.now)
+    c.args.parts.now (omega arith) in
+    record { value = same.value; walked = same.walked }
+
+pub branches::walk_branches-returns-in-len1 : goal.branches::walk_branches-returns-in-len1
+branches::walk_branches-returns-in-len1 t c =
+    let same = few_alike c.args.place c.args.shape.now (around_of c.args.around.now) (scope_of c.args.scope.now) c.args.aim.now (seen c.args.walking.now)
+    c.args.parts.now (omega arith) in
+    record { value = same.value; walked = same.walked }
+
+pub branches::walk_branches-returns-in_default : goal.branches::walk_branches-returns-in_default
+branches::walk_branches-returns-in_default t c =
+    let same = many_alike c.args.place c.args.shape.now (around_of c.args.around.now) (scope_of c.args.scope.now) c.args.aim.now (seen c.args.walking.now)
+    c.args.parts.now (omega arith) in
+    record { value = same.value; walked = same.walked }
+
+pub branches::walk_cases-returns-in-empty : goal.branches::walk_cases-returns-in-empty
+branches::walk_cases-returns-in-empty t c = let none = none_of _ c.in-empty.len_below in
+    record { value = rw none c.wrong_value.ensures.value; walked = rw none c.wrong_value.ensures.walked }
+
+pub branches::walk_cases-returns-in_ok-ways-in-len1-up : goal.branches::walk_cases-returns-in_ok-ways-in-len1-up
+branches::walk_cases-returns-in_ok-ways-in-len1-up t c = let around = around_of c.args.around.now in let scope = scope_of c.args.scope.now in
+    let aim = c.args.aim.now in let seen_as = ap (ways_seen around scope aim) c.as_slice.ensures ∙ c.in_ok-ways-in-len1-up.ensures.ways around scope aim in
+    let is = try_is _ _ c.args.shape.now _ _ _ _ c.args.parts.now _ _ (first_of _ _ c.in-len1-up.len_at_least c.core-item.is) _ _ c.if-is_try.true
+    c.thrown-sent.ensures seen_as in
+    record {
+      value = value_same _ _ _ (ap (λ (a : Walk Indices). got a (seen c.args.walking.now)) is) c.walk_ways.ensures.value;
+      walked = walked_same _ _ _ _ (ap (λ (a : Walk Indices). run a (seen c.args.walking.now)) is) c.walk_ways.ensures.walked;
+    }
+
+pub branches::walk_cases-returns-in_ok-cases-in-len1-up : goal.branches::walk_cases-returns-in_ok-cases-in-len1-up
+branches::walk_cases-returns-in_ok-cases-in-len1-up t c = let around = around_of c.args.around.now in let scope = scope_of c.args.scope.now in
+    let aim = c.args.aim.now in let first = first_of _ _ c.in-len1-up.len_at_least c.core-item.is in let value = c.in_ok-value-in-len1-up.ensures in
+    let ways = ap (ways_seen around scope aim) c.as_slice-else-is_try.ensures ∙ c.in_ok-cases-in-len1-up.ensures.ways around scope aim in
+    record {
+      value = value_same _ _ _ (match_got _ _ c.args.shape.now _ _ _ _ _ _ _ first _ _ _ _ c.if-is_try.false value.value value.walked ways)
+          c.walk_ways-else-is_try.ensures.value;
+      walked = walked_same _ _ _ _ (match_run _ _ c.args.shape.now _ _ _ _ _ _ _ first _ _ _ _ c.if-is_try.false value.value value.walked ways)
+          c.walk_ways-else-is_try.ensures.walked;
+    }
+
+pub statements::walk_bound-returns : goal.statements::walk_bound-returns
+statements::walk_bound-returns t c = let value = c.in_ok-value.ensures in
+    let same = names_alike (part c.args.core.now) _ _ _ _ _ _ _ _ _ c.is_nested-nested.ensures c.in_ok-aim.ensures.value c.in_ok-aim.ensures.walked
+    value.value value.walked in
+    record { value = value_same _ _ _ same.value c.end_binding.ensures.value; walked = walked_same _ _ _ _ same.walked c.end_binding.ensures.walked }
+
+pub statements::walk_state-returns-in_ok-met-in-If : goal.statements::walk_state-returns-in_ok-met-in-If
+statements::walk_state-returns-in_ok-met-in-If t c = let met = c.in_ok-met-in-If.ensures in
+    let same = if_alike _ _ (around_of c.args.around.now) (scope_of c.args.scope.now) c.as_slice-parts.ensures _ _ c.in-If.is _ _ met.value met.walked in
+    record { value = value_same _ _ _ same.value c.claim_behind.ensures.value; walked = walked_same _ _ _ _ same.walked c.claim_behind.ensures.walked }
+
+pub statements::walk_state-returns-in-len1 : goal.statements::walk_state-returns-in-len1
+statements::walk_state-returns-in-len1 t c = let one = one_of _ _ c.in-len1.len_at_least c.in-len1.len_below c.condition-item.is in
+    let same = assert_alike _ _ (around_of c.args.around.now) (scope_of c.args.scope.now) c.as_slice-parts.ensures (seen c.args.walking.now) _ c.in-Assert.is
+    _ one in
+    record { value = value_same _ _ _ same.value c.walk_truth.ensures.value; walked = walked_same _ _ _ _ same.walked c.walk_truth.ensures.walked }
+
+pub statements::walk_state-returns-in-empty : goal.statements::walk_state-returns-in-empty
+statements::walk_state-returns-in-empty t c =
+    let same = assert_alike _ _ (around_of c.args.around.now) (scope_of c.args.scope.now) c.as_slice-parts.ensures (seen c.args.walking.now) _ c.in-Assert.is
+    _ (none_of _ c.in-empty.len_below) in
+    record { value = value_same _ _ _ same.value c.wrong_state.ensures.value; walked = walked_same _ _ _ _ same.walked c.wrong_state.ensures.walked }
+
+pub statements::walk_state-returns-in_default-parts : goal.statements::walk_state-returns-in_default-parts
+statements::walk_state-returns-in_default-parts t c = let more : 2 ≤ length c.as_slice-parts.result.now = omega arith in
+    let same = more_alike _ _ (around_of c.args.around.now) (scope_of c.args.scope.now) c.as_slice-parts.ensures (seen c.args.walking.now) _ c.in-Assert.is
+    more in
+    record {
+      value = value_same _ _ _ same.value c.wrong_state-in_default-parts.ensures.value;
+      walked = walked_same _ _ _ _ same.walked c.wrong_state-in_default-parts.ensures.walked;
+    }
+
+pub statements::walk_state-returns-in_ok-walk_expression-in_default : goal.statements::walk_state-returns-in_ok-walk_expression-in_default
+statements::walk_state-returns-in_ok-walk_expression-in_default t c =
+    let same = other_alike _ _ (around_of c.args.around.now) (scope_of c.args.scope.now) c.as_slice-parts.ensures _ c.in_default.not-If
+    c.in_default.not-Assert _ c.in_ok-walk_expression-in_default.ensures.walked in
+    record { value = same.value; walked = same.walked }
+
+pub statements::walk_in-returns-in_ok-aim-in-len2 : goal.statements::walk_in-returns-in_ok-aim-in-len2
+statements::walk_in-returns-in_ok-aim-in-len2 t c = let scope = scope_of c.args.scope.now in let found = c.in_ok-found-in-len2.ensures in
+    let within = c.with-inside.ensures ∙ ap (λ (bs : List Bound). bs ++ scope) c.as_slice.ensures in
+    let same = in_alike _ (part c.core-item.result) (part c.body-item.result) _ _ _ _ _ _ _ _ found.value found.walked within c.in_ok-aim-in-len2.ensures in
+    let two = two_of _ _ _ c.in-len2.len_at_least c.in-len2.len_below c.core-item.is c.body-item.is in
+    record {
+      value = rw two (value_same _ _ _ same.value c.walk_expression.ensures.value);
+      walked = rw two (walked_same _ _ _ _ same.walked c.walk_expression.ensures.walked);
+    }
+
+pub statements::walk_block-returns-in-empty-parts : goal.statements::walk_block-returns-in-empty-parts
+statements::walk_block-returns-in-empty-parts t c = let v = seen c.args.walking.now in let no_statement = none_of _ c.in-empty.len_below in
+    let no_part = none_of _ c.in-empty-parts.len_below in
+    record { value = rw (no_statement, no_part) (sym (got_give I.Unit v)); walked = rw (no_statement, no_part) (sym (run_give {A = Indices} I.Unit v)) }
+
+pub loops::walk_foreach-returns-in-None : goal.loops::walk_foreach-returns-in-None
+loops::walk_foreach-returns-in-None t c = let n = c.in_ok-numbers-in-len4.ensures in
+    let same = no_turns c.args.place c.args.name.now c.args.way _ _ c.body-item.result c.args.parts.now _ _ _ _ _ c.in-len4.len_at_least c.in-len4.len_below
+    c.body-item.is c.first_parts-three.ensures n.value n.walked c.in_ok-bounds_of-in-len4.ensures c.in-None.is in
+    record { value = same.value; walked = same.walked }
+
+pub loops::walk_foreach-returns-in_ok-restore-in-Some : goal.loops::walk_foreach-returns-in_ok-restore-in-Some
+loops::walk_foreach-returns-in_ok-restore-in-Some t c = let n = c.in_ok-numbers-in-len4.ensures in
+    let inside = c.with-inside.ensures ∙ ap (λ (bs : List Bound). bs ++ scope_of c.args.scope.now) c.as_slice.ensures in
+    let same = some_turns c.args.place c.args.name.now c.args.way _ _ c.body-item.result c.args.parts.now _ _ _ _ _ c.in-len4.len_at_least
+    c.in-len4.len_below c.body-item.is c.first_parts-three.ensures n.value n.walked c.in_ok-bounds_of-in-len4.ensures _ c.in-Some.is _ _ _ _ _
+    c.in_ok-found-in-Some.ensures.value c.in_ok-found-in-Some.ensures.walked inside c.in_ok-walk_expression-in-Some.ensures.walked
+    c.in_ok-restore-in-Some.ensures in
+    record { value = same.value; walked = same.walked }
+
+pub loops::walk_loop-returns-in_ok-restore-in-len3-3 : goal.loops::walk_loop-returns-in_ok-restore-in-len3-3
+loops::walk_loop-returns-in_ok-restore-in-len3-3 t c = let around = around_of c.args.around.now in let scope = scope_of c.args.scope.now in
+    let v = seen c.args.walking.now in
+    let parts = three_of _ _ _ _ c.in-len3.len_at_least c.in-len3.len_below c.measure-item.is c.first-item.is c.second-item.is in
+    let m = part c.measure-item.result in let a = part c.first-item.result in let b = part c.second-item.result in
+    let due : seen c.walk_expression.new.walking ≡ run (m.walk around scope (Aims.Due natural_type)) (seen c.remember.new.self) =
+    c.in_ok-walk_expression-in-len3.ensures.walked ∙ ap (λ (aim : Aim). run (m.walk around scope aim) (seen c.remember.new.self)) c.natural_aim-aim.ensures in
+    let one = scoped_run _ _ _ _ _ c.in_ok-remember-in-len3.ensures due c.in_ok-restore-in-len3.ensures in
+    let two = scoped_run _ _ _ _ _ c.in_ok-remember-in-len3-2.ensures c.in_ok-walk_expression-in-len3-2.ensures.walked c.in_ok-restore-in-len3-2.ensures in
+    let three = scoped_run _ _ _ _ _ c.in_ok-remember-in-len3-3.ensures c.in_ok-walk_expression-in-len3-3.ensures.walked c.in_ok-restore-in-len3-3.ensures in
+    record {
+      value = rw parts (turns_got (measure_walk m around scope) (alone_walk a around scope) (alone_walk b around scope) v);
+      walked = rw parts (turns_run _ _ _ _ _ _ _ one two three);
+    }
+
+-- ---- what calls require: that there is less to walk over
+
+pub expressions::walk_expression-walk_inward-requires : goal.expressions::walk_expression-walk_inward-requires
+expressions::walk_expression-walk_inward-requires t c = (omega (arith, mass_opens _ _ c.as_slice.ensures, c.decreases), tt)
+
+pub expressions::walk_expression-walk_plain-requires : goal.expressions::walk_expression-walk_plain-requires
+expressions::walk_expression-walk_plain-requires t c = (omega (arith, mass_opens _ _ c.as_slice-else-goes_inward.ensures, c.decreases), tt)
+
+pub expressions::walk_inward-walk_expression-requires : goal.expressions::walk_inward-walk_expression-requires
+expressions::walk_inward-walk_expression-requires t c = (omega (arith, one_mass _ _ c.in-len1.len_at_least c.core-item.is, c.decreases), tt)
+
+pub expressions::walk_parted-assign-requires : goal.expressions::walk_parted-assign-requires
+expressions::walk_parted-assign-requires t c = (omega (arith, ap kind_mass c.in-Assign.is, ap target_masses c.as_slice-in-Assign.ensures, c.decreases), tt)
+
+pub parts::walk_each-walk_expression-requires : goal.parts::walk_each-walk_expression-requires
+parts::walk_each-walk_expression-requires t c = (omega (arith, mass_at _ _ _ c.loop-index-test.true c.index-parts-index.is, c.decreases), tt)
+
+pub parts::walk_numbers-walk_expression-requires : goal.parts::walk_numbers-walk_expression-requires
+parts::walk_numbers-walk_expression-requires t c = (omega (arith, mass_at _ _ _ c.loop-core-test.true c.core-item.is, c.decreases), tt)
+
+pub truths::walk_joined-walk_truth-requires : goal.truths::walk_joined-walk_truth-requires
+truths::walk_joined-walk_truth-requires t c = (omega (arith, two_masses _ _ _ c.in-len2.len_at_least c.left-item.is c.right-item.is, c.decreases), tt)
+
+pub truths::walk_joined-walk_expression-requires : goal.truths::walk_joined-walk_expression-requires
+truths::walk_joined-walk_expression-requires t c = (omega (arith, two_masses _ _ _ c.in-len2.len_at_least c.left-item.is c.right-item.is, c.decreases), tt)
+
+pub truths::walk_guarded-walk_truth-requires : goal.truths::walk_guarded-walk_truth-requires
+truths::walk_guarded-walk_truth-requires t c = (omega (arith, two_masses _ _ _ c.in-len2.len_at_least c.guard-item.is c.body-item.is, c.decreases), tt)
+
+pub truths::walk_guarded-walk_expression-requires : goal.truths::walk_guarded-walk_expression-requires
+truths::walk_guarded-walk_expression-requires t c = (omega (arith, two_masses _ _ _ c.in-len2.len_at_least c.guard-item.is c.body-item.is, c.decreases), tt)
+
+pub values::walk_like-walk_expression-requires : goal.values::walk_like-walk_expression-requires
+values::walk_like-walk_expression-requires t c = (omega (arith, mass_at _ _ _ c.loop-item-test.true c.item-item.is, c.decreases), tt)
+
+pub values::walk_first-walk_expression-requires : goal.values::walk_first-walk_expression-requires
+values::walk_first-walk_expression-requires t c = (omega (arith, rest_mass _ _ c.in-len1-up.len_at_least c.first-item.is, c.decreases), tt)
+
+pub values::walk_first-walk_like-requires : goal.values::walk_first-walk_like-requires
+values::walk_first-walk_like-requires t c = (omega (arith, rest_mass _ _ c.in-len1-up.len_at_least c.first-item.is, c.decreases), tt)
+
+pub made::walk_made-walk_each-requires : goal.made::walk_made-walk_each-requires
+made::walk_made-walk_each-requires t c = let cs = c.args.parts.now in let is = ap masses c.first_parts-first.ensures in
+    let less = masses_take cs c.in_ok-count.count in let measure : masses cs + 50 ≡ t = c.decreases in (omega (arith, is, less, measure), tt)
+
+pub made::walk_with-walk_each-requires : goal.made::walk_with-walk_each-requires
+made::walk_with-walk_each-requires t c = let cs = c.args.parts.now in let part = rest_mass _ _ c.in-len1-up.len_at_least c.base-item.is in
+    let is = ap masses c.first_parts-others.ensures in let less = masses_take (others cs) c.len.result in let measure : masses cs + 40 ≡ t = c.decreases in
+    (omega (arith, part, is, less, measure), tt)
+
+pub reading::walk_way-walk_numbers-requires : goal.reading::walk_way-walk_numbers-requires
+reading::walk_way-walk_numbers-requires t c =
+    (omega (arith, taken_mass c.args.at _ c.args.parts.now _ _ c.left_at-left.ensures c.first_parts.ensures, c.decreases), tt)
+
+pub reading::walk_part-walk_expression-requires : goal.reading::walk_part-walk_expression-requires
+reading::walk_part-walk_expression-requires t c = (omega (arith, rest_mass _ _ c.in-len1-up.len_at_least c.base-item.is, c.decreases), tt)
+
+pub reading::walk_part-walk_suffixes-requires : goal.reading::walk_part-walk_suffixes-requires
+reading::walk_part-walk_suffixes-requires t c = (omega (arith, rest_mass _ _ c.in-len1-up.len_at_least c.base-item.is, c.decreases), tt)
+
+pub reading::walk_update-walk_expression-requires : goal.reading::walk_update-walk_expression-requires
+reading::walk_update-walk_expression-requires t c =
+    (omega (arith, ends_masses _ _ _ c.in-len2-up.len_at_least c.base-item.is c.core-item.is, c.decreases), tt)
+
+pub reading::walk_update-walk_numbers-requires : goal.reading::walk_update-walk_numbers-requires
+reading::walk_update-walk_numbers-requires t c = (omega (arith, ends_masses _ _ _ c.in-len2-up.len_at_least c.base-item.is c.core-item.is, c.decreases), tt)
+
+pub reading::walk_update-updated-requires : goal.reading::walk_update-updated-requires
+reading::walk_update-updated-requires t c = (omega (arith, ends_masses _ _ _ c.in-len2-up.len_at_least c.base-item.is c.core-item.is, c.decreases), tt)
+
+pub targets::spot_each-spot_target-requires : goal.targets::spot_each-spot_target-requires
+targets::spot_each-spot_target-requires t c = (omega (arith, target_at _ _ _ c.loop-target-test.true c.target-item.is, c.decreases), tt)
+
+pub targets::spot_target-spot_each-requires : goal.targets::spot_target-spot_each-requires
+targets::spot_target-spot_each-requires t c = (omega (arith, target_opens _ _ c.as_slice-targets.ensures, c.decreases), tt)
+
+pub targets::spot_target-spot_target-requires : goal.targets::spot_target-spot_target-requires
+targets::spot_target-spot_target-requires t c =
+    (omega (arith, target_opens _ _ c.as_slice-targets.ensures, only_target _ _ c.in-len1.len_at_least c.base-item.is, c.decreases), tt)
+
+pub targets::spot_target-walk_each-requires : goal.targets::spot_target-walk_each-requires
+targets::spot_target-walk_each-requires t c = (
+  omega (arith, target_some c.args.target.now, taken_mass c.args.at _ c.args.parts.now _ _ c.left_at.ensures c.first_parts-arguments.ensures, c.decreases),
+  tt,
+)
+
+pub targets::assign_to-walk_expression-requires : goal.targets::assign_to-walk_expression-requires
+targets::assign_to-walk_expression-requires t c =
+    (omega (arith, left_mass c.args.at c.args.parts.now _ _ c.left_at.ensures c.in-len1.len_at_least c.core-item.is, c.decreases), tt)
+
+pub targets::assign-spot_target-requires : goal.targets::assign-spot_target-requires
+targets::assign-spot_target-requires t c = (omega (arith, rest_target _ _ c.in-len1-up.len_at_least c.target-item.is, c.decreases), tt)
+
+pub targets::assign-assign_to-requires : goal.targets::assign-assign_to-requires
+targets::assign-assign_to-requires t c =
+    (omega (arith, rest_target _ _ c.in-len1-up.len_at_least c.target-item.is, target_some c.target-item.result, c.decreases), tt)
+
+pub targets::spot_target-spot_within-requires : goal.targets::spot_target-spot_within-requires
+targets::spot_target-spot_within-requires t c = (omega (arith, target_some c.args.target.now, c.decreases), tt)
+
+pub branches::walk_branch-walk_expression-requires : goal.branches::walk_branch-walk_expression-requires
+branches::walk_branch-walk_expression-requires t c = let e : mass c.core-core.result.now ≡ way_mass c.args.way.now = ap mass c.core-core.ensures in
+    (omega (arith, e, c.decreases), tt)
+
+pub branches::walk_ways-walk_branch-requires : goal.branches::walk_ways-walk_branch-requires
+branches::walk_ways-walk_branch-requires t c = (omega (arith, way_at _ _ _ c.loop-way-test.true c.way-item.is, c.decreases), tt)
+
+pub branches::walk_either-walk_ways-requires : goal.branches::walk_either-walk_ways-requires
+branches::walk_either-walk_ways-requires t c = (omega (arith, either_masses _ _ _ c.either_ways-ways.ensures.cores, c.decreases), tt)
+
+pub branches::walk_cases-walk_ways-requires : goal.branches::walk_cases-walk_ways-requires
+branches::walk_cases-walk_ways-requires t c =
+    (omega (arith, tried_masses _ _ _ _ _ c.as_slice.ensures c.in_ok-ways-in-len1-up.ensures.cores c.in-len1-up.len_at_least c.core-item.is, c.decreases), tt)
+
+pub branches::walk_cases-walk_ways-requires-else-is_try : goal.branches::walk_cases-walk_ways-requires-else-is_try
+branches::walk_cases-walk_ways-requires-else-is_try t c = (
+  omega (
+    arith,
+    cased_masses _ _ _ _ _ c.as_slice-else-is_try.ensures c.in_ok-cases-in-len1-up.ensures.cores c.in-len1-up.len_at_least c.core-item.is,
+    c.decreases,
+  ),
+  tt,
+)
+
+pub statements::walk_block-walk_expression-requires : goal.statements::walk_block-walk_expression-requires
+statements::walk_block-walk_expression-requires t c = (omega (arith, one_mass _ _ c.in-len1.len_at_least c.value-item.is, c.decreases), tt)
+
+pub statements::walk_block-walk_statement-requires : goal.statements::walk_block-walk_statement-requires
+statements::walk_block-walk_statement-requires t c = (omega (arith, rest_mass _ _ c.in-len1-up-parts.len_at_least c.core-item.is, c.decreases), tt)
+
+pub statements::walk_in-walk_bound-requires : goal.statements::walk_in-walk_bound-requires
+statements::walk_in-walk_bound-requires t c = (omega (arith, two_masses _ _ _ c.in-len2.len_at_least c.core-item.is c.body-item.is, c.decreases), tt)
+
+pub statements::walk_in-walk_expression-requires : goal.statements::walk_in-walk_expression-requires
+statements::walk_in-walk_expression-requires t c = (omega (arith, two_masses _ _ _ c.in-len2.len_at_least c.core-item.is c.body-item.is, c.decreases), tt)
+
+pub statements::walk_state-walk_branches-requires : goal.statements::walk_state-walk_branches-requires
+statements::walk_state-walk_branches-requires t c = (omega (arith, mass_opens _ _ c.as_slice-parts.ensures, c.decreases), tt)
+
+pub statements::walk_state-walk_truth-requires : goal.statements::walk_state-walk_truth-requires
+statements::walk_state-walk_truth-requires t c =
+    (omega (arith, mass_opens _ _ c.as_slice-parts.ensures, one_mass _ _ c.in-len1.len_at_least c.condition-item.is, c.decreases), tt)
+
+pub statements::walk_statement-walk_block-requires : goal.statements::walk_statement-walk_block-requires
+statements::walk_statement-walk_block-requires t c = (omega (arith, mass_some c.args.core.now, c.decreases), tt)
+
+pub statements::walk_statement-walk_block-requires-in-Some-2 : goal.statements::walk_statement-walk_block-requires-in-Some-2
+statements::walk_statement-walk_block-requires-in-Some-2 t c = (omega (arith, mass_some c.args.core.now, c.decreases), tt)
+
+pub statements::walk_statement-walk_block-requires-in-Some : goal.statements::walk_statement-walk_block-requires-in-Some
+statements::walk_statement-walk_block-requires-in-Some t c = (omega (arith, mass_some c.args.core.now, c.decreases), tt)
+
+pub loops::walk_foreach-walk_numbers-requires : goal.loops::walk_foreach-walk_numbers-requires
+loops::walk_foreach-walk_numbers-requires t c = (omega (arith, ap masses c.first_parts-three.ensures, masses_take c.args.parts.now 3, c.decreases), tt)
+
+pub loops::walk_foreach-walk_expression-requires : goal.loops::walk_foreach-walk_expression-requires
+loops::walk_foreach-walk_expression-requires t c =
+    (omega (arith, mass_at c.args.parts.now 3 c.body-item.result (omega (arith, c.in-len4.len_at_least)) c.body-item.is, c.decreases), tt)

@@ -1,0 +1,14 @@
+pub mod Spotted
+pub mod FewParts
+pub mod Blocks
+pub mod Arguments
+pub mod Taken
+pub mod LeftMasses
+pub mod Numbers
+pub mod JoinLaws
+pub mod MadeKinds
+pub mod Bindings
+pub mod Alike
+pub mod RowLaws
+pub mod MadeLaws
+pub mod BranchLaws
