@@ -1,0 +1,5 @@
+pub mod Lists
+pub mod Stripped
+pub mod Walked
+pub mod Chained
+pub mod Bodies

@@ -1,0 +1,12 @@
+//! What functions, their measures and mappings owe and make known.
+//!
+//! `specs/Functions` has the walk over each: its type variables and its constraint, then its clauses, one after the other.
+#![tactic(auto)]
+
+mod bare;
+mod clauses;
+mod functions;
+mod mappings;
+
+pub use functions::{walk_function, walk_measure};
+pub use mappings::walk_mapping;
