@@ -1,0 +1,9 @@
+pub mod Unchanged
+pub mod Names
+pub mod OwnNames
+pub mod Owing
+pub mod Noted
+pub mod Before
+pub mod Halves
+pub mod Placing
+pub mod Lets

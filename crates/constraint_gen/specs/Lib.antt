@@ -1,0 +1,4 @@
+pub mod Models
+pub mod Defined
+pub mod Obligations
+pub mod Reading

@@ -1,0 +1,14 @@
+//! The obligations of a model: what has to be true for no run of it to get stuck.
+//!
+//! `specs/Models` has the walk over a model's definitions, `specs/Obligations` what is made of its notes.
+#![tactic(auto)]
+
+mod defined;
+mod goals;
+mod models;
+mod naming;
+mod openings;
+mod order;
+mod top_levels;
+
+pub use models::{notes, obligations};

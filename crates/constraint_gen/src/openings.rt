@@ -1,0 +1,101 @@
+//! Top-level lets and initial values.
+ghost use Rattle.std.specs.Prelude.{◌≡◌, ◌&&◌, IfOk, OnOk, slice_get};
+ghost use Rattle.std.specs.Option.{option_copied};
+ghost use Rattle.value_indices.specs.Walking as walk;
+ghost use Rattle.pattern_leaves.specs.Settings.{Around as Settings, around_of};
+ghost use Rattle.expression_steps.specs.Expressions.{part};
+ghost use Rattle.expression_steps.specs.Parts.{Part};
+ghost use Rattle.expression_steps.specs.Statements.{is_written};
+ghost use Rattle.constraint_gen.specs.Models as models;
+
+use call_arguments::Aim;
+use expression_forms::Scope;
+use expression_notes::walk_expression;
+use expression_steps::{is_nested, written_aim};
+use pattern_leaves::{Around, Bound};
+use pattern_notes::{Matching, arm_written, match_one};
+use sail_base::{Items, Place};
+use sail_core::{Arm, Core, Opening, OpeningKind, Written};
+use std::alloc::{AllocError, Global};
+use type_arguments::copy_typ;
+use value_indices::{Reading, Walking};
+
+/// Whether a type is written that is owed further in, in the value itself.
+fn is_owed_inside(written: Option<&Written>, value: &Core) -> bool
+    ensures { result ≡ is_written (option_copied written.entry) && Part.is_nested (part value.now) }
+{
+    match written {
+        None => false,
+        Some(_) => is_nested(value),
+    }
+}
+
+/// A top-level `let` of this arm: the names that it binds. It fails where memory is wanting, and where variables are too many.
+#[tactic(auto, using(value_indices::proofs::Walks::walks))]
+pub fn walk_let(
+    alloc: Global,
+    walking: &mut Walking,
+    around: &Around<'_>,
+    place: Place,
+    arm: &Arm,
+    value: &Core,
+) -> Result<Items<Bound>, AllocError>
+    ensures value { IfOk result (λ made. made ≡ walk.got (models.let_walk (around_of around.now) place arm.now (part value.now))
+        (walk.seen walking.old)) }
+    ensures walked { OnOk result (walk.seen walking.new ≡ walk.run (models.let_walk (around_of around.now) place arm.now (part value.now))
+        (walk.seen walking.old)) }
+{
+    let written = arm_written(arm);
+    let aim = written_aim(alloc, around, written)?;
+    let indices = walk_expression(alloc, walking, around, &Scope::empty(), value, &aim)?;
+    let is_owed = is_owed_inside(written, value);
+    let how = Matching {
+        in_case: false,
+        is_owed,
+    };
+    match_one(alloc, place, arm, around, how, &indices, walking)
+}
+
+/// What is wanted of the initial value of a register. It fails where memory is wanting.
+fn register_aim(alloc: Global, around: &Around<'_>, register: u32) -> Result<Aim, AllocError>
+    ensures { IfOk result (λ made. made ≡ models.register_aim (slice_get (Settings.registers (around_of around.now)) register)) }
+{
+    match around.registers.get(register as usize) {
+        None => Ok(Aim::Due(Reading::Hole)),
+        Some(register) => {
+            let typ = copy_typ(alloc, &register.typ)?;
+            Ok(Aim::due(Reading::Of(typ, Items::new(alloc), Items::new(alloc))))
+        }
+    }
+}
+
+/// A top-level `let` or an initial value. The one error is want of memory, also of numbers for variables.
+#[tactic(auto, using(value_indices::proofs::Walks::walks))]
+pub fn walk_opening(
+    alloc: Global,
+    walking: &mut Walking,
+    around: &Around<'_>,
+    opening: &Opening,
+) -> Result<(), AllocError>
+    ensures { OnOk result (walk.seen walking.new ≡ walk.run (models.opening_walk (around_of around.now) opening.now.place opening.now.kind
+        (part opening.now.value)) (walk.seen walking.old)) }
+{
+    match &opening.kind {
+        OpeningKind::Let(arm) => {
+            walk_let(alloc, walking, around, opening.place, arm, &opening.value)?;
+            Ok(())
+        }
+        OpeningKind::Register(register) => {
+            let aim = register_aim(alloc, around, *register)?;
+            walk_expression(
+                alloc,
+                walking,
+                around,
+                &Scope::empty(),
+                &opening.value,
+                &aim,
+            )?;
+            Ok(())
+        }
+    }
+}
