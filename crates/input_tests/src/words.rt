@@ -1,9 +1,20 @@
-use sail_words::{LineError, Run, line};
+use sail_base::Text;
+use sail_words::{Command, LineError, Run, line};
 use std::alloc::{AllocError, Global};
 use std::test::Fail;
 
+/// A word and the names of models, as text.
+fn told_models(alloc: Global, word: &str, models: &[Text]) -> Result<String, AllocError> {
+    let mut told = String::from_str(alloc, word)?;
+    for model in models {
+        told.push_str(" ")?;
+        told.push_str(model.as_str())?;
+    }
+    Ok(told)
+}
+
 /// What a run asks for, as text.
-fn told(alloc: Global, run: &Run) -> Result<String, AllocError> {
+fn told_run(alloc: Global, run: &Run) -> Result<String, AllocError> {
     let mut models = String::new(alloc);
     for model in run.models.as_slice() {
         models.push_str(model.as_str())?;
@@ -19,6 +30,15 @@ fn told(alloc: Global, run: &Run) -> Result<String, AllocError> {
         run.ram_base,
         run.ram_size
     )
+}
+
+/// What a command asks for, as text.
+fn told(alloc: Global, command: &Command) -> Result<String, AllocError> {
+    match command {
+        Command::Run(run) => told_run(alloc, run),
+        Command::Check(models) => told_models(alloc, "check", models.as_slice()),
+        Command::Certs(models) => told_models(alloc, "certs", models.as_slice()),
+    }
 }
 
 /// The words of a text.
@@ -37,13 +57,13 @@ fn answer(alloc: Global, words: &[&str]) -> Result<String, AllocError> {
         list.push(String::from_str(alloc, word)?)?;
     }
     match line(alloc, list.as_slice()) {
-        Ok(run) => told(alloc, &run),
+        Ok(command) => told(alloc, &command),
         Err(LineError::Usage) => String::from_str(alloc, "usage"),
         Err(LineError::OutOfMemory) => Err(AllocError),
     }
 }
 
-/// Words, and what they ask for.
+/// Words that ask for a run, and what they ask for.
 const RUNS: [(&str, &str); 11] = [
     ("run --elf Q M", "Q M 1000 1 [0] 2147483648 1048576"),
     ("run M --elf=Q N", "Q M N 1000 1 [0] 2147483648 1048576"),
@@ -79,13 +99,22 @@ const RUNS: [(&str, &str); 11] = [
     ),
 ];
 
+/// Words that ask for models to be checked or certified, and what they ask for.
+const CHECKS: [(&str, &str); 3] = [
+    ("check M", "check M"),
+    ("certs M check M", "certs M check M"),
+    ("check -- -M", "check -M"),
+];
+
 /// Words that ask for nothing.
-const REFUSED: [&str; 25] = [
+const REFUSED: [&str; 27] = [
     "",
     "run",
     "help",
     "--help",
-    "check M",
+    "check",
+    "check --elf=Q M",
+    "certs -M",
     "M run --elf=Q",
     "-- run --elf=Q M",
     "run --elf=Q",
@@ -112,6 +141,19 @@ const REFUSED: [&str; 25] = [
 fn words_ask_for_runs(rt: HostRuntime) -> Result<(), Fail> {
     let alloc = rt.alloc();
     for (text, want) in &RUNS {
+        let words = words(alloc, text)?;
+        assert!(rt;
+            answer(alloc, words.as_slice())?.as_str() == *want,
+            "{text}"
+        );
+    }
+    Ok(())
+}
+
+#[test]
+fn words_ask_for_checks(rt: HostRuntime) -> Result<(), Fail> {
+    let alloc = rt.alloc();
+    for (text, want) in &CHECKS {
         let words = words(alloc, text)?;
         assert!(rt;
             answer(alloc, words.as_slice())?.as_str() == *want,

@@ -1,4 +1,7 @@
-use crate::{choices_rows, members_rows, patterns_rows, shapes_rows, tables_rows};
+use crate::{
+    checks_rows, choices_rows, facts_rows, members_rows, patterns_rows, shapes_rows, tables_rows,
+    words_rows,
+};
 use sail_outside::{MemShelf, MemSink};
 use sail_top::run_words;
 use std::alloc::{AllocError, Global};
@@ -31,340 +34,6 @@ const SEGMENTS: &str = concat!(
 const COUNTER: &str = "register PC : bits(8)\n";
 
 const COUNT: &str = "{ PC = PC + 0x01; true }";
-
-// A hundred and twenty-nine open brackets.
-const DEEP: &str = concat!(
-    "((((((((((((((((((((((((((((((((",
-    "((((((((((((((((((((((((((((((((",
-    "((((((((((((((((((((((((((((((((",
-    "((((((((((((((((((((((((((((((((",
-    "("
-);
-
-// The words with blanks between, the registers of the model M, the body of its step, and what is written, the
-// status first. Without a body M has its registers alone; N is what stands behind registers, with a body that counts. The
-// image Q has one segment, S has two, and P is cut short.
-const ROWS: &[(&str, &str, &str, &str)] = &[
-    // what runs, by words
-    (
-        "run --elf Q --ram-size 4096 --steps 3 M",
-        COUNTER,
-        COUNT,
-        "0 == report\nstop steps-done\nsteps 3\nconsole 0\nhart 0\nPC = 0x03\n== end\n",
-    ),
-    (
-        "run M --steps=000256 --elf=Q --ram-size 8",
-        COUNTER,
-        COUNT,
-        "0 == report\nstop steps-done\nsteps 256\nconsole 0\nhart 0\nPC = 0x00\n== end\n",
-    ),
-    (
-        "run --elf Q M",
-        COUNTER,
-        COUNT,
-        "0 == report\nstop steps-done\nsteps 1000\nconsole 0\nhart 0\nPC = 0xe8\n== end\n",
-    ),
-    (
-        "run --steps 0 --ram-size=0008 --elf Q -- M",
-        COUNTER,
-        COUNT,
-        "0 == report\nstop steps-done\nsteps 0\nconsole 0\nhart 0\nPC = 0x00\n== end\n",
-    ),
-    (
-        "run --elf Q --ram-size 32 --steps 5 --harts 2 M",
-        COUNTER,
-        COUNT,
-        "0 == report\nstop steps-done\nsteps 5\nconsole 0\nhart 0\nPC = 0x03\nhart 1\nPC = 0x02\n== end\n",
-    ),
-    (
-        "run --elf Q --order 110 --steps 7 --harts 3 --ram-size 9 M",
-        COUNTER,
-        COUNT,
-        "0 == report\nstop steps-done\nsteps 7\nconsole 0\nhart 0\nPC = 0x02\nhart 1\nPC = 0x05\nhart 2\nPC = 0x00\n== end\n",
-    ),
-    (
-        "run --elf S --ram-size 4128 --steps 1 M",
-        COUNTER,
-        COUNT,
-        "0 == report\nstop steps-done\nsteps 1\nconsole 0\nhart 0\nPC = 0x01\n== end\n",
-    ),
-    (
-        "run --elf Q --ram-base 2147483640 --ram-size 16 --steps 1 M",
-        COUNTER,
-        COUNT,
-        "0 == report\nstop steps-done\nsteps 1\nconsole 0\nhart 0\nPC = 0x01\n== end\n",
-    ),
-    // what runs, by models
-    (
-        "run --elf Q --ram-size 8 --steps 2 M N",
-        COUNTER,
-        "",
-        "0 == report\nstop steps-done\nsteps 2\nconsole 0\nhart 0\nPC = 0x02\n== end\n",
-    ),
-    (
-        "run --elf Q --ram-size 8 --steps 1 M",
-        "",
-        "{ true }",
-        "0 == report\nstop steps-done\nsteps 1\nconsole 0\nhart 0\n== end\n",
-    ),
-    (
-        "run --elf Q --ram-size 8 --steps 1 M",
-        "register R:bits(3)",
-        "{R=R+0b111;true}",
-        "0 == report\nstop steps-done\nsteps 1\nconsole 0\nhart 0\nR = 0b111\n== end\n",
-    ),
-    (
-        "run --elf Q --ram-size 8 --steps 2 M",
-        "register R : bits(012)\r\n",
-        "{ R = R + 0x00F; true }",
-        "0 == report\nstop steps-done\nsteps 2\nconsole 0\nhart 0\nR = 0x01e\n== end\n",
-    ),
-    (
-        "run --elf Q --ram-size 8 --steps 1 M",
-        "/* of A */ register a_1 : (bits((0_8)))\n",
-        "{ (a_1) = ((a_1) + 0x0_1); (true) } // B\n",
-        "0 == report\nstop steps-done\nsteps 1\nconsole 0\nhart 0\na_1 = 0x01\n== end\n",
-    ),
-    (
-        "run --elf Q --ram-size 8 --steps 1 M",
-        "register A : bits(8) register B : bits(8)\t",
-        "{ A = B + 0x01; B = A + 0x01; A = B + 0xff; true, }",
-        "1 M06 1:4:67 ,\n",
-    ),
-    (
-        "run --elf Q --ram-size 8 --steps 1 M",
-        "register A : bits(8) register B : bits(8)\t",
-        "{ A = B + 0x01; B = A + 0x01; A = B + 0xff; true }",
-        "0 == report\nstop steps-done\nsteps 1\nconsole 0\nhart 0\nA = 0x01\nB = 0x02\n== end\n",
-    ),
-    (
-        "run --elf Q --ram-size 8 --steps 1 M",
-        "register W : bits(128)\n",
-        "{ W = W + 0xffffffffffffffffffffffffffffffff; true }",
-        "0 == report\nstop steps-done\nsteps 1\nconsole 0\nhart 0\nW = 0xffffffffffffffffffffffffffffffff\n== end\n",
-    ),
-    // words that are no command
-    ("", COUNTER, COUNT, "2 sail-run: usage\n"),
-    ("--help", COUNTER, COUNT, "2 sail-run: usage\n"),
-    ("check M", COUNTER, COUNT, "2 sail-run: usage\n"),
-    ("run --elf Q", COUNTER, COUNT, "2 sail-run: usage\n"),
-    ("run --elf -Q M", COUNTER, COUNT, "2 sail-run: usage\n"),
-    (
-        "run --elf Q --steps +3 M",
-        COUNTER,
-        COUNT,
-        "2 sail-run: usage\n",
-    ),
-    (
-        "run --elf Q --steps 4294967296 M",
-        COUNTER,
-        COUNT,
-        "2 sail-run: usage\n",
-    ),
-    (
-        "run --elf Q --harts 9 M",
-        COUNTER,
-        COUNT,
-        "2 sail-run: usage\n",
-    ),
-    (
-        "run --elf Q --harts 2 --order 012 M",
-        COUNTER,
-        COUNT,
-        "2 sail-run: usage\n",
-    ),
-    (
-        "run --elf Q --ram-size 67108865 M",
-        COUNTER,
-        COUNT,
-        "2 sail-run: usage\n",
-    ),
-    (
-        "run --elf Q --ram-base 18446744073709551615 --ram-size 2 M",
-        COUNTER,
-        COUNT,
-        "2 sail-run: usage\n",
-    ),
-    // files that aren't there; the first decides, before any model
-    ("run --elf NONE M", COUNTER, "", "9 no file: NONE\n"),
-    ("run --elf NONE M X", COUNTER, COUNT, "9 no file: X\n"),
-    ("run --elf Q ", COUNTER, COUNT, "9 no file: \n"),
-    // images, behind the models
-    ("run --elf P M", COUNTER, "", "1 M19 1:2:1 reset\n"),
-    ("run --elf P M", COUNTER, COUNT, "6 E11 0\n"),
-    ("run --elf M M", COUNTER, COUNT, "6 E2\n"),
-    ("run --elf Q --ram-size 7 M", COUNTER, COUNT, "6 E13 0\n"),
-    (
-        "run --elf Q --ram-base 2147483649 M",
-        COUNTER,
-        COUNT,
-        "6 E13 0\n",
-    ),
-    ("run --elf S --ram-size 4127 M", COUNTER, COUNT, "6 E13 2\n"),
-    // tokens, of all models first
-    ("run --elf P M Q", ")", "", "1 M01 2:1:1 7f\n"),
-    ("run --elf P Q M", "/*", "", "1 M01 1:1:1 7f\n"),
-    ("run --elf Q M", "\n /* /* */", COUNT, "1 M03 1:2:2\n"),
-    (
-        "run --elf Q M",
-        COUNTER,
-        "85070591730234615865843651857942052865",
-        "1 M04 1:5:19\n",
-    ),
-    (
-        "run --elf Q M",
-        "register 0P : bits(8)\n",
-        "{ true }",
-        "1 M02 1:1:10\n",
-    ),
-    (
-        "run --elf Q M",
-        "register PC : bits(8)\x0c",
-        COUNT,
-        "1 M01 1:1:22 0c\n",
-    ),
-    (
-        "run --elf Q M",
-        COUNTER,
-        "{ PC = PC + 0X01; true }",
-        "1 M02 1:5:31\n",
-    ),
-    // then the grammar, of all models joined
-    (
-        "run --elf Q M",
-        COUNTER,
-        "undefined",
-        "1 M05 1:5:19 undefined\n",
-    ),
-    ("run --elf Q M", "let x = { 1 }\n", COUNT, "1 M05 1:1:9 {\n"),
-    (
-        "run --elf Q M",
-        "let L : unit = a = b\n",
-        COUNT,
-        "1 M05 1:1:16 a\n",
-    ),
-    (
-        "run --elf Q M",
-        "let x = { 1 )\n",
-        COUNT,
-        "1 M06 1:1:13 )\n",
-    ),
-    (
-        "run --elf Q M",
-        "registerPC : bits(8)\n",
-        COUNT,
-        "1 M06 1:1:1 registerPC\n",
-    ),
-    (
-        "run --elf Q M",
-        COUNTER,
-        "{ PC = PC + 0x01 true }",
-        "1 M06 1:5:36 true\n",
-    ),
-    (
-        "run --elf Q M",
-        COUNTER,
-        "{ PC = PC + 0x01; true } true",
-        "1 M06 1:5:44 true\n",
-    ),
-    ("run --elf Q M", COUNTER, "{ PC = PC", "1 M06 1:5:28 end\n"),
-    ("run --elf Q M N", "default", "", "1 M06 2:1:1 val\n"),
-    (
-        "run --elf Q N M",
-        "register PC :\n",
-        "",
-        "1 M06 2:2:1 end\n",
-    ),
-    ("run --elf Q M", COUNTER, DEEP, "1 M07 1:5:147\n"),
-    // then what is written in parts
-    ("run --elf Q M", "end f\n", COUNT, "1 M22 1:1:1 f\n"),
-    (
-        "run --elf Q M N",
-        "scattered function step function clause g() = ()",
-        "",
-        "1 M23 1:1:1 step\n",
-    ),
-    (
-        "run --elf Q M",
-        "scattered function step end step function clause step() = true\n",
-        "",
-        "1 M22 1:1:34 step\n",
-    ),
-    // then what names mean, in all models, with the end of the last one
-    (
-        "run --elf Q M",
-        "scattered function f end f\n",
-        COUNT,
-        "1 M10 1:1:1 f\n",
-    ),
-    ("run --elf Q M", "", "", "1 M19 1:1:1 reset\n"),
-    ("run --elf Q M M", COUNTER, COUNT, "1 M09 2:1:1 PC\n"),
-    ("run --elf Q M M M", "type t = int\n", "", "1 M09 2:1:1 t\n"),
-    ("run --elf Q N N", "", "", "1 M10 1:4:21 PC\n"),
-    (
-        "run --elf Q M",
-        "register PC : bits(8) register PC : bits(8)",
-        COUNT,
-        "1 M09 1:1:23 PC\n",
-    ),
-    (
-        "run --elf Q M",
-        COUNTER,
-        "{ PC = Q + 0x01; true }",
-        "1 M10 1:5:26 Q\n",
-    ),
-    // and then what runs today
-    ("run --elf Q N M", COUNTER, "", "1 M05 1:1:1\n"),
-    (
-        "run --elf Q M",
-        "register PC : bits(0)\n",
-        "{ true }",
-        "1 M05 1:1:1\n",
-    ),
-    (
-        "run --elf Q M",
-        "register PC : bits(129)\n",
-        "{ true }",
-        "1 M05 1:1:1\n",
-    ),
-    (
-        "run --elf Q M",
-        "register PC : bits(8) = 0x00\n",
-        COUNT,
-        "1 M05 1:1:1\n",
-    ),
-    ("run --elf Q M", COUNTER, "true", "1 M05 1:1:1\n"),
-    (
-        "run --elf Q M",
-        COUNTER,
-        "{ PC = PC + 0x001; true }",
-        "1 M05 1:1:1\n",
-    ),
-    (
-        "run --elf Q M",
-        COUNTER,
-        "{ PC = PC - 0x01; true }",
-        "1 M05 1:1:1\n",
-    ),
-    (
-        "run --elf Q M",
-        COUNTER,
-        "{ PC = 0x01 + PC; true }",
-        "1 M05 1:1:1\n",
-    ),
-    (
-        "run --elf Q M",
-        COUNTER,
-        "{ PC = PC + 0x01; true; }",
-        "1 M14 1:5:19 wanted bool found unit\n",
-    ),
-    (
-        "run --elf Q M",
-        COUNTER,
-        "{ PC = PC + 0x01; false }",
-        "1 M05 1:1:1\n",
-    ),
-];
 
 // The model's text from its registers and the body of its step, if it has one.
 fn model(alloc: Global, registers: &str, body: &str) -> Result<Vec<u8>, AllocError> {
@@ -422,191 +91,231 @@ fn answer(
     Ok(answer)
 }
 
-#[test]
-fn words_are_answered(rt: HostRuntime) -> Result<(), Fail> {
-    let alloc = rt.alloc();
-    for (words, registers, body, wanted) in ROWS {
-        let text = model(alloc, registers, body)?;
-        let fails = (Vec::new(alloc), Vec::new(alloc));
-        let written = answer(alloc, words, text, fails, 7)?;
-        assert!(rt;
-            written.as_slice() == wanted.as_bytes(),
-            "{words}: {registers}{body}"
-        );
-    }
-    Ok(())
+/// A row of a table.
+#[derive(Clone, Copy)]
+struct Row<'a> {
+    /// The words, with blanks between.
+    words: &'a str,
+    /// The text of the model M.
+    text: &'a str,
+    /// The body of its step; none where it is empty.
+    body: &'a str,
+    /// What is written for it, the status first.
+    wanted: &'a str,
 }
 
-/// How many of these models are answered as they are to be, before the first that isn't.
-fn answered(alloc: Global, rows: &[(&str, &str, &str)]) -> Result<usize, Fail> {
-    for (index, (definitions, body, wanted)) in rows.iter().enumerate() {
-        let text = model(alloc, definitions, body)?;
-        let fails = (Vec::new(alloc), Vec::new(alloc));
-        let written = answer(alloc, "run --elf Q M", text, fails, 4096)?;
-        if written.as_slice() != wanted.as_bytes() {
-            return Ok(index);
+/// A row as it is written: behind `%` its words, if it has any, and behind `//` what it is about; on the next lines the text up to `#`; behind
+/// that the body; and behind the `# ` of the next line what is wanted.
+fn row_of(written: &str) -> Option<Row<'_>> {
+    let (head, rest) = written.split_once('\n')?;
+    let (text, rest) = rest.split_once('#')?;
+    let (body, wanted) = rest.split_once("\n# ")?;
+    let words = match head.split_once(" //") {
+        Some((words, _)) => words,
+        None => head,
+    };
+    Some(Row {
+        words: words.strip_prefix(' ').unwrap_or(words),
+        text,
+        body: body.trim_start(),
+        wanted,
+    })
+}
+
+/// Whether a row is answered as it is to be, where so many bytes are moved at most.
+fn is_answered(alloc: Global, row: Row<'_>, piece: usize) -> Result<bool, Fail> {
+    let text = model(alloc, row.text, row.body)?;
+    let fails = (Vec::new(alloc), Vec::new(alloc));
+    let written = answer(alloc, row.words, text, fails, piece)?;
+    Ok(written.as_slice() == row.wanted.as_bytes())
+}
+
+/// The first row of a table that isn't answered as it is to be; none where each is.
+fn first_wrong(alloc: Global, table: &str, piece: usize) -> Result<Option<&str>, Fail> {
+    for written in table.split('%').skip(1) {
+        let row = row_of(written).ok_or("no row")?;
+        if !is_answered(alloc, row, piece)? {
+            return Ok(Some(written));
         }
     }
-    Ok(rows.len())
+    Ok(None)
+}
+
+/// The same for models without words, by `run`.
+fn first_wrong_model(alloc: Global, table: &str) -> Result<Option<&str>, Fail> {
+    for written in table.split('%').skip(1) {
+        let mut row = row_of(written).ok_or("no row")?;
+        row.words = "run --elf Q M";
+        if !is_answered(alloc, row, 4096)? {
+            return Ok(Some(written));
+        }
+    }
+    Ok(None)
+}
+
+#[test]
+fn words_are_answered(rt: HostRuntime) -> Result<(), Fail> {
+    let wrong = first_wrong(rt.alloc(), words_rows::WORDS, 7)?;
+    assert!(rt; wrong.is_none(), "{wrong:?}");
+    Ok(())
 }
 
 #[test]
 fn taken_names_are_answered(rt: HostRuntime) -> Result<(), Fail> {
-    let rows = tables_rows::NAMES;
-    let right = answered(rt.alloc(), rows)?;
-    assert!(rt; right == rows.len(), "row {right}");
+    let wrong = first_wrong_model(rt.alloc(), tables_rows::NAMES)?;
+    assert!(rt; wrong.is_none(), "{wrong:?}");
     Ok(())
 }
 
 #[test]
 fn definitions_and_cycles_are_answered(rt: HostRuntime) -> Result<(), Fail> {
-    let rows = tables_rows::BODIES;
-    let right = answered(rt.alloc(), rows)?;
-    assert!(rt; right == rows.len(), "row {right}");
+    let wrong = first_wrong_model(rt.alloc(), tables_rows::BODIES)?;
+    assert!(rt; wrong.is_none(), "{wrong:?}");
     Ok(())
 }
 
 #[test]
 fn types_and_kinds_are_answered(rt: HostRuntime) -> Result<(), Fail> {
-    let rows = tables_rows::TYPES;
-    let right = answered(rt.alloc(), rows)?;
-    assert!(rt; right == rows.len(), "row {right}");
+    let wrong = first_wrong_model(rt.alloc(), tables_rows::TYPES)?;
+    assert!(rt; wrong.is_none(), "{wrong:?}");
     Ok(())
 }
 
 #[test]
 fn names_in_use_are_answered(rt: HostRuntime) -> Result<(), Fail> {
-    let rows = tables_rows::USES;
-    let right = answered(rt.alloc(), rows)?;
-    assert!(rt; right == rows.len(), "row {right}");
+    let wrong = first_wrong_model(rt.alloc(), tables_rows::USES)?;
+    assert!(rt; wrong.is_none(), "{wrong:?}");
     Ok(())
 }
 
 #[test]
 fn parts_and_entry_points_are_answered(rt: HostRuntime) -> Result<(), Fail> {
-    let rows = tables_rows::TEXTS;
-    let right = answered(rt.alloc(), rows)?;
-    assert!(rt; right == rows.len(), "row {right}");
+    let wrong = first_wrong_model(rt.alloc(), tables_rows::TEXTS)?;
+    assert!(rt; wrong.is_none(), "{wrong:?}");
     Ok(())
 }
 
 #[test]
 fn wanted_shapes_are_answered(rt: HostRuntime) -> Result<(), Fail> {
-    let rows = shapes_rows::WANTED;
-    let right = answered(rt.alloc(), rows)?;
-    assert!(rt; right == rows.len(), "row {right}");
+    let wrong = first_wrong_model(rt.alloc(), shapes_rows::WANTED)?;
+    assert!(rt; wrong.is_none(), "{wrong:?}");
     Ok(())
 }
 
 #[test]
 fn wanted_shapes_of_parts_are_answered(rt: HostRuntime) -> Result<(), Fail> {
-    let rows = shapes_rows::WANTED_OF_PARTS;
-    let right = answered(rt.alloc(), rows)?;
-    assert!(rt; right == rows.len(), "row {right}");
+    let wrong = first_wrong_model(rt.alloc(), shapes_rows::WANTED_OF_PARTS)?;
+    assert!(rt; wrong.is_none(), "{wrong:?}");
     Ok(())
 }
 
 #[test]
 fn branches_and_holes_are_answered(rt: HostRuntime) -> Result<(), Fail> {
-    let rows = shapes_rows::BRANCHES;
-    let right = answered(rt.alloc(), rows)?;
-    assert!(rt; right == rows.len(), "row {right}");
+    let wrong = first_wrong_model(rt.alloc(), shapes_rows::BRANCHES)?;
+    assert!(rt; wrong.is_none(), "{wrong:?}");
     Ok(())
 }
 
 #[test]
 fn calls_are_answered(rt: HostRuntime) -> Result<(), Fail> {
-    let rows = shapes_rows::CALLS;
-    let right = answered(rt.alloc(), rows)?;
-    assert!(rt; right == rows.len(), "row {right}");
+    let wrong = first_wrong_model(rt.alloc(), shapes_rows::CALLS)?;
+    assert!(rt; wrong.is_none(), "{wrong:?}");
     Ok(())
 }
 
 #[test]
 fn clauses_are_answered(rt: HostRuntime) -> Result<(), Fail> {
-    let rows = shapes_rows::CLAUSES;
-    let right = answered(rt.alloc(), rows)?;
-    assert!(rt; right == rows.len(), "row {right}");
+    let wrong = first_wrong_model(rt.alloc(), shapes_rows::CLAUSES)?;
+    assert!(rt; wrong.is_none(), "{wrong:?}");
     Ok(())
 }
 
 #[test]
 fn overloads_are_answered(rt: HostRuntime) -> Result<(), Fail> {
-    let rows = members_rows::OVERLOADS;
-    let right = answered(rt.alloc(), rows)?;
-    assert!(rt; right == rows.len(), "row {right}");
+    let wrong = first_wrong_model(rt.alloc(), members_rows::OVERLOADS)?;
+    assert!(rt; wrong.is_none(), "{wrong:?}");
     Ok(())
 }
 
 #[test]
 fn operators_are_answered(rt: HostRuntime) -> Result<(), Fail> {
-    let rows = members_rows::OPERATORS;
-    let right = answered(rt.alloc(), rows)?;
-    assert!(rt; right == rows.len(), "row {right}");
+    let wrong = first_wrong_model(rt.alloc(), members_rows::OPERATORS)?;
+    assert!(rt; wrong.is_none(), "{wrong:?}");
     Ok(())
 }
 
 #[test]
 fn members_of_operators_are_answered(rt: HostRuntime) -> Result<(), Fail> {
-    let rows = members_rows::MEMBERS;
-    let right = answered(rt.alloc(), rows)?;
-    assert!(rt; right == rows.len(), "row {right}");
+    let wrong = first_wrong_model(rt.alloc(), members_rows::MEMBERS)?;
+    assert!(rt; wrong.is_none(), "{wrong:?}");
     Ok(())
 }
 
 #[test]
 fn parts_of_values_are_answered(rt: HostRuntime) -> Result<(), Fail> {
-    let rows = members_rows::PARTS;
-    let right = answered(rt.alloc(), rows)?;
-    assert!(rt; right == rows.len(), "row {right}");
+    let wrong = first_wrong_model(rt.alloc(), members_rows::PARTS)?;
+    assert!(rt; wrong.is_none(), "{wrong:?}");
     Ok(())
 }
 
 #[test]
 fn structs_and_printed_shapes_are_answered(rt: HostRuntime) -> Result<(), Fail> {
-    let rows = members_rows::STRUCTS;
-    let right = answered(rt.alloc(), rows)?;
-    assert!(rt; right == rows.len(), "row {right}");
+    let wrong = first_wrong_model(rt.alloc(), members_rows::STRUCTS)?;
+    assert!(rt; wrong.is_none(), "{wrong:?}");
     Ok(())
 }
 
 #[test]
 fn choices_by_shape_are_answered(rt: HostRuntime) -> Result<(), Fail> {
-    let rows = choices_rows::CHOICES;
-    let right = answered(rt.alloc(), rows)?;
-    assert!(rt; right == rows.len(), "row {right}");
+    let wrong = first_wrong_model(rt.alloc(), choices_rows::CHOICES)?;
+    assert!(rt; wrong.is_none(), "{wrong:?}");
     Ok(())
 }
 
 #[test]
 fn patterns_are_answered(rt: HostRuntime) -> Result<(), Fail> {
-    let rows = patterns_rows::PATTERNS;
-    let right = answered(rt.alloc(), rows)?;
-    assert!(rt; right == rows.len(), "row {right}");
+    let wrong = first_wrong_model(rt.alloc(), patterns_rows::PATTERNS)?;
+    assert!(rt; wrong.is_none(), "{wrong:?}");
     Ok(())
 }
 
 #[test]
 fn widths_in_patterns_are_answered(rt: HostRuntime) -> Result<(), Fail> {
-    let rows = patterns_rows::WIDTHS;
-    let right = answered(rt.alloc(), rows)?;
-    assert!(rt; right == rows.len(), "row {right}");
+    let wrong = first_wrong_model(rt.alloc(), patterns_rows::WIDTHS)?;
+    assert!(rt; wrong.is_none(), "{wrong:?}");
     Ok(())
 }
 
 #[test]
 fn mappings_are_answered(rt: HostRuntime) -> Result<(), Fail> {
-    let rows = patterns_rows::MAPPINGS;
-    let right = answered(rt.alloc(), rows)?;
-    assert!(rt; right == rows.len(), "row {right}");
+    let wrong = first_wrong_model(rt.alloc(), patterns_rows::MAPPINGS)?;
+    assert!(rt; wrong.is_none(), "{wrong:?}");
     Ok(())
 }
 
 #[test]
 fn variables_and_registers_are_answered(rt: HostRuntime) -> Result<(), Fail> {
-    let rows = patterns_rows::VARIABLES;
-    let right = answered(rt.alloc(), rows)?;
-    assert!(rt; right == rows.len(), "row {right}");
+    let wrong = first_wrong_model(rt.alloc(), patterns_rows::VARIABLES)?;
+    assert!(rt; wrong.is_none(), "{wrong:?}");
+    Ok(())
+}
+
+#[test]
+fn obligations_are_answered(rt: HostRuntime) -> Result<(), Fail> {
+    let tables = [checks_rows::ORDER, checks_rows::WANTED, checks_rows::FORMS];
+    for table in tables {
+        let wrong = first_wrong(rt.alloc(), table, 4096)?;
+        assert!(rt; wrong.is_none(), "{wrong:?}");
+    }
+    Ok(())
+}
+
+#[test]
+fn facts_are_answered(rt: HostRuntime) -> Result<(), Fail> {
+    for table in [facts_rows::FACTS, facts_rows::NAMES] {
+        let wrong = first_wrong(rt.alloc(), table, 4096)?;
+        assert!(rt; wrong.is_none(), "{wrong:?}");
+    }
     Ok(())
 }
 

@@ -4,7 +4,11 @@
 #[cfg(test)]
 mod answers;
 #[cfg(test)]
+mod checks_rows;
+#[cfg(test)]
 mod choices_rows;
+#[cfg(test)]
+mod facts_rows;
 #[cfg(test)]
 mod members_rows;
 #[cfg(test)]
@@ -15,6 +19,8 @@ mod shapes_rows;
 mod tables_rows;
 #[cfg(test)]
 mod tests;
+#[cfg(test)]
+mod words_rows;
 
 use sail_outside::{StdShelf, StdSink};
 use sail_top::{Status, run_words};

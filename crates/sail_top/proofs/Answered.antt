@@ -1,11 +1,15 @@
 -- Words have an answer over all files that are told, if tokens are decided.
 use Rattle.std.proofs.Common.{ℕ, ◌+◌, List, [], ◌∷◌, ◌++◌, length, map, nat_le, ◌≡◌, Option, Some, None, refl, subst, inl, inr, append_assoc}
+use Rattle.std.specs.Prelude.{Result, Ok, Err}
 use Rattle.std.proofs.lemmas.Bool.{cases_Bool}
 use Rattle.sail_outside.specs.Files.{Files}
 use Rattle.sail_words.specs.Line.{line_of}
+use Rattle.sail_words.specs.declared.command.Command.{Command}
+use Rattle.sail_words.specs.declared.command.Command.TheVariants as C
 use Rattle.sail_words.specs.declared.run.Run.{Run}
 use Rattle.sail_fragment.specs.Fragment.{model_of}
-use Rattle.sail_fragment.specs.declared.model.Model.{Model}
+use Rattle.bidir_check.specs.declared.error.CheckError.{CheckError}
+use Rattle.bidir_check.specs.Certification.{Certification}
 use Rattle.sail_grammar.specs.Model.{IsModel}
 use Rattle.sail_lex.specs.declared.token.Token.{Token}
 use Rattle.sail_syntax.specs.declared.definitions.Def.{Def}
@@ -18,25 +22,28 @@ use Rattle.scattered.specs.declared.error.ScatterError.{ScatterError}
 use Rattle.model_tokens.specs.Files.{AreLexed}
 use Rattle.model_tokens.proofs.OneAnswer.{answered}
 use Rattle.sail_top.proofs.TableLemmas.{failure_of, has_failure}
-use Rattle.sail_top.specs.Models.{AreModel, joined, end_of_all, unlexed, unparsed, ungathered, untabled, unshaped, not_run}
-use Rattle.sail_top.specs.Refusals.{token_refusal, parse_refusal, gather_refusal, table_refusal, outside}
+use Rattle.sail_top.specs.Models.{AreAccepted, joined, end_of_all, unlexed, unparsed, ungathered, untabled, unshaped, unclosed}
+use Rattle.sail_top.specs.Checked.{checked}
+use Rattle.sail_top.specs.Refusals.{token_refusal, parse_refusal, gather_refusal, table_refusal, check_refusal}
 use Rattle.sail_top.specs.Shaped.{why_unshaped, shape_refusal_in}
 use Rattle.sail_top.specs.laws.OneAnswer.{AreDecided}
-use Rattle.sail_top.specs.Answer.{Judges, AnswersFiles, AnswersEnd, AnswersLine, IsAnswer}
-use Rattle.sail_top.specs.Answer.{answer_for, model_refused, usage, no_file, too_long}
+use Rattle.sail_top.specs.Answer.{Judges, RunsFiles, AnswersFiles, AnswersEnd, AnswersLine, IsAnswer}
+use Rattle.sail_top.specs.Answer.{run_answer, check_answer, certs_answer, model_refused, usage, no_file, too_long}
 use Rattle.sail_top.specs.Reading.{Wanted, wanted_model, wanted_elf, wanted_by, Contents, contents_at}
 use Rattle.sail_top.specs.Reading.{ReadEnd, whole, absent, long, behind, reading}
+use Rattle.sail_top.specs.declared.models.Accepted.{Accepted}
 use Rattle.sail_top.specs.declared.status.Answer.{Answer}
 
-module _ (decided : AreDecided) where
-  run_judged : (command : Run) (texts : List (List ℕ)) (file : List ℕ) (tokens : List (List Token)) (definitions : List Def) (found : Option Model)
+module _ (decided : AreDecided) (answer_of : Accepted → Answer) where
+  check_judged : (texts : List (List ℕ)) (tokens : List (List Token)) (definitions : List Def) (found : Result Certification CheckError)
       → AreLexed 1 0 texts tokens → IsModel (joined texts tokens) definitions → why_ungathered definitions ≡ None
       → IsAccepted (gathered definitions) (end_of_all texts) → why_unshaped (gathered definitions) ≡ None
-      → model_of (gathered definitions) ≡ found → (a : Answer) × Judges command texts file a
-  run_judged command texts file tokens definitions None lexed parsed none tabled shaped is =
-      (model_refused outside, inl (outside, not_run tokens definitions lexed parsed none tabled shaped is, refl))
-  run_judged command texts file tokens definitions (Some model) lexed parsed none tabled shaped is =
-      let are : AreModel texts model = record {
+      → checked (gathered definitions) ≡ found → (a : Answer) × Judges answer_of texts a
+  check_judged texts tokens definitions (Err e) lexed parsed none tabled shaped is =
+      (model_refused (check_refusal e), inl (check_refusal e, unclosed tokens definitions e lexed parsed none tabled shaped is, refl))
+  check_judged texts tokens definitions (Ok certified) lexed parsed none tabled shaped is =
+      let made : Accepted = record { certified = certified; model = model_of (gathered definitions) } in
+      let are : AreAccepted texts made = record {
         tokens = tokens;
         lexed = lexed;
         definitions = definitions;
@@ -44,57 +51,59 @@ module _ (decided : AreDecided) where
         gathers = none;
         tables = tabled;
         shapes = shaped;
-        runs = is;
+        closed = is;
+        runs = refl;
       } in
-      (answer_for command model file, inr (model, are, refl))
+      (answer_of made, inr (made, are, refl))
 
-  shape_judged : (command : Run) (texts : List (List ℕ)) (file : List ℕ) (tokens : List (List Token)) (definitions : List Def)
+  shape_judged : (texts : List (List ℕ)) (tokens : List (List Token)) (definitions : List Def)
       (why : Option ShapeError) → AreLexed 1 0 texts tokens → IsModel (joined texts tokens) definitions → why_ungathered definitions ≡ None
-      → IsAccepted (gathered definitions) (end_of_all texts) → why_unshaped (gathered definitions) ≡ why → (a : Answer) × Judges command texts file a
-  shape_judged command texts file tokens definitions (Some e) lexed parsed none tabled is =
+      → IsAccepted (gathered definitions) (end_of_all texts) → why_unshaped (gathered definitions) ≡ why → (a : Answer) × Judges answer_of texts a
+  shape_judged texts tokens definitions (Some e) lexed parsed none tabled is =
       let r = shape_refusal_in (gathered definitions) e in
       (model_refused r, inl (r, unshaped tokens definitions e lexed parsed none tabled is, refl))
-  shape_judged command texts file tokens definitions None lexed parsed none tabled is =
-      run_judged command texts file tokens definitions (model_of (gathered definitions)) lexed parsed none tabled is refl
+  shape_judged texts tokens definitions None lexed parsed none tabled is =
+      check_judged texts tokens definitions (checked (gathered definitions)) lexed parsed none tabled is refl
 
-  table_judged : (command : Run) (texts : List (List ℕ)) (file : List ℕ) (tokens : List (List Token)) (definitions : List Def)
+  table_judged : (texts : List (List ℕ)) (tokens : List (List Token)) (definitions : List Def)
       (failure : Option TableError) → AreLexed 1 0 texts tokens → IsModel (joined texts tokens) definitions → why_ungathered definitions ≡ None
-      → IsFirstFailure (gathered definitions) (end_of_all texts) failure → (a : Answer) × Judges command texts file a
-  table_judged command texts file tokens definitions (Some e) lexed parsed none first =
+      → IsFirstFailure (gathered definitions) (end_of_all texts) failure → (a : Answer) × Judges answer_of texts a
+  table_judged texts tokens definitions (Some e) lexed parsed none first =
       (model_refused (table_refusal e), inl (table_refusal e, untabled tokens definitions e lexed parsed none first, refl))
-  table_judged command texts file tokens definitions None lexed parsed none first =
-      shape_judged command texts file tokens definitions (why_unshaped (gathered definitions)) lexed parsed none first refl
+  table_judged texts tokens definitions None lexed parsed none first =
+      shape_judged texts tokens definitions (why_unshaped (gathered definitions)) lexed parsed none first refl
 
-  gather_judged : (command : Run) (texts : List (List ℕ)) (file : List ℕ) (tokens : List (List Token)) (definitions : List Def)
+  gather_judged : (texts : List (List ℕ)) (tokens : List (List Token)) (definitions : List Def)
       (why : Option ScatterError) → AreLexed 1 0 texts tokens → IsModel (joined texts tokens) definitions → why_ungathered definitions ≡ why
-      → (a : Answer) × Judges command texts file a
-  gather_judged command texts file tokens definitions (Some e) lexed parsed is =
+      → (a : Answer) × Judges answer_of texts a
+  gather_judged texts tokens definitions (Some e) lexed parsed is =
       (model_refused (gather_refusal e), inl (gather_refusal e, ungathered tokens definitions e lexed parsed is, refl))
-  gather_judged command texts file tokens definitions None lexed parsed is =
-      table_judged command texts file tokens definitions (failure_of (gathered definitions) (end_of_all texts)) lexed parsed is
+  gather_judged texts tokens definitions None lexed parsed is =
+      table_judged texts tokens definitions (failure_of (gathered definitions) (end_of_all texts)) lexed parsed is
       (has_failure (gathered definitions) (end_of_all texts))
 
-  lexed_judged : (command : Run) (texts : List (List ℕ)) (file : List ℕ) (tokens : List (List Token))
-      → AreLexed 1 0 texts tokens → (a : Answer) × Judges command texts file a
-  lexed_judged command texts file tokens lexed =
+  lexed_judged : (texts : List (List ℕ)) (tokens : List (List Token))
+      → AreLexed 1 0 texts tokens → (a : Answer) × Judges answer_of texts a
+  lexed_judged texts tokens lexed =
       elim (decided (joined texts tokens) (end_of_all texts)) [
-        | inl model ↦ gather_judged command texts file tokens model.0 (why_ungathered model.0) lexed model.1 refl
+        | inl model ↦ gather_judged texts tokens model.0 (why_ungathered model.0) lexed model.1 refl
         | inr refused ↦ (model_refused (parse_refusal refused.0), inl (parse_refusal refused.0, unparsed tokens refused.0 lexed refused.1, refl))
       ]
 
-  judged : (command : Run) (texts : List (List ℕ)) (file : List ℕ) → (a : Answer) × Judges command texts file a
-  judged command texts file =
+  judged : (texts : List (List ℕ)) → (a : Answer) × Judges answer_of texts a
+  judged texts =
       elim (answered texts 1 0) [
-        | inl lexed ↦ lexed_judged command texts file lexed.0 lexed.1
+        | inl lexed ↦ lexed_judged texts lexed.0 lexed.1
         | inr refused ↦ (model_refused (token_refusal refused.0), inl (token_refusal refused.0, unlexed refused.0 refused.1, refl))
       ]
 
+module _ (decided : AreDecided) (command : Run) where
   -- files of which one at least was read
-  files_answered : (command : Run) (first : List ℕ) (more before : List (List ℕ)) → (a : Answer) × AnswersFiles command (before ++ first ∷ more) a
-  files_answered command file [] before = let a = judged command before file in (a.0, (before, file, refl, a.1))
-  files_answered command first (next ∷ more) before =
-      let rest = files_answered command next more (before ++ first ∷ []) in
-      (rest.0, subst (λ files. AnswersFiles command files rest.0) (append_assoc before (first ∷ []) (next ∷ more)) rest.1)
+  files_answered : (first : List ℕ) (more before : List (List ℕ)) → (a : Answer) × RunsFiles command (before ++ first ∷ more) a
+  files_answered file [] before = let a = judged decided (run_answer command file) before in (a.0, (before, file, refl, a.1))
+  files_answered first (next ∷ more) before =
+      let rest = files_answered next more (before ++ first ∷ []) in
+      (rest.0, subst (λ files. RunsFiles command files rest.0) (append_assoc before (first ∷ []) (next ∷ more)) rest.1)
 
 -- the end of a reading of which one file at least was read, or one couldn't be
 abbrev IsFilled : ReadEnd → Type 0
@@ -121,17 +130,31 @@ filled_wanted [] elf contents = filled 0 (wanted_elf elf) [] contents
 filled_wanted (model ∷ models) elf contents = filled 0 (wanted_model model) (map wanted_model models ++ wanted_elf elf ∷ []) contents
 
 module _ (decided : AreDecided) where
-  end_answered : (command : Run) (end : ReadEnd) → IsFilled end → (a : Answer) × AnswersEnd command end a
-  end_answered command (absent number name) some = (no_file number name, refl)
-  end_answered command (long number name limit) some = (too_long number name limit, refl)
-  end_answered command (whole []) some = absurd some
-  end_answered command (whole (first ∷ more)) some = files_answered decided command first more []
+  run_answered : (command : Run) (end : ReadEnd) → IsFilled end → (a : Answer) × AnswersEnd (C.Run command) end a
+  run_answered command (absent number name) some = (no_file number name, refl)
+  run_answered command (long number name limit) some = (too_long number name limit, refl)
+  run_answered command (whole []) some = absurd some
+  run_answered command (whole (first ∷ more)) some = files_answered decided command first more []
 
-  line_answered : (l : Option Run) (files : Files) → (a : Answer) × AnswersLine l (Some files) a
+  check_answered : (models : List (List ℕ)) (end : ReadEnd) → (a : Answer) × AnswersEnd (C.Check models) end a
+  check_answered models (absent number name) = (no_file number name, refl)
+  check_answered models (long number name limit) = (too_long number name limit, refl)
+  check_answered models (whole files) = judged decided check_answer files
+
+  certs_answered : (models : List (List ℕ)) (end : ReadEnd) → (a : Answer) × AnswersEnd (C.Certs models) end a
+  certs_answered models (absent number name) = (no_file number name, refl)
+  certs_answered models (long number name limit) = (too_long number name limit, refl)
+  certs_answered models (whole files) = judged decided certs_answer files
+
+  command_answered : (command : Command) (contents : Contents) → (a : Answer) × AnswersEnd command (reading 0 (wanted_by command) contents) a
+  command_answered (C.Run command) contents =
+      run_answered command (reading 0 (wanted_by (C.Run command)) contents) (filled_wanted command.models command.elf contents)
+  command_answered (C.Check models) contents = check_answered models (reading 0 (wanted_by (C.Check models)) contents)
+  command_answered (C.Certs models) contents = certs_answered models (reading 0 (wanted_by (C.Certs models)) contents)
+
+  line_answered : (l : Option Command) (files : Files) → (a : Answer) × AnswersLine l (Some files) a
   line_answered None files = (usage, refl)
-  line_answered (Some command) files =
-      let contents = contents_at files (wanted_by command) in
-      end_answered command (reading 0 (wanted_by command) contents) (filled_wanted command.models command.elf contents)
+  line_answered (Some command) files = command_answered command (contents_at files (wanted_by command))
 
   -- words have an answer over all files that are told
   pub some_answer : (words : List (List ℕ)) (files : Files) → (a : Answer) × IsAnswer words (Some files) a

@@ -4,18 +4,21 @@ use Rattle.sail_outside.specs.Files.{Files}
 use Rattle.sail_outside.specs.Faults.{Rose}
 use Rattle.sail_outside.specs.Bytes.{Sent}
 use Rattle.sail_base.specs.declared.elf_refusal.ElfRefusal.{ElfRefusal}
-use Rattle.sail_top.proofs.ModelLemmas.{one_model_of, one_refusal_of, model_not_refused}
-use Rattle.sail_top.specs.Answer.{Judges, AnswersFiles, AnswersEnd, AnswersCommand, AnswersLine, IsAnswer}
-use Rattle.sail_top.specs.Answer.{answer_for, image_unless, run_unless, model_refused}
+use Rattle.sail_top.proofs.ModelLemmas.{one_accepted_of, one_refusal_of, accepted_not_refused}
+use Rattle.sail_top.specs.Answer.{Judges, RunsFiles, AnswersFiles, AnswersEnd, AnswersCommand, AnswersLine, IsAnswer}
+use Rattle.sail_top.specs.Answer.{run_answer, check_answer, certs_answer, answer_if, image_unless, run_unless, model_refused}
 use Rattle.elf_load.specs.Placed.{place_refusal}
 use Rattle.elf_load.specs.Reading.{elf_refusal, image_of}
 use Rattle.elf_load.specs.declared.image.Image.{Image}
 use Rattle.sail_words.specs.Line.{line_of}
+use Rattle.sail_words.specs.declared.command.Command.{Command}
+use Rattle.sail_words.specs.declared.command.Command.TheVariants as C
 use Rattle.sail_words.specs.declared.run.Run.{Run}
 use Rattle.sail_top.specs.Ending.{IsPlain, Answered, AnsweredPart, Completes}
 use Rattle.sail_top.specs.Reading.{ReadEnd, whole, absent, long, contents_at, wanted_by, reading}
 use Rattle.sail_top.specs.parts.Finished.{Finished, all, fault, wanting}
 use Rattle.sail_fragment.specs.declared.model.Model.{Model}
+use Rattle.sail_top.specs.declared.models.Accepted.{Accepted}
 use Rattle.sail_top.specs.declared.status.Answer.{Answer}
 use Rattle.sail_top.specs.declared.status.Status.{Status}
 use Rattle.sail_top.specs.declared.status.Status.TheVariants as status
@@ -30,23 +33,32 @@ plain_image : (command : Run) (model : Model) (image : Image) (refused : Option 
 plain_image command model image None = plain_run command model image (place_refusal image command.ram_base command.ram_size)
 plain_image command model image (Some refusal) = tt
 
-plain_judged : (command : Run) (texts : List (List ℕ)) (image : List ℕ) (answer : Answer)
-    → Judges command texts image answer → IsPlain answer.status
-plain_judged command texts image answer (inl refused) = subst (λ a. IsPlain a.status) (sym refused.2) tt
-plain_judged command texts image answer (inr read) =
-    subst (λ a. IsPlain a.status) (sym read.2) (plain_image command read.0 (image_of image) (elf_refusal image None))
+plain_if : (command : Run) (model : Option Model) (file : List ℕ) → IsPlain (answer_if command model file).status
+plain_if command None file = tt
+plain_if command (Some model) file = plain_image command model (image_of file) (elf_refusal file None)
 
-plain_end : (command : Run) (end : ReadEnd) (answer : Answer) → AnswersEnd command end answer → IsPlain answer.status
+plain_judged : (answer_of : Accepted → Answer) → ((made : Accepted) → IsPlain (answer_of made).status) → (texts : List (List ℕ)) (answer : Answer)
+    → Judges answer_of texts answer → IsPlain answer.status
+plain_judged answer_of plain texts answer (inl refused) = subst (λ a. IsPlain a.status) (sym refused.2) tt
+plain_judged answer_of plain texts answer (inr read) = subst (λ a. IsPlain a.status) (sym read.2) (plain read.0)
+
+plain_files : (command : Command) (files : List (List ℕ)) (answer : Answer) → AnswersFiles command files answer → IsPlain answer.status
+plain_files (C.Run command) files answer is =
+    plain_judged (run_answer command is.1) (λ made. plain_if command made.model is.1) is.0 answer is.3
+plain_files (C.Check models) files answer is = plain_judged check_answer (λ made. tt) files answer is
+plain_files (C.Certs models) files answer is = plain_judged certs_answer (λ made. tt) files answer is
+
+plain_end : (command : Command) (end : ReadEnd) (answer : Answer) → AnswersEnd command end answer → IsPlain answer.status
 plain_end command (absent number name) answer is = subst (λ a. IsPlain a.status) (sym is) tt
 plain_end command (long number name limit) answer is = subst (λ a. IsPlain a.status) (sym is) tt
-plain_end command (whole files) answer is = plain_judged command is.0 is.1 answer is.3
+plain_end command (whole files) answer is = plain_files command files answer is
 
-plain_command : (command : Run) (held : Option Files) (answer : Answer) → AnswersCommand command held answer → IsPlain answer.status
+plain_command : (command : Command) (held : Option Files) (answer : Answer) → AnswersCommand command held answer → IsPlain answer.status
 plain_command command None answer is = plain_end command (reading 0 (wanted_by command) is.0) answer is.1
 plain_command command (Some files) answer is =
     plain_end command (reading 0 (wanted_by command) (contents_at files (wanted_by command))) answer is
 
-plain_line : (l : Option Run) (held : Option Files) (answer : Answer) → AnswersLine l held answer → IsPlain answer.status
+plain_line : (l : Option Command) (held : Option Files) (answer : Answer) → AnswersLine l held answer → IsPlain answer.status
 plain_line None held answer is = subst (λ a. IsPlain a.status) (sym is) tt
 plain_line (Some command) held answer is = plain_command command held answer is
 
@@ -54,13 +66,12 @@ plain_line (Some command) held answer is = plain_command command held answer is
 pub plain_answer : (words : List (List ℕ)) (held : Option Files) (answer : Answer) → IsAnswer words held answer → IsPlain answer.status
 plain_answer words held answer is = plain_line (line_of words) held answer is
 
-one_judged : (command : Run) (texts : List (List ℕ)) (image : List ℕ) (a b : Answer)
-    → Judges command texts image a → Judges command texts image b → a ≡ b
-one_judged command texts image a b (inl p) (inl q) = p.2 ∙ ap model_refused (one_refusal_of texts p.0 q.0 p.1 q.1) ∙ sym q.2
-one_judged command texts image a b (inl p) (inr q) = absurd (model_not_refused texts q.0 p.0 q.1 p.1)
-one_judged command texts image a b (inr p) (inl q) = absurd (model_not_refused texts p.0 q.0 p.1 q.1)
-one_judged command texts image a b (inr p) (inr q) =
-    p.2 ∙ ap (λ m. answer_for command m image) (one_model_of texts p.0 q.0 p.1 q.1) ∙ sym q.2
+one_judged : (answer_of : Accepted → Answer) (texts : List (List ℕ)) (a b : Answer)
+    → Judges answer_of texts a → Judges answer_of texts b → a ≡ b
+one_judged answer_of texts a b (inl p) (inl q) = p.2 ∙ ap model_refused (one_refusal_of texts p.0 q.0 p.1 q.1) ∙ sym q.2
+one_judged answer_of texts a b (inl p) (inr q) = absurd (accepted_not_refused texts q.0 p.0 q.1 p.1)
+one_judged answer_of texts a b (inr p) (inl q) = absurd (accepted_not_refused texts p.0 q.0 p.1 q.1)
+one_judged answer_of texts a b (inr p) (inr q) = p.2 ∙ ap answer_of (one_accepted_of texts p.0 q.0 p.1 q.1) ∙ sym q.2
 
 -- lists with one more item at their ends
 one_last : (xs ys : List (List ℕ)) (x y : List ℕ) → xs ++ x ∷ [] ≡ ys ++ y ∷ [] → (xs ≡ ys) × (x ≡ y)
@@ -75,17 +86,23 @@ one_last (a ∷ xs) (b ∷ ys) x y same =
     let rest = one_last xs ys x y more in
     ((λ i. first i ∷ rest.0 i), rest.1)
 
-one_of_files : (command : Run) (files : List (List ℕ)) (a b : Answer) → AnswersFiles command files a → AnswersFiles command files b → a ≡ b
-one_of_files command files a b p q =
+one_of_run : (command : Run) (files : List (List ℕ)) (a b : Answer) → RunsFiles command files a → RunsFiles command files b → a ≡ b
+one_of_run command files a b p q =
     let parts = one_last p.0 q.0 p.1 q.1 (sym p.2 ∙ q.2) in
-    one_judged command q.0 q.1 a b (subst (λ t. Judges command t q.1 a) parts.0 (subst (λ i. Judges command p.0 i a) parts.1 p.3)) q.3
+    one_judged (run_answer command q.1) q.0 a b
+    (subst (λ t. Judges (run_answer command q.1) t a) parts.0 (subst (λ i. Judges (run_answer command i) p.0 a) parts.1 p.3)) q.3
 
-one_end : (command : Run) (end : ReadEnd) (a b : Answer) → AnswersEnd command end a → AnswersEnd command end b → a ≡ b
+one_of_files : (command : Command) (files : List (List ℕ)) (a b : Answer) → AnswersFiles command files a → AnswersFiles command files b → a ≡ b
+one_of_files (C.Run command) files a b p q = one_of_run command files a b p q
+one_of_files (C.Check models) files a b p q = one_judged check_answer files a b p q
+one_of_files (C.Certs models) files a b p q = one_judged certs_answer files a b p q
+
+one_end : (command : Command) (end : ReadEnd) (a b : Answer) → AnswersEnd command end a → AnswersEnd command end b → a ≡ b
 one_end command (absent number name) a b p q = p ∙ sym q
 one_end command (long number name limit) a b p q = p ∙ sym q
 one_end command (whole files) a b p q = one_of_files command files a b p q
 
-one_line : (l : Option Run) (files : Files) (a b : Answer) → AnswersLine l (Some files) a → AnswersLine l (Some files) b → a ≡ b
+one_line : (l : Option Command) (files : Files) (a b : Answer) → AnswersLine l (Some files) a → AnswersLine l (Some files) b → a ≡ b
 one_line None files a b p q = p ∙ sym q
 one_line (Some command) files a b p q = one_end command (reading 0 (wanted_by command) (contents_at files (wanted_by command))) a b p q
 

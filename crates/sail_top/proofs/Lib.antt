@@ -1,7 +1,10 @@
 pub mod AnswerLemmas
 pub mod Answered
 pub mod BarsEnd
+pub mod CheckLemmas
+pub mod CountLemmas
 pub mod EndingLemmas
+pub mod HoldLemmas
 pub mod LeftOut
 pub mod ModelLemmas
 pub mod OneRefusal

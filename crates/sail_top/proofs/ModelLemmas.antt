@@ -1,12 +1,15 @@
--- What lexing, parsing, gathering, the tables, the shapes and the conditions on what runs say of texts.
+-- What lexing, parsing, gathering, the tables, the shapes and the obligations say of texts.
 use Rattle.std.proofs.Common.{◌≡◌, ℕ, ◌+◌, ◌≤◌, List, [], ◌∷◌, ◌++◌, length, map, sym, ap, ◌∙◌, subst, arith}
 use Rattle.std.specs.Prelude.{Option, Some, None, Result, Ok, Err, IfOk, IfErr}
 use Rattle.std.specs.List.{All}
 use Rattle.std.proofs.lemmas.List.Elements.{All-cons, All-nil}
 use Rattle.sail_base.specs.declared.place.Place.{Place}
 use Rattle.sail_base.specs.declared.refusal.Refusal.{Refusal}
+use Rattle.bidir_check.specs.Certification.{Certification}
+use Rattle.bidir_check.specs.Checking.{IsMet}
+use Rattle.bidir_check.specs.declared.error.CheckError.{CheckError}
+use Rattle.sail_core.specs.declared.model.CoreModel.{CoreModel}
 use Rattle.sail_fragment.specs.Fragment.{model_of}
-use Rattle.sail_fragment.specs.declared.model.Model.{Model}
 use Rattle.sail_grammar.specs.Joined.{with_texts, HasText, HaveTexts, end_from, joined as joined_files}
 use Rattle.sail_grammar.specs.Leaves.{nowhere}
 use Rattle.sail_grammar.specs.Model.{IsModel, IsRefused, IsRefusal as IsRefusalOfTokens}
@@ -34,16 +37,21 @@ use Rattle.sail_tables.specs.Refused.{IsFirstFailure, IsAccepted, IsRefusal as I
 use Rattle.shape_rules.specs.declared.error.ShapeError.{ShapeError}
 use Rattle.shape_rules.specs.declared.error.ShapeError.TheVariants as shape
 use Rattle.shapes.specs.Tabled.{IsRefused as IsRefusalOfShapes}
-use Rattle.sail_top.specs.Models.{joined, last_end, end_of_all, AreModel, IsRefusal, unlexed, unparsed, ungathered, untabled, unshaped, not_run}
-use Rattle.sail_top.specs.Refusals.{token_refusal, parse_refusal, gather_refusal, table_refusal, outside}
+use Rattle.sail_top.specs.Checked.{checked_core, checked}
+use Rattle.sail_top.specs.Models.{joined, last_end, end_of_all, AreAccepted, IsRefusal, unlexed, unparsed, ungathered, untabled, unshaped, unclosed}
+use Rattle.sail_top.specs.Refusals.{token_refusal, parse_refusal, gather_refusal, table_refusal, check_refusal}
 use Rattle.sail_top.specs.Shaped.{why_unshaped, shape_refusal_in}
-use Rattle.sail_top.specs.parts.Told.{IsOfText, IsOfTokens, IsOfDefinitions, IsOfTables, IsOfShapes, Tells, RunsAs, GathersAs, TabledAs, ShapedAs}
-use Rattle.sail_top.specs.parts.Told.{TabledRefused, tabled_unshaped, tabled_not_run, WholeRefused, whole_untabled, whole_tabled}
+use Rattle.sail_top.specs.parts.Cycles.{without_cycles}
+use Rattle.sail_top.specs.parts.Told.{IsOfText, IsOfTokens, IsOfDefinitions, IsOfTables, IsOfShapes, IsOfChecks, Tells}
+use Rattle.sail_top.specs.parts.Told.{ParsesAs, GathersAs, TabledAs, ShapedAs, ClosedAs, IsCoreOf}
+use Rattle.sail_top.specs.parts.Told.{TabledRefused, tabled_unshaped, tabled_unclosed, WholeRefused, whole_untabled, whole_tabled}
 use Rattle.sail_top.specs.parts.Told.{DefinitionsRefused, definitions_ungathered, definitions_gathered}
 use Rattle.sail_top.specs.parts.Told.{TokensRefused, tokens_unparsed, tokens_parsed, TellsOfTokens, TellsOfDefinitions, TellsOfWhole, TellsOfTabled}
-use Rattle.sail_top.specs.parts.Told.{TellsNotRun}
+use Rattle.sail_top.specs.parts.Told.{TellsOfShaped}
+use Rattle.sail_top.specs.declared.models.Accepted.{Accepted}
 use Rattle.sail_top.specs.declared.models.ModelError.{ModelError}
 use Rattle.sail_top.specs.declared.models.ModelError.TheVariants as model
+use Rattle.sail_top.proofs.CheckLemmas.{closed_is, unclosed_is}
 use Rattle.sail_top.proofs.OneRefusal.{one_refused}
 use Rattle.sail_top.proofs.TableLemmas.{failure_of, failure_is}
 
@@ -112,6 +120,16 @@ pub unshaped_is : (text : List Def) (e : ShapeError) (refusal : Refusal)
     → IsRefusalOfShapes text e → IsOfShapes e → refusal ≡ shape_refusal_in text e → TabledRefused text refusal
 unshaped_is text e refusal is told same = subst (TabledRefused text) (sym same) (tabled_unshaped e (refused_shapes text e is told))
 
+-- an accepted text has these certificates, and an error of the check is its refusal
+pub accepted_is : (text : List Def) (core : CoreModel) (made : Accepted) → IsMet (Ok made.certified) (checked_core (without_cycles core))
+    → made.model ≡ model_of text → IsCoreOf text core → ClosedAs text made
+accepted_is text core made met model is = (closed_is text core is made.certified met, model)
+
+pub unclosed_tells : (text : List Def) (core : CoreModel) (e : CheckError) (refusal : Refusal)
+    → IsMet {A = Certification} (Err e) (checked_core (without_cycles core)) → IsOfChecks e → refusal ≡ check_refusal e
+    → IsCoreOf text core → TellsOfShaped text (model.Refused refusal)
+unclosed_tells text core e refusal met told same is = (e, unclosed_is text core is e met told, same)
+
 -- ---- the tokens of files
 
 in_order : (from to : ℕ) (tokens : List Token) → AreInOrder from to tokens → from ≤ to
@@ -160,8 +178,8 @@ module _ (texts : List (List ℕ)) (found files : List Tokens) (same : files ≡
   pub files_have_texts : All HaveTexts files
   files_have_texts = subst (All HaveTexts) (sym same) (have_texts 1 texts found are)
 
-  pub texts_model : (r : Result Model ModelError) → IfOk r (RunsAs (joined_files files) (end_from nowhere files)) → IfOk r (AreModel texts)
-  texts_model (Ok m) is = record {
+  pub texts_accepted : (r : Result Accepted ModelError) → IfOk r (ParsesAs (joined_files files) (end_from nowhere files)) → IfOk r (AreAccepted texts)
+  texts_accepted (Ok m) is = record {
     tokens = map tokens_of found;
     lexed = lexed;
     definitions = is.0;
@@ -169,17 +187,18 @@ module _ (texts : List (List ℕ)) (found files : List Tokens) (same : files ≡
     gathers = is.2.0;
     tables = subst (λ p. IsAccepted (gathered is.0) p) end is.2.1.0;
     shapes = is.2.1.1.0;
-    runs = is.2.1.1.1;
+    closed = is.2.1.1.1.0;
+    runs = is.2.1.1.1.1;
   }
-  texts_model (Err e) is = is
+  texts_accepted (Err e) is = is
 
   refusal_of_tabled : (definitions : List Def) (refusal : Refusal) → IsModel (joined texts (map tokens_of found)) definitions
       → why_ungathered definitions ≡ None → IsAccepted (gathered definitions) (end_of_all texts)
       → TabledRefused (gathered definitions) refusal → IsRefusal texts refusal
   refusal_of_tabled definitions refusal h none tabled (tabled_unshaped e why) =
       unshaped (map tokens_of found) definitions e lexed h none tabled why
-  refusal_of_tabled definitions refusal h none tabled (tabled_not_run shaped never) =
-      not_run (map tokens_of found) definitions lexed h none tabled shaped never
+  refusal_of_tabled definitions refusal h none tabled (tabled_unclosed e shaped why) =
+      unclosed (map tokens_of found) definitions e lexed h none tabled shaped why
 
   refusal_of_whole : {refusal : Refusal} (definitions : List Def) → IsModel (joined texts (map tokens_of found)) definitions
       → why_ungathered definitions ≡ None → WholeRefused (gathered definitions) (end_of_all texts) refusal → IsRefusal texts refusal
@@ -197,7 +216,7 @@ module _ (texts : List (List ℕ)) (found files : List Tokens) (same : files ≡
   refusal_of {refusal} (tokens_parsed definitions h refused) =
       refusal_of_definitions definitions (subst (λ x. IsModel x definitions) signs h) (subst (λ p. DefinitionsRefused definitions p refusal) end refused)
 
-  pub texts_refused : (r : Result Model ModelError) → IfErr r (TellsOfTokens (joined_files files) (end_from nowhere files)) → IfErr r (Tells texts)
+  pub texts_refused : (r : Result Accepted ModelError) → IfErr r (TellsOfTokens (joined_files files) (end_from nowhere files)) → IfErr r (Tells texts)
   texts_refused (Ok m) is = is
   texts_refused (Err (model.Refused refusal)) is = refusal_of is
   texts_refused (Err model.OutOfMemory) is = tt
@@ -205,11 +224,11 @@ module _ (texts : List (List ℕ)) (found files : List Tokens) (same : files ≡
 -- ---- from definitions to their tokens
 
 module _ (signs : List Sign) (definitions : List Def) (parsed : IsModel signs definitions) (place end : Place) (same : place ≡ end) where
-  pub tokens_model : (r : Result Model ModelError) → IfOk r (GathersAs definitions place) → IfOk r (RunsAs signs end)
-  tokens_model (Ok m) is = (definitions, parsed, subst (λ p. GathersAs definitions p m) same is)
-  tokens_model (Err e) is = is
+  pub tokens_accepted : (r : Result Accepted ModelError) → IfOk r (GathersAs definitions place) → IfOk r (ParsesAs signs end)
+  tokens_accepted (Ok m) is = (definitions, parsed, subst (λ p. GathersAs definitions p m) same is)
+  tokens_accepted (Err e) is = is
 
-  pub tokens_refused : (r : Result Model ModelError) → IfErr r (TellsOfDefinitions definitions place) → IfErr r (TellsOfTokens signs end)
+  pub tokens_refused : (r : Result Accepted ModelError) → IfErr r (TellsOfDefinitions definitions place) → IfErr r (TellsOfTokens signs end)
   tokens_refused (Ok m) is = is
   tokens_refused (Err (model.Refused refusal)) is =
       tokens_parsed definitions parsed (subst (λ p. DefinitionsRefused definitions p refusal) same is)
@@ -219,11 +238,11 @@ module _ (signs : List Sign) (definitions : List Def) (parsed : IsModel signs de
 
 module _ (definitions whole read : List Def) (same : read ≡ whole) (none : why_ungathered definitions ≡ None) (are : whole ≡ gathered definitions)
     (end : Place) where
-  pub gathered_model : (r : Result Model ModelError) → IfOk r (TabledAs read end) → IfOk r (GathersAs definitions end)
-  gathered_model (Ok m) is = (none, subst (λ w. TabledAs w end m) (same ∙ are) is)
-  gathered_model (Err e) is = is
+  pub gathered_accepted : (r : Result Accepted ModelError) → IfOk r (TabledAs read end) → IfOk r (GathersAs definitions end)
+  gathered_accepted (Ok m) is = (none, subst (λ w. TabledAs w end m) (same ∙ are) is)
+  gathered_accepted (Err e) is = is
 
-  pub gathered_refused : (r : Result Model ModelError) → IfErr r (TellsOfWhole read end) → IfErr r (TellsOfDefinitions definitions end)
+  pub gathered_refused : (r : Result Accepted ModelError) → IfErr r (TellsOfWhole read end) → IfErr r (TellsOfDefinitions definitions end)
   gathered_refused (Ok m) is = is
   gathered_refused (Err (model.Refused refusal)) is = definitions_gathered none (subst (λ w. WholeRefused w end refusal) (same ∙ are) is)
   gathered_refused (Err model.OutOfMemory) is = tt
@@ -231,38 +250,43 @@ module _ (definitions whole read : List Def) (same : read ≡ whole) (none : why
 -- ---- from definitions that have tables to gathered ones
 
 module _ (whole : List Def) (end : Place) (tabled : IsAccepted whole end) where
-  pub tabled_model : (r : Result Model ModelError) → IfOk r (ShapedAs whole) → IfOk r (TabledAs whole end)
-  tabled_model (Ok m) is = (tabled, is)
-  tabled_model (Err e) is = is
+  pub tabled_accepted : (r : Result Accepted ModelError) → IfOk r (ShapedAs whole) → IfOk r (TabledAs whole end)
+  tabled_accepted (Ok m) is = (tabled, is)
+  tabled_accepted (Err e) is = is
 
-  pub tabled_refused : (r : Result Model ModelError) → IfErr r (TellsOfTabled whole) → IfErr r (TellsOfWhole whole end)
+  pub tabled_refused : (r : Result Accepted ModelError) → IfErr r (TellsOfTabled whole) → IfErr r (TellsOfWhole whole end)
   tabled_refused (Ok m) is = is
   tabled_refused (Err (model.Refused refusal)) is = whole_tabled tabled is
   tabled_refused (Err model.OutOfMemory) is = tt
 
--- ---- from what runs to definitions that have shapes
+-- ---- from the core to definitions that have tables
 
-module _ (text read : List Def) (same : read ≡ text) (shaped : why_unshaped text ≡ None) where
-  pub shaped_model : (r : Result Model ModelError) → IfOk r (λ m. model_of read ≡ Some m) → IfOk r (ShapedAs text)
-  shaped_model (Ok m) is = (shaped, subst (λ t. model_of t ≡ Some m) same is)
-  shaped_model (Err e) is = is
+module _ (text read : List Def) (same : read ≡ text) (shaped : why_unshaped text ≡ None) (core : CoreModel) (is : IsCoreOf text core) where
+  of_read : IsCoreOf read core
+  of_read = subst (λ t. IsCoreOf t core) (sym same) is
 
-  pub shaped_refused : (r : Result Model ModelError) → IfErr r (TellsNotRun read) → IfErr r (TellsOfTabled text)
-  shaped_refused (Ok m) is = is
-  shaped_refused (Err (model.Refused refusal)) is =
-      subst (TabledRefused text) (sym is.1) (tabled_not_run shaped (subst (λ t. model_of t ≡ None) same is.0))
-  shaped_refused (Err model.OutOfMemory) is = tt
+  pub shaped_accepted : (r : Result Accepted ModelError) → (IsCoreOf read core → IfOk r (ClosedAs read)) → IfOk r (ShapedAs text)
+  shaped_accepted (Ok made) closed = (shaped, subst (λ t. ClosedAs t made) same (closed of_read))
+  shaped_accepted (Err e) closed = closed of_read
+
+  pub shaped_refused : (r : Result Accepted ModelError) → (IsCoreOf read core → IfErr r (TellsOfShaped read)) → IfErr r (TellsOfTabled text)
+  shaped_refused (Ok made) tells = tells of_read
+  shaped_refused (Err (model.Refused refusal)) tells =
+      let why = tells of_read in
+      subst (TabledRefused text) (sym why.2) (tabled_unclosed why.0 shaped (subst (λ t. checked t ≡ Err why.0) same why.1))
+  shaped_refused (Err model.OutOfMemory) tells = tt
 
 -- ---- the phases behind the grammar, as one function
 
-abbrev run_refusal : Option Model → Option Refusal
-run_refusal (Some m) = None
-run_refusal None = Some outside
+-- by the check
+abbrev closing_refusal : Result Certification CheckError → Option Refusal
+closing_refusal (Ok made) = None
+closing_refusal (Err e) = Some (check_refusal e)
 
 -- of this text
-abbrev tabled_refusal : List Def → Option ShapeError → Option Model → Option Refusal
-tabled_refusal text (Some e) m = Some (shape_refusal_in text e)
-tabled_refusal text None m = run_refusal m
+abbrev tabled_refusal : List Def → Option ShapeError → Result Certification CheckError → Option Refusal
+tabled_refusal text (Some e) found = Some (shape_refusal_in text e)
+tabled_refusal text None found = closing_refusal found
 
 abbrev whole_refusal : Option TableError → Option Refusal → Option Refusal
 whole_refusal (Some e) next = Some (table_refusal e)
@@ -273,7 +297,7 @@ refusal_unless (Some e) next = Some (gather_refusal e)
 refusal_unless None next = next
 
 abbrev text_refusal : List Def → Option Refusal
-text_refusal text = tabled_refusal text (why_unshaped text) (model_of text)
+text_refusal text = tabled_refusal text (why_unshaped text) (checked text)
 
 -- how definitions that end here are refused by the first of these phases that refuses them
 abbrev definitions_refusal : Place → List Def → Option Refusal
@@ -300,16 +324,16 @@ phase texts (untabled tokens definitions e lexed parsed none first) =
 phase texts (unshaped tokens definitions e lexed parsed none tabled why) =
     let failure = failure_is (gathered definitions) (end_of_all texts) None tabled in
     by_definitions tokens definitions lexed parsed
-    (λ i. refusal_unless (none i) (whole_refusal (failure i) (tabled_refusal (gathered definitions) (why i) (model_of (gathered definitions)))))
-phase texts (not_run tokens definitions lexed parsed none tabled shaped never) =
+    (λ i. refusal_unless (none i) (whole_refusal (failure i) (tabled_refusal (gathered definitions) (why i) (checked (gathered definitions)))))
+phase texts (unclosed tokens definitions e lexed parsed none tabled shaped why) =
     let failure = failure_is (gathered definitions) (end_of_all texts) None tabled in
     by_definitions tokens definitions lexed parsed
-    (λ i. refusal_unless (none i) (whole_refusal (failure i) (tabled_refusal (gathered definitions) (shaped i) (never i))))
+    (λ i. refusal_unless (none i) (whole_refusal (failure i) (tabled_refusal (gathered definitions) (shaped i) (why i))))
 
-runs_unrefused : (texts : List (List ℕ)) (m : Model) (p : AreModel texts m) → definitions_refusal (end_of_all texts) p.definitions ≡ None
-runs_unrefused texts m p =
+accepted_unrefused : (texts : List (List ℕ)) (m : Accepted) (p : AreAccepted texts m) → definitions_refusal (end_of_all texts) p.definitions ≡ None
+accepted_unrefused texts m p =
     let failure = failure_is (gathered p.definitions) (end_of_all texts) None p.tables in
-    λ i. refusal_unless (p.gathers i) (whole_refusal (failure i) (tabled_refusal (gathered p.definitions) (p.shapes i) (p.runs i)))
+    λ i. refusal_unless (p.gathers i) (whole_refusal (failure i) (tabled_refusal (gathered p.definitions) (p.shapes i) (p.closed i)))
 
 -- ---- texts are one model, or refused in one way
 
@@ -324,27 +348,32 @@ parsed_apart : (texts : List (List ℕ)) (tokens others : List (List Token)) (a 
 parsed_apart texts tokens others a end e p q m r =
     not_refused (joined texts others) a end e (subst (λ t. IsModel (joined texts t) a) (one_lexing texts 1 0 tokens others p q) m) r
 
--- what runs isn't refused
-run_apart : (end : Place) (a b : List Def) (refusal : Refusal) → a ≡ b → definitions_refusal end a ≡ None → definitions_refusal end b ≡ Some refusal → ⊥
-run_apart end a b refusal same none some = let both : None ≡ Some refusal = sym none ∙ (ap (definitions_refusal end) same ∙ some) in cc
+-- what is accepted isn't refused
+accepted_apart : (end : Place) (a b : List Def) (refusal : Refusal) → a ≡ b → definitions_refusal end a ≡ None → definitions_refusal end b ≡ Some refusal → ⊥
+accepted_apart end a b refusal same none some = let both : None ≡ Some refusal = sym none ∙ (ap (definitions_refusal end) same ∙ some) in cc
 
-pub one_model_of : (texts : List (List ℕ)) (a b : Model) → AreModel texts a → AreModel texts b → a ≡ b
-one_model_of texts a b p q =
+-- accepted texts of the same certificates and the same model
+one_accepted : (a b : Accepted) → a.certified ≡ b.certified → a.model ≡ b.model → a ≡ b
+one_accepted a b certified model = λ i. record { certified = certified i; model = model i }
+
+pub one_accepted_of : (texts : List (List ℕ)) (a b : Accepted) → AreAccepted texts a → AreAccepted texts b → a ≡ b
+one_accepted_of texts a b p q =
     let definitions : p.definitions ≡ q.definitions =
     same_definitions texts p.tokens q.tokens p.definitions q.definitions p.lexed q.lexed p.parsed q.parsed in
-    let both : Some a ≡ Some b = sym p.runs ∙ (ap (λ d. model_of (gathered d)) definitions ∙ q.runs) in
-    cc
+    let both : Ok a.certified ≡ Ok b.certified = sym p.closed ∙ (ap (λ d. checked (gathered d)) definitions ∙ q.closed) in
+    let certified : a.certified ≡ b.certified = cc in
+    one_accepted a b certified (p.runs ∙ (ap (λ d. model_of (gathered d)) definitions ∙ sym q.runs))
 
-apart : (texts : List (List ℕ)) (m : Model) (refusal : Refusal) → AreModel texts m → Refused texts refusal → ⊥
+apart : (texts : List (List ℕ)) (m : Accepted) (refusal : Refusal) → AreAccepted texts m → Refused texts refusal → ⊥
 apart texts m refusal p (by_tokens e h) = never_both texts 1 0 p.tokens e p.lexed h
 apart texts m refusal p (by_grammar tokens e lexed h) =
     parsed_apart texts p.tokens tokens p.definitions (end_of_all texts) e p.lexed lexed p.parsed h
 apart texts m refusal p (by_definitions tokens definitions lexed parsed some) =
-    run_apart (end_of_all texts) p.definitions definitions refusal (same_definitions texts p.tokens tokens p.definitions definitions p.lexed lexed p.parsed parsed)
-    (runs_unrefused texts m p) some
+    accepted_apart (end_of_all texts) p.definitions definitions refusal (same_definitions texts p.tokens tokens p.definitions definitions p.lexed lexed p.parsed parsed)
+    (accepted_unrefused texts m p) some
 
-pub model_not_refused : (texts : List (List ℕ)) (m : Model) (refusal : Refusal) → AreModel texts m → IsRefusal texts refusal → ⊥
-model_not_refused texts m refusal p h = apart texts m refusal p (phase texts h)
+pub accepted_not_refused : (texts : List (List ℕ)) (m : Accepted) (refusal : Refusal) → AreAccepted texts m → IsRefusal texts refusal → ⊥
+accepted_not_refused texts m refusal p h = apart texts m refusal p (phase texts h)
 
 -- definitions of the same texts are refused in one way
 one_later : (end : Place) (a b : List Def) (r other : Refusal) → a ≡ b → definitions_refusal end a ≡ Some r → definitions_refusal end b ≡ Some other

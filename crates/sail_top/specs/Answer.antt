@@ -1,5 +1,6 @@
 -- What the program answers to its words, over the files that are held.
 use Rattle.std.specs.Prelude.{◌≡◌, ℕ, List, [], ◌∷◌, ◌++◌, ◌⊎◌, Option, Some, None}
+use Rattle.bidir_check.specs.Printed.{accepted_text, certificates_text}
 use Rattle.sail_base.specs.declared.refusal.Refusal.{Refusal}
 use Rattle.sail_base.specs.declared.elf_refusal.ElfRefusal.{ElfRefusal}
 use Rattle.sail_outside.specs.Files.{Files}
@@ -7,12 +8,16 @@ use Rattle.elf_load.specs.Placed.{place_refusal}
 use Rattle.elf_load.specs.Reading.{elf_refusal, image_of}
 use Rattle.elf_load.specs.declared.image.Image.{Image}
 use Rattle.sail_words.specs.Line.{line_of}
+use Rattle.sail_words.specs.declared.command.Command.{Command}
+use Rattle.sail_words.specs.declared.command.Command.TheVariants as C
 use Rattle.sail_words.specs.declared.run.Run.{Run}
 use Rattle.sail_fragment.specs.declared.model.Model.{Model}
 use Rattle.sail_top.specs.Lines.{usage_line, no_file_line, too_long_line, refusal_line, elf_line}
-use Rattle.sail_top.specs.Models.{AreModel, IsRefusal}
+use Rattle.sail_top.specs.Models.{AreAccepted, IsRefusal}
 use Rattle.sail_top.specs.Reading.{ReadEnd, whole, absent, long, Contents, contents_at, wanted_by, reading}
+use Rattle.sail_top.specs.Refusals.{outside}
 use Rattle.sail_top.specs.Run.{ram, run_text}
+use Rattle.sail_top.specs.declared.models.Accepted.{Accepted}
 use Rattle.sail_top.specs.declared.status.Answer.{Answer}
 use Rattle.sail_top.specs.declared.status.Status.TheVariants as status
 
@@ -44,16 +49,43 @@ image_unless command model image None = image_answer command model image
 abbrev pub answer_for : Run → Model → List ℕ → Answer
 answer_for command model file = image_unless command model (image_of file) (elf_refusal file None)
 
--- the answer for the models' texts and the program's file
-abbrev pub Judges : Run → List (List ℕ) → List ℕ → Answer → Type 0
-Judges command texts file answer =
-    ((refusal : Refusal) × IsRefusal texts refusal × (answer ≡ model_refused refusal))
-    ⊎ ((model : Model) × AreModel texts model × (answer ≡ answer_for command model file))
+-- `run` refuses a model that doesn't run today, and it alone does
+abbrev pub answer_if : Run → Option Model → List ℕ → Answer
+answer_if command None file = model_refused outside
+answer_if command (Some model) file = answer_for command model file
 
--- the answer where all files are read: the models' texts, and the program's file behind them
-abbrev pub AnswersFiles : Run → List (List ℕ) → Answer → Type 0
-AnswersFiles command files answer =
-    (texts : List (List ℕ)) × (file : List ℕ) × (files ≡ texts ++ file ∷ []) × Judges command texts file answer
+-- the answer of `run` for an accepted model and a program's file
+abbrev pub run_answer : Run → List ℕ → Accepted → Answer
+run_answer command file made = answer_if command made.model file
+
+-- a text is told
+abbrev pub told : List ℕ → Answer
+told bytes = record { status = status.Done; bytes = bytes }
+
+-- the answer of `check` for an accepted model: its counts
+abbrev pub check_answer : Accepted → Answer
+check_answer made = told (accepted_text made.certified)
+
+-- the answer of `certs` for an accepted model: its obligations with their certificates
+abbrev pub certs_answer : Accepted → Answer
+certs_answer made = told (certificates_text made.certified)
+
+-- the answer for the models' texts, by that for an accepted model
+abbrev pub Judges : (Accepted → Answer) → List (List ℕ) → Answer → Type 0
+Judges answer_of texts answer =
+    ((refusal : Refusal) × IsRefusal texts refusal × (answer ≡ model_refused refusal))
+    ⊎ ((made : Accepted) × AreAccepted texts made × (answer ≡ answer_of made))
+
+-- the answer of `run` where all files are read: the models' texts, and the program's file behind them
+abbrev pub RunsFiles : Run → List (List ℕ) → Answer → Type 0
+RunsFiles command files answer =
+    (texts : List (List ℕ)) × (file : List ℕ) × (files ≡ texts ++ file ∷ []) × Judges (run_answer command file) texts answer
+
+-- the answer to a command where all files are read; those of `check` and `certs` are the models' texts
+abbrev pub AnswersFiles : Command → List (List ℕ) → Answer → Type 0
+AnswersFiles (C.Run command) files answer = RunsFiles command files answer
+AnswersFiles (C.Check models) files answer = Judges check_answer files answer
+AnswersFiles (C.Certs models) files answer = Judges certs_answer files answer
 
 -- the file of this number isn't held
 abbrev pub no_file : ℕ → List ℕ → Answer
@@ -68,22 +100,22 @@ abbrev pub usage : Answer
 usage = record { status = status.Usage; bytes = usage_line }
 
 -- the answer to a command, by how the reading of its files ends
-abbrev pub AnswersEnd : Run → ReadEnd → Answer → Type 0
+abbrev pub AnswersEnd : Command → ReadEnd → Answer → Type 0
 AnswersEnd command (absent number name) answer = answer ≡ no_file number name
 AnswersEnd command (long number name limit) answer = answer ≡ too_long number name limit
 AnswersEnd command (whole files) answer = AnswersFiles command files answer
 
 -- the answer to a command, over what is held at its files
-abbrev pub AnswersOver : Run → Contents → Answer → Type 0
+abbrev pub AnswersOver : Command → Contents → Answer → Type 0
 AnswersOver command contents answer = AnswersEnd command (reading 0 (wanted_by command) contents) answer
 
 -- the answer to a command over the files that are held; where these aren't told, over some contents
-abbrev pub AnswersCommand : Run → Option Files → Answer → Type 0
+abbrev pub AnswersCommand : Command → Option Files → Answer → Type 0
 AnswersCommand command (Some files) answer = AnswersOver command (contents_at files (wanted_by command)) answer
 AnswersCommand command None answer = (contents : Contents) × AnswersOver command contents answer
 
 -- the answer to what the words say, likewise
-abbrev pub AnswersLine : Option Run → Option Files → Answer → Type 0
+abbrev pub AnswersLine : Option Command → Option Files → Answer → Type 0
 AnswersLine None held answer = answer ≡ usage
 AnswersLine (Some command) held answer = AnswersCommand command held answer
 

@@ -3,7 +3,7 @@ use Rattle.std.specs.Prelude.{◌≡◌, ℕ, List, Option, Some, None}
 use Rattle.sail_outside.specs.Files.{Files}
 use Rattle.sail_outside.specs.Bytes.{Sent, SentPart}
 use Rattle.sail_top.specs.Answer.{IsAnswer}
-use Rattle.sail_words.specs.declared.run.Run.{Run}
+use Rattle.sail_words.specs.declared.command.Command.{Command}
 use Rattle.sail_top.specs.Reading.{IsLeft, contents_at, wanted_by, reading}
 use Rattle.sail_top.specs.declared.status.Answer.{Answer}
 use Rattle.sail_top.specs.declared.status.Status.{Status}
@@ -33,10 +33,10 @@ Completes answer status.WriteFault given now = SentPart given answer.bytes now
 Completes answer status.ReadFault given now = now ≡ given
 Completes answer ended given now = (ended ≡ answer.status) × Sent given answer.bytes now
 
--- what is left of the files of a run, where they are told and were read
-abbrev pub Leaves : Option Run → Option Files → Option (List ℕ) → Type 0
+-- what is left of the files of a command, where they are told and were read
+abbrev pub Leaves : Option Command → Option Files → Option (List ℕ) → Type 0
 Leaves None held left = Unit {0}
-Leaves (Some run) None left = Unit {0}
-Leaves (Some run) (Some files) left =
-    let wanted = wanted_by run in
+Leaves (Some command) None left = Unit {0}
+Leaves (Some command) (Some files) left =
+    let wanted = wanted_by command in
     IsLeft (contents_at files wanted) (reading 0 wanted (contents_at files wanted)) left

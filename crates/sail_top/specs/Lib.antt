@@ -1,5 +1,6 @@
 -- what a reader of the crate's promises believes
 pub mod Answer
+pub mod Checked
 pub mod Ending
 pub mod Exit
 pub mod Lines

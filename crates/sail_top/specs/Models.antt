@@ -1,9 +1,9 @@
--- What the models' texts are: one model that runs, or a refusal by the first phase that refuses them.
-use Rattle.std.specs.Prelude.{◌≡◌, ℕ, ◌+◌, List, [], ◌∷◌, ◌++◌, Some, None}
+-- What the models' texts are: an accepted model, or a refusal by the first phase that refuses them.
+use Rattle.std.specs.Prelude.{◌≡◌, ℕ, ◌+◌, List, [], ◌∷◌, ◌++◌, Some, None, Ok, Err}
+use Rattle.bidir_check.specs.declared.error.CheckError.{CheckError}
 use Rattle.sail_base.specs.declared.place.Place.{Place}
 use Rattle.sail_base.specs.declared.refusal.Refusal.{Refusal}
 use Rattle.sail_fragment.specs.Fragment.{model_of}
-use Rattle.sail_fragment.specs.declared.model.Model.{Model}
 use Rattle.sail_grammar.specs.Joined.{with_texts}
 use Rattle.sail_grammar.specs.Leaves.{nowhere}
 use Rattle.sail_grammar.specs.Model.{IsModel, IsRefused}
@@ -20,8 +20,10 @@ use Rattle.scattered.specs.declared.error.ScatterError.{ScatterError}
 use Rattle.model_tokens.specs.Files.{AreLexed, AreRefused}
 use Rattle.sail_tables.specs.Refused.{IsFirstFailure, IsAccepted}
 use Rattle.shape_rules.specs.declared.error.ShapeError.{ShapeError}
-use Rattle.sail_top.specs.Refusals.{token_refusal, parse_refusal, gather_refusal, table_refusal, outside}
+use Rattle.sail_top.specs.Checked.{checked}
+use Rattle.sail_top.specs.Refusals.{token_refusal, parse_refusal, gather_refusal, table_refusal, check_refusal}
 use Rattle.sail_top.specs.Shaped.{why_unshaped, shape_refusal_in}
+use Rattle.sail_top.specs.declared.models.Accepted.{Accepted}
 
 -- the tokens of texts, one text behind another, each with its spelling
 abbrev pub joined : List (List ℕ) → List (List Token) → List Sign
@@ -37,9 +39,9 @@ last_end place file (text ∷ texts) = last_end (end_of file text) (file + 1) te
 abbrev pub end_of_all : List (List ℕ) → Place
 end_of_all texts = last_end nowhere 1 texts
 
--- the texts have tokens, these are the definitions of a model, they can be gathered, gathered they have tables and shapes, and they
--- are this model, which runs today
-pub record AreModel (texts : List (List ℕ)) (model : Model) : Type 0 where
+-- the texts have tokens, these are the definitions of a model, they can be gathered, gathered they have tables and shapes, each of their
+-- obligations is closed, with these certificates, and they are this model that runs today, if any
+pub record AreAccepted (texts : List (List ℕ)) (made : Accepted) : Type 0 where
   pub tokens : List (List Token)
   pub lexed : AreLexed 1 0 texts tokens
   pub definitions : List Def
@@ -47,11 +49,12 @@ pub record AreModel (texts : List (List ℕ)) (model : Model) : Type 0 where
   pub gathers : why_ungathered definitions ≡ None
   pub tables : IsAccepted (gathered definitions) (end_of_all texts)
   pub shapes : why_unshaped (gathered definitions) ≡ None
-  pub runs : model_of (gathered definitions) ≡ Some model
+  pub closed : checked (gathered definitions) ≡ Ok made.certified
+  pub runs : made.model ≡ model_of (gathered definitions)
 
 -- the texts are refused: a text has no tokens; or all have, and these are no model; or they are one, and its definitions
 -- can't be gathered; or they can, and gathered they have no tables, for this first failure; or they have, and their shapes fail, and
--- this is the first failure; or none does, and they are no model that runs today
+-- this is the first failure; or none does, and this is their first obligation that isn't closed
 pub data IsRefusal (texts : List (List ℕ)) : Refusal → Type 0 where
   unlexed : (e : LexError) → AreRefused 1 0 texts e → IsRefusal texts (token_refusal e)
   unparsed : (tokens : List (List Token)) (e : ParseError) → AreLexed 1 0 texts tokens →
@@ -65,7 +68,7 @@ pub data IsRefusal (texts : List (List ℕ)) : Refusal → Type 0 where
       IsModel (joined texts tokens) definitions → why_ungathered definitions ≡ None →
       IsAccepted (gathered definitions) (end_of_all texts) → why_unshaped (gathered definitions) ≡ Some e →
       IsRefusal texts (shape_refusal_in (gathered definitions) e)
-  not_run : (tokens : List (List Token)) (definitions : List Def) → AreLexed 1 0 texts tokens →
+  unclosed : (tokens : List (List Token)) (definitions : List Def) (e : CheckError) → AreLexed 1 0 texts tokens →
       IsModel (joined texts tokens) definitions → why_ungathered definitions ≡ None →
       IsAccepted (gathered definitions) (end_of_all texts) → why_unshaped (gathered definitions) ≡ None →
-      model_of (gathered definitions) ≡ None → IsRefusal texts outside
+      checked (gathered definitions) ≡ Err e → IsRefusal texts (check_refusal e)

@@ -1,8 +1,9 @@
--- The files that a run reads, each whole, and how the reading of them ends.
+-- The files that a command reads, each whole, and how the reading of them ends.
 use Rattle.std.specs.Prelude.{◌≡◌, ℕ, ◌+◌, nat_le, if◌then◌else◌, List, [], ◌∷◌, ◌++◌, length, map, drop, slice_get, Option, Some, None}
 use Rattle.sail_outside.specs.Files.{Files, lookup}
 use Rattle.sail_outside.specs.Bytes.{IsUsedUp}
-use Rattle.sail_words.specs.declared.run.Run.{Run}
+use Rattle.sail_words.specs.declared.command.Command.{Command}
+use Rattle.sail_words.specs.declared.command.Command.TheVariants as C
 
 -- a file that is wanted: its name, and how many bytes it may have
 pub record Wanted : Type 0 where
@@ -15,9 +16,11 @@ wanted_model name = record { name = name; limit = 4194304 }
 abbrev pub wanted_elf : List ℕ → Wanted
 wanted_elf name = record { name = name; limit = 67108864 }
 
--- the files of a run in the order of reading: the models in the order of the words, then the program
-abbrev pub wanted_by : Run → List Wanted
-wanted_by run = map wanted_model run.models ++ wanted_elf run.elf ∷ []
+-- the files of a command in the order of reading: the models in the order of the words, then the program, which `run` alone has
+abbrev pub wanted_by : Command → List Wanted
+wanted_by (C.Run run) = map wanted_model run.models ++ wanted_elf run.elf ∷ []
+wanted_by (C.Check models) = map wanted_model models
+wanted_by (C.Certs models) = map wanted_model models
 
 -- what is held at each file of a list: its bytes, or nothing
 abbrev pub Contents : Type 0

@@ -2,6 +2,9 @@
 use Rattle.std.specs.Prelude.{ℕ, List, [], ◌∷◌, ◌++◌, codes, Option, Some, None}
 use Rattle.std.specs.Fmt.{decimal}
 use Rattle.hex.specs.Hex.{encode_lower}
+use Rattle.bidir_check.specs.declared.error.CheckError.{CheckError}
+use Rattle.bidir_check.specs.declared.error.CheckError.TheVariants as check
+use Rattle.obligations.specs.Texts.{point_text, limit_text}
 use Rattle.sail_base.specs.declared.kind.Kind.{Kind}
 use Rattle.sail_base.specs.declared.kind.Kind.TheVariants as kind
 use Rattle.sail_base.specs.declared.place.Place.{Place}
@@ -95,3 +98,10 @@ shape_refusal types names (shape.NoMember place name) = refusal 16 place name
 shape_refusal types names (shape.NoNumber place name) = refusal 17 place name
 shape_refusal types names (shape.WidthUnknown place) = refusal 18 place []
 shape_refusal types names shape.OutOfMemory = outside
+
+-- the refusal of a model of which an obligation isn't closed: by the point at which it doesn't hold, as far as elimination tells, or by
+-- the limit that elimination passes; want of memory refuses no model
+abbrev pub check_refusal : CheckError → Refusal
+check_refusal (check.Open place names point) = refusal 20 place (point_text names point)
+check_refusal (check.Limit place names limit) = refusal 21 place (limit_text names limit)
+check_refusal check.OutOfMemory = outside

@@ -1,4 +1,5 @@
 pub mod Borrowed
+pub mod Cycles
 pub mod Finished
 pub mod Short
 pub mod Told

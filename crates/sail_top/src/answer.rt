@@ -4,15 +4,17 @@ ghost use Rattle.elf_load.specs.Placed.{Fits};
 ghost use Rattle.sail_fragment.specs.Fragment.{is_well_formed};
 ghost use Rattle.std.specs.List.{All};
 ghost use Rattle.model_tokens.specs.Files.{IsShort};
-ghost use Rattle.sail_words.specs.Line.{IsWithinLimits};
-ghost use Rattle.sail_top.specs.parts.Short.{AreShortButLast};
+ghost use Rattle.sail_words.specs.Line.{IsAllowed, IsWithinLimits};
+ghost use Rattle.sail_top.specs.parts.Short.{AreShortButLast, AreShortFor};
 ghost use Rattle.sail_top.specs.Answer as spec;
 ghost use Rattle.sail_top.specs.Ending.{Leaves};
+ghost use Rattle.sail_top.specs.Reading.{wanted_by};
 ghost use Rattle.sail_top.specs.parts.Unread.{AnswersUnread};
 
 use crate::lines::{elf_line, named_line, refusal_line};
-use crate::models::{ModelError, read_models};
+use crate::models::{Accepted, ModelError, read_models};
 use crate::reading::{Unread, read_files, wanted_by};
+use crate::refusals::outside;
 use crate::run::run_text;
 use crate::status::{Answer, Status};
 use elf_load::{ElfError, Image, place, read_elf};
@@ -20,7 +22,7 @@ use mem_store::{Flat, Memory};
 use sail_base::{ElfRefusal, Items, Refusal};
 use sail_fragment::Model;
 use sail_outside::{ReadError, Shelf};
-use sail_words::Run;
+use sail_words::{Command, Run};
 use std::alloc::{AllocError, Global};
 
 /// Why there is no answer.
@@ -43,14 +45,14 @@ impl From<AllocError> for Unanswered {
     }
 }
 
-/// The answer to a command: its files are read whole, the models and then the program, and the first
+/// The answer to a command: its files are read whole, the models and then the program of `run`, and the first
 /// that isn't held or is too long decides.
 pub fn answer_command<S: Shelf>(
     alloc: Global,
-    command: &Run,
+    command: &Command,
     shelf: &mut S,
 ) -> Result<Answer, Unanswered>
-    requires { IsWithinLimits command.now }
+    requires { IsAllowed command.now }
     ensures answer { IfOk result (spec.AnswersCommand command.now (S.holds shelf.old)) }
     ensures left { IfOk result (λ _. Leaves (Some command.now) (S.holds shelf.old) (S.left shelf.new)) }
     ensures fault { result ≡ Err Unanswered.Fault → Rose (S.faults shelf.old) (S.faults shelf.new) }
@@ -91,8 +93,26 @@ fn answer_unread(alloc: Global, unread: Unread<'_>) -> Result<Answer, Unanswered
     }
 }
 
-/// The answer where all files are read: the models' texts, and the program's file behind them.
+/// The answer where all files are read: the models' texts, and behind them the program's file of `run`.
 fn answer_files(
+    alloc: Global,
+    command: &Command,
+    files: Items<Items<u8>>,
+) -> Result<Answer, AllocError>
+    requires allowed { IsAllowed command.now }
+    requires count { length files ≡ length (wanted_by command.now) }
+    requires short { AreShortFor command.now files }
+    ensures { IfOk result (spec.AnswersFiles command.now files) }
+{
+    match command {
+        Command::Run(run) => answer_run(alloc, run, files),
+        Command::Check(_) => judge_counts(alloc, files.as_slice()),
+        Command::Certs(_) => judge_certificates(alloc, files.as_slice()),
+    }
+}
+
+/// The answer of `run` where all files are read: the models' texts, and the program's file behind them.
+fn answer_run(
     alloc: Global,
     command: &Run,
     mut files: Items<Items<u8>>,
@@ -101,7 +121,7 @@ fn answer_files(
     requires some { 0 < length files }
     requires few { length files ≤ 65 }
     requires short { AreShortButLast files }
-    ensures { IfOk result (spec.AnswersFiles command.now files) }
+    ensures { IfOk result (spec.RunsFiles command.now files) }
 {
     let Some(file) = files.pop() else {
         unreachable!()
@@ -109,7 +129,7 @@ fn answer_files(
     judge(alloc, command, files.as_slice(), file.as_slice())
 }
 
-/// The answer for the models' texts and the program's file.
+/// The answer of `run` for the models' texts and the program's file.
 fn judge(
     alloc: Global,
     command: &Run,
@@ -119,12 +139,87 @@ fn judge(
     requires limits { IsWithinLimits command.now }
     requires few { length texts.now ≤ 64 }
     requires short { All IsShort texts.now }
-    ensures { IfOk result (spec.Judges command.now texts.now file.now) }
+    ensures { IfOk result (spec.Judges (spec.run_answer command.now file.now) texts.now) }
 {
     match read_models(alloc, texts) {
-        Ok(model) => judge_file(alloc, command, model, file),
+        Ok(made) => run_accepted(alloc, command, made, file),
         Err(ModelError::Refused(refusal)) => refuse_model(alloc, refusal),
         Err(ModelError::OutOfMemory) => Err(AllocError),
+    }
+}
+
+/// The answer of `check` for the models' texts.
+fn judge_counts(alloc: Global, texts: &[Items<u8>]) -> Result<Answer, AllocError>
+    requires few { length texts.now ≤ 64 }
+    requires short { All IsShort texts.now }
+    ensures { IfOk result (spec.Judges spec.check_answer texts.now) }
+{
+    match read_models(alloc, texts) {
+        Ok(made) => tell_counts(alloc, made),
+        Err(ModelError::Refused(refusal)) => refuse_model(alloc, refusal),
+        Err(ModelError::OutOfMemory) => Err(AllocError),
+    }
+}
+
+/// The answer of `certs` for the models' texts.
+fn judge_certificates(alloc: Global, texts: &[Items<u8>]) -> Result<Answer, AllocError>
+    requires few { length texts.now ≤ 64 }
+    requires short { All IsShort texts.now }
+    ensures { IfOk result (spec.Judges spec.certs_answer texts.now) }
+{
+    match read_models(alloc, texts) {
+        Ok(made) => tell_certificates(alloc, made),
+        Err(ModelError::Refused(refusal)) => refuse_model(alloc, refusal),
+        Err(ModelError::OutOfMemory) => Err(AllocError),
+    }
+}
+
+/// The answer of `check` for an accepted model.
+fn tell_counts(alloc: Global, made: Accepted) -> Result<Answer, AllocError>
+    ensures { IfOk result (λ answer. answer ≡ spec.check_answer made) }
+{
+    let mut bytes = Vec::new(alloc);
+    made.certified.push_counts(&mut bytes)?;
+    Ok(told(bytes))
+}
+
+/// The answer of `certs` for an accepted model.
+fn tell_certificates(alloc: Global, made: Accepted) -> Result<Answer, AllocError>
+    ensures { IfOk result (λ answer. answer ≡ spec.certs_answer made) }
+{
+    let mut bytes = Vec::new(alloc);
+    made.certified.push_certificates(&mut bytes)?;
+    Ok(told(bytes))
+}
+
+/// The answer that is a text.
+fn told(bytes: Vec<u8>) -> Answer
+    ensures { result ≡ spec.told bytes.items }
+{
+    Answer {
+        status: Status::Done,
+        bytes: Items::from_vec(bytes),
+    }
+}
+
+/// The answer of `run` for an accepted model and a program's file. A model that doesn't run today is refused.
+fn run_accepted(
+    alloc: Global,
+    command: &Run,
+    made: Accepted,
+    file: &[u8],
+) -> Result<Answer, AllocError>
+    requires limits { IsWithinLimits command.now }
+    requires well_formed { IfSome made.model (λ model. is_well_formed model ≡ true) }
+    ensures { IfOk result (λ answer. answer ≡ spec.run_answer command.now file.now made) }
+{
+    let Accepted {
+        certified: _,
+        model,
+    } = made;
+    match model {
+        Some(model) => judge_file(alloc, command, model, file),
+        None => refuse_model(alloc, outside(alloc)?),
     }
 }
 

@@ -1,5 +1,5 @@
-//! From the models' texts to the model that runs.
-ghost use Rattle.std.specs.Prelude.{◌≡◌, ◌≤◌, IfErr, IfOk, List, Some, length, true};
+//! From the models' texts to an accepted model.
+ghost use Rattle.std.specs.Prelude.{◌≡◌, ◌≤◌, IfErr, IfOk, IfSome, List, length, true};
 ghost use Rattle.std.specs.List.{All};
 ghost use Rattle.model_tokens.specs.Files.{IsShort};
 ghost use Rattle.sail_fragment.specs.Fragment.{is_well_formed, model_of};
@@ -8,14 +8,17 @@ ghost use Rattle.sail_grammar.specs.Leaves.{nowhere};
 ghost use Rattle.sail_base.specs.declared.place.Place.{Place as APlace};
 ghost use Rattle.sail_syntax.specs.declared.definitions.Def.{Def as ADef};
 ghost use Rattle.sail_tables.specs.Tabled.{AreTables};
-ghost use Rattle.sail_top.specs.Models.{AreModel};
-ghost use Rattle.sail_top.specs.parts.Told.{GathersAs, RunsAs, ShapedAs, TabledAs, Tells};
-ghost use Rattle.sail_top.specs.parts.Told.{TellsNotRun, TellsOfDefinitions, TellsOfTabled, TellsOfTokens, TellsOfWhole};
+ghost use Rattle.sail_top.specs.Models.{AreAccepted};
+ghost use Rattle.sail_top.specs.parts.Told.{ClosedAs, GathersAs, IsCoreOf, ParsesAs, ShapedAs, TabledAs, Tells};
+ghost use Rattle.sail_top.specs.parts.Told.{TellsOfDefinitions, TellsOfShaped, TellsOfTabled, TellsOfTokens, TellsOfWhole};
 
-use crate::refusals::{gather_refusal, outside, parse_refusal, table_refusal, token_refusal};
+use crate::checking::{check_core, check_refusal};
+use crate::refusals::{gather_refusal, parse_refusal, table_refusal, token_refusal};
 use crate::shape_refusals::shape_refusal;
+use bidir_check::Certified;
 use model_tokens::lex_files;
 use sail_base::{Items, Place, Refusal};
+use sail_core::CoreModel;
 use sail_fragment::{Model, read_model};
 use sail_lex::Tokens;
 use sail_parse_def::parse_model;
@@ -25,7 +28,16 @@ use scattered::gather;
 use shapes::resolve;
 use std::alloc::{AllocError, Global};
 
-/// Why there is no model.
+/// What accepted texts are.
+#[derive(Drop)]
+pub struct Accepted {
+    /// Their core with its obligations, and a certificate for each.
+    pub certified: Certified,
+    /// The model, where they are one that runs today.
+    pub model: Option<Model>,
+}
+
+/// Why texts aren't accepted.
 #[derive(Debug, Drop)]
 pub enum ModelError {
     /// The texts are refused.
@@ -45,13 +57,13 @@ impl From<AllocError> for ModelError {
     }
 }
 
-/// The model that texts are, which runs today. The first phase that refuses them decides: their tokens,
-/// the grammar, the gathering of what is written in parts, the tables, the shapes, and the conditions on what runs.
-pub fn read_models(alloc: Global, texts: &[Items<u8>]) -> Result<Model, ModelError>
+/// What texts are that are accepted. The first phase that refuses them decides: their tokens,
+/// the grammar, the gathering of what is written in parts, the tables, the shapes, and the obligations.
+pub fn read_models(alloc: Global, texts: &[Items<u8>]) -> Result<Accepted, ModelError>
     requires few { length texts.now ≤ 64 }
     requires short { All IsShort texts.now }
-    ensures model { IfOk result (AreModel texts.now) }
-    ensures well_formed { IfOk result (λ model. is_well_formed model ≡ true) }
+    ensures accepted { IfOk result (AreAccepted texts.now) }
+    ensures well_formed { IfOk result (λ made. IfSome made.model (λ model. is_well_formed model ≡ true)) }
     ensures refused { IfErr result (Tells texts.now) }
 {
     match lex_files(alloc, texts) {
@@ -60,11 +72,11 @@ pub fn read_models(alloc: Global, texts: &[Items<u8>]) -> Result<Model, ModelErr
     }
 }
 
-/// The model that the tokens of files are.
-fn read_files(alloc: Global, files: &[Tokens<'_>]) -> Result<Model, ModelError>
+/// What files are, by their tokens.
+fn read_files(alloc: Global, files: &[Tokens<'_>]) -> Result<Accepted, ModelError>
     requires { All HaveTexts files.now }
-    ensures model { IfOk result (RunsAs (joined files.now) (end_from nowhere files.now)) }
-    ensures well_formed { IfOk result (λ model. is_well_formed model ≡ true) }
+    ensures accepted { IfOk result (ParsesAs (joined files.now) (end_from nowhere files.now)) }
+    ensures well_formed { IfOk result (λ made. IfSome made.model (λ model. is_well_formed model ≡ true)) }
     ensures refused { IfErr result (TellsOfTokens (joined files.now) (end_from nowhere files.now)) }
 {
     match parse_model(alloc, files) {
@@ -88,10 +100,14 @@ fn last_end(files: &[Tokens<'_>]) -> Place
     end
 }
 
-/// The model that definitions are, once they are gathered. The last file ends here.
-fn gather_definitions(alloc: Global, definitions: Vec<Def>, end: Place) -> Result<Model, ModelError>
-    ensures model { IfOk result (GathersAs definitions.items end) }
-    ensures well_formed { IfOk result (λ model. is_well_formed model ≡ true) }
+/// What definitions are, once they are gathered. The last file ends here.
+fn gather_definitions(
+    alloc: Global,
+    definitions: Vec<Def>,
+    end: Place,
+) -> Result<Accepted, ModelError>
+    ensures accepted { IfOk result (GathersAs definitions.items end) }
+    ensures well_formed { IfOk result (λ made. IfSome made.model (λ model. is_well_formed model ≡ true)) }
     ensures refused { IfErr result (TellsOfDefinitions definitions.items end) }
 {
     match gather(alloc, definitions) {
@@ -100,10 +116,10 @@ fn gather_definitions(alloc: Global, definitions: Vec<Def>, end: Place) -> Resul
     }
 }
 
-/// The model that gathered definitions are, once they have tables. The last file ends here.
-fn table_definitions(alloc: Global, definitions: &[Def], end: Place) -> Result<Model, ModelError>
-    ensures model { IfOk result (TabledAs definitions.now end) }
-    ensures well_formed { IfOk result (λ model. is_well_formed model ≡ true) }
+/// What gathered definitions are, once they have tables. The last file ends here.
+fn table_definitions(alloc: Global, definitions: &[Def], end: Place) -> Result<Accepted, ModelError>
+    ensures accepted { IfOk result (TabledAs definitions.now end) }
+    ensures well_formed { IfOk result (λ made. IfSome made.model (λ model. is_well_formed model ≡ true)) }
     ensures refused { IfErr result (TellsOfWhole definitions.now end) }
 {
     match tables(alloc, definitions, end) {
@@ -112,26 +128,33 @@ fn table_definitions(alloc: Global, definitions: &[Def], end: Place) -> Result<M
     }
 }
 
-/// The model that definitions are which have these tables, once they have shapes.
-fn shape_definitions(alloc: Global, tables: Tables<'_>) -> Result<Model, ModelError>
-    ensures model { (text : List ADef) (end : APlace) → AreTables text end tables.entry → IfOk result (ShapedAs text) }
-    ensures well_formed { IfOk result (λ model. is_well_formed model ≡ true) }
+/// What definitions are which have these tables, once they have shapes.
+fn shape_definitions(alloc: Global, tables: Tables<'_>) -> Result<Accepted, ModelError>
+    ensures accepted { (text : List ADef) (end : APlace) → AreTables text end tables.entry → IfOk result (ShapedAs text) }
+    ensures well_formed { IfOk result (λ made. IfSome made.model (λ model. is_well_formed model ≡ true)) }
     ensures refused { (text : List ADef) (end : APlace) → AreTables text end tables.entry → IfErr result (TellsOfTabled text) }
 {
     match resolve(alloc, &tables) {
-        Ok(_) => run_definitions(alloc, tables.definitions),
+        Ok(core) => check_definitions(alloc, tables.definitions, core),
         Err(error) => Err(ModelError::Refused(shape_refusal(alloc, tables, error)?)),
     }
 }
 
-/// The model that gathered definitions are.
-fn run_definitions(alloc: Global, definitions: &[Def]) -> Result<Model, ModelError>
-    ensures model { IfOk result (λ model. model_of definitions.now ≡ Some model) }
-    ensures well_formed { IfOk result (λ model. is_well_formed model ≡ true) }
-    ensures refused { IfErr result (TellsNotRun definitions.now) }
+/// What definitions are which have this core, once their obligations are closed.
+fn check_definitions(
+    alloc: Global,
+    definitions: &[Def],
+    core: CoreModel,
+) -> Result<Accepted, ModelError>
+    ensures accepted { IsCoreOf definitions.now core → IfOk result (ClosedAs definitions.now) }
+    ensures well_formed { IfOk result (λ made. IfSome made.model (λ model. is_well_formed model ≡ true)) }
+    ensures refused { IsCoreOf definitions.now core → IfErr result (TellsOfShaped definitions.now) }
 {
-    match read_model(alloc, definitions)? {
-        Some(model) => Ok(model),
-        None => Err(ModelError::Refused(outside(alloc)?)),
+    match check_core(alloc, core) {
+        Ok(certified) => {
+            let model = read_model(alloc, definitions)?;
+            Ok(Accepted { certified, model })
+        }
+        Err(error) => Err(ModelError::Refused(check_refusal(alloc, &error)?)),
     }
 }

@@ -1,12 +1,12 @@
-ghost use Rattle.std.specs.Prelude.{◌≡◌, ◌<◌, ◌≤◌, length, map, IfOk, IfErr};
+ghost use Rattle.std.specs.Prelude.{◌≡◌, ◌<◌, ◌≤◌, ◌++◌, ◌∷◌, [], length, map, IfOk, IfErr};
 ghost use Rattle.sail_top.specs.Reading as spec;
 ghost use Rattle.sail_top.specs.Reading.{whole};
 ghost use Rattle.sail_top.specs.parts.Borrowed.{as_wanted};
 ghost use Rattle.sail_top.specs.parts.Unread.{Ends, StopsAt};
 
-use sail_base::Items;
+use sail_base::{Items, Text};
 use sail_outside::{ReadError, Shelf, read_file};
-use sail_words::Run;
+use sail_words::{Command, Run};
 use std::alloc::{AllocError, Global};
 
 // How many bytes a model may have.
@@ -34,22 +34,42 @@ pub struct Unread<'a> {
     pub error: ReadError,
 }
 
-/// The files of a run in the order of reading: the models in the order of the words, then the program.
-pub fn wanted_by(alloc: Global, command: &Run) -> Result<Vec<Wanted<'_>>, AllocError>
-    ensures { IfOk result (λ files. map as_wanted files.items ≡ spec.wanted_by command.now) }
+/// The files of models, in their order.
+fn wanted_models(alloc: Global, models: &[Text]) -> Result<Vec<Wanted<'_>>, AllocError>
+    ensures { IfOk result (λ files. map as_wanted files.items ≡ map spec.wanted_model models.now) }
 {
     let mut files = Vec::new(alloc);
-    for name in command.models.as_slice() {
+    for name in models {
         files.push(Wanted {
             name: name.as_str(),
             limit: MODEL_LIMIT,
         })?;
     }
+    Ok(files)
+}
+
+/// The files of a run in the order of reading: the models in the order of the words, then the program.
+fn wanted_by_run(alloc: Global, run: &Run) -> Result<Vec<Wanted<'_>>, AllocError>
+    ensures { IfOk result (λ files. map as_wanted files.items
+        ≡ map spec.wanted_model run.now.models ++ spec.wanted_elf run.now.elf ∷ []) }
+{
+    let mut files = wanted_models(alloc, run.models.as_slice())?;
     files.push(Wanted {
-        name: command.elf.as_str(),
+        name: run.elf.as_str(),
         limit: ELF_LIMIT,
     })?;
     Ok(files)
+}
+
+/// The files of a command in the order of reading: the models in the order of the words, then the program of `run`.
+pub fn wanted_by(alloc: Global, command: &Command) -> Result<Vec<Wanted<'_>>, AllocError>
+    ensures { IfOk result (λ files. map as_wanted files.items ≡ spec.wanted_by command.now) }
+{
+    match command {
+        Command::Run(run) => wanted_by_run(alloc, run),
+        Command::Check(models) => wanted_models(alloc, models.as_slice()),
+        Command::Certs(models) => wanted_models(alloc, models.as_slice()),
+    }
 }
 
 /// Reads files one after another, each whole. The first that isn't held, is too long or is at fault

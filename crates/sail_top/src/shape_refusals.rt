@@ -105,7 +105,7 @@ fn shapes_text(
 }
 
 /// A text of bytes. It fails where memory is wanting, and where they aren't UTF-8, which those of names always are.
-fn text_of(alloc: Global, bytes: &[u8]) -> Result<Text, AllocError>
+pub(crate) fn text_of(alloc: Global, bytes: &[u8]) -> Result<Text, AllocError>
     ensures { IfOk result (λ text. text ≡ bytes.now) }
 {
     match str::from_utf8(bytes) {

@@ -18,8 +18,8 @@ use std::alloc::{AllocError, Global};
 
 /// Does what the program does: answers its words, with its files on a shelf and its output to a sink.
 ///
-/// The words are those behind the program's name. The one command is `run --elf FILE [--steps N] [--harts N]
-/// [--order DIGITS] [--ram-base N] [--ram-size N] MODEL..`, its options in any order; every other list of words is
+/// The words are those behind the program's name. The commands are `check MODEL..`, `certs MODEL..` and `run --elf FILE [--steps N]
+/// [--harts N] [--order DIGITS] [--ram-base N] [--ram-size N] MODEL..`, its options in any order; every other list of words is
 /// `Usage`. The statuses and when they come stand at [`Status`]; each but `ReadFault`, `WriteFault` and
 /// `OutOfMemory` is answered only where all that it has to say was written.
 pub fn run_words<S: Shelf, K: Sink>(

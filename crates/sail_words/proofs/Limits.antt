@@ -1,19 +1,22 @@
 -- What every run that words ask for keeps to.
 use Rattle.std.proofs.Common.{◌≡◌, ℕ, zero, suc, ◌+◌, ◌-◌, ◌<◌, ◌≤◌, ◌^◌, Bool, true, false, not, ◌&&◌, ◌==◌, nat_le, nat_lt}
 use Rattle.std.proofs.Common.{All, List, [], ◌∷◌, length, map, take, get_or, Option, Some, None, Result, Ok, Err, IfOk, refl, subst, arith, codes}
-use Rattle.std.proofs.Common.{if◌then◌else◌, option_and_then, length-take}
+use Rattle.std.proofs.Common.{if◌then◌else◌, option_and_then, option_map, length-take}
 use Rattle.std.proofs.lemmas.Bool.{and_parts, not-true, eqb-false}
 use Rattle.std.proofs.lemmas.List.{length-map, get_or-take}
 use Rattle.std.proofs.lemmas.List.Elements.{All-nil, All-cons}
 use Rattle.std.specs.List.{list_all}
 use Rattle.std.specs.Option.{option_map_or}
+use Rattle.std.specs.Str.{bytes_eq}
 use Rattle.std.specs.Str.Parse.{digits_value}
 use borrow.Author.Tests.{leb-true, ltb-true}
 use Rattle.clap.specs.Words.{Row, first_of, all_of}
 use Rattle.sail_words.specs.declared.numbers.Numbers.{Numbers}
 use Rattle.sail_words.specs.declared.run.Run.{Run}
 use Rattle.sail_words.specs.Numbers.{is_numeral, number_in, names_hart, order_in, all_harts}
-use Rattle.sail_words.specs.Line.{number_of, numbers_of, order_of, run_of, IsWithinLimits}
+use Rattle.sail_words.specs.declared.command.Command.{Command}
+use Rattle.sail_words.specs.declared.command.Command.TheVariants as C
+use Rattle.sail_words.specs.Line.{number_of, numbers_of, order_of, run_of, few_models, models_of, command_of, IsWithinLimits, IsAllowed}
 
 -- what there is was made of something that is there
 some_of : {A B : Type 0} (o : Option A) (f : A → Option B) (b : B)
@@ -128,7 +131,32 @@ run_of-within rows run e =
       space = leb-true (made.ram_base + made.ram_size) (2 ^ 64) v.1;
     })
 
+-- what was mapped was there
+mapped : {A B : Type 0} (f : A → B) (o : Option A) (b : B) → option_map f o ≡ Some b → (a : A) × (o ≡ Some a) × (f a ≡ b)
+mapped f None b e = cc
+mapped f (Some a) b e = (a, refl, cc)
+
+models_of-within : (rows : List Row) (models : List (List ℕ)) → models_of rows ≡ Some models → (1 ≤ length models) × (length models ≤ 64)
+models_of-within rows models e =
+    let m = some_of (all_of (codes "model") rows) few_models models e in
+    let t = then_some (nat_le 1 (length m.0) && nat_le (length m.0) 64) m.0 models m.2 in
+    let u = and_parts (nat_le 1 (length m.0)) (nat_le (length m.0) 64) t.0 in
+    subst (λ (ms : List (List ℕ)). (1 ≤ length ms) × (length ms ≤ 64)) t.1 (leb-true 1 (length m.0) u.0, leb-true (length m.0) 64 u.1)
+
+command_by : (rows : List Row) (command : Command) (run check certs : Bool) →
+    (if run then option_map C.Run (run_of rows) else if check then option_map C.Check (models_of rows)
+    else if certs then option_map C.Certs (models_of rows) else None) ≡ Some command → IsAllowed command
+command_by rows command true check certs e =
+    let m = mapped C.Run (run_of rows) command e in subst IsAllowed m.2 (run_of-within rows m.0 m.1)
+command_by rows command false true certs e =
+    let m = mapped C.Check (models_of rows) command e in subst IsAllowed m.2 (models_of-within rows m.0 m.1)
+command_by rows command false false true e =
+    let m = mapped C.Certs (models_of rows) command e in subst IsAllowed m.2 (models_of-within rows m.0 m.1)
+command_by rows command false false false e = cc
+
 -- what is read of the values keeps to the limits
-pub IfOk-within : {E : Type 0} (rows : List Row) (r : Result Run E) → IfOk r (λ run. run_of rows ≡ Some run) → IfOk r IsWithinLimits
-IfOk-within rows (Ok run) e = run_of-within rows run e
-IfOk-within rows (Err e) u = tt
+pub IfOk-allowed : {E : Type 0} (name : List ℕ) (rows : List Row) (r : Result Command E) → IfOk r (λ command. command_of name rows ≡ Some command)
+    → IfOk r IsAllowed
+IfOk-allowed name rows (Ok command) e =
+    command_by rows command (bytes_eq name (codes "run")) (bytes_eq name (codes "check")) (bytes_eq name (codes "certs")) e
+IfOk-allowed name rows (Err e) u = tt

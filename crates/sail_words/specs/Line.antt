@@ -2,7 +2,10 @@
 use Rattle.std.specs.Prelude.{ℕ, ◌+◌, ◌^◌, ◌<◌, ◌≤◌, ◌&&◌, nat_le, ◌==◌, All, List, length, codes, Option, Some, None}
 use Rattle.std.specs.Prelude.{if◌then◌else◌, option_and_then, option_map}
 use Rattle.std.specs.Option.{option_map_or}
+use Rattle.std.specs.Str.{bytes_eq}
 use Rattle.clap.specs.Words.{Row, fault_of, subcommand_of, first_of, all_of}
+use Rattle.sail_words.specs.declared.command.Command.{Command}
+use Rattle.sail_words.specs.declared.command.Command.TheVariants as C
 use Rattle.sail_words.specs.declared.numbers.Numbers.{Numbers}
 use Rattle.sail_words.specs.declared.run.Run.{Run}
 use Rattle.sail_words.specs.Numbers.{number_in, order_in, all_harts}
@@ -53,6 +56,22 @@ run_of rows = do
     ram_size = numbers.ram_size;
   })
 
+-- 1 to 64 models
+abbrev pub few_models : List (List ℕ) → Option (List (List ℕ))
+few_models models = if nat_le 1 (length models) && nat_le (length models) 64 then Some models else None
+
+-- what `check` and `certs` ask for
+abbrev pub models_of : List Row → Option (List (List ℕ))
+models_of rows = option_and_then few_models (all_of (codes "model") rows)
+
+-- what a subcommand asks for
+abbrev pub command_of : List ℕ → List Row → Option Command
+command_of name rows =
+    if bytes_eq name (codes "run") then option_map C.Run (run_of rows)
+    else if bytes_eq name (codes "check") then option_map C.Check (models_of rows)
+    else if bytes_eq name (codes "certs") then option_map C.Certs (models_of rows)
+    else None
+
 -- what every run that words ask for keeps to
 pub record IsWithinLimits (run : Run) : Type 0 where
   pub models : (1 ≤ length run.models) × (length run.models ≤ 64)
@@ -61,9 +80,15 @@ pub record IsWithinLimits (run : Run) : Type 0 where
   pub size : (1 ≤ run.ram_size) × (run.ram_size ≤ 67108864)
   pub space : run.ram_base + run.ram_size ≤ 2 ^ 64
 
+-- what every command that words ask for keeps to
+abbrev pub IsAllowed : Command → Type 0
+IsAllowed (C.Run run) = IsWithinLimits run
+IsAllowed (C.Check models) = (1 ≤ length models) × (length models ≤ 64)
+IsAllowed (C.Certs models) = (1 ≤ length models) × (length models ≤ 64)
+
 -- the words without the program's name: none where clap finds a fault, or a number or an order is none
-abbrev pub line_of : List (List ℕ) → Option Run
+abbrev pub line_of : List (List ℕ) → Option Command
 line_of words =
     if length (fault_of program words) == 0
-    then option_and_then (λ named. run_of named.1) (subcommand_of program words)
+    then option_and_then (λ named. command_of named.0 named.1) (subcommand_of program words)
     else None

@@ -1,4 +1,4 @@
--- The command line as `clap` is told of it: one subcommand, `run`, with its options and its models.
+-- The command line as `clap` is told of it: the subcommand `run` with its options and its models, and `check` and `certs` with their models.
 use Rattle.std.specs.Prelude.{true, Some, List, ℕ, codes}
 use Rattle.clap.specs.Lexer.{usize_max}
 use Rattle.clap.specs.Words.{App, Rule, new_app, new_rule, with_rule, with_subcommand}
@@ -29,7 +29,11 @@ abbrev pub run_command : App
 run_command = with_numbers (with_rule (with_rule (with_rule (new_app (codes "run"))
     (required_option (codes "elf"))) (option (codes "order"))) models)
 
--- the words without the program's name: `run`, and no help, no version
+-- `NAME MODEL..`
+abbrev pub models_command : List ℕ → App
+models_command name = with_rule (new_app name) models
+
+-- the words without the program's name: a subcommand, and no help, no version
 abbrev pub bare : App
 bare = record (new_app (codes "sail-run")) {
   top = record (new_app (codes "sail-run")).top {
@@ -42,4 +46,6 @@ bare = record (new_app (codes "sail-run")) {
 }
 
 abbrev pub program : App
-program = with_subcommand bare run_command.top
+program =
+    with_subcommand (with_subcommand (with_subcommand bare run_command.top)
+    (models_command (codes "check")).top) (models_command (codes "certs")).top

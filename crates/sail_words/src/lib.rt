@@ -4,6 +4,7 @@
 //! clap's own definition of a parse, of the command written out in `specs/Program`.
 #![tactic(auto)]
 
+mod command;
 mod numbers;
 mod order;
 mod program;
@@ -11,5 +12,6 @@ mod reading;
 mod run;
 mod values;
 
+pub use command::Command;
 pub use reading::{LineError, line};
 pub use run::Run;

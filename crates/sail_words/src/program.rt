@@ -1,6 +1,6 @@
 //! The command line, told to `clap`.
 ghost use Rattle.std.specs.Prelude.{◌≡◌, IfOk, false, codes};
-ghost use Rattle.clap.specs.Words.{app_of, rule_of, with_rule};
+ghost use Rattle.clap.specs.Words.{app_of, rule_of, with_rule, with_subcommand};
 ghost use Rattle.clap.specs.declared.builder.command.Command.TheViews.{out-Command as fields_of};
 ghost use Rattle.sail_words.specs.Program as spec;
 
@@ -40,6 +40,18 @@ fn with_argument<'a>(command: Command<'a>, argument: Arg<'a>) -> Result<Command<
     command.arg(argument)
 }
 
+/// The command with one more subcommand, which has no global arguments.
+fn with_command<'a>(
+    command: Command<'a>,
+    subcommand: Command<'a>,
+) -> Result<Command<'a>, AllocError>
+    requires { (fields_of subcommand).has_globals ≡ false }
+    ensures app { IfOk result (λ made. app_of made ≡ with_subcommand (app_of command.entry) (app_of subcommand.entry).top) }
+    ensures local { IfOk result (λ made. (fields_of made).has_globals ≡ (fields_of command.entry).has_globals) }
+{
+    command.subcommand(subcommand)
+}
+
 /// The command with the options that take a number.
 fn with_numbers<'a>(alloc: Global, command: Command<'a>) -> Result<Command<'a>, AllocError>
     ensures app { IfOk result (λ made. app_of made ≡ spec.with_numbers (app_of command.entry)) }
@@ -64,6 +76,14 @@ fn run_command<'a>(alloc: Global) -> Result<Command<'a>, AllocError>
     with_numbers(alloc, command)
 }
 
+/// A subcommand that takes models alone.
+fn models_command<'a>(alloc: Global, name: &'a str) -> Result<Command<'a>, AllocError>
+    ensures app { IfOk result (λ made. app_of made ≡ spec.models_command name.entry.now) }
+    ensures local { IfOk result (λ made. (fields_of made).has_globals ≡ false) }
+{
+    with_argument(Command::new(alloc, name), models(alloc))
+}
+
 /// The words without the program's name: no help and no version.
 fn bare<'a>(alloc: Global) -> Command<'a>
     ensures app { app_of result ≡ spec.bare }
@@ -82,6 +102,7 @@ pub fn program<'a>(alloc: Global) -> Result<Command<'a>, AllocError>
     ensures app { IfOk result (λ made. app_of made ≡ spec.program) }
     ensures local { IfOk result (λ made. (fields_of made).has_globals ≡ false) }
 {
-    let run = run_command(alloc)?;
-    bare(alloc).subcommand(run)
+    let command = with_command(bare(alloc), run_command(alloc)?)?;
+    let command = with_command(command, models_command(alloc, "check")?)?;
+    with_command(command, models_command(alloc, "certs")?)
 }

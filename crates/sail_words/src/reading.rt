@@ -1,8 +1,9 @@
 ghost use Rattle.std.specs.Prelude.{◌≡◌, ◌+◌, ◌^◌, nat_le, IfOk, IsErrOf, None, Some, map};
 ghost use Rattle.std.specs.String.{string_bytes};
 ghost use Rattle.clap.specs.Words.{rows_of, found_of};
-ghost use Rattle.sail_words.specs.Line.{line_of, run_of, IsWithinLimits};
+ghost use Rattle.sail_words.specs.Line.{line_of, command_of, models_of, run_of, IsAllowed};
 
+use crate::command::Command;
 use crate::numbers::numbers_of;
 use crate::order::order_of;
 use crate::program::program;
@@ -39,9 +40,9 @@ impl From<AllocError> for LineError {
 /// What the words behind the program's name ask for.
 ///
 /// `Usage` comes exactly where they are no command, `OutOfMemory` where memory was wanting.
-pub fn line(alloc: Global, words: &[String]) -> Result<Run, LineError>
-    ensures found { IfOk result (λ run. line_of (map string_bytes words.now) ≡ Some run) }
-    ensures limits { IfOk result IsWithinLimits }
+pub fn line(alloc: Global, words: &[String]) -> Result<Command, LineError>
+    ensures found { IfOk result (λ command. line_of (map string_bytes words.now) ≡ Some command) }
+    ensures limits { IfOk result IsAllowed }
     ensures usage { IsErrOf result LineError.Usage → line_of (map string_bytes words.now) ≡ None }
 {
     let command = program(alloc)?;
@@ -51,9 +52,44 @@ pub fn line(alloc: Global, words: &[String]) -> Result<Run, LineError>
         Err(_) => return Err(LineError::Usage),
     };
     match matches.subcommand() {
-        Some((_, values)) => read_run(alloc, values),
+        Some((name, values)) => read_command(alloc, name, values),
         None => Err(LineError::Usage),
     }
+}
+
+/// What a subcommand asks for, by the values that clap found.
+fn read_command(alloc: Global, name: &str, values: &ArgMatches<'_>) -> Result<Command, LineError>
+    ensures found { IfOk result (λ command. command_of name.now (rows_of (found_of values.now)) ≡ Some command) }
+    ensures usage { IsErrOf result LineError.Usage → command_of name.now (rows_of (found_of values.now)) ≡ None }
+{
+    if name == "run" {
+        let run = read_run(alloc, values)?;
+        return Ok(Command::Run(run));
+    }
+    if name == "check" {
+        let models = read_models(alloc, values)?;
+        return Ok(Command::Check(models));
+    }
+    if name == "certs" {
+        let models = read_models(alloc, values)?;
+        return Ok(Command::Certs(models));
+    }
+    Err(LineError::Usage)
+}
+
+/// What `check` and `certs` ask for, by the values that clap found.
+fn read_models(alloc: Global, values: &ArgMatches<'_>) -> Result<Items<Text>, LineError>
+    ensures found { IfOk result (λ models. models_of (rows_of (found_of values.now)) ≡ Some models) }
+    ensures usage { IsErrOf result LineError.Usage → models_of (rows_of (found_of values.now)) ≡ None }
+{
+    let Some(models) = values_of(values, "model") else {
+        return Err(LineError::Usage);
+    };
+    if models.is_empty() || models.len() > 64 {
+        return Err(LineError::Usage);
+    }
+    let models = texts(alloc, models)?;
+    Ok(models)
 }
 
 /// What `run` asks for, by the values that clap found.

@@ -1,9 +1,11 @@
 -- Errors that say something of the models' texts.
-use Rattle.std.specs.Prelude.{◌≡◌, ℕ, List, Some, None}
+use Rattle.std.specs.Prelude.{◌≡◌, ℕ, List, Option, Some, None, Ok, Err}
+use Rattle.bidir_check.specs.declared.error.CheckError.{CheckError}
+use Rattle.bidir_check.specs.declared.error.CheckError.TheVariants as check
 use Rattle.sail_base.specs.declared.place.Place.{Place}
 use Rattle.sail_base.specs.declared.refusal.Refusal.{Refusal}
 use Rattle.sail_fragment.specs.Fragment.{model_of}
-use Rattle.sail_fragment.specs.declared.model.Model.{Model}
+use Rattle.sail_core.specs.declared.model.CoreModel.{CoreModel}
 use Rattle.sail_grammar.specs.Model.{IsModel, IsRefused}
 use Rattle.sail_grammar.specs.Symbol.{Sign}
 use Rattle.sail_grammar.specs.declared.error.ParseError.{ParseError}
@@ -21,8 +23,12 @@ use Rattle.sail_tables.specs.Refused.{IsFirstFailure, IsAccepted}
 use Rattle.shape_rules.specs.declared.error.ShapeError.{ShapeError}
 use Rattle.shape_rules.specs.declared.error.ShapeError.TheVariants as shape
 use Rattle.sail_top.specs.Models.{IsRefusal}
-use Rattle.sail_top.specs.Refusals.{parse_refusal, gather_refusal, table_refusal, outside}
+use Rattle.shapes.specs.Resolved.{resolved}
+use Rattle.shapes.specs.Tabled.{tabled_of}
+use Rattle.sail_top.specs.Checked.{checked}
+use Rattle.sail_top.specs.Refusals.{parse_refusal, gather_refusal, table_refusal, check_refusal}
 use Rattle.sail_top.specs.Shaped.{why_unshaped, shape_refusal_in}
+use Rattle.sail_top.specs.declared.models.Accepted.{Accepted}
 use Rattle.sail_top.specs.declared.models.ModelError.{ModelError}
 use Rattle.sail_top.specs.declared.models.ModelError.TheVariants as model
 
@@ -47,31 +53,43 @@ abbrev pub IsOfShapes : ShapeError → Type 0
 IsOfShapes shape.OutOfMemory = ⊥
 IsOfShapes e = Unit {0}
 
+abbrev pub IsOfChecks : CheckError → Type 0
+IsOfChecks check.OutOfMemory = ⊥
+IsOfChecks e = Unit {0}
+
 -- an error tells how the texts are refused; want of memory says nothing of them
 abbrev pub Tells : List (List ℕ) → ModelError → Type 0
 Tells texts (model.Refused refusal) = IsRefusal texts refusal
 Tells texts model.OutOfMemory = Unit {0}
 
--- definitions that have tables have shapes, and they are this model, which runs
-abbrev pub ShapedAs : List Def → Model → Type 0
-ShapedAs whole m = (why_unshaped whole ≡ None) × (model_of whole ≡ Some m)
+-- a core is that of definitions which have tables and shapes, whatever the numbers of their cycles of calls
+abbrev pub IsCoreOf : List Def → CoreModel → Type 0
+IsCoreOf whole core = (cycle : List ℕ → Option ℕ) × (core ≡ resolved (tabled_of whole) cycle whole)
 
--- gathered definitions, which end here, have tables, and they are this model
-abbrev pub TabledAs : List Def → Place → Model → Type 0
-TabledAs whole end m = IsAccepted whole end × ShapedAs whole m
+-- the obligations of definitions that have shapes are closed with these certificates, and they are this model that runs, if any
+abbrev pub ClosedAs : List Def → Accepted → Type 0
+ClosedAs whole made = (checked whole ≡ Ok made.certified) × (made.model ≡ model_of whole)
 
--- definitions can be gathered, and gathered they are this model
-abbrev pub GathersAs : List Def → Place → Model → Type 0
-GathersAs definitions end m = (why_ungathered definitions ≡ None) × TabledAs (gathered definitions) end m
+-- definitions that have tables have shapes, and they are accepted so
+abbrev pub ShapedAs : List Def → Accepted → Type 0
+ShapedAs whole made = (why_unshaped whole ≡ None) × ClosedAs whole made
 
--- tokens with their end are definitions that are this model
-abbrev pub RunsAs : List Sign → Place → Model → Type 0
-RunsAs signs end m = (definitions : List Def) × IsModel signs definitions × GathersAs definitions end m
+-- gathered definitions, which end here, have tables, and they are accepted so
+abbrev pub TabledAs : List Def → Place → Accepted → Type 0
+TabledAs whole end made = IsAccepted whole end × ShapedAs whole made
 
--- definitions that have tables are refused so: their shapes fail, or they are no model that runs
+-- definitions can be gathered, and gathered they are accepted so
+abbrev pub GathersAs : List Def → Place → Accepted → Type 0
+GathersAs definitions end made = (why_ungathered definitions ≡ None) × TabledAs (gathered definitions) end made
+
+-- tokens with their end are definitions that are accepted so
+abbrev pub ParsesAs : List Sign → Place → Accepted → Type 0
+ParsesAs signs end made = (definitions : List Def) × IsModel signs definitions × GathersAs definitions end made
+
+-- definitions that have tables are refused so: their shapes fail, or an obligation isn't closed
 pub data TabledRefused (whole : List Def) : Refusal → Type 0 where
   tabled_unshaped : (e : ShapeError) → why_unshaped whole ≡ Some e → TabledRefused whole (shape_refusal_in whole e)
-  tabled_not_run : why_unshaped whole ≡ None → model_of whole ≡ None → TabledRefused whole outside
+  tabled_unclosed : (e : CheckError) → why_unshaped whole ≡ None → checked whole ≡ Err e → TabledRefused whole (check_refusal e)
 
 -- gathered definitions, which end here, are refused so: they have no tables, or they have and are refused
 pub data WholeRefused (whole : List Def) (end : Place) : Refusal → Type 0 where
@@ -110,7 +128,7 @@ abbrev pub TellsOfTabled : List Def → ModelError → Type 0
 TellsOfTabled whole (model.Refused refusal) = TabledRefused whole refusal
 TellsOfTabled whole model.OutOfMemory = Unit {0}
 
--- an error tells that gathered definitions are no model that runs
-abbrev pub TellsNotRun : List Def → ModelError → Type 0
-TellsNotRun definitions (model.Refused refusal) = (model_of definitions ≡ None) × (refusal ≡ outside)
-TellsNotRun definitions model.OutOfMemory = Unit {0}
+-- an error tells how definitions that have shapes are refused
+abbrev pub TellsOfShaped : List Def → ModelError → Type 0
+TellsOfShaped whole (model.Refused refusal) = (e : CheckError) × (checked whole ≡ Err e) × (refusal ≡ check_refusal e)
+TellsOfShaped whole model.OutOfMemory = Unit {0}

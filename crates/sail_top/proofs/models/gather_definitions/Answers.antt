@@ -1,10 +1,10 @@
-use Rattle.sail_top.proofs.ModelLemmas.{gathered_model, gathered_refused, ungathered_is}
+use Rattle.sail_top.proofs.ModelLemmas.{gathered_accepted, gathered_refused, ungathered_is}
 use Rattle.sail_top.proofs.models.gather_definitions.Goals as goal
 
-pub returns-in-Ok-clause-model : goal.returns-in-Ok-clause-model
-returns-in-Ok-clause-model c =
-    gathered_model c.args.definitions.items c.in-Ok.whole.items c.as_slice.result.now c.as_slice.ensures.value c.in-Ok.ensures.accepted
-    c.in-Ok.ensures.gathered c.args.end c.table_definitions.result c.table_definitions.ensures.model
+pub returns-in-Ok-clause-accepted : goal.returns-in-Ok-clause-accepted
+returns-in-Ok-clause-accepted c =
+    gathered_accepted c.args.definitions.items c.in-Ok.whole.items c.as_slice.result.now c.as_slice.ensures.value c.in-Ok.ensures.accepted
+    c.in-Ok.ensures.gathered c.args.end c.table_definitions.result c.table_definitions.ensures.accepted
 
 pub returns-in-Ok-clause-refused : goal.returns-in-Ok-clause-refused
 returns-in-Ok-clause-refused c =

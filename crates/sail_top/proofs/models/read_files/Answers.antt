@@ -1,12 +1,12 @@
 use Rattle.sail_grammar.specs.Joined.{joined, end_from}
 use Rattle.sail_grammar.specs.Leaves.{nowhere}
-use Rattle.sail_top.proofs.ModelLemmas.{tokens_model, tokens_refused, unparsed_is}
+use Rattle.sail_top.proofs.ModelLemmas.{tokens_accepted, tokens_refused, unparsed_is}
 use Rattle.sail_top.proofs.models.read_files.Goals as goal
 
-pub returns-in-Ok-clause-model : goal.returns-in-Ok-clause-model
-returns-in-Ok-clause-model c =
-    tokens_model (joined c.args.files.now) c.in-Ok.definitions.items c.in-Ok.ensures.model c.last_end.result (end_from nowhere c.args.files.now)
-    c.last_end.ensures c.gather_definitions.result c.gather_definitions.ensures.model
+pub returns-in-Ok-clause-accepted : goal.returns-in-Ok-clause-accepted
+returns-in-Ok-clause-accepted c =
+    tokens_accepted (joined c.args.files.now) c.in-Ok.definitions.items c.in-Ok.ensures.model c.last_end.result (end_from nowhere c.args.files.now)
+    c.last_end.ensures c.gather_definitions.result c.gather_definitions.ensures.accepted
 
 pub returns-in-Ok-clause-refused : goal.returns-in-Ok-clause-refused
 returns-in-Ok-clause-refused c =

@@ -1,14 +1,14 @@
-use Rattle.sail_top.proofs.ModelLemmas.{files_have_texts, texts_model, texts_refused, unlexed_is}
+use Rattle.sail_top.proofs.ModelLemmas.{files_have_texts, texts_accepted, texts_refused, unlexed_is}
 use Rattle.sail_top.proofs.models.read_models.Goals as goal
 
 pub read_files-requires : goal.read_files-requires
 read_files-requires c =
     files_have_texts c.args.texts.now c.in-Ok.files c.as_slice.result.now c.as_slice.ensures c.in-Ok.ensures.lexed c.in-Ok.ensures.files
 
-pub returns-in-Ok-clause-model : goal.returns-in-Ok-clause-model
-returns-in-Ok-clause-model c =
-    texts_model c.args.texts.now c.in-Ok.files c.as_slice.result.now c.as_slice.ensures c.in-Ok.ensures.lexed c.in-Ok.ensures.files
-    c.read_files.result c.read_files.ensures.model
+pub returns-in-Ok-clause-accepted : goal.returns-in-Ok-clause-accepted
+returns-in-Ok-clause-accepted c =
+    texts_accepted c.args.texts.now c.in-Ok.files c.as_slice.result.now c.as_slice.ensures c.in-Ok.ensures.lexed c.in-Ok.ensures.files
+    c.read_files.result c.read_files.ensures.accepted
 
 pub returns-in-Ok-clause-refused : goal.returns-in-Ok-clause-refused
 returns-in-Ok-clause-refused c =

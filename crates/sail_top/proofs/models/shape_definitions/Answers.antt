@@ -1,15 +1,18 @@
-use Rattle.sail_top.proofs.ModelLemmas.{shaped_model, shaped_refused, unshaped_is}
+use Rattle.shape_clauses.specs.Functions.{cycle_in}
+use Rattle.sail_top.proofs.ModelLemmas.{shaped_accepted, shaped_refused, unshaped_is}
 use Rattle.sail_top.proofs.models.shape_definitions.Goals as goal
 
-pub returns-in-Ok-clause-model : goal.returns-in-Ok-clause-model
-returns-in-Ok-clause-model c = λ text end are.
-    shaped_model text c.args.tables.definitions.now are.definitions (c.in-Ok.ensures.resolved text end are).accepted c.run_definitions.result
-    c.run_definitions.ensures.model
+pub returns-in-Ok-clause-accepted : goal.returns-in-Ok-clause-accepted
+returns-in-Ok-clause-accepted c = λ text end are.
+    let made = c.in-Ok.ensures.resolved text end are in
+    shaped_accepted text c.args.tables.definitions.now are.definitions made.accepted c.in-Ok.core (cycle_in c.args.tables text, made.core)
+    c.check_definitions.result c.check_definitions.ensures.accepted
 
 pub returns-in-Ok-clause-refused : goal.returns-in-Ok-clause-refused
 returns-in-Ok-clause-refused c = λ text end are.
-    shaped_refused text c.args.tables.definitions.now are.definitions (c.in-Ok.ensures.resolved text end are).accepted c.run_definitions.result
-    c.run_definitions.ensures.refused
+    let made = c.in-Ok.ensures.resolved text end are in
+    shaped_refused text c.args.tables.definitions.now are.definitions made.accepted c.in-Ok.core (cycle_in c.args.tables text, made.core)
+    c.check_definitions.result c.check_definitions.ensures.refused
 
 pub returns-in_ok-shape_refusal-in-Err-clause-refused : goal.returns-in_ok-shape_refusal-in-Err-clause-refused
 returns-in_ok-shape_refusal-in-Err-clause-refused c = λ text end are.

@@ -1,10 +1,10 @@
-use Rattle.sail_top.proofs.ModelLemmas.{tabled_model, tabled_refused, untabled_is}
+use Rattle.sail_top.proofs.ModelLemmas.{tabled_accepted, tabled_refused, untabled_is}
 use Rattle.sail_top.proofs.models.table_definitions.Goals as goal
 
-pub returns-in-Ok-clause-model : goal.returns-in-Ok-clause-model
-returns-in-Ok-clause-model c =
-    tabled_model c.args.definitions.now c.args.end c.in-Ok.ensures.accepted c.shape_definitions.result
-    (c.shape_definitions.ensures.model c.args.definitions.now c.args.end c.in-Ok.ensures.tables)
+pub returns-in-Ok-clause-accepted : goal.returns-in-Ok-clause-accepted
+returns-in-Ok-clause-accepted c =
+    tabled_accepted c.args.definitions.now c.args.end c.in-Ok.ensures.accepted c.shape_definitions.result
+    (c.shape_definitions.ensures.accepted c.args.definitions.now c.args.end c.in-Ok.ensures.tables)
 
 pub returns-in-Ok-clause-refused : goal.returns-in-Ok-clause-refused
 returns-in-Ok-clause-refused c =

@@ -3,7 +3,7 @@ use Rattle.std.specs.List.{All}
 use Rattle.model_tokens.specs.Files.{IsShort}
 use Rattle.sail_top.specs.parts.Short.{AreShortButLast}
 use Rattle.sail_top.proofs.ShortLemmas.{short_texts}
-use Rattle.sail_top.proofs.answer.answer_files.Goals as goal
+use Rattle.sail_top.proofs.answer.answer_run.Goals as goal
 
 pub judge-requires-clause-short : goal.judge-requires-clause-short
 judge-requires-clause-short c =

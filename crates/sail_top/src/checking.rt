@@ -1,0 +1,92 @@
+//! The obligations of a model, and its refusal where one isn't closed.
+ghost use Rattle.std.specs.Prelude.{◌≡◌, IfOk, map};
+ghost use Rattle.bidir_check.specs.Checking.{IsMet};
+ghost use Rattle.sail_top.specs.Checked.{checked_core};
+ghost use Rattle.sail_top.specs.Refusals as spec;
+ghost use Rattle.sail_top.specs.parts.Cycles as cycles;
+ghost use Rattle.sail_top.specs.parts.Told.{IsOfChecks};
+
+use crate::shape_refusals::text_of;
+use bidir_check::{Certified, CheckError, check};
+use constraint_gen::obligations;
+use sail_base::{Items, Refusal};
+use sail_core::{CoreModel, Function};
+use std::alloc::{AllocError, Global};
+
+/// Forgets of a function which cycle of calls it is in.
+fn forget_cycle(function: &mut Function)
+    ensures { function.new ≡ cycles.without_cycle function.old }
+{
+    function.cycle = None;
+}
+
+/// Forgets it of each function.
+fn forget_cycles(functions: &mut [Function])
+    ensures { functions.new ≡ map cycles.without_cycle functions.old }
+{
+    for function in functions.iter_mut() {
+        forget_cycle(function);
+    }
+}
+
+/// A core without the numbers of its cycles of calls, on which no obligation depends. It takes no memory.
+fn without_cycles(core: CoreModel) -> CoreModel
+    ensures { result ≡ cycles.without_cycles core }
+{
+    let CoreModel {
+        types,
+        exception,
+        registers,
+        register_texts,
+        functions,
+        directions,
+        openings,
+        reset,
+        step,
+    } = core;
+    let mut functions = functions.into_vec();
+    forget_cycles(functions.as_mut_slice());
+    CoreModel {
+        types,
+        exception,
+        registers,
+        register_texts,
+        functions: Items::from_vec(functions),
+        directions,
+        openings,
+        reset,
+        step,
+    }
+}
+
+/// A core without these numbers, with a certificate for each of its obligations, or the first that isn't closed.
+pub fn check_core(alloc: Global, core: CoreModel) -> Result<Certified, CheckError>
+    ensures { IsMet result (checked_core (cycles.without_cycles core)) }
+{
+    let core = without_cycles(core);
+    let obligations = obligations(alloc, &core)?;
+    check(alloc, core, obligations)
+}
+
+/// The refusal of a model of which an obligation isn't closed. The one error is want of memory, that of the check too.
+pub fn check_refusal(alloc: Global, error: &CheckError) -> Result<Refusal, AllocError>
+    ensures refused { IfOk result (λ refusal. refusal ≡ spec.check_refusal error.now) }
+    ensures told { IfOk result (λ _. IsOfChecks error.now) }
+{
+    let mut bytes = Vec::new(alloc);
+    error.push_detail(&mut bytes)?;
+    let detail = text_of(alloc, bytes.as_slice())?;
+    match error {
+        CheckError::Open { place, .. } => Ok(Refusal {
+            number: 20,
+            place: *place,
+            detail,
+        }),
+        CheckError::Limit { place, .. } => Ok(Refusal {
+            number: 21,
+            place: *place,
+            detail,
+        }),
+        CheckError::OutOfMemory => Err(AllocError),
+    }
+}
