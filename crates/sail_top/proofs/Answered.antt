@@ -27,7 +27,7 @@ use Rattle.sail_top.specs.Checked.{checked}
 use Rattle.sail_top.specs.Refusals.{token_refusal, parse_refusal, gather_refusal, table_refusal, check_refusal}
 use Rattle.sail_top.specs.Shaped.{why_unshaped, shape_refusal_in}
 use Rattle.sail_top.specs.laws.OneAnswer.{AreDecided}
-use Rattle.sail_top.specs.Answer.{Judges, RunsFiles, AnswersFiles, AnswersEnd, AnswersLine, IsAnswer}
+use Rattle.sail_top.specs.Answer.{Judges, RunsFiles, AnswersEnd, AnswersLine, IsAnswer}
 use Rattle.sail_top.specs.Answer.{run_answer, check_answer, certs_answer, model_refused, usage, no_file, too_long}
 use Rattle.sail_top.specs.Reading.{Wanted, wanted_model, wanted_elf, wanted_by, Contents, contents_at}
 use Rattle.sail_top.specs.Reading.{ReadEnd, whole, absent, long, behind, reading}

@@ -1,6 +1,6 @@
 -- What is checked of a text doesn't depend on how its cycles of calls are numbered.
-use Rattle.std.proofs.Common.{◌≡◌, ℕ, zero, suc, ◌<◌, List, [], ◌∷◌, ◌++◌, length, map, take, drop, get_or, slice_set, refl, sym, ap, ◌∙◌, subst, inl, inr, arith}
-use Rattle.std.specs.Prelude.{Option, Some, None, Result, Ok, Err}
+use Rattle.std.proofs.Common.{◌≡◌, ℕ, zero, suc, ◌<◌, List, [], ◌∷◌, ◌++◌, length, map, take, drop, get_or, slice_set, refl, sym, ap, ◌∙◌, inl, inr, arith}
+use Rattle.std.specs.Prelude.{Option, Some, None, Ok, Err}
 use Rattle.sail_syntax.specs.declared.definitions.Def.{Def}
 use Rattle.sail_syntax.specs.declared.definitions.Def.TheVariants as D
 use Rattle.sail_syntax.specs.declared.definitions.FunctionClause.{FunctionClause}

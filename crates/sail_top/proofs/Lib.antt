@@ -2,6 +2,7 @@ pub mod AnswerLemmas
 pub mod Answered
 pub mod BarsEnd
 pub mod CheckLemmas
+pub mod CommandLemmas
 pub mod CountLemmas
 pub mod EndingLemmas
 pub mod HoldLemmas

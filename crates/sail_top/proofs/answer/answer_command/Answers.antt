@@ -1,7 +1,8 @@
-use Rattle.std.proofs.Common.{ℕ, ◌<◌, ◌≤◌, List, map, sym, ap, ◌∙◌, subst}
+use Rattle.std.proofs.Common.{◌<◌, ◌≤◌, List, map, sym, ap, ◌∙◌, subst}
 use Rattle.sail_top.specs.Reading.{Wanted, whole}
 use Rattle.sail_top.specs.parts.Borrowed.{as_wanted}
 use Rattle.sail_top.specs.parts.Unread.{Ends}
+use Rattle.sail_top.proofs.CommandLemmas.{command_answered, command_left}
 use Rattle.sail_top.proofs.CountLemmas.{some_files, few_files, count_of}
 use Rattle.sail_top.proofs.ShortLemmas.{files_short}
 use Rattle.sail_top.proofs.answer.answer_command.Goals as goal
@@ -24,5 +25,18 @@ answer_files-requires-clause-count g c =
 pub answer_files-requires-clause-short : goal.answer_files-requires-clause-short
 answer_files-requires-clause-short g c =
     files_short (g.S.Shelf.holds c.args.shelf.now) c.args.command.now c.in-Ok.files (g.S.Shelf.left c.read_files.new.shelf)
+    (subst (λ (wanted : List Wanted). Ends (g.S.Shelf.holds c.args.shelf.now) wanted (whole c.in-Ok.files) (g.S.Shelf.left c.read_files.new.shelf))
+    (ap (map as_wanted) c.as_slice.ensures.value ∙ c.in_ok-wanted.ensures) c.in-Ok.ensures.whole)
+
+pub returns-in-Ok-clause-answer : goal.returns-in-Ok-clause-answer
+returns-in-Ok-clause-answer g c =
+    command_answered (g.S.Shelf.holds c.args.shelf.now) c.args.command.now c.in-Ok.files (g.S.Shelf.left c.read_files.new.shelf)
+    c.in_ok-answer-in-Ok.answer
+    (subst (λ (wanted : List Wanted). Ends (g.S.Shelf.holds c.args.shelf.now) wanted (whole c.in-Ok.files) (g.S.Shelf.left c.read_files.new.shelf))
+    (ap (map as_wanted) c.as_slice.ensures.value ∙ c.in_ok-wanted.ensures) c.in-Ok.ensures.whole) c.in_ok-answer-in-Ok.ensures
+
+pub returns-in-Ok-clause-left : goal.returns-in-Ok-clause-left
+returns-in-Ok-clause-left g c =
+    command_left (g.S.Shelf.holds c.args.shelf.now) c.args.command.now c.in-Ok.files (g.S.Shelf.left c.read_files.new.shelf)
     (subst (λ (wanted : List Wanted). Ends (g.S.Shelf.holds c.args.shelf.now) wanted (whole c.in-Ok.files) (g.S.Shelf.left c.read_files.new.shelf))
     (ap (map as_wanted) c.as_slice.ensures.value ∙ c.in_ok-wanted.ensures) c.in-Ok.ensures.whole)

@@ -1,5 +1,4 @@
-use Rattle.std.proofs.Common.{◌≡◌, List, ℕ, ap, ◌∙◌}
-use Rattle.sail_types.specs.declared.table.Types.{Types}
+use Rattle.std.proofs.Common.{◌≡◌, ap, ◌∙◌}
 use Rattle.shape_rules.specs.Findings.{place_of}
 use Rattle.shapes.specs.Tabled.{tabled_of}
 use Rattle.sail_top.specs.Refusals.{shape_refusal}
