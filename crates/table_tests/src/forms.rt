@@ -1,9 +1,11 @@
 ghost use Rattle.sail_kinds.specs.Scopes.{type_named};
 ghost use Rattle.normal_forms.specs.Refusals.{AreKnown};
 
+use crate::definitions::names;
 use normal_forms::normal;
-use sail_base::{Boxed, Items, Kind, Place, Text};
+use sail_base::{Items, Kind, Place, Text};
 use sail_kinds::{Binders, Mismatch, Scope, TableError, TypeNames, Variable};
+use sail_syntax::build::{exists, type_infix, type_prefix};
 use sail_syntax::{Name, TyExp, TypeOperator, TypePrefix};
 use sail_types::{Typ, push_number};
 use std::alloc::{AllocError, Global};
@@ -26,32 +28,6 @@ fn variable(alloc: Global, column: u32, name: &str) -> Result<TyExp, AllocError>
     Ok(TyExp::Variable(Name::new(alloc, at(column), name)?))
 }
 
-fn prefix(
-    alloc: Global,
-    column: u32,
-    prefix: TypePrefix,
-    part: TyExp,
-) -> Result<TyExp, AllocError> {
-    Ok(TyExp::Prefix(at(column), prefix, Boxed::new(alloc, part)?))
-}
-
-fn infix(
-    alloc: Global,
-    column: u32,
-    operator: TypeOperator,
-    left: TyExp,
-    right: TyExp,
-) -> Result<TyExp, AllocError> {
-    let left = Boxed::new(alloc, left)?;
-    let right = Boxed::new(alloc, right)?;
-    Ok(TyExp::Infix {
-        place: at(column),
-        operator,
-        left,
-        right,
-    })
-}
-
 fn named(
     alloc: Global,
     column: u32,
@@ -72,25 +48,6 @@ fn of_two(alloc: Global, column: u32, name: &str, a: TyExp, b: TyExp) -> Result<
     arguments.push(a)?;
     arguments.push(b)?;
     named(alloc, column, name, arguments)
-}
-
-/// `{'n 'm, true. T}` with such variables, at these columns.
-fn exists(alloc: Global, column: u32, names: &[&str], typ: TyExp) -> Result<TyExp, AllocError> {
-    let mut variables = Items::new(alloc);
-    for (index, name) in names.iter().enumerate() {
-        let column = match index {
-            0 => column,
-            _ => 99,
-        };
-        variables.push(Name::new(alloc, at(column), name)?)?;
-    }
-    let typ = Boxed::new(alloc, typ)?;
-    Ok(TyExp::Exists {
-        place: at(column),
-        variables,
-        constraint: None,
-        typ,
-    })
 }
 
 fn kind_text(kind: Kind) -> &'static str {
@@ -163,18 +120,23 @@ fn answer(
     normal(alloc, typ, &scope)
 }
 
+fn push_parameter(
+    alloc: Global,
+    parameters: &mut Items<Variable>,
+    name: &str,
+    kind: Kind,
+) -> Result<(), AllocError> {
+    let name = Text::new(alloc, name)?;
+    parameters.push(Variable { name, kind })
+}
+
 /// The parameters of a text: Ints 'n and 'm, a Bool 'p and a Type 'a.
 fn parameters(alloc: Global) -> Result<Items<Variable>, AllocError> {
     let mut parameters = Items::new(alloc);
-    for (name, kind) in [
-        ("'n", Kind::Int),
-        ("'m", Kind::Int),
-        ("'p", Kind::Bool),
-        ("'a", Kind::Type),
-    ] {
-        let name = Text::new(alloc, name)?;
-        parameters.push(Variable { name, kind })?;
-    }
+    push_parameter(alloc, &mut parameters, "'n", Kind::Int)?;
+    push_parameter(alloc, &mut parameters, "'m", Kind::Int)?;
+    push_parameter(alloc, &mut parameters, "'p", Kind::Bool)?;
+    push_parameter(alloc, &mut parameters, "'a", Kind::Type)?;
     Ok(parameters)
 }
 
@@ -188,7 +150,7 @@ fn is_read(
 ) -> Result<bool, AllocError> {
     let parameters = parameters(alloc)?;
     let mut names = Items::new(alloc);
-    for name in ["'n", "'m", "'p"] {
+    for name in "'n 'm 'p".split(' ') {
         names.push(Text::new(alloc, name)?)?;
     }
     let types = TypeNames::new(alloc);
@@ -202,13 +164,13 @@ fn is_read(
 fn numbers_are_read(rt: HostRuntime) -> Result<(), Fail> {
     let alloc = rt.alloc();
     let n = variable(alloc, 1, "'n")?;
-    let twice = infix(alloc, 3, TypeOperator::Star, number(1, 2), n)?;
+    let twice = type_infix(alloc, at(3), TypeOperator::Star, number(1, 2), n)?;
     assert!(rt; is_read(alloc, twice, 0, 0, "2 * 'n")?);
     let n = variable(alloc, 1, "'n")?;
-    let more = infix(alloc, 4, TypeOperator::Plus, n, number(6, 1))?;
-    let raised = prefix(alloc, 3, TypePrefix::Power, more)?;
+    let more = type_infix(alloc, at(4), TypeOperator::Plus, n, number(6, 1))?;
+    let raised = type_prefix(alloc, at(3), TypePrefix::Power, more)?;
     assert!(rt; is_read(alloc, raised, 0, 0, "2 ^ ('n + 1)")?);
-    let power = prefix(alloc, 3, TypePrefix::Power, number(5, 126))?;
+    let power = type_prefix(alloc, at(3), TypePrefix::Power, number(5, 126))?;
     assert!(rt; is_read(alloc, power, 0, 0, "85070591730234615865843651857942052864")?);
     Ok(())
 }
@@ -218,17 +180,23 @@ fn numbers_past_the_limits_are_refused(rt: HostRuntime) -> Result<(), Fail> {
     let alloc = rt.alloc();
     let largest = 85070591730234615865843651857942052864;
     let n = variable(alloc, 1, "'n")?;
-    let product = infix(alloc, 4, TypeOperator::Star, n, variable(alloc, 6, "'m")?)?;
-    assert!(rt; is_read(alloc, product, 11, 4, "refused")?);
-    let past = infix(
+    let product = type_infix(
         alloc,
-        9,
+        at(4),
+        TypeOperator::Star,
+        n,
+        variable(alloc, 6, "'m")?,
+    )?;
+    assert!(rt; is_read(alloc, product, 11, 4, "refused")?);
+    let past = type_infix(
+        alloc,
+        at(9),
         TypeOperator::Plus,
         number(1, largest),
         number(11, 1),
     )?;
     assert!(rt; is_read(alloc, past, 11, 9, "refused")?);
-    let high = prefix(alloc, 3, TypePrefix::Power, number(5, 127))?;
+    let high = type_prefix(alloc, at(3), TypePrefix::Power, number(5, 127))?;
     assert!(rt; is_read(alloc, high, 11, 3, "refused")?);
     Ok(())
 }
@@ -237,20 +205,25 @@ fn numbers_past_the_limits_are_refused(rt: HostRuntime) -> Result<(), Fail> {
 fn constraints_and_variables_are_read(rt: HostRuntime) -> Result<(), Fail> {
     let alloc = rt.alloc();
     let n = variable(alloc, 1, "'n")?;
-    let less = infix(alloc, 4, TypeOperator::Less, n, number(6, 9))?;
+    let less = type_infix(alloc, at(4), TypeOperator::Less, n, number(6, 9))?;
     assert!(rt; is_read(alloc, less, 0, 0, "constraint")?);
     assert!(rt; is_read(alloc, variable(alloc, 1, "'k")?, 10, 1, "'k")?);
     let inner = of_one(alloc, 9, "bits", variable(alloc, 14, "'k")?)?;
-    assert!(rt; is_read(alloc, exists(alloc, 2, &["'k"], inner)?, 0, 0, "exists")?);
+    let once = names(alloc, at(2), "'k")?;
+    let some = exists(alloc, at(2), once, None, inner)?;
+    assert!(rt; is_read(alloc, some, 0, 0, "exists")?);
     let inner = of_one(alloc, 9, "bits", number(14, 1))?;
-    assert!(rt; is_read(alloc, exists(alloc, 2, &["'k", "'k"], inner)?, 9, 99, "'k")?);
+    let mut twice = names(alloc, at(2), "'k")?;
+    twice.push(Name::new(alloc, at(99), "'k")?)?;
+    let some = exists(alloc, at(2), twice, None, inner)?;
+    assert!(rt; is_read(alloc, some, 9, 99, "'k")?);
     Ok(())
 }
 
 #[test]
 fn wrong_arguments_are_refused(rt: HostRuntime) -> Result<(), Fail> {
     let alloc = rt.alloc();
-    let negative = prefix(alloc, 6, TypePrefix::Negate, number(7, 1))?;
+    let negative = type_prefix(alloc, at(6), TypePrefix::Negate, number(7, 1))?;
     assert!(rt; is_read(alloc, of_one(alloc, 1, "bits", negative)?, 11, 1, "refused")?);
     let bit = named(alloc, 5, "bit", Items::new(alloc))?;
     assert!(rt; is_read(alloc, of_one(alloc, 1, "int", bit)?, 11, 5, "IntType")?);

@@ -1,55 +1,22 @@
-use sail_base::{Items, Place, Text};
+use crate::definitions::{function, mapping, on_line, overload};
+use sail_base::{Items, Text};
 use sail_globals::{Called, Role, find_globals, find_members, find_namings, note_clashes};
 use sail_kinds::{First, TableError};
-use sail_syntax::{Def, Extent, Name, Overloaded, TyExp};
+use sail_syntax::{Def, Name, TyExp};
 use std::alloc::{AllocError, Global};
 use std::test::Fail;
 
-fn place(line: u32) -> Place {
-    Place {
-        file: 1,
-        line,
-        column: 1,
-    }
-}
-
-fn name(alloc: Global, line: u32, text: &str) -> Result<Name, AllocError> {
-    Name::new(alloc, place(line), text)
-}
-
-fn register(alloc: Global, line: u32, text: &str) -> Result<Def, AllocError> {
+/// A register of `bool`.
+fn register(alloc: Global, line: u32, name: &str) -> Result<Def, AllocError> {
+    let place = on_line(line);
+    let name = Name::new(alloc, place, name)?;
+    let typ = TyExp::Named(Name::new(alloc, place, "bool")?, Items::new(alloc));
     Ok(Def::Register {
-        place: place(line),
-        name: name(alloc, line, text)?,
-        typ: TyExp::Named(name(alloc, line, "bool")?, Items::new(alloc)),
+        place,
+        name,
+        typ,
         initial: None,
     })
-}
-
-fn mapping(alloc: Global, line: u32, text: &str) -> Result<Def, AllocError> {
-    Ok(Def::Mapping {
-        place: place(line),
-        name: name(alloc, line, text)?,
-        sides: None,
-        clauses: Items::new(alloc),
-    })
-}
-
-fn function(alloc: Global, line: u32, text: &str) -> Result<Def, AllocError> {
-    Ok(Def::Function {
-        place: place(line),
-        extent: Extent::Gathered,
-        name: name(alloc, line, text)?,
-        clauses: Items::new(alloc),
-    })
-}
-
-fn overload(alloc: Global, line: u32, text: &str) -> Result<Def, AllocError> {
-    Ok(Def::Overload(
-        place(line),
-        Overloaded::Named(name(alloc, line, text)?),
-        Items::new(alloc),
-    ))
 }
 
 /// The line and the name of the first clash, 0 where there is none.
@@ -66,15 +33,16 @@ fn first_clash(alloc: Global, definitions: &[Def]) -> Result<(u32, Text), Fail> 
 #[test]
 fn names_clash(rt: HostRuntime) -> Result<(), Fail> {
     let alloc = rt.alloc();
-    let direction = [mapping(alloc, 1, "m")?, function(alloc, 2, "m_backwards")?];
-    let found = first_clash(alloc, &direction)?;
+    let mut direction = Vec::new(alloc);
+    direction.push(mapping(alloc, 1, "m")?)?;
+    direction.push(function(alloc, 2, "m_backwards")?)?;
+    let found = first_clash(alloc, direction.as_slice())?;
     assert!(rt; found.0 == 2 && found.1.is("m_backwards"));
-    let builtin = [
-        overload(alloc, 1, "f")?,
-        overload(alloc, 2, "f")?,
-        register(alloc, 3, "length")?,
-    ];
-    let found = first_clash(alloc, &builtin)?;
+    let mut builtin = Vec::new(alloc);
+    builtin.push(overload(alloc, 1, "f", Items::new(alloc))?)?;
+    builtin.push(overload(alloc, 2, "f", Items::new(alloc))?)?;
+    builtin.push(register(alloc, 3, "length")?)?;
+    let found = first_clash(alloc, builtin.as_slice())?;
     assert!(rt; found.0 == 3 && found.1.is("length"));
     Ok(())
 }
@@ -82,10 +50,12 @@ fn names_clash(rt: HostRuntime) -> Result<(), Fail> {
 #[test]
 fn names_have_meanings(rt: HostRuntime) -> Result<(), Fail> {
     let alloc = rt.alloc();
-    let definitions = [function(alloc, 1, "f")?, register(alloc, 2, "f")?];
-    let members = find_members(alloc, &definitions)?;
+    let mut definitions = Vec::new(alloc);
+    definitions.push(function(alloc, 1, "f")?)?;
+    definitions.push(register(alloc, 2, "f")?)?;
+    let members = find_members(alloc, definitions.as_slice())?;
     assert!(rt; !members.has("f"));
-    let namings = find_namings(alloc, &definitions)?;
+    let namings = find_namings(alloc, definitions.as_slice())?;
     let globals = find_globals(alloc, namings.as_slice())?;
     assert!(rt; globals.meaning("f") == Some(Role::Defined(Called::Function)));
     assert!(rt; globals.has_function_body("f") && !globals.has_function_val("f"));

@@ -5,6 +5,8 @@
 #![tactic(auto)]
 
 #[cfg(test)]
+mod definitions;
+#[cfg(test)]
 mod forms;
 #[cfg(test)]
 mod globals;
@@ -12,5 +14,3 @@ mod globals;
 mod graphs;
 #[cfg(test)]
 mod meanings;
-#[cfg(test)]
-mod whole;

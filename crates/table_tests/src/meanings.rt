@@ -1,130 +1,114 @@
+use crate::definitions::{function, mapping, names, on_line, overload};
 use known_names::find_names;
-use sail_base::{Items, Operator, Place};
+use sail_base::{Items, Operator};
 use sail_globals::find_namings;
 use sail_names::Global as Named;
-use sail_syntax::{Def, Extent, Member, Name, Overloaded, TyExp};
+use sail_syntax::{Def, Member, Name, Overloaded, TyExp};
 use std::alloc::{AllocError, Global};
+use std::slice::from_ref;
 use std::test::Fail;
 
-const NOWHERE: Place = Place {
-    file: 1,
-    line: 1,
-    column: 1,
-};
-
-fn name(alloc: Global, text: &str) -> Result<Name, AllocError> {
-    Name::new(alloc, NOWHERE, text)
-}
-
-fn names(alloc: Global, texts: &[&str]) -> Result<Items<Name>, AllocError> {
-    let mut names = Items::new(alloc);
-    for text in texts {
-        names.push(name(alloc, text)?)?;
-    }
-    Ok(names)
-}
-
-fn member(alloc: Global, text: &str) -> Result<Items<Member>, AllocError> {
+fn member(alloc: Global, name: &str) -> Result<Items<Member>, AllocError> {
+    let name = Name::new(alloc, on_line(1), name)?;
+    let typ = TyExp::Named(Name::new(alloc, on_line(1), "bool")?, Items::new(alloc));
     let mut members = Items::new(alloc);
-    members.push(Member {
-        name: name(alloc, text)?,
-        typ: TyExp::Named(name(alloc, "bool")?, Items::new(alloc)),
-    })?;
+    members.push(Member { name, typ })?;
     Ok(members)
 }
 
-fn union(alloc: Global, own: &str, constructor: &str) -> Result<Def, AllocError> {
+fn union(alloc: Global, name: &str, constructor: &str) -> Result<Def, AllocError> {
+    let name = Name::new(alloc, on_line(1), name)?;
+    let constructors = member(alloc, constructor)?;
     Ok(Def::Union {
-        place: NOWHERE,
-        name: name(alloc, own)?,
+        place: on_line(1),
+        name,
         variables: Items::new(alloc),
-        constructors: member(alloc, constructor)?,
+        constructors,
     })
 }
 
-fn structure(alloc: Global, own: &str, field: &str) -> Result<Def, AllocError> {
+fn structure(alloc: Global, name: &str, field: &str) -> Result<Def, AllocError> {
+    let name = Name::new(alloc, on_line(1), name)?;
+    let fields = member(alloc, field)?;
     Ok(Def::Struct {
-        place: NOWHERE,
-        name: name(alloc, own)?,
+        place: on_line(1),
+        name,
         variables: Items::new(alloc),
-        fields: member(alloc, field)?,
+        fields,
     })
 }
 
-fn mapping(alloc: Global, own: &str) -> Result<Def, AllocError> {
-    Ok(Def::Mapping {
-        place: NOWHERE,
-        name: name(alloc, own)?,
-        sides: None,
-        clauses: Items::new(alloc),
-    })
+/// What a name is.
+fn kind_of(named: &Named) -> &'static str {
+    match named {
+        Named::Register => "register",
+        Named::Let(_) => "let",
+        Named::Member => "member",
+        Named::Constructor => "constructor",
+        Named::Builtin => "builtin",
+        Named::StateBuiltin => "state",
+        Named::Function(_) => "function",
+        Named::Mapping(_) => "mapping",
+        Named::Direction(_) => "direction",
+        Named::Overload(_) => "overload",
+    }
 }
 
-fn function(alloc: Global, own: &str) -> Result<Def, AllocError> {
-    Ok(Def::Function {
-        place: NOWHERE,
-        extent: Extent::Gathered,
-        name: name(alloc, own)?,
-        clauses: Items::new(alloc),
-    })
+/// The numbers of what a name is or can enter.
+fn numbers_of(named: &Named) -> &[usize] {
+    match named {
+        Named::Function(number) => from_ref(number),
+        Named::Mapping(number) => from_ref(number),
+        Named::Direction(number) => from_ref(number),
+        Named::Overload(entered) => entered.as_slice(),
+        _ => &[],
+    }
 }
 
-fn overload(alloc: Global, own: &str, members: &[&str]) -> Result<Def, AllocError> {
-    Ok(Def::Overload(
-        NOWHERE,
-        Overloaded::Named(name(alloc, own)?),
-        names(alloc, members)?,
-    ))
-}
-
-/// What a name is, with the numbers of what it is or can enter.
-fn told(alloc: Global, named: Option<&Named>) -> Result<(&'static str, Vec<usize>), AllocError> {
-    let mut numbers = Vec::new(alloc);
-    let what = match named {
-        None => "nothing",
-        Some(Named::Register) => "register",
-        Some(Named::Let(_)) => "let",
-        Some(Named::Member) => "member",
-        Some(Named::Constructor) => "constructor",
-        Some(Named::Builtin) => "builtin",
-        Some(Named::StateBuiltin) => "state",
-        Some(Named::Function(number)) => {
-            numbers.push(*number)?;
-            "function"
-        }
-        Some(Named::Mapping(number)) => {
-            numbers.push(*number)?;
-            "mapping"
-        }
-        Some(Named::Direction(number)) => {
-            numbers.push(*number)?;
-            "direction"
-        }
-        Some(Named::Overload(entered)) => {
-            for number in entered.as_slice() {
-                numbers.push(*number)?;
+/// A name, what it is, and the numbers of what it is or can enter, which are digits here.
+fn told(alloc: Global, name: &str, named: Option<&Named>) -> Result<String, AllocError> {
+    let mut told = String::from_str(alloc, name)?;
+    told.push_str(" ")?;
+    match named {
+        None => told.push_str("nothing")?,
+        Some(named) => {
+            told.push_str(kind_of(named))?;
+            for number in numbers_of(named) {
+                told.push_str(" ")?;
+                told.push(char::from(b'0' + (*number % 10) as u8))?;
             }
-            "overload"
         }
-    };
-    Ok((what, numbers))
+    }
+    Ok(told)
 }
 
 fn model(alloc: Global) -> Result<Vec<Def>, AllocError> {
     let mut definitions = Vec::new(alloc);
-    definitions.push(function(alloc, "f")?)?;
-    definitions.push(mapping(alloc, "m")?)?;
+    definitions.push(function(alloc, 1, "f")?)?;
+    definitions.push(mapping(alloc, 1, "m")?)?;
     definitions.push(structure(alloc, "S", "x")?)?;
     definitions.push(union(alloc, "exception", "C")?)?;
-    definitions.push(overload(alloc, "o", &["f", "C", "m"])?)?;
-    definitions.push(overload(alloc, "o", &["m_backwards", "length"])?)?;
-    definitions.push(Def::Overload(
-        NOWHERE,
-        Overloaded::Operator(NOWHERE, Operator::Or),
-        names(alloc, &["m_forwards", "f"])?,
-    ))?;
+    let members = names(alloc, on_line(1), "f C m")?;
+    definitions.push(overload(alloc, 1, "o", members)?)?;
+    let members = names(alloc, on_line(1), "m_backwards length")?;
+    definitions.push(overload(alloc, 1, "o", members)?)?;
+    let members = names(alloc, on_line(1), "m_forwards f")?;
+    let disjunction = Overloaded::Operator(on_line(1), Operator::Or);
+    definitions.push(Def::Overload(on_line(1), disjunction, members))?;
     Ok(definitions)
 }
+
+/// Names, what each is, and the numbers of what it is or can enter.
+const MEANINGS: &str = "f function 0
+m mapping 1
+m_forwards direction 1
+C constructor
+Some constructor
+o overload 0 1
+length builtin
+mem_read state
+S nothing
+x nothing";
 
 #[test]
 fn names_mean_what_is_defined(rt: HostRuntime) -> Result<(), Fail> {
@@ -132,21 +116,10 @@ fn names_mean_what_is_defined(rt: HostRuntime) -> Result<(), Fail> {
     let definitions = model(alloc)?;
     let namings = find_namings(alloc, definitions.as_slice())?;
     let names = find_names(alloc, definitions.as_slice(), namings.as_slice())?;
-    let table: [(&str, &str, &[usize]); 10] = [
-        ("f", "function", &[0]),
-        ("m", "mapping", &[1]),
-        ("m_forwards", "direction", &[1]),
-        ("C", "constructor", &[]),
-        ("Some", "constructor", &[]),
-        ("o", "overload", &[0, 1]),
-        ("length", "builtin", &[]),
-        ("mem_read", "state", &[]),
-        ("S", "nothing", &[]),
-        ("x", "nothing", &[]),
-    ];
-    for (text, what, numbers) in table {
-        let found = told(alloc, names.value(text))?;
-        assert!(rt; found.0 == what && found.1.as_slice() == numbers);
+    for row in MEANINGS.split('\n') {
+        let (name, _) = row.split_once(' ').ok_or("no row")?;
+        let found = told(alloc, name, names.value(name))?;
+        assert!(rt; found.as_str() == row);
     }
     assert!(rt; names.is_struct("S") && !names.is_struct("exception"));
     assert!(rt; names.is_field("x") && !names.is_field("C"));
