@@ -183,7 +183,7 @@ overload show = { show_bool, show_int }
 mapping m : {'n, 'n == 8. bits('n)} <-> (bits(4), int) = { 0x12 <-> (0x1, 2), 0x34 <-> (0x3, 4) }
 mapping k : (bits(12), bits(4), int) <-> (bits(16), int) = { (m(x, i) @ (z : bits(4)), y, j) <-> (x @ m(y, j) @ z, i) }
 # { R = (match (0x1125, 2) { k(a, b, c) => 1, _ => 2 }); true }
-# 1 M05 1:1:1
+# 1 M21 1:8:98 number
 %
 register R : int
 val show_bool : bool -> int
@@ -194,7 +194,7 @@ overload show = { show_bool, show_int }
 mapping m : {'n, 'n == 8. bits('n)} <-> (bits(4), int) = { 0x12 <-> (0x1, 2), 0x34 <-> (0x3, 4) }
 mapping k : bits(12) <-> (bits(9), int) = { m(x, i) @ (z : bits(4)) <-> (x @ z, i) }
 # { R = (match (0b000010101, 2) { k(a) => 1, _ => 2 }); true }
-# 1 M05 1:1:1
+# 1 M21 1:8:73 number
 % // what a writer in a chain gives is known before the value is found
 register R : int
 val show_bool : bool -> int

@@ -97,7 +97,7 @@ overload o = { h }
 val h : bits(8) -> int
 function h(x) = 1
 # o(0x1)
-# 1 M05 1:1:1
+# 1 M20 1:10:19
 % // members of one count whose shapes differ and may share clash, at the later definition
 val g : list(int) -> int
 function g(x) = 1

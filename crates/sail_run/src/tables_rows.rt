@@ -499,7 +499,7 @@ register R : bool
 val f : unit -> unit
 function f() = { var i = 1; while termination_measure { if R then i else 0 } false do () }
 # true
-# 1 M05 1:1:1
+# 1 M20 1:3:67 i = -85070591730234615865843651857942052864
 % // calls and names by themselves
 val f : unit -> int
 function f() = 1
