@@ -1,0 +1,3 @@
+pub mod Bools
+pub mod Rounds
+pub mod AsGood
