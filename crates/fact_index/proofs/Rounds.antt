@@ -122,19 +122,22 @@ round_taken cs xs le = no_more cs xs (spread cs xs) (within_round cs xs) (taken 
 
 -- ---- enough rounds
 
-agree : (k n m : ℕ) (cs : List Con) (xs : List Atom) → length cs ≤ length (sharing xs cs) + k → suc k ≤ n → suc k ≤ m
-    → AreSame (spread_for n cs xs) (spread_for m cs xs)
-agree_by : (k n m : ℕ) (cs : List Con) (xs : List Atom) → length cs ≤ length (sharing xs cs) + suc k → suc k ≤ n → suc k ≤ m
+agree_by : (k n m : ℕ) (cs : List Con) (xs : List Atom) → length cs ≤ length (sharing xs cs) + suc k
+    → (length cs ≤ length (sharing (spread cs xs) cs) + k → AreSame (spread_for n cs (spread cs xs)) (spread_for m cs (spread cs xs)))
     → (length (sharing xs cs) < length (sharing (spread cs xs) cs)) ⊎ (length (sharing (spread cs xs) cs) ≤ length (sharing xs cs))
     → AreSame (spread_for n cs (spread cs xs)) (spread_for m cs (spread cs xs))
+agree_by k n m cs xs le next (inl more) = next (omega (arith, le, more))
+agree_by k n m cs xs le next (inr same) = both_steady n m cs (spread cs xs) (round_taken cs xs same)
+
+agree : (k n m : ℕ) (cs : List Con) (xs : List Atom) → length cs ≤ length (sharing xs cs) + k → suc k ≤ n → suc k ≤ m
+    → AreSame (spread_for n cs xs) (spread_for m cs xs)
 agree k zero m cs xs le a b = absurd (omega (arith, a))
 agree k (suc n) zero cs xs le a b = absurd (omega (arith, b))
 agree zero (suc n) (suc m) cs xs le a b =
     both_steady n m cs (spread cs xs) (round_taken cs xs (let p = most cs (spread cs xs) in omega (arith, le, p)))
 agree (suc k) (suc n) (suc m) cs xs le a b =
-    agree_by k n m cs xs le (omega (arith, a)) (omega (arith, b)) (cases_lt (length (sharing xs cs)) (length (sharing (spread cs xs) cs)))
-agree_by k n m cs xs le a b (inl more) = agree k n m cs (spread cs xs) (omega (arith, le, more)) a b
-agree_by k n m cs xs le a b (inr same) = both_steady n m cs (spread cs xs) (round_taken cs xs same)
+    agree_by k n m cs xs le (λ l. agree k n m cs (spread cs xs) l (omega (arith, a)) (omega (arith, b)))
+    (cases_lt (length (sharing xs cs)) (length (sharing (spread cs xs) cs)))
 
 enough_by : (p n : ℕ) (cs : List Con) (xs : List Atom) → length (sharing xs cs) ≡ p → length cs ≤ n
     → AreSame (spread_for n cs xs) (spread_for (length cs) cs xs)

@@ -1,5 +1,5 @@
 //! The positions of facts in lists by the keys of their variables.
-ghost use Rattle.std.specs.Prelude.{◌≡◌, ◌<◌, ◌≤◌, ℕ, true, length, slice_index_or, OnOk, [], IsTrue};
+ghost use Rattle.std.specs.Prelude.{◌≡◌, ◌<◌, ◌≤◌, ◌-◌, ℕ, true, length, slice_index_or, OnOk, [], IsTrue};
 ghost use Rattle.fact_index.specs.Filed.{has, IsIn, AreIn, Keeps, KeepsBelow, IsFiled, IsFiledBelow};
 ghost use Rattle.fact_index.specs.Keys as keys;
 
@@ -66,7 +66,9 @@ pub fn file(
 }
 
 /// Whether the last of these positions is at or past a mark.
-fn ends_past(positions: &[usize], mark: usize) -> bool {
+fn ends_past(positions: &[usize], mark: usize) -> bool
+    ensures { IsTrue result → mark ≤ slice_index_or positions.now (length positions.now - 1) 0 }
+{
     match positions.last() {
         None => false,
         Some(last) => *last >= mark,
