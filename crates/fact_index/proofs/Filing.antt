@@ -1,10 +1,10 @@
 -- Positions in lists by keys.
-use Rattle.std.proofs.Common.{◌≡◌, ℕ, zero, suc, ◌+◌, ◌-◌, ◌≤◌, ◌<◌, ◌⊎◌, inl, inr, Bool, true, false, ◌||◌, List, [], ◌∷◌, ◌++◌, length, take, get_or}
-use Rattle.std.proofs.Common.{sym, ap, ◌∙◌, subst, refl, arith, slice_get, length-append}
-use Rattle.std.specs.Prelude.{Some, None, nat_eq, slice_index_or}
+use Rattle.std.proofs.Common.{◌≡◌, ℕ, zero, suc, ◌+◌, ◌-◌, ◌≤◌, ◌<◌, ◌⊎◌, inl, inr, Bool, true, false, ◌||◌, List, [], ◌∷◌, ◌++◌, length, take, get_or, set}
+use Rattle.std.proofs.Common.{sym, ap, ◌∙◌, subst, refl, arith, slice_get, length-append, get_or-set_same, Result, Ok, Err}
+use Rattle.std.specs.Prelude.{OnOk, Some, None, nat_eq, slice_index_or}
 use Rattle.std.specs.List.{list_any}
-use Rattle.std.proofs.lemmas.Bool.{false≢true, eqb-true, eq-eqb, cases_lt}
-use Rattle.std.proofs.lemmas.List.{take_all, take_more}
+use Rattle.std.proofs.lemmas.Bool.{false≢true, eqb-true, eq-eqb, cases_lt, cases_eq}
+use Rattle.std.proofs.lemmas.List.{take_all, take_more, get_or_default, get_or-set_other}
 use Rattle.std.proofs.lemmas.List.Folds.{list_any-append}
 use Rattle.std.proofs.lemmas.Option.{slice_get_past, slice_get_read}
 use Rattle.value_indices.specs.declared.notes.Fact.{Fact}
@@ -32,6 +32,26 @@ pushed_last old new p e =
 
 pub pushed_kept : (old new : List ℕ) (p q : ℕ) → new ≡ old ++ p ∷ [] → has old q ≡ true → has new q ≡ true
 pushed_kept old new p q e h = ap (λ l. has l q) e ∙ (list_any-append (nat_eq q) old (p ∷ []) ∙ or_left (has old q) (has (p ∷ []) q) h)
+
+-- a list in the place of the one of a key
+set_by : (mid : List (List ℕ)) (key k p : ℕ) (l : List ℕ) → key < length mid → ((q : ℕ) → has (slice_index_or mid key []) q ≡ true → has l q ≡ true)
+    → has (slice_index_or mid k []) p ≡ true → (k ≡ key) ⊎ (k ≡ key → ⊥) → has (slice_index_or (set mid key l) k []) p ≡ true
+set_by mid key k p l within more h (inl same) =
+    ap (λ n. has (slice_index_or (set mid key l) n []) p) same
+    ∙ (ap (λ xs. has xs p) (get_or-set_same mid key l [] within) ∙ more p (ap (λ n. has (slice_index_or mid n []) p) (sym same) ∙ h))
+set_by mid key k p l within more h (inr other) = ap (λ xs. has xs p) (get_or-set_other mid key k l [] other) ∙ h
+
+pub set_keeps : (old mid : List (List ℕ)) (key p : ℕ) (l : List ℕ) → key < length mid → ((k : ℕ) → slice_index_or mid k [] ≡ slice_index_or old k [])
+    → l ≡ slice_index_or mid key [] ++ p ∷ [] → Keeps old (set mid key l)
+set_keeps old mid key p l within same e k q h =
+    set_by mid key k q l within (λ n m. pushed_kept (slice_index_or mid key []) l p n e m) (ap (λ xs. has xs q) (same k) ∙ h) (cases_eq k key)
+
+pub pushed_keeps : {A E : Type 0} (r : Result A E) (old mid : List (List ℕ)) (key p : ℕ) (now l : List ℕ) → key < length mid
+    → ((k : ℕ) → slice_index_or mid k [] ≡ slice_index_or old k []) → now ≡ get_or mid key now → OnOk r (l ≡ now ++ p ∷ [])
+    → OnOk r (Keeps old (set mid key l))
+pushed_keeps (Ok x) old mid key p now l within same read e =
+    set_keeps old mid key p l within same (e ∙ ap (λ n. n ++ p ∷ []) (read ∙ get_or_default mid key now [] within))
+pushed_keeps (Err x) old mid key p now l within same read e = tt
 
 -- ---- an empty list more
 
@@ -81,8 +101,8 @@ filed_more facts old new i x within read kept put h p lt =
 past_by : (facts : List Fact) (lists : List (List ℕ)) (i p : ℕ) → length facts ≤ i → IsFiledBelow i facts lists → (p < i) ⊎ (i ≤ p)
     → AreIn lists (keys_at facts p) p
 past_by facts lists i p past h (inl low) = h p low
-past_by facts lists i p past h (inr high) k e =
-    absurd (false≢true (ap (λ o. has (keys_of_option o) k) (sym (slice_get_past facts p (omega (arith, past, high)))) ∙ e))
+past_by facts lists i p past h (inr high) =
+    λ k e. absurd (false≢true (ap (λ o. has (keys_of_option o) k) (sym (slice_get_past facts p (omega (arith, past, high)))) ∙ e))
 
 pub all_filed : (facts : List Fact) (lists : List (List ℕ)) (i : ℕ) → length facts ≤ i → IsFiledBelow i facts lists → IsFiled facts lists
 all_filed facts lists i past h p = past_by facts lists i p past h (cases_lt p i)

@@ -4,3 +4,4 @@ pub mod AsGood
 pub mod Picks
 pub mod Reaching
 pub mod Filing
+pub mod Found

@@ -1,5 +1,5 @@
 -- Facts that are picked by their positions.
-use Rattle.std.proofs.Common.{◌≡◌, ℕ, zero, suc, ◌+◌, ◌≤◌, ◌<◌, ◌⊎◌, inl, inr, Bool, true, false, List, [], ◌∷◌, ◌++◌, length, take, drop, get_or, slice_get}
+use Rattle.std.proofs.Common.{◌≡◌, ℕ, zero, suc, ◌+◌, ◌-◌, ◌≤◌, ◌<◌, ◌⊎◌, inl, inr, Bool, true, false, List, [], ◌∷◌, ◌++◌, length, take, drop, get_or, slice_get}
 use Rattle.std.proofs.Common.{sym, ap, ◌∙◌, subst, refl, arith, append_assoc, append-nil}
 use Rattle.std.specs.Prelude.{Some, None, nat_eq}
 use Rattle.std.specs.List.{list_any}
@@ -24,6 +24,13 @@ pub conditions_append : (xs ys : List Fact) → conditions (xs ++ ys) ≡ condit
 conditions_append [] ys = refl
 conditions_append (Y.Holds c ∷ xs) ys = ap (λ l. c ∷ l) (conditions_append xs ys)
 conditions_append (Y.IsGiven v ∷ xs) ys = conditions_append xs ys
+
+pub conditions_read : (facts : List Fact) (k : ℕ) (x : Fact) (start made new : List Con) → k < length facts → x ≡ get_or facts k x
+    → made ≡ start ++ conditions (take k facts) → new ≡ made ++ conditions (x ∷ []) → new ≡ start ++ conditions (take (k + 1) facts)
+conditions_read facts k x start made new within read h put =
+    let parts : conditions (take (k + 1) facts) ≡ conditions (take k facts) ++ conditions (x ∷ []) =
+    ap conditions (take_more facts k x within ∙ ap (λ y. take k facts ++ y ∷ []) (sym read)) ∙ conditions_append (take k facts) (x ∷ []) in
+    put ∙ (ap (λ l. l ++ conditions (x ∷ [])) h ∙ (append_assoc start (conditions (take k facts)) (conditions (x ∷ [])) ∙ ap (λ l. start ++ l) (sym parts)))
 
 any_fact : Fact
 any_fact = Y.IsGiven 0
@@ -131,3 +138,39 @@ module _ (ps : List ℕ) (i first next count : ℕ) (h : AreRead ps i first next
 
   pub read_more : (more : ℕ) → next ≤ more → (get_or ps i 0 < first + count → get_or ps i 0 < first + more) → AreRead ps (i + 1) first more count
   read_more more le own j lt below = read_by more j le own lt below (cases_lt j i)
+
+-- ---- the loop over positions
+
+pub record HasRead (facts : List Fact) (first : ℕ) (ps : List ℕ) (old : List Con) (i next : ℕ) (made : List Con) : Type 0 where
+  pub within : next ≤ length facts
+  pub read : AreRead ps i first next (length facts)
+  pub picked : (f : Atom → Bool) → HasAll f facts first ps → IsPart f (take next facts) old made
+
+module _ (facts : List Fact) (first : ℕ) (ps : List ℕ) (old : List Con) (i next : ℕ) (made : List Con) (h : HasRead facts first ps old i next made) where
+  -- a position that doesn't count
+  pub passed : (after : ℕ) (new : List Con) → after ≡ next → new ≡ made
+      → (get_or ps i 0 < first + length facts → get_or ps i 0 < first + next) → HasRead facts first ps old (i + 1) after new
+  passed after new same unchanged own = record {
+    within = (let w = h.within in omega (arith, same, w));
+    read = subst (λ n. AreRead ps (i + 1) first n (length facts)) (sym same)
+        (read_more ps i first next (length facts) h.read next (omega arith) own);
+    picked = λ f g.
+        subst (λ n. IsPart f (take n facts) old new) (sym same) (subst (IsPart f (take next facts) old) (sym unchanged) (h.picked f g));
+  }
+
+  -- one whose fact is picked
+  pub one_picked : (place after : ℕ) (x : Fact) (put new : List Con) → IsNonDecreasing ps → i < length ps → get_or ps i 0 ≡ first + place → next ≤ place
+      → place < length facts → x ≡ get_or facts place x → put ≡ made ++ conditions (x ∷ []) → after ≡ place + 1 → new ≡ put
+      → HasRead facts first ps old (i + 1) after new
+  one_picked place after x put new up within is low high read e a n = record {
+    within = omega (arith, a, high);
+    read = read_more ps i first next (length facts) h.read after (omega (arith, a, low)) (λ below. omega (arith, is, a));
+    picked = λ f g.
+        subst (λ m. IsPart f (take m facts) old new) (sym a)
+        (next_picked f facts first ps g next place x old made new low high read
+        (λ q l m. none_between ps i first next (length facts) h.read place q up within is high l m) (n ∙ e) (h.picked f g));
+  }
+
+  pub all_read : length ps ≤ i → (f : Atom → Bool) → HasAll f facts first ps → IsPart f facts old made
+  all_read past f g =
+      all_left f facts first ps g next old made h.within (λ q l m. none_past ps i first next (length facts) h.read q past l m) (h.picked f g)

@@ -34,7 +34,7 @@ has_last ks k q e =
 has_one : (k q : ℕ) → has (k ∷ []) q ≡ true → k ≡ q
 has_one k q e = or_split (nat_eq q k) false e (λ h. sym (eqb-true q k h)) (λ h. absurd (false≢true h))
 
-stays : (a b : Keys) (ks : List ℕ) → Puts a b ks → (k : ℕ) → has a.list k ≡ true → has b.list k ≡ true
+pub stays : (a b : Keys) (ks : List ℕ) → Puts a b ks → (k : ℕ) → has a.list k ≡ true → has b.list k ≡ true
 stays a b ks h k e =
     ap (λ l. has l k) h.grown.1 ∙ (list_any-append (nat_eq k) a.list h.grown.0 ∙ or_left (has a.list k) (has h.grown.0 k) e)
 
@@ -127,9 +127,9 @@ module _ (lists : List (List ℕ)) (facts : List Fact) where
       (λ t. stays a b (keys_at_each facts (slice_index_or lists key [])) g q (f k p t h q m))
       (λ t. g.put l q (each_has facts (slice_index_or lists key []) p q (ap (λ n. has (slice_index_or lists n []) p) (has_one key k t) ∙ h) m))
 
-  pub followed_more : (a b : Keys) (i key : ℕ) → slice_get a.list i ≡ Some key → i < length a.list → key ≡ get_or a.list i 0 → AreFollowed i a.list
+  pub followed_more : (a b : Keys) (i key : ℕ) → i < length a.list → key ≡ get_or a.list i 0 → AreFollowed i a.list
       → AreListed a → Puts a b (keys_at_each facts (slice_index_or lists key [])) → AreFollowed (i + 1) b.list
-  followed_more a b i key got within read f l g k p e h q m =
+  followed_more a b i key within read f l g k p e h q m =
       let first : take (i + 1) b.list ≡ take i a.list ++ key ∷ [] =
       ap (take (i + 1)) g.grown.1
       ∙ (take-append-le (i + 1) a.list g.grown.0 (omega (arith, within)) ∙ (take_more a.list i 0 within ∙ ap (λ n. take i a.list ++ n ∷ []) (sym read))) in
@@ -210,6 +210,6 @@ taken_at (suc n) (y ∷ xs) zero x e = e
 taken_at (suc n) (y ∷ xs) (suc p) x e = taken_at n xs p x e
 
 pub dropped_at : {A : Type 0} (n : ℕ) (xs : List A) (p : ℕ) (x : A) → slice_get (drop n xs) p ≡ Some x → slice_get xs (n + p) ≡ Some x
-dropped_at zero xs p x e = e
+dropped_at zero xs p x e = let n : 0 + p ≡ p = omega arith in ap (slice_get xs) n ∙ e
 dropped_at (suc n) [] p x e = e
-dropped_at (suc n) (y ∷ xs) p x e = dropped_at n xs p x e
+dropped_at (suc n) (y ∷ xs) p x e = let m : suc n + p ≡ suc (n + p) = omega arith in ap (slice_get (y ∷ xs)) m ∙ dropped_at n xs p x e

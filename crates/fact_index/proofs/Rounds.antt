@@ -43,9 +43,10 @@ AreTaken (c ∷ cs) xs zs = (shares (variables_in c) xs ≡ true → Within (var
 taken : (cs : List Con) (xs more zs : List Atom) → Within xs more → Within (spread cs more) zs → AreTaken cs xs zs
 taken [] xs more zs h k = tt
 taken (c ∷ cs) xs more zs h k =
-    let vs = variables_in c in
-    ((λ e f p. k f (within_round cs _ f (put_within vs more (shares vs more) (shares_into vs xs more h e) f p))),
-    taken cs xs _ zs (λ f p. within_put vs more (shares vs more) f (h f p)) k)
+    let vs = variables_in c in (
+      (λ e f p. k f (within_round cs _ f (put_within vs more (shares vs more) (shares_into vs xs more h e) f p))),
+      taken cs xs _ zs (λ f p. within_put vs more (shares vs more) f (h f p)) k,
+    )
 
 -- where they are among the same, a round brings nothing
 put_inside : (vs zs xs : List Atom) (t : Bool) → (t ≡ true → Within vs zs) → AreSame xs zs → AreSame (if t then vs ++ xs else xs) zs
@@ -106,9 +107,10 @@ no_more [] xs zs h n le = tt
 no_more (c ∷ cs) xs zs h n le =
     let vs = variables_in c in
     let ls = sharing xs cs in
-    let ms = sharing zs cs in
-    ((λ e. n.0 (same_put c ls ms (shares vs xs) (shares vs zs) e (fewer cs xs zs h) le)),
-    no_more cs xs zs h n.1 (rest_put c ls ms (shares vs xs) (shares vs zs) (shares_into vs xs zs h) le))
+    let ms = sharing zs cs in (
+      (λ e. n.0 (same_put c ls ms (shares vs xs) (shares vs zs) e (fewer cs xs zs h) le)),
+      no_more cs xs zs h n.1 (rest_put c ls ms (shares vs xs) (shares vs zs) (shares_into vs xs zs h) le),
+    )
 
 none_taken : (cs : List Con) (xs : List Atom) → length (sharing xs cs) ≡ 0 → AreTaken cs xs xs
 none_taken [] xs e = tt

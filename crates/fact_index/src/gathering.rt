@@ -98,14 +98,11 @@ pub fn reached(
         seen: BTreeSet::new(alloc),
     };
     put_keys(&mut keys, from)?;
-    for at in 0..usize::MAX {
-        match keys.list.get(at) {
-            None => return Ok(keys.list),
-            Some(key) => {
-                let positions = positions_under(lists, *key);
-                put_facts(alloc, &mut keys, facts, positions)?;
-            }
-        }
+    let mut at = 0;
+    while at < keys.list.len() {
+        let positions = positions_under(lists, keys.list.as_slice()[at]);
+        put_facts(alloc, &mut keys, facts, positions)?;
+        at += 1;
     }
     Ok(keys.list)
 }

@@ -104,7 +104,19 @@ pub fn facts_for(
     }
     let keys = reached(alloc, lists, facts, keys.as_slice())?;
     let positions = positions_of(alloc, lists, keys.as_slice())?;
-    push_picked(alloc, &mut made, first_facts(facts, until), 0, positions.as_slice())?;
-    push_picked(alloc, &mut made, facts_from(facts, since), since, positions.as_slice())?;
+    push_picked(
+        alloc,
+        &mut made,
+        first_facts(facts, until),
+        0,
+        positions.as_slice(),
+    )?;
+    push_picked(
+        alloc,
+        &mut made,
+        facts_from(facts, since),
+        since,
+        positions.as_slice(),
+    )?;
     Ok(made)
 }

@@ -1,4 +1,4 @@
-use Rattle.std.proofs.Common.{◌≡◌, ℕ, true}
+use Rattle.std.proofs.Common.{◌≡◌, ◌-◌, ℕ, true}
 use Rattle.fact_index.specs.Filed.{has}
 use Rattle.fact_index.specs.Gathered.{AreListed}
 use Rattle.fact_index.proofs.Reaching.{AreFollowed}
@@ -10,3 +10,6 @@ invariant-loop-at l = record {
   begun : (key : ℕ) → has l.from key ≡ true → has l.keys.list key ≡ true;
   followed : AreFollowed l.lists l.facts l.at l.keys.list;
 }
+
+abbrev pub decreases-loop-at : goal.decreases-loop-at
+decreases-loop-at l = 18446744073709551615 - l.at

@@ -1,0 +1,8 @@
+use Rattle.std.proofs.Common.{refl}
+use Rattle.fact_index.proofs.Reaching.{puts_fact}
+use Rattle.fact_index.proofs.gathering.put_facts.Goals as goal
+
+pub loop-position-preserved : goal.loop-position-preserved
+loop-position-preserved c =
+    puts_fact c.args.facts.now c.args.keys.now c.loop-position.keys c.put_fact.new.keys c.args.positions.now c.loop-position.position-index _
+    c.loop-position-test.true refl c.loop-position.invariant c.in_ok-put_fact.ensures
