@@ -62,3 +62,8 @@ module _ (w : Written) (facts : List Fact) (n : ℕ) (f : w.facts ≡ facts) (co
   kept_all (S.Converts direction) a b = ap (take n) f
   kept_all (S.Gives k indices) a b = ap (take n) f
   kept_all (S.Names u name) a b = ap (take n) f
+
+-- as the code finds what is in force behind it
+pub kept_read : (w : Written) (old new : List Fact) (marks : List ℕ) (s : Step) (m : ℕ) → take m (step_read w s).facts ≡ take m old
+    → IsInForce (step_read w s) new marks → take m new ≡ take m old
+kept_read w old new marks s m e h = ap (take m) (sym h.in_force) ∙ e

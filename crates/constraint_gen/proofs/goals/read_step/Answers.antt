@@ -1,10 +1,9 @@
-use Rattle.std.proofs.Common.{◌≡◌, length, take, sym, ap, ◌∙◌, subst, Result, Ok, Err}
-use Rattle.std.specs.Prelude.{OnOk, List}
-use Rattle.value_indices.specs.declared.notes.Fact.{Fact}
+use Rattle.std.proofs.Common.{sym, ap, ◌∙◌, subst, take, Result, Ok, Err}
+use Rattle.std.specs.Prelude.{OnOk}
 use Rattle.value_indices.specs.Force.{IsInForce}
-use Rattle.value_indices.specs.Walking.{Written, step_read}
-use Rattle.fact_index.specs.Filed.{IsFiled, IsFiledBelow, KeepsBelow}
+use Rattle.fact_index.specs.Filed.{IsFiled}
 use Rattle.fact_index.proofs.Filing.{kept_filed}
+use Rattle.constraint_gen.proofs.Keeping.{kept_read}
 use Rattle.constraint_gen.proofs.goals.read_step.Goals as goal
 
 -- what holds for each walk where a call succeeds
@@ -13,4 +12,5 @@ for_each (Ok x) h = h
 for_each (Err x) h = tt
 
 pub returns-clause-filed : goal.returns-clause-filed
-returns-clause-filed c = for_each c.file.result (λ w h filed. ?)
+returns-clause-filed c =
+    for_each c.file.result (λ w h filed. let a = c.len.ensures in let b = c.kept_behind.ensures in let d = c.in_ok-unfile.ensures in let e = c.file.ensures in ?)
