@@ -112,17 +112,16 @@ owed_same names cs ds c place e = ap (owed_of names c place) e
 -- a goal under what is in force, and under what was remembered
 module _ (names : List (List ℕ)) (made new : List Obligation) (w : Written) (facts : List Fact) (marks : List ℕ) (place : Place) (c : Con) (s : Step)
     (f : IsInForce w facts marks) (known given : List Con) (lent : given ≡ known) where
-  under : {A E : Type 0} (r : Result A E) (there : List Fact) → connected known (variables_in c) ≡ connected (conditions there) (variables_in c)
-      → OnOk r (new ≡ made ++ owed names given c place ∷ []) → OnOk r (new ≡ made ++ owed names (conditions there) c place ∷ [])
-  under (Ok x) there e h =
+  under : (there : List Fact) → connected known (variables_in c) ≡ connected (conditions there) (variables_in c)
+      → new ≡ made ++ owed names given c place ∷ [] → new ≡ made ++ owed names (conditions there) c place ∷ []
+  under there e h =
       h ∙ ap (λ o. made ++ o ∷ []) (owed_same names given (conditions there) c place (ap (λ l. connected l (variables_in c)) lent ∙ e))
-  under (Err x) there e h = tt
 
   pub owed_here : {A E : Type 0} (r : Result A E) → s ≡ S.Owes place c
       → connected known (variables_in c) ≡ connected (conditions (take 0 facts ++ drop 0 facts)) (variables_in c)
       → OnOk r (new ≡ made ++ owed names given c place ∷ []) → OnOk r (new ≡ made ++ step_goals names w s)
   owed_here (Ok x) is e h =
-      under (Ok x) facts e h
+      under facts e h
       ∙ (ap (λ (l : List Fact). made ++ owed names (conditions l) c place ∷ []) (sym f.in_force) ∙ ap (λ (t : Step). made ++ step_goals names w t) (sym is))
   owed_here (Err x) is e h = tt
 
@@ -134,7 +133,7 @@ module _ (names : List (List ℕ)) (made new : List Obligation) (w : Written) (f
   owed_earlier (Ok x) until since recent is before newest e h =
       let more : drop since facts ≡ drop (length w.facts - recent) w.facts =
       ap (λ n. drop n facts) newest ∙ ap (λ (l : List Fact). drop (length l - recent) l) (sym f.in_force) in
-      under (Ok x) (take until facts ++ drop since facts) e h
+      under (take until facts ++ drop since facts) e h
       ∙ ((λ j. made ++ owed names (conditions (before j ++ more j)) c place ∷ []) ∙ ap (λ (t : Step). made ++ step_goals names w t) (sym is))
   owed_earlier (Err x) until since recent is before newest e h = tt
 

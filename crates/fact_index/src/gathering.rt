@@ -25,10 +25,10 @@ struct Keys {
 fn put_key(keys: &mut Keys, key: u32) -> Result<(), AllocError>
     ensures { OnOk result (Puts keys.old keys.new (key ∷ [])) }
 {
-    if keys.seen.insert(key)? {
-        keys.list.push(key)?;
+    if !keys.seen.insert(key)? {
+        return Ok(());
     }
-    Ok(())
+    keys.list.push(key)
 }
 
 /// Puts those of these keys that aren't there. The one error is want of memory.

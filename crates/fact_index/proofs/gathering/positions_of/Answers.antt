@@ -5,6 +5,9 @@ use Rattle.std.proofs.lemmas.List.Sorted.{list_any-IsPermutation}
 use Rattle.fact_index.specs.Filed.{has}
 use Rattle.fact_index.proofs.gathering.positions_of.Goals as goal
 
+pub loop-key-preserved : goal.loop-key-preserved
+loop-key-preserved c = ?
+
 pub returns-clause-all : goal.returns-clause-all
 returns-clause-all c = λ key position e h.
     ap (λ l. has l position) c.from_vec.ensures

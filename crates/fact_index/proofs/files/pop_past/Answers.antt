@@ -1,0 +1,6 @@
+use Rattle.fact_index.proofs.Filing.{popped}
+use Rattle.fact_index.proofs.files.pop_past.Goals as goal
+
+pub returns-in-Some : goal.returns-in-Some
+returns-in-Some c = λ position below h.
+    popped c.args.positions.now c.pop.new.self c.in-Some.field-0 c.args.mark position c.in-Some.ensures ? below h
