@@ -26,11 +26,11 @@ popped old new last mark p e past below h =
     or_split (has new p) (has (last ∷ []) p) (sym (list_any-append (nat_eq p) new (last ∷ [])) ∙ (ap (λ l. has l p) (sym e) ∙ h)) (λ k. k)
     (λ k. or_split (nat_eq p last) false k (λ m. let same = eqb-true p last m in absurd (omega (arith, same, at, past, below))) (λ m. absurd (false≢true m)))
 
-pub pushed_last : (old new : List ℕ) (p : ℕ) → new ≡ old ++ p ∷ [] → has new p ≡ true
+pushed_last : (old new : List ℕ) (p : ℕ) → new ≡ old ++ p ∷ [] → has new p ≡ true
 pushed_last old new p e =
     ap (λ l. has l p) e ∙ (list_any-append (nat_eq p) old (p ∷ []) ∙ or_right (has old p) (has (p ∷ []) p) (or_left (nat_eq p p) false (eq-eqb p p refl)))
 
-pub pushed_kept : (old new : List ℕ) (p q : ℕ) → new ≡ old ++ p ∷ [] → has old q ≡ true → has new q ≡ true
+pushed_kept : (old new : List ℕ) (p q : ℕ) → new ≡ old ++ p ∷ [] → has old q ≡ true → has new q ≡ true
 pushed_kept old new p q e h = ap (λ l. has l q) e ∙ (list_any-append (nat_eq q) old (p ∷ []) ∙ or_left (has old q) (has (p ∷ []) q) h)
 
 -- a list in the place of the one of a key
@@ -41,7 +41,7 @@ set_by mid key k p l within more h (inl same) =
     ∙ (ap (λ xs. has xs p) (get_or-set_same mid key l [] within) ∙ more p (ap (λ n. has (slice_index_or mid n []) p) (sym same) ∙ h))
 set_by mid key k p l within more h (inr other) = ap (λ xs. has xs p) (get_or-set_other mid key k l [] other) ∙ h
 
-pub set_keeps : (old mid : List (List ℕ)) (key p : ℕ) (l : List ℕ) → key < length mid → ((k : ℕ) → slice_index_or mid k [] ≡ slice_index_or old k [])
+set_keeps : (old mid : List (List ℕ)) (key p : ℕ) (l : List ℕ) → key < length mid → ((k : ℕ) → slice_index_or mid k [] ≡ slice_index_or old k [])
     → l ≡ slice_index_or mid key [] ++ p ∷ [] → Keeps old (set mid key l)
 set_keeps old mid key p l within same e k q h =
     set_by mid key k q l within (λ n m. pushed_kept (slice_index_or mid key []) l p n e m) (ap (λ xs. has xs q) (same k) ∙ h) (cases_eq k key)
@@ -53,6 +53,11 @@ pushed_keeps (Ok x) old mid key p now l within same read e =
     set_keeps old mid key p l within same (e ∙ ap (λ n. n ++ p ∷ []) (read ∙ get_or_default mid key now [] within))
 pushed_keeps (Err x) old mid key p now l within same read e = tt
 
+pub pushed_there : {A E : Type 0} (r : Result A E) (mid : List (List ℕ)) (key p : ℕ) (now l : List ℕ) → key < length mid → OnOk r (l ≡ now ++ p ∷ [])
+    → OnOk r (IsIn (set mid key l) key p)
+pushed_there (Ok x) mid key p now l within e = ap (λ xs. has xs p) (get_or-set_same mid key l [] within) ∙ pushed_last now l p e
+pushed_there (Err x) mid key p now l within e = tt
+
 -- ---- an empty list more
 
 pub one_empty : (lists : List (List ℕ)) (k : ℕ) → slice_index_or (lists ++ [] ∷ []) k [] ≡ slice_index_or lists k []
@@ -63,7 +68,7 @@ one_empty (l ∷ lists) (suc k) = one_empty lists k
 
 -- ---- keys of a fact, one after the other
 
-has_taken : (ks : List ℕ) (i q : ℕ) → i < length ks → has (take (i + 1) ks) q ≡ true → (has (take i ks) q || has (get_or ks i 0 ∷ []) q) ≡ true
+pub has_taken : (ks : List ℕ) (i q : ℕ) → i < length ks → has (take (i + 1) ks) q ≡ true → (has (take i ks) q || has (get_or ks i 0 ∷ []) q) ≡ true
 has_taken ks i q within h =
     sym (list_any-append (nat_eq q) (take i ks) (get_or ks i 0 ∷ [])) ∙ (ap (λ l. has l q) (sym (take_more ks i 0 within)) ∙ h)
 

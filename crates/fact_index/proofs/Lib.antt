@@ -2,6 +2,6 @@ pub mod Bools
 pub mod Rounds
 pub mod AsGood
 pub mod Picks
-pub mod Reaching
 pub mod Filing
+pub mod Reaching
 pub mod Found

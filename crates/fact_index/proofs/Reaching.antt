@@ -23,6 +23,7 @@ use Rattle.fact_index.specs.Filed.{has, IsIn, IsFiled}
 use Rattle.fact_index.specs.Gathered.{AreListed, Puts, AreClosed}
 use Rattle.fact_index.specs.Keys.{key_of, keys_of, keys_at, keys_at_each, keys_of_option}
 use Rattle.fact_index.specs.Picked.{IsWhole, HasAll}
+use Rattle.fact_index.proofs.Filing.{has_taken}
 use Rattle.fact_index.proofs.Bools.{or_left, or_right, or_split, and_both}
 
 -- ---- keys that are put
@@ -101,6 +102,17 @@ module _ (a b : Keys) (k : ℕ) (u : UpdatesBy nat_cmp (nat_cmp k) a.seen b.seen
     grown = ([], e ∙ sym (append-nil a.list));
     put = λ l q h. ap (λ m. has m q) e ∙ (ap (λ n. has a.list n) (sym (has_one k q h)) ∙ l k s);
   }
+
+-- the positions under keys, one key after the other
+pub under_more : (lists : List (List ℕ)) (ks : List ℕ) (i k : ℕ) (old new : List ℕ) → i < length ks → k ≡ get_or ks i 0
+    → new ≡ old ++ slice_index_or lists k [] → ((q p : ℕ) → has (take i ks) q ≡ true → IsIn lists q p → has old p ≡ true)
+    → (q p : ℕ) → has (take (i + 1) ks) q ≡ true → IsIn lists q p → has new p ≡ true
+under_more lists ks i k old new within read put h q p e m =
+    let under = slice_index_or lists k [] in
+    ap (λ l. has l p) put
+    ∙ (list_any-append (nat_eq p) old under
+    ∙ or_split (has (take i ks) q) (has (get_or ks i 0 ∷ []) q) (has_taken ks i q within e) (λ t. or_left (has old p) (has under p) (h q p t m))
+    (λ t. or_right (has old p) (has under p) (ap (λ n. has (slice_index_or lists n []) p) (read ∙ has_one (get_or ks i 0) q t) ∙ m)))
 
 -- ---- keys from which no fact leads to others
 

@@ -1,12 +1,16 @@
-use Rattle.std.proofs.Common.{sym, ap, ◌∙◌}
+use Rattle.std.proofs.Common.{◌++◌, sym, ap, ◌∙◌, refl}
 use Rattle.std.specs.Prelude.{nat_eq}
 use Rattle.std.proofs.lemmas.List.{take_all}
 use Rattle.std.proofs.lemmas.List.Sorted.{list_any-IsPermutation}
 use Rattle.fact_index.specs.Filed.{has}
+use Rattle.fact_index.proofs.Reaching.{under_more}
 use Rattle.fact_index.proofs.gathering.positions_of.Goals as goal
 
 pub loop-key-preserved : goal.loop-key-preserved
-loop-key-preserved c = ?
+loop-key-preserved c =
+    let l = c.loop-key in
+    under_more c.args.lists.now c.args.keys.now l.key-index _ l.positions.items c.extend_from_slice.new.self.items c.loop-key-test.true refl
+    (c.in_ok-extend_from_slice.ensures.items ∙ ap (λ ps. l.positions.items ++ ps) c.positions_under.ensures) l.invariant
 
 pub returns-clause-all : goal.returns-clause-all
 returns-clause-all c = λ key position e h.
