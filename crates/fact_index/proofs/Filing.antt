@@ -1,8 +1,7 @@
 -- Positions in lists by keys.
-use Rattle.std.proofs.Common.{◌≡◌, ℕ, zero, suc, ◌+◌, ◌-◌, ◌≤◌, ◌<◌, ◌⊎◌, inl, inr, Bool, true, false, ◌||◌, List, [], ◌∷◌, ◌++◌, length, take, get_or, set}
+use Rattle.std.proofs.Common.{◌≡◌, ℕ, zero, suc, ◌+◌, ◌-◌, ◌≤◌, ◌<◌, ◌⊎◌, inl, inr, true, false, ◌||◌, List, [], ◌∷◌, ◌++◌, length, take, get_or, set}
 use Rattle.std.proofs.Common.{sym, ap, ◌∙◌, subst, refl, arith, slice_get, length-append, get_or-set_same, Result, Ok, Err}
-use Rattle.std.specs.Prelude.{OnOk, Some, None, nat_eq, slice_index_or}
-use Rattle.std.specs.List.{list_any}
+use Rattle.std.specs.Prelude.{OnOk, nat_eq, slice_index_or}
 use Rattle.std.proofs.lemmas.Bool.{false≢true, eqb-true, eq-eqb, cases_lt, cases_eq}
 use Rattle.std.proofs.lemmas.List.{take_all, take_more, get_or_default, get_or-set_other}
 use Rattle.std.proofs.lemmas.List.Folds.{list_any-append}

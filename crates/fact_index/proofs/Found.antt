@@ -1,5 +1,5 @@
 -- The facts that are found for a goal are as good as all.
-use Rattle.std.proofs.Common.{◌≡◌, ℕ, ◌+◌, true, List, [], ◌∷◌, ◌++◌, take, drop, map, slice_get, sym, ap, ◌∙◌, subst, refl, arith}
+use Rattle.std.proofs.Common.{◌≡◌, ℕ, ◌+◌, true, List, [], ◌++◌, take, drop, map, slice_get, sym, ap, ◌∙◌, subst, arith}
 use Rattle.std.specs.List.{fold}
 use Rattle.sail_types.specs.declared.numbers.Con.{Con}
 use Rattle.linear.specs.Choices.{variables_in, with_atom}
@@ -9,7 +9,7 @@ use Rattle.obligations.specs.Connected.{connected}
 use Rattle.fact_index.specs.Filed.{has, IsIn, IsFiled}
 use Rattle.fact_index.specs.Gathered.{AreClosed}
 use Rattle.fact_index.specs.Keys.{key_of, keys_of}
-use Rattle.fact_index.specs.Picked.{IsAsGood, HasAll, IsPart, IsPicked}
+use Rattle.fact_index.specs.Picked.{HasAll, IsPart, IsPicked}
 use Rattle.fact_index.proofs.AsGood.{good_append, good_connected}
 use Rattle.fact_index.proofs.Picks.{conditions_append}
 use Rattle.fact_index.proofs.Reaching.{is_among, goal_among, part_among, taken_at, dropped_at}

@@ -1,7 +1,7 @@
 -- Facts that are picked by their positions.
-use Rattle.std.proofs.Common.{◌≡◌, ℕ, zero, suc, ◌+◌, ◌-◌, ◌≤◌, ◌<◌, ◌⊎◌, inl, inr, Bool, true, false, List, [], ◌∷◌, ◌++◌, length, take, drop, get_or, slice_get}
+use Rattle.std.proofs.Common.{◌≡◌, ℕ, zero, suc, ◌+◌, ◌-◌, ◌≤◌, ◌<◌, ◌⊎◌, inl, inr, Bool, true, false, List, [], ◌∷◌, ◌++◌, length, take, get_or, slice_get}
 use Rattle.std.proofs.Common.{sym, ap, ◌∙◌, subst, refl, arith, append_assoc, append-nil}
-use Rattle.std.specs.Prelude.{Some, None, nat_eq}
+use Rattle.std.specs.Prelude.{Some, nat_eq}
 use Rattle.std.specs.List.{list_any}
 use Rattle.std.specs.List.Sorted.{IsNonDecreasing}
 use Rattle.std.proofs.lemmas.Bool.{false≢true, eqb-true, cases_lt}

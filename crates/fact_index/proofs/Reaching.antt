@@ -1,7 +1,7 @@
 -- Keys that are gathered from a goal.
-use Rattle.std.proofs.Common.{◌≡◌, ℕ, zero, suc, ◌+◌, ◌≤◌, ◌<◌, Bool, true, false, ◌||◌, cond, not, List, [], ◌∷◌, ◌++◌, length, take, drop, get_or, map}
+use Rattle.std.proofs.Common.{◌≡◌, ℕ, zero, suc, ◌+◌, ◌≤◌, ◌<◌, Bool, true, false, ◌||◌, cond, List, [], ◌∷◌, ◌++◌, length, take, drop, get_or, map}
 use Rattle.std.proofs.Common.{sym, ap, ◌∙◌, subst, refl, arith, append_assoc, append-nil, slice_get}
-use Rattle.std.specs.Prelude.{Some, None, nat_eq, slice_index_or}
+use Rattle.std.specs.Prelude.{Some, nat_eq, slice_index_or}
 use Rattle.std.specs.List.{list_any, list_all, fold}
 use Rattle.std.specs.Ordering.{nat_cmp}
 use Rattle.std.specs.BTreeSet.{contains, UpdatesBy}

@@ -1,10 +1,10 @@
 -- Keys that are gathered from a goal.
-use Rattle.std.specs.Prelude.{◌≡◌, ℕ, Bool, true, List, ◌++◌}
+use Rattle.std.specs.Prelude.{◌≡◌, ℕ, true, List, ◌++◌}
 use Rattle.std.specs.BTreeSet.{contains}
 use Rattle.std.specs.Ordering.{nat_cmp}
 use Rattle.value_indices.specs.declared.notes.Fact.{Fact}
 use Rattle.fact_index.specs.declared.gathering.Keys.{Keys}
-use Rattle.fact_index.specs.Filed.{has, IsIn, AreIn}
+use Rattle.fact_index.specs.Filed.{has, IsIn}
 use Rattle.fact_index.specs.Keys.{keys_at}
 
 -- what is seen is in the list

@@ -2,7 +2,6 @@ use Rattle.std.proofs.Common.{◌≡◌, ◌∷◌, [], ◌++◌, Bool, true, fa
 use Rattle.std.specs.Prelude.{OnOk, ℕ}
 use Rattle.std.specs.BTreeSet.{UpdatesBy}
 use Rattle.std.specs.Ordering.{nat_cmp}
-use Rattle.std.proofs.lemmas.Bool.{false≢true}
 use Rattle.fact_index.specs.declared.gathering.Keys.{Keys}
 use Rattle.fact_index.specs.Gathered.{Puts}
 use Rattle.fact_index.proofs.Reaching.{put_new, put_again}

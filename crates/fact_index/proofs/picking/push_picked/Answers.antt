@@ -1,4 +1,4 @@
-use Rattle.std.proofs.Common.{refl, arith}
+use Rattle.std.proofs.Common.{arith}
 use Rattle.std.proofs.lemmas.List.Sorted.{IsNonDecreasingBy-from_sort}
 use Rattle.fact_index.proofs.Picks.{passed, one_picked, all_read}
 use Rattle.fact_index.proofs.picking.push_picked.Goals as goal
