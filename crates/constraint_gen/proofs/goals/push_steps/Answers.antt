@@ -17,7 +17,8 @@ loop-step-preserved c =
     subst (λ fs. IsInForce w fs marks) (sym c.as_slice-in-loop-step.ensures.value)
     (subst (λ ms. IsInForce w l.facts.items ms) (sym c.as_slice-in-loop-step-2.ensures) l.invariant.force) in
     let filed : IsFiled facts lists =
-    subst (λ fs. IsFiled fs lists) (sym c.as_slice-in-loop-step.ensures.value) (subst (IsFiled l.facts.items) (sym c.as_slice.ensures.value) l.invariant.filed) in
+    subst (λ fs. IsFiled fs lists) (sym c.as_slice-in-loop-step.ensures.value)
+    (subst (IsFiled l.facts.items) (sym c.as_slice.ensures.value) l.invariant.filed) in
     record {
       owed = steps_owed c.args.names.now c.args.made.now l.made c.push_step.new.made l.yielded c.in-Some.step l.invariant.owed
           (c.in_ok-push_step.ensures w force filed);

@@ -30,6 +30,7 @@ returns-clause-filed c =
     kept_read w old new c.read.new.marks c.args.step kept
     (c.kept_behind-kept.ensures w old (subst (IsInForce w old) (sym c.as_slice.ensures) h) count) force in
     let below : IsFiledBelow kept given left =
-    subst (λ fs. IsFiledBelow kept fs left) (sym c.as_slice-3.ensures.value) (kept_filed kept old new c.args.lists.now.items left same c.in_ok-unfile.ensures filed) in
+    subst (λ fs. IsFiledBelow kept fs left) (sym c.as_slice-3.ensures.value)
+    (kept_filed kept old new c.args.lists.now.items left same c.in_ok-unfile.ensures filed) in
     then_ok _ (IsFiled new c.file.new.lists.items) c.file.result
     (λ g. subst (λ fs. IsFiled fs c.file.new.lists.items) c.as_slice-3.ensures.value (g below)) c.file.ensures)

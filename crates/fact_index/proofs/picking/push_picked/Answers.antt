@@ -2,7 +2,11 @@ use Rattle.std.proofs.Common.{arith}
 use Rattle.std.proofs.lemmas.List.Sorted.{IsNonDecreasingBy-from_sort}
 use Rattle.fact_index.proofs.Picks.{passed, one_picked, all_read}
 use Rattle.fact_index.proofs.picking.push_picked.Goals as goal
-use Rattle.fact_index.proofs.picking.push_picked.Goals.{then-position-first+then-place-next+then-place-facts+in_ok-push_condition, then-position-first+else-place-next, else-place-next-via-then-place-next+else-place-facts, else-place-next-via-else-place-next, else-position-first}
+use Rattle.fact_index.proofs.picking.push_picked.Goals.{then-position-first+then-place-next+then-place-facts+in_ok-push_condition}
+use Rattle.fact_index.proofs.picking.push_picked.Goals.{then-position-first+else-place-next}
+use Rattle.fact_index.proofs.picking.push_picked.Goals.{else-place-next-via-then-place-next+else-place-facts}
+use Rattle.fact_index.proofs.picking.push_picked.Goals.{else-place-next-via-else-place-next}
+use Rattle.fact_index.proofs.picking.push_picked.Goals.{else-position-first}
 
 pub loop-position-preserved : goal.loop-position-preserved
 loop-position-preserved c =
