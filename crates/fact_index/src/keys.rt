@@ -1,6 +1,5 @@
 //! Keys of variables, under which facts are filed.
 ghost use Rattle.std.specs.Prelude.{◌≡◌, IfOk};
-ghost use Rattle.sail_types.specs.Sums.{terms_of};
 ghost use Rattle.sail_types.specs.declared.numbers.Atom.{out-Atom};
 ghost use Rattle.fact_index.specs.Keys as spec;
 
