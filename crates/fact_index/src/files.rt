@@ -50,7 +50,8 @@ fn file_fact(
     Ok(())
 }
 
-/// Files the facts in force, of which so many of the first are filed. The one error is want of memory.
+/// Files the facts in force, of which so many of the first are filed. Before the first fact there is no list. The one error is want of
+/// memory.
 pub fn file(
     alloc: Global,
     lists: &mut Vec<Items<usize>>,

@@ -83,7 +83,7 @@ fn facts_from(facts: &[Fact], first: usize) -> &[Fact]
 }
 
 /// The conditions among facts that are filed, up to a position and from one on, that can be connected to a goal: those that are left
-/// out aren't. It fails where memory is wanting.
+/// out aren't. Where the goal has no variable, all of them. It fails where memory is wanting.
 pub fn facts_for(
     alloc: Global,
     lists: &[Items<usize>],
