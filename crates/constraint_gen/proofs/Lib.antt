@@ -2,7 +2,7 @@ pub mod Unchanged
 pub mod Names
 pub mod OwnNames
 pub mod Owing
-pub mod Noted
+pub mod Gathered
 pub mod Before
 pub mod Halves
 pub mod Placing
