@@ -1,6 +1,7 @@
 pub mod Unchanged
 pub mod Names
 pub mod OwnNames
+pub mod Keeping
 pub mod Owing
 pub mod Gathered
 pub mod Before

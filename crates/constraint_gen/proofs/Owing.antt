@@ -1,13 +1,14 @@
 -- Obligations, read off notes and off steps.
 use Rattle.std.proofs.Common.{◌≡◌, ℕ, ◌+◌, ◌-◌, ◌<◌, ◌≤◌, List, [], ◌∷◌, ◌++◌, length, take, drop, get_or}
 use Rattle.std.proofs.Common.{sym, ap, ◌∙◌, refl, arith, append_assoc, append-nil, Result, Ok, Err}
-use Rattle.std.specs.Prelude.{OnOk, reverse, true, false, ◌==◌}
-use Rattle.std.proofs.lemmas.Bool.{eqb-true}
+use Rattle.std.specs.Prelude.{OnOk, reverse, ◌==◌}
 use Rattle.std.proofs.lemmas.List.{take_all, take_more, reverse-append, nil_from_length}
 use Rattle.sail_base.specs.declared.place.Place.{Place}
 use Rattle.sail_types.specs.declared.numbers.Con.{Con}
+use Rattle.std.specs.Prelude.{Some, None, slice_get}
+use Rattle.std.proofs.lemmas.Option.{slice_get-get_or, slice_get_within, get_or_from_slice_get, none-some}
+use Rattle.linear.specs.Choices.{variables_in}
 use Rattle.value_indices.specs.declared.notes.Fact.{Fact}
-use Rattle.value_indices.specs.declared.notes.Fact.TheVariants as Y
 use Rattle.value_indices.specs.declared.notes.Step.{Step}
 use Rattle.value_indices.specs.declared.notes.Step.TheVariants as S
 use Rattle.value_indices.specs.declared.walking.Walking.{Walking}
@@ -19,39 +20,18 @@ use Rattle.value_indices.proofs.Written.{steps_behind}
 use Rattle.obligations.specs.declared.obligation.Obligation.{Obligation}
 use Rattle.obligations.specs.Owed.{owed}
 use Rattle.constraint_gen.specs.Obligations.{goals_in, names_of}
+use Rattle.obligations.specs.Closing.{with_closing}
+use Rattle.obligations.specs.Connected.{connected}
+use Rattle.obligations.specs.Owed.{names_for}
 use Rattle.constraint_gen.specs.Reading.{step_goals, obligations_of}
-use Rattle.function_notes.proofs.Lists.{rest_at, none_left}
 use Rattle.constraint_gen.proofs.Unchanged.{restored_notes, forgotten_notes, unclaimed_notes}
-
--- ---- conditions among facts
-
-pub conditions_append : (xs ys : List Fact) → conditions (xs ++ ys) ≡ conditions xs ++ conditions ys
-conditions_append [] ys = refl
-conditions_append (Y.Holds c ∷ xs) ys = ap (λ l. c ∷ l) (conditions_append xs ys)
-conditions_append (Y.IsGiven v ∷ xs) ys = conditions_append xs ys
-
-pub conditions_more : (x : Fact) (xs : List Fact) → conditions (x ∷ xs) ≡ conditions (x ∷ []) ++ conditions xs
-conditions_more (Y.Holds c) xs = refl
-conditions_more (Y.IsGiven v) xs = refl
-
-pub conditions_next : (facts : List Fact) (k : ℕ) (x : Fact) (made new all : List Con) → k < length facts → x ≡ get_or facts k x
-    → new ≡ made ++ conditions (x ∷ []) → made ++ conditions (drop k facts) ≡ all → new ++ conditions (drop (k + 1) facts) ≡ all
-conditions_next facts k x made new all within read put h =
-    ap (λ l. l ++ conditions (drop (k + 1) facts)) put
-    ∙ (append_assoc made (conditions (x ∷ [])) (conditions (drop (k + 1) facts))
-    ∙ (ap (λ l. made ++ l) (sym (conditions_more x (drop (k + 1) facts)) ∙ ap conditions (sym (rest_at facts k x within read))) ∙ h))
-
-pub conditions_end : (facts : List Fact) (k : ℕ) (made all : List Con) → length facts ≤ k → made ++ conditions (drop k facts) ≡ all → made ≡ all
-conditions_end facts k made all past h = sym (append-nil made) ∙ (ap (λ l. made ++ conditions l) (sym (none_left facts k past)) ∙ h)
 
 -- ---- what was remembered last
 
-pub no_marks : (ms : List ℕ) → (length ms == 0) ≡ true → length ms ≡ 0
-no_marks ms e = eqb-true (length ms) 0 e
-
-pub some_marks : (ms : List ℕ) → (length ms == 0) ≡ false → 0 < length ms
-some_marks [] e = let h : true ≡ false = e in absurd (cc)
-some_marks (m ∷ ms) e = omega arith
+pub no_last : (ms : List ℕ) → slice_get ms (length ms - 1) ≡ None → length ms ≡ 0
+no_last [] e = refl
+no_last (m ∷ ms) e =
+    let h = slice_get-get_or (m ∷ ms) (length (m ∷ ms) - 1) 0 (omega arith) in absurd (none-some (get_or (m ∷ ms) (length (m ∷ ms) - 1) 0) (sym e ∙ h))
 
 last_first : (ms : List ℕ) (d : ℕ) → 0 < length ms → reverse ms ≡ get_or ms (length ms - 1) d ∷ reverse (take (length ms - 1) ms)
 last_first ms d lt =
@@ -64,9 +44,12 @@ pub none_remembered : (w : Written) (facts : List Fact) (marks : List ℕ) → l
 none_remembered w facts marks e h =
     sym (ap earlier (h.remembered ∙ ap (λ ms. beginnings facts (reverse ms)) (nil_from_length marks e)))
 
-pub last_remembered : (w : Written) (facts : List Fact) (marks : List ℕ) (d : ℕ) → 0 < length marks → IsInForce w facts marks
-    → take (get_or marks (length marks - 1) d) facts ≡ earlier w.remembered
-last_remembered w facts marks d lt h = sym (ap earlier (h.remembered ∙ ap (beginnings facts) (last_first marks d lt)))
+pub last_remembered : (w : Written) (facts : List Fact) (marks : List ℕ) (m : ℕ) → slice_get marks (length marks - 1) ≡ Some m → IsInForce w facts marks
+    → take m facts ≡ earlier w.remembered
+last_remembered w facts marks m got h =
+    let within = slice_get_within marks (length marks - 1) m got in
+    ap (λ n. take n facts) (sym (get_or_from_slice_get marks (length marks - 1) m 0 got))
+    ∙ sym (ap earlier (h.remembered ∙ ap (beginnings facts) (last_first marks 0 (omega (arith, within)))))
 
 -- ---- what a step owes
 
@@ -108,25 +91,46 @@ steps_owed names start so_far new ss s h e =
     e ∙ (ap (λ l. l ++ step_goals names w s) h ∙ (append_assoc start (goals_in names w.notes) (step_goals names w s)
     ∙ ap (λ l. start ++ l) (sym (step_owed names w s) ∙ ap (λ v. goals_in names v.notes) (sym (steps_behind (begun 0) ss (s ∷ []))))))
 
+-- an obligation is the same where the same facts are connected to its goal
+abbrev owed_of : List (List ℕ) → Con → Place → List Con → Obligation
+owed_of names c place facts = record {
+  facts = with_closing facts c;
+  goal = c;
+  place = place;
+  names = names_for names (with_closing facts c) c;
+}
+
+owed_same : (names : List (List ℕ)) (cs ds : List Con) (c : Con) (place : Place) → connected cs (variables_in c) ≡ connected ds (variables_in c)
+    → owed names cs c place ≡ owed names ds c place
+owed_same names cs ds c place e = ap (owed_of names c place) e
+
 -- a goal under what is in force, and under what was remembered
 module _ (names : List (List ℕ)) (made new : List Obligation) (w : Written) (facts : List Fact) (marks : List ℕ) (place : Place) (c : Con) (s : Step)
-    (f : IsInForce w facts marks) where
-  pub owed_here : {A E : Type 0} (r : Result A E) (none : List Fact) → s ≡ S.Owes place c → none ≡ []
-      → OnOk r (new ≡ made ++ owed names (conditions (facts ++ none)) c place ∷ []) → OnOk r (new ≡ made ++ step_goals names w s)
-  owed_here (Ok x) none is e h =
-      h ∙ (ap (λ (l : List Fact). made ++ owed names (conditions l) c place ∷ []) (ap (λ (l : List Fact). facts ++ l) e ∙ (append-nil facts ∙ sym f.in_force))
-      ∙ ap (λ (t : Step). made ++ step_goals names w t) (sym is))
-  owed_here (Err x) none is e h = tt
+    (f : IsInForce w facts marks) (known given : List Con) (lent : given ≡ known) where
+  under : (there : List Fact) → connected known (variables_in c) ≡ connected (conditions there) (variables_in c)
+      → new ≡ made ++ owed names given c place ∷ [] → new ≡ made ++ owed names (conditions there) c place ∷ []
+  under there e h =
+      h ∙ ap (λ o. made ++ o ∷ []) (owed_same names given (conditions there) c place (ap (λ l. connected l (variables_in c)) lent ∙ e))
 
-  pub owed_earlier : {A E : Type 0} (r : Result A E) (before more : List Fact) (recent : ℕ) → s ≡ S.OwesEarlier place recent c
-      → before ≡ earlier w.remembered → more ≡ drop (length facts - recent) facts
-      → OnOk r (new ≡ made ++ owed names (conditions (before ++ more)) c place ∷ []) → OnOk r (new ≡ made ++ step_goals names w s)
+  pub owed_here : {A E : Type 0} (r : Result A E) → s ≡ S.Owes place c
+      → connected known (variables_in c) ≡ connected (conditions (take 0 facts ++ drop 0 facts)) (variables_in c)
+      → OnOk r (new ≡ made ++ owed names given c place ∷ []) → OnOk r (new ≡ made ++ step_goals names w s)
+  owed_here (Ok x) is e h =
+      under facts e h
+      ∙ (ap (λ (l : List Fact). made ++ owed names (conditions l) c place ∷ []) (sym f.in_force) ∙ ap (λ (t : Step). made ++ step_goals names w t) (sym is))
+  owed_here (Err x) is e h = tt
+
+  pub owed_earlier : {A E : Type 0} (r : Result A E) (until since recent : ℕ) → s ≡ S.OwesEarlier place recent c
+      → take until facts ≡ earlier w.remembered → since ≡ length facts - recent
+      → connected known (variables_in c) ≡ connected (conditions (take until facts ++ drop since facts)) (variables_in c)
+      → OnOk r (new ≡ made ++ owed names given c place ∷ []) → OnOk r (new ≡ made ++ step_goals names w s)
   unfolding recalled
-  owed_earlier (Ok x) before more recent is b m h =
-      let newest : more ≡ drop (length w.facts - recent) w.facts =
-      m ∙ ap (λ (l : List Fact). drop (length l - recent) l) (sym f.in_force) in
-      h ∙ ((λ j. made ++ owed names (conditions (b j ++ newest j)) c place ∷ []) ∙ ap (λ (t : Step). made ++ step_goals names w t) (sym is))
-  owed_earlier (Err x) before more recent is b m h = tt
+  owed_earlier (Ok x) until since recent is before newest e h =
+      let more : drop since facts ≡ drop (length w.facts - recent) w.facts =
+      ap (λ n. drop n facts) newest ∙ ap (λ (l : List Fact). drop (length l - recent) l) (sym f.in_force) in
+      under (take until facts ++ drop since facts) e h
+      ∙ ((λ j. made ++ owed names (conditions (before j ++ more j)) c place ∷ []) ∙ ap (λ (t : Step). made ++ step_goals names w t) (sym is))
+  owed_earlier (Err x) until since recent is before newest e h = tt
 
 -- ---- what a walk has written down
 

@@ -1,124 +1,101 @@
 //! What is owed, read off the steps of a walk.
-ghost use Rattle.std.specs.Prelude.{◌≡◌, ◌++◌, ◌∷◌, [], ◌-◌, OnOk, drop, length, take};
+ghost use Rattle.std.specs.Prelude.{◌≡◌, ◌++◌, ◌∷◌, [], List, OnOk, length, take};
+ghost use Rattle.value_indices.specs.declared.notes.Fact.{Fact as Known};
 ghost use Rattle.value_indices.specs.Force.{IsInForce};
-ghost use Rattle.value_indices.specs.Steps.{conditions};
-ghost use Rattle.value_indices.specs.Walking.{Written, begun, earlier, seen, steps_read};
+ghost use Rattle.value_indices.specs.Walking.{Written, begun, earlier, seen, step_read, steps_read};
+ghost use Rattle.fact_index.specs.Filed.{IsFiled};
 ghost use Rattle.obligations.specs.Owed.{owed};
 ghost use Rattle.constraint_gen.specs.Obligations.{goals_in};
 ghost use Rattle.constraint_gen.specs.Reading.{step_goals, obligations_of};
 
 use crate::naming::names_of;
+use fact_index::{facts_for, file, unfile};
 use obligations::{Obligation, owed};
 use sail_base::{Items, Place, Text};
 use sail_types::{Con, copy_con};
 use std::alloc::{AllocError, Global};
 use value_indices::{Fact, Step, Walking};
 
-/// Puts a fact's condition, if it is one. The one error is want of memory.
-fn push_condition(alloc: Global, made: &mut Items<Con>, fact: &Fact) -> Result<(), AllocError>
-    ensures { OnOk result (made.new ≡ made.old ++ conditions (fact.now ∷ [])) }
+/// How many facts were in force where what is in force was remembered last; none where nothing was.
+fn remembered(marks: &[usize]) -> usize
+    ensures { (w : Written) (facts : List Known) → IsInForce w facts marks.now → take result facts ≡ earlier w.remembered }
 {
-    match fact {
-        Fact::Holds(condition) => made.push(copy_con(alloc, condition)?),
-        Fact::IsGiven(_) => Ok(()),
+    match marks.last() {
+        None => 0,
+        Some(mark) => *mark,
     }
 }
 
-/// Puts the conditions among facts. The one error is want of memory.
-fn push_conditions(alloc: Global, made: &mut Items<Con>, facts: &[Fact]) -> Result<(), AllocError>
-    ensures { OnOk result (made.new ≡ made.old ++ conditions facts.now) }
-{
-    for fact in facts {
-        push_condition(alloc, made, fact)?;
-    }
-    Ok(())
-}
-
-/// So many of the first facts.
-fn first_facts(facts: &[Fact], count: usize) -> &[Fact]
-    ensures { result.now ≡ take count facts.now }
-{
-    if count < facts.len() {
-        &facts[..count]
-    } else {
-        facts
-    }
-}
-
-/// The facts that were remembered last; none where nothing was.
-fn remembered<'a>(facts: &'a [Fact], marks: &[usize]) -> &'a [Fact]
-    ensures { (w : Written) → IsInForce w facts.now marks.now → result.now ≡ earlier w.remembered }
-{
-    if marks.is_empty() {
-        return first_facts(facts, 0);
-    }
-    let mark = marks[marks.len() - 1];
-    first_facts(facts, mark)
-}
-
-/// So many of the newest facts.
-fn newest(facts: &[Fact], recent: usize) -> &[Fact]
-    ensures { result.now ≡ drop (length facts.now - recent) facts.now }
-{
-    if recent >= facts.len() {
-        facts
-    } else {
-        &facts[facts.len() - recent..]
-    }
-}
-
-/// Puts an obligation under facts of two lists. The one error is want of memory.
-#[tactic(auto, using(crate::proofs::Owing::conditions_append))]
+/// Puts an obligation under these facts. The one error is want of memory.
 fn push_goal(
     alloc: Global,
     made: &mut Items<Obligation>,
     names: &[Text],
-    facts: &[Fact],
-    more: &[Fact],
+    facts: &[Con],
     goal: &Con,
     place: Place,
 ) -> Result<(), AllocError>
-    ensures { OnOk result (made.new ≡ made.old ++ owed names.now (conditions (facts.now ++ more.now)) goal.now place ∷ []) }
+    ensures { OnOk result (made.new ≡ made.old ++ owed names.now facts.now goal.now place ∷ []) }
 {
-    let mut known = Items::new(alloc);
-    push_conditions(alloc, &mut known, facts)?;
-    push_conditions(alloc, &mut known, more)?;
     let goal = copy_con(alloc, goal)?;
-    made.push(owed(alloc, names, known.as_slice(), goal, place)?)
+    made.push(owed(alloc, names, facts, goal, place)?)
 }
 
-/// Puts what a step owes where these facts are in force. The one error is want of memory.
+/// Puts what a step owes where these facts are in force, filed in these lists. The one error is want of memory.
 fn push_step(
     alloc: Global,
     made: &mut Items<Obligation>,
     names: &[Text],
+    lists: &[Items<usize>],
     facts: &[Fact],
     marks: &[usize],
     step: &Step,
 ) -> Result<(), AllocError>
-    ensures { (w : Written) → IsInForce w facts.now marks.now → OnOk result (made.new ≡ made.old ++ step_goals names.now w step.now) }
+    ensures { (w : Written) → IsInForce w facts.now marks.now → IsFiled facts.now lists.now
+        → OnOk result (made.new ≡ made.old ++ step_goals names.now w step.now) }
 {
     match step {
-        Step::Owes(place, goal) => push_goal(
-            alloc,
-            made,
-            names,
-            facts,
-            first_facts(facts, 0),
-            goal,
-            *place,
-        ),
-        Step::OwesEarlier(place, recent, goal) => push_goal(
-            alloc,
-            made,
-            names,
-            remembered(facts, marks),
-            newest(facts, *recent),
-            goal,
-            *place,
-        ),
+        Step::Owes(place, goal) => {
+            let known = facts_for(alloc, lists, facts, 0, 0, goal)?;
+            push_goal(alloc, made, names, known.as_slice(), goal, *place)
+        }
+        Step::OwesEarlier(place, recent, goal) => {
+            let since = facts.len().saturating_sub(*recent);
+            let known = facts_for(alloc, lists, facts, remembered(marks), since, goal)?;
+            push_goal(alloc, made, names, known.as_slice(), goal, *place)
+        }
         _ => Ok(()),
     }
+}
+
+/// How many of so many facts in force stay where they are behind a step: those before the last mark where it ends what came behind it.
+fn kept_behind(step: &Step, count: usize, marks: &[usize]) -> usize
+    ensures { (w : Written) (facts : List Known) → IsInForce w facts marks.now → length facts ≡ count
+        → take result (step_read w step.now).facts ≡ take result facts }
+{
+    match step {
+        Step::Restores => remembered(marks),
+        Step::Unclaims => remembered(marks),
+        _ => count,
+    }
+}
+
+/// What is in force behind a step, filed. The one error is want of memory.
+fn read_step(
+    alloc: Global,
+    lists: &mut Vec<Items<usize>>,
+    facts: &mut Vec<Fact>,
+    marks: &mut Items<usize>,
+    step: Step,
+) -> Result<(), AllocError>
+    ensures force { OnOk result ((w : Written) → IsInForce w facts.old.items marks.old → IsInForce (step_read w step) facts.new.items marks.new) }
+    ensures filed { OnOk result ((w : Written) → IsInForce w facts.old.items marks.old → IsFiled facts.old.items lists.old.items
+        → IsFiled facts.new.items lists.new.items) }
+{
+    let kept = kept_behind(&step, facts.len(), marks.as_slice());
+    unfile(alloc, lists, facts.as_slice(), kept)?;
+    step.read(facts, marks)?;
+    file(alloc, lists, facts.as_slice(), kept)
 }
 
 /// Puts what the steps of a walk owe, whose variables have these names. The one error is want of memory.
@@ -130,6 +107,7 @@ fn push_steps(
 ) -> Result<(), AllocError>
     ensures { OnOk result (made.new ≡ made.old ++ goals_in names.now (steps_read (begun 0) steps).notes) }
 {
+    let mut lists = Vec::new(alloc);
     let mut facts = Vec::new(alloc);
     let mut marks = Items::new(alloc);
     for step in steps.into_vec() {
@@ -137,11 +115,12 @@ fn push_steps(
             alloc,
             made,
             names,
+            lists.as_slice(),
             facts.as_slice(),
             marks.as_slice(),
             &step,
         )?;
-        step.read(&mut facts, &mut marks)?;
+        read_step(alloc, &mut lists, &mut facts, &mut marks, step)?;
     }
     Ok(())
 }

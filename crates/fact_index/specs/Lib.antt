@@ -1,0 +1,4 @@
+pub mod Keys
+pub mod Filed
+pub mod Gathered
+pub mod Picked
