@@ -3,7 +3,7 @@ pub mod Names
 pub mod OwnNames
 pub mod Keeping
 pub mod Owing
-pub mod Noted
+pub mod Gathered
 pub mod Before
 pub mod Halves
 pub mod Placing

@@ -1,34 +1,29 @@
 -- Obligations, read off notes and off steps.
 use Rattle.std.proofs.Common.{◌≡◌, ℕ, ◌+◌, ◌-◌, ◌<◌, ◌≤◌, List, [], ◌∷◌, ◌++◌, length, take, drop, get_or}
 use Rattle.std.proofs.Common.{sym, ap, ◌∙◌, refl, arith, append_assoc, append-nil, Result, Ok, Err}
-use Rattle.std.specs.Prelude.{OnOk, reverse, map, Some, None, slice_get}
-use Rattle.std.proofs.lemmas.Option.{slice_get-get_or, slice_get_within, get_or_from_slice_get, none-some}
+use Rattle.std.specs.Prelude.{OnOk, reverse, ◌==◌}
 use Rattle.std.proofs.lemmas.List.{take_all, take_more, reverse-append, nil_from_length}
 use Rattle.sail_base.specs.declared.place.Place.{Place}
 use Rattle.sail_types.specs.declared.numbers.Con.{Con}
-use Rattle.linear.specs.Choices.{joined, variables_in}
+use Rattle.std.specs.Prelude.{Some, None, slice_get}
+use Rattle.std.proofs.lemmas.Option.{slice_get-get_or, slice_get_within, get_or_from_slice_get, none-some}
+use Rattle.linear.specs.Choices.{variables_in}
 use Rattle.value_indices.specs.declared.notes.Fact.{Fact}
 use Rattle.value_indices.specs.declared.notes.Step.{Step}
 use Rattle.value_indices.specs.declared.notes.Step.TheVariants as S
 use Rattle.value_indices.specs.declared.walking.Walking.{Walking}
 use Rattle.value_indices.specs.Force.{IsInForce, beginnings}
 use Rattle.value_indices.specs.Steps.{Note, goal_note, size_note, made_note, call_note, way_note, given_note, name_note, conditions}
-use Rattle.value_indices.specs.Walking.{Written, begun, step_read, steps_read, remembering, claiming, recalled, earlier, run, seen}
+use Rattle.value_indices.specs.Walking.{Written, begun, step_read, steps_read, remembering, claiming, recalled, earlier, seen}
 use Rattle.value_indices.specs.Walking.{restored, forgotten, unclaimed}
 use Rattle.value_indices.proofs.Written.{steps_behind}
 use Rattle.obligations.specs.declared.obligation.Obligation.{Obligation}
+use Rattle.obligations.specs.Owed.{owed}
+use Rattle.constraint_gen.specs.Obligations.{goals_in, names_of}
 use Rattle.obligations.specs.Closing.{with_closing}
 use Rattle.obligations.specs.Connected.{connected}
-use Rattle.obligations.specs.Owed.{owed, names_for}
-use Rattle.sail_core.specs.declared.model.CoreModel.{CoreModel}
-use Rattle.pattern_leaves.specs.Settings.{Around}
-use Rattle.constraint_gen.specs.declared.defined.Placed.{Placed}
-use Rattle.constraint_gen.specs.Defined.{walk_of, definition_of, definitions_of}
-use Rattle.constraint_gen.specs.Models as models
-use Rattle.constraint_gen.specs.Models.{Definition, from_nothing, definitions_under}
-use Rattle.constraint_gen.specs.Obligations.{goals_in, names_of, obligations_in, obligations}
+use Rattle.obligations.specs.Owed.{names_for}
 use Rattle.constraint_gen.specs.Reading.{step_goals, obligations_of}
-use Rattle.function_notes.proofs.Lists.{rest_at, none_left}
 use Rattle.constraint_gen.proofs.Unchanged.{restored_notes, forgotten_notes, unclaimed_notes}
 
 -- ---- what was remembered last
@@ -147,33 +142,3 @@ walked_owed (Ok x) made new v steps count names read counted named h =
     h ∙ (ap (λ (ns : List (List ℕ)). made ++ goals_in ns (steps_read (begun 0) steps).notes) named
     ∙ (λ j. made ++ goals_in (names_of (counted j) (steps_read (begun 0) (read j)).notes) (steps_read (begun 0) (read j)).notes))
 walked_owed (Err x) made new v steps count names read counted named h = tt
-
-pub nothing_owed_before : (d : Definition) → obligations_of (run d.walk (begun 0)) ≡ obligations_in (from_nothing d)
-unfolding run
-nothing_owed_before d = refl
-
--- ---- one definition after the other
-
-abbrev pub owed_by : Definition → List Obligation
-owed_by d = obligations_in (from_nothing d)
-
-module _ (core : CoreModel) (around : Around) where
-  pub one_defined : (list : List Placed) (k : ℕ) (x : Placed) (made new all : List Obligation) (u v : Written) → k < length list
-      → x ≡ get_or list k x → u ≡ begun 0 → v ≡ run (walk_of core around x.defined) u → new ≡ made ++ obligations_of v
-      → made ++ joined (map owed_by (definitions_of core around (drop k list))) ≡ all
-      → new ++ joined (map owed_by (definitions_of core around (drop (k + 1) list))) ≡ all
-  one_defined list k x made new all u v within read start walked put h =
-      let own : obligations_of v ≡ owed_by (definition_of core around x) =
-      ap obligations_of (walked ∙ ap (run (walk_of core around x.defined)) start) ∙ nothing_owed_before (definition_of core around x) in
-      ap (λ l. l ++ joined (map owed_by (definitions_of core around (drop (k + 1) list)))) (put ∙ ap (λ l. made ++ l) own)
-      ∙ (append_assoc made (owed_by (definition_of core around x)) (joined (map owed_by (definitions_of core around (drop (k + 1) list))))
-      ∙ (ap (λ l. made ++ joined (map owed_by (definitions_of core around l))) (sym (rest_at list k x within read)) ∙ h))
-
-  pub all_defined : (list : List Placed) (k : ℕ) (made all : List Obligation) → length list ≤ k
-      → made ++ joined (map owed_by (definitions_of core around (drop k list))) ≡ all → made ≡ all
-  all_defined list k made all past h =
-      sym (append-nil made) ∙ (ap (λ l. made ++ joined (map owed_by (definitions_of core around l))) (sym (none_left list k past)) ∙ h)
-
-  pub none_defined : (list : List Placed) → around ≡ models.around_of core → definitions_of core around list ≡ definitions_under core around
-      → [] ++ joined (map owed_by (definitions_of core around list)) ≡ obligations core
-  none_defined list settings listed = ap (λ l. joined (map owed_by l)) (listed ∙ ap (definitions_under core) settings)

@@ -147,6 +147,20 @@ fn walk_defined(
     }
 }
 
+/// The walk over a definition, from nothing. It fails where memory is wanting, and where it has more than 2^32 - 1 variables.
+fn walk_alone(
+    alloc: Global,
+    around: &Around<'_>,
+    core: &CoreModel,
+    defined: Defined,
+) -> Result<Walking, AllocError>
+    ensures { IfOk result (λ made. walk.seen made ≡ walk.run (walk_of core.now (around_of around.now) defined) (walk.begun 0)) }
+{
+    let mut walking = Walking::new(alloc, 0);
+    walk_defined(alloc, &mut walking, around, core, defined)?;
+    Ok(walking)
+}
+
 /// The notes of a model that was resolved, a walk for each definition in the order of the text: what is owed, what widths and lengths
 /// are, what is called with which numbers, and what each node makes of what, under the facts in force there. Facts stand once in a
 /// walk, however many notes are under them. It fails where memory is wanting, and where a definition has more than 2^32 - 1 variables.
@@ -158,8 +172,7 @@ pub fn notes(alloc: Global, core: &CoreModel) -> Result<Items<Walking>, AllocErr
     let definitions = in_order(alloc, core)?;
     let mut made = Items::new(alloc);
     for placed in definitions.as_slice() {
-        let mut walking = Walking::new(alloc, 0);
-        walk_defined(alloc, &mut walking, &around, core, placed.defined)?;
+        let walking = walk_alone(alloc, &around, core, placed.defined)?;
         made.push(walking)?;
     }
     Ok(made)
@@ -176,8 +189,7 @@ pub fn obligations(alloc: Global, core: &CoreModel) -> Result<Items<Obligation>,
     let definitions = in_order(alloc, core)?;
     let mut made = Items::new(alloc);
     for placed in definitions.as_slice() {
-        let mut walking = Walking::new(alloc, 0);
-        walk_defined(alloc, &mut walking, &around, core, placed.defined)?;
+        let walking = walk_alone(alloc, &around, core, placed.defined)?;
         push_obligations(alloc, &mut made, walking)?;
     }
     Ok(made)

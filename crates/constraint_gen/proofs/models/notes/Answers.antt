@@ -1,12 +1,11 @@
 use Rattle.std.proofs.Common.{◌≡◌, ◌++◌, ap, ◌∙◌, map}
-use Rattle.value_indices.specs.Walking.{seen}
 use Rattle.pattern_leaves.specs.Settings.{around_of}
 use Rattle.constraint_gen.specs.Defined.{definitions_of}
 use Rattle.constraint_gen.specs.Models.{around_with, definitions_under, notes}
 use Rattle.constraint_gen.specs.Models as models
 use Rattle.constraint_gen.specs.Reading.{notes_of}
 use Rattle.function_notes.proofs.Lists.{got_again}
-use Rattle.constraint_gen.proofs.Noted.{noted_by, one_noted, all_noted, none_noted}
+use Rattle.constraint_gen.proofs.Gathered.{gathered, noted_by, one_gathered, all_gathered, first_gathered, noted_again, all_noted}
 use Rattle.constraint_gen.proofs.models.notes.Goals as goal
 
 pub loop-placed-init : goal.loop-placed-init
@@ -18,18 +17,20 @@ loop-placed-init c =
     c.around_model-around.ensures ∙ (ap (around_with core) c.as_slice.ensures ∙ c.in_ok-lets.ensures) in
     let listed : definitions_of core around items ≡ definitions_under core around =
     ap (definitions_of core around) c.as_slice-placed-items.ensures ∙ c.in_ok-definitions.ensures around in
-    ap (λ l. map notes_of l ++ map noted_by (definitions_of core around items)) c.new-made.ensures ∙ none_noted core around items settings listed
+    ap (λ l. map notes_of l ++ gathered noted_by core around items) c.new-made.ensures ∙ (first_gathered noted_by core around items settings listed ∙ all_noted core)
 
 pub loop-placed-preserved : goal.loop-placed-preserved
 loop-placed-preserved c =
     let l = c.loop-placed in
-    one_noted c.args.core.now (around_of c.around_model-around.result) c.as_slice-placed-items.result.now l.placed-index _ l.made
-    c.push.new.self c.walk_defined.new.walking (seen c.new-walking.result) (notes c.args.core.now) c.loop-placed-test.true
-    (got_again c.as_slice-placed-items.result.now l.placed-index _ c.loop-placed-test.true) c.new-walking.ensures c.in_ok-walk_defined.ensures
-    c.in_ok-push.ensures.pushed l.invariant
+    let core = c.args.core.now in
+    let around = around_of c.around_model-around.result in
+    let items = c.as_slice-placed-items.result.now in
+    one_gathered noted_by core around items l.placed-index _ (map notes_of l.made) (map notes_of c.push.new.self) (notes c.args.core.now)
+    c.loop-placed-test.true (got_again items l.placed-index _ c.loop-placed-test.true)
+    (noted_again core around _ c.in_ok-walking.walking c.in_ok-walking.ensures l.made c.push.new.self c.in_ok-push.ensures.pushed) l.invariant
 
 pub returns : goal.returns
 returns c =
     let l = c.loop-placed in
-    all_noted c.args.core.now (around_of c.around_model-around.result) c.as_slice-placed-items.result.now l.placed-index l.made
+    all_gathered noted_by c.args.core.now (around_of c.around_model-around.result) c.as_slice-placed-items.result.now l.placed-index (map notes_of l.made)
     (notes c.args.core.now) c.loop-placed-test.false l.invariant
