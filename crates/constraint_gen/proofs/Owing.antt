@@ -1,12 +1,11 @@
 -- Obligations, read off notes and off steps.
-use Rattle.std.proofs.Common.{◌≡◌, ℕ, ◌+◌, ◌-◌, ◌<◌, ◌≤◌, List, [], ◌∷◌, ◌++◌, length, take, drop, get_or}
+use Rattle.std.proofs.Common.{◌≡◌, ℕ, ◌+◌, ◌-◌, ◌<◌, List, [], ◌∷◌, ◌++◌, length, take, drop, get_or}
 use Rattle.std.proofs.Common.{sym, ap, ◌∙◌, refl, arith, append_assoc, append-nil, Result, Ok, Err}
-use Rattle.std.specs.Prelude.{OnOk, reverse, ◌==◌}
+use Rattle.std.specs.Prelude.{OnOk, reverse, Some, None, slice_get}
 use Rattle.std.proofs.lemmas.List.{take_all, take_more, reverse-append, nil_from_length}
+use Rattle.std.proofs.lemmas.Option.{slice_get-get_or, slice_get_within, get_or_from_slice_get, none-some}
 use Rattle.sail_base.specs.declared.place.Place.{Place}
 use Rattle.sail_types.specs.declared.numbers.Con.{Con}
-use Rattle.std.specs.Prelude.{Some, None, slice_get}
-use Rattle.std.proofs.lemmas.Option.{slice_get-get_or, slice_get_within, get_or_from_slice_get, none-some}
 use Rattle.linear.specs.Choices.{variables_in}
 use Rattle.value_indices.specs.declared.notes.Fact.{Fact}
 use Rattle.value_indices.specs.declared.notes.Step.{Step}
@@ -18,11 +17,10 @@ use Rattle.value_indices.specs.Walking.{Written, begun, step_read, steps_read, r
 use Rattle.value_indices.specs.Walking.{restored, forgotten, unclaimed}
 use Rattle.value_indices.proofs.Written.{steps_behind}
 use Rattle.obligations.specs.declared.obligation.Obligation.{Obligation}
-use Rattle.obligations.specs.Owed.{owed}
-use Rattle.constraint_gen.specs.Obligations.{goals_in, names_of}
 use Rattle.obligations.specs.Closing.{with_closing}
 use Rattle.obligations.specs.Connected.{connected}
-use Rattle.obligations.specs.Owed.{names_for}
+use Rattle.obligations.specs.Owed.{owed, names_for}
+use Rattle.constraint_gen.specs.Obligations.{goals_in, names_of}
 use Rattle.constraint_gen.specs.Reading.{step_goals, obligations_of}
 use Rattle.constraint_gen.proofs.Unchanged.{restored_notes, forgotten_notes, unclaimed_notes}
 
