@@ -21,7 +21,7 @@ abbrev pub gathered : {A : Type 0} → (Definition → List A) → CoreModel →
 gathered f core around list = joined (map f (definitions_of core around list))
 
 module _ {A : Type 0} (f : Definition → List A) (core : CoreModel) (around : Around) where
-  pub one_gathered : (list : List Placed) (k : ℕ) (x : Placed) (made new all : List A) → k < length list → x ≡ get_or list k x
+  one_gathered : (list : List Placed) (k : ℕ) (x : Placed) (made new all : List A) → k < length list → x ≡ get_or list k x
       → new ≡ made ++ f (definition_of core around x) → made ++ gathered f core around (drop k list) ≡ all
       → new ++ gathered f core around (drop (k + 1) list) ≡ all
   one_gathered list k x made new all within read put h =
@@ -62,13 +62,19 @@ noted_from_nothing : (d : Definition) → (run d.walk (begun 0)).notes ≡ (from
 unfolding run
 noted_from_nothing d = refl
 
-module _ (core : CoreModel) (around : Around) (x : Placed) (w : Walking) (walked : seen w ≡ run (walk_of core around x.defined) (begun 0)) where
-  pub owed_alone : (made new : List Obligation) → new ≡ made ++ obligations_of (seen w) → new ≡ made ++ owed_by (definition_of core around x)
-  owed_alone made new put =
-      put ∙ ap (λ l. made ++ l) (ap obligations_of walked ∙ owed_from_nothing (definition_of core around x))
+module _ (core : CoreModel) (around : Around) (list : List Placed) (k : ℕ) (x : Placed) (w : Walking) (within : k < length list)
+    (read : x ≡ get_or list k x) (walked : seen w ≡ run (walk_of core around x.defined) (begun 0)) where
+  pub one_owed : (made new all : List Obligation) → new ≡ made ++ obligations_of (seen w) → made ++ gathered owed_by core around (drop k list) ≡ all
+      → new ++ gathered owed_by core around (drop (k + 1) list) ≡ all
+  one_owed made new all put h =
+      one_gathered owed_by core around list k x made new all within read
+      (put ∙ ap (λ l. made ++ l) (ap obligations_of walked ∙ owed_from_nothing (definition_of core around x))) h
 
-  pub noted_again : (made new : List Walking) → new ≡ made ++ w ∷ [] → map notes_of new ≡ map notes_of made ++ noted_by (definition_of core around x)
-  noted_again made new put =
-      ap (map notes_of) put
+  pub one_noted : (made new : List Walking) (all : List (List Note)) → new ≡ made ++ w ∷ []
+      → map notes_of made ++ gathered noted_by core around (drop k list) ≡ all
+      → map notes_of new ++ gathered noted_by core around (drop (k + 1) list) ≡ all
+  one_noted made new all put h =
+      one_gathered noted_by core around list k x (map notes_of made) (map notes_of new) all within read
+      (ap (map notes_of) put
       ∙ (map-append notes_of made (w ∷ [])
-      ∙ ap (λ n. map notes_of made ++ n ∷ []) (ap (λ (v : Written). v.notes) walked ∙ noted_from_nothing (definition_of core around x)))
+      ∙ ap (λ n. map notes_of made ++ n ∷ []) (ap (λ (v : Written). v.notes) walked ∙ noted_from_nothing (definition_of core around x)))) h

@@ -5,7 +5,7 @@ use Rattle.constraint_gen.specs.Models.{around_with, definitions_under, notes}
 use Rattle.constraint_gen.specs.Models as models
 use Rattle.constraint_gen.specs.Reading.{notes_of}
 use Rattle.function_notes.proofs.Lists.{got_again}
-use Rattle.constraint_gen.proofs.Gathered.{gathered, noted_by, one_gathered, all_gathered, first_gathered, noted_again, all_noted}
+use Rattle.constraint_gen.proofs.Gathered.{gathered, noted_by, all_gathered, first_gathered, one_noted, all_noted}
 use Rattle.constraint_gen.proofs.models.notes.Goals as goal
 
 pub loop-placed-init : goal.loop-placed-init
@@ -25,9 +25,9 @@ loop-placed-preserved c =
     let core = c.args.core.now in
     let around = around_of c.around_model-around.result in
     let items = c.as_slice-placed-items.result.now in
-    one_gathered noted_by core around items l.placed-index _ (map notes_of l.made) (map notes_of c.push.new.self) (notes c.args.core.now)
-    c.loop-placed-test.true (got_again items l.placed-index _ c.loop-placed-test.true)
-    (noted_again core around _ c.in_ok-walking.walking c.in_ok-walking.ensures l.made c.push.new.self c.in_ok-push.ensures.pushed) l.invariant
+    one_noted core around items l.placed-index _ c.in_ok-walking.walking c.loop-placed-test.true
+    (got_again items l.placed-index _ c.loop-placed-test.true) c.in_ok-walking.ensures l.made c.push.new.self (notes c.args.core.now)
+    c.in_ok-push.ensures.pushed l.invariant
 
 pub returns : goal.returns
 returns c =

@@ -5,7 +5,7 @@ use Rattle.constraint_gen.specs.Models.{around_with, definitions_under}
 use Rattle.constraint_gen.specs.Models as models
 use Rattle.constraint_gen.specs.Obligations.{obligations}
 use Rattle.function_notes.proofs.Lists.{got_again}
-use Rattle.constraint_gen.proofs.Gathered.{gathered, owed_by, one_gathered, all_gathered, first_gathered, owed_alone}
+use Rattle.constraint_gen.proofs.Gathered.{gathered, owed_by, all_gathered, first_gathered, one_owed}
 use Rattle.constraint_gen.proofs.models.obligations.Goals as goal
 
 pub loop-placed-init : goal.loop-placed-init
@@ -25,9 +25,9 @@ loop-placed-preserved c =
     let core = c.args.core.now in
     let around = around_of c.around_model-around.result in
     let items = c.as_slice-placed-items.result.now in
-    one_gathered owed_by core around items l.placed-index _ l.made c.push_obligations.new.made (obligations c.args.core.now)
-    c.loop-placed-test.true (got_again items l.placed-index _ c.loop-placed-test.true)
-    (owed_alone core around _ c.in_ok-walking.walking c.in_ok-walking.ensures l.made c.push_obligations.new.made c.in_ok-push_obligations.ensures) l.invariant
+    one_owed core around items l.placed-index _ c.in_ok-walking.walking c.loop-placed-test.true
+    (got_again items l.placed-index _ c.loop-placed-test.true) c.in_ok-walking.ensures l.made c.push_obligations.new.made
+    (obligations c.args.core.now) c.in_ok-push_obligations.ensures l.invariant
 
 pub returns : goal.returns
 returns c =
