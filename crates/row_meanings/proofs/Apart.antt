@@ -47,6 +47,10 @@ bits_int = differ S.Bits S.Int V.Bits V.Int V.rolls-Bits V.rolls-Int refl
 bits_string : shares V.Bits V.String ≡ false
 bits_string = differ S.Bits S.String V.Bits V.String V.rolls-Bits V.rolls-String refl
 
+bits_vector : shares V.Bits (V.Vector (V.Variable 0)) ≡ false
+bits_vector =
+    differ S.Bits (S.Vector (V.Variable 0)) V.Bits (V.Vector (V.Variable 0)) V.rolls-Bits (V.rolls-Vector (V.Variable 0)) refl
+
 bool_bits : shares V.Bool V.Bits ≡ false
 bool_bits = differ S.Bool S.Bits V.Bool V.Bits V.rolls-Bool V.rolls-Bits refl
 
@@ -152,45 +156,40 @@ comparable_unlike types =
 
 -- ---- members of a builtin, of an operator before an operand, and of one between operands
 
--- of two members, and of three
-two_distinct : (f g : Candidate) → overlaps f.params g.params ≡ false → Distinct (f ∷ g ∷ [])
-two_distinct f g h = ((h, tt), (tt, tt))
-
-three_distinct : (f g k : Candidate) → overlaps f.params g.params ≡ false → overlaps f.params k.params ≡ false → overlaps g.params k.params ≡ false
-    → Distinct (f ∷ g ∷ k ∷ [])
-three_distinct f g k a b c = ((a, (b, tt)), ((c, tt), (tt, tt)))
-
 pub row_distinct : (types : Types) (r : Row) → Distinct (map member_candidate (row_members types r))
 row_distinct types B.Eq = comparisons_distinct B.Eq (comparable types) (comparable_unlike types)
 row_distinct types B.Neq = comparisons_distinct B.Neq (comparable types) (comparable_unlike types)
 row_distinct types B.Length =
-    two_distinct _ _ (first_differs V.Bits (V.Vector (V.Variable 0)) [] []
-    (differ S.Bits (S.Vector (V.Variable 0)) V.Bits (V.Vector (V.Variable 0)) V.rolls-Bits (V.rolls-Vector (V.Variable 0)) refl))
+    ((first_differs V.Bits (V.Vector (V.Variable 0)) [] [] bits_vector, tt), (tt, tt))
 row_distinct types r = (tt, tt)
 
 pub prefix_distinct : (types : Types) (prefix : Prefix) → Distinct (map member_candidate (members_of types (prefix_rows prefix)))
-prefix_distinct types P.Tilde = two_distinct _ _ (first_differs V.Bool V.Bits [] [] bool_bits)
+prefix_distinct types P.Tilde = ((first_differs V.Bool V.Bits [] [] bool_bits, tt), (tt, tt))
 prefix_distinct types prefix = (tt, tt)
 
 -- a list of members of one builtin
 alone_distinct : (types : Types) (r : Row) → Distinct (map member_candidate (members_of types (r ∷ [])))
 alone_distinct types r = subst (λ ms. Distinct (map member_candidate ms)) (sym (append-nil (row_members types r))) (row_distinct types r)
 
--- of integers, of words, and of a word and an integer
-numbers_distinct : (f g k : Candidate) → f.params ≡ V.Int ∷ V.Int ∷ [] → g.params ≡ V.Bits ∷ V.Bits ∷ [] → k.params ≡ V.Bits ∷ V.Int ∷ []
-    → Distinct (f ∷ g ∷ k ∷ [])
-numbers_distinct f g k a b c =
-    three_distinct f g k ((λ i. overlaps (a i) (b i)) ∙ first_differs V.Int V.Bits (V.Int ∷ []) (V.Bits ∷ []) int_bits)
-    ((λ i. overlaps (a i) (c i)) ∙ first_differs V.Int V.Bits (V.Int ∷ []) (V.Int ∷ []) int_bits)
-    ((λ i. overlaps (b i) (c i)) ∙ second_differs V.Bits V.Bits V.Bits V.Int bits_int)
-
 builtins_distinct : (types : Types) (operator : Operator) → Distinct (map member_candidate (members_of types (operator_rows operator)))
-builtins_distinct types O.Caret = two_distinct _ _ (first_differs V.Bits V.String (V.Bits ∷ []) (V.String ∷ []) bits_string)
-builtins_distinct types O.Star = two_distinct _ _ (first_differs V.Int V.Bits (V.Int ∷ []) (V.Bits ∷ []) int_bits)
-builtins_distinct types O.ShiftLeft = two_distinct _ _ (second_differs V.Bits V.Bits V.Int V.Bits int_bits)
-builtins_distinct types O.ShiftRight = two_distinct _ _ (second_differs V.Bits V.Bits V.Int V.Bits int_bits)
-builtins_distinct types O.Plus = numbers_distinct _ _ _ refl refl refl
-builtins_distinct types O.Minus = numbers_distinct _ _ _ refl refl refl
+builtins_distinct types O.Caret = ((first_differs V.Bits V.String (V.Bits ∷ []) (V.String ∷ []) bits_string, tt), (tt, tt))
+builtins_distinct types O.Star = ((first_differs V.Int V.Bits (V.Int ∷ []) (V.Bits ∷ []) int_bits, tt), (tt, tt))
+builtins_distinct types O.ShiftLeft = ((second_differs V.Bits V.Bits V.Int V.Bits int_bits, tt), (tt, tt))
+builtins_distinct types O.ShiftRight = ((second_differs V.Bits V.Bits V.Int V.Bits int_bits, tt), (tt, tt))
+builtins_distinct types O.Plus = (
+  (
+    first_differs V.Int V.Bits (V.Int ∷ []) (V.Bits ∷ []) int_bits,
+    (first_differs V.Int V.Bits (V.Int ∷ []) (V.Int ∷ []) int_bits, tt),
+  ),
+  ((second_differs V.Bits V.Bits V.Bits V.Int bits_int, tt), (tt, tt)),
+)
+builtins_distinct types O.Minus = (
+  (
+    first_differs V.Int V.Bits (V.Int ∷ []) (V.Bits ∷ []) int_bits,
+    (first_differs V.Int V.Bits (V.Int ∷ []) (V.Int ∷ []) int_bits, tt),
+  ),
+  ((second_differs V.Bits V.Bits V.Bits V.Int bits_int, tt), (tt, tt)),
+)
 builtins_distinct types O.Equal = alone_distinct types B.Eq
 builtins_distinct types O.NotEqual = alone_distinct types B.Neq
 builtins_distinct types O.Cons = tt

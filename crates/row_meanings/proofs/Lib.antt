@@ -4,3 +4,4 @@ pub mod Arguments
 pub mod Members
 pub mod Apart
 pub mod Standing
+pub mod Going

@@ -1,17 +1,23 @@
 -- Builtins keep shapes: called on values of the shapes of a member's parameters, whatever its variable stands for, a builtin gives a value of the
 -- shape of the member's result, or stops the run, or is stuck. And the core calls it as the text does (Sail language manual, "Integers",
 -- "Bitvectors", "Vectors", "Overloading").
-use Rattle.std.specs.Prelude.{◌≡◌, ℕ, true, List, [], ◌∷◌, ◌++◌, map}
+use Rattle.std.specs.Prelude.{◌≡◌, ℕ, true, List, [], ◌∷◌, ◌++◌, map, Contains}
+use Rattle.std.specs.List.{list_all}
 use Rattle.sail_base.specs.declared.operators.Operator.{Operator}
 use Rattle.sail_base.specs.declared.operators.Prefix.{Prefix}
 use Rattle.sail_base.specs.declared.place.Place.{Place}
+use Rattle.sail_types.specs.Numbers.{Positive}
 use Rattle.sail_types.specs.Rows.{row_members, members_of, operator_rows}
 use Rattle.sail_types.specs.declared.members.Member.{Member}
+use Rattle.sail_types.specs.declared.numbers.Num.{Num}
 use Rattle.sail_types.specs.declared.rows.Row.{Row}
 use Rattle.sail_types.specs.declared.shapes.Shape.{Shape}
 use Rattle.sail_types.specs.declared.table.Types.{Types}
-use Rattle.sail_types.specs.declared.values.Value.{Value}
-use Rattle.sail_core.specs.Run.{Now, row_run}
+use Rattle.sail_types.specs.declared.values.Value.{Value, out-Value}
+use Rattle.row_types.specs.RowTypes.{row_type}
+use Rattle.row_types.specs.Calls.{is_sized, is_met, has_space, first_shape}
+use Rattle.sail_core.specs.Run as R
+use Rattle.sail_core.specs.Run.{Now, Ended, row_run}
 use Rattle.sail_core.specs.Making as Core
 use Rattle.sail_meaning.specs.Calls as Source
 use Rattle.sail_meaning.specs.Text.{Callee}
@@ -40,6 +46,21 @@ KeepsShapes types m =
 
 abbrev pub RowsKeepShapes : Type 0
 RowsKeepShapes = (types : Types) (row : Row) → Each (KeepsShapes types) (row_members types row)
+
+-- a piece of a run that isn't stuck
+abbrev pub GoesOn : Ended Value Value → Type 0
+GoesOn R.Stuck = ⊥
+GoesOn e = Unit {0}
+
+-- no builtin is stuck by a wrong shape: it isn't on values of its parameters' shapes, within the limits, where what the call owes is true of their
+-- numbers and the width or length of the result is within its limit
+abbrev pub RowsGoOn : Type 0
+RowsGoOn =
+    (types : Types) (beyond : Num → Positive) (c : Choice) (row : Row) (m : Member) (vs : List Value) → Contains (row_members types row) m
+    → FitAll types c m.params vs → list_all is_sized (map out-Value vs) ≡ true
+    → is_met beyond (row_type row (first_shape m.params)) (map out-Value vs) ≡ true
+    → has_space beyond (row_type row (first_shape m.params)) (map out-Value vs) ≡ true
+    → (hart : ℕ) (now : Now Value) → GoesOn (row_run row hart vs now)
 
 -- ---- both sides
 

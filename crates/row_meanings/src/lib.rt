@@ -6,4 +6,4 @@
 
 mod laws;
 
-pub use laws::{rows_keep_shapes, rows_stand};
+pub use laws::{rows_go_on, rows_keep_shapes, rows_stand};
