@@ -121,26 +121,55 @@ enums_unlike i (d ∷ ds) = by_enum (is_enum d) (later_enums i (suc i) ds (omega
     by_enum false first rest = rest
 
 int_unlike : (types : Types) → Unlike V.Int (V.Bits ∷ V.Bit ∷ V.Bool ∷ V.String ∷ V.Unit ∷ enums_from 0 types.definitions)
-int_unlike types =
-    (int_bits, (differ S.Int S.Bit V.Int V.Bit V.rolls-Int V.rolls-Bit refl, (differ S.Int S.Bool V.Int V.Bool V.rolls-Int V.rolls-Bool refl,
-    (differ S.Int S.String V.Int V.String V.rolls-Int V.rolls-String refl, (differ S.Int S.Unit V.Int V.Unit V.rolls-Int V.rolls-Unit refl,
-    unlike_enums S.Int V.Int V.rolls-Int (λ n. refl) 0 types.definitions)))))
+int_unlike types = (
+  int_bits,
+  (
+    differ S.Int S.Bit V.Int V.Bit V.rolls-Int V.rolls-Bit refl,
+    (
+      differ S.Int S.Bool V.Int V.Bool V.rolls-Int V.rolls-Bool refl,
+      (
+        differ S.Int S.String V.Int V.String V.rolls-Int V.rolls-String refl,
+        (
+          differ S.Int S.Unit V.Int V.Unit V.rolls-Int V.rolls-Unit refl,
+          unlike_enums S.Int V.Int V.rolls-Int (λ n. refl) 0 types.definitions,
+        ),
+      ),
+    ),
+  ),
+)
 
 bits_unlike : (types : Types) → Unlike V.Bits (V.Bit ∷ V.Bool ∷ V.String ∷ V.Unit ∷ enums_from 0 types.definitions)
-bits_unlike types =
-    (differ S.Bits S.Bit V.Bits V.Bit V.rolls-Bits V.rolls-Bit refl, (differ S.Bits S.Bool V.Bits V.Bool V.rolls-Bits V.rolls-Bool refl,
-    (bits_string, (differ S.Bits S.Unit V.Bits V.Unit V.rolls-Bits V.rolls-Unit refl,
-    unlike_enums S.Bits V.Bits V.rolls-Bits (λ n. refl) 0 types.definitions))))
+bits_unlike types = (
+  differ S.Bits S.Bit V.Bits V.Bit V.rolls-Bits V.rolls-Bit refl,
+  (
+    differ S.Bits S.Bool V.Bits V.Bool V.rolls-Bits V.rolls-Bool refl,
+    (
+      bits_string,
+      (
+        differ S.Bits S.Unit V.Bits V.Unit V.rolls-Bits V.rolls-Unit refl,
+        unlike_enums S.Bits V.Bits V.rolls-Bits (λ n. refl) 0 types.definitions,
+      ),
+    ),
+  ),
+)
 
 bit_unlike : (types : Types) → Unlike V.Bit (V.Bool ∷ V.String ∷ V.Unit ∷ enums_from 0 types.definitions)
-bit_unlike types =
-    (differ S.Bit S.Bool V.Bit V.Bool V.rolls-Bit V.rolls-Bool refl, (differ S.Bit S.String V.Bit V.String V.rolls-Bit V.rolls-String refl,
-    (differ S.Bit S.Unit V.Bit V.Unit V.rolls-Bit V.rolls-Unit refl, unlike_enums S.Bit V.Bit V.rolls-Bit (λ n. refl) 0 types.definitions)))
+bit_unlike types = (
+  differ S.Bit S.Bool V.Bit V.Bool V.rolls-Bit V.rolls-Bool refl,
+  (
+    differ S.Bit S.String V.Bit V.String V.rolls-Bit V.rolls-String refl,
+    (differ S.Bit S.Unit V.Bit V.Unit V.rolls-Bit V.rolls-Unit refl, unlike_enums S.Bit V.Bit V.rolls-Bit (λ n. refl) 0 types.definitions),
+  ),
+)
 
 bool_unlike : (types : Types) → Unlike V.Bool (V.String ∷ V.Unit ∷ enums_from 0 types.definitions)
-bool_unlike types =
-    (differ S.Bool S.String V.Bool V.String V.rolls-Bool V.rolls-String refl, (differ S.Bool S.Unit V.Bool V.Unit V.rolls-Bool V.rolls-Unit refl,
-    unlike_enums S.Bool V.Bool V.rolls-Bool (λ n. refl) 0 types.definitions))
+bool_unlike types = (
+  differ S.Bool S.String V.Bool V.String V.rolls-Bool V.rolls-String refl,
+  (
+    differ S.Bool S.Unit V.Bool V.Unit V.rolls-Bool V.rolls-Unit refl,
+    unlike_enums S.Bool V.Bool V.rolls-Bool (λ n. refl) 0 types.definitions,
+  ),
+)
 
 string_unlike : (types : Types) → Unlike V.String (V.Unit ∷ enums_from 0 types.definitions)
 string_unlike types =
@@ -150,9 +179,25 @@ unit_unlike : (types : Types) → Unlike V.Unit (enums_from 0 types.definitions)
 unit_unlike types = unlike_enums S.Unit V.Unit V.rolls-Unit (λ n. refl) 0 types.definitions
 
 comparable_unlike : (types : Types) → AllUnlike (comparable types)
-comparable_unlike types =
-    (int_unlike types, (bits_unlike types, (bit_unlike types, (bool_unlike types, (string_unlike types, (unit_unlike types,
-    enums_unlike 0 types.definitions))))))
+comparable_unlike types = (
+  int_unlike types,
+  (
+    bits_unlike types,
+    (
+      bit_unlike types,
+      (
+        bool_unlike types,
+        (
+          string_unlike types,
+          (
+            unit_unlike types,
+            enums_unlike 0 types.definitions,
+          ),
+        ),
+      ),
+    ),
+  ),
+)
 
 -- ---- members of a builtin, of an operator before an operand, and of one between operands
 

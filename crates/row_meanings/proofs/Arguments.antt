@@ -217,7 +217,7 @@ module _ (types : Types) where
   filled : (c : Choice) (vs : List Value) → FitAll types c (V.Int ∷ V.Variable 0 ∷ []) vs → GivesA types c (V.Vector (V.Variable 0)) (row B.VectorInit vs)
   filled c vs h =
       let g = two_arguments types vs V.Int (put c (V.Variable 0))
-          (subst (λ s. each_fits (map (fits types) vs) (s ∷ put c (V.Variable 0) ∷ []) ≡ true) (ints.stays c) h) in
+      (subst (λ s. each_fits (map (fits types) vs) (s ∷ put c (V.Variable 0) ∷ []) ≡ true) (ints.stays c) h) in
       let x = integer_value types g.0 g.3 in
       subst (λ us. GivesA types c (V.Vector (V.Variable 0)) (row B.VectorInit us)) (sym g.2)
       (subst (λ o. GivesA types c (V.Vector (V.Variable 0)) (row_of B.VectorInit (o ∷ out-Value g.1 ∷ []))) (sym x.1)

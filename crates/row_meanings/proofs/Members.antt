@@ -49,9 +49,10 @@ comparable_are : (types : Types) (r : Row) → ((s : Shape) → below 1 s ≡ tr
     → Each (MemberIs types)
     (map (comparison r) (V.Int ∷ V.Bits ∷ V.Bit ∷ V.Bool ∷ V.String ∷ V.Unit ∷ enums_from 0 types.definitions))
 comparable_are types r is =
-    compared_are types r (V.Int ∷ V.Bits ∷ V.Bit ∷ V.Bool ∷ V.String ∷ V.Unit ∷ enums_from 0 types.definitions) is
-    (ints.closed,
-    (words.closed, (leaf_below 1 S.Bit V.Bit V.rolls-Bit refl, (truths.closed, (texts.closed, (units.closed, enums_below 0 types.definitions))))))
+    compared_are types r (V.Int ∷ V.Bits ∷ V.Bit ∷ V.Bool ∷ V.String ∷ V.Unit ∷ enums_from 0 types.definitions) is (
+      ints.closed,
+      (words.closed, (leaf_below 1 S.Bit V.Bit V.rolls-Bit refl, (truths.closed, (texts.closed, (units.closed, enums_below 0 types.definitions))))),
+    )
 
 -- ---- all members
 
