@@ -6,9 +6,8 @@ use Rattle.sail_base.specs.declared.operators.Operator.{Operator}
 use Rattle.sail_base.specs.declared.operators.Operator.TheVariants as O
 use Rattle.sail_base.specs.declared.operators.Prefix.{Prefix}
 use Rattle.sail_base.specs.declared.operators.Prefix.TheVariants as P
-use Rattle.sail_types.specs.Rows.{row_members, members_of, operator_rows, prefix_rows, comparison, comparisons, comparable, enums_from, is_enum}
+use Rattle.sail_types.specs.Rows.{row_members, members_of, operator_rows, prefix_rows, comparison, comparable, enums_from, is_enum}
 use Rattle.sail_types.specs.Shapes.{shares, each_shares, form_shares}
-use Rattle.sail_types.specs.declared.members.Member.{Member}
 use Rattle.sail_types.specs.declared.rows.Row.{Row}
 use Rattle.sail_types.specs.declared.rows.Row.TheVariants as B
 use Rattle.sail_types.specs.declared.shapes.Shape.{Shape, Shape-F, out-Shape, roll-Shape}
@@ -21,7 +20,6 @@ use Rattle.sail_types.specs.declared.table.Types.{Types}
 use Rattle.shape_joins.specs.Numbering.{overlaps, all_alike}
 use Rattle.shape_rules.specs.declared.callees.Candidate.{Candidate}
 use Rattle.shape_rules.specs.Calls.{member_candidate, cons_candidate}
-use Rattle.shape_rules.specs.Scopes.{Setting}
 use Rattle.shape_meanings.specs.Worlds.{ApartFrom, Distinct}
 use Rattle.shape_meanings.proofs.Sharing.{shares_at}
 use Rattle.row_meanings.specs.Rows.{EachApart, OperatorsAreDistinct}

@@ -1,7 +1,6 @@
 -- What a builtin without state gives has its shape.
-use Rattle.std.proofs.Common.{◌≡◌, ℕ, zero, suc, List, [], ◌∷◌, map, length, replicate, ap, sym, ◌∙◌, refl, subst, Bool, true, false, not, Option}
+use Rattle.std.proofs.Common.{◌≡◌, ℕ, zero, suc, List, [], ◌∷◌, map, length, replicate, ap, sym, ◌∙◌, refl, Bool, true, false, not, Option}
 use Rattle.std.proofs.Common.{Some, None, option_map, nat_eq}
-use Rattle.std.proofs.lemmas.Bool.{and_parts}
 use Rattle.std.specs.Prelude.{ℤ, pos, negsuc}
 use Rattle.std.specs.List.{list_all}
 use Rattle.sail_types.specs.Limits.{is_small, is_width, is_length}

@@ -1,5 +1,5 @@
 -- On values of its parameters' shapes a builtin goes on where the table's conditions are met.
-use Rattle.std.proofs.Common.{◌≡◌, ℕ, List, ◌++◌, map, refl, Bool, true, false, Option, Some, None, if◌then◌else◌}
+use Rattle.std.proofs.Common.{◌≡◌, ◌++◌, map, refl, Bool, true, false, Option, Some, None, if◌then◌else◌}
 use Rattle.sail_types.specs.Numbers.{Positive}
 use Rattle.sail_types.specs.declared.numbers.Num.{Num}
 use Rattle.sail_types.specs.declared.values.Value.{Value, out-Value}

@@ -1,5 +1,5 @@
 -- Members of builtins stand for those of the text.
-use Rattle.std.proofs.Common.{◌≡◌, ℕ, List, [], ◌∷◌, ◌++◌, map, ap, sym, ◌∙◌, refl, subst, true}
+use Rattle.std.proofs.Common.{◌≡◌, ℕ, List, [], ◌∷◌, ◌++◌, map, ap, sym, ◌∙◌, refl, subst}
 use Rattle.sail_base.specs.declared.operators.Operator.TheVariants as O
 use Rattle.sail_base.specs.declared.place.Place.{Place}
 use Rattle.sail_types.specs.Rows.{row_members, members_of, operator_rows, prefix_rows}
@@ -15,12 +15,11 @@ use Rattle.sail_core.specs.Run.{Now, Ended, needs, goes_on, row_run}
 use Rattle.sail_core.specs.Values.{cons_of}
 use Rattle.sail_core.specs.Making as Core
 use Rattle.sail_core.specs.Making.{plainly, made}
-use Rattle.sail_meaning.specs.Calls as Source
 use Rattle.sail_meaning.specs.Text.{Callee, builtin, cons}
 use Rattle.sail_meaning.specs.Choice.{builtins}
 use Rattle.shape_rules.specs.declared.callees.Candidate.{Candidate}
 use Rattle.shape_rules.specs.Calls.{member_candidate, cons_candidate}
-use Rattle.shape_rules.specs.Scopes.{Setting, thrown_shape}
+use Rattle.shape_rules.specs.Scopes.{thrown_shape}
 use Rattle.shape_joins.proofs.Order.{no}
 use Rattle.shape_meanings.specs.Whole.{Choice}
 use Rattle.shape_meanings.specs.Keeping.{Fits, FitAll, RegistersFit, KeepsApart, AgreeApart}

@@ -17,7 +17,7 @@ use Rattle.model_state.specs.declared.state.Hart.{Hart}
 use Rattle.model_state.specs.declared.state.Reservation.{Reservation}
 use Rattle.model_state.specs.RunState.{RunState, changed, values_of, register_value}
 use Rattle.model_state.specs.StateRows.{Call, reading, reserving, writing, writing_cond, asking, putting, when, is_place, is_placed, is_there, word_at}
-use Rattle.model_state.specs.StateRows.{may_write, after_write, hart_with, with_reservation, written, if_there, console_room, ended_by, state_after}
+use Rattle.model_state.specs.StateRows.{may_write, after_write, hart_with, with_reservation, written, console_room, ended_by, state_after}
 use Rattle.model_state.specs.StateRows.{access_of, then_accesses, call_of, call_ran}
 use Rattle.sail_core.specs.Run.{Now, ended_as, after_row}
 use Rattle.shape_meanings.specs.Whole.{Choice}
