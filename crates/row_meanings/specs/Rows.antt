@@ -1,6 +1,6 @@
 -- Builtins keep shapes: called on values of the shapes of a member's parameters, whatever its variable stands for, a builtin gives a value of the
--- shape of the member's result, or stops the run, or is stuck. And the core calls it as the text does (Sail language manual, "Integers",
--- "Bitvectors", "Vectors", "Overloading").
+-- shape of the member's result, where it gives one. And the core calls it as the text does (Sail language manual, "Integers", "Bitvectors",
+-- "Vectors", "Overloading").
 use Rattle.std.specs.Prelude.{◌≡◌, ℕ, true, List, [], ◌∷◌, ◌++◌, map, Contains}
 use Rattle.std.specs.List.{list_all}
 use Rattle.sail_base.specs.declared.operators.Operator.{Operator}

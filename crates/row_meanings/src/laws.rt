@@ -2,8 +2,8 @@
 ghost use Rattle.row_meanings.specs.Rows.{RowsKeepShapes, RowsGoOn};
 ghost use Rattle.row_meanings.specs.Rows.{TextsApplyBuiltins, RowsStand, PrefixesStand, OperatorsStand, OperatorsAreDistinct};
 
-/// On values of the shapes of a member's parameters a builtin gives a value of the shape of its result, or stops the run, or is
-/// stuck; registers keep their shapes.
+/// On values of the shapes of a member's parameters a builtin gives a value of the shape of its result, where it gives one, and
+/// registers keep their shapes.
 pub fn rows_keep_shapes()
     ensures { RowsKeepShapes }
 {}
