@@ -1,0 +1,4 @@
+pub mod Callees
+pub mod Models
+pub mod Depths
+pub mod Events
