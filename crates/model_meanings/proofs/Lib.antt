@@ -4,3 +4,4 @@ pub mod Names
 pub mod Worlds
 pub mod Depths
 pub mod Events
+pub mod Runs

@@ -2,3 +2,4 @@ pub mod Callees
 pub mod Models
 pub mod Depths
 pub mod Events
+pub mod Runs
