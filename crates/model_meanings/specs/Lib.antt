@@ -1,0 +1,5 @@
+pub mod Callees
+pub mod Models
+pub mod Depths
+pub mod Events
+pub mod Runs

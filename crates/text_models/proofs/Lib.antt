@@ -1,0 +1,11 @@
+pub mod Entries
+pub mod Builtins
+pub mod Members
+pub mod Definitions
+pub mod Names
+pub mod Overloads
+pub mod Known
+pub mod Values
+pub mod Functions
+pub mod Whole
+pub mod Openings

@@ -1,0 +1,9 @@
+pub mod Texts
+pub mod Definitions
+pub mod Overloads
+pub mod Known
+pub mod Laws
+pub mod Values
+pub mod Functions
+pub mod Whole
+pub mod Openings
