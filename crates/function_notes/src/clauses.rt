@@ -188,7 +188,7 @@ pub fn walk_clause(
 
 /// A clause of an arm as it is written: what no `val` declares is walked without the types that are written at it. It fails where memory
 /// is wanting, and where variables are too many.
-fn walk_written(
+pub fn walk_written(
     alloc: Global,
     walking: &mut Walking,
     around: &Around<'_>,

@@ -40,7 +40,7 @@ fn own_index(alloc: Global, walking: &mut Walking, own: &Parameter) -> Result<In
 
 /// The type variables of a definition. It fails where memory is wanting, and where variables are too many.
 #[tactic(auto, using(value_indices::proofs::Walks::walks))]
-fn own_indices(
+pub fn own_indices(
     alloc: Global,
     walking: &mut Walking,
     variables: &[Parameter],
@@ -67,7 +67,7 @@ fn is_trivial(con: &Con) -> bool
 
 /// A constraint comes into force, as one fact. The one error is want of memory.
 #[tactic(auto, using(value_indices::proofs::Walks::walks))]
-fn constrain(alloc: Global, walking: &mut Walking, con: &Con) -> Result<(), AllocError>
+pub fn constrain(alloc: Global, walking: &mut Walking, con: &Con) -> Result<(), AllocError>
     ensures { OnOk result (walk.seen walking.new ≡ walk.run (spec.constrained con.now) (walk.seen walking.old)) }
 {
     if is_trivial(con) {
@@ -77,7 +77,7 @@ fn constrain(alloc: Global, walking: &mut Walking, con: &Con) -> Result<(), Allo
 }
 
 /// A type under what its variables stand for. It fails where memory is wanting.
-fn reading_of(alloc: Global, typ: &Typ, numbers: &[Index]) -> Result<Reading, AllocError>
+pub fn reading_of(alloc: Global, typ: &Typ, numbers: &[Index]) -> Result<Reading, AllocError>
     ensures { IfOk result (λ made. made ≡ spec.reading_under typ.now numbers.now) }
 {
     let typ = copy_typ(alloc, typ)?;
@@ -85,7 +85,7 @@ fn reading_of(alloc: Global, typ: &Typ, numbers: &[Index]) -> Result<Reading, Al
 }
 
 /// What is known inside a function of a model, whose type variables stand for these, and whose result is of this type.
-fn inside<'a>(
+pub fn inside<'a>(
     types: &'a Types,
     exception: Option<u32>,
     registers: &'a [Register],

@@ -8,5 +8,7 @@ mod clauses;
 mod functions;
 mod mappings;
 
-pub use functions::{walk_function, walk_measure};
+pub use bare::bare_arm;
+pub use clauses::{Common, lesser, walk_written};
+pub use functions::{constrain, inside, own_indices, reading_of, walk_function, walk_measure};
 pub use mappings::walk_mapping;
