@@ -1,0 +1,6 @@
+use Rattle.size_splits.specs.Bodies.{body_read}
+use Rattle.monomorph.proofs.Lasting.{map_rest}
+use Rattle.monomorph.proofs.lasts.behind.Goals as goal
+
+pub returns-then-count-bodies : goal.returns-then-count-bodies
+returns-then-count-bodies c = map_rest body_read c.args.count c.args.bodies.now

@@ -1,0 +1,19 @@
+//! Instances: what a model is worked out for, with sizes that are constants.
+//!
+//! `specs/Refusals` has the sizes that are refused, `specs/Found` what is found, `specs/Reading` what a body leads to under an instance,
+//! `specs/Lasts` what comes last, `specs/Instances` the list; `specs/Steps` says of the steps of a walk what `specs/Reading` does of its notes.
+#![tactic(auto)]
+
+mod bodies;
+mod calls;
+mod error;
+mod found;
+mod growing;
+mod inside;
+mod lasts;
+mod refusals;
+mod registers;
+
+pub use error::MonoError;
+pub use found::Instance;
+pub use growing::instances;

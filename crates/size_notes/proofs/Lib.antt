@@ -1,0 +1,4 @@
+pub mod Nodes
+pub mod Spliced
+pub mod Walked
+pub mod Chained

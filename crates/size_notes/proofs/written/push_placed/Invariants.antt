@@ -1,0 +1,11 @@
+use Rattle.std.proofs.Common.{◌≡◌, ◌++◌, length}
+use Rattle.std.specs.Vec.Iter.{into_iter_items, into_iter_len}
+use Rattle.size_notes.specs.Written.{placed_sizes}
+use Rattle.size_notes.proofs.written.push_placed.Given as goal
+
+-- the rest makes up all of them
+abbrev pub invariant-loop-size : goal.invariant-loop-size
+invariant-loop-size l = record {
+  known : into_iter_len l.size-iterator ≡ length (into_iter_items l.size-iterator);
+  made : l.made ++ placed_sizes l.left (into_iter_items l.size-iterator) ≡ l.initial.made ++ placed_sizes l.fn.places l.fn.sizes;
+}

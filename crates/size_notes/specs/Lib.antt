@@ -1,0 +1,4 @@
+pub mod Written
+pub mod Behind
+pub mod Bodies
+pub mod Reading

@@ -1,0 +1,4 @@
+pub mod Bodies
+pub mod Sizing
+pub mod Splits
+pub mod Reading

@@ -1,0 +1,25 @@
+//! Which variables of functions are size variables, which variables that a body opens are split, and the combinations of their numbers that
+//! count at a place.
+//!
+//! `specs/Bodies` has what is read of a definition, `specs/Sizing` the size variables, `specs/Splits` the split ones and the combinations;
+//! `specs/Reading` says the same of the steps of a walk as of its notes.
+#![tactic(auto)]
+
+mod bodies;
+mod combinations;
+mod conditions;
+mod domains;
+mod force;
+mod given;
+mod names;
+mod opened;
+mod sizing;
+mod splitting;
+
+pub use bodies::BodySteps;
+pub use combinations::counted;
+pub use force::follow;
+pub use given::{flags_of, given_indices};
+pub use opened::{MadeValue, made_value, named_in};
+pub use sizing::sizing_of;
+pub use splitting::splits;

@@ -1,0 +1,4 @@
+pub mod Depths
+pub mod Picks
+pub mod Readings
+pub mod Same

@@ -1,0 +1,21 @@
+-- Lists of different lengths aren't the same.
+use Rattle.std.proofs.Common.{◌≡◌, ◌≢◌, ◌&&◌, suc, Bool, true, false, List, [], ◌∷◌, Option, ap, length, refl}
+use Rattle.std.specs.Prelude.{ℤ}
+use Rattle.size_values.specs.declared.sized.Sized.{Sized}
+use Rattle.size_values.specs.Sized.{all_eq, numbers_eq, option_eq, sized_eq}
+
+and_false : (b c : Bool) → c ≡ false → (b && c) ≡ false
+and_false true c e = e
+and_false false c e = refl
+
+pub numbers_differ : (xs ys : List (Option ℤ)) → length xs ≢ length ys → numbers_eq xs ys ≡ false
+numbers_differ [] [] h = absurd (h refl)
+numbers_differ [] (y ∷ ys) h = refl
+numbers_differ (x ∷ xs) [] h = refl
+numbers_differ (x ∷ xs) (y ∷ ys) h = and_false (option_eq x y) (numbers_eq xs ys) (numbers_differ xs ys (λ e. h (ap suc e)))
+
+pub all_differ : (xs ys : List Sized) → length xs ≢ length ys → all_eq xs ys ≡ false
+all_differ [] [] h = absurd (h refl)
+all_differ [] (y ∷ ys) h = refl
+all_differ (x ∷ xs) [] h = refl
+all_differ (x ∷ xs) (y ∷ ys) h = and_false (sized_eq x y) (all_eq xs ys) (all_differ xs ys (λ e. h (ap suc e)))
