@@ -9,8 +9,8 @@ ghost use Rattle.monomorph.specs.Steps as steps;
 
 use crate::calls::{Call, add_direction, read_call};
 use crate::error::MonoError;
-use crate::inside::Inside;
 use crate::found::Found;
+use crate::inside::Inside;
 use crate::refusals::sizes_refused;
 use sail_base::{Items, Place};
 use sail_types::Types;
@@ -75,7 +75,13 @@ fn read_made(
         facts,
         value.facts.as_slice(),
     )?;
-    read_each_size(alloc, inside, place, &value.indices, combinations.as_slice())
+    read_each_size(
+        alloc,
+        inside,
+        place,
+        &value.indices,
+        combinations.as_slice(),
+    )
 }
 
 /// Reads a call under each of these combinations. It fails where memory is wanting.

@@ -7,14 +7,16 @@ ghost use Rattle.monomorph.specs.Found.{outcome};
 ghost use Rattle.monomorph.specs.Reading as spec;
 
 use crate::error::MonoError;
-use crate::inside::Inside;
 use crate::found::{Found, Instance, add, add_mapping};
+use crate::inside::Inside;
 use crate::refusals::{constants_refused, sizes_refused};
 use sail_base::{Items, Place};
 use sail_core::Callee;
 use sail_types::Index;
 use size_splits::{flags_of, given_indices};
-use size_values::{Constant, Picked, Size, Variables, indices_under, reading_sizes, readings_sized};
+use size_values::{
+    Constant, Picked, Size, Variables, indices_under, reading_sizes, readings_sized,
+};
 use std::alloc::{AllocError, Global};
 use value_indices::{Indices, Reading};
 
@@ -119,8 +121,7 @@ fn add_callee(
 {
     match call.callee {
         Callee::Function(function) => {
-            let instance =
-                instance_of(alloc, inside, picked, function, call.numbers, call.types)?;
+            let instance = instance_of(alloc, inside, picked, function, call.numbers, call.types)?;
             add(found, call.place, instance)
         }
         Callee::Converts(direction) => add_direction(found, direction),

@@ -164,10 +164,7 @@ fn listed(
 }
 
 /// The instances of a model, or the first refusal. It fails where memory is wanting.
-fn answer(
-    alloc: Global,
-    core: &CoreModel,
-) -> Result<Result<Items<Instance>, MonoError>, AllocError>
+fn answer(alloc: Global, core: &CoreModel) -> Result<Result<Items<Instance>, MonoError>, AllocError>
     ensures { IfOk result (λ answer. answer ≡ spec.instances core.now) }
 {
     let bodies = bodies(alloc, core)?;

@@ -66,7 +66,7 @@ module _ (bs : List Behind) (n : ℕ) (before : List Note) where
   one_more v note =
       λ i. record (among v) {
         notes = (append_assoc before (notes_with bs v.notes) (notes_with bs (note ∷ []))
-        ∙ ap (λ l. before ++ l) (sym (notes_append bs v.notes (note ∷ [])))) i;
+            ∙ ap (λ l. before ++ l) (sym (notes_append bs v.notes (note ∷ [])))) i;
       }
 
   restored_among : (v : Written) (r : List (List Fact)) → restored_to (among v) r ≡ among (restored_to v r)

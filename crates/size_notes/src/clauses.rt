@@ -33,7 +33,14 @@ fn walk_inside(
         common.now.types.now common.now.aim.now common.now.is_declared arm.now core.now) (walk.seen walking.old)) }
 {
     constrain(alloc, walking, constraint)?;
-    read_beforehand(alloc, walking, around, common.types, common.is_declared, arm)?;
+    read_beforehand(
+        alloc,
+        walking,
+        around,
+        common.types,
+        common.is_declared,
+        arm,
+    )?;
     walk_written(alloc, walking, around, common, &[], arm, core)?;
     Ok(())
 }

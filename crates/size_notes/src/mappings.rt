@@ -90,15 +90,7 @@ fn read_both(
         read_way(alloc, body, place, around, forwards.direction, arm, core)?;
         let back = &backs[at];
         let given = &givens[at];
-        read_way(
-            alloc,
-            body,
-            place,
-            around,
-            backwards.direction,
-            back,
-            given,
-        )?;
+        read_way(alloc, body, place, around, backwards.direction, back, given)?;
     }
     Ok(())
 }
