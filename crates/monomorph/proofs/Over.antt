@@ -1,6 +1,6 @@
 -- One after another, up to the first refusal, and instances that are counted.
-use Rattle.std.proofs.Common.{◌≡◌, ◌∙◌, ap, sym, refl, ℕ, ◌+◌, ◌<◌, ◌≤◌, List, [], ◌∷◌, ◌++◌, drop, length, get_or, map, arith, length-append}
-use Rattle.std.specs.Prelude.{Option, Some, None, Result, Ok, Err}
+use Rattle.std.proofs.Common.{◌≡◌, ◌∙◌, ap, sym, ℕ, ◌+◌, ◌<◌, ◌≤◌, List, drop, length, get_or, map, arith, length-append}
+use Rattle.std.specs.Prelude.{Option, Some, None, Err}
 use Rattle.function_notes.proofs.Lists.{rest_at, none_left}
 use Rattle.monomorph.specs.declared.error.MonoError.{MonoError}
 use Rattle.monomorph.specs.declared.found.Found.{Found}

@@ -1,5 +1,5 @@
 -- What comes last: top-level lets, initial values and registers, in the order of the text.
-use Rattle.std.specs.Prelude.{ℕ, suc, ℤ, List, [], ◌∷◌, map, take, drop, Option, Some, None, Ok, if◌then◌else◌}
+use Rattle.std.specs.Prelude.{ℕ, suc, ℤ, List, [], ◌∷◌, map, take, drop, Option, None, Ok, if◌then◌else◌}
 use Rattle.sail_base.specs.declared.place.Place.{Place}
 use Rattle.sail_types.specs.Places.{first}
 use Rattle.sail_types.specs.declared.numbers.Num.{Num}

@@ -1,6 +1,6 @@
 -- A body, read under an instance: the sizes that have to be constants there, and what its calls lead to (Sail language manual, "Type
 -- variables").
-use Rattle.std.specs.Prelude.{ℕ, ℤ, ◌/◌, Bool, true, false, List, [], ◌∷◌, length, map, Option, Some, None, Ok}
+use Rattle.std.specs.Prelude.{ℕ, ℤ, ◌/◌, Bool, List, [], ◌∷◌, length, map, Option, Ok}
 use Rattle.sail_base.specs.declared.place.Place.{Place}
 use Rattle.sail_types.specs.declared.numbers.Index.{Index}
 use Rattle.sail_types.specs.declared.table.Types.{Types}

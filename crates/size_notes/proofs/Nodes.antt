@@ -1,5 +1,5 @@
 -- Nodes of a tree, with the sizes that are written in it.
-use Rattle.std.proofs.Common.{◌≡◌, ◌++◌, ◌∙◌, ◌<◌, ◌≤◌, ap, sym, refl, List, [], ◌∷◌, map, length, get_or, append-nil, arith, Result, Ok, Err}
+use Rattle.std.proofs.Common.{◌≡◌, ◌++◌, ◌∙◌, ◌<◌, ◌≤◌, ap, sym, List, [], ◌∷◌, map, length, get_or, append-nil, arith, Result, Ok, Err}
 use Rattle.std.specs.Prelude.{OnOk}
 use Rattle.sail_types.specs.declared.numbers.Index.{Index}
 use Rattle.sail_core.specs.declared.tree.Core.{Core, out-Core, fold-roll-Core}

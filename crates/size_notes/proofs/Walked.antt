@@ -1,7 +1,5 @@
 -- Walks of their own behind others, and walks over two lists at once.
-use Rattle.std.proofs.Common.{◌≡◌, ◌∙◌, ap, sym, refl, ℕ, zero, suc, ◌+◌, ◌-◌, ◌<◌, ◌≤◌, List, [], ◌∷◌, drop, length, get_or, min, arith, length-drop}
-use Rattle.std.proofs.Common.{Result, Ok, Err}
-use Rattle.std.specs.Prelude.{OnOk}
+use Rattle.std.proofs.Common.{◌≡◌, ◌∙◌, ap, sym, refl, ℕ, suc, ◌+◌, ◌-◌, ◌<◌, List, [], ◌∷◌, drop, length, get_or, min, arith, length-drop}
 use Rattle.sail_base.specs.declared.place.Place.{Place}
 use Rattle.sail_types.specs.declared.table.Parameter.{Parameter}
 use Rattle.sail_core.specs.declared.model.Direction.{Direction}
@@ -13,14 +11,12 @@ use Rattle.value_indices.specs.declared.walking.Walking.{Walking}
 use Rattle.value_indices.specs.declared.indices.Indices.{Indices}
 use Rattle.value_indices.specs.declared.notes.Made.TheVariants as Makes
 use Rattle.value_indices.specs.Steps.{Walk, bind, give, fresh_named, note, size_note}
-use Rattle.value_indices.specs.Walking.{Written, begun, run, got, seen, remembering, restored, counted_from, steps_read}
+use Rattle.value_indices.specs.Walking.{Written, begun, run, seen, remembering, restored, counted_from, steps_read}
 use Rattle.value_indices.proofs.Walks.{run_bind, run_give}
 use Rattle.pattern_leaves.specs.Settings.{Around}
-use Rattle.function_notes.proofs.Lists.{rest_at, none_left}
+use Rattle.function_notes.proofs.Lists.{rest_at}
 use Rattle.function_notes.specs.Functions.{own_indices}
 use Rattle.constraint_gen.specs.Obligations.{names_of}
-use Rattle.size_splits.specs.declared.bodies.BodySteps.{BodySteps}
-use Rattle.size_splits.specs.Bodies.{Body, body_read}
 use Rattle.size_notes.specs.declared.behind.Behind.{Behind}
 use Rattle.size_notes.specs.declared.written.WrittenSize.{WrittenSize}
 use Rattle.size_notes.specs.Bodies.{alone, beforehand, body_of, both_read, sizes_read, way_read}

@@ -1,4 +1,4 @@
-use Rattle.std.proofs.Common.{◌≡◌, ap, sym, ◌∙◌, arith}
+use Rattle.std.proofs.Common.{◌≡◌, ap, ◌∙◌, arith}
 use Rattle.size_splits.specs.Bodies.{body_read}
 use Rattle.monomorph.specs.Instances.{grow, times_enough}
 use Rattle.monomorph.specs.Lasts.{model_in}

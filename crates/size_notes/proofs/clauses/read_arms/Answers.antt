@@ -1,5 +1,5 @@
 use Rattle.std.proofs.Common.{◌≡◌, refl, sym, subst, arith}
-use Rattle.value_indices.specs.Walking.{Written, run, seen}
+use Rattle.value_indices.specs.Walking.{Written, seen}
 use Rattle.pattern_leaves.specs.Settings.{around_of}
 use Rattle.size_notes.specs.Behind.{found_in, node_of}
 use Rattle.size_notes.specs.Bodies.{arms_read, clause_inside, clause_read}

@@ -1,4 +1,4 @@
-use Rattle.std.proofs.Common.{◌≡◌, ap, sym, subst, ◌∙◌, ◌++◌}
+use Rattle.std.proofs.Common.{ap, sym, subst, ◌∙◌, ◌++◌}
 use Rattle.value_indices.specs.Walking.{Written, seen}
 use Rattle.pattern_leaves.specs.Settings.{around_of}
 use Rattle.size_notes.specs.Behind.{found_in, node_of}

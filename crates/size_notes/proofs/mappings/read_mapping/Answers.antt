@@ -1,6 +1,5 @@
-use Rattle.std.proofs.Common.{◌≡◌, ap, sym, subst, ◌∙◌}
-use Rattle.sail_core.specs.declared.tree.Core.{out-Core}
-use Rattle.value_indices.specs.Walking.{Written, begun, run, seen}
+use Rattle.std.proofs.Common.{sym, subst, ◌∙◌}
+use Rattle.value_indices.specs.Walking.{Written, run, seen}
 use Rattle.pattern_leaves.specs.Settings.{around_of}
 use Rattle.size_notes.specs.Bodies.{both_read, mapping_read}
 use Rattle.size_notes.specs.Reading.{IsAtRest}

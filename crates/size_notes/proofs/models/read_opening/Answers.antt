@@ -1,5 +1,5 @@
-use Rattle.std.proofs.Common.{◌≡◌, ap, sym, subst, ◌∙◌}
-use Rattle.value_indices.specs.Walking.{Written, begun, run, seen}
+use Rattle.std.proofs.Common.{sym, subst, ◌∙◌}
+use Rattle.value_indices.specs.Walking.{Written, seen}
 use Rattle.pattern_leaves.specs.Settings.{around_of}
 use Rattle.expression_steps.specs.Expressions.{part}
 use Rattle.constraint_gen.specs.Models.{opening_walk}

@@ -1,5 +1,5 @@
 use Rattle.std.proofs.Common.{◌≡◌, refl, arith}
-use Rattle.value_indices.specs.Walking.{run, seen}
+use Rattle.value_indices.specs.Walking.{seen}
 use Rattle.size_notes.specs.Bodies.{parameter_read, parameters_read}
 use Rattle.size_notes.proofs.Walked.{pair_next, pair_end}
 use Rattle.size_notes.proofs.parameters.read_parameters.Goals as goal

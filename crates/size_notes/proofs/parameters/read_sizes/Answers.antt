@@ -1,8 +1,7 @@
 use Rattle.std.proofs.Common.{◌≡◌, [], ◌∷◌, length, sym, ap, ◌∙◌, arith}
 use Rattle.std.proofs.lemmas.List.{nil_from_length}
 use Rattle.std.specs.Vec.Iter.{into_iter_items}
-use Rattle.value_indices.specs.Walking.{run, seen}
-use Rattle.size_notes.specs.Bodies.{sizes_read}
+use Rattle.value_indices.specs.Walking.{seen}
 use Rattle.size_notes.proofs.Walked.{size_next, size_end}
 use Rattle.size_notes.proofs.parameters.read_sizes.Goals as goal
 

@@ -1,4 +1,4 @@
-use Rattle.std.proofs.Common.{◌≡◌, ap, ◌∙◌}
+use Rattle.std.proofs.Common.{ap, ◌∙◌}
 use Rattle.value_indices.specs.Walking.{begun, steps_read}
 use Rattle.constraint_gen.specs.Obligations.{names_of}
 use Rattle.size_notes.proofs.Walked.{body_ended}
