@@ -65,11 +65,12 @@ use Rattle.shape_meanings.proofs.PatternCounts.{pat_counts}
 use Rattle.shape_meanings.proofs.PatternNames.{bound_names, bound_texts}
 use Rattle.shape_meanings.proofs.Ready.{Ready, with_names}
 use Rattle.shape_meanings.proofs.Expressions.{expressions_right}
-use Rattle.body_meanings.specs.Directions.{CrossingsAreNamed, EachWidthsAreGiven, WidthsAreGiven, both_ways_written, crossing, forwards, backwards}
+use Rattle.body_meanings.specs.Directions.{CrossingsAreNamed, both_ways_written, crossing, forwards, backwards}
 use Rattle.body_meanings.specs.Directions.{guard_written}
 use Rattle.body_meanings.proofs.Clauses.{nothing_ready}
 use Rattle.body_meanings.proofs.Numbers.{numbers_mean_nothing}
 use Rattle.body_meanings.proofs.Sides.{sides_right}
+use Rattle.body_meanings.proofs.Widths.{widths_given}
 
 -- ---- a pattern whose bare names have widths
 
@@ -114,16 +115,15 @@ cross_runs : (setting : Setting) (names : Tables.Setting) → AreKnown setting n
     → pattern_written from.pattern ≡ true → guard_written from.guard ≡ true → side_written to.pattern ≡ true
     → side_failures names from ≡ [] → uses_failures names to.pattern ≡ []
     → values_failures names (behind (binds names.known from.pattern) []) (names_of to.pattern) ≡ []
-    → WidthsAreGiven setting d.gives to.pattern
     → (claused setting (width_given (gives to.pattern setting (Some d.gives))) from d.takes to d.gives).faults ≡ []
     → CrossRuns setting (shape d.takes) (shape d.gives) (claused setting (width_given (gives to.pattern setting (Some d.gives))) from d.takes to d.gives)
     (λ ws v. crossing_taken ws d (crossing from to) v)
-cross_runs setting names known from to d n whole counts wp wg wt u x v given e =
+cross_runs setting names known from to d n whole counts wp wg wt u x v e =
     λ registers c wc ws described value fit now good.
     subst (λ (q : Widths). Agree (reach_of setting registers c []) (Fits setting.types c want)
     (arm_taken plainly wc (A.Nested (p.pattern ∷ [])) (core_meaning wc core) (value ∷ []) now)
     ((matching (with_widths q ws) from.pattern value then λ found. within found (guarded (option_map meaning from.guard) (side_value to.pattern) ws)) now))
-    (sym (given registers wc ws described))
+    (sym (widths_given setting names known d.gives to.pattern x registers wc ws described))
     (taken_beside setting widths (shape d.takes) want p (λ w. matching w from.pattern) core (guarded (option_map meaning from.guard) (side_value to.pattern))
     looks either runs registers c wc ws described value fit now good)
   where
@@ -281,22 +281,22 @@ way_claused s setting from to d cs =
     map (λ c. direction_looked s (guard_part (from c).guard) (read_side (to c).pattern) (shape d.gives)
     (look (from c).pattern setting (width_given (gives (to c).pattern setting (Some d.gives))) (shape d.takes))) cs
 
-abbrev AllNamed : Setting → Tables.Setting → (MappingClause → Side) → (MappingClause → Side) → Typ → List MappingClause → Type 0
-AllNamed setting names from to typ [] = Unit {0}
-AllNamed setting names from to typ (c ∷ cs) =
-    BothNamed names (from c) (to c) × WidthsAreGiven setting typ (to c).pattern × AllNamed setting names from to typ cs
+abbrev AllNamed : Tables.Setting → (MappingClause → Side) → (MappingClause → Side) → List MappingClause → Type 0
+AllNamed names from to [] = Unit {0}
+AllNamed names from to (c ∷ cs) =
+    BothNamed names (from c) (to c) × AllNamed names from to cs
 
 way_crosses : (setting : Setting) (names : Tables.Setting) → AreKnown setting names → (from to : MappingClause → Side) (d : Direction) (n : ℕ)
     → below n (shape d.gives) ≡ true → counted setting.types (shape d.takes) ≡ true → (cs : List MappingClause)
-    → AllNamed setting names from to d.gives cs → clauses_faults (way_claused setting setting from to d cs) ≡ []
+    → AllNamed names from to cs → clauses_faults (way_claused setting setting from to d cs) ≡ []
     → AllCross setting d (way_claused setting setting from to d cs) (map (λ c. crossing (from c) (to c)) cs)
 way_crosses setting names known from to d n whole counts [] named e = tt
 way_crosses setting names known from to d n whole counts (c ∷ cs) named e =
     let one : Claused = claused setting (width_given (gives (to c).pattern setting (Some d.gives))) (from c) d.takes (to c) d.gives in
     let h = both_empty one.faults (clauses_faults (way_claused setting setting from to d cs)) e in
     let s = named.0 in (
-      cross_runs setting names known (from c) (to c) d n whole counts s.pattern s.guard s.side s.failures s.uses s.values named.1 h.0,
-      way_crosses setting names known from to d n whole counts cs named.2 h.1,
+      cross_runs setting names known (from c) (to c) d n whole counts s.pattern s.guard s.side s.failures s.uses s.values h.0,
+      way_crosses setting names known from to d n whole counts cs named.1 h.1,
     )
 
 abbrev way_of : (MappingClause → Side) → (MappingClause → Side) → Typ → Typ → List MappingClause → Direction
@@ -304,7 +304,7 @@ way_of from to takes given cs = record { takes = takes; gives = given; clauses =
 
 way_right : (setting : Setting) (names : Tables.Setting) (place : Place) (from to : MappingClause → Side) (takes given : Typ) (cs : List MappingClause) (n : ℕ)
     → setting.answer ≡ None → AreKnown setting names → below n (shape given) ≡ true → counted setting.types (shape takes) ≡ true
-    → AllNamed setting names from to given cs
+    → AllNamed names from to cs
     → clauses_faults (way_claused (answering None setting) setting from to (way_of from to takes given cs) cs) ≡ []
     → DirectionIs setting (numbered (clauses_core place (way_claused (answering None setting) setting from to (way_of from to takes given cs) cs)) 0).it
     (way_of from to takes given cs)
@@ -315,27 +315,23 @@ way_right setting names place from to takes given cs n none known whole counts n
     (λ e. numbered_crosses setting place d (way_claused setting setting from to d cs) 0
     (crosses setting place d (way_claused setting setting from to d cs) (way_crosses setting names known from to d n whole counts cs named e)))
 
-all_ahead : (setting : Setting) (names : Tables.Setting) (m : Mapping) (cs : List MappingClause) → CrossingsAreNamed names cs → EachWidthsAreGiven setting m cs
-    → AllNamed setting names (λ c. c.left) (λ c. c.right) m.right cs
-all_ahead setting names m [] named given = tt
-all_ahead setting names m (c ∷ cs) named given =
-    ((both_named names c named.0 named.1).0, given.1, all_ahead setting names m cs named.2 given.2)
+all_ahead : (names : Tables.Setting) (cs : List MappingClause) → CrossingsAreNamed names cs → AllNamed names (λ c. c.left) (λ c. c.right) cs
+all_ahead names [] named = tt
+all_ahead names (c ∷ cs) named = ((both_named names c named.0 named.1).0, all_ahead names cs named.2)
 
-all_back : (setting : Setting) (names : Tables.Setting) (m : Mapping) (cs : List MappingClause) → CrossingsAreNamed names cs → EachWidthsAreGiven setting m cs
-    → AllNamed setting names (λ c. c.right) (λ c. c.left) m.left cs
-all_back setting names m [] named given = tt
-all_back setting names m (c ∷ cs) named given =
-    ((both_named names c named.0 named.1).1, given.0, all_back setting names m cs named.2 given.2)
+all_back : (names : Tables.Setting) (cs : List MappingClause) → CrossingsAreNamed names cs → AllNamed names (λ c. c.right) (λ c. c.left) cs
+all_back names [] named = tt
+all_back names (c ∷ cs) named = ((both_named names c named.0 named.1).1, all_back names cs named.2)
 
 pub directions_right : (setting : Setting) (names : Tables.Setting) (place : Place) (m : Mapping) (cs : List MappingClause) (n : ℕ)
     → setting.answer ≡ None → AreKnown setting names
     → counted setting.types (shape m.left) ≡ true → counted setting.types (shape m.right) ≡ true
     → below n (shape m.left) ≡ true → below n (shape m.right) ≡ true
-    → CrossingsAreNamed names cs → EachWidthsAreGiven setting m cs → both_faults setting m cs ≡ []
+    → CrossingsAreNamed names cs → both_faults setting m cs ≡ []
     → DirectionIs setting (direction_core place m.name m.left m.right (forwards_clauses setting m cs)).body (forwards m cs)
     × DirectionIs setting (direction_core place m.name m.right m.left (backwards_clauses setting m cs)).body (backwards m cs)
-directions_right setting names place m cs n none known left right left_whole right_whole named given e =
+directions_right setting names place m cs n none known left right left_whole right_whole named e =
     let h = both_empty (clauses_faults (forwards_clauses setting m cs)) (clauses_faults (backwards_clauses setting m cs)) e in (
-      way_right setting names place (λ c. c.left) (λ c. c.right) m.left m.right cs n none known right_whole left (all_ahead setting names m cs named given) h.0,
-      way_right setting names place (λ c. c.right) (λ c. c.left) m.right m.left cs n none known left_whole right (all_back setting names m cs named given) h.1,
+      way_right setting names place (λ c. c.left) (λ c. c.right) m.left m.right cs n none known right_whole left (all_ahead names cs named) h.0,
+      way_right setting names place (λ c. c.right) (λ c. c.left) m.right m.left cs n none known left_whole right (all_back names cs named) h.1,
     )

@@ -4,5 +4,6 @@ pub mod Sides
 pub mod Entering
 pub mod Numbers
 pub mod Standing
+pub mod Widths
 pub mod Directions
 pub mod Callees

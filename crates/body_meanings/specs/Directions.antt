@@ -2,28 +2,19 @@
 use Rattle.std.specs.Prelude.{◌≡◌, ℕ, Bool, true, ◌&&◌, List, [], ◌∷◌, map, Option, Some, None}
 use Rattle.sail_base.specs.declared.place.Place.{Place}
 use Rattle.sail_types.specs.Shapes.{shape}
-use Rattle.sail_types.specs.declared.shapes.Shape.{Shape}
-use Rattle.sail_types.specs.declared.types.Typ.{Typ}
-use Rattle.sail_types.specs.declared.values.Value.{Value}
 use Rattle.sail_syntax.specs.declared.expressions.Exp.{Exp}
-use Rattle.sail_syntax.specs.declared.patterns.Pat.{Pat}
 use Rattle.sail_syntax.specs.declared.definitions.MappingClause.{MappingClause}
 use Rattle.sail_syntax.specs.declared.definitions.Side.{Side}
-use Rattle.sail_core.specs.Making as Core
 use Rattle.sail_meaning.specs.Text.{Crossing, Direction}
-use Rattle.sail_meaning.specs.Widths.{width_on}
-use Rattle.sail_meaning.specs.World as Source
 use Rattle.sail_names.specs.Known as Tables
 use Rattle.sail_names.specs.Clauses.{mapping_clause_failures}
 use Rattle.shape_rules.specs.declared.callees.Mapping.{Mapping}
 use Rattle.shape_rules.specs.Scopes.{Setting}
-use Rattle.shape_rules.specs.Sides.{gives, width_given}
 use Rattle.shape_clauses.specs.Mappings.{backwards_clauses, both_faults, direction_core, forwards_clauses}
 use Rattle.shape_meanings.specs.Whole.{below}
 use Rattle.shape_meanings.specs.Trees.{written, pattern_written, side_written}
 use Rattle.shape_meanings.specs.Counted.{counted}
 use Rattle.shape_meanings.specs.Naming.{AreKnown}
-use Rattle.shape_meanings.specs.Worlds.{Describes}
 use Rattle.shape_meanings.specs.Models.{DirectionIs}
 
 -- ---- the directions of a text
@@ -53,24 +44,13 @@ CrossingsAreNamed names [] = Unit {0}
 CrossingsAreNamed names (c ∷ cs) =
     ((both_ways_written c.left && both_ways_written c.right) ≡ true) × (mapping_clause_failures names c ≡ []) × CrossingsAreNamed names cs
 
--- a bare name has the width of its place on this side, which is of this type, in both
-abbrev pub WidthsAreGiven : Setting → Typ → Pat → Type 0
-WidthsAreGiven setting typ side =
-    (registers : List Shape) (wc : Core.World Value) (ws : Source.World) → Describes setting registers wc ws
-    → width_on ws typ side ≡ width_given (gives side setting (Some typ))
-
-abbrev pub EachWidthsAreGiven : Setting → Mapping → List MappingClause → Type 0
-EachWidthsAreGiven setting m [] = Unit {0}
-EachWidthsAreGiven setting m (c ∷ cs) =
-    WidthsAreGiven setting m.left c.left.pattern × WidthsAreGiven setting m.right c.right.pattern × EachWidthsAreGiven setting m cs
-
--- where bare names get the same widths in both, both directions do in the core what they do as they are written; no function is around them
+-- both directions do in the core what they do as they are written; no function is around them
 abbrev pub DirectionsAreRight : Type 0
 DirectionsAreRight =
     (setting : Setting) (names : Tables.Setting) (place : Place) (m : Mapping) (cs : List MappingClause) (n : ℕ)
     → setting.answer ≡ None → AreKnown setting names
     → counted setting.types (shape m.left) ≡ true → counted setting.types (shape m.right) ≡ true
     → below n (shape m.left) ≡ true → below n (shape m.right) ≡ true
-    → CrossingsAreNamed names cs → EachWidthsAreGiven setting m cs → both_faults setting m cs ≡ []
+    → CrossingsAreNamed names cs → both_faults setting m cs ≡ []
     → DirectionIs setting (direction_core place m.name m.left m.right (forwards_clauses setting m cs)).body (forwards m cs)
     × DirectionIs setting (direction_core place m.name m.right m.left (backwards_clauses setting m cs)).body (backwards m cs)

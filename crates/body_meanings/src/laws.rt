@@ -6,6 +6,7 @@ ghost use Rattle.body_meanings.specs.Directions.{DirectionsAreRight};
 ghost use Rattle.body_meanings.specs.Numbers.{NumbersMeanNothing};
 ghost use Rattle.body_meanings.specs.Sides.{SidesAreRight};
 ghost use Rattle.body_meanings.specs.Standing.{FunctionsStand};
+ghost use Rattle.body_meanings.specs.Widths.{WidthsAreGiven};
 
 /// The clauses of a function, tried in order, do in the core what they do as they are written, and so does its measure.
 pub fn bodies_are_right()
@@ -35,7 +36,12 @@ pub fn functions_stand()
     ensures { FunctionsStand }
 {}
 
-/// Both directions of a mapping do in the core what they do as they are written, where bare names get the same widths in both.
+/// A side of a mapping's clause gives each bare name of the other side the same width for the text as for the core.
+pub fn widths_are_given()
+    ensures { WidthsAreGiven }
+{}
+
+/// Both directions of a mapping do in the core what they do as they are written.
 pub fn directions_are_right()
     ensures { DirectionsAreRight }
 {}

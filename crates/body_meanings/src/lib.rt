@@ -8,5 +8,5 @@ mod laws;
 
 pub use laws::{
     bodies_are_right, callees_keep_calls, calls_are_entered_alike, directions_are_right,
-    functions_stand, numbers_mean_nothing, sides_are_right,
+    functions_stand, numbers_mean_nothing, sides_are_right, widths_are_given,
 };

@@ -1,29 +1,32 @@
 -- The widths of identifiers in a mapping's clause: a bare one has the width of its place on the other side (Sail language manual,
 -- "Mappings").
-use Rattle.std.specs.Prelude.{ℕ, Bool, bytes_eq, if◌then◌else◌, List, [], ◌∷◌, ◌++◌, Option, Some, None, is_some}
+use Rattle.std.specs.Prelude.{ℕ, bytes_eq, if◌then◌else◌, List, [], ◌∷◌, ◌++◌, Option, Some, None, is_some}
 use Rattle.sail_types.specs.Named.{payload}
-use Rattle.sail_types.specs.Shapes.{shape}
+use Rattle.sail_types.specs.Shapes.{shape, shares}
 use Rattle.sail_types.specs.Sums.{and_then}
 use Rattle.sail_types.specs.declared.numbers.Num.{Num}
+use Rattle.sail_types.specs.declared.shapes.Shape.{Shape}
+use Rattle.sail_types.specs.declared.shapes.Shape.TheVariants as V
 use Rattle.sail_types.specs.declared.table.Types.{Types}
 use Rattle.sail_types.specs.declared.types.Typ.{Typ, Typ-F, out-Typ}
 use Rattle.sail_types.specs.declared.types.Typ.TheOpen as T
-use Rattle.sail_types.specs.Shapes.{shares}
-use Rattle.sail_types.specs.declared.shapes.Shape.TheVariants as V
+use Rattle.sail_types.specs.declared.values.Value.{Value}
 use Rattle.sail_syntax.specs.declared.words.Brackets.{Brackets}
 use Rattle.sail_syntax.specs.declared.words.Brackets.TheVariants as B
 use Rattle.sail_syntax.specs.declared.patterns.Pat.{Pat, Pat-F, fold-Pat}
 use Rattle.sail_syntax.specs.declared.patterns.Pat.TheOpen as P
 use Rattle.type_arguments.specs.Applied.{applied_typ}
-use Rattle.sail_meaning.specs.Named.{Inside, constructor_named}
-use Rattle.sail_meaning.specs.World.{World, written_typ, width_of, sides}
+use Rattle.shape_joins.specs.Joins.{join}
+use Rattle.sail_meaning.specs.Named.{Inside, constructor_named, member_named}
+use Rattle.sail_meaning.specs.Text.{Called, alone, direction, mapping}
+use Rattle.sail_meaning.specs.World.{World, written_typ, width_of}
 
 -- an identifier and the width of its place
 abbrev pub Wide : Type 0
 Wide = List ℕ × Num
 
 -- the identifiers of a pattern with the widths of their places, where it stands at a place of this type; a part of a concatenation stands
--- at a place of none
+-- at a place of none, as does a part of a tuple whose type isn't known to be one
 abbrev pub Places : Type 0
 Places = World → Option Typ → List Wide
 
@@ -31,27 +34,39 @@ abbrev pub wide : List ℕ → Option Num → List Wide
 wide name None = []
 wide name (Some n) = (name, n) ∷ []
 
--- parts at places of these types
+-- a bare identifier; a member of an enum is none
+abbrev pub bare_at : Option Value → List ℕ → Option Typ → List Wide
+bare_at (Some member) name t = []
+bare_at None name t = wide name (and_then t width_of)
+
+-- ---- several parts
+
+-- parts at places of these types, those behind them at places of none
 abbrev pub each_at : List Places → World → List Typ → List Wide
+each_at [] w ts = []
+each_at (p ∷ ps) w [] = p w None ++ each_at ps w []
 each_at (p ∷ ps) w (t ∷ ts) = p w (Some t) ++ each_at ps w ts
-each_at ps w ts = []
 
 -- parts at places of one type
 abbrev pub all_at : List Places → World → Option Typ → List Wide
 all_at [] w t = []
 all_at (p ∷ ps) w t = p w t ++ all_at ps w t
 
+-- the types of a tuple's parts
+abbrev pub parts_in : Typ-F Typ → List Typ
+parts_in (T.Tuple ts) = ts
+parts_in form = []
+
+abbrev pub parts_of : Option Typ → List Typ
+parts_of None = []
+parts_of (Some t) = parts_in (out-Typ t)
+
 -- several parts are those of a tuple
-abbrev pub tuple_at : List Places → World → Typ-F Typ → List Wide
-tuple_at ps w (T.Tuple ts) = each_at ps w ts
-tuple_at ps w form = []
-
 abbrev pub whole_at : List Places → World → Option Typ → List Wide
-whole_at ps w None = []
-whole_at (p ∷ []) w (Some t) = p w (Some t)
-whole_at ps w (Some t) = tuple_at ps w (out-Typ t)
+whole_at (p ∷ []) w t = p w t
+whole_at ps w t = each_at ps w (parts_of t)
 
--- ---- constructors and mappings
+-- ---- constructors
 
 -- the payload of a constructor in a union at its arguments
 abbrev pub payload_in : Types → Inside → Typ-F Typ → Option Typ
@@ -62,19 +77,37 @@ abbrev pub payload_at : Types → Inside → Option Typ → Option Typ
 payload_at types at None = None
 payload_at types at (Some t) = payload_in types at (out-Typ t)
 
--- whether a value at a place of this type may be on this side of a mapping; a part of a concatenation is bits
-abbrev pub may_be_on : Option Typ → Typ → Bool
-may_be_on None side = shares V.Bits (shape side)
-may_be_on (Some t) side = shares (shape t) (shape side)
+-- the types of a constructor's parameters: a tuple is several
+abbrev pub parameters_in : Typ → Typ-F Typ → List Typ
+parameters_in t (T.Tuple ts) = ts
+parameters_in t form = t ∷ []
 
--- the type of the other side of a mapping
-abbrev pub other_side : Option Typ → List (Typ × Typ) → Option Typ
-other_side t [] = None
-other_side t (pair ∷ pairs) = if may_be_on t pair.0 then Some pair.1 else other_side t pairs
+abbrev pub parameters_of : Option Typ → List Typ
+parameters_of None = []
+parameters_of (Some t) = parameters_in t (out-Typ t)
+
+-- ---- mappings
+
+-- the shape of what stands at a place; a part of a concatenation is bits
+abbrev pub shape_at : Option Typ → Shape
+shape_at None = V.Bits
+shape_at (Some t) = shape t
+
+-- the type on the other side of a mapping, where the place has the shape of one side alone
+abbrev pub other_side : Typ → Typ → Shape → Option Typ
+other_side left right s =
+    if shares (shape left) (shape right) then None
+    else (if is_some (join (shape left) s) then Some right else (if is_some (join (shape right) s) then Some left else None))
+
+-- a direction of a mapping gives its own side, whatever the place
+abbrev pub mapped_at : List Places → World → Option Typ → Option Called → List Wide
+mapped_at ps w t (Some (alone (direction d))) = whole_at ps w (Some d.gives)
+mapped_at ps w t (Some (mapping forwards backwards)) = whole_at ps w (other_side forwards.takes backwards.takes (shape_at t))
+mapped_at ps w t called = []
 
 abbrev pub construct_at : List ℕ → List Places → World → Option Typ → Option Inside → List Wide
-construct_at name ps w t None = whole_at ps w (other_side t (sides w name))
-construct_at name ps w t (Some at) = whole_at ps w (payload_at w.text.types at t)
+construct_at name ps w t None = mapped_at ps w t (w.text.called name)
+construct_at name ps w t (Some at) = each_at ps w (parameters_of (payload_at w.text.types at t))
 
 -- ---- brackets
 
@@ -88,7 +121,7 @@ item_at None = None
 item_at (Some t) = item_of (out-Typ t)
 
 abbrev pub group_at : Brackets → List Places → World → Option Typ → List Wide
-group_at B.Tuple ps w t = whole_at ps w t
+group_at B.Tuple ps w t = each_at ps w (parts_of t)
 group_at B.Vector ps w t = all_at ps w (item_at t)
 group_at B.List ps w t = all_at ps w (item_at t)
 
@@ -98,7 +131,7 @@ abbrev pub places_form : Pat-F Places Places → Places
 places_form (P.Wildcard place) w t = []
 places_form (P.Constant place literal) w t = []
 places_form (P.Negative place n) w t = []
-places_form (P.Bind name) w t = wide name.text (and_then t width_of)
+places_form (P.Bind name) w t = bare_at (member_named w.text.types name.text) name.text t
 places_form (P.Construct name ps) w t = construct_at name.text ps w t (constructor_named w.text.types name.text)
 places_form (P.Group place brackets ps) w t = group_at brackets ps w t
 places_form (P.Concat place p q more) w t = all_at (p ∷ q ∷ more) w None

@@ -95,7 +95,7 @@ module _ (tabled : Tabled) (text : List Def) (setting : List Variable → Settin
   mapping_right place name cs s none known same e =
       let right = directions_right (setting []) known.names place (mapping_of name 0 s) cs 0 none known.known
       (subst (λ t. counted t (shape s.from) ≡ true) (sym same) known.left_counts) (subst (λ t. counted t (shape s.to) ≡ true) (sym same) known.right_counts)
-      known.left known.right known.named known.widths e in
+      known.left known.right known.named e in
       record {
         no_constructor = known.no_constructor;
         no_forwards = known.no_forwards;

@@ -16,7 +16,7 @@ use Rattle.sail_names.specs.Patterns.{parameters_failures}
 use Rattle.sail_names.specs.Uses.{expression_failures}
 use Rattle.shape_rules.specs.Calls.{param_shapes}
 use Rattle.shape_rules.specs.Scopes.{Setting, answering, plainly}
-use Rattle.shape_models.specs.Models.{Tabled, mapping_of, params_variables, place_in_table, setting_of, type_variables}
+use Rattle.shape_models.specs.Models.{Tabled, params_variables, place_in_table, setting_of, type_variables}
 use Rattle.shape_clauses.specs.Functions as Found
 use Rattle.shape_clauses.specs.Functions.{measure_of}
 use Rattle.shape_meanings.specs.Whole.{all_below, all_of, below, closed}
@@ -24,7 +24,7 @@ use Rattle.shape_meanings.specs.Trees.{pattern_written, written}
 use Rattle.shape_meanings.specs.Counted.{all_counted, counted}
 use Rattle.shape_meanings.specs.Naming.{AreKnown}
 use Rattle.body_meanings.specs.Bodies.{ClausesAreNamed}
-use Rattle.body_meanings.specs.Directions.{CrossingsAreNamed, EachWidthsAreGiven}
+use Rattle.body_meanings.specs.Directions.{CrossingsAreNamed}
 use Rattle.shapes.specs.Failures.{all_lets, own_in, refusal}
 use Rattle.text_models.specs.Definitions.{DefinitionsAre, UnionIs}
 
@@ -48,7 +48,7 @@ pub record FunctionKnown (tabled : Tabled) (text : List Def) (setting : List Var
   pub measure_names : Tables.Setting
   pub measure : MeasureIsNamed measure_names (setting s.variables) (measure_of name text)
 
--- a mapping, in whose clauses bare names have the same widths on both sides too
+-- a mapping, likewise
 pub record MappingKnown (types : Types) (setting : Setting) (name : List ℕ) (cs : List MappingClause) (s : Signature) : Type 0 where
   pub no_constructor : constructor_named types name ≡ None
   pub no_forwards : constructor_named types (name ++ codes "_forwards") ≡ None
@@ -60,7 +60,6 @@ pub record MappingKnown (types : Types) (setting : Setting) (name : List ℕ) (c
   pub names : Tables.Setting
   pub known : AreKnown setting names
   pub named : CrossingsAreNamed names cs
-  pub widths : EachWidthsAreGiven setting (mapping_of name 0 s) cs
 
 abbrev pub DefinitionKnown : Tabled → List Def → (List Variable → Setting) → Def → Type 0
 DefinitionKnown tabled text setting (D.Union place name variables cs) =
