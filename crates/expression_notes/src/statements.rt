@@ -1,5 +1,5 @@
 //! The walk over statements, blocks, and what binds names.
-ghost use Rattle.std.specs.Prelude.{◌≡◌, ◌∷◌, IfOk, OnOk};
+ghost use Rattle.std.specs.Prelude.{◌≡◌, [], ◌++◌, IfOk, OnOk};
 ghost use Rattle.value_indices.specs.Walking as walk;
 ghost use Rattle.pattern_leaves.specs.Settings.{around_of};
 ghost use Rattle.expression_forms.specs.Scopes.{scope_of};
@@ -8,6 +8,7 @@ ghost use Rattle.expression_steps.specs.Expressions.{part};
 ghost use Rattle.expression_steps.specs.Parts.{Part};
 ghost use Rattle.expression_steps.specs.Parts as part_spec;
 ghost use Rattle.expression_steps.specs.Statements as statement_spec;
+ghost use Rattle.expression_notes.specs.Claims.{claiming_if, claims_in, statement_walk, unclaimed_times};
 
 use crate::branches::walk_branches;
 use crate::expressions::walk_expression;
@@ -15,7 +16,7 @@ use crate::parts::walk_truth;
 use call_notes::{Aim, wrong_value};
 use expression_forms::Scope;
 use expression_steps::{
-    Binding, begin_binding, binding_of, claim_behind, end_binding, is_nested, wrong_state,
+    Binding, begin_binding, binding_of, claim_behind, end_binding, is_nested, left_at, wrong_state,
 };
 use pattern_leaves::{Around, Bound};
 use sail_base::{Items, Place};
@@ -112,7 +113,8 @@ pub(crate) fn walk_in(
     }
 }
 
-/// A block that begins with this statement. It fails where memory is wanting, and where variables are too many.
+/// A statement of a block: the names that it binds, and the condition that it claims. It fails where memory is wanting, and where variables
+/// are too many.
 #[cycle(walk)]
 #[tactic(auto, using(value_indices::proofs::Walks::walks))]
 fn walk_statement(
@@ -120,38 +122,94 @@ fn walk_statement(
     walking: &mut Walking,
     around: &Around<'_>,
     scope: &Scope<'_>,
-    place: Place,
     statement: &Statement,
     core: &Core,
-    statements: &[Statement],
+) -> Result<(Items<Bound>, Option<Con>), AllocError>
+    ensures value { IfOk result (λ made. made ≡ walk.got (statement_walk statement.now (part core.now) (around_of around.now)
+        (scope_of scope.now)) (walk.seen walking.old)) }
+    ensures walked { OnOk result (walk.seen walking.new ≡ walk.run (statement_walk statement.now (part core.now) (around_of around.now)
+        (scope_of scope.now)) (walk.seen walking.old)) }
+{
+    match binding_of(statement) {
+        None => {
+            let condition = walk_state(alloc, walking, around, scope, core)?;
+            Ok((Items::new(alloc), condition))
+        }
+        Some(binding) => {
+            let found = walk_bound(alloc, walking, around, scope, &binding, core)?;
+            Ok((found, None))
+        }
+    }
+}
+
+/// Claims a condition, if there is one: how many claims that is. It fails where memory is wanting.
+fn claim_if(walking: &mut Walking, condition: Option<Con>) -> Result<usize, AllocError>
+    ensures value { IfOk result (λ made. made ≡ claims_in condition) }
+    ensures walked { OnOk result (walk.seen walking.new ≡ claiming_if condition (walk.seen walking.old)) }
+{
+    match condition {
+        None => Ok(0),
+        Some(condition) => {
+            walking.claim(condition)?;
+            Ok(1)
+        }
+    }
+}
+
+/// Names that are bound, before those that were bound earlier. It fails where memory is wanting.
+fn newest_first(mut found: Items<Bound>, names: Items<Bound>) -> Result<Items<Bound>, AllocError>
+    ensures { IfOk result (λ made. made ≡ found ++ names) }
+{
+    if found.is_empty() {
+        return Ok(names);
+    }
+    found.append(names)?;
+    Ok(found)
+}
+
+/// The value of a block behind its statements: of the one part that is left, if there is one. It fails where memory is wanting, and where
+/// variables are too many.
+#[cycle(walk)]
+#[tactic(auto, using(value_indices::proofs::Walks::walks))]
+fn walk_value(
+    alloc: Global,
+    walking: &mut Walking,
+    around: &Around<'_>,
+    scope: &Scope<'_>,
+    place: Place,
     parts: &[Core],
     aim: &Aim,
 ) -> Result<Indices, AllocError>
-    ensures value { IfOk result (λ made. made ≡ walk.got (statement_spec.block_walk place (statement.now ∷ statements.now) (part core.now ∷
-        coded.each_part parts.now) (around_of around.now) (scope_of scope.now) aim.now) (walk.seen walking.old)) }
-    ensures walked { OnOk result (walk.seen walking.new ≡ walk.run (statement_spec.block_walk place (statement.now ∷ statements.now) (part core.now ∷
-        coded.each_part parts.now) (around_of around.now) (scope_of scope.now) aim.now) (walk.seen walking.old)) }
+    ensures value { IfOk result (λ made. made ≡ walk.got (statement_spec.block_walk place [] (coded.each_part parts.now) (around_of around.now)
+        (scope_of scope.now) aim.now) (walk.seen walking.old)) }
+    ensures walked { OnOk result (walk.seen walking.new ≡ walk.run (statement_spec.block_walk place [] (coded.each_part parts.now)
+        (around_of around.now) (scope_of scope.now) aim.now) (walk.seen walking.old)) }
 {
-    match binding_of(statement) {
-        None => match walk_state(alloc, walking, around, scope, core)? {
-            None => walk_block(alloc, walking, around, scope, place, statements, parts, aim),
-            Some(condition) => {
-                walking.claim(condition)?;
-                let value = walk_block(
-                    alloc, walking, around, scope, place, statements, parts, aim,
-                )?;
-                walking.unclaim()?;
-                Ok(value)
-            }
-        },
-        Some(binding) => {
-            let found = walk_bound(alloc, walking, around, scope, &binding, core)?;
-            let inside = (&*scope).with(found.as_slice());
-            walk_block(
-                alloc, walking, around, &inside, place, statements, parts, aim,
-            )
+    match parts {
+        [] => Ok(Indices::Unit),
+        [value] => {
+            let aim = aim.inner(alloc)?;
+            walk_expression(alloc, walking, around, scope, value, &aim)
         }
+        _ => wrong_value(alloc, walking, place),
     }
+}
+
+/// The value of a block, at whose end so many claims are in force no more. It fails where memory is wanting.
+fn end_block(
+    walking: &mut Walking,
+    claims: usize,
+    value: Indices,
+) -> Result<Indices, AllocError>
+    ensures value { IfOk result (λ made. made ≡ value) }
+    ensures walked { OnOk result (walk.seen walking.new ≡ unclaimed_times claims (walk.seen walking.old)) }
+{
+    let mut left = claims;
+    while left > 0 {
+        walking.unclaim()?;
+        left -= 1;
+    }
+    Ok(value)
 }
 
 /// `{ s; e }`: a part for each statement, and e where the block has a value. It fails where memory is wanting, and where variables are too
@@ -173,20 +231,25 @@ pub(crate) fn walk_block(
     ensures walked { OnOk result (walk.seen walking.new ≡ walk.run (statement_spec.block_walk place statements.now (coded.each_part parts.now)
         (around_of around.now) (scope_of scope.now) aim.now) (walk.seen walking.old)) }
 {
-    match statements {
-        [] => match parts {
-            [] => Ok(Indices::Unit),
-            [value] => {
-                let aim = aim.inner(alloc)?;
-                walk_expression(alloc, walking, around, scope, value, &aim)
+    let mut names: Items<Bound> = Items::new(alloc);
+    let mut claims: usize = 0;
+    for (index, statement) in statements.iter().enumerate() {
+        let inside = (&*scope).with(names.as_slice());
+        match parts.get(index) {
+            None => {
+                let value = wrong_value(alloc, walking, place)?;
+                return end_block(walking, claims, value);
             }
-            _ => wrong_value(alloc, walking, place),
-        },
-        [statement, behind @ ..] => match parts {
-            [] => wrong_value(alloc, walking, place),
-            [core, others @ ..] => walk_statement(
-                alloc, walking, around, scope, place, statement, core, behind, others, aim,
-            ),
-        },
+            Some(core) => {
+                let (found, condition) =
+                    walk_statement(alloc, walking, around, &inside, statement, core)?;
+                names = newest_first(found, names)?;
+                claims += claim_if(walking, condition)?;
+            }
+        }
     }
+    let inside = (&*scope).with(names.as_slice());
+    let left = left_at(parts, statements.len());
+    let value = walk_value(alloc, walking, around, &inside, place, left, aim)?;
+    end_block(walking, claims, value)
 }

@@ -37,7 +37,7 @@ use Rattle.expression_notes.proofs.JoinLaws.{guarded_alike, joined_alike, none_a
 use Rattle.expression_notes.proofs.LeftMasses.{ends_masses, left_mass, only_target, taken_mass, between, ends_are, cased_masses, tried_masses}
 use Rattle.expression_notes.proofs.MadeLaws.{made_ends, with_values, without}
 use Rattle.expression_steps.proofs.Masses.{either_masses, kind_mass, mass_at, mass_opens, masses, masses_take, one_mass, rest_mass, rest_target, target_at}
-use Rattle.expression_steps.proofs.Masses.{mass_some, target_masses, target_opens, target_some, two_masses, way_at, way_mass, mass}
+use Rattle.expression_steps.proofs.Masses.{masses_drop, target_masses, target_opens, target_some, two_masses, way_at, way_mass, mass}
 use Rattle.expression_steps.proofs.Meeting.{Opened, match_got, match_run, try_is, way_got, way_run}
 use Rattle.expression_notes.proofs.Numbers.{numbers_end, numbers_walked, number_is, number_onward, number_stop}
 use Rattle.expression_steps.proofs.Onward.{given_got, given_run, same_got, same_run, then_got_in, then_run_in, on_ok, ok_then}
@@ -53,6 +53,9 @@ use Rattle.expression_steps.proofs.Turns.{turns_got, turns_run}
 use Rattle.expression_steps.proofs.Walked.{each_end, each_more, like_end, like_more}
 use Rattle.expression_notes.proofs.RowLaws.{row_due, row_free}
 use Rattle.expression_notes.proofs.+walk.Goals as goal
+use Rattle.std.specs.Option.{option_copied}
+use Rattle.expression_steps.proofs.Left.{item_there}
+use Rattle.expression_notes.proofs.BlockSteps.{few_more, names_grown, part_mass, statement_alike}
 use Rattle.expression_notes.proofs.Blocks.{assert_alike, if_alike, in_alike, more_alike, other_alike}
 use Rattle.expression_notes.proofs.BranchLaws.{no_either_alike, no_turns, no_when_alike, some_either_alike, some_turns, some_when_alike, ways_met, ways_onward}
 use Rattle.expression_notes.proofs.FewParts.{few_alike, many_alike}
@@ -604,10 +607,37 @@ statements::walk_in-returns-in_ok-aim-in-len2 t c = let scope = scope_of c.args.
       walked = rw two (walked_same _ _ _ _ same.walked c.walk_expression.ensures.walked);
     }
 
-pub statements::walk_block-returns-in-empty-parts : goal.statements::walk_block-returns-in-empty-parts
-statements::walk_block-returns-in-empty-parts t c = let v = seen c.args.walking.now in let no_statement = none_of _ c.in-empty.len_below in
-    let no_part = none_of _ c.in-empty-parts.len_below in
-    record { value = rw (no_statement, no_part) (sym (got_give I.Unit v)); walked = rw (no_statement, no_part) (sym (run_give {A = Indices} I.Unit v)) }
+pub statements::walk_value-returns-in-empty : goal.statements::walk_value-returns-in-empty
+statements::walk_value-returns-in-empty t c = let v = seen c.args.walking.now in let no_part = none_of _ c.in-empty.len_below in
+    record { value = rw no_part (sym (got_give I.Unit v)); walked = rw no_part (sym (run_give {A = Indices} I.Unit v)) }
+
+pub statements::walk_block-loop-index-preserved : goal.statements::walk_block-loop-index-preserved
+statements::walk_block-loop-index-preserved t c = let l = c.loop-index in let scope = scope_of c.args.scope.now in
+    let there = item_there c.args.parts.now l.index c.get.result c.get.ensures.lookup.0 c.get.ensures.lookup.1 in
+    let inside = c.with-inside.ensures ∙ ap (λ (bs : List Bound). bs ++ scope) c.as_slice.ensures in
+    let stepped = c.in_ok-found-in-Some.ensures in let claimed = c.in_ok-claims-in-Some.ensures in
+    let grown = names_grown c.in_ok-names-in-Some.names c.in_ok-found-in-Some.found l.names scope c.in_ok-names-in-Some.ensures in
+    let counted = ap (λ n. l.claims + n) claimed.value in
+    let same = statement_alike c.args.place (around_of c.args.around.now) c.args.aim.now c.args.statements.now c.args.parts.now l.index
+    c.index-statements-index.result c.loop-index-test.true c.index-statements-index.is c.in-Some.core.now (sym there ∙ ap option_copied c.in-Some.is) _ _
+    inside (seen l.walking) _ c.in_ok-found-in-Some.found c.in_ok-found-in-Some.condition stepped.value stepped.walked l.claims _ _ _ counted
+    claimed.walked grown in
+    record {
+      value = same.value ∙ l.invariant.value;
+      walked = same.walked ∙ l.invariant.walked;
+      few = few_more l.claims l.index c.in_ok-claims-in-Some.field-0 c.in_ok-found-in-Some.condition claimed.value l.invariant.few;
+      within = omega (arith, c.loop-index-test.true);
+    }
+
+pub statements::walk_block-walk_statement-requires : goal.statements::walk_block-walk_statement-requires
+statements::walk_block-walk_statement-requires t c =
+    let there = item_there c.args.parts.now c.loop-index.index c.get.result c.get.ensures.lookup.0 c.get.ensures.lookup.1 in
+    let has = part_mass c.args.parts.now c.loop-index.index c.in-Some.core.now (sym there ∙ ap option_copied c.in-Some.is) in
+    (omega (arith, has, c.decreases), tt)
+
+pub statements::walk_block-walk_value-requires : goal.statements::walk_block-walk_value-requires
+statements::walk_block-walk_value-requires t c =
+    (omega (arith, ap masses c.left_at-left.ensures, masses_drop c.args.parts.now (length c.args.statements.now), c.decreases), tt)
 
 pub loops::walk_foreach-returns-in-None : goal.loops::walk_foreach-returns-in-None
 loops::walk_foreach-returns-in-None t c = let n = c.in_ok-numbers-in-len4.ensures in
@@ -763,11 +793,8 @@ branches::walk_cases-walk_ways-requires-else-is_try t c = (
   tt,
 )
 
-pub statements::walk_block-walk_expression-requires : goal.statements::walk_block-walk_expression-requires
-statements::walk_block-walk_expression-requires t c = (omega (arith, one_mass _ _ c.in-len1.len_at_least c.value-item.is, c.decreases), tt)
-
-pub statements::walk_block-walk_statement-requires : goal.statements::walk_block-walk_statement-requires
-statements::walk_block-walk_statement-requires t c = (omega (arith, rest_mass _ _ c.in-len1-up-parts.len_at_least c.core-item.is, c.decreases), tt)
+pub statements::walk_value-walk_expression-requires : goal.statements::walk_value-walk_expression-requires
+statements::walk_value-walk_expression-requires t c = (omega (arith, one_mass _ _ c.in-len1.len_at_least c.value-item.is, c.decreases), tt)
 
 pub statements::walk_in-walk_bound-requires : goal.statements::walk_in-walk_bound-requires
 statements::walk_in-walk_bound-requires t c = (omega (arith, two_masses _ _ _ c.in-len2.len_at_least c.core-item.is c.body-item.is, c.decreases), tt)
@@ -781,15 +808,6 @@ statements::walk_state-walk_branches-requires t c = (omega (arith, mass_opens _ 
 pub statements::walk_state-walk_truth-requires : goal.statements::walk_state-walk_truth-requires
 statements::walk_state-walk_truth-requires t c =
     (omega (arith, mass_opens _ _ c.as_slice-parts.ensures, one_mass _ _ c.in-len1.len_at_least c.condition-item.is, c.decreases), tt)
-
-pub statements::walk_statement-walk_block-requires : goal.statements::walk_statement-walk_block-requires
-statements::walk_statement-walk_block-requires t c = (omega (arith, mass_some c.args.core.now, c.decreases), tt)
-
-pub statements::walk_statement-walk_block-requires-in-Some-2 : goal.statements::walk_statement-walk_block-requires-in-Some-2
-statements::walk_statement-walk_block-requires-in-Some-2 t c = (omega (arith, mass_some c.args.core.now, c.decreases), tt)
-
-pub statements::walk_statement-walk_block-requires-in-Some : goal.statements::walk_statement-walk_block-requires-in-Some
-statements::walk_statement-walk_block-requires-in-Some t c = (omega (arith, mass_some c.args.core.now, c.decreases), tt)
 
 pub loops::walk_foreach-walk_numbers-requires : goal.loops::walk_foreach-walk_numbers-requires
 loops::walk_foreach-walk_numbers-requires t c = (omega (arith, ap masses c.first_parts-three.ensures, masses_take c.args.parts.now 3, c.decreases), tt)

@@ -1,14 +1,15 @@
-use Rattle.std.proofs.Common.{◌≡◌, ◌+◌, ◌++◌, None, map, drop}
+use Rattle.std.proofs.Common.{◌≡◌, ◌≤◌, ◌+◌, ◌++◌, None, map, drop, length}
 use Rattle.value_indices.specs.Walking.{got, run, seen}
 use Rattle.pattern_leaves.specs.Settings.{around_of}
 use Rattle.expression_forms.specs.Scopes.{scope_of}
 use Rattle.expression_forms.specs.Spots.{spot_of}
 use Rattle.expression_steps.specs.Coded.{each_part, left_behind, ways_seen}
 use Rattle.expression_steps.specs.Parts.{each_walk, numbers_walk}
-use Rattle.expression_steps.specs.Statements.{each_way}
+use Rattle.expression_steps.specs.Statements.{block_walk, each_way}
 use Rattle.expression_steps.specs.Targets.{each_spot, spotting}
 use Rattle.expression_steps.specs.Values.{items_like, suffixes_walk}
 use Rattle.expression_steps.proofs.Masses.{kind_mass, mass, masses, target_mass, target_masses, way_mass, way_masses}
+use Rattle.expression_notes.specs.Claims.{unclaimed_times}
 use Rattle.expression_notes.proofs.Numbers.{more_numbers}
 use Rattle.expression_notes.proofs.Spotted.{more_spots}
 use Rattle.expression_notes.proofs.+walk.Given as goal
@@ -119,10 +120,25 @@ abbrev pub decreases-statements::walk_in : goal.decreases-statements::walk_in
 decreases-statements::walk_in l = masses l.parts.now + 40
 
 abbrev pub decreases-statements::walk_statement : goal.decreases-statements::walk_statement
-decreases-statements::walk_statement l = mass l.core.now + masses l.parts.now + 26
+decreases-statements::walk_statement l = mass l.core.now + 8
+
+abbrev pub decreases-statements::walk_value : goal.decreases-statements::walk_value
+decreases-statements::walk_value l = masses l.parts.now + 20
 
 abbrev pub decreases-statements::walk_block : goal.decreases-statements::walk_block
 decreases-statements::walk_block l = masses l.parts.now + 28
+
+abbrev pub invariant-statements::walk_block-loop-index : goal.invariant-statements::walk_block-loop-index
+invariant-statements::walk_block-loop-index l =
+    let outer = scope_of l.scope in
+    let rest = block_walk l.place (drop l.index l.statements) (each_part (drop l.index l.parts)) (around_of l.around) (l.names ++ outer) l.aim in
+    let all = block_walk l.place l.statements (each_part l.parts) (around_of l.around) outer l.aim in
+    record {
+      value : got rest (seen l.walking) ≡ got all (seen l.fn.walking);
+      walked : unclaimed_times l.claims (run rest (seen l.walking)) ≡ run all (seen l.fn.walking);
+      few : l.claims ≤ l.index;
+      within : l.index ≤ length l.statements;
+    }
 
 abbrev pub decreases-reading::walk_way : goal.decreases-reading::walk_way
 decreases-reading::walk_way l = masses l.parts.now + 12
