@@ -1,6 +1,6 @@
 use crate::{
-    checks_rows, choices_rows, facts_rows, members_rows, patterns_rows, shapes_rows, tables_rows,
-    words_rows,
+    checks_rows, choices_rows, facts_rows, long_texts, members_rows, patterns_rows, shapes_rows,
+    tables_rows, words_rows,
 };
 use sail_outside::{MemShelf, MemSink};
 use sail_top::run_words;
@@ -327,6 +327,30 @@ fn a_text_of_blanks_is_read_up_to_its_limit(rt: HostRuntime) -> Result<(), Fail>
         let text = vec![in alloc; b' '; length]?;
         let written = answer(alloc, "run --elf Q M", text, fails, 1_000_000)?;
         assert!(rt; written.as_slice().starts_with(&[wanted]));
+    }
+    Ok(())
+}
+
+// A text of pieces, each written so many times.
+fn repeated(alloc: Global, pieces: &[(&str, usize)]) -> Result<String, AllocError> {
+    let mut text = String::new(alloc);
+    for (piece, times) in pieces {
+        for _ in 0..*times {
+            text.push_str(piece)?;
+        }
+    }
+    Ok(text)
+}
+
+#[test]
+fn long_texts_are_accepted(rt: HostRuntime) -> Result<(), Fail> {
+    let alloc = rt.alloc();
+    for pieces in long_texts::BODIES {
+        let body = repeated(alloc, pieces)?;
+        let text = model(alloc, "register U : unit\n", body.as_str())?;
+        let fails = (Vec::new(alloc), Vec::new(alloc));
+        let written = answer(alloc, "check M", text, fails, 1_000_000)?;
+        assert!(rt; written.as_slice().starts_with(b"0 accepted 2 functions "), "{pieces:?}");
     }
     Ok(())
 }
