@@ -325,14 +325,14 @@ foreach_sound setting locals place name range span body m is right =
 -- a struct of fields of different names
 struct_sound : (setting : Setting) (names : Tables.Setting) (locals : Locals) (want : Shape) (place : Place) (name : Option Name) (fs : List FieldPart)
     (ms : List Field) (o : Option ℕ)
-    → AreKnown setting names → struct_place setting name fs ≡ o → NamesApart fs → FieldsAre setting locals fs ms
+    → AreKnown setting names → Uses.struct_failures names name ≡ [] → struct_place setting name fs ≡ o → NamesApart fs → FieldsAre setting locals fs ms
     → (struct_at place fs o setting locals want).faults ≡ [] → (struct_found place name fs setting locals want).faults ≡ []
     → Right setting locals want (struct_found place name fs setting locals want)
     (λ w. fields_of ms w then λ found. needs (and_then (struct_with w.text.types (name_of name) (names_of ms))
     (struct_made w (names_of ms) (values_of found))))
-struct_sound setting names locals want place name fs ms None known is apart are e f = not_none e
-struct_sound setting names locals want place name fs ms (Some i) known is apart are e f =
-    let fl = struct_known setting names known name fs i is in
+struct_sound setting names locals want place name fs ms None known u is apart are e f = not_none e
+struct_sound setting names locals want place name fs ms (Some i) known u is apart are e f =
+    let fl = struct_known setting names known name fs i u is in
     struct_right setting locals place name fs ms i fl.0 is fl.1 apart are want f
 
 -- ---- the forms
@@ -492,7 +492,7 @@ again (E.Struct place name ys) b setting names locals bound r u = λ want e.
     let fs : List FieldPart = map found_field (fieldvalues ys) in
     let h = both_empty (Uses.struct_failures names name ++ clashes (Uses.named failed)) (Uses.fields_failures failed names bound) u in
     let h2 = both_empty (Uses.struct_failures names name) (clashes (Uses.named failed)) h.0 in
-    struct_sound setting names locals want place name fs (map meant_field (fieldvalues ys)) (struct_place setting name fs) r.known refl
+    struct_sound setting names locals want place name fs (map meant_field (fieldvalues ys)) (struct_place setting name fs) r.known h2.0 refl
     (names_apart fs (Uses.named failed) (same_names ys) h2.1) (fields_right ys setting names locals bound b r h.1) e e
 again (E.With place a ys) b setting names locals bound r u =
     let failed = map failed_field (fieldvalues ys) in

@@ -16,6 +16,7 @@ use Rattle.sail_names.specs.Known.{is_assigned, is_assigned_as}
 use Rattle.sail_names.specs.Locals as Bound
 use Rattle.sail_names.specs.Locals.{binding_of}
 use Rattle.sail_names.specs.Patterns.{clashes}
+use Rattle.sail_names.specs.Uses.{struct_failures}
 use Rattle.shape_rules.specs.declared.callees.Meant.{Meant}
 use Rattle.shape_rules.specs.declared.locals.Local.{Local}
 use Rattle.shape_rules.specs.Scopes.{Setting, Locals, local_of}
@@ -27,6 +28,7 @@ use Rattle.shape_meanings.specs.Parts.{NamesApart, NotNamed}
 use Rattle.shape_meanings.specs.Sound.{VarsSettled}
 use Rattle.shape_meanings.proofs.Aims.{register_aim, variable_aim}
 use Rattle.shape_meanings.proofs.Apart.{NoneIs, TextsApart, all_apart, no_if}
+use Rattle.shape_meanings.proofs.Naming.{unless_true}
 use Rattle.shape_meanings.proofs.Settling.{same_name}
 use Rattle.shape_meanings.proofs.StructNames.{bytes_same}
 use Rattle.sail_types.specs.Named.{fields}
@@ -104,8 +106,9 @@ only_has setting fs (j ∷ []) i all h = subst (λ k. has_just fs (fields settin
 only_has setting fs (j ∷ k ∷ ks) i all h = none h
 
 pub struct_known : (setting : Setting) (names : Tables.Setting) → AreKnown setting names → (name : Option Name) (fs : List FieldPart) (i : ℕ)
-    → struct_place setting name fs ≡ Some i → (fl : List TypeField) × (fields setting.types i ≡ Some fl)
-struct_known setting names known None fs i h =
+    → struct_failures names name ≡ [] → struct_place setting name fs ≡ Some i → (fl : List TypeField) × (fields setting.types i ≡ Some fl)
+struct_known setting names known None fs i u h =
     has_known fs (fields setting.types i)
     (only_has setting fs (structs_from setting fs 0 setting.types.definitions) i (all_have setting fs 0 setting.types.definitions) h)
-struct_known setting names known (Some name) fs i h = known.structs name.text i h
+struct_known setting names known (Some name) fs i u h =
+    known.structs name.text i (unless_true (names.known.is_struct name.text) name u) h

@@ -69,7 +69,8 @@ AreCallees [] = Unit {0}
 AreCallees (f ∷ fs) = IsCallee f × AreCallees fs
 
 -- where shapes are found, the same types can be named, names mean what is known of them, there is a union `exception` where one is known, types,
--- numbers and constraints that are written well stand for something, what `return` gives has a shape that leaves nothing open, and structs have fields
+-- numbers and constraints that are written well stand for something, what `return` gives has a shape that leaves nothing open, and names of structs
+-- have fields
 pub record AreKnown (setting : Setting) (names : Tables.Setting) : Type 0 where
   pub within : names.types ≡ setting.within
   pub values : (name : List ℕ) → MeantAs names (names.known.value name) (setting.value name)
@@ -84,7 +85,8 @@ pub record AreKnown (setting : Setting) (names : Tables.Setting) : Type 0 where
   pub numbers : (typ : TyExp) → type_failures Sort.Int typ names ≡ [] → (t : Num) × (number_in setting.within typ ≡ Some t)
   pub constraints : (typ : TyExp) → type_failures Sort.Bool typ names ≡ [] → (t : Con) × (constraint_in setting.within typ ≡ Some t)
   pub answer : (s : Shape) → setting.answer ≡ Some s → (n : ℕ) × (below n s ≡ true)
-  pub structs : (name : List ℕ) (i : ℕ) → setting.struct_named name ≡ Some i → (fs : List Field) × (fields setting.types i ≡ Some fs)
+  pub structs : (name : List ℕ) (i : ℕ) → names.known.is_struct name ≡ true → setting.struct_named name ≡ Some i
+      → (fs : List Field) × (fields setting.types i ≡ Some fs)
 
 -- ---- local names
 
