@@ -13,7 +13,7 @@ use Rattle.sail_syntax.specs.declared.definitions.Def.{Def}
 use Rattle.sail_syntax.specs.declared.definitions.Def.TheVariants as D
 use Rattle.sail_syntax.specs.declared.definitions.Param.{Param}
 use Rattle.sail_syntax.specs.declared.definitions.Overloaded.TheVariants as Over
-use Rattle.sail_types.specs.Named.{constructors, members}
+use Rattle.sail_types.specs.Named.{constructors, in_form, members}
 use Rattle.sail_types.specs.Rows.{row_named, row_members, members_of, operator_rows}
 use Rattle.sail_types.specs.Shapes.{shape}
 use Rattle.sail_types.specs.Sums.{and_then}
@@ -21,6 +21,8 @@ use Rattle.sail_types.specs.declared.rows.Row.{Row}
 use Rattle.sail_types.specs.declared.types.Typ.{Typ}
 use Rattle.sail_types.specs.declared.table.Types.{Types}
 use Rattle.sail_types.specs.declared.table.Field.{Field}
+use Rattle.sail_types.specs.declared.table.Form.{Form}
+use Rattle.sail_types.specs.declared.table.Form.TheVariants as F
 use Rattle.sail_types.specs.declared.shapes.Shape.{Shape}
 use Rattle.sail_types.specs.declared.shapes.Shape.TheVariants as V
 use Rattle.sail_kinds.specs.declared.scope.NamedType.{NamedType}
@@ -69,6 +71,21 @@ place_of_type found = and_then found (λ t. defined_place t.meaning)
 
 abbrev pub place_in_table : Tabled → List ℕ → Option ℕ
 place_in_table tabled name = place_of_type (tabled.named name)
+
+abbrev pub form_is_union : Form → Bool
+form_is_union (F.Union constructors) = true
+form_is_union form = false
+
+-- whether a union has this place in the table
+abbrev pub is_union : Types → ℕ → Bool
+is_union types i = in_form false form_is_union (slice_get types.definitions i)
+
+abbrev pub if_union : Types → ℕ → Option ℕ
+if_union types i = if is_union types i then Some i else None
+
+-- the place in the table of the union `exception`, whose values are thrown; none where no union has this name (Sail language manual, "Exceptions")
+abbrev pub exception_in : Tabled → Option ℕ
+exception_in tabled = and_then (place_in_table tabled (codes "exception")) (if_union tabled.types)
 
 -- ---- candidates
 
@@ -304,7 +321,7 @@ setting_of tabled own text lets variables = record {
   within = within_variables tabled variables;
   value = value_of tabled.types own text lets;
   added = λ operator. candidates (added_to_operator tabled.types own text operator);
-  exception = place_in_table tabled (codes "exception");
+  exception = exception_in tabled;
   struct_named = place_in_table tabled;
   given_by = slice_get (directions_give tabled text);
   answer = None;

@@ -83,7 +83,7 @@ pub fn find_meanings(
     put_rows(alloc, &mut values)?;
     put_named(alloc, &mut values, named)?;
     let given = find_given(alloc, source)?;
-    let exception = source.place_in_table("exception");
+    let exception = source.find_exception();
     Ok(Meanings {
         values,
         added,

@@ -18,7 +18,7 @@ use Rattle.shape_rules.specs.declared.locals.Local.{Local}
 use Rattle.shape_rules.specs.Written.{numbers_in, joined, typ_in, shape_in}
 use Rattle.shape_rules.specs.Scopes.{Setting}
 use Rattle.shape_rules.specs.Statements.{Binding}
-use Rattle.shape_models.specs.Models.{Tabled, Own, setting_of, place_in_table}
+use Rattle.shape_models.specs.Models.{Tabled, Own, exception_in, setting_of}
 use Rattle.shape_clauses.specs.Functions.{functions_of}
 use Rattle.shape_clauses.specs.Mappings.{directions_of}
 use Rattle.shapes.specs.Failures.{let_under, lets_with, initial_found, own_in, all_lets}
@@ -123,7 +123,7 @@ function_place text name = place_among name (filter_map function_names text)
 abbrev pub core_with : Tabled → (List ℕ → Option ℕ) → List Def → Own → List Local → CoreModel
 core_with tabled cycle text own lets = record {
   types = tabled.types;
-  exception = place_in_table tabled (codes "exception");
+  exception = exception_in tabled;
   registers = joined (map (register_of (setting_of tabled own text lets [])) text);
   register_texts = joined (map (register_text_of (setting_of tabled own text lets [])) text);
   functions = joined (map (functions_of tabled text (setting_of tabled own text lets) cycle) text);

@@ -178,7 +178,7 @@ fn read_model(
     let reset = function_place(source.definitions, "reset")?;
     let step = function_place(source.definitions, "step")?;
     Ok(Read {
-        exception: source.place_in_table("exception"),
+        exception: source.find_exception(),
         registers,
         register_texts: texts,
         functions,

@@ -28,6 +28,6 @@ returns-clause-meanings c =
           c.in_ok-named.ensures c.in_ok-put_rows.ensures c.in_ok-put_named.ensures;
       added = c.in_ok-added.ensures
           ∙ ap (λ (o : Own). map (λ operator. candidates (added_to_operator types o text operator)) operators) (λ i name. same name i);
-      exception = c.place_in_table-exception.ensures;
+      exception = c.find_exception-exception.ensures;
       given = c.in_ok-given.ensures;
     }

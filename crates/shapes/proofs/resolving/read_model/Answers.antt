@@ -16,7 +16,7 @@ returns-clause-core c = λ text end are.
     c.in_ok-openings.ensures ∙ (λ i. in_text_order all (c.in_ok-lets.ensures.openings i) (state.initials i)) in
     (λ i. record {
       types = c.args.top.source.types.now;
-      exception = c.place_in_table.ensures i;
+      exception = c.find_exception.ensures i;
       registers = state.registers i;
       register_texts = state.texts i;
       functions = c.in_ok-others.ensures.functions text end are i;
