@@ -6,3 +6,5 @@ pub mod SpotMasses
 pub mod SpotForms
 pub mod Noted
 pub mod Forms
+pub mod Tuples
+pub mod Groups

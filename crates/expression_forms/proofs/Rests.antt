@@ -27,7 +27,3 @@ others_of x xs = let e : length (x ∷ xs) - 1 ≡ length xs = omega arith in ap
 pub first_of : {A : Type 0} (xs : List A) (x : A) → 1 ≤ length xs → x ≡ get_or xs 0 x → xs ≡ x ∷ others xs
 first_of [] x some is = absurd (omega arith)
 first_of (y ∷ xs) x some is = λ i. sym is i ∷ sym (others_of y xs) i
-
-pub none_of : {A : Type 0} (xs : List A) → length xs < 1 → xs ≡ []
-none_of [] few = refl
-none_of (x ∷ xs) few = absurd (omega arith)

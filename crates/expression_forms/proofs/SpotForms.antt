@@ -1,5 +1,5 @@
 -- What is assigned to, form by form, and one after the other.
-use Rattle.std.proofs.Common.{◌≡◌, ◌∙◌, ◌<◌, ◌≤◌, ◌+◌, ap, sym, refl, arith, Bool, ℕ, List, [], ◌∷◌, map, length, drop, get_or, Option}
+use Rattle.std.proofs.Common.{◌≡◌, ◌∙◌, ◌<◌, ◌≤◌, ◌+◌, ap, sym, refl, Bool, ℕ, List, [], map, length, drop, get_or, Option}
 use Rattle.std.specs.Prelude.{IfOk, Result, Ok, Err}
 use Rattle.sail_base.specs.declared.place.Place.{Place}
 use Rattle.sail_core.specs.declared.targets.Caller.{Caller}
@@ -12,7 +12,7 @@ use Rattle.value_indices.specs.declared.indices.Indices.TheViews.{roll-out-Indic
 use Rattle.value_indices.specs.declared.indices.Reading.{Reading}
 use Rattle.pattern_leaves.specs.Settings.{Around}
 use Rattle.pattern_leaves.proofs.Walked.{consed}
-use Rattle.expression_forms.specs.Spots.{Spot, Wrote, call_spot, each_read, each_written, named_spot, spot_form, spot_of, tuple_spot}
+use Rattle.expression_forms.specs.Spots.{Spot, Wrote, call_spot, each_read, named_spot, spot_form, spot_of, tuple_spot}
 use Rattle.expression_forms.specs.Spots.{tuple_write, wrong_spot, wrong_write, wrote_of}
 use Rattle.expression_forms.specs.declared.pending.Wrote as written
 use Rattle.expression_forms.specs.declared.spots.Spot as code
@@ -51,11 +51,6 @@ pub read_end : (around : Around) (ss : List code.Spot) (k : ℕ) → length ss �
 read_end around ss k past = (λ j. each_read (map (spot_of around) (all_behind ss k past j)))
 
 -- ---- what isn't written
-
--- values where no target is left
-pub none_written : (place : Place) (b : Bool) (is : List Indices) → 1 ≤ length is → each_written place [] b is ≡ wrong_write place
-none_written place b [] some = absurd (omega arith)
-none_written place b (i ∷ is) some = refl
 
 other_form : (place : Place) (ss : List Spot) (b : Bool) (i : Indices) (f : Indices-F Indices Reading) → i ≡ roll-Indices f
     → ((is : List Indices) → i ≡ I.Tuple is → ⊥) → (i ≡ I.Never → ⊥) → tuple_write place ss b f ≡ wrong_write place

@@ -143,6 +143,15 @@ both_left f g n = also (f n) g
 abbrev pub both_wrote : Wrote → Wrote → Wrote
 both_wrote a b = wrote (both_left a.left b.left) I.Unit
 
+-- what several have left, one behind another; where there are some, they give `()`
+abbrev pub each_left : List (ℕ → Fitted) → ℕ → Fitted
+each_left [] = says []
+each_left (f ∷ fs) = both_left f (each_left fs)
+
+abbrev pub all_wrote : List (ℕ → Fitted) → Indices → Wrote
+all_wrote [] i = wrote (says []) i
+all_wrote (f ∷ fs) i = wrote (each_left (f ∷ fs)) I.Unit
+
 abbrev pub each_written : Place → List Spot → Bool → List Indices → Walk Wrote
 each_written place [] is_nested [] = gives I.Unit
 each_written place (s ∷ ss) is_nested (i ∷ is) =
@@ -186,7 +195,7 @@ abbrev pub left_form : Around → pending.Left-F (ℕ → Fitted) → ℕ → Fi
 left_form around L.Nothing = says []
 left_form around (L.Value is_nested i r) = fits_unless is_nested around i r
 left_form around (L.Part x is_nested i) = part_fits around x is_nested i
-left_form around (L.Both f g) = both_left f g
+left_form around (L.Each fs) = each_left fs
 
 abbrev pub left_of : Around → pending.Left → ℕ → Fitted
 left_of around = pending.fold-Left (ℕ → Fitted) (left_form around)

@@ -1,5 +1,5 @@
 //! What an assignment of a new value still owes.
-ghost use Rattle.std.specs.Prelude.{◌≡◌, [], IfOk, OnOk};
+ghost use Rattle.std.specs.Prelude.{◌≡◌, [], IfOk, OnOk, map};
 ghost use Rattle.value_fits.specs.Fitting.{says};
 ghost use Rattle.value_indices.specs.Walking as walk;
 ghost use Rattle.value_indices.specs.declared.indices.Indices.TheVariants as I;
@@ -12,7 +12,7 @@ ghost use Rattle.expression_forms.specs.Ways.{part_fits};
 use crate::ways::Reached;
 use call_notes::fits_unless;
 use pattern_leaves::Around;
-use sail_base::{Boxed, Place};
+use sail_base::{Items, Place};
 use std::alloc::{AllocError, Global};
 use value_fits::{Fitted, Wanted, owe_fit};
 use value_indices::{Indices, Reading, Walking, copy_indices, copy_reading};
@@ -25,8 +25,8 @@ pub enum Left {
     Value(bool, Indices, Reading),
     /// That there is such a part, and that it is of the part's type, unless it owes that itself.
     Part(Reached, bool, Indices),
-    /// What two owe, one behind the other.
-    Both(Boxed<Left>, Boxed<Left>),
+    /// What several owe, one behind another.
+    Each(Items<Left>),
 }
 
 impl Drop for Left {
@@ -36,7 +36,7 @@ impl Drop for Left {
             Left::Nothing => {}
             Left::Value(_, _, _) => {}
             Left::Part(_, _, _) => {}
-            Left::Both(_, _) => {}
+            Left::Each(_) => {}
         }
     }
 }
@@ -58,6 +58,7 @@ impl Drop for Wrote {
 impl Left {
     /// What has to be true for that, where variables are counted from a number on. It fails where memory is wanting, and where
     /// variables are too many.
+    #[cycle(left_fits)]
     pub(crate) fn fits(
         &self,
         alloc: Global,
@@ -75,13 +76,28 @@ impl Left {
             Left::Part(reached, is_nested, value) => {
                 reached.fits(alloc, around, *is_nested, value, next)
             }
-            Left::Both(first, second) => {
-                let first = first.get().fits(alloc, around, next)?;
-                let second = second.get().fits(alloc, around, first.next)?;
-                first.also(second)
-            }
+            Left::Each(lefts) => fits_each(alloc, around, lefts.as_slice(), next),
         }
     }
+}
+
+/// What has to be true for several, one behind another, where variables are counted from a number on. It fails where memory is wanting,
+/// and where variables are too many.
+#[cycle(left_fits)]
+fn fits_each(
+    alloc: Global,
+    around: &Around<'_>,
+    lefts: &[Left],
+    next: u32,
+) -> Result<Fitted, AllocError>
+    ensures { IfOk result (λ made. made ≡ spots.each_left (map (spots.left_of (around_of around.now)) lefts.now) next) }
+{
+    let mut made = Fitted::nothing(alloc, next);
+    for left in lefts {
+        let more = left.fits(alloc, around, made.next)?;
+        made = made.also(more)?;
+    }
+    Ok(made)
 }
 
 impl Wrote {
@@ -133,24 +149,24 @@ impl Wrote {
     }
 
     /// What is left to owe.
-    fn into_left(self) -> Left
+    pub(crate) fn into_left(self) -> Left
         ensures { (around : settings.Around) → spots.left_of around result ≡ spots.Wrote.left (spots.wrote_of around self) }
     {
         let Wrote { left, answer: _ } = self;
         left
     }
 
-    /// Two values of a tuple, written. It fails where memory is wanting.
-    pub(crate) fn of_both(alloc: Global, first: Wrote, second: Wrote) -> Result<Wrote, AllocError>
-        ensures { IfOk result (λ made. (around : settings.Around)
-            → spots.wrote_of around made ≡ spots.both_wrote (spots.wrote_of around first) (spots.wrote_of around second)) }
+    /// The values of a tuple, written, of which these are left to owe; this is given where there are none. It takes no memory.
+    pub(crate) fn of_each(lefts: Items<Left>, answer: Indices) -> Wrote
+        ensures { (around : settings.Around) → spots.wrote_of around result ≡ spots.all_wrote (map (spots.left_of around) lefts) answer }
     {
-        let first = Boxed::new(alloc, first.into_left())?;
-        let second = Boxed::new(alloc, second.into_left())?;
-        Ok(Wrote {
-            left: Left::Both(first, second),
+        if lefts.is_empty() {
+            return Wrote::gives(answer);
+        }
+        Wrote {
+            left: Left::Each(lefts),
             answer: Indices::Unit,
-        })
+        }
     }
 
     /// Owes what is left, at a place, and gives what the assignment gives. It fails where memory is wanting, and where variables are

@@ -2,9 +2,10 @@
 ghost use Rattle.std.specs.Prelude.{◌≡◌, [], ◌++◌};
 ghost use Rattle.std.specs.Option.{option_copied};
 ghost use Rattle.pattern_leaves.specs.Settings as settings;
-ghost use Rattle.expression_forms.specs.Scopes.{scope_of};
+ghost use Rattle.expression_forms.specs.Scopes.{newest, scope_of};
 
 use pattern_leaves::{Bound, Held, held_in};
+use sail_base::Items;
 
 /// The names in scope, the newest first.
 #[derive(Clone, Copy)]
@@ -13,6 +14,8 @@ pub enum Scope<'a> {
     Empty,
     /// These, the newest first, and behind them others.
     Inside(&'a [Bound], &'a Scope<'a>),
+    /// These groups, the newest group last and in each the newest first, and behind them others.
+    Groups(&'a [Items<Bound>], &'a Scope<'a>),
 }
 
 impl<'a> Scope<'a> {
@@ -29,6 +32,28 @@ impl<'a> Scope<'a> {
     {
         Scope::Inside(found, self)
     }
+
+    /// With these groups of names, the newest group last and in each the newest first, before those that are in scope.
+    pub fn with_groups(&'a self, groups: &'a [Items<Bound>]) -> Scope<'a>
+        ensures { scope_of result ≡ newest groups.now ++ scope_of self.now }
+    {
+        Scope::Groups(groups, self)
+    }
+}
+
+/// What a name is in groups, of which the last is the newest; none where there is no such name.
+fn held_among<'a>(name: &str, groups: &'a [Items<Bound>]) -> Option<&'a Held>
+    ensures { option_copied result ≡ settings.held_in name.now (newest groups.now) }
+{
+    let mut left = groups.len();
+    while left > 0 {
+        left -= 1;
+        match held_in(name, groups[left].as_slice()) {
+            Some(found) => return Some(found),
+            None => {}
+        }
+    }
+    None
 }
 
 /// What a name is: the newest of this name; none where there is no such name.
@@ -39,6 +64,10 @@ pub fn look_up<'a>(name: &str, scope: &Scope<'a>) -> Option<&'a Held>
     match scope {
         Scope::Empty => None,
         Scope::Inside(found, outer) => match held_in(name, found) {
+            Some(found) => Some(found),
+            None => look_up(name, outer),
+        },
+        Scope::Groups(groups, outer) => match held_among(name, groups) {
             Some(found) => Some(found),
             None => look_up(name, outer),
         },

@@ -1,5 +1,5 @@
 //! What is assigned to, once the indexes in it have been walked.
-ghost use Rattle.std.specs.Prelude.{◌≡◌, Some, [], ◌∷◌, ◌++◌, map, IfOk, OnOk};
+ghost use Rattle.std.specs.Prelude.{◌≡◌, map, IfOk, OnOk};
 ghost use Rattle.std.specs.Option.{option_copied};
 ghost use Rattle.value_indices.specs.Walking as walk;
 ghost use Rattle.value_indices.specs.declared.indices.Indices.{out-Indices};
@@ -475,81 +475,6 @@ fn write_tuple(
     }
 }
 
-/// Writes nothing, where there are no values. It fails where memory is wanting.
-#[tactic(auto, using(value_indices::proofs::Walks::walks))]
-fn write_none(
-    alloc: Global,
-    walking: &mut Walking,
-    around: &Around<'_>,
-    place: Place,
-    is_nested: bool,
-    values: &[Indices],
-) -> Result<Wrote, AllocError>
-    ensures value { IfOk result (λ made. spec.wrote_of (around_of around.now) made
-        ≡ walk.got (spec.each_written place [] is_nested values.now) (walk.seen walking.old)) }
-    ensures walked { OnOk result (walk.seen walking.new
-        ≡ walk.run (spec.each_written place [] is_nested values.now) (walk.seen walking.old)) }
-{
-    match values {
-        [] => Ok(Wrote::gives(Indices::Unit)),
-        _ => wrong_write(alloc, walking, place),
-    }
-}
-
-/// Writes one and others, each its value. It fails where memory is wanting, and where variables are too many.
-#[cycle(spot_write)]
-#[tactic(auto, using(value_indices::proofs::Walks::walks))]
-fn write_both(
-    alloc: Global,
-    walking: &mut Walking,
-    around: &Around<'_>,
-    place: Place,
-    spot: &Spot,
-    spots: &[Spot],
-    is_nested: bool,
-    value: &Indices,
-    values: &[Indices],
-) -> Result<Wrote, AllocError>
-    ensures value { IfOk result (λ made. spec.wrote_of (around_of around.now) made
-        ≡ walk.got (spec.each_written place (spec.spot_of (around_of around.now) spot.now ∷ map (spec.spot_of (around_of around.now)) spots.now) is_nested
-        (value.now ∷ values.now)) (walk.seen walking.old)) }
-    ensures walked { OnOk result (walk.seen walking.new
-        ≡ walk.run (spec.each_written place (spec.spot_of (around_of around.now) spot.now ∷ map (spec.spot_of (around_of around.now)) spots.now) is_nested
-        (value.now ∷ values.now)) (walk.seen walking.old)) }
-{
-    let first = spot.write(alloc, walking, around, is_nested, value)?;
-    let others = write_each(alloc, walking, around, place, spots, is_nested, values)?;
-    Wrote::of_both(alloc, first, others)
-}
-
-/// The same, where there are as many values. It fails where memory is wanting, and where variables are too many.
-#[cycle(spot_write)]
-#[tactic(auto, using(value_indices::proofs::Walks::walks))]
-fn write_more(
-    alloc: Global,
-    walking: &mut Walking,
-    around: &Around<'_>,
-    place: Place,
-    spot: &Spot,
-    spots: &[Spot],
-    is_nested: bool,
-    values: &[Indices],
-) -> Result<Wrote, AllocError>
-    ensures value { IfOk result (λ made. spec.wrote_of (around_of around.now) made
-        ≡ walk.got (spec.each_written place (spec.spot_of (around_of around.now) spot.now ∷ map (spec.spot_of (around_of around.now)) spots.now) is_nested
-        values.now) (walk.seen walking.old)) }
-    ensures walked { OnOk result (walk.seen walking.new
-        ≡ walk.run (spec.each_written place (spec.spot_of (around_of around.now) spot.now ∷ map (spec.spot_of (around_of around.now)) spots.now) is_nested
-        values.now) (walk.seen walking.old)) }
-{
-    match values {
-        [] => wrong_write(alloc, walking, place),
-        [value, others @ ..] => write_both(
-            alloc, walking, around, place, spot, spots, is_nested, value, others,
-        ),
-    }
-}
-
 /// Writes several, each its value. It fails where memory is wanting, and where variables are too many.
 #[cycle(spot_write)]
 #[tactic(auto, using(value_indices::proofs::Walks::walks))]
@@ -567,10 +492,14 @@ fn write_each(
     ensures walked { OnOk result (walk.seen walking.new
         ≡ walk.run (spec.each_written place (map (spec.spot_of (around_of around.now)) spots.now) is_nested values.now) (walk.seen walking.old)) }
 {
-    match spots {
-        [] => write_none(alloc, walking, around, place, is_nested, values),
-        [spot, others @ ..] => write_more(
-            alloc, walking, around, place, spot, others, is_nested, values,
-        ),
+    let mut lefts = Items::new(alloc);
+    for index in 0..spots.len().min(values.len()) {
+        let wrote = spots[index].write(alloc, walking, around, is_nested, &values[index])?;
+        lefts.push(wrote.into_left())?;
     }
+    if spots.len() == values.len() {
+        return Ok(Wrote::of_each(lefts, Indices::Unit));
+    }
+    let answer = wrong_value(alloc, walking, place)?;
+    Ok(Wrote::of_each(lefts, answer))
 }

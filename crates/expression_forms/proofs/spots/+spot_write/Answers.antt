@@ -1,4 +1,4 @@
-use Rattle.std.proofs.Common.{◌≡◌, ◌∙◌, ◌+◌, ◌*◌, ◌∷◌, [], List, ap, arith, map, refl, sym}
+use Rattle.std.proofs.Common.{◌≡◌, ◌∙◌, ◌+◌, ◌*◌, [], ap, arith, map, sym}
 use Rattle.value_indices.specs.Steps.{Walk}
 use Rattle.value_indices.specs.Walking.{got, run, seen}
 use Rattle.value_indices.specs.declared.indices.Indices.{Indices}
@@ -7,14 +7,14 @@ use Rattle.value_indices.specs.declared.indices.Indices.TheVariants as I
 use Rattle.value_indices.specs.declared.indices.Reading.{Reading}
 use Rattle.value_indices.proofs.Walks.{got_give, run_give}
 use Rattle.value_fits.specs.Fitting.{says}
-use Rattle.wide_types.proofs.Turns.{left, left_as, once_got, once_run, twice_got}
+use Rattle.wide_types.proofs.Turns.{gave_got, gave_run, left, left_as, once_got, once_run}
 use Rattle.pattern_leaves.specs.Settings.{around_of}
 use Rattle.pattern_leaves.proofs.Opened.{out_never}
-use Rattle.call_notes.specs.Ends.{fits_unless}
-use Rattle.expression_forms.specs.Spots.{Spot, Wrote, asked_with, both_wrote, each_written, spot_of, tuple_write, wrong_write, wrote, wrote_of}
-use Rattle.expression_forms.proofs.Rests.{none_of}
+use Rattle.call_notes.specs.Ends.{fits_unless, wrong_value}
+use Rattle.expression_forms.specs.Spots.{Spot, Wrote, asked_with, left_of, spot_of, tuple_write, wrong_write, wrote, wrote_of}
 use Rattle.expression_forms.proofs.SpotForms.{call_is, named_is, no_tuple, wrong_is, wrote_in}
-use Rattle.expression_forms.proofs.SpotMasses.{rest_spot, spot_mass, spot_masses, spot_some, tuple_opens}
+use Rattle.expression_forms.proofs.SpotMasses.{one_spot, spot_mass, spot_masses, tuple_opens}
+use Rattle.expression_forms.proofs.Tuples.{all_written, even_end, uneven_end, written_got, written_run}
 use Rattle.expression_forms.proofs.spots.+spot_write.Goals as goal
 
 -- ---- there is less of what is called
@@ -25,17 +25,11 @@ Spot::write-write_tuple-requires t c =
     let measure : 2 * spot_mass c.args.self.now ≡ t = c.decreases in
     (omega (arith, opens, measure), tt)
 
-pub write_both-write_each-requires : goal.write_both-write_each-requires
-write_both-write_each-requires t c =
-    let some = spot_some c.args.spot.now in
-    let measure : 2 * spot_mass c.args.spot.now + 2 * spot_masses c.args.spots.now + 1 ≡ t = c.decreases in
-    (omega (arith, some, measure), tt)
-
-pub write_each-write_more-requires : goal.write_each-write_more-requires
-write_each-write_more-requires t c =
-    let part = rest_spot c.args.spots.now c.spot-item.result c.in-len1-up.len_at_least c.spot-item.is in
+pub write_each-write-requires : goal.write_each-write-requires
+write_each-write-requires t c =
+    let one = one_spot c.args.spots.now c.loop-index.index c.index-spots-index.result (omega arith) c.index-spots-index.is in
     let measure : 2 * spot_masses c.args.spots.now + 4 ≡ t = c.decreases in
-    (omega (arith, part, measure), tt)
+    (omega (arith, one, measure), tt)
 
 -- ---- one spot
 
@@ -97,27 +91,60 @@ Spot::write-returns-in_ok-answer-in-Call-clause-walked t c =
 
 -- ---- several
 
-pub write_both-returns-clause-value : goal.write_both-returns-clause-value
-write_both-returns-clause-value t c =
+pub write_each-loop-index-preserved : goal.write_each-loop-index-preserved
+write_each-loop-index-preserved t c =
     let around = around_of c.args.around.now in
-    let w = seen c.args.walking.now in
+    let l = c.loop-index in
+    let s = c.index-spots-index.result in
+    let i = c.index-values-index.result in
+    let w = seen l.walking in
     let v = seen c.write.new.walking in
-    let n = c.args.is_nested in
-    let spot = spot_of around c.args.spot.now in
-    let spots = map (spot_of around) c.args.spots.now in
-    let whole = each_written c.args.place (spot ∷ spots) n (c.args.value.now ∷ c.args.values.now) in
-    wrote_in c.of_both.result around (λ a. both_wrote (wrote_of a c.in_ok-first.first) (wrote_of a c.in_ok-others.others)) (got whole w) c.of_both.ensures
-    (twice_got (spot.write n c.args.value.now) (each_written c.args.place spots n c.args.values.now) both_wrote whole w v
-    (wrote_of around c.in_ok-first.first) (wrote_of around c.in_ok-others.others) refl c.in_ok-first.ensures.value c.in_ok-first.ensures.walked
-    c.in_ok-others.ensures.value)
+    let ended = c.in_ok-wrote.ensures in
+    record {
+      value = written_got around c.args.place c.args.is_nested c.args.spots.now c.args.values.now l.index s i (omega arith) (omega arith)
+          c.index-spots-index.is c.index-values-index.is w v ended.walked l.lefts c.push.new.self c.into_left.result
+          (wrote_of around c.in_ok-wrote.wrote) c.in_ok-push.ensures.pushed (c.into_left.ensures around) ended.value
+          ∙ l.invariant.value;
+      walked = written_run around c.args.place c.args.is_nested c.args.spots.now c.args.values.now l.index s i (omega arith) (omega arith)
+          c.index-spots-index.is c.index-values-index.is w v ended.walked ∙ l.invariant.walked;
+    }
 
-pub write_more-returns-in-empty-clause-value : goal.write_more-returns-in-empty-clause-value
-write_more-returns-in-empty-clause-value t c =
+-- as many values as targets
+pub write_each-returns-then-spots-values-clause-value : goal.write_each-returns-then-spots-values-clause-value
+write_each-returns-then-spots-values-clause-value t c =
     let around = around_of c.args.around.now in
-    let w = seen c.args.walking.now in
-    let spots = spot_of around c.args.spot.now ∷ map (spot_of around) c.args.spots.now in
-    wrote_in c.wrong_write.result around (λ a. got (wrong_write c.args.place) w) _ c.wrong_write.ensures.value
-    (sym (ap (λ (is : List Indices). got (each_written c.args.place spots c.args.is_nested is) w) (none_of c.args.values.now c.in-empty.len_below)))
+    let l = c.loop-index in
+    let ends = even_end around c.args.place c.args.is_nested c.args.spots.now c.args.values.now l.index (omega arith) (omega arith) in
+    c.of_each.ensures around
+    ∙ all_written (map (left_of around) l.lefts) I.Unit _ _ (gave_got _ (wrote (says []) I.Unit) (seen l.walking) ends) l.invariant.value
+
+pub write_each-returns-then-spots-values-clause-walked : goal.write_each-returns-then-spots-values-clause-walked
+write_each-returns-then-spots-values-clause-walked t c =
+    let l = c.loop-index in
+    let ends = even_end (around_of c.args.around.now) c.args.place c.args.is_nested c.args.spots.now c.args.values.now l.index (omega arith) (omega arith) in
+    gave_run _ (wrote (says []) I.Unit) (seen l.walking) ends ∙ l.invariant.walked
+
+-- more of either
+pub write_each-returns-clause-value : goal.write_each-returns-clause-value
+write_each-returns-clause-value t c =
+    let around = around_of c.args.around.now in
+    let place = c.args.place in
+    let l = c.loop-index in
+    let ends = uneven_end around place c.args.is_nested c.args.spots.now c.args.values.now l.index (omega arith)
+    (λ same. c.if-spots-values.false (omega (arith, same))) in
+    let answer = c.in_ok-answer.answer in
+    c.of_each-2.ensures around
+    ∙ all_written (map (left_of around) l.lefts) answer _ _
+    (once_got (wrong_value place) (λ (i : Indices). wrote (says []) i) _ (seen l.walking) answer ends c.in_ok-answer.ensures.value) l.invariant.value
+
+pub write_each-returns-clause-walked : goal.write_each-returns-clause-walked
+write_each-returns-clause-walked t c =
+    let place = c.args.place in
+    let l = c.loop-index in
+    let ends = uneven_end (around_of c.args.around.now) place c.args.is_nested c.args.spots.now c.args.values.now l.index (omega arith)
+    (λ same. c.if-spots-values.false (omega (arith, same))) in
+    once_run (wrong_value place) (λ (i : Indices). wrote (says []) i) _ (seen l.walking) (seen c.wrong_value.new.walking) ends
+    c.in_ok-answer.ensures.walked ∙ l.invariant.walked
 
 pub write_tuple-returns-in-Never-clause-value : goal.write_tuple-returns-in-Never-clause-value
 write_tuple-returns-in-Never-clause-value t c =
