@@ -4,18 +4,12 @@ use Rattle.sail_core.specs.declared.targets.Target.{Target}
 use Rattle.sail_core.specs.declared.tree.Core.{Core}
 use Rattle.expression_steps.specs.Coded.{way_cores}
 use Rattle.expression_steps.specs.declared.ways.Way.{Way}
-use Rattle.expression_steps.proofs.Masses.{first_mass, mass, masses, masses_drop, masses_take, no_mass, one_mass, rest_mass}
+use Rattle.expression_steps.proofs.Masses.{first_mass, mass, masses, masses_drop, masses_take, no_mass, rest_mass}
 use Rattle.expression_steps.proofs.Masses.{target_at, target_mass, target_masses, way_masses}
 use Rattle.expression_steps.proofs.Left.{ends_of}
 use Rattle.expression_steps.proofs.Rests.{others}
 
 -- ---- parts that are left
-
-pub left_mass : (k : ℕ) (ps ls : List Core) (a : Core) → ls ≡ drop k ps → 1 ≤ length ls → a ≡ get_or ls 0 a → mass a ≤ masses ps
-left_mass k ps ls a left some is =
-    let h = one_mass ls a some is in
-    let e : masses ls ≡ masses (drop k ps) = ap masses left in
-    let g = masses_drop ps k in omega (arith, h, e, g)
 
 pub taken_mass : (k n : ℕ) (ps ls args : List Core) → ls ≡ drop k ps → args ≡ take n ls → masses args ≤ masses ps
 taken_mass k n ps ls args left taken =

@@ -2,6 +2,7 @@ pub mod Spotted
 pub mod FewParts
 pub mod Blocks
 pub mod BlockSteps
+pub mod ChainSteps
 pub mod Arguments
 pub mod Taken
 pub mod LeftMasses

@@ -4,7 +4,7 @@
 //! it makes of what these gave, stands in `expression_steps`, and so do the definitions: its `specs/Parts` has what is known of a part of an
 //! expression, `specs/Calls` calls, `specs/Values` values that are made of parts and parts of values, `specs/Targets` assignments,
 //! `specs/Statements` blocks, branches and loops, `specs/Expressions` one case for each kind of node, `specs/Coded` what the code holds on
-//! its way. `specs/Claims`, here, has a statement of a block by itself.
+//! its way. Here `specs/Claims` has a statement of a block by itself, and `specs/Chains` what a chain of assignments gives from the right.
 #![tactic(auto)]
 
 mod branches;

@@ -196,11 +196,7 @@ fn walk_value(
 }
 
 /// The value of a block, at whose end so many claims are in force no more. It fails where memory is wanting.
-fn end_block(
-    walking: &mut Walking,
-    claims: usize,
-    value: Indices,
-) -> Result<Indices, AllocError>
+fn end_block(walking: &mut Walking, claims: usize, value: Indices) -> Result<Indices, AllocError>
     ensures value { IfOk result (λ made. made ≡ value) }
     ensures walked { OnOk result (walk.seen walking.new ≡ unclaimed_times claims (walk.seen walking.old)) }
 {
@@ -241,8 +237,9 @@ pub(crate) fn walk_block(
                 return end_block(walking, claims, value);
             }
             Some(core) => {
-                let (found, condition) =
-                    walk_statement(alloc, walking, around, &inside, statement, core)?;
+                let (found, condition) = walk_statement(
+                    alloc, walking, around, &inside, statement, core,
+                )?;
                 names = newest_first(found, names)?;
                 claims += claim_if(walking, condition)?;
             }

@@ -6,6 +6,7 @@ ghost use Rattle.expression_forms.specs.Spots.{spot_of};
 ghost use Rattle.expression_forms.specs.Scopes.{scope_of};
 ghost use Rattle.expression_steps.specs.Coded as coded;
 ghost use Rattle.expression_steps.specs.Targets as target_spec;
+ghost use Rattle.expression_notes.specs.Chains.{written_back};
 
 use crate::expressions::walk_expression;
 use crate::parts::walk_each;
@@ -148,6 +149,58 @@ fn spot_target(
     }
 }
 
+/// The assignment of the one part that is left to the last of the targets. It fails where memory is wanting, and where variables are too
+/// many.
+#[cycle(walk)]
+#[tactic(auto, using(value_indices::proofs::Walks::walks))]
+fn assign_last(
+    alloc: Global,
+    walking: &mut Walking,
+    around: &Around<'_>,
+    scope: &Scope<'_>,
+    place: Place,
+    spot: &Spot,
+    parts: &[Core],
+) -> Result<Indices, AllocError>
+    ensures value { IfOk result (λ made. made ≡ walk.got (target_spec.assigned_one place (around_of around.now) (scope_of scope.now) (spot_of
+        (around_of around.now) spot.now) (coded.each_part parts.now)) (walk.seen walking.old)) }
+    ensures walked { OnOk result (walk.seen walking.new ≡ walk.run (target_spec.assigned_one place (around_of around.now) (scope_of scope.now)
+        (spot_of (around_of around.now) spot.now) (coded.each_part parts.now)) (walk.seen walking.old)) }
+{
+    match parts {
+        [core] => {
+            let aim = Aim::given(spot.typ(alloc, around)?);
+            let value = walk_expression(alloc, walking, around, scope, core, &aim)?;
+            spot.assign(alloc, walking, around, place, is_nested(core), &value)
+        }
+        _ => wrong_value(alloc, walking, place),
+    }
+}
+
+/// A value that stands behind targets, which is written to the last of them, and what each gives to the one before it. It fails where memory
+/// is wanting.
+fn assign_back(
+    alloc: Global,
+    walking: &mut Walking,
+    around: &Around<'_>,
+    place: Place,
+    spots: &[Spot],
+    value: Indices,
+) -> Result<Indices, AllocError>
+    ensures value { IfOk result (λ made. made ≡ walk.got (written_back place (map (spot_of (around_of around.now)) spots.now) value)
+        (walk.seen walking.old)) }
+    ensures walked { OnOk result (walk.seen walking.new ≡ walk.run (written_back place (map (spot_of (around_of around.now)) spots.now) value)
+        (walk.seen walking.old)) }
+{
+    let mut value = value;
+    let mut left = spots.len();
+    while left > 0 {
+        left -= 1;
+        value = spots[left].assign(alloc, walking, around, place, false, &value)?;
+    }
+    Ok(value)
+}
+
 /// An assignment to what a target is, and to others behind it, if there are some. It fails where memory is wanting, and where variables are
 /// too many.
 #[cycle(walk)]
@@ -170,20 +223,32 @@ fn assign_to(
         (target_spec.assigned place (map target_spec.spotting targets.now) (around_of around.now) (scope_of scope.now)) (around_of around.now)
         (scope_of scope.now) (spot_of (around_of around.now) spot) (coded.left_behind parts.now at)) (walk.seen walking.old)) }
 {
-    match targets {
-        [] => match left_at(parts, at) {
-            [core] => {
-                let aim = Aim::given(spot.typ(alloc, around)?);
-                let value = walk_expression(alloc, walking, around, scope, core, &aim)?;
-                spot.assign(alloc, walking, around, place, is_nested(core), &value)
+    let mut spot = spot;
+    let mut at = at;
+    let mut before: Items<Spot> = Items::new(alloc);
+    for target in targets {
+        match spot_target(alloc, walking, around, scope, target, parts, at)? {
+            None => {
+                before.push(spot)?;
+                return assign_back(
+                    alloc,
+                    walking,
+                    around,
+                    place,
+                    before.as_slice(),
+                    Indices::Never,
+                );
             }
-            _ => wrong_value(alloc, walking, place),
-        },
-        _ => {
-            let value = assign(alloc, walking, around, scope, place, targets, parts, at)?;
-            spot.assign(alloc, walking, around, place, false, &value)
+            Some((inner, left)) => {
+                before.push(spot)?;
+                spot = inner;
+                at = left;
+            }
         }
     }
+    let left = left_at(parts, at);
+    let value = assign_last(alloc, walking, around, scope, place, &spot, left)?;
+    assign_back(alloc, walking, around, place, before.as_slice(), value)
 }
 
 /// `a = b = e`, by the targets, and the parts behind so many that have been taken. It fails where memory is wanting, and where variables

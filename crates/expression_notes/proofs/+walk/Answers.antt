@@ -25,16 +25,16 @@ use Rattle.call_notes.specs.Ends.{settled}
 use Rattle.expression_forms.specs.Scopes.{scope_of}
 use Rattle.expression_forms.specs.Spots.{spot_of, written_by}
 use Rattle.expression_steps.specs.Calls.{argument_aims}
-use Rattle.expression_steps.specs.Coded.{aim_or_free, left_behind, spotted_in, ways_seen, taken_in}
+use Rattle.expression_steps.specs.Coded.{aim_or_free, each_part, left_behind, spotted_in, ways_seen, taken_in}
 use Rattle.expression_steps.specs.Expressions.{part}
 use Rattle.expression_steps.specs.Parts.{three, under}
 use Rattle.expression_steps.specs.Statements.{alone_walk, measure_walk, natural_type, joined_under}
-use Rattle.expression_steps.specs.Targets.{spotting, part_of, tuple_spotted, assigned}
+use Rattle.expression_steps.specs.Targets.{spotting, part_of, tuple_spotted, assigned, assigned_one}
 use Rattle.expression_steps.specs.Values.{taken, no_way}
 use Rattle.expression_notes.proofs.Bindings.{names_alike}
 use Rattle.expression_steps.proofs.Conditions.{value_same, walked_same, scoped_run}
 use Rattle.expression_notes.proofs.JoinLaws.{guarded_alike, joined_alike, none_alike}
-use Rattle.expression_notes.proofs.LeftMasses.{ends_masses, left_mass, only_target, taken_mass, between, ends_are, cased_masses, tried_masses}
+use Rattle.expression_notes.proofs.LeftMasses.{ends_masses, only_target, taken_mass, between, ends_are, cased_masses, tried_masses}
 use Rattle.expression_notes.proofs.MadeLaws.{made_ends, with_values, without}
 use Rattle.expression_steps.proofs.Masses.{either_masses, kind_mass, mass_at, mass_opens, masses, masses_take, one_mass, rest_mass, rest_target, target_at}
 use Rattle.expression_steps.proofs.Masses.{masses_drop, target_masses, target_opens, target_some, two_masses, way_at, way_mass, mass}
@@ -44,7 +44,7 @@ use Rattle.expression_steps.proofs.Onward.{given_got, given_run, same_got, same_
 use Rattle.expression_steps.proofs.Opened.{inward_is, plain_is}
 use Rattle.expression_steps.proofs.Rests.{first_of, none_of, others, three_of}
 use Rattle.expression_steps.proofs.Rows.{item_walked, items_got, items_run}
-use Rattle.expression_steps.proofs.Spots.{call_got, call_run, one_assigned, call_alone, no_further, of_any, part_opens, further}
+use Rattle.expression_steps.proofs.Spots.{call_got, call_run, one_assigned, call_alone, of_any, part_opens}
 use Rattle.expression_notes.proofs.Spotted.{last_there, none_within_got, spots_onward, spots_stop, none_within_run, part_got, part_run, last_is, kind_opens}
 use Rattle.expression_notes.proofs.Spotted.{absent_alike, spots_ended, stopped_alike}
 use Rattle.expression_notes.proofs.Taken.{never_alike, part_alike, step_alike, stop_alike, taken_got, reached_got, reached_run, updated_got, updated_run}
@@ -56,6 +56,8 @@ use Rattle.expression_notes.proofs.+walk.Goals as goal
 use Rattle.std.specs.Option.{option_copied}
 use Rattle.expression_steps.proofs.Left.{item_there}
 use Rattle.expression_notes.proofs.BlockSteps.{few_more, names_grown, part_mass, statement_alike}
+use Rattle.expression_notes.specs.Chains.{written_back}
+use Rattle.expression_notes.proofs.ChainSteps.{gone_alike, last_alike, onward_alike}
 use Rattle.expression_notes.proofs.Blocks.{assert_alike, if_alike, in_alike, more_alike, other_alike}
 use Rattle.expression_notes.proofs.BranchLaws.{no_either_alike, no_turns, no_when_alike, some_either_alike, some_turns, some_when_alike, ways_met, ways_onward}
 use Rattle.expression_notes.proofs.FewParts.{few_alike, many_alike}
@@ -426,29 +428,51 @@ targets::assign-returns-in-Some t c = let around = around_of c.args.around.now i
       walked = then_run_in _ _ _ _ _ _ _ _ opens found c.in_ok-spot_target-in-len1-up.ensures.walked c.assign_to.ensures.walked;
     }
 
-pub targets::assign_to-returns-in-len1 : goal.targets::assign_to-returns-in-len1
-targets::assign_to-returns-in-len1 t c = let around = around_of c.args.around.now in let scope = scope_of c.args.scope.now in let parts = c.args.parts.now in
+pub targets::assign_last-returns-in_ok-value-in-len1 : goal.targets::assign_last-returns-in_ok-value-in-len1
+targets::assign_last-returns-in_ok-value-in-len1 t c = let around = around_of c.args.around.now in let scope = scope_of c.args.scope.now in
+    let spot = spot_of around c.args.spot.now in let place = c.args.place in
     let aim = c.given-aim.ensures ∙ (λ j. aimed Aims.Given (c.in_ok-typ-in-len1.ensures j)) in
-    let opens = no_further c.args.place around scope (spot_of around c.args.spot) c.args.targets.now (left_behind parts c.args.at) c.in-empty.len_below ∙
-    one_assigned c.args.place around scope (spot_of around c.args.spot) c.args.at parts c.left_at.result.now c.core-item.result c.left_at.ensures
-    c.in-len1.len_at_least c.in-len1.len_below c.core-item.is ∙ (λ j. bind ((part c.core-item.result).walk around scope (sym aim j)) (written_by c.args.place
-    (spot_of around c.args.spot) (sym c.is_nested.ensures j))) in
+    let opens = one_assigned place around scope spot 0 c.args.parts.now c.args.parts.now c.core-item.result refl c.in-len1.len_at_least c.in-len1.len_below
+    c.core-item.is ∙ (λ j. bind ((part c.core-item.result).walk around scope (sym aim j)) (written_by place spot (sym c.is_nested.ensures j))) in
     record {
-      value = then_got_in c.assign.result (λ made. made) ((part c.core-item.result).walk around scope c.given-aim.result) (written_by c.args.place (spot_of
-          around c.args.spot) c.is_nested.result) _ (seen c.args.walking.now) (seen c.walk_expression.new.walking) c.in_ok-value-in-len1.value opens
-          c.in_ok-value-in-len1.ensures.value c.in_ok-value-in-len1.ensures.walked c.assign.ensures.value;
-      walked = then_run_in c.assign.result ((part c.core-item.result).walk around scope c.given-aim.result) (written_by c.args.place (spot_of around
-          c.args.spot) c.is_nested.result) _ (seen c.args.walking.now) (seen c.walk_expression.new.walking) (seen c.assign.new.walking)
-          c.in_ok-value-in-len1.value opens c.in_ok-value-in-len1.ensures.value c.in_ok-value-in-len1.ensures.walked c.assign.ensures.walked;
+      value = then_got_in _ (λ made. made) _ _ _ _ _ _ opens c.in_ok-value-in-len1.ensures.value c.in_ok-value-in-len1.ensures.walked
+          c.assign.ensures.value;
+      walked = then_run_in _ _ _ _ _ _ _ _ opens c.in_ok-value-in-len1.ensures.value c.in_ok-value-in-len1.ensures.walked c.assign.ensures.walked;
+    }
+
+pub targets::assign_to-loop-target-preserved : goal.targets::assign_to-loop-target-preserved
+targets::assign_to-loop-target-preserved t c = let around = around_of c.args.around.now in let l = c.loop-target in let parts = c.args.parts.now in
+    let found = (λ j. spotted_in around parts (sym c.in-Some.is j)) ∙ c.in_ok-spot_target.ensures.value in
+    let grown = ap (map (spot_of around)) c.in_ok-push-in-Some.ensures.pushed ∙ map-append (spot_of around) l.before (l.spot ∷ []) in
+    let same = onward_alike c.args.place around (scope_of c.args.scope.now) c.args.targets.now l.target-index _ c.loop-target-test.true c.target-item.is
+    (spot_of around l.spot) (left_behind parts l.at) (map (spot_of around) l.before) _ grown (seen l.walking) _ c.in_ok-spot_target.ensures.walked _ _ found in
+    record { value = same.value ∙ l.invariant.value; walked = same.walked ∙ l.invariant.walked }
+
+pub targets::assign_to-returns-in-None : goal.targets::assign_to-returns-in-None
+targets::assign_to-returns-in-None t c = let around = around_of c.args.around.now in let l = c.loop-target in let parts = c.args.parts.now in
+    let found = (λ j. spotted_in around parts (sym c.in-None.is j)) ∙ c.in_ok-spot_target.ensures.value in
+    let grown = ap (map (spot_of around)) (c.as_slice.ensures ∙ c.in_ok-push-in-None.ensures.pushed)
+    ∙ map-append (spot_of around) l.before (l.spot ∷ []) in
+    let same = gone_alike c.args.place around (scope_of c.args.scope.now) c.args.targets.now l.target-index _ c.loop-target-test.true c.target-item.is
+    (spot_of around l.spot) (left_behind parts l.at) (map (spot_of around) l.before) _ grown (seen l.walking) _ c.in_ok-spot_target.ensures.walked found in
+    record {
+      value = value_same _ _ _ (same.value ∙ l.invariant.value) c.assign_back.ensures.value;
+      walked = walked_same _ _ _ _ (same.walked ∙ l.invariant.walked) c.assign_back.ensures.walked;
     }
 
 pub targets::assign_to-returns : goal.targets::assign_to-returns
-targets::assign_to-returns t c = let around = around_of c.args.around.now in let scope = scope_of c.args.scope.now in let parts = c.args.parts.now in
-    let left = left_behind parts c.args.at in let spot = spot_of around c.args.spot in let place = c.args.place in
-    let opens = further place around scope spot c.args.targets.now left (omega arith) in let gave = c.in_ok-value-in_default.ensures in
+targets::assign_to-returns t c = let around = around_of c.args.around.now in let l = c.loop-target in let scope = scope_of c.args.scope.now in
+    let left = ap each_part c.left_at-left.ensures in let spot = spot_of around l.spot in
+    let is = c.in_ok-value.ensures.value ∙ (λ j. got (assigned_one c.args.place around scope spot (left j)) (seen l.walking)) in
+    let was = c.in_ok-value.ensures.walked ∙ (λ j. run (assigned_one c.args.place around scope spot (left j)) (seen l.walking)) in
+    let same = last_alike c.args.place around scope c.args.targets.now l.target-index spot (left_behind c.args.parts.now l.at)
+    (map (spot_of around) l.before) _ (seen l.walking) _ c.loop-target-test.false is was in
+    let before = ap (map (spot_of around)) c.as_slice-2.ensures in
     record {
-      value = then_got_in _ (λ made. made) _ _ _ _ _ _ opens gave.value gave.walked c.assign-in_default-2.ensures.value;
-      walked = then_run_in _ _ _ _ _ _ _ _ opens gave.value gave.walked c.assign-in_default-2.ensures.walked;
+      value = value_same _ _ _ ((λ j. got (written_back c.args.place (before j) c.in_ok-value.value) (seen c.assign_last.new.walking)) ∙ same.value
+          ∙ l.invariant.value) c.assign_back-2.ensures.value;
+      walked = walked_same _ _ _ _ ((λ j. run (written_back c.args.place (before j) c.in_ok-value.value) (seen c.assign_last.new.walking)) ∙ same.walked
+          ∙ l.invariant.walked) c.assign_back-2.ensures.walked;
     }
 
 pub branches::walk_branch-returns : goal.branches::walk_branch-returns
@@ -755,9 +779,15 @@ targets::spot_target-walk_each-requires t c = (
   tt,
 )
 
-pub targets::assign_to-walk_expression-requires : goal.targets::assign_to-walk_expression-requires
-targets::assign_to-walk_expression-requires t c =
-    (omega (arith, left_mass c.args.at c.args.parts.now _ _ c.left_at.ensures c.in-len1.len_at_least c.core-item.is, c.decreases), tt)
+pub targets::assign_last-walk_expression-requires : goal.targets::assign_last-walk_expression-requires
+targets::assign_last-walk_expression-requires t c = (omega (arith, one_mass _ _ c.in-len1.len_at_least c.core-item.is, c.decreases), tt)
+
+pub targets::assign_to-spot_target-requires : goal.targets::assign_to-spot_target-requires
+targets::assign_to-spot_target-requires t c = (omega (arith, target_at _ _ _ c.loop-target-test.true c.target-item.is, c.decreases), tt)
+
+pub targets::assign_to-assign_last-requires : goal.targets::assign_to-assign_last-requires
+targets::assign_to-assign_last-requires t c =
+    (omega (arith, ap masses c.left_at-left.ensures, masses_drop c.args.parts.now c.loop-target.at, c.decreases), tt)
 
 pub targets::assign-spot_target-requires : goal.targets::assign-spot_target-requires
 targets::assign-spot_target-requires t c = (omega (arith, rest_target _ _ c.in-len1-up.len_at_least c.target-item.is, c.decreases), tt)

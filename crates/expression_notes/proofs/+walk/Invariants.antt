@@ -6,9 +6,10 @@ use Rattle.expression_forms.specs.Spots.{spot_of}
 use Rattle.expression_steps.specs.Coded.{each_part, left_behind, ways_seen}
 use Rattle.expression_steps.specs.Parts.{each_walk, numbers_walk}
 use Rattle.expression_steps.specs.Statements.{block_walk, each_way}
-use Rattle.expression_steps.specs.Targets.{each_spot, spotting}
+use Rattle.expression_steps.specs.Targets.{assigned, assigned_to, each_spot, spotting}
 use Rattle.expression_steps.specs.Values.{items_like, suffixes_walk}
 use Rattle.expression_steps.proofs.Masses.{kind_mass, mass, masses, target_mass, target_masses, way_mass, way_masses}
+use Rattle.expression_notes.specs.Chains.{written_back}
 use Rattle.expression_notes.specs.Claims.{unclaimed_times}
 use Rattle.expression_notes.proofs.Numbers.{more_numbers}
 use Rattle.expression_notes.proofs.Spotted.{more_spots}
@@ -167,6 +168,9 @@ decreases-targets::spot_target l = masses l.parts.now + target_mass l.target.now
 abbrev pub decreases-targets::assign_to : goal.decreases-targets::assign_to
 decreases-targets::assign_to l = masses l.parts.now + target_masses l.targets.now + 34
 
+abbrev pub decreases-targets::assign_last : goal.decreases-targets::assign_last
+decreases-targets::assign_last l = masses l.parts.now + 20
+
 abbrev pub decreases-targets::assign : goal.decreases-targets::assign
 decreases-targets::assign l = masses l.parts.now + target_masses l.targets.now + 30
 
@@ -186,4 +190,19 @@ invariant-targets::spot_each-loop-target l =
     record {
       value : more_spots (map (spot_of (around_of l.around)) l.spots) (got rest (seen l.walking)) ≡ got all (seen l.fn.walking);
       walked : run rest (seen l.walking) ≡ run all (seen l.fn.walking);
+    }
+
+abbrev pub invariant-targets::assign_to-loop-target : goal.invariant-targets::assign_to-loop-target
+invariant-targets::assign_to-loop-target l =
+    let around = around_of l.around in
+    let scope = scope_of l.scope in
+    let left = map spotting (drop l.target-index l.targets) in
+    let targets = map spotting l.targets in
+    let rest = assigned_to l.place left (assigned l.place left around scope) around scope (spot_of around l.spot) (left_behind l.parts l.at) in
+    let all = assigned_to l.place targets (assigned l.place targets around scope) around scope (spot_of around l.initial.spot)
+    (left_behind l.parts l.initial.at) in
+    let back = written_back l.place (map (spot_of around) l.before) (got rest (seen l.walking)) in
+    record {
+      value : got back (run rest (seen l.walking)) ≡ got all (seen l.fn.walking);
+      walked : run back (run rest (seen l.walking)) ≡ run all (seen l.fn.walking);
     }
