@@ -2,7 +2,7 @@
 ghost use Rattle.std.specs.Prelude.{◌≡◌, [], ◌++◌, IfOk, OnOk};
 ghost use Rattle.value_indices.specs.Walking as walk;
 ghost use Rattle.pattern_leaves.specs.Settings.{around_of};
-ghost use Rattle.expression_forms.specs.Scopes.{scope_of};
+ghost use Rattle.expression_forms.specs.Scopes.{newest, scope_of};
 ghost use Rattle.expression_steps.specs.Coded as coded;
 ghost use Rattle.expression_steps.specs.Expressions.{part};
 ghost use Rattle.expression_steps.specs.Parts.{Part};
@@ -156,15 +156,15 @@ fn claim_if(walking: &mut Walking, condition: Option<Con>) -> Result<usize, Allo
     }
 }
 
-/// Names that are bound, before those that were bound earlier. It fails where memory is wanting.
-fn newest_first(mut found: Items<Bound>, names: Items<Bound>) -> Result<Items<Bound>, AllocError>
-    ensures { IfOk result (λ made. made ≡ found ++ names) }
+/// Names that a statement binds, as a group behind those of the statements before it, where there are some. It fails where memory is wanting.
+fn bring_in(groups: &mut Items<Items<Bound>>, found: Items<Bound>) -> Result<(), AllocError>
+    ensures { OnOk result (newest groups.new ≡ found ++ newest groups.old) }
 {
     if found.is_empty() {
-        return Ok(names);
+        return Ok(());
     }
-    found.append(names)?;
-    Ok(found)
+    groups.push(found)?;
+    Ok(())
 }
 
 /// The value of a block behind its statements: of the one part that is left, if there is one. It fails where memory is wanting, and where
@@ -227,10 +227,10 @@ pub(crate) fn walk_block(
     ensures walked { OnOk result (walk.seen walking.new ≡ walk.run (statement_spec.block_walk place statements.now (coded.each_part parts.now)
         (around_of around.now) (scope_of scope.now) aim.now) (walk.seen walking.old)) }
 {
-    let mut names: Items<Bound> = Items::new(alloc);
+    let mut groups: Items<Items<Bound>> = Items::new(alloc);
     let mut claims: usize = 0;
     for (index, statement) in statements.iter().enumerate() {
-        let inside = (&*scope).with(names.as_slice());
+        let inside = (&*scope).with_groups(groups.as_slice());
         match parts.get(index) {
             None => {
                 let value = wrong_value(alloc, walking, place)?;
@@ -240,12 +240,12 @@ pub(crate) fn walk_block(
                 let (found, condition) = walk_statement(
                     alloc, walking, around, &inside, statement, core,
                 )?;
-                names = newest_first(found, names)?;
+                bring_in(&mut groups, found)?;
                 claims += claim_if(walking, condition)?;
             }
         }
     }
-    let inside = (&*scope).with(names.as_slice());
+    let inside = (&*scope).with_groups(groups.as_slice());
     let left = left_at(parts, statements.len());
     let value = walk_value(alloc, walking, around, &inside, place, left, aim)?;
     end_block(walking, claims, value)

@@ -22,7 +22,7 @@ use Rattle.call_arguments.specs.Aims.{aimed}
 use Rattle.call_arguments.specs.declared.aims.Aim.TheVariants as Aims
 use Rattle.call_arguments.specs.declared.aims.Aim.{Aim}
 use Rattle.call_notes.specs.Ends.{settled}
-use Rattle.expression_forms.specs.Scopes.{scope_of}
+use Rattle.expression_forms.specs.Scopes.{newest, scope_of}
 use Rattle.expression_forms.specs.Spots.{spot_of, written_by}
 use Rattle.expression_steps.specs.Calls.{argument_aims}
 use Rattle.expression_steps.specs.Coded.{aim_or_free, each_part, left_behind, spotted_in, ways_seen, taken_in}
@@ -638,9 +638,9 @@ statements::walk_value-returns-in-empty t c = let v = seen c.args.walking.now in
 pub statements::walk_block-loop-index-preserved : goal.statements::walk_block-loop-index-preserved
 statements::walk_block-loop-index-preserved t c = let l = c.loop-index in let scope = scope_of c.args.scope.now in
     let there = item_there c.args.parts.now l.index c.get.result c.get.ensures.lookup.0 c.get.ensures.lookup.1 in
-    let inside = c.with-inside.ensures ∙ ap (λ (bs : List Bound). bs ++ scope) c.as_slice.ensures in
+    let inside = c.with_groups-inside.ensures ∙ ap (λ (gs : List (List Bound)). newest gs ++ scope) c.as_slice.ensures in
     let stepped = c.in_ok-found-in-Some.ensures in let claimed = c.in_ok-claims-in-Some.ensures in
-    let grown = names_grown c.in_ok-names-in-Some.names c.in_ok-found-in-Some.found l.names scope c.in_ok-names-in-Some.ensures in
+    let grown = names_grown _ c.in_ok-found-in-Some.found (newest l.groups) scope c.in_ok-bring_in-in-Some.ensures in
     let counted = ap (λ n. l.claims + n) claimed.value in
     let same = statement_alike c.args.place (around_of c.args.around.now) c.args.aim.now c.args.statements.now c.args.parts.now l.index
     c.index-statements-index.result c.loop-index-test.true c.index-statements-index.is c.in-Some.core.now (sym there ∙ ap option_copied c.in-Some.is) _ _

@@ -1,7 +1,7 @@
 use Rattle.std.proofs.Common.{◌≡◌, ◌≤◌, ◌+◌, ◌++◌, None, map, drop, length}
 use Rattle.value_indices.specs.Walking.{got, run, seen}
 use Rattle.pattern_leaves.specs.Settings.{around_of}
-use Rattle.expression_forms.specs.Scopes.{scope_of}
+use Rattle.expression_forms.specs.Scopes.{newest, scope_of}
 use Rattle.expression_forms.specs.Spots.{spot_of}
 use Rattle.expression_steps.specs.Coded.{each_part, left_behind, ways_seen}
 use Rattle.expression_steps.specs.Parts.{each_walk, numbers_walk}
@@ -132,7 +132,7 @@ decreases-statements::walk_block l = masses l.parts.now + 28
 abbrev pub invariant-statements::walk_block-loop-index : goal.invariant-statements::walk_block-loop-index
 invariant-statements::walk_block-loop-index l =
     let outer = scope_of l.scope in
-    let rest = block_walk l.place (drop l.index l.statements) (each_part (drop l.index l.parts)) (around_of l.around) (l.names ++ outer) l.aim in
+    let rest = block_walk l.place (drop l.index l.statements) (each_part (drop l.index l.parts)) (around_of l.around) (newest l.groups ++ outer) l.aim in
     let all = block_walk l.place l.statements (each_part l.parts) (around_of l.around) outer l.aim in
     record {
       value : got rest (seen l.walking) ≡ got all (seen l.fn.walking);
