@@ -28,10 +28,6 @@ found {A} r x y h is = subst (λ (z : A). IfOk r (λ made. made ≡ z)) is h
 pub left : {A B : Type 0} (r : Result A AllocError) (now x y : B) → OnOk r (now ≡ x) → x ≡ y → OnOk r (now ≡ y)
 left {A} {B} r now x y h is = subst (λ (z : B). OnOk r (now ≡ z)) is h
 
-pub left_so : {A B : Type 0} (r : Result A AllocError) (now x : B) → now ≡ x → OnOk r (now ≡ x)
-left_so (Ok a) now x h = h
-left_so (Err e) now x h = tt
-
 -- one more, and what the rest makes
 pub pushed_more : {A : Type 0} (before now : List A) (x : A) (rest whole all : List A)
     → now ≡ before ++ x ∷ [] → whole ≡ x ∷ rest → before ++ whole ≡ all → now ++ rest ≡ all

@@ -1,7 +1,7 @@
 -- What the arguments of a call owe (Sail language manual, "Functions").
 use Rattle.std.specs.List.{list_any}
 use Rattle.std.specs.Ordering.{int_eq}
-use Rattle.std.specs.Prelude.{Bool, List, None, Option, Some, false, if◌then◌else◌, map, nat_eq, pos, true, ℕ, [], ◌&&◌, ◌++◌, ◌∷◌}
+use Rattle.std.specs.Prelude.{Bool, List, None, Option, Some, false, if◌then◌else◌, length, map, nat_eq, pos, suc, true, zero, ℕ, [], ◌&&◌, ◌++◌, ◌∷◌}
 use Rattle.sail_types.specs.Readings.{read_con}
 use Rattle.sail_types.specs.Sums.{atom_of, coefficient_of, constant_of, read, terms_of}
 use Rattle.sail_types.specs.declared.numbers.Atom.{Atom, out-Atom}
@@ -22,7 +22,7 @@ use Rattle.value_indices.specs.declared.indices.Indices.TheOpen as W
 use Rattle.value_indices.specs.declared.indices.Indices.TheOpen.{Indices-F}
 use Rattle.value_indices.specs.declared.indices.Reading.{Reading}
 use Rattle.value_indices.specs.declared.indices.Reading.TheVariants as R
-use Rattle.value_fits.specs.Fitting.{Fit, also, item_fits, number_fits, says, truth_fits}
+use Rattle.value_fits.specs.Fitting.{Fit, also, item_fits, number_fits, placed, says, truth_fits}
 use Rattle.value_fits.specs.declared.fitted.Fitted.{Fitted}
 use Rattle.call_arguments.specs.Callees.{is_closed}
 
@@ -94,9 +94,19 @@ abbrev pub each_placing : List PlaceFit → List Indices → List ℕ → ℕ �
 each_placing (f ∷ fs) (i ∷ is) known n = also_placing (f known i n) (each_placing fs is)
 each_placing fs is known n = placing known (says [] n)
 
--- by the form of the type and of the value; what fits as a whole gives no number
+-- a variable to which a value gives this, if it gives it anything
+abbrev pub placed_by : Option Index → ℕ → List ℕ → List ℕ
+placed_by None v known = known
+placed_by (Some i) v known = placed_behind known (Some v)
+
+-- so many variables, those to which a value of this type gives a number
+abbrev pub placed_within : Typ → Indices → ℕ → List ℕ → List ℕ
+placed_within t i zero known = known
+placed_within t i (suc v) known = placed_by (placed t v i) v (placed_within t i v known)
+
+-- by the form of the type and of the value; what fits as a whole owes all, and may give numbers under its binders
 abbrev pub whole_placed : Fit → List Index → List Reading → Typ → List ℕ → Indices → ℕ → Placing
-whole_placed fit js qs t known i n = placing known (fit i (R.Of t js qs) n)
+whole_placed fit js qs t known i n = placing (placed_within t i (length js) known) (fit i (R.Of t js qs) n)
 
 abbrev pub ValueForm : Type 0
 ValueForm = Indices-F Indices Reading

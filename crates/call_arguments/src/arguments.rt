@@ -10,7 +10,7 @@ ghost use Rattle.call_arguments.specs.Placing as places;
 
 use crate::closed::is_closed;
 use crate::counts::{least_of_three, least_of_two};
-use crate::places::{number_placed, truth_placed};
+use crate::places::{number_placed, place_within, truth_placed};
 use sail_base::Items;
 use sail_core::Function;
 use sail_types::{Con, Index, Num, Typ, Types, read_con};
@@ -42,18 +42,23 @@ fn vector_placed(
     length.also(items)
 }
 
-/// What has to be true for an argument to be of its parameter's type, in which no place gives a number.
+/// What has to be true for an argument to be of its parameter's type, as a whole: no place in it is left out that gives a number.
 fn whole_fits(
     alloc: Global,
     types: &Types,
     typ: &Typ,
     indices: &[Index],
     readings: &[Reading],
+    known: &mut Items<u32>,
     value: &Indices,
     next: u32,
 ) -> Result<Fitted, AllocError>
-    ensures { IfOk result (λ made. made ≡ fitting.fits types.now value.now (R.Of typ.now indices.now readings.now) next) }
+    ensures fitted { IfOk result (λ made. made ≡ places.Placing.fitted (places.whole_placed (fitting.fits types.now) indices.now readings.now
+        typ.now known.old value.now next)) }
+    ensures placed { OnOk result (known.new ≡ places.Placing.placed (places.whole_placed (fitting.fits types.now) indices.now readings.now
+        typ.now known.old value.now next)) }
 {
+    place_within(alloc, typ, value, indices.len(), known)?;
     let wanted = Wanted::Of(typ, indices, readings);
     fits(alloc, types, value, &wanted, next)
 }
@@ -77,7 +82,7 @@ fn int_fits(
 {
     match value {
         Indices::Integer(number) => number_placed(alloc, indices, wanted, known, number, next),
-        _ => whole_fits(alloc, types, typ, indices, readings, value, next),
+        _ => whole_fits(alloc, types, typ, indices, readings, known, value, next),
     }
 }
 
@@ -100,7 +105,7 @@ fn bits_fits(
 {
     match value {
         Indices::Bits(width) => number_placed(alloc, indices, wanted, known, width, next),
-        _ => whole_fits(alloc, types, typ, indices, readings, value, next),
+        _ => whole_fits(alloc, types, typ, indices, readings, known, value, next),
     }
 }
 
@@ -123,7 +128,7 @@ fn bool_fits(
 {
     match value {
         Indices::Truth(truth) => truth_placed(alloc, indices, wanted, known, truth, next),
-        _ => whole_fits(alloc, types, typ, indices, readings, value, next),
+        _ => whole_fits(alloc, types, typ, indices, readings, known, value, next),
     }
 }
 
@@ -162,7 +167,7 @@ fn items_fit(
                 next,
             )
         }
-        _ => whole_fits(alloc, types, typ, indices, readings, value, next),
+        _ => whole_fits(alloc, types, typ, indices, readings, known, value, next),
     }
 }
 
@@ -218,9 +223,9 @@ fn parameter_fits(
                 values.as_slice(),
                 next,
             ),
-            _ => whole_fits(alloc, types, typ, indices, readings, value, next),
+            _ => whole_fits(alloc, types, typ, indices, readings, known, value, next),
         },
-        _ => whole_fits(alloc, types, typ, indices, readings, value, next),
+        _ => whole_fits(alloc, types, typ, indices, readings, known, value, next),
     }
 }
 

@@ -2,12 +2,15 @@
 ghost use Rattle.std.specs.Prelude.{◌≡◌, IfOk, OnOk};
 ghost use Rattle.sail_types.specs.declared.numbers.Atom.{out-Atom};
 ghost use Rattle.sail_types.specs.declared.numbers.Con.{out-Con};
+ghost use Rattle.value_fits.specs.Fitting.{placed as placed_of};
 ghost use Rattle.call_arguments.specs.Placing as places;
 
+use crate::counts::small;
 use sail_base::Items;
-use sail_types::{Atom, Con, Index, Num, read_con, read_number};
+use sail_types::{Atom, Con, Index, Num, Typ, read_con, read_number};
 use std::alloc::{AllocError, Global};
-use value_fits::{Fitted, number_fits, truth_fits};
+use value_fits::{Fitted, number_fits, placed, truth_fits};
+use value_indices::Indices;
 
 /// The variable that an atom is; none where it is a power.
 fn atom_variable(atom: &Atom) -> Option<u32>
@@ -76,6 +79,42 @@ pub fn gives_number(known: &mut Items<u32>, variable: Option<u32>) -> Result<boo
             }
         }
     }
+}
+
+/// Takes note that a variable of a type has its place, where a value of that type gives it a number. It fails where memory is wanting, and
+/// where binders are too many.
+fn place_one(
+    alloc: Global,
+    typ: &Typ,
+    value: &Indices,
+    variable: u32,
+    known: &mut Items<u32>,
+) -> Result<(), AllocError>
+    ensures { OnOk result (known.new ≡ places.placed_by (placed_of typ.now variable value.now) variable known.old) }
+{
+    match placed(alloc, typ, variable, value)? {
+        None => Ok(()),
+        Some(_) => {
+            gives_number(known, Some(variable))?;
+            Ok(())
+        }
+    }
+}
+
+/// The same of so many variables. It fails where memory is wanting, and where binders are too many.
+pub fn place_within(
+    alloc: Global,
+    typ: &Typ,
+    value: &Indices,
+    variables: usize,
+    known: &mut Items<u32>,
+) -> Result<(), AllocError>
+    ensures { OnOk result (known.new ≡ places.placed_within typ.now value.now variables known.old) }
+{
+    for variable in 0..variables {
+        place_one(alloc, typ, value, small(variable)?, known)?;
+    }
+    Ok(())
 }
 
 /// What has to be true for a number to be what another is where its variables stand for these arguments; nothing where that gives the

@@ -1,6 +1,6 @@
 -- Where ways meet: what a later way owes of the first, and the value of all (Sail language manual, "Conditionals", "Pattern matching",
 -- "Exceptions").
-use Rattle.std.specs.Prelude.{Bool, None, Option, Some, false, true, ℕ, []}
+use Rattle.std.specs.Prelude.{Bool, None, Option, Some, false, if◌then◌else◌, true, ℕ, [], ◌||◌}
 use Rattle.sail_base.specs.declared.place.Place.{Place}
 use Rattle.sail_types.specs.Zero.{deepest}
 use Rattle.sail_types.specs.declared.shapes.Shape.{Shape}
@@ -9,12 +9,11 @@ use Rattle.value_indices.specs.declared.indices.Indices.{Indices}
 use Rattle.value_indices.specs.declared.indices.Indices.TheVariants as I
 use Rattle.wide_types.specs.Widening.{agrees_within, met}
 use Rattle.pattern_leaves.specs.Settings.{Around}
-use Rattle.call_notes.specs.Ends.{never_value, sized}
+use Rattle.call_notes.specs.Ends.{is_never, never_value, sized}
 
--- the first way that ends normally
+-- the first way that ends normally, with a value: the body of a `let` that never ends has none, though the `let` counts as one that ends
 abbrev pub first_way : Bool → Indices → Option Indices
-first_way true i = None
-first_way false i = Some i
+first_way never_ends i = if never_ends || is_never i then None else Some i
 
 abbrev pub kept_if : Bool → ℕ → Indices → Indices → Conditions
 kept_if true m first i = []

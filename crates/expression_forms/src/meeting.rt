@@ -5,7 +5,7 @@ ghost use Rattle.pattern_leaves.specs.Settings.{around_of};
 ghost use Rattle.value_indices.specs.Walking as walk;
 ghost use Rattle.expression_forms.specs.Meeting as meeting;
 
-use call_notes::note_value;
+use call_notes::{is_never, note_value};
 use pattern_leaves::Around;
 use sail_base::{Items, Place};
 use sail_types::{Con, Shape, deepest};
@@ -13,11 +13,15 @@ use std::alloc::{AllocError, Global};
 use value_indices::{Indices, Walking};
 use wide_types::{agrees_within, met};
 
-/// A way, if it ends normally: the first one.
+/// A way, if it ends normally, with a value: the first one.
 pub fn first_way(never_ends: bool, value: Indices) -> Option<Indices>
     ensures { result ≡ meeting.first_way never_ends value }
 {
-    if never_ends { None } else { Some(value) }
+    if never_ends || is_never(&value) {
+        None
+    } else {
+        Some(value)
+    }
 }
 
 /// What a later way owes of the first: what is kept of it. It fails where memory is wanting, and where variables are too many.

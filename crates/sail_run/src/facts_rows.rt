@@ -53,6 +53,22 @@ val f : range(0, 9) -> bit
 function f(i) = { if i >= 8 then match () { () => return bitzero }; 0x12[i] }
 # true
 # 1 M20 1:2:73 i = 8
+% check M // the first way with a value gives the type, also behind one that is known by its body alone never to end
+union exception = { Worse : unit }
+val f : bool -> bit
+function f(c) = (if c then (let a = 1 in throw(Worse())) else 0x12)[9]
+# true
+# 1 M20 1:3:68
+% check M // a number that is given under a binder is owed by later places
+val f : forall 'n, 0 <= 'n & 'n < 8. ({'m, 0 <= 'm. (int('m), int('n))}, int('n)) -> bit
+function f(p, n) = 0x12[n]
+# f((1, 2), 300) == bitone
+# 1 M20 1:6:19
+% check M
+val f : forall 'n, 0 <= 'n & 'n < 8. ({'m, 0 <= 'm. (int('m), int('n))}, int('n)) -> bit
+function f(p, n) = 0x12[n]
+# f((1, 2), 2) == bitone
+# 0 accepted 3 functions 2 obligations
 % check M // a guard, in its case; an integer literal in a case's pattern
 val f : range(0, 9) -> bit
 function f(i) = match i { n if n < 8 => 0x12[n], _ => bitzero }

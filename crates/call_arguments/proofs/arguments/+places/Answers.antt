@@ -1,7 +1,7 @@
 use Rattle.std.proofs.Common.{◌∙◌, ap, map, arith}
 use Rattle.value_fits.specs.Fitting.{fits}
 use Rattle.call_arguments.specs.Placing.{Placing, each_placing, parameter_fits}
-use Rattle.call_arguments.proofs.Lists.{found, left, left_so}
+use Rattle.call_arguments.proofs.Lists.{found, left}
 use Rattle.call_arguments.proofs.Parameters.{bits_is, bool_is, int_is, items_are, no_parts, other_is, parts_are}
 use Rattle.call_arguments.proofs.Placed.{each_more, each_all, first_placed}
 use Rattle.call_arguments.proofs.arguments.+places.Goals as goal
@@ -57,8 +57,8 @@ parameter_fits-returns-in_default-value t c =
     let is = no_parts (fits c.args.types.now) c.args.indices.now c.args.readings.now c.args.known.now c.args.value.now c.args.next c.args.typ.now
     c.in-Tuple.parts c.in-Tuple.is c.in_default-value.not-Tuple in
     record {
-      fitted = found c.whole_fits.result _ _ c.whole_fits.ensures (ap (λ (p : Placing). p.fitted) is);
-      placed = left_so c.whole_fits.result c.args.known.now _ (ap (λ (p : Placing). p.placed) is);
+      fitted = found c.whole_fits.result _ _ c.whole_fits.ensures.fitted (ap (λ (p : Placing). p.fitted) is);
+      placed = left c.whole_fits.result c.whole_fits.new.known _ _ c.whole_fits.ensures.placed (ap (λ (p : Placing). p.placed) is);
     }
 
 pub parameter_fits-returns-in_default : goal.parameter_fits-returns-in_default
@@ -66,8 +66,9 @@ parameter_fits-returns-in_default t c =
     let is = other_is (fits c.args.types.now) c.args.indices.now c.args.readings.now c.args.known.now c.args.value.now c.args.next c.args.typ.now
     c.in_default.not-Int c.in_default.not-Bits c.in_default.not-Truth c.in_default.not-Vector c.in_default.not-Tuple in
     record {
-      fitted = found c.whole_fits-in_default.result _ _ c.whole_fits-in_default.ensures (ap (λ (p : Placing). p.fitted) is);
-      placed = left_so c.whole_fits-in_default.result c.args.known.now _ (ap (λ (p : Placing). p.placed) is);
+      fitted = found c.whole_fits-in_default.result _ _ c.whole_fits-in_default.ensures.fitted (ap (λ (p : Placing). p.fitted) is);
+      placed = left c.whole_fits-in_default.result c.whole_fits-in_default.new.known _ _ c.whole_fits-in_default.ensures.placed
+          (ap (λ (p : Placing). p.placed) is);
     }
 
 pub each_fits-loop-index-init : goal.each_fits-loop-index-init
