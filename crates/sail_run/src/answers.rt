@@ -350,7 +350,10 @@ fn long_texts_are_accepted(rt: HostRuntime) -> Result<(), Fail> {
         let text = model(alloc, "register U : unit\n", body.as_str())?;
         let fails = (Vec::new(alloc), Vec::new(alloc));
         let written = answer(alloc, "check M", text, fails, 1_000_000)?;
-        assert!(rt; written.as_slice().starts_with(b"0 accepted 2 functions "), "{pieces:?}");
+        assert!(rt;
+            written.as_slice().starts_with(b"0 accepted 2 functions "),
+            "{pieces:?}"
+        );
     }
     Ok(())
 }

@@ -188,7 +188,8 @@ values::walk_row-returns-in_ok-walk_each t c =
     let same = row_due c.args.place c.args.is_list c.args.shape.now _ _ _ _ _ _ _ c.in_ok-wanted.ensures _ (sym c.is_hole.ensures ∙ c.if-is_hole.false)
     (c.as_slice.ensures ∙ c.in_ok-aims.ensures) c.in_ok-walk_each.ensures.walked in
     record {
-      value = value_same _ _ _ same.value c.row_of-else-is_hole.ensures.value; walked = walked_same _ _ _ _ same.walked c.row_of-else-is_hole.ensures.walked;
+      value = value_same _ _ _ same.value c.row_of-else-is_hole.ensures.value;
+      walked = walked_same _ _ _ _ same.walked c.row_of-else-is_hole.ensures.walked;
     }
 
 pub made::walk_made-returns : goal.made::walk_made-returns
@@ -478,8 +479,12 @@ pub branches::walk_branch-returns : goal.branches::walk_branch-returns
 branches::walk_branch-returns t c = let around = around_of c.args.around.now in let scope = scope_of c.args.scope.now in
     let o : Opened around scope c.args.aim.now c.args.way.now (seen c.remember.new.self) (seen c.open_way.new.walking) c.core-core.result.now (scope_of
     c.with-inside.result) c.in_ok-aim.aim = record {
-      found = c.in_ok-found.found; names = c.in_ok-found.ensures.value; opens = c.in_ok-found.ensures.walked;
-      within = c.with-inside.ensures ∙ ap (λ (bs : List Bound). bs ++ scope) c.as_slice.ensures; due = c.in_ok-aim.ensures; whose = c.core-core.ensures;
+      found = c.in_ok-found.found;
+      names = c.in_ok-found.ensures.value;
+      opens = c.in_ok-found.ensures.walked;
+      within = c.with-inside.ensures ∙ ap (λ (bs : List Bound). bs ++ scope) c.as_slice.ensures;
+      due = c.in_ok-aim.ensures;
+      whose = c.core-core.ensures;
     } in
     record {
       value = value_same _ _ _ (way_got c.args.is_free c.args.before _ scope c.args.aim.now c.args.way.now c.args.first _ _ _ _ _ o _ _ _
@@ -642,7 +647,8 @@ statements::walk_block-loop-index-preserved t c = let l = c.loop-index in let sc
     inside (seen l.walking) _ c.in_ok-found-in-Some.found c.in_ok-found-in-Some.condition stepped.value stepped.walked l.claims _ _ _ counted
     claimed.walked grown in
     record {
-      value = same.value ∙ l.invariant.value; walked = same.walked ∙ l.invariant.walked;
+      value = same.value ∙ l.invariant.value;
+      walked = same.walked ∙ l.invariant.walked;
       few = few_more l.claims l.index c.in_ok-claims-in-Some.field-0 c.in_ok-found-in-Some.condition claimed.value l.invariant.few;
       within = omega (arith, c.loop-index-test.true);
     }
@@ -683,112 +689,158 @@ statements::walk_block-walk_statement-requires t c =
     let there = item_there c.args.parts.now c.loop-index.index c.get.result c.get.ensures.lookup.0 c.get.ensures.lookup.1 in
     let has = part_mass c.args.parts.now c.loop-index.index c.in-Some.core.now (sym there ∙ ap option_copied c.in-Some.is) in
     (omega (arith, has, c.decreases), tt)
+
 pub statements::walk_block-walk_value-requires : goal.statements::walk_block-walk_value-requires
 statements::walk_block-walk_value-requires t c =
     (omega (arith, ap masses c.left_at-left.ensures, masses_drop c.args.parts.now (length c.args.statements.now), c.decreases), tt)
+
 pub expressions::walk_expression-walk_inward-requires : goal.expressions::walk_expression-walk_inward-requires
 expressions::walk_expression-walk_inward-requires t c = (omega (arith, mass_opens _ _ c.as_slice.ensures, c.decreases), tt)
+
 pub expressions::walk_expression-walk_plain-requires : goal.expressions::walk_expression-walk_plain-requires
 expressions::walk_expression-walk_plain-requires t c = (omega (arith, mass_opens _ _ c.as_slice-else-goes_inward.ensures, c.decreases), tt)
+
 pub expressions::walk_inward-walk_expression-requires : goal.expressions::walk_inward-walk_expression-requires
 expressions::walk_inward-walk_expression-requires t c = (omega (arith, one_mass _ _ c.in-len1.len_at_least c.core-item.is, c.decreases), tt)
+
 pub expressions::walk_parted-assign-requires : goal.expressions::walk_parted-assign-requires
 expressions::walk_parted-assign-requires t c = (omega (arith, ap kind_mass c.in-Assign.is, ap target_masses c.as_slice-in-Assign.ensures, c.decreases), tt)
+
 pub parts::walk_each-walk_expression-requires : goal.parts::walk_each-walk_expression-requires
 parts::walk_each-walk_expression-requires t c = (omega (arith, mass_at _ _ _ c.loop-index-test.true c.index-parts-index.is, c.decreases), tt)
+
 pub parts::walk_numbers-walk_expression-requires : goal.parts::walk_numbers-walk_expression-requires
 parts::walk_numbers-walk_expression-requires t c = (omega (arith, mass_at _ _ _ c.loop-core-test.true c.core-item.is, c.decreases), tt)
+
 pub truths::walk_joined-walk_truth-requires : goal.truths::walk_joined-walk_truth-requires
 truths::walk_joined-walk_truth-requires t c = (omega (arith, two_masses _ _ _ c.in-len2.len_at_least c.left-item.is c.right-item.is, c.decreases), tt)
+
 pub truths::walk_joined-walk_expression-requires : goal.truths::walk_joined-walk_expression-requires
 truths::walk_joined-walk_expression-requires t c = (omega (arith, two_masses _ _ _ c.in-len2.len_at_least c.left-item.is c.right-item.is, c.decreases), tt)
+
 pub truths::walk_guarded-walk_truth-requires : goal.truths::walk_guarded-walk_truth-requires
 truths::walk_guarded-walk_truth-requires t c = (omega (arith, two_masses _ _ _ c.in-len2.len_at_least c.guard-item.is c.body-item.is, c.decreases), tt)
+
 pub truths::walk_guarded-walk_expression-requires : goal.truths::walk_guarded-walk_expression-requires
 truths::walk_guarded-walk_expression-requires t c = (omega (arith, two_masses _ _ _ c.in-len2.len_at_least c.guard-item.is c.body-item.is, c.decreases), tt)
+
 pub values::walk_like-walk_expression-requires : goal.values::walk_like-walk_expression-requires
 values::walk_like-walk_expression-requires t c = (omega (arith, mass_at _ _ _ c.loop-item-test.true c.item-item.is, c.decreases), tt)
+
 pub values::walk_first-walk_expression-requires : goal.values::walk_first-walk_expression-requires
 values::walk_first-walk_expression-requires t c = (omega (arith, rest_mass _ _ c.in-len1-up.len_at_least c.first-item.is, c.decreases), tt)
+
 pub values::walk_first-walk_like-requires : goal.values::walk_first-walk_like-requires
 values::walk_first-walk_like-requires t c = (omega (arith, rest_mass _ _ c.in-len1-up.len_at_least c.first-item.is, c.decreases), tt)
+
 pub made::walk_made-walk_each-requires : goal.made::walk_made-walk_each-requires
 made::walk_made-walk_each-requires t c = let cs = c.args.parts.now in let is = ap masses c.first_parts-first.ensures in
     let less = masses_take cs c.in_ok-count.count in let measure : masses cs + 50 ≡ t = c.decreases in (omega (arith, is, less, measure), tt)
+
 pub made::walk_with-walk_each-requires : goal.made::walk_with-walk_each-requires
 made::walk_with-walk_each-requires t c = let cs = c.args.parts.now in let part = rest_mass _ _ c.in-len1-up.len_at_least c.base-item.is in
     let is = ap masses c.first_parts-others.ensures in let less = masses_take (others cs) c.len.result in let measure : masses cs + 40 ≡ t = c.decreases in
     (omega (arith, part, is, less, measure), tt)
+
 pub reading::walk_way-walk_numbers-requires : goal.reading::walk_way-walk_numbers-requires
 reading::walk_way-walk_numbers-requires t c =
     (omega (arith, taken_mass c.args.at _ c.args.parts.now _ _ c.left_at-left.ensures c.first_parts.ensures, c.decreases), tt)
+
 pub reading::walk_part-walk_expression-requires : goal.reading::walk_part-walk_expression-requires
 reading::walk_part-walk_expression-requires t c = (omega (arith, rest_mass _ _ c.in-len1-up.len_at_least c.base-item.is, c.decreases), tt)
+
 pub reading::walk_part-walk_suffixes-requires : goal.reading::walk_part-walk_suffixes-requires
 reading::walk_part-walk_suffixes-requires t c = (omega (arith, rest_mass _ _ c.in-len1-up.len_at_least c.base-item.is, c.decreases), tt)
+
 pub reading::walk_update-walk_expression-requires : goal.reading::walk_update-walk_expression-requires
 reading::walk_update-walk_expression-requires t c =
     (omega (arith, ends_masses _ _ _ c.in-len2-up.len_at_least c.base-item.is c.core-item.is, c.decreases), tt)
+
 pub reading::walk_update-walk_numbers-requires : goal.reading::walk_update-walk_numbers-requires
 reading::walk_update-walk_numbers-requires t c = (omega (arith, ends_masses _ _ _ c.in-len2-up.len_at_least c.base-item.is c.core-item.is, c.decreases), tt)
+
 pub reading::walk_update-updated-requires : goal.reading::walk_update-updated-requires
 reading::walk_update-updated-requires t c = (omega (arith, ends_masses _ _ _ c.in-len2-up.len_at_least c.base-item.is c.core-item.is, c.decreases), tt)
+
 pub targets::spot_each-spot_target-requires : goal.targets::spot_each-spot_target-requires
 targets::spot_each-spot_target-requires t c = (omega (arith, target_at _ _ _ c.loop-target-test.true c.target-item.is, c.decreases), tt)
+
 pub targets::spot_target-spot_each-requires : goal.targets::spot_target-spot_each-requires
 targets::spot_target-spot_each-requires t c = (omega (arith, target_opens _ _ c.as_slice-targets.ensures, c.decreases), tt)
+
 pub targets::spot_target-spot_target-requires : goal.targets::spot_target-spot_target-requires
 targets::spot_target-spot_target-requires t c =
     (omega (arith, target_opens _ _ c.as_slice-targets.ensures, only_target _ _ c.in-len1.len_at_least c.base-item.is, c.decreases), tt)
+
 pub targets::spot_target-walk_each-requires : goal.targets::spot_target-walk_each-requires
 targets::spot_target-walk_each-requires t c = (
   omega (arith, target_some c.args.target.now, taken_mass c.args.at _ c.args.parts.now _ _ c.left_at.ensures c.first_parts-arguments.ensures, c.decreases),
   tt,
 )
+
 pub targets::assign_last-walk_expression-requires : goal.targets::assign_last-walk_expression-requires
 targets::assign_last-walk_expression-requires t c = (omega (arith, one_mass _ _ c.in-len1.len_at_least c.core-item.is, c.decreases), tt)
+
 pub targets::assign_to-spot_target-requires : goal.targets::assign_to-spot_target-requires
 targets::assign_to-spot_target-requires t c = (omega (arith, target_at _ _ _ c.loop-target-test.true c.target-item.is, c.decreases), tt)
+
 pub targets::assign_to-assign_last-requires : goal.targets::assign_to-assign_last-requires
 targets::assign_to-assign_last-requires t c =
     (omega (arith, ap masses c.left_at-left.ensures, masses_drop c.args.parts.now c.loop-target.at, c.decreases), tt)
+
 pub targets::assign-spot_target-requires : goal.targets::assign-spot_target-requires
 targets::assign-spot_target-requires t c = (omega (arith, rest_target _ _ c.in-len1-up.len_at_least c.target-item.is, c.decreases), tt)
+
 pub targets::assign-assign_to-requires : goal.targets::assign-assign_to-requires
 targets::assign-assign_to-requires t c =
     (omega (arith, rest_target _ _ c.in-len1-up.len_at_least c.target-item.is, target_some c.target-item.result, c.decreases), tt)
+
 pub targets::spot_target-spot_within-requires : goal.targets::spot_target-spot_within-requires
 targets::spot_target-spot_within-requires t c = (omega (arith, target_some c.args.target.now, c.decreases), tt)
+
 pub branches::walk_branch-walk_expression-requires : goal.branches::walk_branch-walk_expression-requires
 branches::walk_branch-walk_expression-requires t c = let e : mass c.core-core.result.now ≡ way_mass c.args.way.now = ap mass c.core-core.ensures in
     (omega (arith, e, c.decreases), tt)
+
 pub branches::walk_ways-walk_branch-requires : goal.branches::walk_ways-walk_branch-requires
 branches::walk_ways-walk_branch-requires t c = (omega (arith, way_at _ _ _ c.loop-way-test.true c.way-item.is, c.decreases), tt)
+
 pub branches::walk_either-walk_ways-requires : goal.branches::walk_either-walk_ways-requires
 branches::walk_either-walk_ways-requires t c = (omega (arith, either_masses _ _ _ c.either_ways-ways.ensures.cores, c.decreases), tt)
+
 pub branches::walk_cases-walk_ways-requires : goal.branches::walk_cases-walk_ways-requires
 branches::walk_cases-walk_ways-requires t c =
     (omega (arith, tried_masses _ _ _ _ _ c.as_slice.ensures c.in_ok-ways-in-len1-up.ensures.cores c.in-len1-up.len_at_least c.core-item.is, c.decreases), tt)
+
 pub branches::walk_cases-walk_ways-requires-else-is_try : goal.branches::walk_cases-walk_ways-requires-else-is_try
 branches::walk_cases-walk_ways-requires-else-is_try t c = (
   omega (
-    arith, cased_masses _ _ _ _ _ c.as_slice-else-is_try.ensures c.in_ok-cases-in-len1-up.ensures.cores c.in-len1-up.len_at_least c.core-item.is, c.decreases,
+    arith,
+    cased_masses _ _ _ _ _ c.as_slice-else-is_try.ensures c.in_ok-cases-in-len1-up.ensures.cores c.in-len1-up.len_at_least c.core-item.is,
+    c.decreases,
   ),
   tt,
 )
+
 pub statements::walk_value-walk_expression-requires : goal.statements::walk_value-walk_expression-requires
 statements::walk_value-walk_expression-requires t c = (omega (arith, one_mass _ _ c.in-len1.len_at_least c.value-item.is, c.decreases), tt)
+
 pub statements::walk_in-walk_bound-requires : goal.statements::walk_in-walk_bound-requires
 statements::walk_in-walk_bound-requires t c = (omega (arith, two_masses _ _ _ c.in-len2.len_at_least c.core-item.is c.body-item.is, c.decreases), tt)
+
 pub statements::walk_in-walk_expression-requires : goal.statements::walk_in-walk_expression-requires
 statements::walk_in-walk_expression-requires t c = (omega (arith, two_masses _ _ _ c.in-len2.len_at_least c.core-item.is c.body-item.is, c.decreases), tt)
+
 pub statements::walk_state-walk_branches-requires : goal.statements::walk_state-walk_branches-requires
 statements::walk_state-walk_branches-requires t c = (omega (arith, mass_opens _ _ c.as_slice-parts.ensures, c.decreases), tt)
+
 pub statements::walk_state-walk_truth-requires : goal.statements::walk_state-walk_truth-requires
 statements::walk_state-walk_truth-requires t c =
     (omega (arith, mass_opens _ _ c.as_slice-parts.ensures, one_mass _ _ c.in-len1.len_at_least c.condition-item.is, c.decreases), tt)
+
 pub loops::walk_foreach-walk_numbers-requires : goal.loops::walk_foreach-walk_numbers-requires
 loops::walk_foreach-walk_numbers-requires t c = (omega (arith, ap masses c.first_parts-three.ensures, masses_take c.args.parts.now 3, c.decreases), tt)
+
 pub loops::walk_foreach-walk_expression-requires : goal.loops::walk_foreach-walk_expression-requires
 loops::walk_foreach-walk_expression-requires t c =
     (omega (arith, mass_at c.args.parts.now 3 c.body-item.result (omega (arith, c.in-len4.len_at_least)) c.body-item.is, c.decreases), tt)
