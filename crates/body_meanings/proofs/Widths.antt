@@ -239,11 +239,13 @@ construct_alike setting names registers wc ws described name ps fs are (Some G.C
     subst (ConstructAlike setting ws name ps fs) (sym m.1)
     (constructor_alike setting registers wc ws described name ps fs are m.0 doing.0 doing.1 (is ∙ m.1) doing.2)
 construct_alike setting names registers wc ws described name ps fs are (Some (G.Mapping n)) meant m h is =
-    subst (ConstructAlike setting ws name ps fs) (sym m.1) (mapping_alike setting registers wc ws described name ps fs are m.0 (is ∙ m.1))
+    let k = m h in
+    subst (ConstructAlike setting ws name ps fs) (sym k.1) (mapping_alike setting registers wc ws described name ps fs are k.0 (is ∙ k.1))
 construct_alike setting names registers wc ws described name ps fs are (Some (G.Direction n)) meant m h is =
-    let doing = conversion_doing m.0.doing m.2 in
-    subst (ConstructAlike setting ws name ps fs) (sym m.1)
-    (direction_alike setting registers wc ws described name ps fs are m.0 doing.0 (is ∙ m.1) doing.1)
+    let k = m h in
+    let doing = conversion_doing k.0.doing k.2 in
+    subst (ConstructAlike setting ws name ps fs) (sym k.1)
+    (direction_alike setting registers wc ws described name ps fs are k.0 doing.0 (is ∙ k.1) doing.1)
 construct_alike setting names registers wc ws described name ps fs are o meant m h is = no h
 
 -- ---- items

@@ -130,18 +130,18 @@ OverFound l row fs = (l ≡ None) × (row ≡ None) × ((f : Candidate) × (gs :
 module _ (names : Tables.Setting) (l : Option Meant) (row : Option Row) (fs : List Candidate) (entered : List ℕ) (at : ℕ) where
   role_as : (r : Role) (o : Option Meant) → OwnIs (class r) o → (r ≡ Whole is.Let → is_let_seen names.allowed at names.number ≡ true → LetFound l)
       → (r ≡ Overloaded → OverFound l row fs) → MeantAs names (Some (global_as entered r at)) (together l row fs o)
-  role_as (Declared Function) o h lets over = (h.0, up l row fs o (M.Callee h.0) h.1, h.2)
-  role_as (Declared Mapping) o h lets over = (h.0, up l row fs o (M.Mapping h.0) h.1)
-  role_as (Declared Direction) o h lets over = (h.0, up l row fs o (M.Callee h.0) h.1, h.2)
-  role_as (Defined Function) o h lets over = (h.0, up l row fs o (M.Callee h.0) h.1, h.2)
-  role_as (Defined Mapping) o h lets over = (h.0, up l row fs o (M.Mapping h.0) h.1)
-  role_as (Defined Direction) o h lets over = (h.0, up l row fs o (M.Callee h.0) h.1, h.2)
-  role_as Overloaded o h lets over =
+  role_as (Declared Function) o h lets over = λ any. (h.0, up l row fs o (M.Callee h.0) h.1, h.2)
+  role_as (Declared Mapping) o h lets over = λ any. (h.0, up l row fs o (M.Mapping h.0) h.1)
+  role_as (Declared Direction) o h lets over = λ any. (h.0, up l row fs o (M.Callee h.0) h.1, h.2)
+  role_as (Defined Function) o h lets over = λ any. (h.0, up l row fs o (M.Callee h.0) h.1, h.2)
+  role_as (Defined Mapping) o h lets over = λ any. (h.0, up l row fs o (M.Mapping h.0) h.1)
+  role_as (Defined Direction) o h lets over = λ any. (h.0, up l row fs o (M.Callee h.0) h.1, h.2)
+  role_as Overloaded o h lets over = λ any.
       let x = over refl in
       (x.2.0 ∷ x.2.1, λ i. together (x.0 i) (x.1 i) (x.2.2 i) (h i))
   role_as (Whole is.Type) o h lets over = (h.0, h.1, up l row fs o (M.Register h.0 h.1) h.2)
-  role_as (Whole is.Mapping) o h lets over = (h.0, up l row fs o (M.Mapping h.0) h.1)
-  role_as (Whole is.Direction) o h lets over = (h.0, up l row fs o (M.Callee h.0) h.1, h.2)
+  role_as (Whole is.Mapping) o h lets over = λ any. (h.0, up l row fs o (M.Mapping h.0) h.1)
+  role_as (Whole is.Direction) o h lets over = λ any. (h.0, up l row fs o (M.Callee h.0) h.1, h.2)
   role_as (Whole is.Constructor) o h lets over = (h.0, up l row fs o (M.Callee h.0) h.1, h.2)
   role_as (Whole is.Member) o h lets over = (h.0, h.1, up l row fs o (M.Member h.0 h.1) h.2)
   role_as (Whole is.Let) o h lets over = λ seen.

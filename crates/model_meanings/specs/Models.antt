@@ -63,7 +63,8 @@ pub record ModelIs (setting : Setting) (registers : List Shape) (m : Model) : Ty
   pub fields_below : (i : ℕ) → FieldsBelow setting i (fields setting.types i)
   -- the tables refuse two definitions of one name
   pub structs : (name : List ℕ) → IsStruct setting.types name (setting.struct_named name)
-  -- registers, lets and members of enums by their names, which hang on no call; a let has a value of its shape behind the openings
+  -- registers, lets and members of enums by their names, which hang on no call; behind the openings a let has a value of its shape, the same on
+  -- both sides, or on neither side one
   pub values : (name : List ℕ) → ValueAs setting registers (core_world m 0 [] [] []) (source_world m 0 [] setting.within []) name (setting.value name)
   -- each name in calls: functions stand where shapes find no failure in their clauses (`functions_stand`), directions of mappings where bare
   -- names have the same widths on both sides too (`directions_are_right`)

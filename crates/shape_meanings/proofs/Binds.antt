@@ -196,12 +196,14 @@ construct_binds setting names name ps ns (Some G.Constructor) meant m h each =
     subst (λ x. local_names (callee_look name ps m.0 (direction_of x) (callee_head x) setting widths subject).binds ≡ texts ns) (sym doing.2)
     (constructor_binds setting name _ m.0 ps ns each widths subject))
 construct_binds setting names name ps ns (Some (G.Mapping n)) meant m h each =
-    subst (ConstructBinds setting name ps ns) (sym m.1) (λ widths subject. mapping_binds setting name m.0 ps ns each (which_side m.0 subject) widths subject)
+    let k = m h in
+    subst (ConstructBinds setting name ps ns) (sym k.1) (λ widths subject. mapping_binds setting name k.0 ps ns each (which_side k.0 subject) widths subject)
 construct_binds setting names name ps ns (Some (G.Direction n)) meant m h each =
-    let doing = conversion_doing m.0.doing m.2 in
-    subst (ConstructBinds setting name ps ns) (sym m.1) (λ widths subject.
-    subst (λ x. local_names (callee_look name ps m.0 (direction_of x) (callee_head x) setting widths subject).binds ≡ texts ns) (sym doing.1)
-    (brackets_bind setting name.place ps ns each widths m.0.answer))
+    let k = m h in
+    let doing = conversion_doing k.0.doing k.2 in
+    subst (ConstructBinds setting name ps ns) (sym k.1) (λ widths subject.
+    subst (λ x. local_names (callee_look name ps k.0 (direction_of x) (callee_head x) setting widths subject).binds ≡ texts ns) (sym doing.1)
+    (brackets_bind setting name.place ps ns each widths k.0.answer))
 construct_binds setting names name ps ns o meant m h each = no h
 
 -- ---- one form

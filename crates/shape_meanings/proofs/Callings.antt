@@ -56,17 +56,21 @@ name_sound : (setting : Setting) (names : Tables.Setting) (locals : Locals) (wan
 name_sound setting names locals want name args ms (Some G.Constructor) meant m h is right =
     subst (CallRight setting locals want name args ms) (sym m.1) (callee_sound setting locals want name m.0 args ms (is ∙ m.1) right)
 name_sound setting names locals want name args ms (Some (G.Function n)) meant m h is right =
-    subst (CallRight setting locals want name args ms) (sym m.1) (callee_sound setting locals want name m.0 args ms (is ∙ m.1) right)
+    let k = m h in
+    subst (CallRight setting locals want name args ms) (sym k.1) (callee_sound setting locals want name k.0 args ms (is ∙ k.1) right)
 name_sound setting names locals want name args ms (Some (G.Direction n)) meant m h is right =
-    subst (CallRight setting locals want name args ms) (sym m.1) (callee_sound setting locals want name m.0 args ms (is ∙ m.1) right)
+    let k = m h in
+    subst (CallRight setting locals want name args ms) (sym k.1) (callee_sound setting locals want name k.0 args ms (is ∙ k.1) right)
 name_sound setting names locals want name args ms (Some G.Builtin) meant m h is right =
     subst (CallRight setting locals want name args ms) (sym m.1) (row_right setting locals want name m.0 (elaborations args) ms (is ∙ m.1) right)
 name_sound setting names locals want name args ms (Some G.StateBuiltin) meant m h is right =
     subst (CallRight setting locals want name args ms) (sym m.1) (row_right setting locals want name m.0 (elaborations args) ms (is ∙ m.1) right)
 name_sound setting names locals want name args ms (Some (G.Mapping n)) meant m h is right =
-    subst (CallRight setting locals want name args ms) (sym m.1) (mapping_right setting locals want name m.0 args ms (is ∙ m.1) right)
+    let k = m h in
+    subst (CallRight setting locals want name args ms) (sym k.1) (mapping_right setting locals want name k.0 args ms (is ∙ k.1) right)
 name_sound setting names locals want name args ms (Some (G.Overload ns)) meant m h is right =
-    subst (CallRight setting locals want name args ms) (sym m.1) (overload_right setting locals want name m.0 (elaborations args) ms (is ∙ m.1) right)
+    let k = m h in
+    subst (CallRight setting locals want name args ms) (sym k.1) (overload_right setting locals want name k.0 (elaborations args) ms (is ∙ k.1) right)
 name_sound setting names locals want name args ms o meant m h is right = no h
 
 -- a call of a name that the tables know as a callee

@@ -17,11 +17,13 @@ use Rattle.sail_core.specs.declared.patterns.Literal.TheVariants as L
 use Rattle.sail_core.specs.declared.tree.Kind.TheVariants as K
 use Rattle.sail_core.specs.Run as R
 use Rattle.sail_core.specs.Run.{Now, Run, needs, held_in}
+use Rattle.sail_core.specs.Making as Core
 use Rattle.sail_core.specs.Making.{plainly, made}
 use Rattle.sail_core.specs.Meaning.{core_meaning}
 use Rattle.shape_joins.proofs.Order.{no}
 use Rattle.shape_joins.proofs.JoinsLeast.{some_same, none}
 use Rattle.sail_meaning.specs.World as Source
+use Rattle.sail_meaning.specs.World.{register_named}
 use Rattle.sail_meaning.specs.Named.{member_named}
 use Rattle.sail_meaning.specs.Targets.{name_read, local_or, not_local, constant_named, register_read}
 use Rattle.sail_names.specs.declared.locals.Binding.{Binding}
@@ -40,8 +42,8 @@ use Rattle.shape_rules.specs.Findings.{leaf}
 use Rattle.shape_rules.specs.Scopes.{Setting, Locals, local_of}
 use Rattle.shape_rules.specs.Values.{name_found, global_found, local_kind}
 use Rattle.shape_meanings.specs.Whole.{Choice, closed, all_below}
-use Rattle.shape_meanings.specs.Keeping.{Fits, Good, reach_of, Keeps}
-use Rattle.shape_meanings.specs.Worlds.{ValueAs}
+use Rattle.shape_meanings.specs.Keeping.{Agree, Fits, Good, reach_of, Keeps}
+use Rattle.shape_meanings.specs.Worlds.{LetAs, ValueAs}
 use Rattle.shape_meanings.specs.Naming.{AreKnown, AreBound, BoundAs, MeantAs}
 use Rattle.shape_meanings.specs.Sound.{Right}
 use Rattle.shape_meanings.proofs.Orders.{put_below, put_variables, puts}
@@ -123,18 +125,32 @@ register_runs setting locals place name r s is meant registers c wc ws d slots s
     after_read None now = refl
     after_read (Some v) now = refl
 
--- a name that a top-level let bound
+-- a name that a top-level let bound: its value on both sides, or both are stuck
+let_by : (setting : Setting) (registers : List Shape) (c : Choice) (slots : List Local) (wc : Core.World Value) (ws : Source.World) (place : Place)
+    (name : List ℕ) (i : ℕ) (s : Shape) (o : Option Value) (now : Now Value)
+    → held_in name now.locals ≡ None → slice_get wc.lets i ≡ o → constant_named ws name ≡ o → LetAs setting.types (register_named ws name) s o
+    → Good (reach_of setting registers c slots) now
+    → Agree (reach_of setting registers c slots) (Fits setting.types c s) (core_meaning wc (leaf place (K.TopLevel i)) now) (name_read ws name now)
+let_by setting registers c slots wc ws place name i s None now absent core source has good =
+    let stuck_there : name_read ws name now ≡ R.Stuck =
+    global_source ws name now absent ∙ ap (λ o. not_local ws name o now) source ∙ ap (λ o. R.goes_on (needs o now) (register_read ws)) has in (
+      ap (λ (q : Run Value Value). q now) (unrolled wc place 0 (K.TopLevel i) [])
+          ∙ ap (λ o. R.goes_on (needs o now) (λ x. made plainly 0 [] x)) core ∙ sym stuck_there,
+      subst (Keeps (reach_of setting registers c slots) (Fits setting.types c s)) (sym stuck_there) tt,
+    )
+let_by setting registers c slots wc ws place name i s (Some v) now absent core source has good = (
+  ap (λ (q : Run Value Value). q now) (unrolled wc place 0 (K.TopLevel i) [])
+      ∙ ap (λ o. R.goes_on (needs o now) (λ x. made plainly 0 [] x)) core ∙ sym (constant_source ws name now v absent source),
+  subst (Keeps (reach_of setting registers c slots) (Fits setting.types c s)) (sym (constant_source ws name now v absent source))
+      (has c, good),
+)
+
 let_runs : (setting : Setting) (locals : Locals) (place : Place) (name : List ℕ) (i : ℕ) (s : Shape) → local_of name locals ≡ None
     → setting.value name ≡ Some (M.Let i s) → RunsAs setting locals s (leaf place (K.TopLevel i)) (λ w. name_read w name)
 let_runs setting locals place name i s is meant registers c wc ws d slots seen now good =
     let kept = subst (ValueAs setting registers wc ws name) meant (d.values name) in
-    let v = kept.1 in
-    let absent = not_in_scope setting.types c slots now.locals name good.locals (seen name ∙ is) in (
-      ap (λ (q : Run Value Value). q now) (unrolled wc place 0 (K.TopLevel i) [])
-          ∙ ap (λ o. R.goes_on (needs o now) (λ x. made plainly 0 [] x)) v.1 ∙ sym (constant_source ws name now v.0 absent v.2),
-      subst (Keeps (reach_of setting registers c slots) (Fits setting.types c s)) (sym (constant_source ws name now v.0 absent v.2))
-          (subst (λ t. fits setting.types v.0 t ≡ true) (sym (closed_is s c v.4)) v.3, good),
-    )
+    let_by setting registers c slots wc ws place name i s kept.1 now
+    (not_in_scope setting.types c slots now.locals name good.locals (seen name ∙ is)) kept.2 kept.3 kept.4 good
 
 -- a member of an enum
 member_runs : (setting : Setting) (locals : Locals) (place : Place) (name : List ℕ) (i k : ℕ) → local_of name locals ≡ None

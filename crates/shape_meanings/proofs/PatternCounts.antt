@@ -224,15 +224,17 @@ construct_counts setting names name ps (Some G.Constructor) meant m fine h each 
     subst (λ x. LocalsCounted setting.types (callee_look name ps m.0 (direction_of x) (callee_head x) setting widths subject).binds) (sym doing.2)
     (constructor_counts setting name _ m.0 ps kept.0 each widths subject k))
 construct_counts setting names name ps (Some (G.Mapping n)) meant m fine h each =
-    let kept = subst (MeantCounted setting.types) m.1 fine in
-    subst (ConstructCounts setting name ps) (sym m.1) (λ widths subject k.
-    mapping_counts setting name m.0 ps kept.0 kept.1 each (which_side m.0 subject) widths subject)
+    let is = m h in
+    let kept = subst (MeantCounted setting.types) is.1 fine in
+    subst (ConstructCounts setting name ps) (sym is.1) (λ widths subject k.
+    mapping_counts setting name is.0 ps kept.0 kept.1 each (which_side is.0 subject) widths subject)
 construct_counts setting names name ps (Some (G.Direction n)) meant m fine h each =
-    let doing = conversion_doing m.0.doing m.2 in
-    let kept = subst (MeantCounted setting.types) m.1 fine in
-    subst (ConstructCounts setting name ps) (sym m.1) (λ widths subject k.
-    subst (λ x. LocalsCounted setting.types (callee_look name ps m.0 (direction_of x) (callee_head x) setting widths subject).binds) (sym doing.1)
-    (brackets_count setting name.place ps each widths m.0.answer kept.1))
+    let is = m h in
+    let doing = conversion_doing is.0.doing is.2 in
+    let kept = subst (MeantCounted setting.types) is.1 fine in
+    subst (ConstructCounts setting name ps) (sym is.1) (λ widths subject k.
+    subst (λ x. LocalsCounted setting.types (callee_look name ps is.0 (direction_of x) (callee_head x) setting widths subject).binds) (sym doing.1)
+    (brackets_count setting name.place ps each widths is.0.answer kept.1))
 construct_counts setting names name ps o meant m fine h each = no h
 
 -- ---- written types

@@ -258,10 +258,12 @@ construct_sound setting names widths name ps ms (Some G.Constructor) meant m h i
     let doing = constructor_doing m.0.doing m.2 in
     subst (ConstructSound setting widths name ps ms) (sym m.1) (constructor_sound setting widths name ps ms m.0 doing.0 doing.1 (is ∙ m.1) doing.2 are)
 construct_sound setting names widths name ps ms (Some (G.Mapping n)) meant m h is are =
-    subst (ConstructSound setting widths name ps ms) (sym m.1) (mapping_sound setting widths name ps ms m.0 (is ∙ m.1) are)
+    let k = m h in
+    subst (ConstructSound setting widths name ps ms) (sym k.1) (mapping_sound setting widths name ps ms k.0 (is ∙ k.1) are)
 construct_sound setting names widths name ps ms (Some (G.Direction n)) meant m h is are =
-    let doing = conversion_doing m.0.doing m.2 in
-    subst (ConstructSound setting widths name ps ms) (sym m.1) (direction_sound setting widths name ps ms m.0 doing.0 (is ∙ m.1) doing.1 are)
+    let k = m h in
+    let doing = conversion_doing k.0.doing k.2 in
+    subst (ConstructSound setting widths name ps ms) (sym k.1) (direction_sound setting widths name ps ms k.0 doing.0 (is ∙ k.1) doing.1 are)
 construct_sound setting names widths name ps ms o meant m h is are = no h
 
 -- ---- one form

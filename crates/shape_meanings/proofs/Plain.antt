@@ -118,7 +118,7 @@ cons_applied types apply hart place vs now same = by_test (accepts types vs cons
     by_test true = λ i. sym same i now
     by_test false = refl
 
-plain_applied : (types : Types) (apply : Apply) (hart : ℕ) (place : Place) (operator : Operator) (vs : List Value) (now : Now Value)
+pub plain_applied : (types : Types) (apply : Apply) (hart : ℕ) (place : Place) (operator : Operator) (vs : List Value) (now : Now Value)
     → ((callee : Callee) → is_builtin callee ≡ true → apply place callee vs ≡ apply_builtin hart callee vs)
     → (needs (first_fitting types (operator_builtins types operator) vs) then λ callee. apply_builtin hart callee vs) now
     ≡ (needs (first_fitting types (operator_builtins types operator) vs) then λ callee. apply place callee vs) now

@@ -23,6 +23,7 @@ use Rattle.sail_names.specs.Locals as Bound
 use Rattle.sail_names.specs.Locals.{binding_of, behind}
 use Rattle.sail_names.specs.Patterns.{type_failures}
 use Rattle.shape_joins.proofs.JoinsLeast.{some_same}
+use Rattle.shape_joins.proofs.Order.{no}
 use Rattle.shape_rules.specs.declared.callees.Candidate.{Candidate}
 use Rattle.shape_rules.specs.declared.callees.Meant.{Meant}
 use Rattle.shape_rules.specs.declared.locals.Local.{Local}
@@ -136,11 +137,11 @@ meant_plain : (names : Tables.Setting) (o : Option Global) (meant : Option Meant
 meant_plain names (Some (G.Let n)) meant m = λ h. m (let_seen names.allowed n names.number h)
 meant_plain names (Some G.Register) meant m = m
 meant_plain names (Some G.Member) meant m = m
-meant_plain names (Some (G.Function n)) meant m = m
-meant_plain names (Some (G.Direction n)) meant m = m
+meant_plain names (Some (G.Function n)) meant m = λ h. no h
+meant_plain names (Some (G.Direction n)) meant m = λ h. no h
 meant_plain names (Some G.Constructor) meant m = m
-meant_plain names (Some (G.Mapping n)) meant m = m
-meant_plain names (Some (G.Overload ns)) meant m = m
+meant_plain names (Some (G.Mapping n)) meant m = λ h. no h
+meant_plain names (Some (G.Overload ns)) meant m = λ h. no h
 meant_plain names (Some G.Builtin) meant m = m
 meant_plain names (Some G.StateBuiltin) meant m = m
 meant_plain names None meant m = tt

@@ -88,7 +88,7 @@ abbrev HartsFit : Types → List Shape → List Hart → Type 0
 HartsFit types registers harts =
     (hart r : ℕ) (v : Value) (s : Shape) → slice_get (values_of (slice_get harts hart)) r ≡ Some v → slice_get registers r ≡ Some s → fits types v s ≡ true
 
-set_get : (vs : List Value) (r k : ℕ) (v u : Value) → slice_get (slice_set vs r v) k ≡ Some u → ((r ≡ k) × (v ≡ u)) ⊎ (slice_get vs k ≡ Some u)
+pub set_get : (vs : List Value) (r k : ℕ) (v u : Value) → slice_get (slice_set vs r v) k ≡ Some u → ((r ≡ k) × (v ≡ u)) ⊎ (slice_get vs k ≡ Some u)
 set_get [] r k v u e = none e
 set_get (x ∷ xs) zero zero v u e = inl (refl, some_same v u e)
 set_get (x ∷ xs) zero (suc k) v u e = inr e
@@ -99,7 +99,7 @@ set_get (x ∷ xs) (suc r) (suc k) v u e = further (set_get xs r k v u e)
     further (inl p) = inl (ap suc p.0, p.1)
     further (inr q) = inr q
 
-one_fits : (types : Types) (registers : List Shape) (vs : List Value) (r k : ℕ) (v u : Value) (s t : Shape)
+pub one_fits : (types : Types) (registers : List Shape) (vs : List Value) (r k : ℕ) (v u : Value) (s t : Shape)
     → ((n : ℕ) (w : Value) (x : Shape) → slice_get vs n ≡ Some w → slice_get registers n ≡ Some x → fits types w x ≡ true)
     → slice_get registers r ≡ Some s → fits types v s ≡ true → ((r ≡ k) × (v ≡ u)) ⊎ (slice_get vs k ≡ Some u) → slice_get registers k ≡ Some t
     → fits types u t ≡ true

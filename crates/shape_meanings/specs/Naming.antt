@@ -14,7 +14,7 @@ use Rattle.sail_names.specs.declared.locals.Binding.TheVariants.{Constant, Varia
 use Rattle.sail_names.specs.declared.names.Global.{Global}
 use Rattle.sail_names.specs.declared.names.Global.TheVariants as G
 use Rattle.sail_names.specs.Known as Tables
-use Rattle.sail_names.specs.Known.{is_let_seen}
+use Rattle.sail_names.specs.Known.{is_any, is_let_seen}
 use Rattle.sail_names.specs.Locals as Bound
 use Rattle.sail_names.specs.Patterns.{type_failures}
 use Rattle.sail_names.specs.Locals.{binding_of}
@@ -46,16 +46,17 @@ abbrev pub is_conversion : Doing → Bool
 is_conversion (D.Calls (C.Converts d)) = true
 is_conversion doing = false
 
--- a name that means something in the tables means it here; a top-level let that can be named there is one here
+-- a name that means something in the tables means it here, where it can be named: a plain expression names earlier top-level lets alone, and no
+-- function, mapping or overload
 abbrev pub MeantAs : Tables.Setting → Option Global → Option Meant → Type 0
 MeantAs names (Some G.Register) meant = (r : ℕ) × (s : _) × (meant ≡ Some (M.Register r s))
 MeantAs names (Some (G.Let n)) meant = is_let_seen names.allowed n names.number ≡ true → (i : ℕ) × (s : _) × (meant ≡ Some (M.Let i s))
 MeantAs names (Some G.Member) meant = (i : ℕ) × (k : ℕ) × (meant ≡ Some (M.Member i k))
-MeantAs names (Some (G.Function n)) meant = (f : Candidate) × (meant ≡ Some (M.Callee f)) × (is_function f.doing ≡ true)
-MeantAs names (Some (G.Direction n)) meant = (f : Candidate) × (meant ≡ Some (M.Callee f)) × (is_conversion f.doing ≡ true)
+MeantAs names (Some (G.Function n)) meant = is_any names.allowed ≡ true → (f : Candidate) × (meant ≡ Some (M.Callee f)) × (is_function f.doing ≡ true)
+MeantAs names (Some (G.Direction n)) meant = is_any names.allowed ≡ true → (f : Candidate) × (meant ≡ Some (M.Callee f)) × (is_conversion f.doing ≡ true)
 MeantAs names (Some G.Constructor) meant = (f : Candidate) × (meant ≡ Some (M.Callee f)) × (is_constructor f.doing ≡ true)
-MeantAs names (Some (G.Mapping n)) meant = (m : _) × (meant ≡ Some (M.Mapping m))
-MeantAs names (Some (G.Overload ns)) meant = (fs : List Candidate) × (meant ≡ Some (M.Overload fs))
+MeantAs names (Some (G.Mapping n)) meant = is_any names.allowed ≡ true → (m : _) × (meant ≡ Some (M.Mapping m))
+MeantAs names (Some (G.Overload ns)) meant = is_any names.allowed ≡ true → (fs : List Candidate) × (meant ≡ Some (M.Overload fs))
 MeantAs names (Some G.Builtin) meant = (row : _) × (meant ≡ Some (M.Row row))
 MeantAs names (Some G.StateBuiltin) meant = (row : _) × (meant ≡ Some (M.Row row))
 MeantAs names None meant = Unit {0}

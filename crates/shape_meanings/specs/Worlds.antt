@@ -142,13 +142,18 @@ HeadAs setting registers wc ws name f callee doing = constructor_named setting.t
 
 -- ---- names
 
--- a name of a value, where no local hides it
+-- the value of a top-level let has its shape, whatever variables stand for; a let without a value is no register either
+abbrev pub LetAs : Types → Option ℕ → Shape → Option Value → Type 0
+LetAs types register s None = register ≡ None
+LetAs types register s (Some v) = (c : Choice) → Fits types c s v
+
+-- a name of a value, where no local hides it: a top-level let has the same value on both sides, or none on either, where openings don't come to it
 abbrev pub ValueAs : Setting → List Shape → Core.World Value → Source.World → List ℕ → Option Meant → Type 0
 ValueAs setting registers wc ws name (Some (M.Register r s)) =
     (constant_named ws name ≡ None) × (register_named ws name ≡ Some r) × (slice_get registers r ≡ Some s)
 ValueAs setting registers wc ws name (Some (M.Let i s)) =
     (member_named setting.types name ≡ None)
-    × ((v : Value) × (slice_get wc.lets i ≡ Some v) × (constant_named ws name ≡ Some v) × (fits setting.types v s ≡ true) × (closed s ≡ true))
+    × (o : Option Value) × (slice_get wc.lets i ≡ o) × (constant_named ws name ≡ o) × LetAs setting.types (register_named ws name) s o
 ValueAs setting registers wc ws name (Some (M.Member i k)) =
     (member_named setting.types name ≡ Some (Val.Member i k)) × (fits setting.types (Val.Member i k) (V.Named i []) ≡ true)
 ValueAs setting registers wc ws name meant = member_named setting.types name ≡ None

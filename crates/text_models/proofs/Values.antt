@@ -25,7 +25,7 @@ use Rattle.sail_signatures.specs.declared.signature.Signature.{Signature}
 use Rattle.model_state.specs.declared.state.Register.{Register}
 use Rattle.sail_core.specs.Run.{held_in}
 use Rattle.sail_meaning.specs.Named.{member_named}
-use Rattle.sail_meaning.specs.World.{Bindings}
+use Rattle.sail_meaning.specs.World.{Bindings, register_named}
 use Rattle.shape_joins.proofs.JoinsLeast.{none, some_same}
 use Rattle.shape_joins.proofs.Order.{same_nat, two}
 use Rattle.shape_rules.specs.declared.callees.Candidate.{Candidate}
@@ -33,15 +33,16 @@ use Rattle.shape_rules.specs.declared.callees.Meant.{Meant}
 use Rattle.shape_rules.specs.declared.callees.Meant.TheVariants as M
 use Rattle.shape_rules.specs.declared.locals.Local.{Local}
 use Rattle.shape_rules.specs.Scopes.{Setting}
-use Rattle.shape_rules.specs.Written.{joined, shape_or_never}
+use Rattle.shape_rules.specs.Written.{joined, shape_or_never, typ_in}
 use Rattle.shape_models.specs.declared.entries.Counts.{Counts}
 use Rattle.shape_models.specs.declared.entries.Entry.{Entry}
 use Rattle.shape_models.specs.Models as Shapes
 use Rattle.shape_models.specs.Models.{Tabled, added_to_name, candidates, counts_with, def_entries, entries, entries_from, let_in, meant_in, no_counts}
 use Rattle.shape_models.specs.Models.{params_variables, place_in_table, setting_of, type_variables, within_variables}
-use Rattle.shape_meanings.specs.Whole.{closed}
+use Rattle.shape_meanings.specs.Keeping.{Fits}
+use Rattle.shape_meanings.specs.Whole.{Choice}
 use Rattle.shape_meanings.specs.Models.{register_shapes}
-use Rattle.shape_meanings.specs.Worlds.{ValueAs}
+use Rattle.shape_meanings.specs.Worlds.{LetAs, ValueAs}
 use Rattle.shape_meanings.proofs.Values.{fits_form}
 use Rattle.shapes.specs.Failures.{own_in}
 use Rattle.model_meanings.specs.Callees.{Model, core_world, source_world}
@@ -61,44 +62,70 @@ let_shape (Some (M.Let i s)) = s
 let_shape meant = V.Unit
 
 module _ (types : Types) (name : List ℕ) where
+  -- what is known of the value of a let
+  abbrev HasShape : Shape → Option Value → Type 0
+  HasShape s None = Unit {0}
+  HasShape s (Some v) = (c : Choice) → Fits types c s v
+
   -- a let among lets behind so many
   abbrev LetAt : ℕ → List Value → Bindings → ℕ → Shape → Type 0
   LetAt i vs bs k s =
-      (j : ℕ) × (k ≡ (i + j)) × (v : Value) × (slice_get vs j ≡ Some v) × (held_in name bs ≡ Some v) × (fits types v s ≡ true) × (closed s ≡ true)
+      (j : ℕ) × (k ≡ (i + j)) × (o : Option Value) × (slice_get vs j ≡ o) × (held_in name bs ≡ o) × HasShape s o
 
   let_step : (i : ℕ) (l : Local) (ls : List Local) (v : Value) (vs : List Value) (held : Value) (bs : Bindings) (k : ℕ) (s : Shape) (b : Bool)
-      → held ≡ v → fits types v l.shape ≡ true → closed l.shape ≡ true
+      → held ≡ v → ((c : Choice) → Fits types c l.shape v)
       → (let_in (suc i) ls name ≡ Some (M.Let k s) → LetAt (suc i) vs bs k s)
       → (if b then Some (M.Let i l.shape) else let_in (suc i) ls name) ≡ Some (M.Let k s)
-      → (j : ℕ) × (k ≡ (i + j)) × (w : Value) × (slice_get (v ∷ vs) j ≡ Some w) × ((if b then Some held else held_in name bs) ≡ Some w)
-      × (fits types w s ≡ true) × (closed s ≡ true)
-  let_step i l ls v vs held bs k s true same fit whole later e =
+      → (j : ℕ) × (k ≡ (i + j)) × (o : Option Value) × (slice_get (v ∷ vs) j ≡ o) × ((if b then Some held else held_in name bs) ≡ o) × HasShape s o
+  let_step i l ls v vs held bs k s true same fit later e =
       let shapes : l.shape ≡ s = ap let_shape e in (
         0,
         sym (ap let_place e) ∙ and_none i,
-        v,
+        Some v,
         refl,
         ap Some same,
-        subst (λ t. fits types v t ≡ true) shapes fit,
-        subst (λ t. closed t ≡ true) shapes whole,
+        subst (λ t. (c : Choice) → Fits types c t v) shapes fit,
       )
     where
       and_none : (i : ℕ) → i ≡ (i + 0)
       and_none i = omega arith
-  let_step i l ls v vs held bs k s false same fit whole later e =
+  let_step i l ls v vs held bs k s false same fit later e =
       let at : LetAt (suc i) vs bs k s = later e in
-      (suc at.0, at.1 ∙ moved i at.0, at.2, at.3, at.4, at.5, at.6)
+      (suc at.0, at.1 ∙ moved i at.0, at.2, at.3, at.4, at.5)
     where
       moved : (i j : ℕ) → (suc i + j) ≡ (i + suc j)
       moved i j = omega arith
 
+  -- its place, where it has no value
+  behind_step : (i : ℕ) (l : Local) (later : Option Meant) (k : ℕ) (s : Shape) (b : Bool)
+      → (later ≡ Some (M.Let k s) → (j : ℕ) × (k ≡ (suc i + j))) → (if b then Some (M.Let i l.shape) else later) ≡ Some (M.Let k s)
+      → (j : ℕ) × (k ≡ (i + j))
+  behind_step i l later k s true next e = (0, sym (ap let_place e) ∙ and_none i)
+    where
+      and_none : (i : ℕ) → i ≡ (i + 0)
+      and_none i = omega arith
+  behind_step i l later k s false next e =
+      let at = next e in
+      (suc at.0, at.1 ∙ moved i at.0)
+    where
+      moved : (i j : ℕ) → (suc i + j) ≡ (i + suc j)
+      moved i j = omega arith
+
+  let_behind : (i : ℕ) (ls : List Local) (k : ℕ) (s : Shape) → let_in i ls name ≡ Some (M.Let k s) → (j : ℕ) × (k ≡ (i + j))
+  let_behind i [] k s e = none e
+  let_behind i (l ∷ ls) k s e =
+      behind_step i l (let_in (suc i) ls name) k s (bytes_eq l.name name) (λ h. let_behind (suc i) ls k s h) e
+
   let_found : (i : ℕ) (ls : List Local) (vs : List Value) (bs : Bindings) (k : ℕ) (s : Shape) → LetsAre types ls vs bs
       → let_in i ls name ≡ Some (M.Let k s) → LetAt i vs bs k s
   let_found i [] [] [] k s are e = none e
+  let_found i (l ∷ ls) [] [] k s are e =
+      let at = let_behind i (l ∷ ls) k s e in
+      (at.0, at.1, None, refl, refl, tt)
   let_found i (l ∷ ls) (v ∷ vs) (b ∷ bs) k s are e =
-      subst (λ (n : List ℕ). (j : ℕ) × (k ≡ (i + j)) × (w : Value) × (slice_get (v ∷ vs) j ≡ Some w)
-      × ((if bytes_eq n name then Some b.held else held_in name bs) ≡ Some w) × (fits types w s ≡ true) × (closed s ≡ true)) (sym are.0)
-      (let_step i l ls v vs b.held bs k s (bytes_eq l.name name) are.1 are.2 are.3 (λ h. let_found (suc i) ls vs bs k s are.4 h) e)
+      subst (λ (n : List ℕ). (j : ℕ) × (k ≡ (i + j)) × (o : Option Value) × (slice_get (v ∷ vs) j ≡ o)
+      × ((if bytes_eq n name then Some b.held else held_in name bs) ≡ o) × HasShape s o) (sym are.0)
+      (let_step i l ls v vs b.held bs k s (bytes_eq l.name name) are.1 are.2 (λ h. let_found (suc i) ls vs bs k s are.3 h) e)
   let_found i ls vs bs k s are e = absurd are
 
   let_none_step : (i : ℕ) (l : Local) (later : Option Meant) (held : Value) (bs : Bindings) (b : Bool) → (later ≡ None → held_in name bs ≡ None)
@@ -108,9 +135,10 @@ module _ (types : Types) (name : List ℕ) where
 
   let_none : (i : ℕ) (ls : List Local) (vs : List Value) (bs : Bindings) → LetsAre types ls vs bs → let_in i ls name ≡ None → held_in name bs ≡ None
   let_none i [] [] [] are e = refl
+  let_none i (l ∷ ls) [] [] are e = refl
   let_none i (l ∷ ls) (v ∷ vs) (b ∷ bs) are e =
       subst (λ (n : List ℕ). (if bytes_eq n name then Some b.held else held_in name bs) ≡ None) (sym are.0)
-      (let_none_step i l (let_in (suc i) ls name) b.held bs (bytes_eq l.name name) (λ h. let_none (suc i) ls vs bs are.4 h) e)
+      (let_none_step i l (let_in (suc i) ls name) b.held bs (bytes_eq l.name name) (λ h. let_none (suc i) ls vs bs are.3 h) e)
   let_none i ls vs bs are e = absurd are
 
 -- ---- registers
@@ -255,6 +283,49 @@ module _ (tabled : Tabled) (name : List ℕ) (r : ℕ) (s : Shape) where
       none_and : (j : ℕ) → (0 + j) ≡ j
       none_and j = omega arith
 
+-- ---- a name that no definition has is no register's
+
+module _ (tabled : Tabled) (name : List ℕ) where
+  abbrev NoneIn : List Entry → Type 0
+  NoneIn es = meant_in es name ≡ None
+
+  none_if : (b : Bool) (meant : Meant) (later : Option Meant) → (if b then Some meant else later) ≡ None → (b ≡ false) × (later ≡ None)
+  none_if true meant later e = none (sym e)
+  none_if false meant later e = (refl, e)
+
+  none_behind : (es fs : List Entry) → NoneIn (es ++ fs) → NoneIn fs
+  none_behind [] fs e = e
+  none_behind (x ∷ es) fs e = none_behind es fs (none_if (bytes_eq x.name name) x.meant (meant_in (es ++ fs) name) e).1
+
+  abbrev IsPast : List Register → Type 0
+  IsPast regs = nat_lt (position_or_len (λ x. bytes_eq x.name name) regs) (length regs) ≡ false
+
+  past_step : (n : List ℕ) (t : Option Typ) (regs : List Register) → bytes_eq n name ≡ false → IsPast regs → IsPast (register_if n t ++ regs)
+  past_step n None regs is past = past
+  past_step n (Some t) regs is past =
+      ap (λ b. nat_lt (if not b then 1 + position_or_len (λ x. bytes_eq x.name name) regs else 0) (suc (length regs))) is
+      ∙ further (position_or_len (λ x. bytes_eq x.name name) regs) (length regs) past
+    where
+      further : (j k : ℕ) → nat_lt j k ≡ false → nat_lt (1 + j) (suc k) ≡ false
+      further j k h = grind (arith, h)
+
+  registers_past : (more : List Def) (counts : Counts) → NoneIn (entries_from tabled counts more) → IsPast (joined (map (registers_by tabled) more))
+  registers_past [] counts e = refl
+  registers_past ((D.Register place n typ initial) ∷ more) counts e =
+      let k = none_if (bytes_eq n.text name) (M.Register counts.registers (shape_or_never (typ_in (within_variables tabled []) typ)))
+      (meant_in (entries_from tabled (counts_with counts (D.Register place n typ initial)) more) name) e in
+      past_step n.text (typ_in (within_variables tabled []) typ) (joined (map (registers_by tabled) more)) k.0
+      (registers_past more (counts_with counts (D.Register place n typ initial)) k.1)
+  registers_past (d ∷ more) counts e =
+      registers_past more (counts_with counts d) (none_behind (def_entries tabled counts d) (entries_from tabled (counts_with counts d) more) e)
+
+  pub no_register_named : (text : List Def) → own_in tabled text name ≡ None
+      → position (λ x. bytes_eq x.name name) (joined (map (registers_by tabled) text)) ≡ None
+  no_register_named text e =
+      let regs : List Register = joined (map (registers_by tabled) text) in
+      ap (λ b. if b then Some (position_or_len (λ x. bytes_eq x.name name) regs) else None)
+      (registers_past text no_counts (none_behind (Shapes.union_entries tabled 1 (Some 0)) (entries_from tabled no_counts text) e))
+
 -- ---- what a name of a value is, whatever it means
 
 -- a definition means no let, row or overload
@@ -342,6 +413,12 @@ module _ (tabled : Tabled) (cycle : List ℕ → Option ℕ) (text : List Def) (
       ValueAs setting (register_shapes (text_of tabled cycle text).registers) (core_world m 0 [] [] [])
       (source_world m 0 [] (within_variables tabled []) []) name meant
 
+  let_as : (s : Shape) (o : Option Value) → HasShape tabled.types name s o
+      → position (λ x. bytes_eq x.name name) (joined (map (registers_by tabled) text)) ≡ None
+      → LetAs tabled.types (register_named (source_world m 0 [] (within_variables tabled []) []) name) s o
+  let_as s None has absent = absent
+  let_as s (Some v) has absent = has
+
   by_meaning : (own bound : Option Meant) (row : Option Row) (fs : List Candidate) → own_in tabled text name ≡ own → let_in 0 lets name ≡ bound → IsOwn own
       → IsLet bound → member_named tabled.types name ≡ member_of (Shapes.or_overload (Shapes.or_row (option_or own bound) row) fs)
       → IsValue (Shapes.or_overload (Shapes.or_row (option_or own bound) row) fs)
@@ -354,8 +431,13 @@ module _ (tabled : Tabled) (cycle : List ℕ → Option ℕ) (text : List Def) (
   by_meaning (Some meant) bound row fs is isb o l member = member
   by_meaning None (Some (M.Let i s)) row fs is isb o l member =
       let at : LetAt tabled.types name 0 values bindings i s = let_found tabled.types name 0 lets values bindings i s are isb in
-      let place : at.0 ≡ i = sym (at.1 ∙ none_and at.0) in
-      (member, (at.2, ap (slice_get values) (sym place) ∙ at.3, (λ j. option_or (member j) (at.4 j)), at.5, at.6))
+      let place : at.0 ≡ i = sym (at.1 ∙ none_and at.0) in (
+        member,
+        at.2,
+        ap (slice_get values) (sym place) ∙ at.3,
+        (λ j. option_or (member j) (at.4 j)),
+        let_as s at.2 at.5 (no_register_named tabled name text is),
+      )
     where
       none_and : (j : ℕ) → (0 + j) ≡ j
       none_and j = omega arith

@@ -2,7 +2,6 @@
 -- "Let bindings").
 use Rattle.std.specs.Prelude.{◌≡◌, ℕ, nat_lt, true, List, [], ◌∷◌, length, Option, Some, None}
 use Rattle.sail_types.specs.Named.{members as enum_members}
-use Rattle.sail_types.specs.Shapes.{fits}
 use Rattle.sail_types.specs.declared.shapes.Shape.{Shape}
 use Rattle.sail_types.specs.declared.table.Types.{Types}
 use Rattle.sail_types.specs.declared.types.Typ.{Typ}
@@ -17,7 +16,8 @@ use Rattle.shape_rules.specs.declared.callees.Meant.TheVariants as M
 use Rattle.shape_rules.specs.declared.locals.Local.{Local}
 use Rattle.shape_rules.specs.Written.{typ_in}
 use Rattle.shape_models.specs.Models.{Tabled, let_in, setting_of, within_variables}
-use Rattle.shape_meanings.specs.Whole.{closed}
+use Rattle.shape_meanings.specs.Keeping.{Fits}
+use Rattle.shape_meanings.specs.Whole.{Choice}
 use Rattle.shape_meanings.specs.Models.{register_shapes}
 use Rattle.shape_meanings.specs.Worlds.{ValueAs}
 use Rattle.shapes.specs.Failures.{own_in}
@@ -43,11 +43,13 @@ pub record NamesAreOnce (tabled : Tabled) (text : List Def) (lets : List Local) 
   pub in_range : (name : List ℕ) (i k : ℕ) → own_in tabled text name ≡ Some (M.Member i k) → nat_lt k (length (enum_members tabled.types i)) ≡ true
   pub registers : (name : List ℕ) (r : ℕ) (s : Shape) → own_in tabled text name ≡ Some (M.Register r s) → let_in 0 lets name ≡ None
 
--- behind the openings each name of a top-level let has on both sides the same value, of its shape
+-- each name of a top-level let has on both sides the same value, which has its shape whatever variables stand for; those that openings don't come to
+-- have none on either side
 abbrev pub LetsAre : Types → List Local → List Value → Bindings → Type 0
 LetsAre types [] [] [] = Unit {0}
+LetsAre types (l ∷ ls) [] [] = Unit {0}
 LetsAre types (l ∷ ls) (v ∷ vs) (b ∷ bs) =
-    (b.name ≡ l.name) × (b.held ≡ v) × (fits types v l.shape ≡ true) × (closed l.shape ≡ true) × LetsAre types ls vs bs
+    (b.name ≡ l.name) × (b.held ≡ v) × ((c : Choice) → Fits types c l.shape v) × LetsAre types ls vs bs
 LetsAre types ls vs bs = ⊥
 
 abbrev pub ValuesStand : Type 0
