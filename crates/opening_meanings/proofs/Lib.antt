@@ -1,0 +1,10 @@
+pub mod Plain
+pub mod Looks
+pub mod Parts
+pub mod Trees
+pub mod Forms
+pub mod Expressions
+pub mod Worlds
+pub mod Known
+pub mod Ends
+pub mod Openings

@@ -1,0 +1,4 @@
+pub mod Plain
+pub mod Names
+pub mod Worlds
+pub mod Openings
