@@ -9,3 +9,5 @@ pub mod Values
 pub mod Functions
 pub mod Whole
 pub mod Openings
+pub mod Lets
+pub mod Opened

@@ -7,3 +7,4 @@ pub mod Values
 pub mod Functions
 pub mod Whole
 pub mod Openings
+pub mod Opened

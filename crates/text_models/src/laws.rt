@@ -2,6 +2,7 @@
 ghost use Rattle.text_models.specs.Functions.{FunctionsAreEntered};
 ghost use Rattle.text_models.specs.Known.{TextsAreRight};
 ghost use Rattle.text_models.specs.Laws.{AddedStand, DirectionsAreCounted, NamesStand};
+ghost use Rattle.text_models.specs.Opened.{TextsOpenAlike, WholeTextsMeanText};
 ghost use Rattle.text_models.specs.Openings.{NothingIsOpened};
 ghost use Rattle.text_models.specs.Overloads.{NamesDoNotClash, OperatorsDoNotClash};
 ghost use Rattle.text_models.specs.Values.{ValuesStand};
@@ -40,4 +41,12 @@ pub fn nothing_is_opened()
 pub fn texts_mean_text()
     ensures definitions { TextsAreRight }
     ensures texts { TextsMeanText }
+{}
+
+/// Where the tables know the definitions of a text and its openings, and nothing is refused for its shapes, top-level lets and initial
+/// values are alike on both sides: in text order, each over the lets before it, they give the same values, of their shapes, stop for one
+/// cause or come to no end. So the core of such a text does what the text does, from the start through every event.
+pub fn whole_texts_mean_text()
+    ensures openings { TextsOpenAlike }
+    ensures texts { WholeTextsMeanText }
 {}

@@ -6,4 +6,5 @@ mod laws;
 
 pub use laws::{
     names_stand, nothing_is_opened, overloads_do_not_clash, texts_mean_text, values_stand,
+    whole_texts_mean_text,
 };
