@@ -136,10 +136,10 @@ module _ (text : List Def) (clear : NothingFails text) (written_so : IsWritten t
   thrown : ExceptionKnown text (setting_of tabled own text [] []).exception
   thrown = record { there = λ h. union_there text text rows h; closed = λ i e. exception_closed text clear.parts i e }
 
-  same_members : (name : List ℕ) → is_member (known_in text) name ≡ is_among (members text) name
+  pub same_members : (name : List ℕ) → is_member (known_in text) name ≡ is_among (members text) name
   same_members = member_same text clear has_all
 
-  known_at : (some : List Local) (at : ℕ) → LetsAre text some Plain at → LocalsCounted types some
+  pub known_at : (some : List Local) (at : ℕ) → LetsAre text some Plain at → LocalsCounted types some
       → AreKnown (Lets.plain_setting text clear same_members some) (Lets.plain_names text clear same_members at)
   known_at some at are counts =
       Known.known text clear named has_all over rows plain parts thrown some counts [] (λ op. []) None (Lets.plain_names text clear same_members at) refl

@@ -18,6 +18,7 @@ pub mod Quantified
 pub mod Unions
 pub mod UnionsKnown
 pub mod Assembled
+pub mod Openings
 pub mod Tuples
 pub mod Several
 pub mod SeveralTables

@@ -17,10 +17,14 @@ use Rattle.shape_rules.specs.Scopes.{answering, plainly}
 use Rattle.shape_meanings.specs.Counted.{all_counted, counted}
 use Rattle.shape_meanings.specs.Naming.{AreKnown}
 use Rattle.shape_meanings.specs.Whole.{all_below, below}
+use Rattle.shape_meanings.specs.Models.{CoreMeansText}
 use Rattle.shapes.specs.Failures.{refusal}
+use Rattle.shapes.specs.Resolved.{resolved}
 use Rattle.shapes.specs.Tabled.{tabled_of}
 use Rattle.text_models.specs.Definitions.{UnionIs}
 use Rattle.text_models.specs.Known.{DefinitionsKnown}
+use Rattle.text_models.specs.Opened.{OpeningsKnown}
+use Rattle.text_models.specs.Texts.{text_of}
 use Rattle.text_models.specs.Whole.{setting_in}
 use Rattle.known_texts.specs.Signed.{EachSigned}
 use Rattle.known_texts.specs.Written.{IsWritten}
@@ -69,3 +73,13 @@ abbrev pub DefinitionsAreKnown : Type 0
 DefinitionsAreKnown =
     (text : List Def) (end : Place) → IsAccepted text end → refusal (tabled_of text) text ≡ None → IsWritten text
     → DefinitionsKnown (tabled_of text) text (setting_in (tabled_of text) text)
+
+-- each top-level let and each initial value is a plain expression whose names have no failure, over the lets before it
+abbrev pub OpeningsAreKnown : Type 0
+OpeningsAreKnown = (text : List Def) (end : Place) → IsAccepted text end → IsWritten text → OpeningsKnown (tabled_of text) text
+
+-- so the core of a text that the tables accept, and that nothing is refused for in shapes, does what the text does
+abbrev pub AcceptedTextsMeanText : Type 0
+AcceptedTextsMeanText =
+    (text : List Def) (end : Place) (cycle : List ℕ → Option ℕ) → IsAccepted text end → refusal (tabled_of text) text ≡ None → IsWritten text
+    → CoreMeansText (text_of (tabled_of text) cycle text) (resolved (tabled_of text) cycle text)

@@ -1,5 +1,6 @@
 //! Laws of the definitions of a text that has tables: each function's contract is one, and it does nothing.
-ghost use Rattle.known_texts.specs.Laws.{DefinitionsAreKnown, DefinitionsAreSigned, NamesAreKnown, SignaturesAreWhole, UnionsAreKnown};
+ghost use Rattle.known_texts.specs.Laws.{AcceptedTextsMeanText, DefinitionsAreKnown, DefinitionsAreSigned, NamesAreKnown, OpeningsAreKnown};
+ghost use Rattle.known_texts.specs.Laws.{SignaturesAreWhole, UnionsAreKnown};
 
 /// Each function and mapping of a text that the tables accept has a signature.
 pub fn definitions_are_signed()
@@ -24,4 +25,14 @@ pub fn names_are_known()
 /// Each definition of a text that the tables accept, and that isn't refused for its shapes, is known as the meaning of texts asks.
 pub fn definitions_are_known()
     ensures { DefinitionsAreKnown }
+{}
+
+/// Each top-level let and each initial value of a text that the tables accept is known as the meaning of openings asks.
+pub fn openings_are_known()
+    ensures { OpeningsAreKnown }
+{}
+
+/// The core of a text that the tables accept, and that isn't refused for its shapes, does what the text does, from the start through every event.
+pub fn accepted_texts_mean_text()
+    ensures { AcceptedTextsMeanText }
 {}

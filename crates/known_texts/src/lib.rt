@@ -4,6 +4,6 @@
 mod laws;
 
 pub use laws::{
-    definitions_are_known, definitions_are_signed, names_are_known, signatures_are_whole,
-    unions_are_known,
+    accepted_texts_mean_text, definitions_are_known, definitions_are_signed, names_are_known,
+    openings_are_known, signatures_are_whole, unions_are_known,
 };
