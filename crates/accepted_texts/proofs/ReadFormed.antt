@@ -300,18 +300,38 @@ module _ (types : Types) (count : ℕ) where
   all_rows : AllRows rows
   all_rows = (
     Typs.made types 0 T.Unit W.Unit W.rolls-Unit refl,
-    (Typs.made types 0 (T.Truth (C.Holds 0)) (W.Truth (C.Holds 0)) (W.rolls-Truth (C.Holds 0)) refl,
-    (Typs.made types 0 T.Bit W.Bit W.rolls-Bit refl,
-    (Typs.made types 0 (T.Bits (variable 0)) (W.Bits (variable 0)) (W.rolls-Bits (variable 0)) refl,
-    (Typs.made types 0 (T.Bits (variable 0)) (W.Bits (variable 0)) (W.rolls-Bits (variable 0)) refl,
-    (Typs.made types 0 (T.Int (variable 0)) (W.Int (variable 0)) (W.rolls-Int (variable 0)) refl,
-    (Typs.made types 0 (T.Range zero_num (constant (pos largest))) nat (W.rolls-Range zero_num (constant (pos largest))) refl,
-    (Typs.made types 0 (T.Range (variable 0) (variable 1)) (W.Range (variable 0) (variable 1)) (W.rolls-Range (variable 0) (variable 1)) refl,
-    (Typs.made types 0 T.String W.String W.rolls-String refl,
-    (Typs.made types 1 (T.List (W.Variable 0)) (W.List (W.Variable 0)) (W.rolls-List (W.Variable 0)) first_variable,
-    (Typs.made types 1 (T.Vector (variable 0) (W.Variable 0)) (W.Vector (variable 0) (W.Variable 0)) (W.rolls-Vector (variable 0) (W.Variable 0))
-        first_variable,
-    tt)))))))))),
+    (
+      Typs.made types 0 (T.Truth (C.Holds 0)) (W.Truth (C.Holds 0)) (W.rolls-Truth (C.Holds 0)) refl,
+      (
+        Typs.made types 0 T.Bit W.Bit W.rolls-Bit refl,
+        (
+          Typs.made types 0 (T.Bits (variable 0)) (W.Bits (variable 0)) (W.rolls-Bits (variable 0)) refl,
+          (
+            Typs.made types 0 (T.Bits (variable 0)) (W.Bits (variable 0)) (W.rolls-Bits (variable 0)) refl,
+            (
+              Typs.made types 0 (T.Int (variable 0)) (W.Int (variable 0)) (W.rolls-Int (variable 0)) refl,
+              (
+                Typs.made types 0 (T.Range zero_num (constant (pos largest))) nat (W.rolls-Range zero_num (constant (pos largest))) refl,
+                (
+                  Typs.made types 0 (T.Range (variable 0) (variable 1)) (W.Range (variable 0) (variable 1)) (W.rolls-Range (variable 0) (variable 1)) refl,
+                  (
+                    Typs.made types 0 T.String W.String W.rolls-String refl,
+                    (
+                      Typs.made types 1 (T.List (W.Variable 0)) (W.List (W.Variable 0)) (W.rolls-List (W.Variable 0)) first_variable,
+                      (
+                        Typs.made types 1 (T.Vector (variable 0) (W.Variable 0)) (W.Vector (variable 0) (W.Variable 0)) (W.rolls-Vector (variable 0) (W.Variable 0))
+                            first_variable,
+                        tt,
+                      ),
+                    ),
+                  ),
+                ),
+              ),
+            ),
+          ),
+        ),
+      ),
+    ),
   )
 
   shown : (b : Bool) (o : Option NamedType) (t : NamedType) → (o ≡ Some t → MeaningFormed types t.parameters t.meaning) → cond b None o ≡ Some t
