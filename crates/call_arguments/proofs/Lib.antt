@@ -1,3 +1,4 @@
+pub mod Fuller
 pub mod Lists
 pub mod Numbered
 pub mod Parameters

@@ -1,10 +1,13 @@
 -- What the Type variables of a callee stand for, one by one.
-use Rattle.std.proofs.Common.{◌≡◌, ◌∙◌, ap, refl, ℕ, zero, suc, ◌+◌, ◌-◌, ◌<◌, ◌≤◌, min, List, [], ◌∷◌, length, drop, map, arith}
-use Rattle.std.specs.Prelude.{None}
+use Rattle.std.proofs.Common.{◌≡◌, ◌∙◌, ap, refl, sym, ℕ, zero, suc, ◌+◌, ◌-◌, ◌<◌, ◌≤◌, min, List, [], ◌∷◌, length, drop, get_or, map, arith}
+use Rattle.std.specs.Prelude.{None, Option}
 use Rattle.sail_types.specs.declared.types.Typ.{Typ}
 use Rattle.value_indices.specs.declared.indices.Indices.{Indices}
 use Rattle.value_indices.specs.declared.indices.Reading.{Reading}
-use Rattle.call_arguments.specs.Callees.{first_typed, first_type_typed, or_hole, typed_at, types_from}
+use Rattle.call_arguments.specs.Callees.{first_typed, first_type_typed, or_hole, type_typed_at, typed_at, types_from, value_typed_at}
+use Rattle.call_arguments.specs.Holes.{fuller}
+use Rattle.call_arguments.proofs.Fuller.{fuller_assoc, fuller_last}
+use Rattle.call_arguments.proofs.Lists.{rest_is}
 
 pub types_more : (k count : ℕ) (ts : List Typ) (is : List Indices) → k < count
     → types_from k (count - k) ts is ≡ or_hole (first_typed (map (typed_at k) ts) is) ∷ types_from (k + 1) (count - (k + 1)) ts is
@@ -50,3 +53,35 @@ none_type_typed [] v rs k h = no_place v k (drop k rs)
 none_type_typed (t ∷ ts) v [] k h = no_reading t ts v k (omega (arith, h))
 none_type_typed (t ∷ ts) v (r ∷ rs) zero h = absurd (omega (arith, h))
 none_type_typed (t ∷ ts) v (r ∷ rs) (suc k) h = none_type_typed ts v rs k (omega (arith, h))
+
+-- ---- one place more, and all
+
+pub typed_more : (ts : List Typ) (is : List Indices) (v k : ℕ) (t : Typ) (i : Indices) (before found now : Option Reading)
+    → k < length ts → k < length is → t ≡ get_or ts k t → i ≡ get_or is k i → found ≡ value_typed_at v t i → now ≡ fuller before found
+    → fuller now (first_typed (map (typed_at v) (drop (k + 1) ts)) (drop (k + 1) is))
+    ≡ fuller before (first_typed (map (typed_at v) (drop k ts)) (drop k is))
+typed_more ts is v k t i before found now below_ts below_is t_is i_is found_is now_is =
+    let rest = first_typed (map (typed_at v) (drop (k + 1) ts)) (drop (k + 1) is) in
+    ap (λ o. fuller o rest) now_is
+    ∙ fuller_assoc before found rest
+    ∙ ap (λ o. fuller before (fuller o rest)) found_is
+    ∙ sym (λ j. fuller before (first_typed (map (typed_at v) (rest_is ts k t below_ts t_is j)) (rest_is is k i below_is i_is j)))
+
+pub typed_all : (ts : List Typ) (is : List Indices) (v k : ℕ) (made whole : Option Reading) → k ≡ min (length ts) (length is)
+    → fuller made (first_typed (map (typed_at v) (drop k ts)) (drop k is)) ≡ whole → made ≡ whole
+typed_all ts is v k made whole end total = sym (fuller_last made) ∙ ap (fuller made) (sym (none_typed ts v is k end)) ∙ total
+
+pub type_typed_more : (ts : List Typ) (rs : List Reading) (v k : ℕ) (t : Typ) (r : Reading) (before found now : Option Reading)
+    → k < length ts → k < length rs → t ≡ get_or ts k t → r ≡ get_or rs k r → found ≡ type_typed_at v t r → now ≡ fuller before found
+    → fuller now (first_type_typed (map (typed_at v) (drop (k + 1) ts)) (drop (k + 1) rs))
+    ≡ fuller before (first_type_typed (map (typed_at v) (drop k ts)) (drop k rs))
+type_typed_more ts rs v k t r before found now below_ts below_rs t_is r_is found_is now_is =
+    let rest = first_type_typed (map (typed_at v) (drop (k + 1) ts)) (drop (k + 1) rs) in
+    ap (λ o. fuller o rest) now_is
+    ∙ fuller_assoc before found rest
+    ∙ ap (λ o. fuller before (fuller o rest)) found_is
+    ∙ sym (λ j. fuller before (first_type_typed (map (typed_at v) (rest_is ts k t below_ts t_is j)) (rest_is rs k r below_rs r_is j)))
+
+pub type_typed_all : (ts : List Typ) (rs : List Reading) (v k : ℕ) (made whole : Option Reading) → k ≡ min (length ts) (length rs)
+    → fuller made (first_type_typed (map (typed_at v) (drop k ts)) (drop k rs)) ≡ whole → made ≡ whole
+type_typed_all ts rs v k made whole end total = sym (fuller_last made) ∙ ap (fuller made) (sym (none_type_typed ts v rs k end)) ∙ total

@@ -3,7 +3,6 @@ use Rattle.std.specs.List.{list_all}
 use Rattle.std.specs.Prelude.{Bool, List, None, Option, Some, false, if◌then◌else◌, length, map, nat_eq, suc, true, zero, ℕ, [], ◌&&◌, ◌++◌, ◌∷◌}
 use Rattle.sail_base.specs.declared.kind.Kind.{Kind}
 use Rattle.sail_base.specs.declared.kind.Kind.TheVariants as K
-use Rattle.sail_types.specs.Places.{first}
 use Rattle.sail_types.specs.Sums.{zero_num}
 use Rattle.sail_types.specs.declared.numbers.Con.TheVariants as C
 use Rattle.sail_types.specs.declared.numbers.Index.{Index}
@@ -20,9 +19,10 @@ use Rattle.value_indices.specs.declared.indices.Reading.{Reading}
 use Rattle.value_indices.specs.declared.indices.Reading.TheVariants as R
 use Rattle.value_fits.specs.Fitting.{among, placed}
 use Rattle.wide_types.specs.Widening.{fresh_index, is_below, is_con_below, value_of_type, widened, widened_type}
-use Rattle.call_arguments.specs.Aims.{aimed}
+use Rattle.call_arguments.specs.Aims.{aimed, is_hole}
 use Rattle.call_arguments.specs.declared.aims.Aim.{Aim}
 use Rattle.call_arguments.specs.declared.aims.Aim.TheVariants as Aims
+use Rattle.call_arguments.specs.Holes.{fuller}
 
 -- ---- which types name variables
 
@@ -88,18 +88,19 @@ abbrev pub numbers_from : ℕ → List Parameter → List Typ → List Indices �
 numbers_from j [] ts is = []
 numbers_from j (p ∷ ps) ts is = or_zero p.kind (among (map placed ts) j is) ∷ numbers_from (suc j) ps ts is
 
--- ---- its Type variables: each the widened type of what the first place that names it is given
+-- ---- its Type variables: each the widened type of what the first place that names it is given, of those that give it one without a hole
+-- inside if there are such
 
 pub record Typed : Type 0 where
   pub of_value : Indices → Option Reading
   pub of_type : Reading → Option Reading
 
 abbrev pub first_typed : List Typed → List Indices → Option Reading
-first_typed (f ∷ fs) (i ∷ is) = first (f.of_value i) (first_typed fs is)
+first_typed (f ∷ fs) (i ∷ is) = fuller (f.of_value i) (first_typed fs is)
 first_typed fs is = None
 
 abbrev pub first_type_typed : List Typed → List Reading → Option Reading
-first_type_typed (f ∷ fs) (r ∷ rs) = first (f.of_type r) (first_type_typed fs rs)
+first_type_typed (f ∷ fs) (r ∷ rs) = fuller (f.of_type r) (first_type_typed fs rs)
 first_type_typed fs rs = None
 
 abbrev pub value_typed : ℕ → Typ-F Typed → Indices-F Indices Reading → Option Reading
@@ -113,8 +114,12 @@ value_typed k t i = None
 abbrev pub value_if : Bool → Indices → Option Reading
 value_if is i = if is then Some (widened i) else None
 
+-- a hole gives no type
+abbrev pub type_unless : Bool → Reading → Option Reading
+type_unless hole r = if hole then None else Some (widened_type r)
+
 abbrev pub type_if : Bool → Reading → Option Reading
-type_if is r = if is then Some (widened_type r) else None
+type_if is r = if is then type_unless (is_hole r) r else None
 
 abbrev pub form_typed : ℕ → Typ-F Typed → Typed
 form_typed k (T.Variable j) = record {

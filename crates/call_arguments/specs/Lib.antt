@@ -1,3 +1,4 @@
 pub mod Aims
 pub mod Callees
+pub mod Holes
 pub mod Placing

@@ -25,6 +25,7 @@ use Rattle.value_indices.specs.declared.indices.Reading.TheVariants as R
 use Rattle.value_fits.specs.Fitting.{Fit, also, item_fits, number_fits, placed, says, truth_fits}
 use Rattle.value_fits.specs.declared.fitted.Fitted.{Fitted}
 use Rattle.call_arguments.specs.Callees.{is_closed}
+use Rattle.call_arguments.specs.Holes.{types_without_holes}
 
 -- ---- each argument fits its parameter, but at the places that give variables their numbers
 
@@ -168,6 +169,9 @@ is_trivial_form c = false
 abbrev pub constraint_of : List Index → Con → Conditions
 constraint_of js c = if is_trivial_form (out-Con c) then [] else read_con js c ∷ []
 
+abbrev pub conditions_of : Fit → Function → List Index → List Reading → List Bool → List Indices → ℕ → Fitted
+conditions_of fit f js qs bs is n = also (arguments_fit fit js qs bs f.parameters is [] n).fitted (says (constraint_of js f.constraint))
+
+-- of a hole in what stands for a Type variable is only what never ends
 abbrev pub call_conditions : Fit → Function → List Index → List Reading → List Bool → List Indices → ℕ → Fitted
-call_conditions fit f js qs bs is n =
-    also (arguments_fit fit js qs bs f.parameters is [] n).fitted (says (constraint_of js f.constraint))
+call_conditions fit f js qs bs is n = conditions_of fit f js (types_without_holes qs) bs is n

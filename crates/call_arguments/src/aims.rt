@@ -31,7 +31,7 @@ impl Drop for Aim {
 }
 
 /// Whether this is no type.
-fn is_hole(reading: &Reading) -> bool
+pub fn is_hole(reading: &Reading) -> bool
     ensures { result ≡ aims.is_hole reading.now }
 {
     match reading {

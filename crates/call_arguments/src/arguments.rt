@@ -10,6 +10,7 @@ ghost use Rattle.call_arguments.specs.Placing as places;
 
 use crate::closed::is_closed;
 use crate::counts::{least_of_three, least_of_two};
+use crate::holes::types_without_holes;
 use crate::places::{number_placed, place_within, truth_placed};
 use sail_base::Items;
 use sail_core::Function;
@@ -357,10 +358,9 @@ fn constraint_of(
     Ok(made)
 }
 
-/// What a call of a function owes: that each argument is of its parameter's type, where the function's variables stand for these, unless
-/// it owes that further in, and the constraint. Variables of the walk are counted from this number on. It fails where memory is wanting,
-/// and where variables are too many.
-pub fn call_conditions(
+/// That each argument is of its parameter's type, where the function's variables stand for these, unless it owes that further in, and the
+/// constraint. It fails where memory is wanting, and where variables are too many.
+fn conditions_of(
     alloc: Global,
     types: &Types,
     function: &Function,
@@ -371,7 +371,7 @@ pub fn call_conditions(
     next: u32,
 ) -> Result<Fitted, AllocError>
     ensures { IfOk result (λ made. made
-        ≡ places.call_conditions (fitting.fits types.now) function.now indices.now readings.now nested.now arguments.now next) }
+        ≡ places.conditions_of (fitting.fits types.now) function.now indices.now readings.now nested.now arguments.now next) }
 {
     let mut known = Items::new(alloc);
     let fitted = arguments_fit(
@@ -388,4 +388,33 @@ pub fn call_conditions(
     let conditions = constraint_of(alloc, indices, &function.constraint)?;
     let constraint = Fitted::says(alloc, conditions, fitted.next);
     fitted.also(constraint)
+}
+
+/// What a call of a function owes: that each argument is of its parameter's type, where the function's variables stand for these, unless
+/// it owes that further in, and the constraint; of a hole in what a Type variable stands for is only what never ends. Variables of the walk
+/// are counted from this number on. It fails where memory is wanting, and where variables are too many.
+pub fn call_conditions(
+    alloc: Global,
+    types: &Types,
+    function: &Function,
+    indices: &[Index],
+    readings: &[Reading],
+    nested: &[bool],
+    arguments: &[Indices],
+    next: u32,
+) -> Result<Fitted, AllocError>
+    ensures { IfOk result (λ made. made
+        ≡ places.call_conditions (fitting.fits types.now) function.now indices.now readings.now nested.now arguments.now next) }
+{
+    let owed = types_without_holes(alloc, readings)?;
+    conditions_of(
+        alloc,
+        types,
+        function,
+        indices,
+        owed.as_slice(),
+        nested,
+        arguments,
+        next,
+    )
 }

@@ -1,7 +1,7 @@
 //! What is wanted of the arguments of a call, what a callee's variables stand for, and what the arguments owe.
 //!
-//! `specs/Aims` has how a wanted type goes into an expression, `specs/Callees` what a callee's variables stand for, `specs/Placing` what
-//! arguments owe.
+//! `specs/Aims` has how a wanted type goes into an expression, `specs/Callees` what a callee's variables stand for, `specs/Holes` which types
+//! have holes inside, `specs/Placing` what arguments owe.
 #![tactic(auto)]
 
 mod aims;
@@ -9,6 +9,7 @@ mod arguments;
 mod callees;
 mod closed;
 mod counts;
+mod holes;
 mod places;
 mod through;
 mod typed;
@@ -20,5 +21,6 @@ pub use callees::{
 };
 pub use closed::{is_closed, is_numberless};
 pub use counts::least_of_three;
+pub use holes::types_without_holes;
 pub use through::{Seen, item_type, part_types, see, type_arguments, under};
 pub use typed::types_from;

@@ -1,8 +1,11 @@
 //! What the Type variables of a callee stand for.
 ghost use Rattle.std.specs.Prelude.{◌≡◌, IfOk, map};
+ghost use Rattle.call_arguments.specs.Aims.{is_hole as is_hole_of};
 ghost use Rattle.call_arguments.specs.Callees as callees;
 
+use crate::aims::is_hole;
 use crate::counts::{least_of_two, small};
+use crate::holes::fuller;
 use sail_base::Items;
 use sail_types::Typ;
 use std::alloc::{AllocError, Global};
@@ -24,7 +27,18 @@ fn value_if(
     }
 }
 
-/// The widened type of a type, where its place in a parameter is this variable.
+/// The widened type of a type; none of a hole.
+fn type_unless_hole(alloc: Global, reading: &Reading) -> Result<Option<Reading>, AllocError>
+    ensures { IfOk result (λ made. made ≡ callees.type_unless (is_hole_of reading.now) reading.now) }
+{
+    if is_hole(reading) {
+        Ok(None)
+    } else {
+        Ok(Some(widened_type(alloc, reading)?))
+    }
+}
+
+/// The widened type of a type, where its place in a parameter is this variable; none of a hole.
 fn type_if(
     alloc: Global,
     is_variable: bool,
@@ -33,14 +47,15 @@ fn type_if(
     ensures { IfOk result (λ made. made ≡ callees.type_if is_variable reading.now) }
 {
     if is_variable {
-        Ok(Some(widened_type(alloc, reading)?))
+        type_unless_hole(alloc, reading)
     } else {
         Ok(None)
     }
 }
 
-/// What a value gives to a Type variable of its parameter's type: the widened type of what the first place that names it is given; none
-/// where no place does. It fails where memory is wanting, and where variables are too many.
+/// What a value gives to a Type variable of its parameter's type: the widened type of what the first place that names it is given, of those
+/// that give it one without a hole inside if there are such; none where no place gives one. It fails where memory is wanting, and where
+/// variables are too many.
 #[cycle(typed)]
 fn typed_value(
     alloc: Global,
@@ -95,8 +110,8 @@ fn typed_type(
     }
 }
 
-/// What the first of several values gives to a Type variable of their types; none where none does. It fails where memory is wanting, and
-/// where variables are too many.
+/// What the first of several values gives to a Type variable of their types, a type without a hole inside before others; none where none
+/// does. It fails where memory is wanting, and where variables are too many.
 #[cycle(typed)]
 fn first_value(
     alloc: Global,
@@ -107,13 +122,12 @@ fn first_value(
     ensures { IfOk result (λ made. made ≡ callees.first_typed (map (callees.typed_at variable) types.now) values.now) }
 {
     let count = least_of_two(types.len(), values.len());
+    let mut made = None;
     for index in 0..count {
         let found = typed_value(alloc, variable, &types[index], &values[index])?;
-        if found.is_some() {
-            return Ok(found);
-        }
+        made = fuller(made, found);
     }
-    Ok(None)
+    Ok(made)
 }
 
 /// The same of types at places.
@@ -127,13 +141,12 @@ fn first_type(
     ensures { IfOk result (λ made. made ≡ callees.first_type_typed (map (callees.typed_at variable) types.now) readings.now) }
 {
     let count = least_of_two(types.len(), readings.len());
+    let mut made = None;
     for index in 0..count {
         let found = typed_type(alloc, variable, &types[index], &readings[index])?;
-        if found.is_some() {
-            return Ok(found);
-        }
+        made = fuller(made, found);
     }
-    Ok(None)
+    Ok(made)
 }
 
 /// What a Type variable of a callee stands for; a hole where no argument gives it.

@@ -18,6 +18,7 @@ use Rattle.value_fits.specs.Fitting.{fits, owe_fit}
 use Rattle.pattern_leaves.specs.Settings.{Around}
 use Rattle.call_notes.specs.Ends.{any_never, fits_unless, never_value, opened_at, wrong_value}
 use Rattle.call_arguments.specs.Callees.{indices_from, number_parameters, numbers_from, type_parameters, types_from, types_or, was_due}
+use Rattle.call_arguments.specs.Holes.{types_without_holes}
 use Rattle.call_arguments.specs.Placing.{call_conditions}
 use Rattle.call_notes.specs.Rows.{row_call}
 
@@ -69,8 +70,9 @@ abbrev pub part_owed : Around → Bool → Place → Indices → Reading → Wal
 part_owed around true place i r = give tt
 part_owed around false place i r = owe_fit place (fits around.types i r)
 
+-- of a hole in what stands for a Type variable is only what never ends
 abbrev pub one_owed : Around → Place → Option (List Reading) → Typ → Indices → List Index → List Reading → Walk (Unit {0})
-one_owed around place known t i js qs = part_owed around (was_due known t) place i (R.Of t js qs)
+one_owed around place known t i js qs = part_owed around (was_due known t) place i (R.Of t js (types_without_holes qs))
 
 -- the others owe once all numbers are known
 abbrev pub parts_owed : Around → List Place → Option (List Reading) → List Typ → List Indices → List Index → List Reading → Walk (Unit {0})

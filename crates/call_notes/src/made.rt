@@ -6,7 +6,7 @@ ghost use Rattle.value_indices.specs.Walking as walk;
 ghost use Rattle.call_notes.specs.Calls as calls;
 
 use crate::ends::{any_never, owe_value};
-use call_arguments::{indices_from, least_of_three, types_or, was_due};
+use call_arguments::{indices_from, least_of_three, types_or, types_without_holes, was_due};
 use pattern_leaves::Around;
 use sail_base::{Items, Place};
 use sail_types::{Index, Parameter, Typ};
@@ -35,7 +35,8 @@ pub fn part_owed(
     owe_value(alloc, walking, around.types, place, value, wanted)
 }
 
-/// Owes that an argument is of its type, where that wasn't owed before all numbers were known.
+/// Owes that an argument is of its type, where that wasn't owed before all numbers were known; of a hole in what stands for a Type
+/// variable is only what never ends.
 fn owe_part(
     alloc: Global,
     walking: &mut Walking,
@@ -51,7 +52,8 @@ fn owe_part(
         ≡ walk.run (calls.one_owed (around_of around.now) place known.now typ.now value.now indices.now readings.now) (walk.seen walking.old)) }
 {
     let is_owed = was_due(known, typ)?;
-    let wanted = Wanted::Of(typ, indices, readings);
+    let owed = types_without_holes(alloc, readings)?;
+    let wanted = Wanted::Of(typ, indices, owed.as_slice());
     part_owed(alloc, walking, around, is_owed, place, value, &wanted)
 }
 
