@@ -2,6 +2,7 @@ pub mod Names
 pub mod Sizes
 pub mod Truths
 pub mod Ways
+pub mod Inside
 pub mod Meeting
 pub mod Spots
 pub mod Scopes

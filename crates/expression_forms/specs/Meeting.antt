@@ -1,27 +1,53 @@
 -- Where ways meet: what a later way owes of the first, and the value of all (Sail language manual, "Conditionals", "Pattern matching",
 -- "Exceptions").
-use Rattle.std.specs.Prelude.{Bool, None, Option, Some, false, if◌then◌else◌, true, ℕ, [], ◌||◌}
+use Rattle.std.specs.Prelude.{Bool, None, Option, Some, if◌then◌else◌, true, ℕ, [], ◌&&◌, ◌||◌}
 use Rattle.sail_base.specs.declared.place.Place.{Place}
 use Rattle.sail_types.specs.Zero.{deepest}
 use Rattle.sail_types.specs.declared.shapes.Shape.{Shape}
-use Rattle.value_indices.specs.Steps.{Conditions, Walk, bind, give, owe}
+use Rattle.sail_types.specs.declared.shapes.Shape.TheVariants as V
+use Rattle.sail_types.specs.declared.table.Types.{Types}
+use Rattle.value_indices.specs.Steps.{Walk, bind, give}
 use Rattle.value_indices.specs.declared.indices.Indices.{Indices}
 use Rattle.value_indices.specs.declared.indices.Indices.TheVariants as I
+use Rattle.value_indices.specs.declared.indices.Reading.TheVariants as R
+use Rattle.value_fits.specs.Fitting.{fits, never, owe_fit, says}
+use Rattle.value_fits.specs.declared.fitted.Fitted.{Fitted}
 use Rattle.wide_types.specs.Widening.{agrees_within, met}
 use Rattle.pattern_leaves.specs.Settings.{Around}
 use Rattle.call_notes.specs.Ends.{is_never, never_value, sized}
+use Rattle.expression_forms.specs.Inside.{goes_by_numbers, value_allowed}
 
--- the first way that ends normally, with a value: the body of a `let` that never ends has none, though the `let` counts as one that ends
+-- the body of a `let` that never ends gives no value, though the `let` counts as one that ends
+abbrev pub gives_none : Bool → Indices → Bool
+gives_none never_ends i = never_ends || is_never i
+
+-- the first way that ends normally, with a value
 abbrev pub first_way : Bool → Indices → Option Indices
-first_way never_ends i = if never_ends || is_never i then None else Some i
+first_way never_ends i = if gives_none never_ends i then None else Some i
 
-abbrev pub kept_if : Bool → ℕ → Indices → Indices → Conditions
-kept_if true m first i = []
-kept_if false m first i = agrees_within deepest m first i
+-- that a value is of the type of the first way as it stands; a hole in it is filled by types with one number for all items alone
+abbrev pub as_first : Types → Bool → Indices → Indices → ℕ → Fitted
+as_first types holes first i n = if value_allowed true first holes then fits types i (R.Widened first) n else never n
 
--- what is kept of the first way; nothing of one that never ends normally
-abbrev pub like_first : Place → Bool → ℕ → Indices → Indices → Walk (Unit {0})
-like_first place never_ends m first j = owe place (kept_if never_ends m first j)
+-- the first way as it is kept, its other numbers counted from here on, behind all that a later way names
+abbrev pub kept_first : Types → ℕ → Indices → ℕ → Indices
+kept_first types m first n = (met types m V.Hole first [] n).value
+
+-- that it has the numbers that are kept of the first
+abbrev pub same_numbers : Types → ℕ → Indices → Indices → ℕ → Fitted
+same_numbers types m first i n = says (agrees_within deepest n (kept_first types m first n) i) n
+
+-- where these say all of every item, and else that it is of the first's type
+abbrev pub agrees : Types → ℕ → Indices → Indices → ℕ → Fitted
+agrees types m first i n =
+    if goes_by_numbers first && goes_by_numbers i then same_numbers types m first i n else as_first types (goes_by_numbers i) first i n
+
+abbrev pub agrees_unless : Bool → Types → ℕ → Indices → Indices → ℕ → Fitted
+agrees_unless none types m first i n = if none then says [] n else agrees types m first i n
+
+-- what a later way owes of the first; nothing where it gives no value
+abbrev pub like_first : Around → Place → Bool → ℕ → Indices → Indices → Walk (Unit {0})
+like_first around place never_ends m first i = owe_fit place (agrees_unless (gives_none never_ends i) around.types m first i)
 
 -- of which no type is wanted: the widened type of the first that ends normally
 abbrev pub met_ways : Around → Place → ℕ → Shape → Option Indices → Walk Indices

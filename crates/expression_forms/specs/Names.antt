@@ -3,6 +3,8 @@ use Rattle.std.specs.Prelude.{List, None, Option, Some, length, pos, ℕ, []}
 use Rattle.sail_base.specs.declared.place.Place.{Place}
 use Rattle.sail_types.specs.Sums.{constant}
 use Rattle.sail_types.specs.declared.numbers.Con.TheVariants as C
+use Rattle.sail_types.specs.declared.shapes.Shape.TheVariants as V
+use Rattle.sail_types.specs.declared.table.Types.{Types}
 use Rattle.model_state.specs.declared.state.Register.{Register}
 use Rattle.sail_core.specs.declared.patterns.Literal.{Literal}
 use Rattle.sail_core.specs.declared.patterns.Literal.TheVariants as L
@@ -10,9 +12,12 @@ use Rattle.value_indices.specs.Opening.{opened_for}
 use Rattle.value_indices.specs.Steps.{Walk, bind, give}
 use Rattle.value_indices.specs.declared.indices.Indices.{Indices}
 use Rattle.value_indices.specs.declared.indices.Indices.TheVariants as I
+use Rattle.value_indices.specs.declared.indices.Indices.TheOpen as W
+use Rattle.value_indices.specs.declared.indices.Indices.TheOpen.{Reading-F}
 use Rattle.value_indices.specs.declared.indices.Naming.TheVariants as M
-use Rattle.value_indices.specs.declared.indices.Reading.{Reading}
+use Rattle.value_indices.specs.declared.indices.Reading.{Reading, out-Reading}
 use Rattle.value_indices.specs.declared.indices.Reading.TheVariants as R
+use Rattle.wide_types.specs.Widening.{filled}
 use Rattle.pattern_leaves.specs.declared.names.Held.{Held}
 use Rattle.pattern_leaves.specs.declared.names.Held.TheVariants as H
 use Rattle.pattern_leaves.specs.declared.names.TopLevel.{TopLevel}
@@ -38,11 +43,23 @@ held_walk place name None = wrong_value place
 held_walk place name (Some (H.Value i)) = give i
 held_walk place name (Some (H.Var r)) = named_opened place name r
 
+-- the type of a top-level `let` where it is read: a number of a type that is found names the `let`'s own variables, unless it is constant,
+-- and is any number elsewhere; a type that is written names none
+abbrev pub read_form : Types → Reading → Reading-F Indices Reading → Walk Reading
+read_form types r (W.Widened i) = filled types 0 V.Hole i
+read_form types r form = give r
+
+abbrev pub type_read : Types → Reading → Walk Reading
+type_read types r = read_form types r (out-Reading r)
+
+abbrev pub read_opened : Types → List ℕ → Reading → Walk Indices
+read_opened types name r = bind (type_read types r) (λ q. opened_for (M.Named name) q)
+
 -- a name that a top-level `let` bound
-abbrev pub top_level_walk : Place → Option TopLevel → Walk Indices
-top_level_walk place None = wrong_value place
-top_level_walk place (Some (T.Known i)) = give i
-top_level_walk place (Some (T.Read name r)) = opened_for (M.Named name) r
+abbrev pub top_level_walk : Types → Place → Option TopLevel → Walk Indices
+top_level_walk types place None = wrong_value place
+top_level_walk types place (Some (T.Known i)) = give i
+top_level_walk types place (Some (T.Read name r)) = read_opened types name r
 
 abbrev pub register_type : Register → Reading
 register_type r = R.Of r.typ [] []

@@ -1,10 +1,11 @@
 //! What forms of expressions owe and make known, but for the walk over their parts.
 //!
 //! `specs/Names` has literals and names that are read, `specs/Sizes` `sizeof` and `constraint`, `specs/Truths` conditions, `specs/Ways` ways
-//! into values, `specs/Meeting` where branches meet, `specs/Spots` what is assigned to, `specs/Scopes` the names in scope,
-//! `specs/Nodes` the end of a node.
+//! into values, `specs/Meeting` where branches meet, `specs/Inside` what stands in types inside others, `specs/Spots` what is assigned to,
+//! `specs/Scopes` the names in scope, `specs/Nodes` the end of a node.
 #![tactic(auto)]
 
+mod inside;
 mod meeting;
 mod names;
 mod nodes;

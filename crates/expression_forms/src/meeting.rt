@@ -5,46 +5,131 @@ ghost use Rattle.pattern_leaves.specs.Settings.{around_of};
 ghost use Rattle.value_indices.specs.Walking as walk;
 ghost use Rattle.expression_forms.specs.Meeting as meeting;
 
+use crate::inside::{goes_by_numbers, is_value_allowed};
 use call_notes::{is_never, note_value};
 use pattern_leaves::Around;
 use sail_base::{Items, Place};
-use sail_types::{Con, Shape, deepest};
+use sail_types::{Shape, Types, deepest};
 use std::alloc::{AllocError, Global};
+use value_fits::{Fitted, Wanted, fits, owe_fit};
 use value_indices::{Indices, Walking};
 use wide_types::{agrees_within, met};
+
+/// Whether a way gives no value.
+fn gives_none(never_ends: bool, value: &Indices) -> bool
+    ensures { result ≡ meeting.gives_none never_ends value.now }
+{
+    never_ends || is_never(value)
+}
 
 /// A way, if it ends normally, with a value: the first one.
 pub fn first_way(never_ends: bool, value: Indices) -> Option<Indices>
     ensures { result ≡ meeting.first_way never_ends value }
 {
-    if never_ends || is_never(&value) {
+    if gives_none(never_ends, &value) {
         None
     } else {
         Some(value)
     }
 }
 
-/// What a later way owes of the first: what is kept of it. It fails where memory is wanting, and where variables are too many.
-fn kept_if(
+/// What has to be true for a later way to be of the type of the first as it stands, in which holes may be or not. It fails where memory is
+/// wanting, and where variables are too many.
+fn as_first(
     alloc: Global,
-    never_ends: bool,
+    types: &Types,
+    holes: bool,
+    first: &Indices,
+    value: &Indices,
+    next: u32,
+) -> Result<Fitted, AllocError>
+    ensures { IfOk result (λ made. made ≡ meeting.as_first types.now holes first.now value.now next) }
+{
+    if is_value_allowed(true, holes, first) {
+        let wanted = Wanted::Widened(first);
+        fits(alloc, types, value, &wanted, next)
+    } else {
+        Fitted::never(alloc, next)
+    }
+}
+
+/// The first way as it is kept, its other numbers counted from this one on. It fails where memory is wanting, and where variables are too
+/// many.
+fn kept_first(
+    alloc: Global,
+    types: &Types,
+    before: u32,
+    first: &Indices,
+    next: u32,
+) -> Result<Indices, AllocError>
+    ensures { IfOk result (λ made. made ≡ meeting.kept_first types.now before first.now next) }
+{
+    let mut walked = Walking::new(alloc, next);
+    met(alloc, &mut walked, types, before, &Shape::Hole, first)
+}
+
+/// What has to be true for a later way to have the numbers that are kept of the first. It fails where memory is wanting, and where
+/// variables are too many.
+fn same_numbers(
+    alloc: Global,
+    types: &Types,
     before: u32,
     first: &Indices,
     value: &Indices,
-) -> Result<Items<Option<Con>>, AllocError>
-    ensures { IfOk result (λ made. made ≡ meeting.kept_if never_ends before first.now value.now) }
+    next: u32,
+) -> Result<Fitted, AllocError>
+    ensures { IfOk result (λ made. made ≡ meeting.same_numbers types.now before first.now value.now next) }
 {
-    if never_ends {
-        return Ok(Items::new(alloc));
-    }
-    agrees_within(alloc, deepest(), before, first, value)
+    let kept = kept_first(alloc, types, before, first, next)?;
+    let conditions = agrees_within(alloc, deepest(), next, &kept, value)?;
+    Ok(Fitted::says(alloc, conditions, next))
 }
 
-/// Owes, at the place of a later way, what is kept of the first; nothing where the later one never ends normally. It fails where memory
-/// is wanting, and where variables are too many.
+/// What has to be true for a later way to agree with the first: by the numbers that are kept of it, or as a whole. It fails where memory is
+/// wanting, and where variables are too many.
+fn agrees(
+    alloc: Global,
+    types: &Types,
+    before: u32,
+    first: &Indices,
+    value: &Indices,
+    next: u32,
+) -> Result<Fitted, AllocError>
+    ensures { IfOk result (λ made. made ≡ meeting.agrees types.now before first.now value.now next) }
+{
+    let by_numbers = goes_by_numbers(value);
+    if goes_by_numbers(first) && by_numbers {
+        same_numbers(alloc, types, before, first, value, next)
+    } else {
+        as_first(alloc, types, by_numbers, first, value, next)
+    }
+}
+
+/// The same, unless there is nothing to agree. It fails where memory is wanting, and where variables are too many.
+fn agrees_unless(
+    alloc: Global,
+    none: bool,
+    types: &Types,
+    before: u32,
+    first: &Indices,
+    value: &Indices,
+    next: u32,
+) -> Result<Fitted, AllocError>
+    ensures { IfOk result (λ made. made ≡ meeting.agrees_unless none types.now before first.now value.now next) }
+{
+    if none {
+        return Ok(Fitted::nothing(alloc, next));
+    }
+    agrees(alloc, types, before, first, value, next)
+}
+
+/// Owes, at the place of a later way, that it agrees with the first; nothing where the later one gives no value. It fails where memory is
+/// wanting, and where variables are too many.
+#[tactic(auto, using(value_fits::proofs::Owed::owed))]
 pub fn like_first(
     alloc: Global,
     walking: &mut Walking,
+    around: &Around<'_>,
     place: Place,
     never_ends: bool,
     before: u32,
@@ -52,10 +137,19 @@ pub fn like_first(
     value: &Indices,
 ) -> Result<(), AllocError>
     ensures { OnOk result (walk.seen walking.new
-        ≡ walk.run (meeting.like_first place never_ends before first.now value.now) (walk.seen walking.old)) }
+        ≡ walk.run (meeting.like_first (around_of around.now) place never_ends before first.now value.now) (walk.seen walking.old)) }
 {
-    let conditions = kept_if(alloc, never_ends, before, first, value)?;
-    walking.owe(alloc, place, conditions)
+    let none = gives_none(never_ends, value);
+    let made = agrees_unless(
+        alloc,
+        none,
+        around.types,
+        before,
+        first,
+        value,
+        walking.next(),
+    )?;
+    owe_fit(alloc, walking, place, made)
 }
 
 /// The value where ways of this shape meet of which no type is wanted, by the first that ends normally; there is none where there is

@@ -10,9 +10,10 @@ use model_state::Register;
 use pattern_leaves::{Held, TopLevel};
 use sail_base::{Items, Place, Text};
 use sail_core::Literal;
-use sail_types::{Con, Num};
+use sail_types::{Con, Num, Shape, Types};
 use std::alloc::{AllocError, Global};
-use value_indices::{Indices, Naming, Reading, Walking, copy_indices, opened_for};
+use value_indices::{Indices, Naming, Reading, Walking, copy_indices, copy_reading, opened_for};
+use wide_types::filled;
 
 /// What is known of the value of a literal. It takes no memory.
 pub fn literal_indices(alloc: Global, literal: &Literal) -> Indices
@@ -76,26 +77,61 @@ pub fn read_held(
     }
 }
 
+/// The type of a top-level `let` where it is read: any number for one of a type that is found, unless it is constant. It fails where memory
+/// is wanting, and where variables are too many.
+#[tactic(auto, using(value_indices::proofs::Walks::walks))]
+fn type_read(
+    alloc: Global,
+    walking: &mut Walking,
+    types: &Types,
+    reading: &Reading,
+) -> Result<Reading, AllocError>
+    ensures value { IfOk result (λ made. made ≡ walk.got (names.type_read types.now reading.now) (walk.seen walking.old)) }
+    ensures walked { OnOk result (walk.seen walking.new ≡ walk.run (names.type_read types.now reading.now) (walk.seen walking.old)) }
+{
+    match reading {
+        Reading::Widened(indices) => {
+            filled(alloc, walking, types, 0, &Shape::Hole, indices.get())
+        }
+        _ => copy_reading(alloc, reading),
+    }
+}
+
+/// A value of the type of a top-level `let`, opened for its name. It fails where memory is wanting, and where variables are too many.
+#[tactic(auto, using(value_indices::proofs::Walks::walks))]
+fn read_opened(
+    alloc: Global,
+    walking: &mut Walking,
+    types: &Types,
+    name: &Text,
+    reading: &Reading,
+) -> Result<Indices, AllocError>
+    ensures value { IfOk result (λ made. made ≡ walk.got (names.read_opened types.now name.now reading.now) (walk.seen walking.old)) }
+    ensures walked { OnOk result (walk.seen walking.new ≡ walk.run (names.read_opened types.now name.now reading.now) (walk.seen walking.old)) }
+{
+    let reading = type_read(alloc, walking, types, reading)?;
+    let naming = named(name)?;
+    opened_for(alloc, walking, &naming, &reading)
+}
+
 /// A name that a top-level `let` bound. It fails where memory is wanting, and where variables are too many.
 #[tactic(auto, using(value_indices::proofs::Walks::walks))]
 pub fn read_top_level(
     alloc: Global,
     walking: &mut Walking,
+    types: &Types,
     place: Place,
     bound: Option<&TopLevel>,
 ) -> Result<Indices, AllocError>
     ensures value { IfOk result (λ made. made
-        ≡ walk.got (names.top_level_walk place (option_copied bound.entry)) (walk.seen walking.old)) }
+        ≡ walk.got (names.top_level_walk types.now place (option_copied bound.entry)) (walk.seen walking.old)) }
     ensures walked { OnOk result (walk.seen walking.new
-        ≡ walk.run (names.top_level_walk place (option_copied bound.entry)) (walk.seen walking.old)) }
+        ≡ walk.run (names.top_level_walk types.now place (option_copied bound.entry)) (walk.seen walking.old)) }
 {
     match bound {
         None => wrong_value(alloc, walking, place),
         Some(TopLevel::Known(value)) => copy_indices(alloc, value),
-        Some(TopLevel::Read(name, reading)) => {
-            let naming = named(name)?;
-            opened_for(alloc, walking, &naming, reading)
-        }
+        Some(TopLevel::Read(name, reading)) => { read_opened(alloc, walking, types, name, reading) }
     }
 }
 

@@ -79,10 +79,10 @@ module _ (around : Around) (scope : Scope) (c : Core) (met : Option Con) (v w : 
 
 module _ (is_free : Bool) (m : ℕ) (around : Around) (scope : Scope) (aim : Aim) (ws : List Way) where
   abbrev from : ℕ → Option Indices → Walk (Option Indices)
-  from k first = each_way is_free m (ways_seen around scope aim (drop k ws)) first
+  from k first = each_way around is_free m (ways_seen around scope aim (drop k ws)) first
 
   abbrev one : Way → Option Indices → Walk (Option Indices)
-  one way first = one_way is_free m (way_seen around scope aim way) first
+  one way first = one_way around is_free m (way_seen around scope aim way) first
 
   pub ways_onward : (first now : Option Indices) (k : ℕ) (way : Way) (v u : Written) → k < length ws → way ≡ get_or ws k way
       → now ≡ got (one way first) v → u ≡ run (one way first) v
@@ -95,7 +95,7 @@ module _ (is_free : Bool) (m : ℕ) (around : Around) (scope : Scope) (aim : Aim
   module _ (place : Place) (shape : Shape) (free : is_free ≡ is_none (wanted aim)) (first shown : Option Indices) (k : ℕ) (v w : Written)
       (next : m ≡ v.next) (past : length ws ≤ k) (same : shown ≡ first) where
     abbrev all : Walk (Option Indices)
-    all = each_way is_free m (ways_seen around scope aim ws) None
+    all = each_way around is_free m (ways_seen around scope aim ws) None
 
     abbrev met : Walk Indices
     met = met_value around place shape (wanted aim) m shown

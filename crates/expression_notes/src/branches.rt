@@ -37,10 +37,10 @@ fn walk_branch(
     before: u32,
     first: Option<Indices>,
 ) -> Result<Option<Indices>, AllocError>
-    ensures value { IfOk result (λ made. made ≡ walk.got (statement_spec.one_way is_free before (coded.way_seen (around_of around.now)
-        (scope_of scope.now) aim.now way.now) first) (walk.seen walking.old)) }
-    ensures walked { OnOk result (walk.seen walking.new ≡ walk.run (statement_spec.one_way is_free before (coded.way_seen (around_of around.now)
-        (scope_of scope.now) aim.now way.now) first) (walk.seen walking.old)) }
+    ensures value { IfOk result (λ made. made ≡ walk.got (statement_spec.one_way (around_of around.now) is_free before
+        (coded.way_seen (around_of around.now) (scope_of scope.now) aim.now way.now) first) (walk.seen walking.old)) }
+    ensures walked { OnOk result (walk.seen walking.new ≡ walk.run (statement_spec.one_way (around_of around.now) is_free before
+        (coded.way_seen (around_of around.now) (scope_of scope.now) aim.now way.now) first) (walk.seen walking.old)) }
 {
     walking.remember()?;
     let found = open_way(alloc, walking, around, way)?;
@@ -48,7 +48,7 @@ fn walk_branch(
     let aim = aim.branch(alloc)?;
     let core = way.core();
     let value = walk_expression(alloc, walking, around, &inside, core, &aim)?;
-    end_way(alloc, walking, core, is_free, before, first, value)
+    end_way(alloc, walking, around, core, is_free, before, first, value)
 }
 
 /// The value of ways of this shape: with a wanted type that type, opened; else the widened type of the first that ends normally. It fails

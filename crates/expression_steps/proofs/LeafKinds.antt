@@ -36,8 +36,8 @@ module _ (place : Place) (kind : Kind) (cs : List Core) (around : Around) (scope
       alone_run (leaf_walk place kind (each_part cs) around scope) (literal_indices literal) w (as_kind (K.Constant literal) is)
 
   pub top_level_is : (i : ℕ) (found : Option TopLevel) → kind ≡ K.TopLevel i → found ≡ slice_get around.lets i
-      → top_level_walk place found ≡ leaf_walk place kind (each_part cs) around scope
-  top_level_is i found is there = ap (λ (o : Option TopLevel). top_level_walk place o) there ∙ sym (as_kind (K.TopLevel i) is)
+      → top_level_walk around.types place found ≡ leaf_walk place kind (each_part cs) around scope
+  top_level_is i found is there = ap (λ (o : Option TopLevel). top_level_walk around.types place o) there ∙ sym (as_kind (K.TopLevel i) is)
 
   pub register_is : (r : ℕ) (found : Option Register) → kind ≡ K.Register r → found ≡ slice_get around.registers r
       → register_walk place found ≡ leaf_walk place kind (each_part cs) around scope

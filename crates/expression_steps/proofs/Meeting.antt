@@ -89,7 +89,7 @@ module _ (is_free : Bool) (m : ℕ) (around : Around) (scope : Scope) (aim : Aim
   place_so = (way_seen around scope aim way).place
 
   abbrev owes_so : Indices → Walk (Unit {0})
-  owes_so i = owed_of_first is_free place_so never_so m first i
+  owes_so i = owed_of_first around is_free place_so never_so m first i
 
   module _ (w1 w2 : Written) (core : Core) (inside : Scope) (given : Aim) (o : Opened around scope aim way w1 w2 core inside given) where
     value_got : got ((part core).walk around inside given) w2 ≡ got walk_so w1
@@ -108,41 +108,42 @@ module _ (is_free : Bool) (m : ℕ) (around : Around) (scope : Scope) (aim : Aim
     placed : (part core).place ≡ place_so
     placed = ap (λ (c : Core). (part c).place) o.whose ∙ sym (way_place around scope aim way)
 
-    behind_got : (i : Indices) → i ≡ got walk_so w1 → i ≡ got (way_behind is_free m seen_so first) w1
+    behind_got : (i : Indices) → i ≡ got walk_so w1 → i ≡ got (way_behind around is_free m seen_so first) w1
     behind_got i value =
         value ∙ sym (got_bind walk_so (λ j. bind (owes_so j) (λ t. give j)) w1
         ∙ got_bind (owes_so (got walk_so w1)) (λ t. give (got walk_so w1)) (run walk_so w1)
         ∙ got_give (got walk_so w1) (run (owes_so (got walk_so w1)) (run walk_so w1)))
 
     behind_run : (i : Indices) (w3 : Written) → i ≡ got walk_so w1 → w3 ≡ run walk_so w1
-        → run (owed_of_first is_free (part core).place (part core).never_ends m first i) w3 ≡ run (way_behind is_free m seen_so first) w1
+        → run (owed_of_first around is_free (part core).place (part core).never_ends m first i) w3 ≡ run (way_behind around is_free m seen_so first) w1
     behind_run i w3 value was =
-        (λ j. run (owed_of_first is_free (placed j) (ending j) m first (value j)) (was j))
+        (λ j. run (owed_of_first around is_free (placed j) (ending j) m first (value j)) (was j))
         ∙ made_run (owes_so (got walk_so w1)) (λ t. got walk_so w1) (run walk_so w1) (run (owes_so (got walk_so w1)) (run walk_so w1)) refl
         ∙ sym (run_bind walk_so (λ j. bind (owes_so j) (λ t. give j)) w1)
 
     module _ (i : Indices) (v w3 : Written) (one : w1 ≡ remembering v) (is : i ≡ got ((part core).walk around inside given) w2)
         (was : w3 ≡ run ((part core).walk around inside given) w2) where
-      pub way_got : first_behind is_free (part core).never_ends first i ≡ got (one_way is_free m seen_so first) v
+      pub way_got : first_behind is_free (part core).never_ends first i ≡ got (one_way around is_free m seen_so first) v
       way_got =
           ap (λ (b : Bool). first_behind is_free b first i) ending
-          ∙ made_got (scoped (way_behind is_free m seen_so first)) (first_behind is_free never_so first) v i
-          (scoped_got (way_behind is_free m seen_so first) v w1 i one (behind_got i (is ∙ value_got)))
+          ∙ made_got (scoped (way_behind around is_free m seen_so first)) (first_behind is_free never_so first) v i
+          (scoped_got (way_behind around is_free m seen_so first) v w1 i one (behind_got i (is ∙ value_got)))
 
-      pub way_run : restored (run (owed_of_first is_free (part core).place (part core).never_ends m first i) w3) ≡ run (one_way is_free m seen_so first) v
+      pub way_run : restored (run (owed_of_first around is_free (part core).place (part core).never_ends m first i) w3)
+          ≡ run (one_way around is_free m seen_so first) v
       way_run =
-          let last = run (owed_of_first is_free (part core).place (part core).never_ends m first i) w3 in
-          made_run (scoped (way_behind is_free m seen_so first)) (first_behind is_free never_so first) v (restored last)
-          (scoped_run (way_behind is_free m seen_so first) v w1 last (restored last) one (behind_run i w3 (is ∙ value_got) (was ∙ value_run)) refl)
+          let last = run (owed_of_first around is_free (part core).place (part core).never_ends m first i) w3 in
+          made_run (scoped (way_behind around is_free m seen_so first)) (first_behind is_free never_so first) v (restored last)
+          (scoped_run (way_behind around is_free m seen_so first) v w1 last (restored last) one (behind_run i w3 (is ∙ value_got) (was ∙ value_run)) refl)
 
 -- ---- several of them
 
 module _ (is_free : Bool) (m : ℕ) (around : Around) (scope : Scope) (aim : Aim) (ws : List Way) where
   abbrev from : ℕ → Option Indices → Walk (Option Indices)
-  from k first = each_way is_free m (ways_seen around scope aim (drop k ws)) first
+  from k first = each_way around is_free m (ways_seen around scope aim (drop k ws)) first
 
   abbrev one_so : Way → Option Indices → Walk (Option Indices)
-  one_so w first = one_way is_free m (way_seen around scope aim w) first
+  one_so w first = one_way around is_free m (way_seen around scope aim w) first
 
   pub ways_step : (first now : Option Indices) (k : ℕ) (w : Way) (v u : Written) → k < length ws → w ≡ get_or ws k w
       → now ≡ got (one_so w first) v → u ≡ run (one_so w first) v → got (from (k + 1) now) u ≡ got (from k first) v
@@ -165,16 +166,16 @@ module _ (is_free : Bool) (m : ℕ) (around : Around) (scope : Scope) (aim : Aim
 -- ---- the value of ways
 
 module _ (around : Around) (place : Place) (shape : Shape) (r : Option Reading) (ws : List Meeting) (is_free : Bool) (free : is_free ≡ is_none r)
-    (m : ℕ) (first shown : Option Indices) (v w : Written) (next : m ≡ v.next) (found : first ≡ got (each_way is_free m ws None) v)
-    (was : w ≡ run (each_way is_free m ws None) v) (same : shown ≡ first) where
+    (m : ℕ) (first shown : Option Indices) (v w : Written) (next : m ≡ v.next) (found : first ≡ got (each_way around is_free m ws None) v)
+    (was : w ≡ run (each_way around is_free m ws None) v) (same : shown ≡ first) where
   abbrev all_so : Walk (Option Indices)
-  all_so = each_way (is_none r) m ws None
+  all_so = each_way around (is_none r) m ws None
 
   all_got : shown ≡ got all_so v
-  all_got = same ∙ found ∙ ap (λ (b : Bool). got (each_way b m ws None) v) free
+  all_got = same ∙ found ∙ ap (λ (b : Bool). got (each_way around b m ws None) v) free
 
   all_run : w ≡ run all_so v
-  all_run = was ∙ ap (λ (b : Bool). run (each_way b m ws None) v) free
+  all_run = was ∙ ap (λ (b : Bool). run (each_way around b m ws None) v) free
 
   pub meeting_got : got (met_value around place shape r m shown) w ≡ got (meeting around place shape r ws) v
   meeting_got =

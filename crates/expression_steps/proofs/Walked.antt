@@ -86,14 +86,14 @@ suffixes_end ss around scope parts i k past = (λ j. suffixes_walk (all_behind s
 
 pub ways_more : (is_free : Bool) (m : ℕ) (around : Around) (scope : Scope) (aim : Aim) (ws : List Way) (first : Option Indices) (k : ℕ) (w : Way)
     → k < length ws → w ≡ get_or ws k w
-    → each_way is_free m (ways_seen around scope aim (drop k ws)) first
-    ≡ bind (one_way is_free m (way_seen around scope aim w) first) (each_way is_free m (ways_seen around scope aim (drop (k + 1) ws)))
+    → each_way around is_free m (ways_seen around scope aim (drop k ws)) first
+    ≡ bind (one_way around is_free m (way_seen around scope aim w) first) (each_way around is_free m (ways_seen around scope aim (drop (k + 1) ws)))
 ways_more is_free m around scope aim ws first k w within is =
-    (λ j. each_way is_free m (ways_seen around scope aim (rest_is ws k w within is j)) first)
+    (λ j. each_way around is_free m (ways_seen around scope aim (rest_is ws k w within is j)) first)
 
 pub ways_end : (is_free : Bool) (m : ℕ) (around : Around) (scope : Scope) (aim : Aim) (ws : List Way) (first : Option Indices) (k : ℕ)
-    → length ws ≤ k → each_way is_free m (ways_seen around scope aim (drop k ws)) first ≡ give first
-ways_end is_free m around scope aim ws first k past = (λ j. each_way is_free m (ways_seen around scope aim (all_behind ws k past j)) first)
+    → length ws ≤ k → each_way around is_free m (ways_seen around scope aim (drop k ws)) first ≡ give first
+ways_end is_free m around scope aim ws first k past = (λ j. each_way around is_free m (ways_seen around scope aim (all_behind ws k past j)) first)
 
 -- ---- what a way is, by its part
 

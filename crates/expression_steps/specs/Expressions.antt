@@ -87,7 +87,7 @@ abbrev pub leaf_form : Place → Kind → Around → Scope → Walk Indices
 leaf_form place (K.Constant literal) around scope = give (literal_indices literal)
 leaf_form place (K.Local name) around scope = held_walk place name (held_in name scope)
 leaf_form place (K.Variable name) around scope = held_walk place name (held_in name scope)
-leaf_form place (K.TopLevel i) around scope = top_level_walk place (slice_get around.lets i)
+leaf_form place (K.TopLevel i) around scope = top_level_walk around.types place (slice_get around.lets i)
 leaf_form place (K.Register r) around scope = register_walk place (slice_get around.registers r)
 leaf_form place (K.SizeOf t numbers) around scope = size_walk place t numbers around
 leaf_form place (K.Constraint c numbers) around scope = constraint_walk c numbers around
@@ -115,7 +115,7 @@ abbrev pub parted : Place → Kind → List Part → Walking
 parted place K.And parts around scope aim = two place (λ a b. and_walk a b around scope) parts
 parted place K.Or parts around scope aim = two place (λ a b. or_walk a b around scope) parts
 parted place (K.Vector shape) items around scope aim = vector_walk place shape items around scope aim
-parted place (K.List shape) items around scope aim = list_walk shape items around scope aim
+parted place (K.List shape) items around scope aim = list_walk place shape items around scope aim
 parted place (K.With u fields) parts around scope aim = led place (λ a values. with_walk place u fields a values around scope) parts
 parted place (K.Part suffixes) parts around scope aim = part_forms suffixes parts around scope
 parted place K.WithItem parts around scope aim = update_forms place Y.Item parts around scope

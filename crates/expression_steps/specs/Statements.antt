@@ -74,21 +74,21 @@ abbrev pub first_behind : Bool → Bool → Option Indices → Indices → Optio
 first_behind is_free never_ends None i = if is_free then first_way never_ends i else None
 first_behind is_free never_ends (Some first) i = Some first
 
--- what a way owes of the first one: what is kept of it
-abbrev pub owed_of_first : Bool → Place → Bool → ℕ → Option Indices → Indices → Walk (Unit {0})
-owed_of_first true place never_ends m (Some first) i = like_first place never_ends m first i
-owed_of_first is_free place never_ends m first i = give tt
+-- what a way owes of the first one
+abbrev pub owed_of_first : Around → Bool → Place → Bool → ℕ → Option Indices → Indices → Walk (Unit {0})
+owed_of_first around true place never_ends m (Some first) i = like_first around place never_ends m first i
+owed_of_first around is_free place never_ends m first i = give tt
 
-abbrev pub way_behind : Bool → ℕ → Way → Option Indices → Walk Indices
-way_behind is_free m w first = bind w.walk (λ i. bind (owed_of_first is_free w.place w.never_ends m first i) (λ t. give i))
+abbrev pub way_behind : Around → Bool → ℕ → Way → Option Indices → Walk Indices
+way_behind around is_free m w first = bind w.walk (λ i. bind (owed_of_first around is_free w.place w.never_ends m first i) (λ t. give i))
 
 -- a way, with an end of its own
-abbrev pub one_way : Bool → ℕ → Way → Option Indices → Walk (Option Indices)
-one_way is_free m w first = bind (scoped (way_behind is_free m w first)) (λ i. give (first_behind is_free w.never_ends first i))
+abbrev pub one_way : Around → Bool → ℕ → Way → Option Indices → Walk (Option Indices)
+one_way around is_free m w first = bind (scoped (way_behind around is_free m w first)) (λ i. give (first_behind is_free w.never_ends first i))
 
-abbrev pub each_way : Bool → ℕ → List Way → Option Indices → Walk (Option Indices)
-each_way is_free m [] first = give first
-each_way is_free m (w ∷ ws) first = bind (one_way is_free m w first) (each_way is_free m ws)
+abbrev pub each_way : Around → Bool → ℕ → List Way → Option Indices → Walk (Option Indices)
+each_way around is_free m [] first = give first
+each_way around is_free m (w ∷ ws) first = bind (one_way around is_free m w first) (each_way around is_free m ws)
 
 -- with a wanted type that type, opened; else the widened type of the first way that ends normally
 abbrev pub met_value : Around → Place → Shape → Option Reading → ℕ → Option Indices → Walk Indices
@@ -96,7 +96,7 @@ met_value around place shape None m first = met_ways around place m shape first
 met_value around place shape (Some r) m first = opened_at place r
 
 abbrev pub meeting_from : Around → Place → Shape → Option Reading → List Way → ℕ → Walk Indices
-meeting_from around place shape r ws m = bind (each_way (is_none r) m ws None) (met_value around place shape r m)
+meeting_from around place shape r ws m = bind (each_way around (is_none r) m ws None) (met_value around place shape r m)
 
 -- the value of ways, of which this type is wanted
 abbrev pub meeting : Around → Place → Shape → Option Reading → List Way → Walk Indices

@@ -96,12 +96,15 @@ abbrev pub vector_walk : Place → Shape → List Part → Around → Scope → 
 vector_walk place shape items around scope aim =
     bind (items_walk items around scope shape (wanted_item aim)) (sized_vector place (constant (pos (length items))))
 
-abbrev pub list_walk : Shape → List Part → Around → Scope → Aim → Walk Indices
-list_walk shape items around scope aim = bind (items_walk items around scope shape (wanted_item aim)) (λ r. give (I.List r))
+abbrev pub sized_list : Place → Reading → Walk Indices
+sized_list place r = bind (sized place (I.List r)) (λ t. give (I.List r))
+
+abbrev pub list_walk : Place → Shape → List Part → Around → Scope → Aim → Walk Indices
+list_walk place shape items around scope aim = bind (items_walk items around scope shape (wanted_item aim)) (sized_list place)
 
 -- one of the two
 abbrev pub row_of : Place → Bool → Num → Reading → Walk Indices
-row_of place is_list n r = if is_list then give (I.List r) else sized_vector place n r
+row_of place is_list n r = if is_list then sized_list place r else sized_vector place n r
 
 abbrev pub row_walk : Place → Bool → Shape → List Part → Around → Scope → Aim → Walk Indices
 row_walk place is_list shape items around scope aim =

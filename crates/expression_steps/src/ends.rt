@@ -71,7 +71,7 @@ pub fn owe_item(
     owe_value(alloc, walking, around.types, place, value, &wanted)
 }
 
-/// A vector of so many items of this type; its size is noted. It fails where memory is wanting.
+/// A vector of so many items of this type; its sizes are noted. It fails where memory is wanting.
 #[tactic(auto, using(value_indices::proofs::Walks::walks))]
 fn sized_vector(
     alloc: Global,
@@ -98,7 +98,23 @@ pub(crate) fn list_of(alloc: Global, reading: Reading) -> Result<Indices, AllocE
     Ok(Indices::List(Boxed::new(alloc, reading)?))
 }
 
-/// A vector of so many items of this type, whose size is noted, or a list of them. It fails where memory is wanting.
+/// A list of items of this type; its sizes are noted. It fails where memory is wanting.
+#[tactic(auto, using(value_indices::proofs::Walks::walks))]
+fn sized_list(
+    alloc: Global,
+    walking: &mut Walking,
+    place: Place,
+    reading: Reading,
+) -> Result<Indices, AllocError>
+    ensures value { IfOk result (λ made. made ≡ walk.got (value_spec.sized_list place reading) (walk.seen walking.old)) }
+    ensures walked { OnOk result (walk.seen walking.new ≡ walk.run (value_spec.sized_list place reading) (walk.seen walking.old)) }
+{
+    let value = list_of(alloc, reading)?;
+    note_value(alloc, walking, place, &value)?;
+    Ok(value)
+}
+
+/// A vector of so many items of this type, or a list of them, whose sizes are noted. It fails where memory is wanting.
 #[tactic(auto, using(value_indices::proofs::Walks::walks))]
 pub fn row_of(
     alloc: Global,
@@ -114,7 +130,7 @@ pub fn row_of(
         ≡ walk.run (value_spec.row_of place is_list (constant (pos count)) reading) (walk.seen walking.old)) }
 {
     if is_list {
-        list_of(alloc, reading)
+        sized_list(alloc, walking, place, reading)
     } else {
         sized_vector(alloc, walking, place, count, reading)
     }

@@ -44,7 +44,13 @@ pub(crate) fn leaf(
             read_held(alloc, walking, place, name, look_up(name.as_str(), scope))
         }
         Kind::TopLevel(index) => {
-            read_top_level(alloc, walking, place, around.lets.get(*index as usize))
+            read_top_level(
+                alloc,
+                walking,
+                around.types,
+                place,
+                around.lets.get(*index as usize),
+            )
         }
         Kind::Register(index) => {
             read_register(alloc, walking, place, around.registers.get(*index as usize))

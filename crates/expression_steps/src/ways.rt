@@ -165,19 +165,20 @@ fn first_behind(
     }
 }
 
-/// Owes what is kept of the first way, where no type is wanted. It fails where memory is wanting, and where variables are too many.
+/// Owes what a way has to be like the first, where no type is wanted. It fails where memory is wanting, and where variables are too many.
 #[tactic(auto, using(value_indices::proofs::Walks::walks))]
 fn owe_first(
     alloc: Global,
     walking: &mut Walking,
+    around: &Around<'_>,
     core: &Core,
     is_free: bool,
     before: u32,
     first: Option<&Indices>,
     value: &Indices,
 ) -> Result<(), AllocError>
-    ensures { OnOk result (walk.seen walking.new ≡ walk.run (statement_spec.owed_of_first is_free (Part.place (part core.now))
-        (Part.never_ends (part core.now)) before (option_copied first.entry) value.now) (walk.seen walking.old)) }
+    ensures { OnOk result (walk.seen walking.new ≡ walk.run (statement_spec.owed_of_first (around_of around.now) is_free (Part.place
+        (part core.now)) (Part.never_ends (part core.now)) before (option_copied first.entry) value.now) (walk.seen walking.old)) }
 {
     if is_free {
         match first {
@@ -185,6 +186,7 @@ fn owe_first(
             Some(first) => like_first(
                 alloc,
                 walking,
+                around,
                 place_of(core),
                 never_ends(core),
                 before,
@@ -202,6 +204,7 @@ fn owe_first(
 pub fn end_way(
     alloc: Global,
     walking: &mut Walking,
+    around: &Around<'_>,
     core: &Core,
     is_free: bool,
     before: u32,
@@ -209,12 +212,13 @@ pub fn end_way(
     value: Indices,
 ) -> Result<Option<Indices>, AllocError>
     ensures value { IfOk result (λ made. made ≡ statement_spec.first_behind is_free (Part.never_ends (part core.now)) first value) }
-    ensures walked { OnOk result (walk.seen walking.new ≡ walk.restored (walk.run (statement_spec.owed_of_first is_free (Part.place (part core.now))
-        (Part.never_ends (part core.now)) before first value) (walk.seen walking.old))) }
+    ensures walked { OnOk result (walk.seen walking.new ≡ walk.restored (walk.run (statement_spec.owed_of_first (around_of around.now) is_free
+        (Part.place (part core.now)) (Part.never_ends (part core.now)) before first value) (walk.seen walking.old))) }
 {
     owe_first(
         alloc,
         walking,
+        around,
         core,
         is_free,
         before,

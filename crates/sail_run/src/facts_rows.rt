@@ -59,6 +59,24 @@ val f : bool -> bit
 function f(c) = (if c then (let a = 1 in throw(Worse())) else 0x12)[9]
 # true
 # 1 M20 1:3:68
+% check M // items of types that bind a variable are of the first way's type
+val f : bool -> bits(16)
+function f(c) = {
+  let a : list({'n, 'n in {8, 16}. bits('n)}) = [| 0x00 |];
+  let b : list(bits(32)) = [| 0x00000000 |];
+  match (match c { true => a, _ => b }) { x :: _ => zero_extend(16, x), _ => 0x0000 }
+}
+# true
+# 1 M20 1:5:36
+% check M
+val f : bool -> bits(16)
+function f(c) = {
+  let a : list({'n, 'n in {8, 16}. bits('n)}) = [| 0x00 |];
+  let b : list({'n, 'n in {8, 16}. bits('n)}) = [| 0x0000, 0x00 |];
+  match (match c { true => a, _ => b }) { x :: _ => zero_extend(16, x), _ => 0x0000 }
+}
+# true
+# 0 accepted 3 functions 9 obligations
 % check M // a number that is given under a binder is owed by later places
 val f : forall 'n, 0 <= 'n & 'n < 8. ({'m, 0 <= 'm. (int('m), int('n))}, int('n)) -> bit
 function f(p, n) = 0x12[n]
@@ -69,6 +87,30 @@ val f : forall 'n, 0 <= 'n & 'n < 8. ({'m, 0 <= 'm. (int('m), int('n))}, int('n)
 function f(p, n) = 0x12[n]
 # f((1, 2), 2) == bitone
 # 0 accepted 3 functions 2 obligations
+% check M // a Type variable takes its type from a place that leaves no hole in it
+val f : forall ('a : Type). (list('a), 'a) -> 'a
+function f(l, x) = x
+# 0x12[f([||], 300)] == bitone
+# 1 M20 1:6:23 #1 = -85070591730234615865843651857942052864
+% check M
+val f : forall ('a : Type). (list('a), 'a) -> 'a
+function f(l, x) = x
+# f([||], 300) == 300
+# 0 accepted 3 functions 1 obligations
+% check M
+union two('a : Type) = { Two : (list('a), 'a) }
+# match Two([||], 300) { Two(l, x) => 0x12[x] == bitone }
+# 1 M20 1:5:59 x = -85070591730234615865843651857942052864
+% check M // where every place leaves a hole, nothing that another place has there is of it
+val f : forall ('a : Type). ('a, 'a) -> 'a
+function f(x, y) = y
+# { let p = f(([||], [| bitone |]), ([| bitone |], [||])); true }
+# 1 M20 1:6:29
+% check M
+val f : forall ('a : Type). (list('a), 'a) -> 'a
+function f(l, x) = x
+# { let l : list(bit) = f([||], [||]); true }
+# 0 accepted 3 functions 0 obligations
 % check M // a guard, in its case; an integer literal in a case's pattern
 val f : range(0, 9) -> bit
 function f(i) = match i { n if n < 8 => 0x12[n], _ => bitzero }
@@ -248,6 +290,12 @@ val f : unit -> range(0, 5)
 function f() = n
 # true
 # 0 accepted 3 functions 3 obligations
+% check M // and the width of that type is any width elsewhere, unless it is constant
+let z = zeros((if 1 == 1 then 4 else 8) : range(4, 8))
+val g : forall 'n, 'n == 100. int('n) -> bit
+function g(n) = z[50]
+# g(100) == bitone
+# 1 M20 1:3:18 #1 = 0
 % check M // exponents where they are written, sizes at their word
 val f : forall 'n, 0 <= 'n. (int('n), bits(2 ^ 'n)) -> unit
 function f(n, x) = ()

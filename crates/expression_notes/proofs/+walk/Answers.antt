@@ -65,10 +65,8 @@ use Rattle.expression_notes.proofs.FewParts.{few_alike, many_alike}
 pub expressions::walk_expression-returns-in_ok-value : goal.expressions::walk_expression-returns-in_ok-value
 expressions::walk_expression-returns-in_ok-value t c = let around = around_of c.args.around.now in let scope = scope_of c.args.scope.now in
     let aim = c.args.aim.now in let opens = inward_is _ _ around scope aim c.as_slice.ensures (sym c.goes_inward.ensures ∙ c.if-goes_inward.true) in
-    record {
-      value = then_got_in _ (λ (i : Indices). i) _ _ _ _ _ _ opens c.in_ok-value.ensures.value c.in_ok-value.ensures.walked c.made_at.ensures.value;
-      walked = then_run_in _ _ _ _ _ _ _ _ opens c.in_ok-value.ensures.value c.in_ok-value.ensures.walked c.made_at.ensures.walked;
-    }
+    let is = c.in_ok-value.ensures.value in let was = c.in_ok-value.ensures.walked in let by = c.made_at.ensures in
+    record { value = then_got_in _ (λ (i : Indices). i) _ _ _ _ _ _ opens is was by.value; walked = then_run_in _ _ _ _ _ _ _ _ opens is was by.walked }
 
 pub expressions::walk_expression-returns-in_ok-ended : goal.expressions::walk_expression-returns-in_ok-ended
 expressions::walk_expression-returns-in_ok-ended t c = let around = around_of c.args.around.now in let scope = scope_of c.args.scope.now in
@@ -76,10 +74,8 @@ expressions::walk_expression-returns-in_ok-ended t c = let around = around_of c.
     let opens = plain_is _ _ around scope aim c.as_slice-else-goes_inward.ensures (sym c.goes_inward.ensures ∙ c.if-goes_inward.false) in
     let is = c.in_ok-ended.ensures.value ∙ then_got _ settles _ _ _ c.in_ok-plain.ensures.value c.in_ok-plain.ensures.walked in
     let was = c.in_ok-ended.ensures.walked ∙ then_run _ settles _ _ _ c.in_ok-plain.ensures.value c.in_ok-plain.ensures.walked in
-    record {
-      value = then_got_in _ (λ (i : Indices). i) _ _ _ _ _ _ opens is was c.made_at-else-goes_inward.ensures.value;
-      walked = then_run_in _ _ _ _ _ _ _ _ opens is was c.made_at-else-goes_inward.ensures.walked;
-    }
+    let by = c.made_at-else-goes_inward.ensures in
+    record { value = then_got_in _ (λ (i : Indices). i) _ _ _ _ _ _ opens is was by.value; walked = then_run_in _ _ _ _ _ _ _ _ opens is was by.walked }
 
 pub parts::walk_each-loop-index-preserved : goal.parts::walk_each-loop-index-preserved
 parts::walk_each-loop-index-preserved t c = let around = around_of c.args.around.now in let scope = scope_of c.args.scope.now in let aims = c.args.aims.now in
@@ -89,18 +85,14 @@ parts::walk_each-loop-index-preserved t c = let around = around_of c.args.around
     let is : c.in_ok-walk_expression.field-0 ≡ got first v = c.in_ok-walk_expression.ensures.value ∙ ap (λ (o : Aim). got ((part a).walk around scope o) v)
     c.aim_at-aim.ensures in
     let was : w ≡ run first v = c.in_ok-walk_expression.ensures.walked ∙ ap (λ (o : Aim). run ((part a).walk around scope o) v) c.aim_at-aim.ensures in
-    record {
-      value = pushed_got _ _ _ _ _ _ _ _ c.in_ok-push.ensures.pushed is was opens ∙ c.loop-index.invariant.value;
-      walked = pushed_run _ _ _ _ _ was opens ∙ c.loop-index.invariant.walked;
-    }
+    let by = c.loop-index.invariant in
+    record { value = pushed_got _ _ _ _ _ _ _ _ c.in_ok-push.ensures.pushed is was opens ∙ by.value; walked = pushed_run _ _ _ _ _ was opens ∙ by.walked }
 
 pub parts::walk_each-returns : goal.parts::walk_each-returns
 parts::walk_each-returns t c = let v = seen c.loop-index.walking in
     let ends = each_end _ (around_of c.args.around.now) (scope_of c.args.scope.now) c.args.aims.now _ c.loop-index-test.false in
-    record {
-      value = ended_by _ _ _ _ ends c.loop-index.invariant.value;
-      walked = sym (run_give {A = List Indices} [] v) ∙ ap (λ (a : Walk (List Indices)). run a v) (sym ends) ∙ c.loop-index.invariant.walked;
-    }
+    let on = c.loop-index.invariant in let none = sym (run_give {A = List Indices} [] v) in
+    record { value = ended_by _ _ _ _ ends on.value; walked = none ∙ ap (λ (a : Walk (List Indices)). run a v) (sym ends) ∙ on.walked }
 
 pub parts::walk_numbers-loop-core-preserved : goal.parts::walk_numbers-loop-core-preserved
 parts::walk_numbers-loop-core-preserved t c = let h = c.in_ok-value.ensures in let n = c.in_ok-integer_number.ensures in let a = c.core-item.result in
@@ -117,10 +109,8 @@ parts::walk_numbers-returns-in-None t c = let h = c.in_ok-value.ensures in let n
 
 pub parts::walk_numbers-returns : goal.parts::walk_numbers-returns
 parts::walk_numbers-returns t c = let around = around_of c.args.around.now in let scope = scope_of c.args.scope.now in let w = seen c.loop-core.walking in
-    record {
-      value = numbers_end around scope _ _ c.loop-core.made w c.loop-core-test.false ∙ c.loop-core.invariant.value;
-      walked = numbers_walked around scope _ _ w c.loop-core-test.false ∙ c.loop-core.invariant.walked;
-    }
+    let on = c.loop-core.invariant in let ends = c.loop-core-test.false in
+    record { value = numbers_end around scope _ _ c.loop-core.made w ends ∙ on.value; walked = numbers_walked around scope _ _ w ends ∙ on.walked }
 
 pub truths::walk_joined-returns-in_ok-restore-in-Some : goal.truths::walk_joined-returns-in_ok-restore-in-Some
 truths::walk_joined-returns-in_ok-restore-in-Some t c = let truth = c.in_ok-walk_truth-in-len2.ensures in let walked = c.in_ok-value-in-Some.ensures in
@@ -139,10 +129,8 @@ pub truths::walk_guarded-returns-in_ok-assume-in-Some : goal.truths::walk_guarde
 truths::walk_guarded-returns-in_ok-assume-in-Some t c = let truth = c.in_ok-walk_truth-in-len2.ensures in
     let same = guarded_alike (part c.guard-item.result) (part c.body-item.result) _ _ c.args.aim.now _ _ _ _ _ truth.value truth.walked c.in-Some.is
     c.in_ok-assume-in-Some.ensures in let two = two_of _ _ _ c.in-len2.len_at_least c.in-len2.len_below c.guard-item.is c.body-item.is in
-    record {
-      value = rw two (value_same _ _ _ same.value c.walk_expression.ensures.value);
-      walked = rw two (walked_same _ _ _ _ same.walked c.walk_expression.ensures.walked);
-    }
+    let by = c.walk_expression.ensures in
+    record { value = rw two (value_same _ _ _ same.value by.value); walked = rw two (walked_same _ _ _ _ same.walked by.walked) }
 
 pub truths::walk_guarded-returns-in-None : goal.truths::walk_guarded-returns-in-None
 truths::walk_guarded-returns-in-None t c = let truth = c.in_ok-walk_truth-in-len2.ensures in let b = part c.body-item.result in let aim = c.args.aim.now in
@@ -168,13 +156,11 @@ values::walk_first-returns-in-empty t c = let is = none_of _ c.in-empty.len_belo
 
 pub values::walk_first-returns-in_ok-walk_like-in-len1-up : goal.values::walk_first-returns-in_ok-walk_like-in-len1-up
 values::walk_first-returns-in_ok-walk_like-in-len1-up t c = let a = c.first-item.result in let is = first_of _ _ c.in-len1-up.len_at_least c.first-item.is in
+    let z = c.in_ok-value-in-len1-up.ensures in let r = c.in_ok-reading-in-len1-up.ensures in let owed = c.in_ok-owe_item-in-len1-up.ensures in
+    let like = c.in_ok-walk_like-in-len1-up.ensures in
     record {
-      value = rw is (items_got (part a) _ _ _ _ _ _ _ _ _ _ _ _ c.place_of.ensures c.in_ok-value-in-len1-up.ensures.value
-          c.in_ok-value-in-len1-up.ensures.walked c.in_ok-reading-in-len1-up.ensures.value c.in_ok-reading-in-len1-up.ensures.walked
-          c.in_ok-owe_item-in-len1-up.ensures c.in_ok-walk_like-in-len1-up.ensures);
-      walked = rw is (items_run (part a) _ _ _ _ _ _ _ _ _ _ _ _ c.place_of.ensures c.in_ok-value-in-len1-up.ensures.value
-          c.in_ok-value-in-len1-up.ensures.walked c.in_ok-reading-in-len1-up.ensures.value c.in_ok-reading-in-len1-up.ensures.walked
-          c.in_ok-owe_item-in-len1-up.ensures c.in_ok-walk_like-in-len1-up.ensures);
+      value = rw is (items_got (part a) _ _ _ _ _ _ _ _ _ _ _ _ c.place_of.ensures z.value z.walked r.value r.walked owed like);
+      walked = rw is (items_run (part a) _ _ _ _ _ _ _ _ _ _ _ _ c.place_of.ensures z.value z.walked r.value r.walked owed like);
     }
 
 pub values::walk_row-returns-in_ok-reading : goal.values::walk_row-returns-in_ok-reading
@@ -187,10 +173,7 @@ pub values::walk_row-returns-in_ok-walk_each : goal.values::walk_row-returns-in_
 values::walk_row-returns-in_ok-walk_each t c =
     let same = row_due c.args.place c.args.is_list c.args.shape.now _ _ _ _ _ _ _ c.in_ok-wanted.ensures _ (sym c.is_hole.ensures ∙ c.if-is_hole.false)
     (c.as_slice.ensures ∙ c.in_ok-aims.ensures) c.in_ok-walk_each.ensures.walked in
-    record {
-      value = value_same _ _ _ same.value c.row_of-else-is_hole.ensures.value;
-      walked = walked_same _ _ _ _ same.walked c.row_of-else-is_hole.ensures.walked;
-    }
+    let by = c.row_of-else-is_hole.ensures in record { value = value_same _ _ _ same.value by.value; walked = walked_same _ _ _ _ same.walked by.walked }
 
 pub made::walk_made-returns : goal.made::walk_made-returns
 made::walk_made-returns t c =
@@ -219,11 +202,8 @@ pub reading::walk_way-returns-then-left-count : goal.reading::walk_way-returns-t
 reading::walk_way-returns-then-left-count t c = let around = around_of c.args.around.now in let scope = scope_of c.args.scope.now in
     let parts = c.args.parts.now in
     let none = few_way c.args.place around scope c.args.value.now c.args.way c.args.at c.indexes_of-count.result parts c.left_at-left.result.now
-    c.left_at-left.ensures c.indexes_of-count.ensures c.if-left-count.true in
-    record {
-      value = no_way_got c.no_way.result parts c.args.place _ (seen c.args.walking.now) none c.no_way.ensures.value;
-      walked = same_run c.no_way.result (no_way c.args.place) _ _ _ none c.no_way.ensures.walked;
-    }
+    c.left_at-left.ensures c.indexes_of-count.ensures c.if-left-count.true in let by = c.no_way.ensures in let r = c.no_way.result in
+    record { value = no_way_got r parts c.args.place _ (seen c.args.walking.now) none by.value; walked = same_run r (no_way c.args.place) _ _ _ none by.walked }
 
 pub reading::walk_way-returns-in-None : goal.reading::walk_way-returns-in-None
 reading::walk_way-returns-in-None t c = let numbers = c.in_ok-walk_numbers.ensures in
@@ -237,13 +217,12 @@ reading::walk_way-returns-in-Some t c = let around = around_of c.args.around.now
     let opens = way_opens c.args.place around scope c.args.value.now c.args.way c.args.at c.indexes_of-count.result parts c.left_at-left.result.now
     c.first_parts.result.now c.left_at-left.ensures c.indexes_of-count.ensures c.if-left-count.false c.first_parts.ensures in
     let found = (λ j. Some (c.as_slice.ensures j)) ∙ sym c.in-Some.is ∙ c.in_ok-walk_numbers.ensures.value in
+    let was = c.in_ok-walk_numbers.ensures.walked in let z = c.args.value.now in let v = seen c.args.walking.now in let w = seen c.walk_numbers.new.walking in
+    let next = c.args.at + c.indexes_of-count.result in let left = left_behind parts next in let ns = c.as_slice.result.now in
+    let way = c.args.way in let r = c.way_reached.result in let by = c.way_reached.ensures in
     record {
-      value = taken_got c.way_reached.result parts _ c.behind.result (c.args.at + c.indexes_of-count.result) _ (seen c.args.walking.now) c.behind.ensures
-          (reached_got around c.args.value.now c.args.way (left_behind parts (c.args.at + c.indexes_of-count.result)) _ _ c.as_slice.result.now (seen
-          c.args.walking.now) (seen c.walk_numbers.new.walking) opens found c.in_ok-walk_numbers.ensures.walked) c.way_reached.ensures.value;
-      walked = ok_then c.way_reached.result (reached_run around c.args.value.now c.args.way (left_behind parts (c.args.at + c.indexes_of-count.result)) _ _
-          c.as_slice.result.now (seen c.args.walking.now) (seen c.walk_numbers.new.walking) (seen c.way_reached.new.walking) opens found
-          c.in_ok-walk_numbers.ensures.walked) c.way_reached.ensures.walked;
+      value = taken_got r parts _ c.behind.result next _ v c.behind.ensures (reached_got around z way left _ _ ns v w opens found was) by.value;
+      walked = ok_then r (reached_run around z way left _ _ ns v w (seen c.way_reached.new.walking) opens found was) by.walked;
     }
 
 pub reading::walk_suffixes-loop-suffix-preserved : goal.reading::walk_suffixes-loop-suffix-preserved
@@ -367,10 +346,9 @@ targets::spot_target-returns-in-Register t c =
 pub targets::spot_target-returns-in_ok-found-in-Tuple : goal.targets::spot_target-returns-in_ok-found-in-Tuple
 targets::spot_target-returns-in_ok-found-in-Tuple t c = let place = (out-Target c.args.target.now).place in let found = c.in_ok-found-in-Tuple.ensures in
     let opens = kind_opens _ _ _ (around_of c.args.around.now) (scope_of c.args.scope.now) (left_behind c.args.parts.now c.args.at) c.as_slice-targets.ensures
-    c.in-Tuple.is in let w = seen c.args.walking.now in
+    c.in-Tuple.is in let w = seen c.args.walking.now in let around = around_of c.args.around.now in
     record {
-      value = c.tuple_found.ensures (around_of c.args.around.now) c.args.parts.now ∙ made_got _ (tuple_spotted place) _ _ found.value ∙ (λ j. got (sym opens
-          j) w);
+      value = c.tuple_found.ensures around c.args.parts.now ∙ made_got _ (tuple_spotted place) _ _ found.value ∙ (λ j. got (sym opens j) w);
       walked = made_run _ (tuple_spotted place) _ _ found.walked ∙ (λ j. run (sym opens j) w);
     }
 
@@ -381,14 +359,12 @@ targets::spot_target-returns-in_ok-values-in-empty t c = let around = around_of 
     let aims = c.as_slice.ensures ∙ c.in_ok-aims-in-empty.ensures ∙ ap argument_aims c.callee_types.ensures in
     let left = left_behind parts c.args.at in let ts = c.as_slice-targets.result.now in
     let opens = kind_opens _ _ _ around scope left c.as_slice-targets.ensures c.in-Call.is ∙ call_alone place around scope left _ _ _ ts c.in-empty.len_below in
+    let first = c.first_parts-arguments.result.now in let due = c.as_slice.result.now in let held = c.in_ok-values-in-empty in
+    let is = held.ensures.value in let was = held.ensures.walked in let v = seen c.args.walking.now in let w = seen c.walk_each.new.walking in
+    let k = c.args.at in let r = c.call_found.result in let by = c.call_found.ensures in
     record {
-      value = of_any c.call_found.result _ around parts _ (call_got around scope _ _ _ _ c.args.at parts c.first_parts-arguments.result.now
-          c.as_slice.result.now c.in_ok-values-in-empty.values (seen c.args.walking.now) (seen c.walk_each.new.walking) taken aims
-          c.in_ok-values-in-empty.ensures.value c.in_ok-values-in-empty.ensures.walked ∙ (λ j. got (sym opens j) (seen c.args.walking.now)))
-          c.call_found.ensures;
-      walked = on_ok c.call_found.result (call_run around scope _ _ _ _ c.args.at parts c.first_parts-arguments.result.now c.as_slice.result.now
-          c.in_ok-values-in-empty.values (seen c.args.walking.now) (seen c.walk_each.new.walking) taken aims c.in_ok-values-in-empty.ensures.value
-          c.in_ok-values-in-empty.ensures.walked ∙ (λ j. run (sym opens j) (seen c.args.walking.now)));
+      value = of_any r _ around parts _ (call_got around scope _ _ _ _ k parts first due held.values v w taken aims is was ∙ (λ j. got (sym opens j) v)) by;
+      walked = on_ok r (call_run around scope _ _ _ _ k parts first due held.values v w taken aims is was ∙ (λ j. run (sym opens j) v));
     }
 
 pub targets::spot_target-returns-in_ok-found-in-len1 : goal.targets::spot_target-returns-in_ok-found-in-len1
@@ -397,15 +373,12 @@ targets::spot_target-returns-in_ok-found-in-len1 t c = let around = around_of c.
     let kind = c.in-Part.is ∙ (λ j. T.Part (sym c.as_slice-suffixes.ensures j)) in let left = left_behind parts c.args.at in
     let opens = kind_opens _ _ _ around scope left c.as_slice-targets.ensures kind ∙ part_opens place around scope left c.as_slice-suffixes.result.now _ _
     c.in-len1.len_at_least c.in-len1.len_below c.base-item.is in
-    record {
-      value = then_got_in _ _ _ _ _ _ _ _ opens c.in_ok-found-in-len1.ensures.value c.in_ok-found-in-len1.ensures.walked c.spot_within.ensures.value;
-      walked = then_run_in _ _ _ _ _ _ _ _ opens c.in_ok-found-in-len1.ensures.value c.in_ok-found-in-len1.ensures.walked c.spot_within.ensures.walked;
-    }
+    let is = c.in_ok-found-in-len1.ensures in let by = c.spot_within.ensures in
+    record { value = then_got_in _ _ _ _ _ _ _ _ opens is.value is.walked by.value; walked = then_run_in _ _ _ _ _ _ _ _ opens is.value is.walked by.walked }
 
 pub targets::assign-returns-in-empty : goal.targets::assign-returns-in-empty
 targets::assign-returns-in-empty t c = let around = around_of c.args.around.now in let scope = scope_of c.args.scope.now in let parts = c.args.parts.now in
-    let opens = ap (λ (ts : List Target). assigned c.args.place (map spotting ts) around scope (left_behind parts c.args.at)) (none_of _ c.in-empty.len_below)
-    in
+    let opens = ap (λ (l : List Target). assigned c.args.place (map spotting l) around scope (left_behind parts c.args.at)) (none_of _ c.in-empty.len_below) in
     record { value = same_got _ (λ made. made) _ _ _ opens c.wrong_value.ensures.value; walked = same_run _ _ _ _ _ opens c.wrong_value.ensures.walked }
 
 pub targets::assign-returns-in-None : goal.targets::assign-returns-in-None
@@ -413,20 +386,16 @@ targets::assign-returns-in-None t c = let around = around_of c.args.around.now i
     let opens = ap (λ (ts : List Target). assigned c.args.place (map spotting ts) around scope (left_behind parts c.args.at)) (first_of _ _
     c.in-len1-up.len_at_least c.target-item.is) in
     let found = (λ j. spotted_in around parts (sym c.in-None.is j)) ∙ c.in_ok-spot_target-in-len1-up.ensures.value in
-    record {
-      value = given_got _ _ _ _ _ _ I.Never opens found c.in_ok-spot_target-in-len1-up.ensures.walked refl;
-      walked = given_run _ _ _ _ _ _ I.Never opens found c.in_ok-spot_target-in-len1-up.ensures.walked refl;
-    }
+    let was = c.in_ok-spot_target-in-len1-up.ensures.walked in
+    record { value = given_got _ _ _ _ _ _ I.Never opens found was refl; walked = given_run _ _ _ _ _ _ I.Never opens found was refl }
 
 pub targets::assign-returns-in-Some : goal.targets::assign-returns-in-Some
 targets::assign-returns-in-Some t c = let around = around_of c.args.around.now in let scope = scope_of c.args.scope.now in let parts = c.args.parts.now in
     let opens = ap (λ (ts : List Target). assigned c.args.place (map spotting ts) around scope (left_behind parts c.args.at)) (first_of _ _
     c.in-len1-up.len_at_least c.target-item.is) in
     let found = (λ j. spotted_in around parts (sym c.in-Some.is j)) ∙ c.in_ok-spot_target-in-len1-up.ensures.value in
-    record {
-      value = then_got_in _ (λ made. made) _ _ _ _ _ _ opens found c.in_ok-spot_target-in-len1-up.ensures.walked c.assign_to.ensures.value;
-      walked = then_run_in _ _ _ _ _ _ _ _ opens found c.in_ok-spot_target-in-len1-up.ensures.walked c.assign_to.ensures.walked;
-    }
+    let was = c.in_ok-spot_target-in-len1-up.ensures.walked in let by = c.assign_to.ensures in
+    record { value = then_got_in _ (λ made. made) _ _ _ _ _ _ opens found was by.value; walked = then_run_in _ _ _ _ _ _ _ _ opens found was by.walked }
 
 pub targets::assign_last-returns-in_ok-value-in-len1 : goal.targets::assign_last-returns-in_ok-value-in-len1
 targets::assign_last-returns-in_ok-value-in-len1 t c = let around = around_of c.args.around.now in let scope = scope_of c.args.scope.now in
@@ -434,11 +403,8 @@ targets::assign_last-returns-in_ok-value-in-len1 t c = let around = around_of c.
     let aim = c.given-aim.ensures ∙ (λ j. aimed Aims.Given (c.in_ok-typ-in-len1.ensures j)) in
     let opens = one_assigned place around scope spot 0 c.args.parts.now c.args.parts.now c.core-item.result refl c.in-len1.len_at_least c.in-len1.len_below
     c.core-item.is ∙ (λ j. bind ((part c.core-item.result).walk around scope (sym aim j)) (written_by place spot (sym c.is_nested.ensures j))) in
-    record {
-      value = then_got_in _ (λ made. made) _ _ _ _ _ _ opens c.in_ok-value-in-len1.ensures.value c.in_ok-value-in-len1.ensures.walked
-          c.assign.ensures.value;
-      walked = then_run_in _ _ _ _ _ _ _ _ opens c.in_ok-value-in-len1.ensures.value c.in_ok-value-in-len1.ensures.walked c.assign.ensures.walked;
-    }
+    let is = c.in_ok-value-in-len1.ensures.value in let was = c.in_ok-value-in-len1.ensures.walked in let by = c.assign.ensures in
+    record { value = then_got_in _ (λ made. made) _ _ _ _ _ _ opens is was by.value; walked = then_run_in _ _ _ _ _ _ _ _ opens is was by.walked }
 
 pub targets::assign_to-loop-target-preserved : goal.targets::assign_to-loop-target-preserved
 targets::assign_to-loop-target-preserved t c = let around = around_of c.args.around.now in let l = c.loop-target in let parts = c.args.parts.now in
@@ -455,10 +421,8 @@ targets::assign_to-returns-in-None t c = let around = around_of c.args.around.no
     ∙ map-append (spot_of around) l.before (l.spot ∷ []) in
     let same = gone_alike c.args.place around (scope_of c.args.scope.now) c.args.targets.now l.target-index _ c.loop-target-test.true c.target-item.is
     (spot_of around l.spot) (left_behind parts l.at) (map (spot_of around) l.before) _ grown (seen l.walking) _ c.in_ok-spot_target.ensures.walked found in
-    record {
-      value = value_same _ _ _ (same.value ∙ l.invariant.value) c.assign_back.ensures.value;
-      walked = walked_same _ _ _ _ (same.walked ∙ l.invariant.walked) c.assign_back.ensures.walked;
-    }
+    let by = c.assign_back.ensures in let on = l.invariant in
+    record { value = value_same _ _ _ (same.value ∙ on.value) by.value; walked = walked_same _ _ _ _ (same.walked ∙ on.walked) by.walked }
 
 pub targets::assign_to-returns : goal.targets::assign_to-returns
 targets::assign_to-returns t c = let around = around_of c.args.around.now in let l = c.loop-target in let scope = scope_of c.args.scope.now in
@@ -467,12 +431,11 @@ targets::assign_to-returns t c = let around = around_of c.args.around.now in let
     let was = c.in_ok-value.ensures.walked ∙ (λ j. run (assigned_one c.args.place around scope spot (left j)) (seen l.walking)) in
     let same = last_alike c.args.place around scope c.args.targets.now l.target-index spot (left_behind c.args.parts.now l.at)
     (map (spot_of around) l.before) _ (seen l.walking) _ c.loop-target-test.false is was in
-    let before = ap (map (spot_of around)) c.as_slice-2.ensures in
+    let before = ap (map (spot_of around)) c.as_slice-2.ensures in let z = c.in_ok-value.value in let w = seen c.assign_last.new.walking in
+    let on = l.invariant in let by = c.assign_back-2.ensures in
     record {
-      value = value_same _ _ _ ((λ j. got (written_back c.args.place (before j) c.in_ok-value.value) (seen c.assign_last.new.walking)) ∙ same.value
-          ∙ l.invariant.value) c.assign_back-2.ensures.value;
-      walked = walked_same _ _ _ _ ((λ j. run (written_back c.args.place (before j) c.in_ok-value.value) (seen c.assign_last.new.walking)) ∙ same.walked
-          ∙ l.invariant.walked) c.assign_back-2.ensures.walked;
+      value = value_same _ _ _ ((λ j. got (written_back c.args.place (before j) z) w) ∙ same.value ∙ on.value) by.value;
+      walked = walked_same _ _ _ _ ((λ j. run (written_back c.args.place (before j) z) w) ∙ same.walked ∙ on.walked) by.walked;
     }
 
 pub branches::walk_branch-returns : goal.branches::walk_branch-returns
@@ -486,11 +449,11 @@ branches::walk_branch-returns t c = let around = around_of c.args.around.now in 
       due = c.in_ok-aim.ensures;
       whose = c.core-core.ensures;
     } in
+    let free = c.args.is_free in let before = c.args.before in let aim = c.args.aim.now in let way = c.args.way.now in let first = c.args.first in
+    let kept = c.in_ok-remember.ensures in let is = c.in_ok-value.ensures.value in let was = c.in_ok-value.ensures.walked in let by = c.end_way.ensures in
     record {
-      value = value_same _ _ _ (way_got c.args.is_free c.args.before _ scope c.args.aim.now c.args.way.now c.args.first _ _ _ _ _ o _ _ _
-          c.in_ok-remember.ensures c.in_ok-value.ensures.value c.in_ok-value.ensures.walked) c.end_way.ensures.value;
-      walked = walked_same _ _ _ _ (way_run c.args.is_free c.args.before _ scope c.args.aim.now c.args.way.now c.args.first _ _ _ _ _ o _ _ _
-          c.in_ok-remember.ensures c.in_ok-value.ensures.value c.in_ok-value.ensures.walked) c.end_way.ensures.walked;
+      value = value_same _ _ _ (way_got free before _ scope aim way first _ _ _ _ _ o _ _ _ kept is was) by.value;
+      walked = walked_same _ _ _ _ (way_run free before _ scope aim way first _ _ _ _ _ o _ _ _ kept is was) by.walked;
     }
 
 pub branches::walk_ways-loop-way-preserved : goal.branches::walk_ways-loop-way-preserved
@@ -566,21 +529,18 @@ pub branches::walk_cases-returns-in_ok-ways-in-len1-up : goal.branches::walk_cas
 branches::walk_cases-returns-in_ok-ways-in-len1-up t c = let around = around_of c.args.around.now in let scope = scope_of c.args.scope.now in
     let aim = c.args.aim.now in let seen_as = ap (ways_seen around scope aim) c.as_slice.ensures ∙ c.in_ok-ways-in-len1-up.ensures.ways around scope aim in
     let is = try_is _ _ c.args.shape.now _ _ _ _ c.args.parts.now _ _ (first_of _ _ c.in-len1-up.len_at_least c.core-item.is) _ _ c.if-is_try.true
-    c.thrown-sent.ensures seen_as in
-    record {
-      value = value_same _ _ _ (ap (λ (a : Walk Indices). got a (seen c.args.walking.now)) is) c.walk_ways.ensures.value;
-      walked = walked_same _ _ _ _ (ap (λ (a : Walk Indices). run a (seen c.args.walking.now)) is) c.walk_ways.ensures.walked;
-    }
+    c.thrown-sent.ensures seen_as in let v = seen c.args.walking.now in let by = c.walk_ways.ensures in
+    let got_is = ap (λ (a : Walk Indices). got a v) is in let run_is = ap (λ (a : Walk Indices). run a v) is in
+    record { value = value_same _ _ _ got_is by.value; walked = walked_same _ _ _ _ run_is by.walked }
 
 pub branches::walk_cases-returns-in_ok-cases-in-len1-up : goal.branches::walk_cases-returns-in_ok-cases-in-len1-up
 branches::walk_cases-returns-in_ok-cases-in-len1-up t c = let around = around_of c.args.around.now in let scope = scope_of c.args.scope.now in
     let aim = c.args.aim.now in let first = first_of _ _ c.in-len1-up.len_at_least c.core-item.is in let value = c.in_ok-value-in-len1-up.ensures in
     let ways = ap (ways_seen around scope aim) c.as_slice-else-is_try.ensures ∙ c.in_ok-cases-in-len1-up.ensures.ways around scope aim in
+    let shape = c.args.shape.now in let no = c.if-is_try.false in let by = c.walk_ways-else-is_try.ensures in
     record {
-      value = value_same _ _ _ (match_got _ _ c.args.shape.now _ _ _ _ _ _ _ first _ _ _ _ c.if-is_try.false value.value value.walked ways)
-          c.walk_ways-else-is_try.ensures.value;
-      walked = walked_same _ _ _ _ (match_run _ _ c.args.shape.now _ _ _ _ _ _ _ first _ _ _ _ c.if-is_try.false value.value value.walked ways)
-          c.walk_ways-else-is_try.ensures.walked;
+      value = value_same _ _ _ (match_got _ _ shape _ _ _ _ _ _ _ first _ _ _ _ no value.value value.walked ways) by.value;
+      walked = walked_same _ _ _ _ (match_run _ _ shape _ _ _ _ _ _ _ first _ _ _ _ no value.value value.walked ways) by.walked;
     }
 
 pub statements::walk_bound-returns : goal.statements::walk_bound-returns
@@ -609,11 +569,8 @@ statements::walk_state-returns-in-empty t c =
 pub statements::walk_state-returns-in_default-parts : goal.statements::walk_state-returns-in_default-parts
 statements::walk_state-returns-in_default-parts t c = let more : 2 ≤ length c.as_slice-parts.result.now = omega arith in
     let same = more_alike _ _ (around_of c.args.around.now) (scope_of c.args.scope.now) c.as_slice-parts.ensures (seen c.args.walking.now) _ c.in-Assert.is
-    more in
-    record {
-      value = value_same _ _ _ same.value c.wrong_state-in_default-parts.ensures.value;
-      walked = walked_same _ _ _ _ same.walked c.wrong_state-in_default-parts.ensures.walked;
-    }
+    more in let by = c.wrong_state-in_default-parts.ensures in
+    record { value = value_same _ _ _ same.value by.value; walked = walked_same _ _ _ _ same.walked by.walked }
 
 pub statements::walk_state-returns-in_ok-walk_expression-in_default : goal.statements::walk_state-returns-in_ok-walk_expression-in_default
 statements::walk_state-returns-in_ok-walk_expression-in_default t c =
@@ -625,11 +582,8 @@ pub statements::walk_in-returns-in_ok-aim-in-len2 : goal.statements::walk_in-ret
 statements::walk_in-returns-in_ok-aim-in-len2 t c = let scope = scope_of c.args.scope.now in let found = c.in_ok-found-in-len2.ensures in
     let within = c.with-inside.ensures ∙ ap (λ (bs : List Bound). bs ++ scope) c.as_slice.ensures in
     let same = in_alike _ (part c.core-item.result) (part c.body-item.result) _ _ _ _ _ _ _ _ found.value found.walked within c.in_ok-aim-in-len2.ensures in
-    let two = two_of _ _ _ c.in-len2.len_at_least c.in-len2.len_below c.core-item.is c.body-item.is in
-    record {
-      value = rw two (value_same _ _ _ same.value c.walk_expression.ensures.value);
-      walked = rw two (walked_same _ _ _ _ same.walked c.walk_expression.ensures.walked);
-    }
+    let two = two_of _ _ _ c.in-len2.len_at_least c.in-len2.len_below c.core-item.is c.body-item.is in let by = c.walk_expression.ensures in
+    record { value = rw two (value_same _ _ _ same.value by.value); walked = rw two (walked_same _ _ _ _ same.walked by.walked) }
 
 pub statements::walk_value-returns-in-empty : goal.statements::walk_value-returns-in-empty
 statements::walk_value-returns-in-empty t c = let v = seen c.args.walking.now in let no_part = none_of _ c.in-empty.len_below in
