@@ -17,13 +17,16 @@ use Rattle.value_indices.proofs.Written.{steps_behind}
 use Rattle.function_notes.proofs.Lists.{rest_at, none_left}
 use Rattle.size_values.specs.declared.constants.Constant.{Constant}
 use Rattle.size_values.specs.declared.constants.Picked.{Picked}
+use Rattle.size_values.specs.Numbers.{known_of}
 use Rattle.size_splits.specs.Reading.{named_in, notes_behind}
-use Rattle.size_splits.specs.Sizing.{first_named}
+use Rattle.size_splits.specs.Sizing.{first_named, made_facts, made_indices}
+use Rattle.size_splits.specs.Telling.{telling}
 use Rattle.size_splits.proofs.Notes.{named_behind, note_by, notes_next}
+use Rattle.size_splits.proofs.Unsaid.{counted_told}
 use Rattle.monomorph.specs.declared.error.MonoError.{MonoError}
 use Rattle.monomorph.specs.declared.found.Found.{Found}
-use Rattle.monomorph.specs.Found.{Answer, and_then, outcome}
-use Rattle.monomorph.specs.Reading.{Inside, called, read_made, read_notes, read_way}
+use Rattle.monomorph.specs.Found.{Answer, and_then, outcome, over}
+use Rattle.monomorph.specs.Reading.{Inside, called, read_call, read_made, read_notes, read_sizes, read_way}
 use Rattle.monomorph.specs.Steps.{read_step}
 use Rattle.monomorph.proofs.Over.{then_on, then_refused}
 
@@ -60,9 +63,34 @@ module _ (r : Inside) where
       ap (λ ns. read_notes r ns found) (notes_next w s ss)
       ∙ step_then w s ss (notes_behind (step_read w s) ss) (named_behind (step_read w s) ss) found
 
+  -- by what the facts tell
+  abbrev told_of : List Fact → List Fact
+  told_of facts = telling (known_of r.numbers) r.split facts
+
+  told_alike : (facts : List Fact) (s : Step) (ss : List Step) (found : List Found)
+      → read_step r (told_of facts) s ss found ≡ read_step r facts s ss found
+  told_alike facts (S.Assumes fact) ss found = refl
+  told_alike facts S.Remembers ss found = refl
+  told_alike facts S.Restores ss found = refl
+  told_alike facts S.Forgets ss found = refl
+  told_alike facts (S.Claims c) ss found = refl
+  told_alike facts S.Unclaims ss found = refl
+  told_alike facts (S.Owes place c) ss found = refl
+  told_alike facts (S.OwesEarlier place recent c) ss found = refl
+  told_alike facts (S.Sizes place made) ss found =
+      ap (λ (l : List (List Picked)). over (read_sizes r place (made_indices r.variables made (named_in ss))) l found)
+      (counted_told (known_of r.numbers) r.split facts (made_facts r.variables made (named_in ss)))
+  told_alike facts (S.Makes k operands made) ss found = refl
+  told_alike facts (S.Calls place k operands callee js qs) ss found =
+      ap (λ (l : List (List Picked)). over (read_call r place operands callee js qs) l found) (counted_told (known_of r.numbers) r.split facts [])
+  told_alike facts (S.Converts d) ss found =
+      ap (λ (l : List (List Picked)). over (read_way d) l found) (counted_told (known_of r.numbers) r.split facts [])
+  told_alike facts (S.Gives k indices) ss found = refl
+  told_alike facts (S.Names variable name) ss found = refl
+
   -- one step more
   module _ (steps : List Step) (k : ℕ) (s : Step) (facts : List Fact) (behind : List Step) (found : List Found) (all : Answer) (within : k < length steps)
-      (read : s ≡ get_or steps k s) (rest : behind ≡ drop (k + 1) steps) (here : (steps_read (begun 0) (take k steps)).facts ≡ facts)
+      (read : s ≡ get_or steps k s) (rest : behind ≡ drop (k + 1) steps) (here : told_of (steps_read (begun 0) (take k steps)).facts ≡ facts)
       (whole : read_notes r (notes_behind (steps_read (begun 0) (take k steps)) (drop k steps)) found ≡ all) where
     abbrev before : Written
     before = steps_read (begun 0) (take k steps)
@@ -70,8 +98,10 @@ module _ (r : Inside) where
     this_then : and_then (read_step r facts s behind found) (read_notes r (notes_behind (step_read before s) (drop (k + 1) steps))) ≡ all
     this_then =
         (λ j. and_then (read_step r (sym here j) s (rest j) found) (read_notes r (notes_behind (step_read before s) (drop (k + 1) steps))))
+        ∙ (ap (λ (a : Answer). and_then a (read_notes r (notes_behind (step_read before s) (drop (k + 1) steps))))
+        (told_alike before.facts s (drop (k + 1) steps) found)
         ∙ (sym (steps_then before s (drop (k + 1) steps) found)
-        ∙ (ap (λ l. read_notes r (notes_behind before l) found) (sym (rest_at steps k s within read)) ∙ whole))
+        ∙ (ap (λ l. read_notes r (notes_behind before l) found) (sym (rest_at steps k s within read)) ∙ whole)))
 
     pub read_next : (new : List Found) → outcome None new ≡ read_step r facts s behind found
         → read_notes r (notes_behind (steps_read (begun 0) (take (k + 1) steps)) (drop (k + 1) steps)) new ≡ all

@@ -14,7 +14,7 @@ use crate::inside::Inside;
 use crate::refusals::sizes_refused;
 use sail_base::{Items, Place};
 use sail_types::Types;
-use size_splits::{BodySteps, counted, follow, made_value, named_in, splits};
+use size_splits::{BodySteps, counted, follow_telling, made_value, named_in, splits};
 use size_values::{Picked, Sized, Variables, value_sizes};
 use std::alloc::{AllocError, Global};
 use value_indices::{Fact, Indices, Made, Step};
@@ -199,7 +199,14 @@ fn read_steps(
             None => {}
             Some(refused) => return Ok(Some(refused)),
         }
-        follow(alloc, step, &mut facts, &mut marks)?;
+        follow_telling(
+            alloc,
+            inside.numbers,
+            inside.split,
+            step,
+            &mut facts,
+            &mut marks,
+        )?;
     }
     Ok(None)
 }

@@ -1,3 +1,4 @@
+pub mod Regions
 pub mod Written
 pub mod Behind
 pub mod Bodies

@@ -1,8 +1,8 @@
 //! What is read of a model for its instances: the notes of the walks over its definitions, with the types of parameters and the sizes in
 //! types that are written in bodies.
 //!
-//! `specs/Written` has the sizes in a written type, `specs/Behind` those in a body, each behind the node at which it is read, `specs/Bodies`
-//! what is read of each definition; `specs/Reading` how the code writes its steps.
+//! `specs/Written` has the sizes in a written type, `specs/Regions` where its parts stand, `specs/Behind` those in a body, each behind
+//! the node at which it is read, `specs/Bodies` what is read of each definition; `specs/Reading` how the code writes its steps.
 #![tactic(auto)]
 
 mod behind;
@@ -11,6 +11,7 @@ mod functions;
 mod mappings;
 mod models;
 mod parameters;
+mod regions;
 mod steps;
 mod written;
 

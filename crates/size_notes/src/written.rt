@@ -1,21 +1,41 @@
 //! The sizes in types that are written.
-ghost use Rattle.std.specs.Prelude.{◌≡◌, ◌++◌, suc, IfOk, OnOk, map};
+ghost use Rattle.std.specs.Prelude.{◌≡◌, ◌++◌, [], IfOk, OnOk, map};
 ghost use Rattle.std.specs.List.{list_any};
 ghost use Rattle.linear.specs.Choices.{joined};
+ghost use Rattle.sail_types.specs.declared.types.Typ.TheVariants as typ;
+ghost use Rattle.size_notes.specs.Regions.{kept};
 ghost use Rattle.size_notes.specs.Written as spec;
 
-use sail_base::{Boxed, Items, Place};
+use crate::regions::{Region, inward, kept, numbers_under, under};
+use sail_base::{Boxed, Items, Place, Text};
 use sail_core::{Role, Written, WrittenNumber};
-use sail_types::{Atom, Index, Num, Term, Typ, read_number};
+use sail_types::{Atom, Index, Num, Term, Typ, copy_num, read_number};
 use std::alloc::{AllocError, Global};
 use type_arguments::copy_indices;
-use value_indices::{Indices, Reading, largest_num, zero_num};
+use value_indices::{Indices, Reading, largest_num};
 
-/// A size that is written: a width or a length, at its number or at the name through which it comes.
+/// What is read of a part of a written type.
+pub enum TypePart {
+    /// Of a width or a length; nothing where it names what the type binds and opens.
+    Number(Option<Indices>),
+    /// Of the fields or payloads of a named type.
+    Named(Indices),
+}
+
+impl Drop for TypePart {
+    fn drop(self) {
+        match self {
+            TypePart::Number(_) => {}
+            TypePart::Named(_) => {}
+        }
+    }
+}
+
+/// What is written with a size: a width or a length at its number or at the name through which it comes, a named type at the written type.
 pub struct WrittenSize {
     /// Where it is written.
     pub place: Place,
-    /// What has this size and no other: bits, or a vector of what no type is known.
+    /// What has its sizes and no others.
     pub size: Indices,
 }
 
@@ -83,101 +103,152 @@ fn number_in(alloc: Global, numbers: &[Index], number: &Num) -> Result<Num, Allo
     }
 }
 
-/// What has a width, unless that names one of the first so many variables. It fails where memory is wanting.
+/// What has a width, unless that names what the type binds and opens. It fails where memory is wanting.
 fn width_in(
     alloc: Global,
-    depth: u32,
+    region: &Region,
     numbers: &[Index],
     width: &Num,
 ) -> Result<Option<Indices>, AllocError>
-    ensures { IfOk result (λ made. made ≡ spec.width_in depth numbers.now width.now) }
+    ensures { IfOk result (λ made. made ≡ spec.width_in region.now numbers.now width.now) }
 {
-    if names_bound(depth, width) {
-        return Ok(None);
+    match region {
+        Region::Opened(depth) => {
+            if names_bound(*depth, width) {
+                return Ok(None);
+            }
+            Ok(Some(Indices::Bits(number_in(alloc, numbers, width)?)))
+        }
+        Region::Kept(names) => {
+            let bits = Typ::Bits(copy_num(alloc, width)?);
+            Ok(Some(kept(alloc, names.as_slice(), numbers, bits)?))
+        }
     }
-    Ok(Some(Indices::Bits(number_in(alloc, numbers, width)?)))
 }
 
-/// What has a length, unless that names one of the first so many variables. It fails where memory is wanting.
+/// What has a length, unless that names what the type binds and opens. It fails where memory is wanting.
 fn length_in(
     alloc: Global,
-    depth: u32,
+    region: &Region,
     numbers: &[Index],
     length: &Num,
 ) -> Result<Option<Indices>, AllocError>
-    ensures { IfOk result (λ made. made ≡ spec.length_in depth numbers.now length.now) }
+    ensures { IfOk result (λ made. made ≡ spec.length_in region.now numbers.now length.now) }
 {
-    if names_bound(depth, length) {
-        return Ok(None);
-    }
-    let number = number_in(alloc, numbers, length)?;
-    let item = Boxed::new(alloc, Reading::Hole)?;
-    Ok(Some(Indices::Vector(number, item)))
-}
-
-/// What variables stand for inside a type that binds one. It fails where memory is wanting.
-fn inside(alloc: Global, numbers: &[Index]) -> Result<Items<Index>, AllocError>
-    ensures { IfOk result (λ made. made ≡ spec.inside numbers.now) }
-{
-    let mut made = Items::new(alloc);
-    made.push(Index::Number(zero_num(alloc)))?;
-    made.append(copy_indices(alloc, numbers)?)?;
-    Ok(made)
-}
-
-/// So many binders and one more. It fails past the largest count.
-fn further_in(depth: u32) -> Result<u32, AllocError>
-    ensures { IfOk result (λ more. more ≡ suc depth) }
-{
-    match depth.checked_add(1) {
-        Some(more) => Ok(more),
-        None => Err(AllocError),
+    match region {
+        Region::Opened(depth) => {
+            if names_bound(*depth, length) {
+                return Ok(None);
+            }
+            let number = number_in(alloc, numbers, length)?;
+            let item = Boxed::new(alloc, Reading::Hole)?;
+            Ok(Some(Indices::Vector(number, item)))
+        }
+        Region::Kept(names) => {
+            let length = copy_num(alloc, length)?;
+            let items = Typ::Vector(length, Boxed::new(alloc, Typ::Unit)?);
+            Ok(Some(kept(alloc, names.as_slice(), numbers, items)?))
+        }
     }
 }
 
-/// Puts the sizes in a type, from the left: none for a size that names one of the first so many variables, which the type itself binds.
-/// It fails where memory is wanting.
+/// What has the sizes of the fields or payloads of a named type. It fails where memory is wanting.
+fn fields_of(
+    alloc: Global,
+    names: &[Text],
+    numbers: &[Index],
+    place: u32,
+    arguments: &[Index],
+) -> Result<Indices, AllocError>
+    ensures { IfOk result (λ made. made ≡ kept names.now numbers.now (typ.Named place arguments.now [])) }
+{
+    let arguments = copy_indices(alloc, arguments)?;
+    let named = Typ::Named(place, arguments, Items::new(alloc));
+    kept(alloc, names, numbers, named)
+}
+
+/// Puts what has the sizes of the fields or payloads of a named type, unless it stands under a variable that is opened. It fails where
+/// memory is wanting.
+fn push_named(
+    alloc: Global,
+    made: &mut Items<TypePart>,
+    region: &Region,
+    numbers: &[Index],
+    place: u32,
+    arguments: &[Index],
+) -> Result<(), AllocError>
+    ensures { OnOk result (made.new ≡ made.old ++ spec.named_in region.now numbers.now place arguments.now) }
+{
+    match region {
+        Region::Opened(depth) => {
+            if *depth == 0 {
+                made.push(TypePart::Named(fields_of(alloc, &[], numbers, place, arguments)?))
+            } else {
+                Ok(())
+            }
+        }
+        Region::Kept(names) => made.push(TypePart::Named(fields_of(
+            alloc,
+            names.as_slice(),
+            numbers,
+            place,
+            arguments,
+        )?)),
+    }
+}
+
+/// Puts what is read of a type, from the left. It fails where memory is wanting.
 #[cycle(type_sizes)]
 fn push_type_sizes(
     alloc: Global,
-    made: &mut Items<Option<Indices>>,
-    depth: u32,
+    made: &mut Items<TypePart>,
+    region: &Region,
     numbers: &[Index],
     typ: &Typ,
 ) -> Result<(), AllocError>
-    ensures { OnOk result (made.new ≡ made.old ++ spec.type_sizes typ.now depth numbers.now) }
+    ensures { OnOk result (made.new ≡ made.old ++ spec.type_sizes typ.now region.now numbers.now) }
 {
     match typ {
-        Typ::Bits(width) => made.push(width_in(alloc, depth, numbers, width)?),
-        Typ::Vector(length, item) => {
-            made.push(length_in(alloc, depth, numbers, length)?)?;
-            push_type_sizes(alloc, made, depth, numbers, item.get())
+        Typ::Bits(width) => {
+            made.push(TypePart::Number(width_in(alloc, region, numbers, width)?))
         }
-        Typ::List(item) => push_type_sizes(alloc, made, depth, numbers, item.get()),
-        Typ::Tuple(parts) => push_each_sizes(alloc, made, depth, numbers, parts.as_slice()),
-        Typ::Named(_, _, types) => push_each_sizes(alloc, made, depth, numbers, types.as_slice()),
-        Typ::Exists(_, _, part) => {
-            let inner = inside(alloc, numbers)?;
-            let more = further_in(depth)?;
-            push_type_sizes(alloc, made, more, inner.as_slice(), part.get())
+        Typ::Vector(length, item) => {
+            made.push(TypePart::Number(length_in(alloc, region, numbers, length)?))?;
+            let inner = inward(alloc, region)?;
+            push_type_sizes(alloc, made, &inner, numbers, item.get())
+        }
+        Typ::List(item) => {
+            let inner = inward(alloc, region)?;
+            push_type_sizes(alloc, made, &inner, numbers, item.get())
+        }
+        Typ::Tuple(parts) => push_each_sizes(alloc, made, region, numbers, parts.as_slice()),
+        Typ::Named(place, arguments, types) => {
+            push_named(alloc, made, region, numbers, *place, arguments.as_slice())?;
+            let inner = inward(alloc, region)?;
+            push_each_sizes(alloc, made, &inner, numbers, types.as_slice())
+        }
+        Typ::Exists(name, _, part) => {
+            let inner = under(alloc, name, region)?;
+            let known = numbers_under(alloc, region, numbers)?;
+            push_type_sizes(alloc, made, &inner, known.as_slice(), part.get())
         }
         _ => Ok(()),
     }
 }
 
-/// Puts those in several types. It fails where memory is wanting.
+/// Puts what is read of several types. It fails where memory is wanting.
 #[cycle(type_sizes)]
 fn push_each_sizes(
     alloc: Global,
-    made: &mut Items<Option<Indices>>,
-    depth: u32,
+    made: &mut Items<TypePart>,
+    region: &Region,
     numbers: &[Index],
     types: &[Typ],
 ) -> Result<(), AllocError>
-    ensures { OnOk result (made.new ≡ made.old ++ spec.each_sizes depth numbers.now (map spec.type_sizes types.now)) }
+    ensures { OnOk result (made.new ≡ made.old ++ spec.each_sizes region.now numbers.now (map spec.type_sizes types.now)) }
 {
     for typ in types {
-        push_type_sizes(alloc, made, depth, numbers, typ)?;
+        push_type_sizes(alloc, made, region, numbers, typ)?;
     }
     Ok(())
 }
@@ -240,18 +311,48 @@ fn other_places(places: &[Place]) -> &[Place]
     }
 }
 
-/// Puts sizes, each at its place, as long as there are places. It fails where memory is wanting.
+impl TypePart {
+    /// Puts it as it is written: at the first of these places where it is a number, else at the type. It fails where memory is wanting.
+    fn push_to(
+        self,
+        made: &mut Items<WrittenSize>,
+        place: Place,
+        places: &[Place],
+    ) -> Result<(), AllocError>
+        ensures { OnOk result (made.new ≡ made.old ++ spec.placed_part place places.now self) }
+    {
+        match self {
+            TypePart::Number(size) => push_first(made, places, size),
+            TypePart::Named(size) => made.push(WrittenSize { place, size }),
+        }
+    }
+}
+
+/// The places of the numbers behind a part.
+fn places_behind<'a>(places: &'a [Place], part: &TypePart) -> &'a [Place]
+    ensures { result.now ≡ spec.places_behind places.now part.now }
+{
+    match part {
+        TypePart::Number(_) => other_places(places),
+        TypePart::Named(_) => places,
+    }
+}
+
+/// Puts what is read of the parts of a type: numbers at these places, as long as there are any, all else at the type. It fails where memory
+/// is wanting.
 fn push_placed(
     made: &mut Items<WrittenSize>,
+    place: Place,
     places: &[Place],
-    sizes: Items<Option<Indices>>,
+    parts: Items<TypePart>,
 ) -> Result<(), AllocError>
-    ensures { OnOk result (made.new ≡ made.old ++ spec.placed_sizes places.now sizes) }
+    ensures { OnOk result (made.new ≡ made.old ++ spec.placed_sizes place places.now parts) }
 {
     let mut left = places;
-    for size in sizes.into_vec() {
-        push_first(made, left, size)?;
-        left = other_places(left);
+    for part in parts.into_vec() {
+        let behind = places_behind(left, &part);
+        part.push_to(made, place, left)?;
+        left = behind;
     }
     Ok(())
 }
@@ -266,7 +367,7 @@ pub fn push_written(
     ensures { OnOk result (made.new ≡ made.old ++ spec.written_sizes numbers.now written.now) }
 {
     let places = size_places(alloc, written.numbers.as_slice())?;
-    let mut sizes = Items::new(alloc);
-    push_type_sizes(alloc, &mut sizes, 0, numbers, &written.typ)?;
-    push_placed(made, places.as_slice(), sizes)
+    let mut parts = Items::new(alloc);
+    push_type_sizes(alloc, &mut parts, &Region::Opened(0), numbers, &written.typ)?;
+    push_placed(made, written.place, places.as_slice(), parts)
 }

@@ -6,3 +6,6 @@ pub mod Ranges
 pub mod Rounds
 pub mod Settled
 pub mod Tables
+pub mod Told
+pub mod Silent
+pub mod Unsaid

@@ -2,3 +2,4 @@ pub mod Bodies
 pub mod Sizing
 pub mod Splits
 pub mod Reading
+pub mod Telling

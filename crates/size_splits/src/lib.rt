@@ -15,11 +15,12 @@ mod names;
 mod opened;
 mod sizing;
 mod splitting;
+mod telling;
 
 pub use bodies::BodySteps;
 pub use combinations::counted;
-pub use force::follow;
 pub use given::{flags_of, given_indices};
 pub use opened::{MadeValue, made_value, named_in};
 pub use sizing::sizing_of;
 pub use splitting::splits;
+pub use telling::follow_telling;

@@ -1,7 +1,8 @@
 -- The sizes in types and values: widths of bits and lengths of vectors (Sail language manual, "Bitvectors", "Vectors").
-use Rattle.std.specs.Prelude.{ℕ, zero, suc, pos, nat_eq, Bool, List, [], ◌∷◌, ◌++◌, map, slice_get}
+use Rattle.std.specs.Prelude.{ℕ, zero, suc, pos, nat_eq, bytes_eq, Bool, true, false, ◌&&◌, ◌||◌, List, [], ◌∷◌, ◌++◌, map, slice_get}
 use Rattle.std.specs.Prelude.{Option, Some, None, if◌then◌else◌}
 use Rattle.std.specs.List.{list_any}
+use Rattle.std.specs.Ordering.{int_eq}
 use Rattle.sail_types.specs.Named.{field_types, in_form}
 use Rattle.sail_types.specs.Zero.{deepest}
 use Rattle.sail_types.specs.declared.table.Field.{Field}
@@ -16,6 +17,8 @@ use Rattle.value_indices.specs.declared.indices.Indices.TheOpen.{Indices-F, Read
 use Rattle.value_indices.specs.declared.indices.Reading.{Reading, fold-Reading}
 use Rattle.size_values.specs.declared.constants.Constant.{Constant}
 use Rattle.size_values.specs.declared.constants.Constant.TheVariants as C
+use Rattle.size_values.specs.declared.listed.Applied.{Applied}
+use Rattle.size_values.specs.declared.listed.Listed.{Listed}
 use Rattle.size_values.specs.declared.sizes.Size.{Size}
 use Rattle.size_values.specs.Numbers.{all_but, argument_of, constant_under, index_under, is_free, known_at}
 
@@ -51,26 +54,53 @@ form_fields (F.Enum members) = []
 abbrev pub fields_of : Types → ℕ → List Field
 fields_of types u = in_form [] form_fields (slice_get types.definitions u)
 
--- a type, asked for its sizes: the named types around it, what its Int variables are, and the sizes in what its Type variables stand for
-abbrev pub Asked : Type 0
-Asked = List ℕ → List Constant → List (List Size) → List Size
+-- whether two constants are the same, and whether all of two lists are
+abbrev pub constant_eq : Constant → Constant → Bool
+constant_eq (C.Number x) (C.Number y) = int_eq x y
+constant_eq (C.Open v) (C.Open w) = nat_eq v w
+constant_eq (C.Bound n) (C.Bound m) = bytes_eq n m
+constant_eq c d = false
 
-abbrev pub each_sizes : List Asked → List ℕ → List Constant → List (List Size) → List (List Size)
-each_sizes [] seen cs own = []
-each_sizes (f ∷ fs) seen cs own = f seen cs own ∷ each_sizes fs seen cs own
+abbrev pub constants_eq : List Constant → List Constant → Bool
+constants_eq [] [] = true
+constants_eq (c ∷ cs) (d ∷ ds) = constant_eq c d && constants_eq cs ds
+constants_eq cs ds = false
+
+-- whether a named type was read under these arguments
+abbrev pub is_applied : ℕ → List Constant → Applied → Bool
+is_applied u cs a = nat_eq u a.place && constants_eq cs a.arguments
+
+abbrev pub was_read : ℕ → List Constant → List Applied → Bool
+was_read u cs read = list_any (is_applied u cs) read
+
+-- more sizes behind those that are listed, and a named type more that is read
+abbrev pub listing : List Size → Listed → Listed
+listing ss l = record l { sizes = l.sizes ++ ss }
+
+abbrev pub reading : ℕ → List Constant → Listed → Listed
+reading u cs l = record l { read = l.read ++ record { place = u; arguments = cs } ∷ [] }
+
+abbrev pub none_listed : Listed
+none_listed = record { sizes = []; read = [] }
+
+-- a type, asked for its sizes: the named types around it, what its Int variables are, the sizes in what its Type variables stand for, and
+-- what is listed before
+abbrev pub Asked : Type 0
+Asked = List ℕ → List Constant → List (List Size) → Listed → Listed
+
+abbrev pub each_listed : List Asked → Asked
+each_listed [] seen cs own l = l
+each_listed (f ∷ fs) seen cs own l = each_listed fs seen cs own (f seen cs own l)
 
 abbrev pub is_among : ℕ → List ℕ → Bool
 is_among u us = list_any (nat_eq u) us
 
--- fields and payloads, under the arguments: each name is read once on the way in
-abbrev pub fields_sizes : Types → (Typ → Asked) → ℕ → Asked
-fields_sizes types inside u seen cs own =
-    if is_among u seen then []
-    else joined (each_sizes (map inside (field_types (fields_of types u))) (seen ++ u ∷ []) cs own)
-
--- the arguments first
-abbrev pub named_sizes : Types → (Typ → Asked) → ℕ → Asked
-named_sizes types inside u seen cs own = joined own ++ fields_sizes types inside u seen cs own
+-- fields and payloads: not inside the type itself, and once under the same arguments; the sizes in what a Type variable stands for stand
+-- before them
+abbrev pub fields_listed : Types → (Typ → Asked) → ℕ → List ℕ → List Constant → Listed → Listed
+fields_listed types inside u seen cs l =
+    if is_among u seen || was_read u cs l.read then l
+    else each_listed (map inside (field_types (fields_of types u))) (seen ++ u ∷ []) cs [] (reading u cs l)
 
 abbrev pub or_empty : {A : Type 0} → Option (List A) → List A
 or_empty None = []
@@ -80,29 +110,30 @@ abbrev pub sizes_at : List (List Size) → ℕ → List Size
 sizes_at own i = or_empty (slice_get own i)
 
 -- a type of this form; `inside` is for the types inside it. One that isn't opened has no number for what `{'n, C. T}` binds
-abbrev pub form_sizes : Types → (Typ → Asked) → Typ-F Typ → Asked
-form_sizes types inside (T.Bits t) seen cs own = width (constant_under (argument_of cs) t) ∷ []
-form_sizes types inside (T.List t) seen cs own = inside t seen cs own
-form_sizes types inside (T.Vector n t) seen cs own = vector_length (constant_under (argument_of cs) n) ∷ inside t seen cs own
-form_sizes types inside (T.Tuple ts) seen cs own = joined (each_sizes (map inside ts) seen cs own)
-form_sizes types inside (T.Named u is ts) seen cs own =
-    named_sizes types inside u seen (map (index_under (argument_of cs)) is) (each_sizes (map inside ts) seen cs own)
-form_sizes types inside (T.Variable i) seen cs own = sizes_at own i
-form_sizes types inside (T.Exists name c t) seen cs own = inside t seen (C.Bound name ∷ cs) own
-form_sizes types inside form seen cs own = []
+abbrev pub form_listed : Types → (Typ → Asked) → Typ-F Typ → Asked
+form_listed types inside (T.Bits t) seen cs own l = listing (width (constant_under (argument_of cs) t) ∷ []) l
+form_listed types inside (T.List t) seen cs own l = inside t seen cs own l
+form_listed types inside (T.Vector n t) seen cs own l =
+    inside t seen cs own (listing (vector_length (constant_under (argument_of cs) n) ∷ []) l)
+form_listed types inside (T.Tuple ts) seen cs own l = each_listed (map inside ts) seen cs own l
+form_listed types inside (T.Named u is ts) seen cs own l =
+    fields_listed types inside u seen (map (index_under (argument_of cs)) is) (each_listed (map inside ts) seen cs own l)
+form_listed types inside (T.Variable i) seen cs own l = listing (sizes_at own i) l
+form_listed types inside (T.Exists name c t) seen cs own l = inside t seen (C.Bound name ∷ cs) own l
+form_listed types inside form seen cs own l = l
 
 -- through types inside types to this depth
-abbrev pub sizes_within : Types → ℕ → Typ → Asked
-sizes_within types zero t seen cs own = []
-sizes_within types (suc depth) t seen cs own = form_sizes types (sizes_within types depth) (out-Typ t) seen cs own
+abbrev pub listed_within : Types → ℕ → Typ → Asked
+listed_within types zero t seen cs own l = l
+listed_within types (suc depth) t seen cs own l = form_listed types (listed_within types depth) (out-Typ t) seen cs own l
 
 -- those of a type, where its Int variables are these, and what its Type variables stand for has these
 abbrev pub typ_sizes : Types → Typ → List Constant → List (List Size) → List Size
-typ_sizes types t cs own = sizes_within types deepest t [] cs own
+typ_sizes types t cs own = (listed_within types deepest t [] cs own none_listed).sizes
 
 -- those of the named type at a place under its arguments
 abbrev pub named_typ_sizes : Types → ℕ → List Constant → List (List Size) → List Size
-named_typ_sizes types u cs own = named_sizes types (sizes_within types deepest) u [] cs own
+named_typ_sizes types u cs own = (fields_listed types (listed_within types deepest) u [] cs (listing (joined own) none_listed)).sizes
 
 -- ---- the sizes in a value of some indices, where the variables of the walk are these
 

@@ -6,6 +6,7 @@
 
 mod conditions;
 mod constants;
+mod listed;
 mod numbers;
 mod sized;
 mod sizes;

@@ -1,9 +1,8 @@
 //! Types whose sizes are constants.
 ghost use Rattle.std.specs.Prelude.{◌≡◌, ◌&&◌, IfOk, nat_eq};
-ghost use Rattle.std.specs.Ordering.{int_eq};
 ghost use Rattle.size_values.specs.Sized as spec;
 
-use crate::small::both;
+use crate::small::{both, same_integer, same_place};
 use sail_base::{Boxed, Items};
 use std::alloc::{AllocError, Global};
 
@@ -95,13 +94,6 @@ pub fn copy_all_sized(alloc: Global, types: &[Sized]) -> Result<Items<Sized>, Al
     Ok(copies)
 }
 
-/// Whether two integers are the same.
-fn same_integer(a: i128, b: i128) -> bool
-    ensures { result ≡ int_eq a b }
-{
-    a == b
-}
-
 /// Whether two optional numbers are the same.
 fn same_number(a: &Option<i128>, b: &Option<i128>) -> bool
     ensures { result ≡ spec.option_eq a.now b.now }
@@ -181,11 +173,4 @@ pub fn same_all(a: &[Sized], b: &[Sized]) -> bool
         at += 1;
     }
     true
-}
-
-/// Whether two places are the same.
-fn same_place(a: u32, b: u32) -> bool
-    ensures { result ≡ nat_eq a b }
-{
-    a == b
 }

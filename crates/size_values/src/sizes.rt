@@ -1,5 +1,5 @@
 //! The sizes in types: widths of bits and lengths of vectors.
-ghost use Rattle.std.specs.Prelude.{◌≡◌, ◌∷◌, ◌++◌, [], IfOk, map};
+ghost use Rattle.std.specs.Prelude.{◌≡◌, ◌∷◌, ◌++◌, ◌||◌, [], IfOk, OnOk, map};
 ghost use Rattle.sail_types.specs.Named.{field_types};
 ghost use Rattle.sail_types.specs.declared.types.Typ.{out-Typ};
 ghost use Rattle.size_values.specs.declared.constants.Constant.TheVariants as C;
@@ -7,7 +7,9 @@ ghost use Rattle.size_values.specs.Numbers as numbers;
 ghost use Rattle.size_values.specs.Sizes as spec;
 
 use crate::constants::{Constant, copy_constant};
+use crate::listed::{Applied, Listed, list_sizes, none_listed, put_read, was_read};
 use crate::numbers::{constant_under, indices_under};
+use crate::small::either;
 use crate::variables::Variables;
 use sail_base::{Items, Text};
 use sail_types::{Field, Form, Num, Typ, Types, deepest};
@@ -78,6 +80,21 @@ pub fn join_sizes(alloc: Global, lists: &[Items<Size>]) -> Result<Items<Size>, A
     Ok(made)
 }
 
+/// Lists one size more, where the variables are these. The one error is want of memory.
+fn list_size(
+    alloc: Global,
+    largest: u32,
+    number: &Num,
+    constants: &[Constant],
+    listed: &mut Listed,
+) -> Result<(), AllocError>
+    ensures { OnOk result (listed.new ≡ spec.listing (spec.size largest
+        (numbers.constant_under (numbers.argument_of constants.now) number.now) ∷ []) listed.old) }
+{
+    let size = one_size(alloc, largest, number, &Variables::Arguments(constants))?;
+    list_sizes(listed, size)
+}
+
 /// The sizes in what a Type variable stands for.
 fn sizes_at(alloc: Global, own: &[Items<Size>], position: u32) -> Result<Items<Size>, AllocError>
     ensures { IfOk result (λ made. made ≡ spec.sizes_at own.now position) }
@@ -146,30 +163,17 @@ fn is_among(place: u32, places: &[u32]) -> bool
     false
 }
 
-/// The sizes in a type, through types inside types to this depth.
-#[cycle(sizes)]
-#[tactic(auto, using(crate::proofs::Depths::below))]
-fn sizes_within(
-    alloc: Global,
-    types: &Types,
-    depth: usize,
-    typ: &Typ,
-    around: &[u32],
-    constants: &[Constant],
-    own: &[Items<Size>],
-) -> Result<Items<Size>, AllocError>
-    ensures { IfOk result (λ made. made
-        ≡ spec.sizes_within types.now depth typ.now around.now constants.now own.now) }
+/// Whether the named type at a place is one of those around, or was read under these arguments.
+fn is_passed(place: u32, around: &[u32], arguments: &[Constant], read: &[Applied]) -> bool
+    ensures { result ≡ (spec.is_among place around.now || spec.was_read place arguments.now read.now) }
 {
-    if depth == 0 {
-        return Ok(Items::new(alloc));
-    }
-    sizes_of_form(alloc, types, depth - 1, typ, around, constants, own)
+    either(is_among(place, around), was_read(place, arguments, read))
 }
 
-/// The sizes in a type, those in the types inside it to this depth.
+/// Lists the sizes in a type, through types inside types to this depth. The one error is want of memory.
 #[cycle(sizes)]
-fn sizes_of_form(
+#[tactic(auto, using(crate::proofs::Depths::below))]
+fn list_within(
     alloc: Global,
     types: &Types,
     depth: usize,
@@ -177,65 +181,93 @@ fn sizes_of_form(
     around: &[u32],
     constants: &[Constant],
     own: &[Items<Size>],
-) -> Result<Items<Size>, AllocError>
-    ensures { IfOk result (λ made. made
-        ≡ spec.form_sizes types.now (spec.sizes_within types.now depth) (out-Typ typ.now) around.now constants.now own.now) }
+    listed: &mut Listed,
+) -> Result<(), AllocError>
+    ensures { OnOk result (listed.new
+        ≡ spec.listed_within types.now depth typ.now around.now constants.now own.now listed.old) }
+{
+    if depth == 0 {
+        return Ok(());
+    }
+    list_form(alloc, types, depth - 1, typ, around, constants, own, listed)
+}
+
+/// Lists the sizes in a type, those in the types inside it to this depth.
+#[cycle(sizes)]
+fn list_form(
+    alloc: Global,
+    types: &Types,
+    depth: usize,
+    typ: &Typ,
+    around: &[u32],
+    constants: &[Constant],
+    own: &[Items<Size>],
+    listed: &mut Listed,
+) -> Result<(), AllocError>
+    ensures { OnOk result (listed.new
+        ≡ spec.form_listed types.now (spec.listed_within types.now depth) (out-Typ typ.now) around.now constants.now own.now listed.old) }
 {
     match typ {
-        Typ::Bits(width) => one_size(alloc, 128, width, &Variables::Arguments(constants)),
-        Typ::List(item) => sizes_within(alloc, types, depth, item.get(), around, constants, own),
-        Typ::Vector(length, item) => {
-            let mut made = one_size(alloc, 4096, length, &Variables::Arguments(constants))?;
-            made.append(sizes_within(alloc, types, depth, item.get(), around, constants, own)?)?;
-            Ok(made)
-        }
-        Typ::Tuple(parts) => {
-            let parts = sizes_of_each(
+        Typ::Bits(width) => list_size(alloc, 128, width, constants, listed),
+        Typ::List(item) => {
+            list_within(
                 alloc,
                 types,
                 depth,
-                parts.as_slice(),
+                item.get(),
                 around,
                 constants,
                 own,
-            )?;
-            join_sizes(alloc, parts.as_slice())
-        }
-        Typ::Named(place, arguments, parts) => {
-            let variables = Variables::Arguments(constants);
-            let arguments = indices_under(alloc, arguments.as_slice(), &variables)?;
-            let parts = sizes_of_each(
-                alloc,
-                types,
-                depth,
-                parts.as_slice(),
-                around,
-                constants,
-                own,
-            )?;
-            sizes_of_named(
-                alloc,
-                types,
-                depth,
-                *place,
-                around,
-                arguments.as_slice(),
-                parts.as_slice(),
+                listed,
             )
         }
-        Typ::Variable(position) => sizes_at(alloc, own, *position),
+        Typ::Vector(length, item) => {
+            list_size(alloc, 4096, length, constants, listed)?;
+            list_within(
+                alloc,
+                types,
+                depth,
+                item.get(),
+                around,
+                constants,
+                own,
+                listed,
+            )
+        }
+        Typ::Tuple(parts) => {
+            let parts = parts.as_slice();
+            list_each(alloc, types, depth, parts, around, constants, own, listed)
+        }
+        Typ::Named(place, arguments, parts) => {
+            let parts = parts.as_slice();
+            list_each(alloc, types, depth, parts, around, constants, own, listed)?;
+            let variables = Variables::Arguments(constants);
+            let arguments = indices_under(alloc, arguments.as_slice(), &variables)?;
+            let arguments = arguments.as_slice();
+            list_named(alloc, types, depth, *place, around, arguments, listed)
+        }
+        Typ::Variable(position) => list_sizes(listed, sizes_at(alloc, own, *position)?),
         Typ::Exists(name, _, part) => {
             let constants = bound_before(alloc, name, constants)?;
             let constants = constants.as_slice();
-            sizes_within(alloc, types, depth, part.get(), around, constants, own)
+            list_within(
+                alloc,
+                types,
+                depth,
+                part.get(),
+                around,
+                constants,
+                own,
+                listed,
+            )
         }
-        _ => Ok(Items::new(alloc)),
+        _ => Ok(()),
     }
 }
 
-/// The sizes in each of these types.
+/// Lists the sizes in each of these types.
 #[cycle(sizes)]
-fn sizes_of_each(
+fn list_each(
     alloc: Global,
     types: &Types,
     depth: usize,
@@ -243,65 +275,80 @@ fn sizes_of_each(
     around: &[u32],
     constants: &[Constant],
     own: &[Items<Size>],
-) -> Result<Items<Items<Size>>, AllocError>
-    ensures { IfOk result (λ made. made
-        ≡ spec.each_sizes (map (spec.sizes_within types.now depth) parts.now) around.now constants.now own.now) }
+    listed: &mut Listed,
+) -> Result<(), AllocError>
+    ensures { OnOk result (listed.new
+        ≡ spec.each_listed (map (spec.listed_within types.now depth) parts.now) around.now constants.now own.now listed.old) }
 {
-    let mut made = Items::new(alloc);
     for part in parts {
-        made.push(sizes_within(alloc, types, depth, part, around, constants, own)?)?;
+        list_within(alloc, types, depth, part, around, constants, own, listed)?;
     }
-    Ok(made)
+    Ok(())
 }
 
-/// The sizes in what the named type at a place is given, then those in its fields and payloads.
+/// Lists the sizes in the fields and payloads of the named type at a place, unless it is one around or was read under these arguments.
 #[cycle(sizes)]
-fn sizes_of_named(
+fn list_named(
     alloc: Global,
     types: &Types,
     depth: usize,
     place: u32,
     around: &[u32],
-    constants: &[Constant],
-    own: &[Items<Size>],
-) -> Result<Items<Size>, AllocError>
-    ensures { IfOk result (λ made. made
-        ≡ spec.named_sizes types.now (spec.sizes_within types.now depth) place around.now constants.now own.now) }
+    arguments: &[Constant],
+    listed: &mut Listed,
+) -> Result<(), AllocError>
+    ensures { OnOk result (listed.new
+        ≡ spec.fields_listed types.now (spec.listed_within types.now depth) place around.now arguments.now listed.old) }
 {
-    let mut made = join_sizes(alloc, own)?;
-    if is_among(place, around) {
-        return Ok(made);
+    if is_passed(place, around, arguments, listed.read.as_slice()) {
+        return Ok(());
     }
+    put_read(alloc, listed, place, arguments)?;
     let around = with_place(alloc, around, place)?;
     let around = around.as_slice();
-    let fields = fields_of(types, place);
-    made.append(sizes_of_fields(alloc, types, depth, fields, around, constants, own)?)?;
-    Ok(made)
+    list_fields(
+        alloc,
+        types,
+        depth,
+        fields_of(types, place),
+        around,
+        arguments,
+        listed,
+    )
 }
 
-/// The sizes in these fields.
+/// Lists the sizes in these fields.
 #[cycle(sizes)]
-fn sizes_of_fields(
+fn list_fields(
     alloc: Global,
     types: &Types,
     depth: usize,
     fields: &[Field],
     around: &[u32],
     constants: &[Constant],
-    own: &[Items<Size>],
-) -> Result<Items<Size>, AllocError>
-    ensures { IfOk result (λ made. made ≡ spec.joined
-        (spec.each_sizes (map (spec.sizes_within types.now depth) (field_types fields.now)) around.now constants.now own.now)) }
+    listed: &mut Listed,
+) -> Result<(), AllocError>
+    ensures { OnOk result (listed.new
+        ≡ spec.each_listed (map (spec.listed_within types.now depth) (field_types fields.now)) around.now constants.now [] listed.old) }
 {
-    let mut made = Items::new(alloc);
     for field in fields {
-        made.append(sizes_within(alloc, types, depth, &field.typ, around, constants, own)?)?;
+        list_within(
+            alloc,
+            types,
+            depth,
+            &field.typ,
+            around,
+            constants,
+            &[],
+            listed,
+        )?;
     }
-    Ok(made)
+    Ok(())
 }
 
 /// The sizes in a type, from the left, where its Int and Bool variables are these, and what its Type variables stand for has these
-/// sizes. What the type itself binds isn't constant. They fail where memory is wanting.
+/// sizes; those of a named type under the same arguments once. What the type itself binds isn't constant. They fail where memory is
+/// wanting.
 pub fn typ_sizes(
     alloc: Global,
     types: &Types,
@@ -311,7 +358,18 @@ pub fn typ_sizes(
 ) -> Result<Items<Size>, AllocError>
     ensures { IfOk result (λ made. made ≡ spec.typ_sizes types.now typ.now constants.now own.now) }
 {
-    sizes_within(alloc, types, deepest(), typ, &[], constants, own)
+    let mut listed = none_listed(alloc);
+    list_within(
+        alloc,
+        types,
+        deepest(),
+        typ,
+        &[],
+        constants,
+        own,
+        &mut listed,
+    )?;
+    Ok(listed.sizes)
 }
 
 /// The sizes in the named type at a place in the table under its arguments. They fail where memory is wanting.
@@ -324,7 +382,10 @@ pub fn named_typ_sizes(
 ) -> Result<Items<Size>, AllocError>
     ensures { IfOk result (λ made. made ≡ spec.named_typ_sizes types.now place constants.now own.now) }
 {
-    sizes_of_named(alloc, types, deepest(), place, &[], constants, own)
+    let mut listed = none_listed(alloc);
+    list_sizes(&mut listed, join_sizes(alloc, own)?)?;
+    list_named(alloc, types, deepest(), place, &[], constants, &mut listed)?;
+    Ok(listed.sizes)
 }
 
 /// Whether one of these sizes isn't constant.
