@@ -1,6 +1,8 @@
+use crate::shipped_models::{RV32_BEGIN, RV32_END, RV32A, RV32I, RV32M, TOY16};
+use crate::shipped_rv64::{RV64_BEGIN, RV64A, RV64I, RV64M};
 use crate::{
     checks_rows, choices_rows, facts_rows, long_texts, members_rows, patterns_rows, shapes_rows,
-    tables_rows, words_rows,
+    tables_rows, tutorial_rows, words_rows,
 };
 use sail_outside::{MemShelf, MemSink};
 use sail_top::run_words;
@@ -316,6 +318,59 @@ fn facts_are_answered(rt: HostRuntime) -> Result<(), Fail> {
         let wrong = first_wrong(rt.alloc(), table, 4096)?;
         assert!(rt; wrong.is_none(), "{wrong:?}");
     }
+    Ok(())
+}
+
+#[test]
+fn models_of_the_tutorial_are_answered(rt: HostRuntime) -> Result<(), Fail> {
+    let wrong = first_wrong(rt.alloc(), tutorial_rows::TUTORIAL, 4096)?;
+    assert!(rt; wrong.is_none(), "{wrong:?}");
+    Ok(())
+}
+
+// What `check` writes for a model of these texts, the status first.
+fn checked(alloc: Global, texts: &[&str]) -> Result<Vec<u8>, Fail> {
+    let mut model = Vec::new(alloc);
+    for text in texts {
+        model.extend_from_slice(text.as_bytes())?;
+    }
+    let fails = (Vec::new(alloc), Vec::new(alloc));
+    answer(alloc, "check M", model, fails, 1_000_000)
+}
+
+#[test]
+fn the_shipped_machine_of_16_bits_is_accepted(rt: HostRuntime) -> Result<(), Fail> {
+    let written = checked(rt.alloc(), &[TOY16])?;
+    let wanted = "0 accepted 4 functions 53 obligations\n";
+    assert!(rt; written.as_slice() == wanted.as_bytes());
+    Ok(())
+}
+
+#[test]
+fn the_shipped_rv32i_is_accepted(rt: HostRuntime) -> Result<(), Fail> {
+    let written = checked(rt.alloc(), &[RV32_BEGIN, RV32I, RV32_END])?;
+    let wanted = "0 accepted 10 functions 688 obligations\n";
+    assert!(rt; written.as_slice() == wanted.as_bytes());
+    Ok(())
+}
+
+#[test]
+fn the_shipped_rv32ima_is_accepted(rt: HostRuntime) -> Result<(), Fail> {
+    let texts = [RV32_BEGIN, RV32I, RV32M, RV32A, RV32_END];
+    let written = checked(rt.alloc(), &texts)?;
+    let wanted = "0 accepted 13 functions 1014 obligations\n";
+    assert!(rt; written.as_slice() == wanted.as_bytes());
+    Ok(())
+}
+
+#[test]
+fn the_shipped_rv64ima_is_accepted(rt: HostRuntime) -> Result<(), Fail> {
+    let texts = [
+        RV64_BEGIN, RV32I, RV64I, RV32M, RV64M, RV32A, RV64A, RV32_END,
+    ];
+    let written = checked(rt.alloc(), &texts)?;
+    let wanted = "0 accepted 16 functions 1490 obligations\n";
+    assert!(rt; written.as_slice() == wanted.as_bytes());
     Ok(())
 }
 

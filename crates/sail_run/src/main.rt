@@ -18,9 +18,15 @@ mod patterns_rows;
 #[cfg(test)]
 mod shapes_rows;
 #[cfg(test)]
+mod shipped_models;
+#[cfg(test)]
+mod shipped_rv64;
+#[cfg(test)]
 mod tables_rows;
 #[cfg(test)]
 mod tests;
+#[cfg(test)]
+mod tutorial_rows;
 #[cfg(test)]
 mod words_rows;
 
