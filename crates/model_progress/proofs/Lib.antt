@@ -1,0 +1,9 @@
+pub mod Frames
+pub mod Deciding
+pub mod Given
+pub mod Depths
+pub mod Meant
+pub mod Events
+pub mod Openings
+pub mod Opened
+pub mod Runs

@@ -1,0 +1,3 @@
+pub mod Checked
+pub mod Shaped
+pub mod Progress
