@@ -1,0 +1,6 @@
+mod Pieces
+mod Names
+mod Patterns
+mod Targets
+mod NodesAlike
+mod Models
