@@ -1,9 +1,1 @@
-pub mod Fields
-pub mod CalledWalks
-pub mod AimedWalks
-pub mod Assigned
 pub mod Forms
-pub mod Cases
-pub mod CallTargets
-pub mod Ways
-pub mod Ranges

@@ -1,34 +1,26 @@
 //! What is made of an expression.
-ghost use Rattle.std.specs.Prelude.{◌≡◌, ◌∷◌, ◌++◌, [], map, IfOk, OnOk};
+ghost use Rattle.std.specs.Prelude.{◌≡◌, IfOk, OnOk};
 ghost use Rattle.shape_rules.specs.Around.{setting_of};
-ghost use Rattle.shape_rules.specs.Findings.{first_failure, given_on, cast};
-ghost use Rattle.shape_rules.specs.Values as values;
-ghost use Rattle.shape_rules.specs.Expressions.{elaborate as elaborated, part};
+ghost use Rattle.shape_rules.specs.Findings.{first_failure};
+ghost use Rattle.shape_rules.specs.Expressions.{elaborate as elaborated};
 ghost use Rattle.shape_calls.specs.Made.{made_of};
-ghost use Rattle.shape_walks.specs.Walks.{want_of, took, one_faults, each_taken, each_faults};
-ghost use Rattle.shape_walks.specs.Heads.{head_found};
-ghost use Rattle.shape_walks.specs.Trees.{elaborates};
 
-use crate::branches::{if_alone, if_else, match_cases, try_cases};
-use crate::calls::call_named;
-use crate::leaving::{assert, leave, typed};
-use crate::loops::{foreach, looped};
-use crate::parts::{part_found, update_found};
-use crate::statements::{block, block_alone, let_in, var_in};
-use crate::structs::{struct_found, with_found};
-use crate::targets::assign;
-use sail_base::{Items, Operator, Place};
-use sail_core::Core;
 use sail_syntax::{Asking, Choosing, Exp};
 use sail_types::Shape;
-use shape_calls::{Made, constant_found, given_on, name_found, refused};
+use shape_calls::{Made, constant_found, name_found};
 use shape_forms::{size, truth};
 use shape_rules::{Around, First, Locals};
-use shape_walks::{Head, Walk, count_of, finish_infix, place_of, take_noted, turn};
+use shape_statements::{
+    block, block_alone, foreach, if_alone, if_else, let_in, looped, match_cases, try_cases, var_in,
+};
+use shape_targets::{assign, part_found, update_found};
+use shape_values::{
+    Walker, assert, call_named, infix, leave, listed, struct_found, typed, with_found,
+};
+use shape_walks::Head;
 use std::alloc::{AllocError, Global};
 
 /// The shape and the core of an expression.
-#[cycle(elaborate)]
 pub fn elaborate(
     alloc: Global,
     expression: &Exp,
@@ -42,6 +34,11 @@ pub fn elaborate(
         (elaborated expression.now (setting_of around.now) locals.old want.now).faults) }
     ensures locals { OnOk result (locals.new ≡ locals.old) }
 {
+    let walker = Walker {
+        alloc,
+        whole: expression,
+        part: elaborate,
+    };
     match expression {
         Exp::Constant(place, literal) => constant_found(alloc, *place, literal, want, first),
         Exp::Variable(name) => {
@@ -51,10 +48,10 @@ pub fn elaborate(
         }
         Exp::Call(name, arguments) => {
             let front = arguments.as_slice();
-            call_named(alloc, name, front, &[], around, locals, want, first)
+            call_named(&walker, name, front, &[], around, locals, want, first)
         }
         Exp::Prefixed(place, prefix, operand) => listed(
-            alloc,
+            &walker,
             Head::Prefixed(*place, *prefix),
             std::slice::from_ref(operand.get()),
             &[],
@@ -69,7 +66,7 @@ pub fn elaborate(
             left,
             right,
         } => infix(
-            alloc,
+            &walker,
             *place,
             *operator,
             left.get(),
@@ -80,7 +77,7 @@ pub fn elaborate(
             first,
         ),
         Exp::Group(place, brackets, items) => listed(
-            alloc,
+            &walker,
             Head::Group(*place, *brackets),
             items.as_slice(),
             &[],
@@ -91,7 +88,7 @@ pub fn elaborate(
         ),
         Exp::Leave(place, leaving, value) => {
             leave(
-                alloc,
+                &walker,
                 *place,
                 *leaving,
                 value.get(),
@@ -103,7 +100,7 @@ pub fn elaborate(
         }
         Exp::Part(place, base, suffixes) => {
             part_found(
-                alloc,
+                &walker,
                 *place,
                 base.get(),
                 suffixes.as_slice(),
@@ -114,7 +111,16 @@ pub fn elaborate(
             )
         }
         Exp::Typed(place, value, typ) => {
-            typed(alloc, *place, value.get(), typ, around, locals, want, first)
+            typed(
+                &walker,
+                *place,
+                value.get(),
+                typ,
+                around,
+                locals,
+                want,
+                first,
+            )
         }
         Exp::Assign {
             place,
@@ -122,7 +128,7 @@ pub fn elaborate(
             more,
             value,
         } => assign(
-            alloc,
+            &walker,
             *place,
             target.get(),
             more.as_slice(),
@@ -134,7 +140,7 @@ pub fn elaborate(
         ),
         Exp::Block(place, statements, Some(value)) => {
             block(
-                alloc,
+                &walker,
                 *place,
                 statements.as_slice(),
                 value.get(),
@@ -146,7 +152,7 @@ pub fn elaborate(
         }
         Exp::Block(place, statements, None) => {
             block_alone(
-                alloc,
+                &walker,
                 *place,
                 statements.as_slice(),
                 around,
@@ -161,7 +167,7 @@ pub fn elaborate(
             bound,
             body,
         } => let_in(
-            alloc,
+            &walker,
             *place,
             pattern,
             bound.get(),
@@ -178,7 +184,7 @@ pub fn elaborate(
             initial,
             body,
         } => var_in(
-            alloc,
+            &walker,
             *place,
             name,
             typ,
@@ -195,7 +201,7 @@ pub fn elaborate(
             then,
             otherwise: Some(otherwise),
         } => if_else(
-            alloc,
+            &walker,
             *place,
             condition.get(),
             then.get(),
@@ -211,7 +217,7 @@ pub fn elaborate(
             then,
             otherwise: None,
         } => if_alone(
-            alloc,
+            &walker,
             *place,
             condition.get(),
             then.get(),
@@ -227,7 +233,7 @@ pub fn elaborate(
             cases,
         } => match choosing {
             Choosing::Match => match_cases(
-                alloc,
+                &walker,
                 *place,
                 cases.as_slice(),
                 value.get(),
@@ -237,7 +243,7 @@ pub fn elaborate(
                 first,
             ),
             Choosing::Try => try_cases(
-                alloc,
+                &walker,
                 *place,
                 cases.as_slice(),
                 value.get(),
@@ -253,7 +259,7 @@ pub fn elaborate(
             range,
             body,
         } => foreach(
-            alloc,
+            &walker,
             *place,
             name,
             range.get(),
@@ -270,7 +276,7 @@ pub fn elaborate(
             condition,
             body,
         } => looped(
-            alloc,
+            &walker,
             *place,
             *looping,
             measure,
@@ -287,7 +293,7 @@ pub fn elaborate(
             index,
             value,
         } => update_found(
-            alloc,
+            &walker,
             *place,
             base.get(),
             index.get(),
@@ -299,7 +305,7 @@ pub fn elaborate(
         ),
         Exp::Struct(place, name, fields) => {
             struct_found(
-                alloc,
+                &walker,
                 *place,
                 name,
                 fields.as_slice(),
@@ -311,7 +317,7 @@ pub fn elaborate(
         }
         Exp::With(place, base, fields) => {
             with_found(
-                alloc,
+                &walker,
                 *place,
                 base.get(),
                 fields.as_slice(),
@@ -327,7 +333,7 @@ pub fn elaborate(
         },
         Exp::Assert(place, condition, text) => {
             assert(
-                alloc,
+                &walker,
                 *place,
                 condition.get(),
                 text,
@@ -338,177 +344,4 @@ pub fn elaborate(
             )
         }
     }
-}
-
-/// One part more of a walk.
-#[cycle(elaborate)]
-#[tactic(auto, using(shape_walks::proofs::Taught::one_noted, shape_calls::proofs::Apart::some_noted))]
-pub(crate) fn push_one(
-    alloc: Global,
-    expression: &Exp,
-    around: &Around<'_>,
-    locals: &mut Locals,
-    walk: Walk,
-    first: &mut First,
-) -> Result<Walk, AllocError>
-    ensures walk { IfOk result (λ next. next ≡ took walk (elaborated expression.now (setting_of around.now) locals.old (want_of walk))) }
-    ensures failures { OnOk result (first.new.error ≡ first_failure first.old.error
-        (one_faults walk (elaborated expression.now (setting_of around.now) locals.old (want_of walk)))) }
-    ensures locals { OnOk result (locals.new ≡ locals.old) }
-{
-    let want = walk.want(alloc)?;
-    let mut apart = First::none();
-    let made = elaborate(alloc, expression, around, locals, &want, &mut apart)?;
-    take_noted(alloc, walk, made, apart, first)
-}
-
-/// Parts more of a walk.
-#[cycle(elaborate)]
-#[tactic(auto, using(shape_rules::proofs::Firsts::first_failure_append))]
-pub(crate) fn push_all(
-    alloc: Global,
-    expressions: &[Exp],
-    around: &Around<'_>,
-    locals: &mut Locals,
-    mut walk: Walk,
-    first: &mut First,
-) -> Result<Walk, AllocError>
-    ensures walk { IfOk result (λ next. next ≡ each_taken (elaborates expressions.now) (setting_of around.now) locals.old walk) }
-    ensures failures { OnOk result (first.new.error ≡ first_failure first.old.error
-        (each_faults (elaborates expressions.now) (setting_of around.now) locals.old walk)) }
-    ensures locals { OnOk result (locals.new ≡ locals.old) }
-{
-    for expression in expressions {
-        walk = push_one(alloc, expression, around, locals, walk, first)?;
-    }
-    Ok(walk)
-}
-
-/// A form over two lists of expressions, one behind the other.
-#[cycle(elaborate)]
-#[tactic(auto, using(shape_walks::proofs::Listed::listed_is, shape_walks::proofs::Listed::listed_refused, shape_walks::proofs::Listed::listed_bare, shape_rules::proofs::Firsts::first_failure_append))]
-pub(crate) fn listed(
-    alloc: Global,
-    head: Head<'_>,
-    front: &[Exp],
-    back: &[Exp],
-    around: &Around<'_>,
-    locals: &mut Locals,
-    want: &Shape,
-    first: &mut First,
-) -> Result<Made, AllocError>
-    ensures made { IfOk result (λ made. made
-        ≡ made_of (head_found head.entry (map part front.now ++ map part back.now) (setting_of around.now) locals.old want.now)) }
-    ensures failures { OnOk result (first.new.error ≡ first_failure first.old.error
-        (head_found head.entry (map part front.now ++ map part back.now) (setting_of around.now) locals.old want.now).faults) }
-    ensures locals { OnOk result (locals.new ≡ locals.old) }
-{
-    let count = count_of(front, back);
-    if count == 0 {
-        return head.bare(alloc, around, want, first);
-    }
-    if let Some(error) = head.count_failure(count) {
-        return Ok(refused(alloc, error, first));
-    }
-    let begun = head.begin(alloc, count, want)?;
-    let fronted = push_all(alloc, front, around, locals, begun, first)?;
-    let walk = push_all(alloc, back, around, locals, fronted, first)?;
-    head.finish(alloc, around, walk, want, first)
-}
-
-/// An operator between two operands.
-#[cycle(elaborate)]
-#[tactic(auto, using(shape_walks::proofs::Infixes::infix_walked, shape_rules::proofs::Firsts::first_failure_append))]
-fn infix(
-    alloc: Global,
-    place: Place,
-    operator: Operator,
-    left: &Exp,
-    right: &Exp,
-    around: &Around<'_>,
-    locals: &mut Locals,
-    want: &Shape,
-    first: &mut First,
-) -> Result<Made, AllocError>
-    ensures made { IfOk result (λ made. made
-        ≡ made_of (values.infix_found place operator (part left.now) (part right.now) (setting_of around.now) locals.old want.now)) }
-    ensures failures { OnOk result (first.new.error ≡ first_failure first.old.error
-        (values.infix_found place operator (part left.now) (part right.now) (setting_of around.now) locals.old want.now).faults) }
-    ensures locals { OnOk result (locals.new ≡ locals.old) }
-{
-    let begun = Head::Infix(place, operator).begin(alloc, 2, want)?;
-    let one = push_one(alloc, left, around, locals, begun, first)?;
-    let turned = turn(alloc, operator, one)?;
-    let walk = push_one(alloc, right, around, locals, turned, first)?;
-    finish_infix(alloc, place, operator, around, walk, want, first)
-}
-
-/// An expression as a part of another: its core goes behind others. The one error is want of memory.
-#[cycle(elaborate)]
-#[tactic(auto, using(shape_rules::proofs::Firsts::first_failure_append))]
-pub(crate) fn push_part(
-    alloc: Global,
-    expression: &Exp,
-    around: &Around<'_>,
-    locals: &mut Locals,
-    want: &Shape,
-    parts: &mut Items<Core>,
-    first: &mut First,
-) -> Result<Shape, AllocError>
-    ensures shape { IfOk result (λ shape. shape ≡ (elaborated expression.now (setting_of around.now) locals.old want.now).shape) }
-    ensures parts { OnOk result (parts.new ≡ parts.old ++ (elaborated expression.now (setting_of around.now) locals.old want.now).core ∷ []) }
-    ensures failures { OnOk result (first.new.error ≡ first_failure first.old.error
-        (elaborated expression.now (setting_of around.now) locals.old want.now).faults) }
-    ensures locals { OnOk result (locals.new ≡ locals.old) }
-{
-    let made = elaborate(alloc, expression, around, locals, want, first)?;
-    made.into_shape(parts)
-}
-
-/// The same, where its value comes to the type that is wanted of it. The one error is want of memory.
-#[cycle(elaborate)]
-#[tactic(auto, using(shape_rules::proofs::Firsts::first_failure_append))]
-pub(crate) fn push_cast(
-    alloc: Global,
-    expression: &Exp,
-    around: &Around<'_>,
-    locals: &mut Locals,
-    want: &Shape,
-    parts: &mut Items<Core>,
-    first: &mut First,
-) -> Result<Shape, AllocError>
-    ensures shape { IfOk result (λ shape. shape ≡ (elaborated expression.now (setting_of around.now) locals.old want.now).shape) }
-    ensures parts { OnOk result (parts.new ≡ parts.old
-        ++ cast (elaborated expression.now (setting_of around.now) locals.old want.now).core (part expression.now).place ∷ []) }
-    ensures failures { OnOk result (first.new.error ≡ first_failure first.old.error
-        (elaborated expression.now (setting_of around.now) locals.old want.now).faults) }
-    ensures locals { OnOk result (locals.new ≡ locals.old) }
-{
-    let made = elaborate(alloc, expression, around, locals, want, first)?;
-    made.into_cast_shape(alloc, place_of(expression), parts)
-}
-
-/// An expression as a branch of another: its core goes behind others, and its shape to those behind it. The one error is want of
-/// memory.
-#[cycle(elaborate)]
-#[tactic(auto, using(shape_rules::proofs::Firsts::first_failure_append))]
-pub(crate) fn push_branch(
-    alloc: Global,
-    expression: &Exp,
-    around: &Around<'_>,
-    locals: &mut Locals,
-    want: Shape,
-    parts: &mut Items<Core>,
-    first: &mut First,
-) -> Result<Shape, AllocError>
-    ensures shape { IfOk result (λ shape. shape
-        ≡ given_on want (elaborated expression.now (setting_of around.now) locals.old want).shape) }
-    ensures parts { OnOk result (parts.new ≡ parts.old
-        ++ cast (elaborated expression.now (setting_of around.now) locals.old want).core (part expression.now).place ∷ []) }
-    ensures failures { OnOk result (first.new.error ≡ first_failure first.old.error
-        (elaborated expression.now (setting_of around.now) locals.old want).faults) }
-    ensures locals { OnOk result (locals.new ≡ locals.old) }
-{
-    let shape = push_cast(alloc, expression, around, locals, &want, parts, first)?;
-    given_on(alloc, want, &shape)
 }

@@ -1,20 +1,12 @@
 //! What is made of an expression: its shape, its core, and its failures.
 //!
-//! One cycle of functions walks over expressions, statements and targets, a function for each form: it finds the parts by `elaborate`
-//! and finishes by a function of `shape_walks` or `shape_forms`, whose definitions stay closed here. What the forms are is said by the
-//! definitions of `shape_rules`.
+//! `elaborate` hands each form to the function of `shape_values`, `shape_statements` or `shape_targets` for it, and itself along, for the
+//! expressions inside. What the forms are is said by the definitions of `shape_rules`.
 #![tactic(auto)]
 
-mod branches;
-mod calls;
 mod expressions;
-mod leaving;
-mod loops;
-mod parts;
-mod statements;
-mod structs;
-mod targets;
+mod typed;
 
 pub use expressions::elaborate;
-pub use leaving::elaborate_typed;
 pub use shape_walks::place_of;
+pub use typed::elaborate_typed;

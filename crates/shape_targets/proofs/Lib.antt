@@ -1,0 +1,4 @@
+pub mod Ways
+pub mod AimedWalks
+pub mod Assigned
+pub mod CallTargets

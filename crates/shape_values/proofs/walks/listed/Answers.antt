@@ -1,0 +1,19 @@
+use Rattle.std.proofs.Common.{sym, ap, ◌∙◌}
+use Rattle.shape_rules.specs.Around.{setting_of}
+use Rattle.shape_rules.specs.Findings.{first_failure, Found}
+use Rattle.shape_calls.specs.Made.{made_of}
+use Rattle.shape_walks.proofs.Listed.{listed_refused}
+use Rattle.shape_values.proofs.walks.listed.Goals as goal
+
+pub returns-in-Some-clause-made : goal.returns-in-Some-clause-made
+returns-in-Some-clause-made g c =
+    c.refused.ensures.made
+    ∙ ap made_of (sym (listed_refused c.args.head c.args.front.now c.args.back.now (setting_of c.args.around.now) c.args.locals.now c.args.want.now
+    c.count_of-count.result c.in-Some.error c.count_of-count.ensures c.if-count-eq0.false (sym c.count_failure.ensures ∙ c.in-Some.is)))
+
+pub returns-in-Some-clause-failures : goal.returns-in-Some-clause-failures
+returns-in-Some-clause-failures g c =
+    c.refused.ensures.failures
+    ∙ ap (λ (a : Found). first_failure c.args.first.now.error a.faults)
+    (sym (listed_refused c.args.head c.args.front.now c.args.back.now (setting_of c.args.around.now) c.args.locals.now c.args.want.now
+    c.count_of-count.result c.in-Some.error c.count_of-count.ensures c.if-count-eq0.false (sym c.count_failure.ensures ∙ c.in-Some.is)))

@@ -1,0 +1,2 @@
+-- what the functions of the walk are given
+pub mod Walkers
