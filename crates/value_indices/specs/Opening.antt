@@ -56,9 +56,10 @@ unfoldable pub truth_or_fresh : Option Con → Walk Con
 truth_or_fresh None = bind fresh (λ p. give (C.Holds p))
 truth_or_fresh (Some c) = give c
 
+-- an argument may be any number: nothing is known of one that can't be said
 unfoldable pub index_or_fresh : Index → Option Index → Walk Index
 index_or_fresh kind (Some i) = give i
-index_or_fresh (N.Number t) None = bind fresh_integer (λ n. give (N.Number n))
+index_or_fresh (N.Number t) None = bind fresh (λ v. give (N.Number (variable v)))
 index_or_fresh (N.Truth c) None = bind fresh (λ p. give (N.Truth (C.Holds p)))
 
 unfoldable pub read_or_fresh : List Index → Index → Walk Index

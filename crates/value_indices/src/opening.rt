@@ -114,7 +114,7 @@ pub fn truth_or_fresh(walked: &mut Walking, truth: Option<Con>) -> Result<Con, A
     }
 }
 
-/// An argument, or a variable for one of that kind that can't be said. It fails where memory is wanting, and where variables are too many.
+/// An argument, or a variable for one of that kind that can't be said, of which nothing is known. It fails where memory is wanting, and where variables are too many.
 #[tactic(auto, using(crate::proofs::Walks::walks), unfolding(crate::specs::Opening::index_or_fresh))]
 pub fn index_or_fresh(
     alloc: Global,
@@ -129,7 +129,7 @@ pub fn index_or_fresh(
         return Ok(index);
     }
     match kind {
-        Index::Number(_) => Ok(Index::Number(fresh_integer(alloc, walked)?)),
+        Index::Number(_) => Ok(Index::Number(Num::variable(alloc, walked.fresh()?)?)),
         Index::Truth(_) => Ok(Index::Truth(Con::Holds(walked.fresh()?))),
     }
 }
