@@ -156,10 +156,11 @@ in_range n low high = option_map (λ a. at_most a n) low ∷ option_map (λ b. a
 abbrev pub bound_by : Fit → Indices → Con → Typ → List Index → List Reading → ℕ → Fitted
 bound_by fit i c t is rs n = also (says (read_con is c ∷ []) n) (fit i (R.Of t is rs))
 
--- the number at the place of the bound variable, first
+-- the number at the place of the bound variable, first; a truth is no number
 abbrev pub bound_fits : Fit → Indices → Con → Typ → List Index → List Reading → Option Index → ℕ → Fitted
 bound_fits fit i c t is rs None n = never n
-bound_fits fit i c t is rs (Some j) n = bound_by fit i c t (j ∷ is) rs n
+bound_fits fit i c t is rs (Some (N.Truth d)) n = never n
+bound_fits fit i c t is rs (Some (N.Number m)) n = bound_by fit i c t (N.Number m ∷ is) rs n
 
 -- Type variables of the function around them
 abbrev pub same_variable : ℕ → ℕ → ℕ → Fitted

@@ -247,9 +247,8 @@ fn bound_fits(
         (fitting.placed inside.now 0 value.now) next) }
 {
     match placed(alloc, inside, 0, value)? {
-        None => Fitted::never(alloc, next),
-        Some(own) => {
-            let indices = behind(alloc, own, indices)?;
+        Some(Index::Number(own)) => {
+            let indices = behind(alloc, Index::Number(own), indices)?;
             bound_by(
                 alloc,
                 types,
@@ -262,6 +261,7 @@ fn bound_fits(
                 next,
             )
         }
+        _ => Fitted::never(alloc, next),
     }
 }
 
