@@ -6,13 +6,11 @@ ghost use Rattle.sail_bodies.specs.Bodies.{clauses_failures, measure_failures, s
 
 use sail_base::{Boxed, Items};
 use sail_kinds::First;
-use sail_names::{
-    Around, Locals, enter_parameters, enter_pattern, note_all, push_expression,
-    push_function_clause, push_mapping_clause,
-};
+use sail_names::{Around, Locals, enter_parameters, enter_pattern, note_all};
 use sail_signatures::read_typ;
 use sail_syntax::{Exp, FunctionClause, MappingClause, Pat, Sides};
 use std::alloc::{AllocError, Global};
+use used_names::{push_expression, push_function_clause, push_mapping_clause};
 
 /// Notes the failures of the clauses of a function.
 pub(crate) fn note_clauses(

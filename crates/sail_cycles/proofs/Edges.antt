@@ -3,7 +3,7 @@ use Rattle.std.proofs.Common.{◌≡◌, ◌≢◌, ℕ, suc, ◌+◌, ◌<◌, 
 use Rattle.std.proofs.Common.{map, filter, refl, sym, ap, ◌∙◌, subst, append_assoc, append-nil, add-zero, zero-add, arith}
 use Rattle.std.specs.Prelude.{slice_set}
 use Rattle.sail_syntax.specs.declared.definitions.Def.{Def}
-use Rattle.sail_names.specs.declared.callees.Which.{Which}
+use Rattle.sail_cycles.specs.declared.expressions.Which.{Which}
 use Rattle.sail_names.specs.Known.{Known}
 use Rattle.std.proofs.lemmas.Bool.Decides.{eqb_tells, Decides-ltb}
 use Rattle.std.proofs.lemmas.List.{map-append, take_more, flat_map_more, get_or-set_same, get_or-set_other, length-set}

@@ -16,10 +16,10 @@ use Rattle.sail_kinds.specs.declared.error.TableError.{TableError}
 use Rattle.sail_kinds.specs.declared.error.TableError.TheVariants as error
 use Rattle.sail_names.specs.declared.names.Global.{Global}
 use Rattle.sail_names.specs.declared.names.Global.TheVariants as G
-use Rattle.sail_names.specs.declared.callees.Which.{Which}
-use Rattle.sail_names.specs.declared.callees.Which.TheVariants.{CallsAndPatterns, Patterns}
+use Rattle.sail_cycles.specs.declared.expressions.Which.{Which}
+use Rattle.sail_cycles.specs.declared.expressions.Which.TheVariants.{CallsAndPatterns, Patterns}
 use Rattle.sail_names.specs.Known.{Known}
-use Rattle.sail_names.specs.Callees.{pattern_callees, expression_callees}
+use Rattle.sail_cycles.specs.Callees.{pattern_callees, expression_callees}
 use Rattle.sail_signatures.specs.Parts.{parts_of}
 
 -- ---- what a body can enter

@@ -2,8 +2,9 @@ ghost use Rattle.std.specs.Prelude.{◌≡◌, ◌++◌, OnOk, flat_map};
 ghost use Rattle.sail_names.specs.Known.{known_of};
 ghost use Rattle.sail_cycles.specs.Cycles.{clause_callees, side_callees, mapping_clause_callees, callees};
 
+use crate::expressions::{Which, push_callees_of, push_pattern_callees};
 use sail_base::Items;
-use sail_names::{Names, Which, push_callees_of, push_pattern_callees};
+use sail_names::Names;
 use sail_syntax::{Def, FunctionClause, MappingClause, Side};
 use std::alloc::AllocError;
 

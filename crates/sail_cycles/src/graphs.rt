@@ -3,9 +3,10 @@ ghost use Rattle.sail_names.specs.Known.{known_of};
 ghost use Rattle.sail_cycles.specs.Cycles.{number_named, own_number, edges, Edge, HasEdges, AreCyclesOf, TellsCycles, is_cyclic_at, graph_of as graph_between};
 
 use crate::callees::push_callees;
+use crate::expressions::Which;
 use call_graph::{Cycles, Graph, find_cycles};
 use sail_base::Items;
-use sail_names::{Global as Named, Names, Which};
+use sail_names::{Global as Named, Names};
 use sail_syntax::Def;
 use std::alloc::{AllocError, Global};
 

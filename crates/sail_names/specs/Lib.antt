@@ -4,6 +4,5 @@ pub mod Known
 pub mod Patterns
 pub mod Uses
 pub mod Clauses
-pub mod Callees
 -- what the contracts of private functions say
 pub mod parts

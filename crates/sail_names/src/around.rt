@@ -35,7 +35,7 @@ pub struct Around<'a> {
 
 impl Around<'_> {
     /// Where the measure of a loop stands.
-    pub(crate) fn measure(self) -> Self
+    pub fn measure(self) -> Self
         ensures { setting_of result ≡ in_measure (setting_of self.entry) }
     {
         Around {
@@ -45,7 +45,7 @@ impl Around<'_> {
     }
 
     /// Whether a name can be a value by itself.
-    pub(crate) fn is_value(&self, locals: &Locals, name: &str) -> bool
+    pub fn is_value(&self, locals: &Locals, name: &str) -> bool
         ensures { result ≡ is_value (setting_of self.now) locals.now name.now }
     {
         locals.binding_of(name).is_some() || self.is_global_value(self.names.value(name))
@@ -63,7 +63,7 @@ impl Around<'_> {
     }
 
     /// Whether a name can be called.
-    pub(crate) fn is_callee(&self, name: &str) -> bool
+    pub fn is_callee(&self, name: &str) -> bool
         ensures { result ≡ is_callee (setting_of self.now) name.now }
     {
         is_global_callee(self.allowed, self.names.value(name))
@@ -77,7 +77,7 @@ impl Around<'_> {
     }
 
     /// Whether a name can be assigned.
-    pub(crate) fn is_assigned(&self, locals: &Locals, name: &str) -> bool
+    pub fn is_assigned(&self, locals: &Locals, name: &str) -> bool
         ensures { result ≡ is_assigned (setting_of self.now) locals.now name.now }
     {
         match locals.binding_of(name) {

@@ -24,7 +24,7 @@ pub fn note_all(failures: Items<TableError>, first: &mut First)
 }
 
 /// Adds that a name means nothing where it stands, unless it is used well. The one error is want of memory.
-pub(crate) fn push_unless(
+pub fn push_unless(
     is_used_well: bool,
     name: &Name,
     failures: &mut Items<TableError>,

@@ -1,13 +1,10 @@
-//! What each name in an expression, a pattern or a target means where it stands.
+//! What each name means where it stands, and the failures of patterns and of the parts of expressions.
 //!
 //! The local names in scope stand in `specs/Locals`, what can be named how in `specs/Known`, the failures of patterns in
-//! `specs/Patterns`, of expressions in `specs/Uses` and of clauses in `specs/Clauses`, and what calls and patterns can enter in `specs/Callees`.
+//! `specs/Patterns`, of expressions in `specs/Uses` and of clauses in `specs/Clauses`; `used_names` finds those of expressions and clauses.
 #![tactic(auto)]
 
 mod around;
-mod callees;
-mod clauses;
-mod expressions;
 mod failures;
 mod locals;
 mod names;
@@ -15,10 +12,11 @@ mod patterns;
 mod uses;
 
 pub use around::{Allowed, Around};
-pub use callees::{Which, push_callees_of, push_pattern_callees};
-pub use clauses::{push_function_clause, push_mapping_clause};
-pub use expressions::push_expression;
-pub use failures::{note_all, push_clashes, push_type};
+pub use failures::{note_all, push_clashes, push_type, push_unless};
 pub use locals::{Binding, Locals};
 pub use names::{Global, Names};
 pub use patterns::{enter_parameters, enter_pattern};
+pub use uses::{
+    push_annotation, push_asked, push_field, push_field_clashes, push_leaving,
+    push_missing_measure, push_struct,
+};

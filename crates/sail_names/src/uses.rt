@@ -12,8 +12,8 @@ use sail_kinds::TableError;
 use sail_syntax::{Asking, FieldValue, Leaving, Looping, Name, TyExp};
 use std::alloc::{AllocError, Global};
 
-/// Adds the failures of an annotation, if there is one.
-pub(crate) fn push_annotation(
+/// Adds the failures of an annotation, if there is one. The one error is want of memory.
+pub fn push_annotation(
     alloc: Global,
     typ: &Option<TyExp>,
     around: Around,
@@ -27,8 +27,8 @@ pub(crate) fn push_annotation(
     }
 }
 
-/// Adds the failures of what a `sizeof` or a `constraint` asks of.
-pub(crate) fn push_asked(
+/// Adds the failures of what a `sizeof` or a `constraint` asks of. The one error is want of memory.
+pub fn push_asked(
     alloc: Global,
     typ: &TyExp,
     around: Around,
@@ -43,8 +43,8 @@ pub(crate) fn push_asked(
     }
 }
 
-/// Adds that a `throw` has no union `exception`.
-pub(crate) fn push_leaving(
+/// Adds that a `throw` has no union `exception`, where there is none. The one error is want of memory.
+pub fn push_leaving(
     alloc: Global,
     place: Place,
     leaving: Leaving,
@@ -73,8 +73,8 @@ fn push_throw(
     push_no_name(alloc, place, "exception", failures)
 }
 
-/// Adds that no struct has a field.
-pub(crate) fn push_field(
+/// Adds that no struct has a field, unless one has it. The one error is want of memory.
+pub fn push_field(
     name: &Name,
     around: Around,
     failures: &mut Items<TableError>,
@@ -84,8 +84,8 @@ pub(crate) fn push_field(
     push_unless(around.names.is_field(name.text.as_str()), name, failures)
 }
 
-/// Adds that the name of a struct literal is no struct's.
-pub(crate) fn push_struct(
+/// Adds that the name of a struct literal is no struct's, unless it is. The one error is want of memory.
+pub fn push_struct(
     name: &Option<Name>,
     around: Around,
     failures: &mut Items<TableError>,
@@ -98,8 +98,8 @@ pub(crate) fn push_struct(
     }
 }
 
-/// Adds each field that stands among them before.
-pub(crate) fn push_field_clashes(
+/// Adds each of these fields whose name stands among them before. The one error is want of memory.
+pub fn push_field_clashes(
     alloc: Global,
     fields: &[FieldValue],
     failures: &mut Items<TableError>,
@@ -121,8 +121,8 @@ fn field_names<'a>(alloc: Global, fields: &'a [FieldValue]) -> Result<Vec<&'a Na
     Ok(names)
 }
 
-/// Adds that a loop has no measure.
-pub(crate) fn push_missing_measure(
+/// Adds that a loop has no measure. The one error is want of memory.
+pub fn push_missing_measure(
     alloc: Global,
     place: Place,
     looping: Looping,

@@ -1,12 +1,6 @@
--- Local names in scope inside of others: those, and more in front of them.
-use Rattle.std.specs.Prelude.{◌≡◌, ◌-◌, ◌≤◌, List, length, drop}
+-- Names that are pointed to.
 use Rattle.std.specs.Borrow.{Bor}
 use Rattle.sail_syntax.specs.declared.name.Name.{Name}
-use Rattle.sail_names.specs.Locals.{Local}
-
-pub record IsInside (inner outer : List Local) : Type 0 where
-  pub more : length outer ≤ length inner
-  pub same : drop (length inner - length outer) inner ≡ outer
 
 -- the name that is pointed to
 abbrev pub pointed : Bor Name → Name

@@ -1,7 +1,7 @@
 use Rattle.std.proofs.Common.{◌≡◌, ◌++◌, drop}
 use Rattle.std.specs.Prelude.{flat_map}
 use Rattle.sail_names.specs.Known.{known_of}
-use Rattle.sail_names.specs.Callees.{pattern_callees}
+use Rattle.sail_cycles.specs.Callees.{pattern_callees}
 use Rattle.sail_cycles.proofs.callees.push_clause.Given as goal
 
 abbrev pub invariant-loop-parameter : goal.invariant-loop-parameter

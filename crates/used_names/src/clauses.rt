@@ -5,14 +5,10 @@ ghost use Rattle.sail_names.specs.Locals.{behind};
 ghost use Rattle.sail_names.specs.Patterns.{binds};
 ghost use Rattle.sail_names.specs.Clauses as spec;
 
-use crate::around::Around;
 use crate::expressions::{push_expression, push_maybe};
-use crate::failures::push_unless;
-use crate::locals::Locals;
-use crate::patterns::{enter_parameters, enter_pattern};
-use crate::uses::push_annotation;
 use sail_base::Items;
 use sail_kinds::TableError;
+use sail_names::{Around, Locals, enter_parameters, enter_pattern, push_annotation, push_unless};
 use sail_syntax::{FunctionClause, MappingClause, Pat, Side, names_of};
 use std::alloc::{AllocError, Global};
 

@@ -1,8 +1,8 @@
 use Rattle.std.proofs.Common.{◌≡◌, ◌++◌, map, drop}
 use Rattle.sail_names.specs.Known.{known_of}
 use Rattle.sail_names.specs.Patterns.{joined}
-use Rattle.sail_names.specs.Callees as spec
-use Rattle.sail_names.proofs.callees.+pattern_callees.Given as goal
+use Rattle.sail_cycles.specs.Callees as spec
+use Rattle.sail_cycles.proofs.expressions.+pattern_callees.Given as goal
 
 abbrev pub invariant-push_patterns_callees-loop-pattern : goal.invariant-push_patterns_callees-loop-pattern
 invariant-push_patterns_callees-loop-pattern l = l.list ++ joined (map (spec.pattern_callees (known_of l.names)) (drop l.pattern-index l.patterns))

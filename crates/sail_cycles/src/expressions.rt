@@ -2,10 +2,10 @@ ghost use Rattle.std.specs.Prelude.{◌≡◌, ◌++◌, map, OnOk};
 ghost use Rattle.std.specs.Option.{option_copied, option_map};
 ghost use Rattle.sail_names.specs.Known.{known_of};
 ghost use Rattle.sail_names.specs.Patterns.{joined};
-ghost use Rattle.sail_names.specs.Callees as spec;
+ghost use Rattle.sail_cycles.specs.Callees as spec;
 
-use crate::names::{Global, Names};
 use sail_base::{Boxed, Items, Operator};
+use sail_names::{Global, Names};
 use sail_syntax::{
     Case, Exp, FieldValue, Index, Joined, LExp, Name, Pat, Range, Stmt, Suffix, Target,
 };
@@ -86,7 +86,7 @@ fn push_operated(
 /// Puts the numbers of the mappings that a pattern names at the end of a list. Where memory is wanting, some
 /// may be there.
 #[cycle(pattern_callees)]
-pub fn push_pattern_callees(
+pub(crate) fn push_pattern_callees(
     pattern: &Pat,
     names: &Names,
     list: &mut Items<usize>,
@@ -150,7 +150,7 @@ fn push_joined_callees(
 /// Puts the numbers of what an expression can enter at the end of a list: the functions and mappings that it names
 /// in calls, and in its patterns, or in its patterns alone. Where memory is wanting, some may be there.
 #[cycle(callees)]
-pub fn push_callees_of(
+pub(crate) fn push_callees_of(
     expression: &Exp,
     names: &Names,
     which: Which,

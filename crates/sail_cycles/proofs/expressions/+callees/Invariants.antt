@@ -1,8 +1,8 @@
 use Rattle.std.proofs.Common.{◌≡◌, ◌++◌, map, drop}
 use Rattle.sail_names.specs.Known.{known_of}
 use Rattle.sail_names.specs.Patterns.{joined}
-use Rattle.sail_names.specs.Callees as spec
-use Rattle.sail_names.proofs.callees.+callees.Given as goal
+use Rattle.sail_cycles.specs.Callees as spec
+use Rattle.sail_cycles.proofs.expressions.+callees.Given as goal
 
 abbrev pub invariant-push_expressions-loop-expression : goal.invariant-push_expressions-loop-expression
 invariant-push_expressions-loop-expression l =

@@ -2,18 +2,14 @@ ghost use Rattle.std.specs.Prelude.{◌≡◌, ◌++◌, ◌∷◌, [], map, OnO
 ghost use Rattle.std.specs.Option.{option_map};
 ghost use Rattle.sail_names.specs.Known.{setting_of};
 ghost use Rattle.sail_names.specs.Uses as spec;
-ghost use Rattle.sail_names.specs.parts.Scopes.{IsInside};
+ghost use Rattle.used_names.specs.parts.Scopes.{IsInside};
 
-use crate::around::Around;
-use crate::failures::{push_type, push_unless};
-use crate::locals::Locals;
-use crate::patterns::enter_pattern;
-use crate::uses::{
-    push_annotation, push_asked, push_field, push_field_clashes, push_leaving,
-    push_missing_measure, push_struct,
-};
 use sail_base::{Boxed, Items, Kind, Place};
 use sail_kinds::TableError;
+use sail_names::{
+    Around, Locals, enter_pattern, push_annotation, push_asked, push_field, push_field_clashes,
+    push_leaving, push_missing_measure, push_struct, push_type, push_unless,
+};
 use sail_syntax::{Case, Exp, FieldValue, Index, LExp, Looping, Range, Stmt, Suffix, Target};
 use std::alloc::{AllocError, Global};
 

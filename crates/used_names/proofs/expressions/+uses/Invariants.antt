@@ -1,8 +1,8 @@
 use Rattle.std.proofs.Common.{◌≡◌, ◌++◌, map, drop}
 use Rattle.sail_names.specs.Known.{setting_of}
 use Rattle.sail_names.specs.Uses as spec
-use Rattle.sail_names.specs.parts.Scopes.{IsInside}
-use Rattle.sail_names.proofs.expressions.+uses.Given as goal
+use Rattle.used_names.specs.parts.Scopes.{IsInside}
+use Rattle.used_names.proofs.expressions.+uses.Given as goal
 
 abbrev pub invariant-push_expressions-loop-expression : goal.invariant-push_expressions-loop-expression
 invariant-push_expressions-loop-expression l = (l.locals ≡ l.initial.locals)

@@ -23,8 +23,8 @@ use Rattle.sail_syntax.specs.declared.expressions.Range.{Range}
 use Rattle.sail_syntax.specs.declared.expressions.Target.{Target}
 use Rattle.sail_names.specs.declared.names.Global.{Global}
 use Rattle.sail_names.specs.declared.names.Global.TheVariants as G
-use Rattle.sail_names.specs.declared.callees.Which.{Which}
-use Rattle.sail_names.specs.declared.callees.Which.TheVariants.{CallsAndPatterns, Patterns}
+use Rattle.sail_cycles.specs.declared.expressions.Which.{Which}
+use Rattle.sail_cycles.specs.declared.expressions.Which.TheVariants.{CallsAndPatterns, Patterns}
 use Rattle.sail_names.specs.Known.{Known}
 use Rattle.sail_names.specs.Patterns.{joined}
 
