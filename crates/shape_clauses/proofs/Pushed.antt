@@ -1,14 +1,7 @@
--- What is put behind others, or noted, by another name.
-use Rattle.std.proofs.Common.{◌≡◌, List, ◌++◌, sym, ap, ◌∙◌, Option, Result, Ok, Err, OnOk}
-use Rattle.shape_rules.specs.declared.error.ShapeError.{ShapeError}
-use Rattle.shape_rules.specs.Findings.{first_failure}
+-- What is put behind others, by another name.
+use Rattle.std.proofs.Common.{◌≡◌, List, ◌++◌, sym, ap, ◌∙◌, Result, Ok, Err, OnOk}
 
 pub pushed_as : {R E A : Type 0} (r : Result R E) (old found all now : List A) → all ≡ found → OnOk r (now ≡ old ++ found)
     → OnOk r (now ≡ old ++ all)
 pushed_as (Ok x) old found all now same h = h ∙ ap (λ l. old ++ l) (sym same)
 pushed_as (Err e) old found all now same h = tt
-
-pub noted_as : {R E : Type 0} (r : Result R E) (kept now : Option ShapeError) (found all : List ShapeError) → all ≡ found
-    → OnOk r (now ≡ first_failure kept found) → OnOk r (now ≡ first_failure kept all)
-noted_as (Ok x) kept now found all same h = h ∙ ap (first_failure kept) (sym same)
-noted_as (Err e) kept now found all same h = tt

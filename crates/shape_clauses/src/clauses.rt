@@ -23,20 +23,25 @@ use std::mem;
 
 /// A clause: how it looks at its arguments, and its body.
 #[derive(Drop)]
-pub(crate) struct Clause {
-    pub(crate) arm: Arm,
-    pub(crate) body: Core,
+pub struct Clause {
+    /// How it looks at its arguments.
+    pub arm: Arm,
+    /// Its body, whose nodes have no numbers yet.
+    pub body: Core,
 }
 
 /// Clauses, tried in order.
 #[derive(Drop)]
-pub(crate) struct Clauses {
-    pub(crate) arms: Items<Arm>,
-    pub(crate) bodies: Items<Core>,
+pub struct Clauses {
+    /// How each looks at its arguments.
+    pub arms: Items<Arm>,
+    /// Their bodies, one for each.
+    pub bodies: Items<Core>,
 }
 
 impl Clauses {
-    pub(crate) fn new(alloc: Global) -> Clauses
+    /// No clause yet.
+    pub fn new(alloc: Global) -> Clauses
         ensures arms { result.arms ≡ [] }
         ensures bodies { result.bodies ≡ [] }
     {
@@ -47,7 +52,7 @@ impl Clauses {
     }
 
     /// One more clause, behind the others. The one error is want of memory.
-    pub(crate) fn push(&mut self, clause: Clause) -> Result<(), AllocError>
+    pub fn push(&mut self, clause: Clause) -> Result<(), AllocError>
         ensures arms { OnOk result (self.new.arms ≡ self.old.arms ++ clause.arm ∷ []) }
         ensures bodies { OnOk result (self.new.bodies ≡ self.old.bodies ++ clause.body ∷ []) }
     {
@@ -57,7 +62,7 @@ impl Clauses {
     }
 
     /// The clauses as a node, without a number yet.
-    pub(crate) fn into_core(self, place: Place) -> Core
+    pub fn into_core(self, place: Place) -> Core
         ensures { result ≡ core_of place self.arms self.bodies }
     {
         let Clauses { arms, bodies } = self;
@@ -180,7 +185,7 @@ fn read_under(
 
 /// A clause with these patterns for parameters of these shapes, and notes its failures. The one error is want of memory.
 #[tactic(auto, using(shape_rules::proofs::Firsts::first_failure_append))]
-pub(crate) fn read_clause(
+pub fn read_clause(
     alloc: Global,
     around: &Around<'_>,
     place: Place,

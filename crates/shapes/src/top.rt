@@ -6,7 +6,7 @@ ghost use Rattle.shape_models.specs.Sources.{tabled_by, AreMeanings};
 ghost use Rattle.shapes.specs.Parts.{IsTop};
 
 use sail_kinds::Binders;
-use shape_clauses::around;
+use shape_functions::around;
 use shape_models::Source;
 use shape_rules::{Around, Meanings};
 

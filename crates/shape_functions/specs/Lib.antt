@@ -1,0 +1,2 @@
+-- what the contracts of private functions say
+pub mod Parts
