@@ -247,21 +247,24 @@ fn bound_fits(
         (fitting.placed inside.now 0 value.now) next) }
 {
     match placed(alloc, inside, 0, value)? {
-        Some(Index::Number(own)) => {
-            let indices = behind(alloc, Index::Number(own), indices)?;
-            bound_by(
-                alloc,
-                types,
-                depth,
-                value,
-                condition,
-                inside,
-                indices.as_slice(),
-                readings,
-                next,
-            )
-        }
-        _ => Fitted::never(alloc, next),
+        None => Fitted::never(alloc, next),
+        Some(own) => match &own {
+            Index::Truth(_) => Fitted::never(alloc, next),
+            Index::Number(_) => {
+                let indices = behind(alloc, own, indices)?;
+                bound_by(
+                    alloc,
+                    types,
+                    depth,
+                    value,
+                    condition,
+                    inside,
+                    indices.as_slice(),
+                    readings,
+                    next,
+                )
+            }
+        },
     }
 }
 
