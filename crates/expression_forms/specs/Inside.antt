@@ -35,9 +35,8 @@ value_form_allowed binders (W.Tuple fs) holes = list_all (λ f. f holes) fs
 value_form_allowed binders (W.Named u is fs) holes = list_all (λ f. f holes) fs
 value_form_allowed binders i holes = true
 
--- a hole among what the variables of a type stand for is filled by no shape
 abbrev pub type_form_allowed : Bool → Reading-F Allowed Allowed → Allowed
-type_form_allowed binders (W.Of t is fs) holes = typ_allowed binders t && list_all (λ f. f false) fs
+type_form_allowed binders (W.Of t is fs) holes = typ_allowed binders t && list_all (λ f. f holes) fs
 type_form_allowed binders (W.Widened f) holes = f holes
 type_form_allowed binders (W.Parts fs) holes = list_all (λ f. f holes) fs
 type_form_allowed binders W.Hole holes = holes

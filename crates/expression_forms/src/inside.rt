@@ -72,14 +72,14 @@ fn are_values_allowed(binders: bool, holes: bool, values: &[Indices]) -> bool
     true
 }
 
-/// The same of a type. What its variables stand for has no holes in any case, since no shape would fill them.
+/// The same of a type.
 #[cycle(allowed)]
 fn is_type_allowed(binders: bool, holes: bool, reading: &Reading) -> bool
     ensures { result ≡ inside.type_allowed binders reading.now holes }
 {
     match reading {
         Reading::Of(typ, _, arguments) => {
-            is_typ_allowed(binders, typ) && are_types_allowed(binders, false, arguments.as_slice())
+            is_typ_allowed(binders, typ) && are_types_allowed(binders, holes, arguments.as_slice())
         }
         Reading::Widened(value) => is_value_allowed(binders, holes, value.get()),
         Reading::Parts(parts) => are_types_allowed(binders, holes, parts.as_slice()),

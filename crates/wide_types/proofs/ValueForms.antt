@@ -1,5 +1,6 @@
 -- What is kept of each form of a value and a type, of what the code has in hand.
-use Rattle.std.proofs.Common.{◌≡◌, ℕ, Bool, false, List, [], map, sym, ap, ◌∙◌}
+use Rattle.std.proofs.Common.{◌≡◌, ℕ, Bool, false, List, length, map, sym, ap, ◌∙◌}
+use Rattle.std.proofs.lemmas.List.{length-map}
 use Rattle.sail_types.specs.declared.numbers.Con.{Con}
 use Rattle.sail_types.specs.declared.numbers.Index.{Index}
 use Rattle.sail_types.specs.declared.numbers.Num.{Num}
@@ -15,7 +16,7 @@ use Rattle.value_indices.specs.declared.indices.Reading.{Reading, roll-Reading}
 use Rattle.value_indices.specs.declared.indices.Reading.TheVariants as R
 use Rattle.value_indices.specs.Steps.{bind, give}
 use Rattle.wide_types.specs.Widening.{Keep, KeepIndices, each_kept, item_shape, kept_each, kept_indices, kept_integer, kept_num, kept_reading}
-use Rattle.wide_types.specs.Widening.{kept_truth, kept_type, kept_value, opened_or_not, part_shapes, wide_typ, widest_of}
+use Rattle.wide_types.specs.Widening.{kept_truth, kept_type, kept_value, opened_or_not, part_shapes, variable_shapes, wide_typ, widest_of}
 
 kept_form : (types : Types) (m : ℕ) (x : Indices-F Indices Reading) (i : Indices) (opens : Bool) (s : Shape) → roll-Indices x ≡ i
     → kept_value types m i opens s ≡ kept_indices m (map-Indices Indices Reading KeepIndices (Keep Reading) (kept_value types m) (kept_type types m) x) opens s
@@ -100,13 +101,16 @@ pub value_variable : (types : Types) (m : ℕ) (indices : Indices) (i : ℕ) (op
 value_variable types m indices i opens s is =
     kept_form types m (W.Variable i) indices opens s (I.rolls-Variable i ∙ sym is)
 
-pub type_of : (types : Types) (m : ℕ) (reading : Reading) (t : Typ) (numbers numbers' : List Index) (rs rs' : List Reading) (s : Shape)
-    → reading ≡ R.Of t numbers rs → numbers' ≡ numbers → rs' ≡ rs → kept_type types m reading s
-    ≡ bind (kept_each m numbers') (λ js. bind (each_kept (map (kept_type types m) rs') []) (λ qs. give (R.Of (wide_typ t) js qs)))
-type_of types m reading t numbers numbers' rs rs' s is same_numbers same_rs =
+pub type_of : (types : Types) (m : ℕ) (reading : Reading) (t : Typ) (numbers numbers' : List Index) (rs rs' : List Reading) (ss : List Shape)
+    (count : ℕ) (s : Shape)
+    → reading ≡ R.Of t numbers rs → numbers' ≡ numbers → rs' ≡ rs → ss ≡ variable_shapes 0 count t s → count ≡ length rs → kept_type types m reading s
+    ≡ bind (kept_each m numbers') (λ js. bind (each_kept (map (kept_type types m) rs') ss) (λ qs. give (R.Of (wide_typ t) js qs)))
+type_of types m reading t numbers numbers' rs rs' ss count s is same_numbers same_rs of_ss so_many =
+    let many : length (map (kept_type types m) rs) ≡ count = length-map rs (kept_type types m) ∙ sym so_many in
+    let shapes : variable_shapes 0 (length (map (kept_type types m) rs)) t s ≡ ss = ap (λ n. variable_shapes 0 n t s) many ∙ sym of_ss in
     type_form types m (W.Of t numbers rs) reading s (R.rolls-Of t numbers rs ∙ sym is)
     ∙ (λ i. bind (kept_each m (sym same_numbers i))
-    (λ js. bind (each_kept (map (kept_type types m) (sym same_rs i)) []) (λ qs. give (R.Of (wide_typ t) js qs))))
+    (λ js. bind (each_kept (map (kept_type types m) (sym same_rs i)) (shapes i)) (λ qs. give (R.Of (wide_typ t) js qs))))
 
 pub type_widened : (types : Types) (m : ℕ) (reading : Reading) (inner inner' : Indices) (s : Shape)
     → reading ≡ R.Widened inner → inner' ≡ inner → kept_type types m reading s ≡ bind (kept_value types m inner' false s) (λ j. give (R.Widened j))

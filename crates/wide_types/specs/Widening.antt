@@ -1,10 +1,11 @@
 -- Widened types, and the type where ways meet of which no type is wanted: that of the first way, in which a number that names a variable of
 -- the way alone is a fresh one.
-use Rattle.std.specs.Prelude.{ℕ, zero, suc, nat_lt, Bool, true, false, ◌&&◌, List, [], ◌∷◌, ◌++◌, map, slice_get}
+use Rattle.std.specs.Prelude.{ℕ, zero, suc, nat_eq, nat_lt, Bool, true, false, ◌&&◌, List, [], ◌∷◌, ◌++◌, length, map, slice_get}
 use Rattle.std.specs.Prelude.{Option, Some, None, if◌then◌else◌}
 use Rattle.std.specs.List.{list_all}
 use Rattle.sail_base.specs.declared.kind.Kind.{Kind}
 use Rattle.sail_base.specs.declared.kind.Kind.TheVariants as K
+use Rattle.sail_types.specs.Places.{first, only}
 use Rattle.sail_types.specs.Sums.{variable}
 use Rattle.sail_types.specs.declared.numbers.Atom.TheOpen as A
 use Rattle.sail_types.specs.declared.numbers.Atom.TheOpen.{Atom-F, Num-F, Term-F}
@@ -172,6 +173,37 @@ abbrev pub shape_or_hole : Option Shape → Shape
 shape_or_hole None = V.Hole
 shape_or_hole (Some s) = s
 
+-- ---- the shape that a type of this shape gives to its Type variables: each that at the first place of the variable
+
+abbrev pub Shaped : Type 0
+Shaped = ℕ → Shape → Option Shape
+
+abbrev pub inside_shaped : Shaped → ℕ → Shape-F Shape → Option Shape
+inside_shaped f k (S.List s) = f k s
+inside_shaped f k (S.Vector s) = f k s
+inside_shaped f k form = None
+
+abbrev pub shaped_among : List Shaped → ℕ → List Shape → Option Shape
+shaped_among (f ∷ fs) k (s ∷ ss) = first (f k s) (shaped_among fs k ss)
+shaped_among fs k ss = None
+
+abbrev pub form_shaped : Typ-F Shaped → Shaped
+form_shaped (T.List f) k s = inside_shaped f k (out-Shape s)
+form_shaped (T.Vector n f) k s = inside_shaped f k (out-Shape s)
+form_shaped (T.Tuple fs) k s = shaped_among fs k (part_shapes s)
+form_shaped (T.Named u is fs) k s = shaped_among fs k (part_shapes s)
+form_shaped (T.Variable i) k s = only (nat_eq i k) s
+form_shaped (T.Exists name c f) k s = f k s
+form_shaped t k s = None
+
+abbrev pub shaped : Typ → Shaped
+shaped = fold-Typ Shaped form_shaped
+
+-- so many of them, from that variable on; holes where there is no place
+abbrev pub variable_shapes : ℕ → ℕ → Typ → Shape → List Shape
+variable_shapes k zero t s = []
+variable_shapes k (suc count) t s = shape_or_hole (shaped t k s) ∷ variable_shapes (suc k) count t s
+
 -- what is kept: of a value, which is opened, or of a type; by its shape, which fills its holes
 abbrev pub Keep : Type 0 → Type 0
 Keep A = Shape → Walk A
@@ -211,7 +243,8 @@ kept_indices m (W.Named u arguments rs) opens s =
 kept_indices m (W.Variable i) opens s = give (I.Variable i)
 
 abbrev pub kept_reading : Types → ℕ → Reading-F KeepIndices (Keep Reading) → Keep Reading
-kept_reading types m (W.Of t is rs) s = bind (kept_each m is) (λ js. bind (each_kept rs []) (λ qs. give (R.Of (wide_typ t) js qs)))
+kept_reading types m (W.Of t is rs) s =
+    bind (kept_each m is) (λ js. bind (each_kept rs (variable_shapes 0 (length rs) t s)) (λ qs. give (R.Of (wide_typ t) js qs)))
 kept_reading types m (W.Widened i) s = bind (i false s) (λ j. give (R.Widened j))
 kept_reading types m (W.Parts rs) s = bind (each_kept rs (part_shapes s)) (λ qs. give (R.Parts qs))
 kept_reading types m W.Hole s = widest_of types s

@@ -4,6 +4,7 @@ ghost use Rattle.value_indices.specs.Walking as walk;
 ghost use Rattle.wide_types.specs.Widening as wide;
 
 use crate::below::{is_below, is_con_below};
+use crate::shaped::variable_shapes;
 use crate::wide::wide_typ;
 use crate::widest::widest_of;
 use sail_base::{Boxed, Items};
@@ -104,7 +105,7 @@ fn kept_truth(walked: &mut Walking, opens: bool) -> Result<Indices, AllocError>
 }
 
 /// The shapes of the parts of what has this shape; none where it has no parts.
-fn part_shapes(shape: &Shape) -> &[Shape]
+pub(crate) fn part_shapes(shape: &Shape) -> &[Shape]
     ensures { result.now ≡ wide.part_shapes shape.now }
 {
     match shape {
@@ -265,10 +266,18 @@ fn kept_type(
 {
     match reading {
         Reading::Of(typ, numbers, arguments) => {
-            let typ = wide_typ(alloc, typ)?;
+            let made = wide_typ(alloc, typ)?;
+            let shapes = variable_shapes(alloc, typ, shape, arguments.len())?;
             let numbers = kept_each(alloc, walked, before, numbers.as_slice())?;
-            let arguments = kept_types(alloc, walked, types, before, arguments.as_slice(), &[])?;
-            Ok(Reading::Of(typ, numbers, arguments))
+            let arguments = kept_types(
+                alloc,
+                walked,
+                types,
+                before,
+                arguments.as_slice(),
+                shapes.as_slice(),
+            )?;
+            Ok(Reading::Of(made, numbers, arguments))
         }
         Reading::Widened(indices) => {
             let indices = kept_value(alloc, walked, types, before, indices.get(), false, shape)?;

@@ -6,6 +6,7 @@
 mod agreement;
 mod below;
 mod kept;
+mod shaped;
 mod wide;
 mod widest;
 

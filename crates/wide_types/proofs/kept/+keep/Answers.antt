@@ -212,10 +212,11 @@ kept_type-returns-in_ok-arguments-in-Of t c =
     let w = seen c.args.walked.now in
     let numbers = c.as_slice.result.now in
     let arguments = c.as_slice-in-Of.result.now in
-    let is = form.type_of types m r c.in-Of.typ c.in-Of.numbers numbers c.in-Of.arguments arguments s c.in-Of.is c.as_slice.ensures
-    c.as_slice-in-Of.ensures in
-    let second = each_kept (map (kept_type types m) arguments) [] in
-    let typ : c.in_ok-typ-in-Of.typ ≡ wide_typ c.in-Of.typ = c.in_ok-typ-in-Of.ensures in
+    let shapes = c.as_slice-in-Of-2.result.now in
+    let is = form.type_of types m r c.in-Of.typ c.in-Of.numbers numbers c.in-Of.arguments arguments shapes c.len.result s c.in-Of.is c.as_slice.ensures
+    c.as_slice-in-Of.ensures (c.as_slice-in-Of-2.ensures ∙ c.in_ok-shapes-in-Of.ensures) c.len.ensures in
+    let second = each_kept (map (kept_type types m) arguments) shapes in
+    let typ : c.in_ok-made-in-Of.made ≡ wide_typ c.in-Of.typ = c.in_ok-made-in-Of.ensures in
     let made = R.Of (wide_typ c.in-Of.typ) in
     record {
       value = ap (λ y. R.Of y c.in_ok-numbers-in-Of.numbers c.in_ok-arguments-in-Of.arguments) typ
