@@ -1,5 +1,6 @@
 pub mod Agreed
+pub mod FirstPlaces
 pub mod ShapeForms
 pub mod Turns
 pub mod ValueForms
-pub mod FirstPlaces
+pub mod WideForms

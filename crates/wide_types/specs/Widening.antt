@@ -25,6 +25,7 @@ use Rattle.sail_types.specs.declared.table.Definition.{Definition}
 use Rattle.sail_types.specs.declared.table.Parameter.{Parameter}
 use Rattle.sail_types.specs.declared.table.Types.{Types}
 use Rattle.sail_types.specs.declared.types.Typ.{Typ, Typ-F, roll-Typ, fold-Typ}
+use Rattle.sail_types.specs.declared.types.Typ.TheFolds.{map-Typ, para-Typ}
 use Rattle.sail_types.specs.declared.types.Typ.TheOpen as T
 use Rattle.sail_types.specs.declared.types.Typ.TheVariants as Y
 use Rattle.value_indices.specs.declared.indices.Indices.{Indices, roll-Indices, out-Indices, fold-Indices}
@@ -39,14 +40,17 @@ use Rattle.value_indices.specs.Opening.{any_integer, any_truth, largest_num, lea
 
 -- ---- widened types: `int` for every integer, `bool` for every truth
 
-abbrev pub wide_form : Typ-F Typ → Typ
+-- a type `{'n, C. T}` stays as it is: where T is widened, no value tells what 'n is
+abbrev pub wide_form : Typ-F (Typ × Typ) → Typ
 wide_form (T.Int t) = Y.Range least_num largest_num
 wide_form (T.Range t u) = Y.Range least_num largest_num
 wide_form (T.Truth c) = Y.Bool
-wide_form t = roll-Typ t
+wide_form (T.Exists name c t) = Y.Exists name c t.0
+wide_form t = roll-Typ (map-Typ (Typ × Typ) Typ (λ part. part.1) t)
 
-abbrev pub wide_typ : Typ → Typ
-wide_typ = fold-Typ Typ wide_form
+-- of each form, with its parts and their widened types
+unfoldable pub wide_typ : Typ → Typ
+wide_typ = para-Typ Typ wide_form
 
 abbrev pub wide_indices : Indices-F Indices Reading → Indices
 wide_indices i = roll-Indices i

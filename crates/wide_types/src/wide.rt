@@ -6,11 +6,13 @@ ghost use Rattle.wide_types.specs.Widening.{widened as widened_of, widened_type 
 use sail_base::{Boxed, Items};
 use sail_types::{Typ, copy_con, copy_num};
 use std::alloc::{AllocError, Global};
-use type_arguments::copy_indices;
+use type_arguments::{copy_indices, copy_typ};
 use value_indices::{Indices, Reading, largest_num, least_num};
 
-/// A type with `int` in it for every integer, and `bool` for every truth. It fails where memory is wanting.
+/// A type with `int` in it for every integer, and `bool` for every truth, but what stands under a binder as it is. It fails where
+/// memory is wanting.
 #[cycle(wide_typ)]
+#[tactic(auto, using(crate::proofs::WideForms::forms))]
 pub fn wide_typ(alloc: Global, typ: &Typ) -> Result<Typ, AllocError>
     ensures { IfOk result (λ made. made ≡ wide_typ_of typ.now) }
 {
@@ -39,12 +41,7 @@ pub fn wide_typ(alloc: Global, typ: &Typ) -> Result<Typ, AllocError>
             Ok(Typ::Named(*place, numbers, arguments))
         }
         Typ::Variable(position) => Ok(Typ::Variable(*position)),
-        Typ::Exists(name, con, part) => {
-            let con = copy_con(alloc, con)?;
-            let part = wide_typ(alloc, part.get())?;
-            let name = name.clone()?;
-            Ok(Typ::Exists(name, con, Boxed::new(alloc, part)?))
-        }
+        Typ::Exists(_, _, _) => copy_typ(alloc, typ),
     }
 }
 
