@@ -116,6 +116,13 @@ val f : forall ('a : Type). (list('a), 'a) -> 'a
 function f(l, x) = x
 # { let l : list(bit) = f([||], [||]); true }
 # 0 accepted 3 functions 0 obligations
+% check M // items of a type that binds a variable stay of it where a Type variable stands for their type
+val f : forall ('a : Type). list('a) -> unit
+function f(l) = ()
+val g : list({'n, 0 <= 'n & 'n < 8. int('n)}) -> unit
+function g(l) = f(l)
+# true
+# 0 accepted 4 functions 1 obligations
 % check M // a guard, in its case; an integer literal in a case's pattern
 val f : range(0, 9) -> bit
 function f(i) = match i { n if n < 8 => 0x12[n], _ => bitzero }
