@@ -64,6 +64,11 @@ val f : forall ('a : Type). list('a) -> list(option('a))
 function f(l) = match l { [||] => [||], x :: _ => [| Some(x) |] }
 # { let l = match () { () => f([||]), _ => [| Some(300) |] }; match l { Some(x) :: _ => 0x12[x] == bitone, _ => true } }
 # 1 M20 1:6:109 x = -85070591730234615865843651857942052864
+% check M
+val f : forall ('a : Type). list('a) -> list(option('a))
+function f(l) = match l { [||] => [||], x :: _ => [| Some(x) |] }
+# { let l = [| f([||]), [| Some(300) |] |]; match l { [| _, m |] => match m { Some(x) :: _ => 0x12[x] == bitone, _ => true }, _ => true } }
+# 1 M20 1:6:115 x = -85070591730234615865843651857942052864
 % check M // items of types that bind a variable are of the first way's type
 val f : bool -> bits(16)
 function f(c) = {
