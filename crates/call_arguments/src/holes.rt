@@ -11,7 +11,7 @@ use value_indices::{Indices, Reading};
 
 /// Whether a type has a hole inside.
 #[cycle(has_hole)]
-fn has_hole(reading: &Reading) -> bool
+pub fn has_hole(reading: &Reading) -> bool
     ensures { result ≡ holes.has_hole reading.now }
 {
     match reading {
@@ -136,7 +136,7 @@ fn values_without_holes(alloc: Global, values: &[Indices]) -> Result<Items<Indic
 
 /// A type, with that of what never ends in the place of each hole. It fails where memory is wanting.
 #[cycle(without_holes)]
-fn without_holes(alloc: Global, reading: &Reading) -> Result<Reading, AllocError>
+pub fn without_holes(alloc: Global, reading: &Reading) -> Result<Reading, AllocError>
     ensures { IfOk result (λ made. made ≡ holes.without_holes reading.now) }
 {
     match reading {
