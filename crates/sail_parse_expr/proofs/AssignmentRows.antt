@@ -32,9 +32,9 @@ use Rattle.sail_grammar.specs.Shapes.{is_target}
 use Rattle.sail_grammar.proofs.Steps.{carry}
 use Rattle.sail_grammar.proofs.FirstToken.{first_place_ahead}
 use Rattle.sail_parse_expr.specs.Behind.{annotated_of, assigned_behind}
-use Rattle.sail_parse_expr.proofs.ExpressionRows.{control_symbols}
-use Rattle.sail_parse_expr.proofs.BlockRows.{pass_test, pass_other, pass_not}
-use Rattle.sail_parse_expr.proofs.Loops.{held_out}
+use Rattle.sail_parse_forms.proofs.FormRows.{control_symbols}
+use Rattle.sail_parse_atoms.proofs.BlockRows.{pass_test, pass_other, pass_not}
+use Rattle.sail_parse_forms.proofs.Loops.{held_out}
 
 abbrev pub equal_symbols : List ℕ
 equal_symbols = code K.Equal ∷ []

@@ -1,9 +1,5 @@
 pub mod AssignmentRows
-pub mod AtomRows
-pub mod BlockRows
-pub mod ControlRows
 pub mod ExpressionRows
 pub mod LeafRows
-pub mod Loops
 pub mod OperatorRows
 pub mod TargetRows

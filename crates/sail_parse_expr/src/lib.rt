@@ -2,13 +2,9 @@
 #![tactic(auto)]
 
 mod assignments;
-mod atoms;
-mod blocks;
-mod control;
 mod expressions;
-mod grammar;
 mod leaves;
 mod operators;
 mod targets;
 
-pub use grammar::exp;
+pub use expressions::exp;

@@ -7,10 +7,10 @@ ghost use Rattle.sail_grammar.specs.Form.{Row, Empty, Word, ◌or◌, ◌then◌
 ghost use Rattle.sail_grammar.specs.Table.{nothing, word, words, identifier, literals};
 ghost use Rattle.sail_grammar.specs.Parsing.{Reading, StopsAt};
 ghost use Rattle.sail_grammar.specs.ExpTrees as T;
-ghost use Rattle.sail_parse_expr.specs.Parses.{Parses};
+ghost use Rattle.sail_parse_forms.specs.Parses.{Parses};
 ghost use Rattle.sail_parse_expr.specs.Behind.{suffixes_behind, field_of, index_of};
 
-use crate::grammar::{Grammar, Part};
+use crate::expressions::Rows;
 use crate::leaves::{
     APPENDS, COMPARISONS, FACTORS, SIGNS, SUFFIX_SIGNS, operator_of, with_suffixes,
 };
@@ -20,14 +20,15 @@ use sail_grammar::{
     place, sees, sees_any, sees_two,
 };
 use sail_lex::TokenKind;
+use sail_parse_forms::Part;
 use sail_syntax::{Exp, Index, Suffix, build};
 use std::alloc::Global;
 
-impl<F: Fn(Global, &[Lexeme], Mode, Part) -> Read<'_, Boxed<Exp>>> Grammar<F> {
+impl<F: Fn(Global, &[Lexeme], Mode, Part) -> Read<'_, Boxed<Exp>>> Rows<F> {
     // An operand with the operators of all levels.
     pub(crate) fn operand_row<'a>(&self, tokens: &'a [Lexeme], mode: Mode) -> Read<'a, Boxed<Exp>>
-        requires parses { Parses self.now.limit (F.pre self.now.part) (F.post self.now.part) }
-        requires fewer { length tokens.now ≤ self.now.limit }
+        requires parses { Parses self.now.atoms.grammar.limit (F.pre self.now.atoms.grammar.part) (F.post self.now.atoms.grammar.part) }
+        requires fewer { length tokens.now ≤ self.now.atoms.grammar.limit }
         ensures read { IfOk result (λ r. Reading (Row (N.Infix mode)) T.infix_of tokens.now r.0 r.1.now) }
         ensures shorter { IfOk result (λ r. length r.1.now < length tokens.now) }
         ensures stop { IfErr result (λ e. StopsAt (Row (N.Infix mode)) tokens.now e) }
@@ -35,9 +36,9 @@ impl<F: Fn(Global, &[Lexeme], Mode, Part) -> Read<'_, Boxed<Exp>>> Grammar<F> {
         let (left, after_left) = self.infix_and(tokens, mode)?;
         match accept(after_left, TokenKind::Bar) {
             Some((sign, after_sign)) => {
-                let (right, rest) = self.infix(after_sign, mode)?;
+                let (right, rest) = self.atoms.grammar.infix(after_sign, mode)?;
                 let operator = operator_of(sign.kind);
-                let made = build::infix(self.alloc, sign.place, operator, left, right)?;
+                let made = build::infix(self.atoms.grammar.alloc, sign.place, operator, left, right)?;
                 Ok((made, rest))
             }
             None => Ok((left, after_left)),
@@ -46,8 +47,8 @@ impl<F: Fn(Global, &[Lexeme], Mode, Part) -> Read<'_, Boxed<Exp>>> Grammar<F> {
 
     // An operand of `|`.
     pub(crate) fn infix_and<'a>(&self, tokens: &'a [Lexeme], mode: Mode) -> Read<'a, Boxed<Exp>>
-        requires parses { Parses self.now.limit (F.pre self.now.part) (F.post self.now.part) }
-        requires fewer { length tokens.now ≤ self.now.limit }
+        requires parses { Parses self.now.atoms.grammar.limit (F.pre self.now.atoms.grammar.part) (F.post self.now.atoms.grammar.part) }
+        requires fewer { length tokens.now ≤ self.now.atoms.grammar.limit }
         ensures read { IfOk result (λ r. Reading (Row (N.InfixAnd mode)) T.and_of tokens.now r.0 r.1.now) }
         ensures shorter { IfOk result (λ r. length r.1.now < length tokens.now) }
         ensures stop { IfErr result (λ e. StopsAt (Row (N.InfixAnd mode)) tokens.now e) }
@@ -55,9 +56,9 @@ impl<F: Fn(Global, &[Lexeme], Mode, Part) -> Read<'_, Boxed<Exp>>> Grammar<F> {
         let (left, after_left) = self.infix_comparison(tokens, mode)?;
         match accept(after_left, TokenKind::Ampersand) {
             Some((sign, after_sign)) => {
-                let (right, rest) = self.more_and(after_sign, mode)?;
+                let (right, rest) = self.atoms.grammar.more_and(after_sign, mode)?;
                 let operator = operator_of(sign.kind);
-                let made = build::infix(self.alloc, sign.place, operator, left, right)?;
+                let made = build::infix(self.atoms.grammar.alloc, sign.place, operator, left, right)?;
                 Ok((made, rest))
             }
             None => Ok((left, after_left)),
@@ -70,8 +71,8 @@ impl<F: Fn(Global, &[Lexeme], Mode, Part) -> Read<'_, Boxed<Exp>>> Grammar<F> {
         tokens: &'a [Lexeme],
         mode: Mode,
     ) -> Read<'a, Boxed<Exp>>
-        requires parses { Parses self.now.limit (F.pre self.now.part) (F.post self.now.part) }
-        requires fewer { length tokens.now ≤ self.now.limit }
+        requires parses { Parses self.now.atoms.grammar.limit (F.pre self.now.atoms.grammar.part) (F.post self.now.atoms.grammar.part) }
+        requires fewer { length tokens.now ≤ self.now.atoms.grammar.limit }
         ensures read { IfOk result (λ r. Reading (Row (N.InfixComparison mode)) T.comparison_of tokens.now r.0 r.1.now) }
         ensures shorter { IfOk result (λ r. length r.1.now < length tokens.now) }
         ensures stop { IfErr result (λ e. StopsAt (Row (N.InfixComparison mode)) tokens.now e) }
@@ -81,7 +82,7 @@ impl<F: Fn(Global, &[Lexeme], Mode, Part) -> Read<'_, Boxed<Exp>>> Grammar<F> {
             Some((sign, after_sign)) => {
                 let (right, rest) = self.infix_append(after_sign, mode)?;
                 let operator = operator_of(sign.kind);
-                let made = build::infix(self.alloc, sign.place, operator, left, right)?;
+                let made = build::infix(self.atoms.grammar.alloc, sign.place, operator, left, right)?;
                 Ok((made, rest))
             }
             None => Ok((left, after_left)),
@@ -90,8 +91,8 @@ impl<F: Fn(Global, &[Lexeme], Mode, Part) -> Read<'_, Boxed<Exp>>> Grammar<F> {
 
     // An operand of a comparison.
     pub(crate) fn infix_append<'a>(&self, tokens: &'a [Lexeme], mode: Mode) -> Read<'a, Boxed<Exp>>
-        requires parses { Parses self.now.limit (F.pre self.now.part) (F.post self.now.part) }
-        requires fewer { length tokens.now ≤ self.now.limit }
+        requires parses { Parses self.now.atoms.grammar.limit (F.pre self.now.atoms.grammar.part) (F.post self.now.atoms.grammar.part) }
+        requires fewer { length tokens.now ≤ self.now.atoms.grammar.limit }
         ensures read { IfOk result (λ r. Reading (Row (N.InfixAppend mode)) T.append_of tokens.now r.0 r.1.now) }
         ensures shorter { IfOk result (λ r. length r.1.now < length tokens.now) }
         ensures stop { IfErr result (λ e. StopsAt (Row (N.InfixAppend mode)) tokens.now e) }
@@ -99,9 +100,9 @@ impl<F: Fn(Global, &[Lexeme], Mode, Part) -> Read<'_, Boxed<Exp>>> Grammar<F> {
         let (left, after_left) = self.infix_sum(tokens, mode)?;
         match accept_any(after_left, &APPENDS) {
             Some((sign, after_sign)) => {
-                let (right, rest) = self.more_append(after_sign, mode)?;
+                let (right, rest) = self.atoms.grammar.more_append(after_sign, mode)?;
                 let operator = operator_of(sign.kind);
-                let made = build::infix(self.alloc, sign.place, operator, left, right)?;
+                let made = build::infix(self.atoms.grammar.alloc, sign.place, operator, left, right)?;
                 Ok((made, rest))
             }
             None => Ok((left, after_left)),
@@ -110,8 +111,8 @@ impl<F: Fn(Global, &[Lexeme], Mode, Part) -> Read<'_, Boxed<Exp>>> Grammar<F> {
 
     // A sum, from the left.
     pub(crate) fn infix_sum<'a>(&self, tokens: &'a [Lexeme], mode: Mode) -> Read<'a, Boxed<Exp>>
-        requires parses { Parses self.now.limit (F.pre self.now.part) (F.post self.now.part) }
-        requires fewer { length tokens.now ≤ self.now.limit }
+        requires parses { Parses self.now.atoms.grammar.limit (F.pre self.now.atoms.grammar.part) (F.post self.now.atoms.grammar.part) }
+        requires fewer { length tokens.now ≤ self.now.atoms.grammar.limit }
         ensures read { IfOk result (λ r. Reading (Row (N.InfixSum mode)) T.sum_of tokens.now r.0 r.1.now) }
         ensures shorter { IfOk result (λ r. length r.1.now < length tokens.now) }
         ensures stop { IfErr result (λ e. StopsAt (Row (N.InfixSum mode)) tokens.now e) }
@@ -127,8 +128,8 @@ impl<F: Fn(Global, &[Lexeme], Mode, Part) -> Read<'_, Boxed<Exp>>> Grammar<F> {
         tokens: &'a [Lexeme],
         mode: Mode,
     ) -> Read<'a, Boxed<Exp>>
-        requires parses { Parses self.now.limit (F.pre self.now.part) (F.post self.now.part) }
-        requires fewer { length tokens.now ≤ self.now.limit }
+        requires parses { Parses self.now.atoms.grammar.limit (F.pre self.now.atoms.grammar.part) (F.post self.now.atoms.grammar.part) }
+        requires fewer { length tokens.now ≤ self.now.atoms.grammar.limit }
         ensures read { IfOk result (λ r. Reading (Row (N.InfixSumMore mode)) (T.sum_more left) tokens.now r.0 r.1.now) }
         ensures shorter { IfOk result (λ r. length r.1.now ≤ length tokens.now) }
         ensures stop { IfErr result (λ e. StopsAt (Row (N.InfixSumMore mode)) tokens.now e) }
@@ -137,7 +138,7 @@ impl<F: Fn(Global, &[Lexeme], Mode, Part) -> Read<'_, Boxed<Exp>>> Grammar<F> {
             Some((sign, after_sign)) => {
                 let (right, after_right) = self.infix_product(after_sign, mode)?;
                 let operator = operator_of(sign.kind);
-                let made = build::infix(self.alloc, sign.place, operator, left, right)?;
+                let made = build::infix(self.atoms.grammar.alloc, sign.place, operator, left, right)?;
                 self.infix_sum_more(made, after_right, mode)
             }
             None => Ok((left, tokens)),
@@ -146,8 +147,8 @@ impl<F: Fn(Global, &[Lexeme], Mode, Part) -> Read<'_, Boxed<Exp>>> Grammar<F> {
 
     // A product, from the left.
     pub(crate) fn infix_product<'a>(&self, tokens: &'a [Lexeme], mode: Mode) -> Read<'a, Boxed<Exp>>
-        requires parses { Parses self.now.limit (F.pre self.now.part) (F.post self.now.part) }
-        requires fewer { length tokens.now ≤ self.now.limit }
+        requires parses { Parses self.now.atoms.grammar.limit (F.pre self.now.atoms.grammar.part) (F.post self.now.atoms.grammar.part) }
+        requires fewer { length tokens.now ≤ self.now.atoms.grammar.limit }
         ensures read { IfOk result (λ r. Reading (Row (N.InfixProduct mode)) T.product_of tokens.now r.0 r.1.now) }
         ensures shorter { IfOk result (λ r. length r.1.now < length tokens.now) }
         ensures stop { IfErr result (λ e. StopsAt (Row (N.InfixProduct mode)) tokens.now e) }
@@ -163,8 +164,8 @@ impl<F: Fn(Global, &[Lexeme], Mode, Part) -> Read<'_, Boxed<Exp>>> Grammar<F> {
         tokens: &'a [Lexeme],
         mode: Mode,
     ) -> Read<'a, Boxed<Exp>>
-        requires parses { Parses self.now.limit (F.pre self.now.part) (F.post self.now.part) }
-        requires fewer { length tokens.now ≤ self.now.limit }
+        requires parses { Parses self.now.atoms.grammar.limit (F.pre self.now.atoms.grammar.part) (F.post self.now.atoms.grammar.part) }
+        requires fewer { length tokens.now ≤ self.now.atoms.grammar.limit }
         ensures read { IfOk result (λ r. Reading (Row (N.InfixProductMore mode)) (T.product_more left) tokens.now r.0 r.1.now) }
         ensures shorter { IfOk result (λ r. length r.1.now ≤ length tokens.now) }
         ensures stop { IfErr result (λ e. StopsAt (Row (N.InfixProductMore mode)) tokens.now e) }
@@ -173,7 +174,7 @@ impl<F: Fn(Global, &[Lexeme], Mode, Part) -> Read<'_, Boxed<Exp>>> Grammar<F> {
             Some((sign, after_sign)) => {
                 let (right, after_right) = self.infix_power(after_sign, mode)?;
                 let operator = operator_of(sign.kind);
-                let made = build::infix(self.alloc, sign.place, operator, left, right)?;
+                let made = build::infix(self.atoms.grammar.alloc, sign.place, operator, left, right)?;
                 self.infix_product_more(made, after_right, mode)
             }
             None => Ok((left, tokens)),
@@ -182,8 +183,8 @@ impl<F: Fn(Global, &[Lexeme], Mode, Part) -> Read<'_, Boxed<Exp>>> Grammar<F> {
 
     // A power.
     pub(crate) fn infix_power<'a>(&self, tokens: &'a [Lexeme], mode: Mode) -> Read<'a, Boxed<Exp>>
-        requires parses { Parses self.now.limit (F.pre self.now.part) (F.post self.now.part) }
-        requires fewer { length tokens.now ≤ self.now.limit }
+        requires parses { Parses self.now.atoms.grammar.limit (F.pre self.now.atoms.grammar.part) (F.post self.now.atoms.grammar.part) }
+        requires fewer { length tokens.now ≤ self.now.atoms.grammar.limit }
         ensures read { IfOk result (λ r. Reading (Row (N.InfixPower mode)) T.power_of tokens.now r.0 r.1.now) }
         ensures shorter { IfOk result (λ r. length r.1.now < length tokens.now) }
         ensures stop { IfErr result (λ e. StopsAt (Row (N.InfixPower mode)) tokens.now e) }
@@ -191,9 +192,9 @@ impl<F: Fn(Global, &[Lexeme], Mode, Part) -> Read<'_, Boxed<Exp>>> Grammar<F> {
         let (left, after_left) = self.unary(tokens, mode)?;
         match accept(after_left, TokenKind::Caret) {
             Some((sign, after_sign)) => {
-                let (right, rest) = self.more_power(after_sign, mode)?;
+                let (right, rest) = self.atoms.grammar.more_power(after_sign, mode)?;
                 let operator = operator_of(sign.kind);
-                let made = build::infix(self.alloc, sign.place, operator, left, right)?;
+                let made = build::infix(self.atoms.grammar.alloc, sign.place, operator, left, right)?;
                 Ok((made, rest))
             }
             None => Ok((left, after_left)),
@@ -202,8 +203,8 @@ impl<F: Fn(Global, &[Lexeme], Mode, Part) -> Read<'_, Boxed<Exp>>> Grammar<F> {
 
     // An operand of `^`.
     pub(crate) fn unary<'a>(&self, tokens: &'a [Lexeme], mode: Mode) -> Read<'a, Boxed<Exp>>
-        requires parses { Parses self.now.limit (F.pre self.now.part) (F.post self.now.part) }
-        requires fewer { length tokens.now ≤ self.now.limit }
+        requires parses { Parses self.now.atoms.grammar.limit (F.pre self.now.atoms.grammar.part) (F.post self.now.atoms.grammar.part) }
+        requires fewer { length tokens.now ≤ self.now.atoms.grammar.limit }
         ensures read { IfOk result (λ r. Reading (Row (N.Unary mode)) T.unary_of tokens.now r.0 r.1.now) }
         ensures shorter { IfOk result (λ r. length r.1.now < length tokens.now) }
         ensures stop { IfErr result (λ e. StopsAt (Row (N.Unary mode)) tokens.now e) }
@@ -219,22 +220,22 @@ impl<F: Fn(Global, &[Lexeme], Mode, Part) -> Read<'_, Boxed<Exp>>> Grammar<F> {
 
     // `-` and its operand.
     pub(crate) fn negation<'a>(&self, tokens: &'a [Lexeme], mode: Mode) -> Read<'a, Boxed<Exp>>
-        requires parses { Parses self.now.limit (F.pre self.now.part) (F.post self.now.part) }
-        requires fewer { length tokens.now ≤ self.now.limit }
+        requires parses { Parses self.now.atoms.grammar.limit (F.pre self.now.atoms.grammar.part) (F.post self.now.atoms.grammar.part) }
+        requires fewer { length tokens.now ≤ self.now.atoms.grammar.limit }
         ensures read { IfOk result (λ r. Reading (Row (N.Negation mode)) T.negation_of tokens.now r.0 r.1.now) }
         ensures shorter { IfOk result (λ r. length r.1.now < length tokens.now) }
         ensures stop { IfErr result (λ e. StopsAt (Row (N.Negation mode)) tokens.now e) }
     {
         let (sign, after_sign) = expect(tokens, TokenKind::Minus)?;
-        let (operand, rest) = self.more_unary(after_sign, mode)?;
-        let made = build::prefixed(self.alloc, sign.place, Prefix::Negate, operand)?;
+        let (operand, rest) = self.atoms.grammar.more_unary(after_sign, mode)?;
+        let made = build::prefixed(self.atoms.grammar.alloc, sign.place, Prefix::Negate, operand)?;
         Ok((made, rest))
     }
 
     // A power of 2, or 2 with its suffixes.
     pub(crate) fn power<'a>(&self, tokens: &'a [Lexeme], mode: Mode) -> Read<'a, Boxed<Exp>>
-        requires parses { Parses self.now.limit (F.pre self.now.part) (F.post self.now.part) }
-        requires fewer { length tokens.now ≤ self.now.limit }
+        requires parses { Parses self.now.atoms.grammar.limit (F.pre self.now.atoms.grammar.part) (F.post self.now.atoms.grammar.part) }
+        requires fewer { length tokens.now ≤ self.now.atoms.grammar.limit }
         ensures read { IfOk result (λ r. Reading (Row (N.Power mode)) T.two_of tokens.now r.0 r.1.now) }
         ensures shorter { IfOk result (λ r. length r.1.now < length tokens.now) }
         ensures stop { IfErr result (λ e. StopsAt (Row (N.Power mode)) tokens.now e) }
@@ -242,15 +243,15 @@ impl<F: Fn(Global, &[Lexeme], Mode, Part) -> Read<'_, Boxed<Exp>>> Grammar<F> {
         let (token, after_two) = expect_two(tokens)?;
         match accept(after_two, TokenKind::Caret) {
             Some((sign, after_sign)) => {
-                let (operand, rest) = self.more_unary(after_sign, mode)?;
-                let made = build::prefixed(self.alloc, sign.place, Prefix::Power, operand)?;
+                let (operand, rest) = self.atoms.grammar.more_unary(after_sign, mode)?;
+                let made = build::prefixed(self.atoms.grammar.alloc, sign.place, Prefix::Power, operand)?;
                 Ok((made, rest))
             }
             None => {
-                let literal = literal(self.alloc, token)?;
-                let base = build::constant(self.alloc, token.place, literal)?;
-                let (list, rest) = self.suffixes(Items::new(self.alloc), after_two, mode)?;
-                let made = with_suffixes(self.alloc, token.place, base, list)?;
+                let literal = literal(self.atoms.grammar.alloc, token)?;
+                let base = build::constant(self.atoms.grammar.alloc, token.place, literal)?;
+                let (list, rest) = self.suffixes(Items::new(self.atoms.grammar.alloc), after_two, mode)?;
+                let made = with_suffixes(self.atoms.grammar.alloc, token.place, base, list)?;
                 Ok((made, rest))
             }
         }
@@ -258,16 +259,16 @@ impl<F: Fn(Global, &[Lexeme], Mode, Part) -> Read<'_, Boxed<Exp>>> Grammar<F> {
 
     // An operand with its suffixes.
     pub(crate) fn postfix<'a>(&self, tokens: &'a [Lexeme], mode: Mode) -> Read<'a, Boxed<Exp>>
-        requires parses { Parses self.now.limit (F.pre self.now.part) (F.post self.now.part) }
-        requires fewer { length tokens.now ≤ self.now.limit }
+        requires parses { Parses self.now.atoms.grammar.limit (F.pre self.now.atoms.grammar.part) (F.post self.now.atoms.grammar.part) }
+        requires fewer { length tokens.now ≤ self.now.atoms.grammar.limit }
         ensures read { IfOk result (λ r. Reading (Row (N.Postfix mode)) T.postfix_of tokens.now r.0 r.1.now) }
         ensures shorter { IfOk result (λ r. length r.1.now < length tokens.now) }
         ensures stop { IfErr result (λ e. StopsAt (Row (N.Postfix mode)) tokens.now e) }
     {
         let place = place(tokens);
-        let (base, after_base) = self.atom(tokens, mode)?;
-        let (list, rest) = self.suffixes(Items::new(self.alloc), after_base, mode)?;
-        let made = with_suffixes(self.alloc, place, base, list)?;
+        let (base, after_base) = self.atoms.atom(tokens, mode)?;
+        let (list, rest) = self.suffixes(Items::new(self.atoms.grammar.alloc), after_base, mode)?;
+        let made = with_suffixes(self.atoms.grammar.alloc, place, base, list)?;
         Ok((made, rest))
     }
 
@@ -278,8 +279,8 @@ impl<F: Fn(Global, &[Lexeme], Mode, Part) -> Read<'_, Boxed<Exp>>> Grammar<F> {
         tokens: &'a [Lexeme],
         mode: Mode,
     ) -> Read<'a, Items<Suffix>>
-        requires parses { Parses self.now.limit (F.pre self.now.part) (F.post self.now.part) }
-        requires fewer { length tokens.now ≤ self.now.limit }
+        requires parses { Parses self.now.atoms.grammar.limit (F.pre self.now.atoms.grammar.part) (F.post self.now.atoms.grammar.part) }
+        requires fewer { length tokens.now ≤ self.now.atoms.grammar.limit }
         ensures read { IfOk result (λ r. Reading (Row (N.Suffixes mode)) (suffixes_behind list) tokens.now r.0 r.1.now) }
         ensures shorter { IfOk result (λ r. length r.1.now ≤ length tokens.now) }
         ensures stop { IfErr result (λ e. StopsAt (Row (N.Suffixes mode)) tokens.now e) }
@@ -295,8 +296,8 @@ impl<F: Fn(Global, &[Lexeme], Mode, Part) -> Read<'_, Boxed<Exp>>> Grammar<F> {
 
     // One suffix.
     pub(crate) fn suffix<'a>(&self, tokens: &'a [Lexeme], mode: Mode) -> Read<'a, Suffix>
-        requires parses { Parses self.now.limit (F.pre self.now.part) (F.post self.now.part) }
-        requires fewer { length tokens.now ≤ self.now.limit }
+        requires parses { Parses self.now.atoms.grammar.limit (F.pre self.now.atoms.grammar.part) (F.post self.now.atoms.grammar.part) }
+        requires fewer { length tokens.now ≤ self.now.atoms.grammar.limit }
         ensures read { IfOk result (λ r. Reading (Row (N.Suffix mode)) T.suffix_of tokens.now r.0 r.1.now) }
         ensures shorter { IfOk result (λ r. length r.1.now < length tokens.now) }
         ensures stop { IfErr result (λ e. StopsAt (Row (N.Suffix mode)) tokens.now e) }
@@ -310,14 +311,14 @@ impl<F: Fn(Global, &[Lexeme], Mode, Part) -> Read<'_, Boxed<Exp>>> Grammar<F> {
 
     // An index or a slice.
     pub(crate) fn index<'a>(&self, tokens: &'a [Lexeme], mode: Mode) -> Read<'a, Suffix>
-        requires parses { Parses self.now.limit (F.pre self.now.part) (F.post self.now.part) }
-        requires fewer { length tokens.now ≤ self.now.limit }
+        requires parses { Parses self.now.atoms.grammar.limit (F.pre self.now.atoms.grammar.part) (F.post self.now.atoms.grammar.part) }
+        requires fewer { length tokens.now ≤ self.now.atoms.grammar.limit }
         ensures read { IfOk result (λ r. Reading (Row (N.Index mode)) index_of tokens.now r.0 r.1.now) }
         ensures shorter { IfOk result (λ r. length r.1.now < length tokens.now) }
         ensures stop { IfErr result (λ e. StopsAt (Row (N.Index mode)) tokens.now e) }
     {
         let (bracket, after_bracket) = expect(tokens, TokenKind::OpenBracket)?;
-        let (first, after_first) = self.exp(after_bracket, mode)?;
+        let (first, after_first) = self.atoms.grammar.exp(after_bracket, mode)?;
         let (last, after_last) = self.slice_end(after_first, mode)?;
         let (_, rest) = expect(after_last, TokenKind::CloseBracket)?;
         Ok((Suffix::At(bracket.place, Index { first, last }), rest))
@@ -329,15 +330,15 @@ impl<F: Fn(Global, &[Lexeme], Mode, Part) -> Read<'_, Boxed<Exp>>> Grammar<F> {
         tokens: &'a [Lexeme],
         mode: Mode,
     ) -> Read<'a, Option<Boxed<Exp>>>
-        requires parses { Parses self.now.limit (F.pre self.now.part) (F.post self.now.part) }
-        requires fewer { length tokens.now ≤ self.now.limit }
+        requires parses { Parses self.now.atoms.grammar.limit (F.pre self.now.atoms.grammar.part) (F.post self.now.atoms.grammar.part) }
+        requires fewer { length tokens.now ≤ self.now.atoms.grammar.limit }
         ensures read { IfOk result (λ r. Reading (word K.DoubleDot then Row (N.Exp mode) or nothing) T.behind_word tokens.now r.0 r.1.now) }
         ensures shorter { IfOk result (λ r. length r.1.now ≤ length tokens.now) }
         ensures stop { IfErr result (λ e. StopsAt (word K.DoubleDot then Row (N.Exp mode) or nothing) tokens.now e) }
     {
         match accept(tokens, TokenKind::DoubleDot) {
             Some((_, after_dots)) => {
-                let (last, rest) = self.exp(after_dots, mode)?;
+                let (last, rest) = self.atoms.grammar.exp(after_dots, mode)?;
                 Ok((Some(last), rest))
             }
             None => Ok((None, tokens)),

@@ -1,6 +1,7 @@
 use Rattle.std.proofs.Common.{sym, ◌∙◌}
 use Rattle.std.proofs.lemmas.Bool.{true≢false}
-use Rattle.sail_parse_expr.proofs.LeafRows.{base_alone, base_part, made_as}
+use Rattle.sail_parse_atoms.proofs.LeafRows.{made_as}
+use Rattle.sail_parse_expr.proofs.LeafRows.{base_alone, base_part}
 use Rattle.sail_parse_expr.proofs.leaves.with_suffixes.Goals as goal
 
 pub returns-then-is_empty : goal.returns-then-is_empty

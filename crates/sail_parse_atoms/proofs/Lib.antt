@@ -1,0 +1,3 @@
+pub mod AtomRows
+pub mod BlockRows
+pub mod LeafRows

@@ -1,0 +1,32 @@
+use Rattle.sail_grammar.proofs.Steps.{exit_stop, stops_row, stops_first, stops_next}
+use Rattle.sail_parse_atoms.proofs.AtomRows as A
+use Rattle.sail_parse_atoms.proofs.atoms.Atoms.assert_form.Goals as goal
+
+pub returns-in_err-word-clause-stop : goal.returns-in_err-word-clause-stop
+returns-in_err-word-clause-stop g c = exit_stop _ c.from_residual.ensures.1 (stops_row (stops_first c.in_err-word.ensures.stop))
+
+pub returns-in_err-after_bracket-clause-stop : goal.returns-in_err-after_bracket-clause-stop
+returns-in_err-after_bracket-clause-stop g c =
+    exit_stop _ c.from_residual-in_err-after_bracket.ensures.1 (stops_row (stops_next c.in_ok-word.ensures.read
+    (stops_first c.in_err-after_bracket.ensures.stop)))
+
+pub returns-in_err-condition-clause-stop : goal.returns-in_err-condition-clause-stop
+returns-in_err-condition-clause-stop g c =
+    exit_stop _ c.from_residual-in_err-condition.ensures.1 (stops_row (stops_next c.in_ok-word.ensures.read
+    (stops_next c.in_ok-after_bracket.ensures.read (stops_first c.in_err-condition.ensures.stop))))
+
+pub returns-in_err-text-clause-stop : goal.returns-in_err-text-clause-stop
+returns-in_err-text-clause-stop g c =
+    exit_stop _ c.from_residual-in_err-text.ensures.1 (stops_row (stops_next c.in_ok-word.ensures.read
+    (stops_next c.in_ok-after_bracket.ensures.read (stops_next c.in_ok-condition.ensures.read.ends (stops_first c.in_err-text.ensures.stop)))))
+
+pub returns-in_err-rest-clause-stop : goal.returns-in_err-rest-clause-stop
+returns-in_err-rest-clause-stop g c =
+    exit_stop _ c.from_residual-in_err-rest.ensures.1 (stops_row (stops_next c.in_ok-word.ensures.read
+    (stops_next c.in_ok-after_bracket.ensures.read (stops_next c.in_ok-condition.ensures.read.ends
+    (stops_next c.in_ok-text.ensures.read.ends c.in_err-rest.ensures.stop)))))
+
+pub returns-clause-read : goal.returns-clause-read
+returns-clause-read g c =
+    A.assert_all c.in_ok-word.ensures.read c.in_ok-after_bracket.ensures.read c.in_ok-condition.ensures.read c.in_ok-text.ensures.read
+    c.in_ok-rest.ensures.read c.in_ok-made.ensures

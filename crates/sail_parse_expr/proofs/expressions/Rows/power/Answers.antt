@@ -1,0 +1,25 @@
+use Rattle.sail_grammar.proofs.Steps.{exit_stop, stops_row, stops_first, some_stops}
+use Rattle.sail_parse_expr.proofs.OperatorRows as O
+use Rattle.sail_parse_expr.proofs.expressions.Rows.power.Goals as goal
+
+pub returns-in_err-token-clause-stop : goal.returns-in_err-token-clause-stop
+returns-in_err-token-clause-stop g c = exit_stop _ c.from_residual.ensures.1 (stops_row (stops_first c.in_err-token.ensures.stop))
+
+pub returns-in_err-operand-in-Some-clause-stop : goal.returns-in_err-operand-in-Some-clause-stop
+returns-in_err-operand-in-Some-clause-stop g c =
+    exit_stop _ c.from_residual-in_err-operand-in-Some.ensures.1 (stops_row (some_stops c.in_ok-token.ensures.read c.in-Some.ensures.read
+    c.in_err-operand-in-Some.ensures.stop))
+
+pub returns-in_ok-made-in-Some-clause-read : goal.returns-in_ok-made-in-Some-clause-read
+returns-in_ok-made-in-Some-clause-read g c =
+    O.power_some c.in_ok-token.ensures.read c.in-Some.ensures.read c.in_ok-operand-in-Some.ensures.read c.in_ok-made-in-Some.ensures
+
+pub returns-in_err-list-in-None-clause-stop : goal.returns-in_err-list-in-None-clause-stop
+returns-in_err-list-in-None-clause-stop g c =
+    exit_stop _ c.from_residual-in_err-list-in-None.ensures.1 (O.power_none_stops c.in_ok-token.ensures.read c.in-None.ensures.read
+    c.in_err-list-in-None.ensures.stop)
+
+pub returns-in_ok-made-in-None-clause-read : goal.returns-in_ok-made-in-None-clause-read
+returns-in_ok-made-in-None-clause-read g c =
+    O.power_none c.in_ok-token.ensures.read c.in-None.ensures.read c.in_ok-literal-in-None.ensures c.in_ok-base-in-None.ensures
+    (O.suffixes_start c.new.ensures c.in_ok-list-in-None.ensures.read) c.in_ok-made-in-None.ensures

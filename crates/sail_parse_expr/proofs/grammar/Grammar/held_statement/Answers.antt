@@ -1,5 +1,0 @@
-use Rattle.sail_parse_expr.proofs.BlockRows as B
-use Rattle.sail_parse_expr.proofs.grammar.Grammar.held_statement.Goals as goal
-
-pub returns-in-Err-clause-stop : goal.returns-in-Err-clause-stop
-returns-in-Err-clause-stop g c = B.held_stop_of c.in-Err.ensures.stop c.held.ensures

@@ -1,0 +1,3 @@
+pub mod ControlRows
+pub mod FormRows
+pub mod Loops

@@ -1,0 +1,12 @@
+use Rattle.sail_grammar.proofs.Steps.{exit_stop, more_stops}
+use Rattle.sail_parse_forms.proofs.ControlRows as C
+use Rattle.sail_parse_forms.proofs.grammar.Grammar.step_by.Goals as goal
+
+pub returns-in_err-step-in-Some-clause-stop : goal.returns-in_err-step-in-Some-clause-stop
+returns-in_err-step-in-Some-clause-stop g c = exit_stop _ c.from_residual.ensures.1 (more_stops c.in-Some.ensures.read c.in_err-step-in-Some.ensures.stop)
+
+pub returns-in_ok-step-in-Some-clause-read : goal.returns-in_ok-step-in-Some-clause-read
+returns-in_ok-step-in-Some-clause-read g c = C.by_some c.in-Some.ensures.read c.in_ok-step-in-Some.ensures.read
+
+pub returns-in-None-clause-read : goal.returns-in-None-clause-read
+returns-in-None-clause-read g c = C.by_none c.in-None.ensures.read
