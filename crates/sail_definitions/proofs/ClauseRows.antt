@@ -35,7 +35,7 @@ use Rattle.sail_grammar.proofs.Steps.{more_ends, no_more_ends, more_stops, takes
 use Rattle.sail_parse_tp.proofs.Choices.{go_left, go_past, stop_left, stop_past, past_word}
 use Rattle.sail_definitions.specs.Behind.{clauses_behind}
 use Rattle.sail_definitions.specs.Parts.{mapping_clause_behind, mapping_whole_behind}
-use Rattle.sail_definitions.proofs.Spelled.{spelled}
+use Rattle.sail_parse_parts.proofs.Spelled.{spelled}
 
 pub side_all : {ss m1 rest : List Sign} {p : Pat} {g : Option Exp} → Reading (Row (Pattern Limited)) pattern_of ss p m1 →
     Reading (word K.If then Row (R.Exp Full) or nothing) behind_word m1 g rest →

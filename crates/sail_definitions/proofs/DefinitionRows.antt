@@ -35,7 +35,7 @@ use Rattle.sail_grammar.specs.DefTrees.{register_of, overload_of, scattered_of, 
 use Rattle.sail_grammar.proofs.Steps.{stops_row, stops_first, stops_next, stops_left}
 use Rattle.sail_parse_tp.proofs.Choices.{go_left, go_right, go_past, stop_left, stop_right, stop_past}
 use Rattle.sail_definitions.specs.Behind.{defs_behind}
-use Rattle.sail_definitions.proofs.Spelled.{spelled}
+use Rattle.sail_parse_parts.proofs.Spelled.{spelled}
 
 pub order_all : {ss m1 m2 rest : List Sign} {w o k : Sign} → Takes (code K.Default ∷ []) ss w m1 → Takes (code K.Order ∷ []) m1 o m2 →
     Takes (code K.Dec ∷ []) m2 k rest → Reading (Row OrderDefinition) order_of ss (V.Order w.place) rest

@@ -26,7 +26,7 @@ use Rattle.sail_grammar.specs.ExpTrees.{exp_of, typ_if, behind_word}
 use Rattle.sail_grammar.specs.DefTrees.{quantifier_if, arrow_of, function_as, val_of, function_of}
 use Rattle.sail_grammar.specs.DefTrees.{measure_definition_of, let_definition_of, register_of}
 use Rattle.sail_definitions.specs.Parts.{is_there, function_made}
-use Rattle.sail_definitions.proofs.Spelled.{spelled}
+use Rattle.sail_parse_parts.proofs.Spelled.{spelled}
 
 abbrev pub arrow_symbols : List ℕ
 arrow_symbols = code K.Arrow ∷ code K.DoubleArrow ∷ []

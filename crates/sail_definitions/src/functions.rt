@@ -5,12 +5,12 @@ ghost use Rattle.sail_grammar.specs.Parsing.{Reading, StopsAt};
 ghost use Rattle.sail_grammar.specs.DefTrees.{function_of, measure_definition_of, let_definition_of, register_of, val_of};
 ghost use Rattle.sail_definitions.specs.Parts.{function_made};
 
-use crate::leaves::{arrow, clause_word, exp_behind, typ_behind};
-use crate::parameters::quantifier;
+use crate::leaves::{arrow, clause_word, exp_behind};
 use sail_base::{Items, Place};
 use sail_grammar::{Lexeme, Mode, Read, expect, expect_any, expect_identifier, name};
 use sail_lex::TokenKind;
 use sail_parse_expr::exp;
+use sail_parse_parts::{quantifier, typ_behind};
 use sail_parse_tp::{pattern, pattern_list, typ};
 use sail_syntax::{Def, Extent, FunctionClause, Name};
 use std::alloc::{AllocError, Global};

@@ -5,8 +5,6 @@ mod clauses;
 mod definition;
 mod functions;
 mod leaves;
-mod lists;
-mod parameters;
 mod scattered;
 
 pub use definition::definitions;

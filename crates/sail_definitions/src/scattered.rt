@@ -8,10 +8,9 @@ ghost use Rattle.sail_grammar.specs.DefTrees.{scattered_of, end_of, union_of};
 ghost use Rattle.sail_definitions.specs.Parts.{scattered_union_behind, scattered_function_behind, scattered_mapping_behind};
 ghost use Rattle.sail_definitions.specs.Parts.{union_clause_behind, union_whole_behind};
 
-use crate::lists::{member, members};
-use crate::parameters::parameters;
 use sail_grammar::{Lexeme, Read, expect, expect_identifier, name, sees};
 use sail_lex::TokenKind;
+use sail_parse_parts::{member, members, parameters};
 use sail_syntax::Def;
 use std::alloc::Global;
 

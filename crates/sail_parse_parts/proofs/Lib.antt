@@ -1,0 +1,4 @@
+pub mod LeafRows
+pub mod ListRows
+pub mod VariableRows
+pub mod Spelled
