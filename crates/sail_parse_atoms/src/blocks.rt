@@ -49,7 +49,12 @@ impl<F: Fn(Global, &[Lexeme], Mode, Part) -> Read<'_, Boxed<Exp>>> Atoms<F> {
         let (bracket, after_bracket) = expect(tokens, TokenKind::OpenBrace)?;
         match accept(after_bracket, TokenKind::CloseBrace) {
             Some((_, rest)) => {
-                let made = build::block(self.grammar.alloc, bracket.place, Items::new(self.grammar.alloc), None)?;
+                let made = build::block(
+                    self.grammar.alloc,
+                    bracket.place,
+                    Items::new(self.grammar.alloc),
+                    None,
+                )?;
                 Ok((made, rest))
             }
             None => self.body(bracket.place, after_bracket),

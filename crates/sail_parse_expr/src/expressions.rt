@@ -68,12 +68,7 @@ pub fn exp<'a>(alloc: Global, tokens: &'a [Lexeme], mode: Mode) -> Read<'a, Boxe
 }
 
 // A row of expressions; what it leads back to is read by this function itself, of fewer tokens.
-fn read_row<'a>(
-    alloc: Global,
-    tokens: &'a [Lexeme],
-    mode: Mode,
-    row: Part,
-) -> Read<'a, Boxed<Exp>>
+fn read_row<'a>(alloc: Global, tokens: &'a [Lexeme], mode: Mode, row: Part) -> Read<'a, Boxed<Exp>>
     ensures read { IfOk result (λ r. Reading (Row (row_of row mode)) (tree_of row) tokens.now r.0 r.1.now) }
     ensures shorter { IfOk result (λ r. length r.1.now < length tokens.now) }
     ensures stop { IfErr result (λ e. StopsAt (Row (row_of row mode)) tokens.now e) }
