@@ -49,8 +49,8 @@ impl<F: Fn(Global, &[Lexeme], Mode, Part) -> Read<'_, Boxed<Exp>>> Rows<F> {
         let begin = place(tokens);
         let (operand, after_operand) = self.operand_row(tokens, Mode::Full)?;
         match accept(after_operand, TokenKind::Equal) {
-            None => annotated(self.atoms.grammar.alloc, begin, operand, after_operand),
-            Some((_, after_equal)) => match target_of(self.atoms.grammar.alloc, operand)? {
+            None => annotated(self.alloc, begin, operand, after_operand),
+            Some((_, after_equal)) => match target_of(self.alloc, operand)? {
                 None => Err(ReadError::Unfit(after_operand.len())),
                 Some(target) => self.assigned(begin, target, after_equal),
             },
@@ -70,7 +70,7 @@ impl<F: Fn(Global, &[Lexeme], Mode, Part) -> Read<'_, Boxed<Exp>>> Rows<F> {
         if is_assigned(operand.get(), after_operand) {
             Err(ReadError::Forbidden(after_operand.len(), tokens.len()))
         } else {
-            annotated(self.atoms.grammar.alloc, begin, operand, after_operand)
+            annotated(self.alloc, begin, operand, after_operand)
         }
     }
 
@@ -87,12 +87,12 @@ impl<F: Fn(Global, &[Lexeme], Mode, Part) -> Read<'_, Boxed<Exp>>> Rows<F> {
         ensures shorter { IfOk result (λ r. length r.1.now < length tokens.now) }
         ensures stop { IfErr result (λ e. StopsAt (Row (N.Exp Full)) tokens.now e) }
     {
-        let mut more = Items::new(self.atoms.grammar.alloc);
+        let mut more = Items::new(self.alloc);
         let mut rest = tokens;
         'targets: loop {
             if sees_any(rest, &FIRST_WORDS) {
                 let (value, after_value) = self.atoms.grammar.exp(rest, Mode::Full)?;
-                let made = build::assign(self.atoms.grammar.alloc, place, target, more, value)?;
+                let made = build::assign(self.alloc, place, target, more, value)?;
                 return Ok((made, after_value));
             }
             let begin = sail_grammar::place(rest);
@@ -100,15 +100,15 @@ impl<F: Fn(Global, &[Lexeme], Mode, Part) -> Read<'_, Boxed<Exp>>> Rows<F> {
             match accept(after_operand, TokenKind::Equal) {
                 None => {
                     let (value, after_value) = annotated(
-                        self.atoms.grammar.alloc,
+                        self.alloc,
                         begin,
                         operand,
                         after_operand,
                     )?;
-                    let made = build::assign(self.atoms.grammar.alloc, place, target, more, value)?;
+                    let made = build::assign(self.alloc, place, target, more, value)?;
                     return Ok((made, after_value));
                 }
-                Some((_, after_equal)) => match target_of(self.atoms.grammar.alloc, operand)? {
+                Some((_, after_equal)) => match target_of(self.alloc, operand)? {
                     None => return Err(ReadError::Unfit(after_operand.len())),
                     Some(to) => {
                         more.push(Target { place: begin, to })?;

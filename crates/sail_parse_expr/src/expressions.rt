@@ -17,6 +17,8 @@ use std::alloc::Global;
 // What the functions of operators, assignments and whole expressions are given.
 #[derive(Clone, Copy)]
 pub(crate) struct Rows<F> {
+    pub(crate) alloc: Global,
+    // What reads operands without suffixes, and expressions of fewer tokens.
     pub(crate) atoms: Atoms<F>,
 }
 
@@ -79,6 +81,7 @@ fn read_row<'a>(alloc: Global, tokens: &'a [Lexeme], mode: Mode, row: Part) -> R
         part: read_row,
     };
     let rows = Rows {
+        alloc,
         atoms: Atoms { grammar },
     };
     match row {

@@ -38,13 +38,7 @@ impl<F: Fn(Global, &[Lexeme], Mode, Part) -> Read<'_, Boxed<Exp>>> Rows<F> {
             Some((sign, after_sign)) => {
                 let (right, rest) = self.atoms.grammar.infix(after_sign, mode)?;
                 let operator = operator_of(sign.kind);
-                let made = build::infix(
-                    self.atoms.grammar.alloc,
-                    sign.place,
-                    operator,
-                    left,
-                    right,
-                )?;
+                let made = build::infix(self.alloc, sign.place, operator, left, right)?;
                 Ok((made, rest))
             }
             None => Ok((left, after_left)),
@@ -64,13 +58,7 @@ impl<F: Fn(Global, &[Lexeme], Mode, Part) -> Read<'_, Boxed<Exp>>> Rows<F> {
             Some((sign, after_sign)) => {
                 let (right, rest) = self.atoms.grammar.more_and(after_sign, mode)?;
                 let operator = operator_of(sign.kind);
-                let made = build::infix(
-                    self.atoms.grammar.alloc,
-                    sign.place,
-                    operator,
-                    left,
-                    right,
-                )?;
+                let made = build::infix(self.alloc, sign.place, operator, left, right)?;
                 Ok((made, rest))
             }
             None => Ok((left, after_left)),
@@ -94,13 +82,7 @@ impl<F: Fn(Global, &[Lexeme], Mode, Part) -> Read<'_, Boxed<Exp>>> Rows<F> {
             Some((sign, after_sign)) => {
                 let (right, rest) = self.infix_append(after_sign, mode)?;
                 let operator = operator_of(sign.kind);
-                let made = build::infix(
-                    self.atoms.grammar.alloc,
-                    sign.place,
-                    operator,
-                    left,
-                    right,
-                )?;
+                let made = build::infix(self.alloc, sign.place, operator, left, right)?;
                 Ok((made, rest))
             }
             None => Ok((left, after_left)),
@@ -120,13 +102,7 @@ impl<F: Fn(Global, &[Lexeme], Mode, Part) -> Read<'_, Boxed<Exp>>> Rows<F> {
             Some((sign, after_sign)) => {
                 let (right, rest) = self.atoms.grammar.more_append(after_sign, mode)?;
                 let operator = operator_of(sign.kind);
-                let made = build::infix(
-                    self.atoms.grammar.alloc,
-                    sign.place,
-                    operator,
-                    left,
-                    right,
-                )?;
+                let made = build::infix(self.alloc, sign.place, operator, left, right)?;
                 Ok((made, rest))
             }
             None => Ok((left, after_left)),
@@ -162,13 +138,7 @@ impl<F: Fn(Global, &[Lexeme], Mode, Part) -> Read<'_, Boxed<Exp>>> Rows<F> {
             Some((sign, after_sign)) => {
                 let (right, after_right) = self.infix_product(after_sign, mode)?;
                 let operator = operator_of(sign.kind);
-                let made = build::infix(
-                    self.atoms.grammar.alloc,
-                    sign.place,
-                    operator,
-                    left,
-                    right,
-                )?;
+                let made = build::infix(self.alloc, sign.place, operator, left, right)?;
                 self.infix_sum_more(made, after_right, mode)
             }
             None => Ok((left, tokens)),
@@ -204,13 +174,7 @@ impl<F: Fn(Global, &[Lexeme], Mode, Part) -> Read<'_, Boxed<Exp>>> Rows<F> {
             Some((sign, after_sign)) => {
                 let (right, after_right) = self.infix_power(after_sign, mode)?;
                 let operator = operator_of(sign.kind);
-                let made = build::infix(
-                    self.atoms.grammar.alloc,
-                    sign.place,
-                    operator,
-                    left,
-                    right,
-                )?;
+                let made = build::infix(self.alloc, sign.place, operator, left, right)?;
                 self.infix_product_more(made, after_right, mode)
             }
             None => Ok((left, tokens)),
@@ -230,13 +194,7 @@ impl<F: Fn(Global, &[Lexeme], Mode, Part) -> Read<'_, Boxed<Exp>>> Rows<F> {
             Some((sign, after_sign)) => {
                 let (right, rest) = self.atoms.grammar.more_power(after_sign, mode)?;
                 let operator = operator_of(sign.kind);
-                let made = build::infix(
-                    self.atoms.grammar.alloc,
-                    sign.place,
-                    operator,
-                    left,
-                    right,
-                )?;
+                let made = build::infix(self.alloc, sign.place, operator, left, right)?;
                 Ok((made, rest))
             }
             None => Ok((left, after_left)),
@@ -270,12 +228,7 @@ impl<F: Fn(Global, &[Lexeme], Mode, Part) -> Read<'_, Boxed<Exp>>> Rows<F> {
     {
         let (sign, after_sign) = expect(tokens, TokenKind::Minus)?;
         let (operand, rest) = self.atoms.grammar.more_unary(after_sign, mode)?;
-        let made = build::prefixed(
-            self.atoms.grammar.alloc,
-            sign.place,
-            Prefix::Negate,
-            operand,
-        )?;
+        let made = build::prefixed(self.alloc, sign.place, Prefix::Negate, operand)?;
         Ok((made, rest))
     }
 
@@ -291,23 +244,14 @@ impl<F: Fn(Global, &[Lexeme], Mode, Part) -> Read<'_, Boxed<Exp>>> Rows<F> {
         match accept(after_two, TokenKind::Caret) {
             Some((sign, after_sign)) => {
                 let (operand, rest) = self.atoms.grammar.more_unary(after_sign, mode)?;
-                let made = build::prefixed(
-                    self.atoms.grammar.alloc,
-                    sign.place,
-                    Prefix::Power,
-                    operand,
-                )?;
+                let made = build::prefixed(self.alloc, sign.place, Prefix::Power, operand)?;
                 Ok((made, rest))
             }
             None => {
-                let literal = literal(self.atoms.grammar.alloc, token)?;
-                let base = build::constant(self.atoms.grammar.alloc, token.place, literal)?;
-                let (list, rest) = self.suffixes(
-                    Items::new(self.atoms.grammar.alloc),
-                    after_two,
-                    mode,
-                )?;
-                let made = with_suffixes(self.atoms.grammar.alloc, token.place, base, list)?;
+                let literal = literal(self.alloc, token)?;
+                let base = build::constant(self.alloc, token.place, literal)?;
+                let (list, rest) = self.suffixes(Items::new(self.alloc), after_two, mode)?;
+                let made = with_suffixes(self.alloc, token.place, base, list)?;
                 Ok((made, rest))
             }
         }
@@ -323,8 +267,8 @@ impl<F: Fn(Global, &[Lexeme], Mode, Part) -> Read<'_, Boxed<Exp>>> Rows<F> {
     {
         let place = place(tokens);
         let (base, after_base) = self.atoms.atom(tokens, mode)?;
-        let (list, rest) = self.suffixes(Items::new(self.atoms.grammar.alloc), after_base, mode)?;
-        let made = with_suffixes(self.atoms.grammar.alloc, place, base, list)?;
+        let (list, rest) = self.suffixes(Items::new(self.alloc), after_base, mode)?;
+        let made = with_suffixes(self.alloc, place, base, list)?;
         Ok((made, rest))
     }
 
