@@ -1,15 +1,12 @@
 -- The rows of operands: the readings of the parts join to the reading of a row.
-use Rattle.std.proofs.Common.{◌≡◌, ℕ, ◌++◌, Bool, true, false, List, [], ◌∷◌, refl, sym, ◌∙◌, subst, append_assoc, append-nil, map, length}
+use Rattle.std.proofs.Common.{◌≡◌, ℕ, ◌++◌, Bool, true, false, List, [], ◌∷◌, refl, sym, ◌∙◌, subst, append_assoc, append-nil, length}
 use Rattle.std.specs.Prelude.{Option, Some, None, ◌||◌, ◌==◌}
 use Rattle.std.proofs.lemmas.Bool.{true≢false}
 use Rattle.sail_base.specs.declared.operators.Prefix.{Prefix}
 use Rattle.sail_base.specs.declared.place.Place.{Place}
 use Rattle.sail_lex.specs.declared.kind.TokenKind.TheVariants as K
 use Rattle.sail_syntax.specs.declared.name.Name.{Name}
-use Rattle.sail_syntax.specs.declared.name.Literal.{Literal}
-use Rattle.sail_syntax.specs.declared.words.Asking.{Asking}
 use Rattle.sail_syntax.specs.declared.words.Brackets.TheVariants as B
-use Rattle.sail_syntax.specs.declared.types.TyExp.{TyExp}
 use Rattle.sail_syntax.specs.declared.expressions.Exp.{Exp}
 use Rattle.sail_syntax.specs.declared.expressions.Exp.TheVariants as V
 use Rattle.sail_syntax.specs.declared.expressions.FieldValue.{FieldValue}
@@ -21,11 +18,9 @@ use Rattle.sail_grammar.specs.declared.mode.Mode.TheVariants.{Full, Limited}
 use Rattle.sail_grammar.specs.Symbol.{Sign, code, identifiers}
 use Rattle.sail_grammar.specs.RowName as N
 use Rattle.sail_grammar.specs.Form.{Word, Row, ◌or◌, ◌then◌, Nothing, Leaf, Pair, Left, Right, held, look, among}
-use Rattle.sail_grammar.specs.Ends.{both_read, row_ends, right_read, empty_read, forbid_stop, forbid_bar}
+use Rattle.sail_grammar.specs.Ends.{both_read, row_ends, forbid_stop, forbid_bar}
 use Rattle.sail_grammar.specs.Table.{nothing, word, words, identifier, literals}
 use Rattle.sail_grammar.specs.Parsing.{Reading, Takes, StopsAt}
-use Rattle.sail_grammar.specs.Leaves.{literal_of, inner_text}
-use Rattle.sail_grammar.specs.TypeTrees.{typ_of}
 use Rattle.sail_grammar.specs.ExpTrees as T
 use Rattle.sail_grammar.proofs.Steps.{
   left_word,
@@ -38,25 +33,16 @@ use Rattle.sail_grammar.proofs.Steps.{
   more_ends,
   no_more_ends,
   more_stops,
-  none_in,
-  right_nothing,
-  held_none,
   takes_held,
 }
 use Rattle.sail_parse_tp.proofs.Choices.{go_left, go_right, go_past, stop_left, stop_right, stop_past}
-use Rattle.sail_parse_atoms.specs.Behind.{constant_of, exps_behind}
-
-abbrev pub literal_symbols : List ℕ
-literal_symbols = map code literals
+use Rattle.sail_parse_forms.specs.Behind.{constant_of}
+use Rattle.sail_parse_forms.proofs.FormRows.{spelled}
+use Rattle.sail_parse_forms.proofs.PartRows.{literal_symbols, question_symbols}
+use Rattle.sail_parse_atoms.specs.Behind.{exps_behind}
 
 abbrev pub prefix_symbols : List ℕ
 prefix_symbols = code K.Tilde ∷ code K.Not ∷ []
-
-abbrev pub question_symbols : List ℕ
-question_symbols = code K.Sizeof ∷ code K.Constraint ∷ []
-
-abbrev pub spelled : Sign → Name
-spelled s = record { place = s.place; text = s.text }
 
 -- one of two symbols
 either_first : (x y : Bool) → (x || (y || false)) ≡ (y || (x || false))
@@ -224,11 +210,6 @@ atom_assertion_stops {ss = ss} h0 h1 h2 h3 h4 h5 h6 h7 h8 s = stops_row (stop_pa
     (stop_past (code K.OpenBracket ∷ []) h5 refl refl refl (stop_past (code K.OpenVector ∷ []) h6 refl refl refl
     (stop_past (code K.Struct ∷ []) h7 refl refl refl (stop_past question_symbols h8 refl (swapped (code K.Constraint) (code K.Sizeof) (look ss)) refl
     s)))))))))
-
--- a literal
-pub constant_all : {ss rest : List Sign} {n : Sign} {l : Literal} {z : Exp} → Takes literal_symbols ss n rest → l ≡ literal_of n.kind n.text →
-    z ≡ V.Constant n.place l → Reading (words literals) constant_of ss z rest
-constant_all {n = n} w l e = record { tree = Leaf n; ends = w; shows = (λ i. V.Constant n.place (sym l i)) ∙ sym e }
 
 -- a name, alone or with arguments
 pub named_some : {m : Mode} {ss a b rest : List Sign} {n o : Sign} {name : Name} {xs : List Exp} {z : Exp} → Takes identifiers ss n a →
@@ -411,31 +392,6 @@ struct_all {w = w} {o = o} {k = k} s n t v c e = record {
   shows = (λ i. V.Struct w.place (n.shows i) (v.shows i)) ∙ sym e;
 }
 
-pub name_some : {ss rest : List Sign} {n : Sign} {name : Name} → Takes identifiers ss n rest → name ≡ spelled n →
-    Reading (identifier or nothing) T.name_if ss (Some name) rest
-name_some {ss = ss} {n = n} i e = record {
-  tree = Left (Leaf n);
-  ends = go_left identifiers (takes_held identifiers ss n _ i) refl i;
-  shows = λ j. Some (sym e j);
-}
-
-pub name_none : {ss : List Sign} → held ss identifiers ≡ false → Reading (identifier or nothing) T.name_if ss None ss
-name_none {ss = ss} h = record {
-  tree = Right Nothing;
-  ends = right_read (right_nothing (Word identifiers) ss (held_none identifiers ss refl h)) (empty_read (none_in ss));
-  shows = refl;
-}
-
--- `sizeof` and `constraint`
-pub question_all : {ss a b c rest : List Sign} {w o k : Sign} {p : Asking} {x : TyExp} {z : Exp} → Takes question_symbols ss w a →
-    Takes (code K.OpenParenthesis ∷ []) a o b → Reading (Row (N.Typ Full)) typ_of b x c → Takes (code K.CloseParenthesis ∷ []) c k rest →
-    p ≡ T.asking_of w.kind → z ≡ V.OfType w.place p x → Reading (Row N.TypeQuestion) T.question_of ss z rest
-question_all {w = w} {o = o} {k = k} {x = x} n s r c p e = record {
-  tree = Pair (Leaf w) (Pair (Leaf o) (Pair r.tree (Leaf k)));
-  ends = row_ends (both_read n (both_read s (both_read r.ends c)));
-  shows = (λ i. V.OfType w.place (T.asking_of w.kind) (r.shows i)) ∙ (λ i. V.OfType w.place (sym p i) x) ∙ sym e;
-}
-
 -- `assert`
 pub assert_all : {ss a b c d rest : List Sign} {w o k : Sign} {x z : Exp} {text : Option (List ℕ)} → Takes (code K.Assert ∷ []) ss w a →
     Takes (code K.OpenParenthesis ∷ []) a o b → Reading (Row (N.Exp Full)) T.exp_of b x c →
@@ -446,18 +402,6 @@ assert_all {w = w} {o = o} {k = k} s t r q c e = record {
   ends = row_ends (both_read s (both_read t (both_read r.ends (both_read q.ends c))));
   shows = (λ i. V.Assert w.place (r.shows i) (q.shows i)) ∙ sym e;
 }
-
-pub text_some : {ss a rest : List Sign} {c t : Sign} {text : List ℕ} → Takes (code K.Comma ∷ []) ss c a → Takes (code K.StringLiteral ∷ []) a t rest →
-    text ≡ inner_text t.text → Reading ((word K.Comma then word K.StringLiteral) or nothing) T.text_if ss (Some text) rest
-text_some {c = c} {t = t} w s e = record {
-  tree = Left (Pair (Leaf c) (Leaf t));
-  ends = more_ends w s;
-  shows = λ i. Some (sym e i);
-}
-
-pub text_none : {ss : List Sign} → held ss (code K.Comma ∷ []) ≡ false →
-    Reading ((word K.Comma then word K.StringLiteral) or nothing) T.text_if ss None ss
-text_none h = record { tree = Right Nothing; ends = no_more_ends refl h; shows = refl }
 
 pub assertion_full : {m : Mode} {ss rest : List Sign} {z : Exp} → m ≡ Full → Reading (Row (N.Assertion Full)) T.assertion_of ss z rest →
     Reading (Row (N.Assertion m)) T.assertion_of ss z rest

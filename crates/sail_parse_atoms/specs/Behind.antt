@@ -2,7 +2,6 @@
 use Rattle.std.specs.Prelude.{◌≡◌, ℕ, List, ◌++◌}
 use Rattle.sail_base.specs.declared.place.Place.{Place}
 use Rattle.sail_syntax.specs.declared.expressions.Exp.{Exp}
-use Rattle.sail_syntax.specs.declared.expressions.Exp.TheVariants as V
 use Rattle.sail_syntax.specs.declared.expressions.Stmt.{Stmt}
 use Rattle.sail_syntax.specs.declared.expressions.FieldValue.{FieldValue}
 use Rattle.sail_grammar.specs.declared.error.ReadError.{ReadError}
@@ -10,7 +9,6 @@ use Rattle.sail_grammar.specs.declared.error.ReadError.TheVariants.{Forbidden}
 use Rattle.sail_grammar.specs.Symbol.{Sign}
 use Rattle.sail_grammar.specs.Parsing.{StopsAt}
 use Rattle.sail_grammar.specs.Form.{Form, Tree, Right}
-use Rattle.sail_grammar.specs.Leaves.{place_at, literal_at}
 use Rattle.sail_grammar.specs.ExpTrees.{exps_tail, values_tail, statements_of, is_closed, block, body_more}
 
 abbrev pub exps_behind : List Exp → Tree → List Exp
@@ -18,10 +16,6 @@ exps_behind list t = list ++ exps_tail t
 
 abbrev pub values_behind : List FieldValue → Tree → List FieldValue
 values_behind list t = list ++ values_tail t
-
--- a literal of one token
-abbrev pub constant_of : Tree → Exp
-constant_of t = V.Constant (place_at t) (literal_at t)
 
 -- the block of a first statement and what is behind it, as if a `with` were none
 abbrev pub block_behind : Place → Stmt → Tree → Exp

@@ -8,18 +8,17 @@ ghost use Rattle.sail_grammar.specs.Table.{nothing, word, words, identifier, lit
 ghost use Rattle.sail_grammar.specs.Parsing.{Reading, StopsAt};
 ghost use Rattle.sail_grammar.specs.ExpTrees as T;
 ghost use Rattle.sail_parse_forms.specs.Parses.{Parses};
-ghost use Rattle.sail_parse_atoms.specs.Behind.{constant_of, exps_behind};
+ghost use Rattle.sail_parse_atoms.specs.Behind.{exps_behind};
 
-use crate::leaves::{LITERALS, PREFIXES, QUESTIONS, asking_of, in_brackets, inner_text, prefix_of};
-use sail_base::{Boxed, Items, Place, Text};
+use crate::leaves::{PREFIXES, in_brackets, prefix_of};
+use sail_base::{Boxed, Items, Place};
 use sail_grammar::{
-    Lexeme, Mode, Read, ReadError, accept, accept_identifier, expect, expect_any,
-    expect_identifier, literal, name, sees, sees_any, sees_identifier,
+    Lexeme, Mode, Read, ReadError, accept, expect, expect_identifier, name, sees, sees_any,
+    sees_identifier,
 };
 use sail_lex::TokenKind;
-use sail_parse_forms::{Grammar, Part};
-use sail_parse_tp::typ;
-use sail_syntax::{Brackets, Exp, Index, Name, build};
+use sail_parse_forms::{Grammar, LITERALS, Part, QUESTIONS, constant, name_if, question, text_if};
+use sail_syntax::{Brackets, Exp, Index, build};
 use std::alloc::Global;
 
 /// What the functions of operands without suffixes are given. It reads what is within brackets by a
@@ -337,60 +336,5 @@ impl<F: Fn(Global, &[Lexeme], Mode, Part) -> Read<'_, Boxed<Exp>>> Atoms<F> {
             rest = after_next;
         }
         Ok((list, rest))
-    }
-}
-
-// A literal but `2`.
-pub(crate) fn constant<'a>(alloc: Global, tokens: &'a [Lexeme]) -> Read<'a, Boxed<Exp>>
-    ensures read { IfOk result (λ r. Reading (words literals) constant_of tokens.now r.0 r.1.now) }
-    ensures shorter { IfOk result (λ r. length r.1.now < length tokens.now) }
-    ensures stop { IfErr result (λ e. StopsAt (words literals) tokens.now e) }
-{
-    let (token, rest) = expect_any(tokens, &LITERALS)?;
-    let literal = literal(alloc, token)?;
-    let made = build::constant(alloc, token.place, literal)?;
-    Ok((made, rest))
-}
-
-// A name, if there is one.
-pub(crate) fn name_if<'a>(tokens: &'a [Lexeme]) -> Read<'a, Option<Name>>
-    ensures read { IfOk result (λ r. Reading (identifier or nothing) T.name_if tokens.now r.0 r.1.now) }
-    ensures shorter { IfOk result (λ r. length r.1.now ≤ length tokens.now) }
-    ensures stop { IfErr result (λ e. StopsAt (identifier or nothing) tokens.now e) }
-{
-    match accept_identifier(tokens) {
-        Some((token, rest)) => Ok((Some(name(token)?), rest)),
-        None => Ok((None, tokens)),
-    }
-}
-
-// `sizeof` or `constraint`.
-pub(crate) fn question<'a>(alloc: Global, tokens: &'a [Lexeme]) -> Read<'a, Boxed<Exp>>
-    ensures read { IfOk result (λ r. Reading (Row N.TypeQuestion) T.question_of tokens.now r.0 r.1.now) }
-    ensures shorter { IfOk result (λ r. length r.1.now < length tokens.now) }
-    ensures stop { IfErr result (λ e. StopsAt (Row N.TypeQuestion) tokens.now e) }
-{
-    let (word, after_word) = expect_any(tokens, &QUESTIONS)?;
-    let (_, after_bracket) = expect(after_word, TokenKind::OpenParenthesis)?;
-    let (typ, after_typ) = typ(alloc, after_bracket, Mode::Full)?;
-    let (_, rest) = expect(after_typ, TokenKind::CloseParenthesis)?;
-    let asking = asking_of(word.kind);
-    let made = build::of_type(alloc, word.place, asking, typ)?;
-    Ok((made, rest))
-}
-
-// A text behind a comma, if there is one.
-pub(crate) fn text_if<'a>(alloc: Global, tokens: &'a [Lexeme]) -> Read<'a, Option<Text>>
-    ensures read { IfOk result (λ r. Reading (word K.Comma then word K.StringLiteral or nothing) T.text_if tokens.now r.0 r.1.now) }
-    ensures shorter { IfOk result (λ r. length r.1.now ≤ length tokens.now) }
-    ensures stop { IfErr result (λ e. StopsAt (word K.Comma then word K.StringLiteral or nothing) tokens.now e) }
-{
-    match accept(tokens, TokenKind::Comma) {
-        Some((_, after_comma)) => {
-            let (token, rest) = expect(after_comma, TokenKind::StringLiteral)?;
-            let text = inner_text(alloc, token)?;
-            Ok((Some(text), rest))
-        }
-        None => Ok((None, tokens)),
     }
 }

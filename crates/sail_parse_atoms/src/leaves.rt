@@ -1,28 +1,14 @@
 ghost use Rattle.std.specs.Prelude.{◌≡◌, [], ◌∷◌, ◌++◌, IfOk};
-ghost use Rattle.sail_grammar.specs.Leaves.{inner_text as text_inside};
 ghost use Rattle.sail_grammar.specs.ExpTrees as T;
 ghost use Rattle.sail_parse_atoms.specs.Behind.{held_from};
 
-use sail_base::{Boxed, Items, Place, Prefix, Text};
-use sail_grammar::{Lexeme, ReadError};
+use sail_base::{Boxed, Items, Place, Prefix};
+use sail_grammar::ReadError;
 use sail_lex::TokenKind;
-use sail_syntax::{Asking, Brackets, Exp, Stmt, build};
+use sail_syntax::{Brackets, Exp, Stmt, build};
 use std::alloc::{AllocError, Global};
 
-pub(crate) const LITERALS: [TokenKind; 8] = [
-    TokenKind::Decimal,
-    TokenKind::Hexadecimal,
-    TokenKind::Binary,
-    TokenKind::StringLiteral,
-    TokenKind::True,
-    TokenKind::False,
-    TokenKind::Bitone,
-    TokenKind::Bitzero,
-];
-
 pub(crate) const PREFIXES: [TokenKind; 2] = [TokenKind::Tilde, TokenKind::Not];
-
-pub(crate) const QUESTIONS: [TokenKind; 2] = [TokenKind::Sizeof, TokenKind::Constraint];
 
 pub(crate) const BLOCK_ENDS: [TokenKind; 2] = [TokenKind::Semicolon, TokenKind::CloseBrace];
 
@@ -33,31 +19,6 @@ pub(crate) fn prefix_of(kind: TokenKind) -> Prefix
     match kind {
         TokenKind::Tilde => Prefix::Tilde,
         _ => Prefix::Not,
-    }
-}
-
-// What a word asks of a type.
-pub(crate) fn asking_of(kind: TokenKind) -> Asking
-    ensures { result ≡ T.asking_of kind }
-{
-    match kind {
-        TokenKind::Sizeof => Asking::Sizeof,
-        _ => Asking::Constraint,
-    }
-}
-
-// The text of a string as spelled, between its quotes. It fails where memory is wanting, and where what
-// is between isn't UTF-8, which no token of a source is.
-pub(crate) fn inner_text(alloc: Global, token: &Lexeme) -> Result<Text, AllocError>
-    ensures { IfOk result (λ made. made ≡ text_inside token.now.text) }
-{
-    let bytes = token.text.as_bytes();
-    if bytes.len() < 2 {
-        return Text::new(alloc, "");
-    }
-    match str::from_utf8(&bytes[1..bytes.len() - 1]) {
-        Ok(text) => Text::new(alloc, text),
-        Err(_) => Err(AllocError),
     }
 }
 

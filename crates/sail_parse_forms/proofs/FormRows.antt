@@ -18,7 +18,6 @@ use Rattle.sail_grammar.specs.Form.{Word, Empty, Row, ◌or◌, ◌then◌, Noth
 use Rattle.sail_grammar.specs.Ends.{both_read, row_ends, right_read, empty_read}
 use Rattle.sail_grammar.specs.Table.{nothing, word}
 use Rattle.sail_grammar.specs.Parsing.{Reading, Takes, StopsAt}
-use Rattle.sail_grammar.specs.TypeTrees.{typ_of}
 use Rattle.sail_grammar.specs.PatternTrees.{pattern_of}
 use Rattle.sail_grammar.specs.ExpTrees as T
 use Rattle.sail_grammar.proofs.Steps.{stops_row, stops_first, stops_next, stops_right, more_ends, no_more_ends, more_stops, held_none, takes_held, skip}
@@ -82,13 +81,6 @@ case_all {s2 = s2} r0 r1 r2 r3 = record {
 }
 
 -- parts that may be left out
-pub type_if_some : {ss a rest : List Sign} {s : Sign} {x : TyExp} → Takes (code K.Colon ∷ []) ss s a → Reading (Row (N.Typ Full)) typ_of a x rest →
-    Reading (word K.Colon then Row (N.Typ Full) or nothing) T.typ_if ss (Some x) rest
-type_if_some {s = s} w b = record { tree = Left (Pair (Leaf s) b.tree); ends = more_ends w b.ends; shows = λ i. Some (b.shows i) }
-
-pub type_if_none : {ss : List Sign} → held ss (code K.Colon ∷ []) ≡ false → Reading (word K.Colon then Row (N.Typ Full) or nothing) T.typ_if ss None ss
-type_if_none h = record { tree = Right Nothing; ends = no_more_ends refl h; shows = refl }
-
 pub guard_some : {m : Mode} {ss a rest : List Sign} {s : Sign} {x : Exp} → Takes (code K.If ∷ []) ss s a → Reading (Row (N.Exp m)) T.exp_of a x rest →
     Reading (word K.If then Row (N.Exp m) or nothing) T.behind_word ss (Some x) rest
 guard_some {s = s} w b = record { tree = Left (Pair (Leaf s) b.tree); ends = more_ends w b.ends; shows = λ i. Some (b.shows i) }

@@ -1,3 +1,4 @@
 pub mod ControlRows
 pub mod FormRows
 pub mod Loops
+pub mod PartRows

@@ -11,11 +11,12 @@ ghost use Rattle.sail_parse_forms.specs.Parses.{Parses};
 ghost use Rattle.sail_parse_forms.specs.Behind.{cases_behind};
 
 use crate::grammar::{Grammar, Part};
+use crate::parts::type_if;
 use sail_base::{Boxed, Items};
 use sail_grammar::{Lexeme, Mode, Read, accept, expect, expect_identifier, name, sees};
 use sail_lex::TokenKind;
-use sail_parse_tp::{pattern, typ};
-use sail_syntax::{Case, Choosing, Exp, TyExp, build};
+use sail_parse_tp::pattern;
+use sail_syntax::{Case, Choosing, Exp, build};
 use std::alloc::Global;
 
 impl<F: Fn(Global, &[Lexeme], Mode, Part) -> Read<'_, Boxed<Exp>>> Grammar<F> {
@@ -191,20 +192,5 @@ impl<F: Fn(Global, &[Lexeme], Mode, Part) -> Read<'_, Boxed<Exp>>> Grammar<F> {
             }
             None => Ok((None, tokens)),
         }
-    }
-}
-
-/// A type behind a colon, if there is one.
-pub fn type_if<'a>(alloc: Global, tokens: &'a [Lexeme]) -> Read<'a, Option<TyExp>>
-    ensures read { IfOk result (λ r. Reading (word K.Colon then Row (N.Typ Full) or nothing) T.typ_if tokens.now r.0 r.1.now) }
-    ensures shorter { IfOk result (λ r. length r.1.now ≤ length tokens.now) }
-    ensures stop { IfErr result (λ e. StopsAt (word K.Colon then Row (N.Typ Full) or nothing) tokens.now e) }
-{
-    match accept(tokens, TokenKind::Colon) {
-        Some((_, after_colon)) => {
-            let (typ, rest) = typ(alloc, after_colon, Mode::Full)?;
-            Ok((Some(typ), rest))
-        }
-        None => Ok((None, tokens)),
     }
 }

@@ -1,12 +1,12 @@
 use Rattle.sail_grammar.proofs.Steps.{exit_stop, more_stops}
-use Rattle.sail_parse_atoms.proofs.AtomRows as A
-use Rattle.sail_parse_atoms.proofs.atoms.text_if.Goals as goal
+use Rattle.sail_parse_forms.proofs.PartRows as P
+use Rattle.sail_parse_forms.proofs.parts.text_if.Goals as goal
 
 pub returns-in_err-token-in-Some-clause-stop : goal.returns-in_err-token-in-Some-clause-stop
 returns-in_err-token-in-Some-clause-stop c = exit_stop _ c.from_residual.ensures.1 (more_stops c.in-Some.ensures.read c.in_err-token-in-Some.ensures.stop)
 
 pub returns-in_ok-text-in-Some-clause-read : goal.returns-in_ok-text-in-Some-clause-read
-returns-in_ok-text-in-Some-clause-read c = A.text_some c.in-Some.ensures.read c.in_ok-token-in-Some.ensures.read c.in_ok-text-in-Some.ensures
+returns-in_ok-text-in-Some-clause-read c = P.text_some c.in-Some.ensures.read c.in_ok-token-in-Some.ensures.read c.in_ok-text-in-Some.ensures
 
 pub returns-in-None-clause-read : goal.returns-in-None-clause-read
-returns-in-None-clause-read c = A.text_none c.in-None.ensures.read
+returns-in-None-clause-read c = P.text_none c.in-None.ensures.read

@@ -1,6 +1,6 @@
 use Rattle.sail_grammar.proofs.Steps.{exit_stop, stops_row, stops_first, stops_next}
-use Rattle.sail_parse_atoms.proofs.AtomRows as A
-use Rattle.sail_parse_atoms.proofs.atoms.question.Goals as goal
+use Rattle.sail_parse_forms.proofs.PartRows as P
+use Rattle.sail_parse_forms.proofs.parts.question.Goals as goal
 
 pub returns-in_err-word-clause-stop : goal.returns-in_err-word-clause-stop
 returns-in_err-word-clause-stop c = exit_stop _ c.from_residual.ensures.1 (stops_row (stops_first c.in_err-word.ensures.stop))
@@ -23,5 +23,5 @@ returns-in_err-rest-clause-stop c =
 
 pub returns-clause-read : goal.returns-clause-read
 returns-clause-read c =
-    A.question_all c.in_ok-word.ensures.read c.in_ok-after_bracket.ensures.read c.in_ok-typ.ensures.read c.in_ok-rest.ensures.read
+    P.question_all c.in_ok-word.ensures.read c.in_ok-after_bracket.ensures.read c.in_ok-typ.ensures.read c.in_ok-rest.ensures.read
     c.asking_of-asking.ensures c.in_ok-made.ensures
