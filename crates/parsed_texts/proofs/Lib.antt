@@ -1,0 +1,15 @@
+pub mod Trees
+pub mod TypeForms
+pub mod PatternForms
+pub mod ExpForms
+pub mod PartForms
+pub mod DefForms
+pub mod Rows
+pub mod TypeRows
+pub mod PatternRows
+pub mod ExpRows
+pub mod OperatorRows
+pub mod BlockRows
+pub mod DefRows
+pub mod Parsed
+pub mod Gathered
