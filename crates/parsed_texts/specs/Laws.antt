@@ -18,11 +18,11 @@ abbrev pub ParsedTextsAreWritten : Type 0
 ParsedTextsAreWritten = (tokens : List Sign) (definitions : List Def) → IsModel tokens definitions → IsWritten definitions × IsWritten (gathered definitions)
 
 -- the core of a text that the tables accept, and that nothing is refused for in shapes, does what the text does
-abbrev pub CoreMeans : List Def → Type 0
-CoreMeans text =
+abbrev pub CoreMeansIfAccepted : List Def → Type 0
+CoreMeansIfAccepted text =
     (end : Place) (cycle : List ℕ → Option ℕ) → IsAccepted text end → refusal (tabled_of text) text ≡ None
     → CoreMeansText (text_of (tabled_of text) cycle text) (resolved (tabled_of text) cycle text)
 
 -- so it does, with no premise on its trees, where the text is what is gathered of the definitions that tokens are
 abbrev pub ParsedTextsMeanText : Type 0
-ParsedTextsMeanText = (tokens : List Sign) (definitions : List Def) → IsModel tokens definitions → CoreMeans (gathered definitions)
+ParsedTextsMeanText = (tokens : List Sign) (definitions : List Def) → IsModel tokens definitions → CoreMeansIfAccepted (gathered definitions)
