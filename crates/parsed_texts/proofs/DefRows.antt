@@ -1,6 +1,5 @@
 -- The rows of definitions and of their parts.
-use Rattle.std.proofs.Common.{◌≡◌, true, refl}
-use Rattle.sail_grammar.specs.declared.mode.Mode.TheVariants.{Limited}
+use Rattle.std.proofs.Common.{refl}
 use Rattle.sail_grammar.specs.Form.{Tree, Leaf}
 use Rattle.sail_grammar.specs.RowName as N
 use Rattle.sail_grammar.specs.Table.{rule}

@@ -1,5 +1,5 @@
 -- The rows of expressions around operands.
-use Rattle.std.proofs.Common.{◌≡◌, ℕ, true, List, refl}
+use Rattle.std.proofs.Common.{ℕ, List, refl}
 use Rattle.sail_grammar.specs.declared.mode.Mode.{Mode}
 use Rattle.sail_grammar.specs.declared.mode.Mode.TheVariants.{Full, Limited}
 use Rattle.sail_grammar.specs.Form.{Word, Empty, Row, ◌or◌, ◌then◌, Tree, Leaf}
@@ -8,7 +8,7 @@ use Rattle.sail_grammar.specs.Table.{rule}
 use Rattle.sail_grammar.specs.ExpTrees as T
 use Rattle.shape_joins.proofs.Order.{no, two}
 use Rattle.parsed_texts.proofs.Trees.{Made, word, empty, left, right, both, guard, bar, row}
-use Rattle.parsed_texts.proofs.Rows.{Fine, FineValue}
+use Rattle.parsed_texts.proofs.Rows.{Fine}
 use Rattle.parsed_texts.proofs.ExpForms.{FineIf, aimed, assign_fine, choose_fine, foreach_fine, if_fine, leave_fine, let_fine, loop_fine, typed_fine}
 use Rattle.parsed_texts.proofs.ExpForms.{var_fine}
 use Rattle.parsed_texts.proofs.PartForms.{case_fine, further_fine, range_fine}

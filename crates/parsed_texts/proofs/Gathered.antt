@@ -1,5 +1,5 @@
 -- Gathered definitions are as the grammar has them, where those are that they are gathered of.
-use Rattle.std.proofs.Common.{◌≡◌, ℕ, ◌+◌, Bool, true, false, cond, List, [], ◌∷◌, map, filter, filter_map, refl, Option, Some, None}
+use Rattle.std.proofs.Common.{◌≡◌, ℕ, ◌+◌, Bool, true, false, cond, List, [], ◌∷◌, map, filter, filter_map, refl, Option}
 use Rattle.std.specs.List.{zip}
 use Rattle.sail_syntax.specs.declared.definitions.Def.{Def}
 use Rattle.sail_syntax.specs.declared.definitions.Def.TheVariants as D

@@ -1,5 +1,5 @@
 -- The definitions that tokens are, are as the grammar has them.
-use Rattle.std.proofs.Common.{◌≡◌, List, subst}
+use Rattle.std.proofs.Common.{List, subst}
 use Rattle.sail_syntax.specs.declared.definitions.Def.{Def}
 use Rattle.sail_grammar.specs.Symbol.{Sign}
 use Rattle.sail_grammar.specs.Form.{Row, Tree}

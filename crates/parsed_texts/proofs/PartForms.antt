@@ -20,15 +20,15 @@ use Rattle.sail_syntax.specs.declared.expressions.FieldValue.{roll-FieldValue}
 use Rattle.sail_syntax.specs.declared.expressions.Index.{Index, roll-Index}
 use Rattle.sail_syntax.specs.declared.expressions.Range.{roll-Range}
 use Rattle.sail_syntax.specs.declared.expressions.Target.{roll-Target}
-use Rattle.sail_grammar.specs.ExpTrees.{block, exp_of_statement, exp_or, no_exp, part_last, parted, statement_value, value_if}
+use Rattle.sail_grammar.specs.ExpTrees.{block, exp_of_statement, exp_or, part_last, parted, statement_value, value_if}
 use Rattle.sail_grammar.specs.Leaves.{nowhere}
 use Rattle.shape_joins.proofs.JoinsLeast.{none, some_same}
 use Rattle.shape_joins.proofs.Order.{two}
 use Rattle.shape_meanings.specs.Trees as Trees
 use Rattle.shape_meanings.specs.Trees.{all_if, pattern_written}
 use Rattle.shape_meanings.specs.Whole.{all_of}
-use Rattle.shape_meanings.proofs.Folds.{OverTrees, written_Case, written_FieldValue, written_Index, written_Range, written_Stmt, written_Suffix}
-use Rattle.shape_meanings.proofs.Folds.{written_Target, written_case, written_field, written_index, written_lexp, written_range, written_stmt}
+use Rattle.shape_meanings.proofs.Folds.{OverTrees, written_Case, written_Index, written_Range, written_Stmt, written_Suffix}
+use Rattle.shape_meanings.proofs.Folds.{written_case, written_field, written_index, written_lexp, written_range, written_stmt}
 use Rattle.shape_meanings.proofs.Folds.{written_suffix, written_target}
 use Rattle.parsed_texts.proofs.ExpForms.{FineExp, FineIf, block_fine, in_brackets_fine}
 

@@ -1,5 +1,4 @@
 -- The rows of patterns.
-use Rattle.std.proofs.Common.{◌≡◌, true, refl}
 use Rattle.sail_grammar.specs.declared.mode.Mode.{Mode}
 use Rattle.sail_grammar.specs.declared.mode.Mode.TheVariants.{Full, Limited}
 use Rattle.sail_grammar.specs.Form.{Tree}
@@ -7,7 +6,7 @@ use Rattle.sail_grammar.specs.RowName as N
 use Rattle.sail_grammar.specs.Table.{rule}
 use Rattle.shape_joins.proofs.Order.{no}
 use Rattle.parsed_texts.proofs.Trees.{Made, word, empty, left, right, both, row}
-use Rattle.parsed_texts.proofs.Rows.{Fine, FineGroup}
+use Rattle.parsed_texts.proofs.Rows.{Fine}
 use Rattle.parsed_texts.proofs.PatternForms.{as_fine, bind_fine, concat_fine, cons_fine, constant_fine, construct_fine, grouped_fine, list_fine}
 use Rattle.parsed_texts.proofs.PatternForms.{more_joined, more_patterns, negative_fine, no_joined, no_patterns, typed_fine, vector_fine, wildcard_fine}
 

@@ -1,8 +1,8 @@
 -- The rows of types.
 use Rattle.std.proofs.Common.{◌≡◌, ℕ, true, List, refl}
 use Rattle.sail_grammar.specs.declared.mode.Mode.{Mode}
-use Rattle.sail_grammar.specs.declared.mode.Mode.TheVariants.{Full, Limited}
-use Rattle.sail_grammar.specs.Form.{Form, Word, Empty, Row, ◌or◌, ◌then◌, Tree}
+use Rattle.sail_grammar.specs.declared.mode.Mode.TheVariants.{Full}
+use Rattle.sail_grammar.specs.Form.{Word, Empty, Row, ◌or◌, ◌then◌, Tree}
 use Rattle.sail_grammar.specs.RowName as N
 use Rattle.sail_grammar.specs.Table.{rule}
 use Rattle.sail_grammar.specs.TypeTrees as T
