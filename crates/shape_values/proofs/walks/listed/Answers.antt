@@ -1,9 +1,22 @@
-use Rattle.std.proofs.Common.{sym, ap, ◌∙◌}
+use Rattle.std.proofs.Common.{◌≡◌, sym, ap, ◌∙◌, Result, Ok, Err, IfOk}
 use Rattle.shape_rules.specs.Around.{setting_of}
 use Rattle.shape_rules.specs.Findings.{first_failure, Found}
+use Rattle.shape_rules.specs.Scopes.{Locals}
 use Rattle.shape_calls.specs.Made.{made_of}
-use Rattle.shape_walks.proofs.Listed.{listed_refused}
+use Rattle.shape_walks.proofs.Listed.{listed_bare, listed_refused}
 use Rattle.shape_values.proofs.walks.listed.Goals as goal
+
+-- what is made whatever names are in scope
+at_names : {A E : Type 0} (r : Result A E) (x : Locals → A) (locals : Locals) (y : A) → IfOk r (λ made. (names : Locals) → made ≡ x names) → x locals ≡ y
+    → IfOk r (λ made. made ≡ y)
+at_names (Ok made) x locals y h is = h locals ∙ is
+at_names (Err e) x locals y h is = tt
+
+pub returns-then-count-eq0-clause-made : goal.returns-then-count-eq0-clause-made
+returns-then-count-eq0-clause-made g c =
+    at_names c.bare.result _ c.args.locals.now _ c.bare.ensures.made
+    (ap made_of (sym (listed_bare c.args.head c.args.front.now c.args.back.now (setting_of c.args.around.now) c.args.locals.now c.args.want.now
+    c.count_of-count.result c.count_of-count.ensures c.if-count-eq0.true)))
 
 pub returns-in-Some-clause-made : goal.returns-in-Some-clause-made
 returns-in-Some-clause-made g c =
