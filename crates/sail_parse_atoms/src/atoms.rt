@@ -13,8 +13,8 @@ ghost use Rattle.sail_parse_atoms.specs.Behind.{exps_behind};
 use crate::leaves::{PREFIXES, in_brackets, prefix_of};
 use sail_base::{Boxed, Items, Place};
 use sail_grammar::{
-    Lexeme, Mode, Read, ReadError, accept, expect, expect_identifier, name, sees, sees_any,
-    sees_identifier,
+    Lexeme, Mode, Read, ReadError, accept, expect, expect_any, expect_identifier, name, sees,
+    sees_any, sees_identifier,
 };
 use sail_lex::TokenKind;
 use sail_parse_forms::{Grammar, LITERALS, Part, QUESTIONS, constant, name_if, question, text_if};
