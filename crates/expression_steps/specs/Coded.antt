@@ -12,6 +12,7 @@ use Rattle.pattern_notes.specs.Patterns.{arm_match, arm_written}
 use Rattle.pattern_leaves.specs.Settings.{Around, Scope, declared, exponents_owed, written_in}
 use Rattle.pattern_leaves.specs.declared.names.Bound.{Bound}
 use Rattle.call_arguments.specs.Aims.{aimed, inner_aim}
+use Rattle.call_arguments.specs.Holes.{without_holes}
 use Rattle.call_arguments.specs.declared.aims.Aim.{Aim}
 use Rattle.call_arguments.specs.declared.aims.Aim.TheVariants as Aims
 use Rattle.expression_forms.specs.Spots.{spot_of}
@@ -107,7 +108,7 @@ bound_begun around (N.Let place arm) = give (statements.written_aim around (arm_
 bound_begun around (N.Var name written) = var_begun around written.now
 
 abbrev pub var_names : Around → List ℕ → Option Written → Indices → List Bound
-var_names around name None i = declared name (widened i) ∷ []
+var_names around name None i = declared name (without_holes (widened i)) ∷ []
 var_names around name (Some w) i = declared name (written_in around w) ∷ []
 
 abbrev pub bound_ended : Around → names.Binding → Bool → Indices → Walk (List Bound)

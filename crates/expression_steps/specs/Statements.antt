@@ -25,6 +25,7 @@ use Rattle.pattern_notes.specs.Patterns.{arm_match, arm_written, looks, one_matc
 use Rattle.pattern_leaves.specs.Settings.{Around, Scope, bound, declared, exponents_owed, written_in}
 use Rattle.pattern_leaves.specs.declared.names.Bound.{Bound}
 use Rattle.call_arguments.specs.Aims.{aimed, branch_aim, inner_aim, wanted}
+use Rattle.call_arguments.specs.Holes.{without_holes}
 use Rattle.call_notes.specs.Ends.{never_value, opened_at, wrong_value}
 use Rattle.call_arguments.specs.declared.aims.Aim.{Aim}
 use Rattle.call_arguments.specs.declared.aims.Aim.TheVariants as Aims
@@ -204,9 +205,9 @@ abbrev pub let_walk : Place → Arm → Part → Part → Around → Scope → A
 let_walk place arm a b around scope aim =
     bind (let_names place arm a around scope) (λ found. b.walk around (found ++ scope) (inner_aim aim))
 
--- a `var`: what its type wants is owed as that of an initial value
+-- a `var`: what its type wants is owed as that of an initial value; without one, nothing is of a hole that its value leaves
 abbrev pub var_name : List ℕ → Option Written → Part → Around → Scope → Walk (List Bound)
-var_name name None a around scope = bind (a.walk around scope Aims.Free) (λ i. give (declared name (widened i) ∷ []))
+var_name name None a around scope = bind (a.walk around scope Aims.Free) (λ i. give (declared name (without_holes (widened i)) ∷ []))
 var_name name (Some w) a around scope =
     bind (exponents_owed around w.numbers) (λ t.
     bind (a.walk around scope (aimed Aims.Due (written_in around w))) (λ i. give (declared name (written_in around w) ∷ [])))

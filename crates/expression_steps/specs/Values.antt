@@ -14,10 +14,11 @@ use Rattle.value_indices.specs.declared.indices.Indices.TheOpen.{Indices-F, Read
 use Rattle.value_indices.specs.declared.indices.Indices.TheVariants as I
 use Rattle.value_indices.specs.declared.indices.Reading.{Reading, out-Reading}
 use Rattle.value_indices.specs.declared.indices.Reading.TheVariants as R
-use Rattle.value_fits.specs.Fitting.{fits, owe_fit}
+use Rattle.value_fits.specs.Fitting.{fits, item_fits, owe_fit}
 use Rattle.wide_types.specs.Widening.{filled}
 use Rattle.pattern_leaves.specs.Settings.{Around, Scope}
 use Rattle.call_arguments.specs.Aims.{aimed, each_under, item_type, of_wanted, part_types, wanted}
+use Rattle.call_arguments.specs.Holes.{has_hole}
 use Rattle.call_notes.specs.Ends.{any_never, never_value, sized, wrong_value}
 use Rattle.call_arguments.specs.declared.aims.Aim.{Aim}
 use Rattle.call_arguments.specs.declared.aims.Aim.TheVariants as Aims
@@ -119,12 +120,17 @@ cons_due a b around scope r =
 abbrev pub list_owing : Around → Place → Indices → Reading → Walk Indices
 list_owing around place i r = bind (item_owed around place r i) (λ t. give (I.List r))
 
-abbrev pub cons_onto : Around → Shape → Place → Indices → Reading-F Indices Reading → Reading → Walk Indices
-cons_onto around shape place i W.Hole r = bind (filled_here around shape i) (list_owing around place i)
-cons_onto around shape place i form r = list_owing around place i r
+-- of that type, which the items of a list owe too
+abbrev pub list_like : Around → Place → Indices → Reading → Reading → Walk Indices
+list_like around place i r q = bind (owe_fit place (item_fits (fits around.types) r q)) (λ t. list_owing around place i q)
+
+-- a hole in the type of the items is filled by what stands before them, and by the shape
+abbrev pub cons_onto : Around → Shape → Place → Indices → Reading → Walk Indices
+cons_onto around shape place i r =
+    if has_hole r then bind (filled_here around shape i) (list_like around place i r) else list_owing around place i r
 
 abbrev pub cons_before : Around → Shape → Place → Indices → Indices-F Indices Reading → Walk Indices
-cons_before around shape place i (W.List r) = cons_onto around shape place i (out-Reading r) r
+cons_before around shape place i (W.List r) = cons_onto around shape place i r
 cons_before around shape place i W.Never = never_value
 cons_before around shape place i form = wrong_value place
 

@@ -5,6 +5,7 @@ ghost use Rattle.pattern_leaves.specs.Settings.{around_of};
 ghost use Rattle.expression_steps.specs.Coded as coded;
 
 use crate::aims::{one_name, written_aim};
+use call_arguments::without_holes;
 use call_notes::Aim;
 use pattern_leaves::{Around, Bound, name_var, owe_exponents, written_in};
 use pattern_notes::{Matching, arm_written, match_one};
@@ -82,7 +83,10 @@ fn var_name(
     ensures { IfOk result (λ made. made ≡ coded.var_names (around_of around.now) name.now written.now value.now) }
 {
     match written {
-        None => one_name(alloc, name_var(name, widened(alloc, value)?)?),
+        None => {
+            let reading = without_holes(alloc, &widened(alloc, value)?)?;
+            one_name(alloc, name_var(name, reading)?)
+        }
         Some(written) => one_name(alloc, name_var(name, written_in(alloc, around, written)?)?),
     }
 }

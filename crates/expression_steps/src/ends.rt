@@ -5,7 +5,6 @@ ghost use Rattle.sail_core.specs.declared.tree.Core.{Core};
 ghost use Rattle.value_indices.specs.Walking as walk;
 ghost use Rattle.value_indices.specs.declared.indices.Indices.{out-Indices};
 ghost use Rattle.value_indices.specs.declared.indices.Indices.TheVariants as I;
-ghost use Rattle.value_indices.specs.declared.indices.Reading.{out-Reading};
 ghost use Rattle.pattern_leaves.specs.Settings as settings;
 ghost use Rattle.pattern_leaves.specs.Settings.{around_of};
 ghost use Rattle.expression_steps.specs.Coded as coded;
@@ -14,6 +13,7 @@ ghost use Rattle.expression_steps.specs.Statements as statement_spec;
 ghost use Rattle.expression_steps.specs.Targets as target_spec;
 ghost use Rattle.expression_steps.specs.Values as value_spec;
 
+use call_arguments::has_hole;
 use call_notes::{any_never, note_value, owe_value, part_owed, wrong_value};
 use expression_forms::{Reached, Spot, made_at};
 use pattern_leaves::{Around, owe_exponents, written_in};
@@ -21,7 +21,7 @@ use sail_base::{Boxed, Items, Place};
 use sail_core::{Counting, Written};
 use sail_types::{Con, Num, Shape};
 use std::alloc::{AllocError, Global};
-use value_fits::Wanted;
+use value_fits::{Wanted, item_fits, owe_fit};
 use value_indices::{Indices, Reading, Walking, at_most, between, copy_reading};
 use wide_types::filled;
 
@@ -155,8 +155,31 @@ fn list_owing(
     list_of(alloc, reading)
 }
 
-/// An item, at its place, before the items of a list, of this type; where that is none, before none. It fails where memory is wanting, and
-/// where variables are too many.
+/// The same, where the items of a list, of the type that comes before, owe that type too. It fails where memory is wanting, and where
+/// variables are too many.
+#[tactic(auto, using(value_indices::proofs::Walks::walks, value_fits::proofs::Owed::owed))]
+fn list_like(
+    alloc: Global,
+    walking: &mut Walking,
+    around: &Around<'_>,
+    place: Place,
+    value: &Indices,
+    item: &Reading,
+    reading: Reading,
+) -> Result<Indices, AllocError>
+    ensures value { IfOk result (λ made. made
+        ≡ walk.got (value_spec.list_like (around_of around.now) place value.now item.now reading) (walk.seen walking.old)) }
+    ensures walked { OnOk result (walk.seen walking.new
+        ≡ walk.run (value_spec.list_like (around_of around.now) place value.now item.now reading) (walk.seen walking.old)) }
+{
+    let wanted = Wanted::lent(&reading);
+    let made = item_fits(alloc, around.types, item, &wanted, walking.next())?;
+    owe_fit(alloc, walking, place, made)?;
+    list_owing(alloc, walking, around, place, value, reading)
+}
+
+/// An item, at its place, before the items of a list, of this type; where that has a hole, both are of the item's type. It fails where memory
+/// is wanting, and where variables are too many.
 #[tactic(auto, using(value_indices::proofs::Walks::walks))]
 fn cons_onto(
     alloc: Global,
@@ -168,21 +191,16 @@ fn cons_onto(
     item: &Reading,
 ) -> Result<Indices, AllocError>
     ensures value { IfOk result (λ made. made
-        ≡ walk.got (value_spec.cons_onto (around_of around.now) shape.now place value.now (out-Reading item.now) item.now)
-        (walk.seen walking.old)) }
+        ≡ walk.got (value_spec.cons_onto (around_of around.now) shape.now place value.now item.now) (walk.seen walking.old)) }
     ensures walked { OnOk result (walk.seen walking.new
-        ≡ walk.run (value_spec.cons_onto (around_of around.now) shape.now place value.now (out-Reading item.now) item.now)
-        (walk.seen walking.old)) }
+        ≡ walk.run (value_spec.cons_onto (around_of around.now) shape.now place value.now item.now) (walk.seen walking.old)) }
 {
-    match item {
-        Reading::Hole => {
-            let reading = filled_here(alloc, walking, around, shape, value)?;
-            list_owing(alloc, walking, around, place, value, reading)
-        }
-        _ => {
-            let reading = copy_reading(alloc, item)?;
-            list_owing(alloc, walking, around, place, value, reading)
-        }
+    if has_hole(item) {
+        let reading = filled_here(alloc, walking, around, shape, value)?;
+        list_like(alloc, walking, around, place, value, item, reading)
+    } else {
+        let reading = copy_reading(alloc, item)?;
+        list_owing(alloc, walking, around, place, value, reading)
     }
 }
 
