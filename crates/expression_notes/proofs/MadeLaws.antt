@@ -1,10 +1,10 @@
 -- Parts from left to right, and new values of fields, as the code has them.
-use Rattle.std.proofs.Common.{◌≡◌, ◌∙◌, ap, sym, refl, ℕ, List, ◌∷◌, Option, None, Some, length, take}
+use Rattle.std.proofs.Common.{◌≡◌, ◌∙◌, ap, sym, ℕ, List, ◌∷◌, Option, None, Some, length, take}
 use Rattle.std.proofs.lemmas.List.{length-map}
 use Rattle.sail_base.specs.declared.place.Place.{Place}
 use Rattle.sail_core.specs.declared.tree.Core.{Core}
 use Rattle.sail_core.specs.declared.tree.Kind.{Kind}
-use Rattle.value_indices.specs.Steps.{Walk, give}
+use Rattle.value_indices.specs.Steps.{Walk}
 use Rattle.value_indices.specs.Walking.{Written, got, run}
 use Rattle.value_indices.specs.declared.indices.Indices.{Indices, out-Indices}
 use Rattle.pattern_leaves.proofs.Walked.{then_got, then_run}
@@ -13,10 +13,10 @@ use Rattle.call_arguments.specs.declared.aims.Aim.{Aim}
 use Rattle.call_arguments.specs.declared.aims.Aim.TheVariants as Aims
 use Rattle.expression_steps.specs.Coded.{each_part}
 use Rattle.expression_steps.specs.Expressions.{part, made_plain}
+use Rattle.expression_steps.specs.Filling.{with_made}
 use Rattle.expression_steps.specs.Making.{made_aims, made_count, made_end}
 use Rattle.expression_steps.specs.Parts.{each_walk, led}
 use Rattle.expression_steps.specs.Values.{no_struct, with_aims, with_behind, with_walk}
-use Rattle.expression_steps.proofs.Onward.{given_got, given_run}
 use Rattle.expression_steps.proofs.Rests.{others}
 use Rattle.expression_notes.proofs.Alike.{Alike}
 use Rattle.expression_notes.proofs.Arguments.{parts_taken}
@@ -63,7 +63,7 @@ module _ (place : Place) (u : ℕ) (ks : List ℕ) (a : Core) (cs : List Core) (
   first = (part a).walk around scope Aims.Free
 
   abbrev behind : Indices → Option (List Aim) → Walk Indices
-  behind x = with_behind place (each_part (others cs)) around scope x
+  behind x = with_behind place u ks (each_part (others cs)) around scope x
 
   abbrev after : Indices → Walk Indices
   after x = behind x (with_aims around u ks (out-Indices x))
@@ -77,17 +77,22 @@ module _ (place : Place) (u : ℕ) (ks : List ℕ) (a : Core) (cs : List Core) (
         walked = ap (λ (x : Walk Indices). run x v) opens ∙ then_run first after w v i is was ∙ sym (ap (λ (xs : List Core). run (whole xs) w) parts);
       }
 
-  pub with_values : (asked : Option (List Aim)) (aims wants : List Aim) (firsts : List Core) (z : Written) → asked ≡ with_aims around u ks (out-Indices i)
-      → asked ≡ Some aims → firsts ≡ take (length aims) (others cs) → wants ≡ aims
-      → z ≡ run (each_walk (each_part firsts) around scope wants) v → Alike i (got (whole cs) w) z (run (whole cs) w)
-  with_values asked aims wants firsts z asks some taken wanted went =
+  abbrev ended : List Indices → Walk Indices
+  ended = with_made around place u ks i
+
+  pub with_values : (asked : Option (List Aim)) (aims wants : List Aim) (firsts : List Core) (values : List Indices) (z : Written)
+      → asked ≡ with_aims around u ks (out-Indices i) → asked ≡ Some aims → firsts ≡ take (length aims) (others cs) → wants ≡ aims
+      → values ≡ got (each_walk (each_part firsts) around scope wants) v → z ≡ run (each_walk (each_part firsts) around scope wants) v
+      → Alike (got (ended values) z) (got (whole cs) w) (run (ended values) z) (run (whole cs) w)
+  with_values asked aims wants firsts values z asks some taken wanted gave went =
       let second = each_walk (take (length aims) (each_part (others cs))) around scope aims in
-      let opens = ap (behind i) (sym asks ∙ some) in
+      let opens = ap (behind i) (sym some ∙ asks) in
       let same = sym (parts_taken (others cs) (length aims) firsts taken) in
+      let found : values ≡ got second v = gave ∙ (λ j. got (each_walk (same j) around scope (wanted j)) v) in
       let walked : z ≡ run second v = went ∙ (λ j. run (each_walk (same j) around scope (wanted j)) v) in
       record {
-        value = given_got second (λ (values : List Indices). give i) (after i) v z (got second v) i opens refl walked refl
-            ∙ then_got first after w v i is was ∙ sym (ap (λ (xs : List Core). got (whole xs) w) parts);
-        walked = given_run second (λ (values : List Indices). give i) (after i) v z (got second v) i opens refl walked refl
-            ∙ then_run first after w v i is was ∙ sym (ap (λ (xs : List Core). run (whole xs) w) parts);
+        value = then_got second ended v z values found walked ∙ ap (λ (x : Walk Indices). got x v) opens ∙ then_got first after w v i is was
+            ∙ sym (ap (λ (xs : List Core). got (whole xs) w) parts);
+        walked = then_run second ended v z values found walked ∙ ap (λ (x : Walk Indices). run x v) opens ∙ then_run first after w v i is was
+            ∙ sym (ap (λ (xs : List Core). run (whole xs) w) parts);
       }

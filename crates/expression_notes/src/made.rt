@@ -12,7 +12,9 @@ use crate::expressions::walk_expression;
 use crate::parts::walk_each;
 use call_notes::{Aim, wrong_value};
 use expression_forms::Scope;
-use expression_steps::{first_parts, made_aims, made_count, made_end, no_struct, with_aims};
+use expression_steps::{
+    first_parts, made_aims, made_count, made_end, no_struct, with_aims, with_made,
+};
 use pattern_leaves::Around;
 use sail_base::Place;
 use sail_core::{Core, Kind};
@@ -75,8 +77,8 @@ pub(crate) fn walk_with(
                 None => no_struct(alloc, walking, place, &value),
                 Some(aims) => {
                     let others = first_parts(others, aims.len());
-                    walk_each(alloc, walking, around, scope, others, aims.as_slice())?;
-                    Ok(value)
+                    let values = walk_each(alloc, walking, around, scope, others, aims.as_slice())?;
+                    with_made(alloc, walking, around, place, named, fields, value, values)
                 }
             }
         }

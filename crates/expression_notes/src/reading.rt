@@ -11,15 +11,16 @@ ghost use Rattle.expression_steps.specs.Values as value_spec;
 use crate::expressions::walk_expression;
 use crate::parts::walk_numbers;
 use call_notes::{Aim, wrong_value};
-use expression_forms::{Reached, Scope, if_never_value, owe_part, read_into};
+use expression_forms::{Reached, Scope, if_never_value, read_into};
 use expression_steps::{
-    behind, first_parts, indexes_of, is_nested, left_at, no_way, reach, value_of, way_reached,
+    behind, first_parts, indexes_of, is_nested, left_at, no_way, part_put, put_aim, reach,
+    value_of, way_reached,
 };
 use pattern_leaves::Around;
 use sail_base::Place;
 use sail_core::{Core, Suffix, Way};
 use std::alloc::{AllocError, Global};
-use value_indices::{Indices, Walking, copy_reading};
+use value_indices::{Indices, Walking};
 
 /// A way into a value: the part that it reaches, if there is such a part, and how many parts of the expression have been taken; none where
 /// an index gives no number. It fails where memory is wanting, and where variables are too many.
@@ -143,11 +144,10 @@ fn updated(
     match reached {
         None => if_never_value(alloc, walking, place, &value),
         Some(reached) => {
-            let aim = Aim::given(copy_reading(alloc, &reached.typ)?);
+            let aim = put_aim(alloc, &reached.typ)?;
             let new = walk_expression(alloc, walking, around, scope, core, &aim)?;
             let nested = is_nested(core);
-            owe_part(alloc, walking, around, place, reached, nested, &new)?;
-            Ok(value)
+            part_put(alloc, walking, around, place, nested, value, reached, &new)
         }
     }
 }

@@ -14,3 +14,4 @@ pub mod ConsLaws
 pub mod Counted
 pub mod BranchEnds
 pub mod LeafKinds
+pub mod Fillings

@@ -6,3 +6,4 @@ pub mod Statements
 pub mod Expressions
 pub mod Coded
 pub mod Making
+pub mod Filling

@@ -2,8 +2,10 @@
 use Rattle.std.specs.Prelude.{Bool, List, None, Option, Some, drop, if◌then◌else◌, length, map, nat_lt, pos, suc, take, zero, ℕ, [], ◌∷◌}
 use Rattle.sail_base.specs.declared.place.Place.{Place}
 use Rattle.sail_types.specs.Sums.{constant}
+use Rattle.sail_types.specs.declared.numbers.Index.{Index}
 use Rattle.sail_types.specs.declared.numbers.Num.{Num}
 use Rattle.sail_types.specs.declared.shapes.Shape.{Shape}
+use Rattle.sail_types.specs.declared.types.Typ.{Typ}
 use Rattle.sail_core.specs.declared.targets.Suffix.{Suffix}
 use Rattle.sail_core.specs.declared.targets.Way.{Way}
 use Rattle.sail_core.specs.declared.targets.Way.TheVariants as Y
@@ -22,10 +24,11 @@ use Rattle.call_arguments.specs.Holes.{has_hole}
 use Rattle.call_notes.specs.Ends.{any_never, never_value, sized, wrong_value}
 use Rattle.call_arguments.specs.declared.aims.Aim.{Aim}
 use Rattle.call_arguments.specs.declared.aims.Aim.TheVariants as Aims
-use Rattle.expression_forms.specs.Ways.{fields_of, if_never_value, into_field, into_item, into_slice, owe_part, read_into, with_width}
+use Rattle.expression_forms.specs.Ways.{fields_of, if_never_value, into_field, into_item, into_slice, read_into, with_width}
 use Rattle.expression_forms.specs.declared.ways.Ends.{Ends}
 use Rattle.expression_forms.specs.declared.ways.Reached.{Reached}
 use Rattle.expression_steps.specs.Calls.{named_made, part_aims}
+use Rattle.expression_steps.specs.Filling.{any_holed, part_put, put_aim, with_made}
 use Rattle.expression_steps.specs.Parts.{Part, each_walk, numbers_walk}
 
 -- ---- tuples: the form around one owes for its parts
@@ -163,9 +166,13 @@ struct_walk u ks parts around scope =
 abbrev pub due_aims : List Reading → List Aim
 due_aims rs = map (aimed Aims.Due) rs
 
--- what is wanted of new values of fields, if there is a struct
+-- what is wanted of new values of fields of a struct: where a hole is among what its Type variables stand for, only what hangs on none
+abbrev pub new_aims : List Typ → List Index → List Reading → List Aim
+new_aims ts is rs = if any_holed rs then part_aims None ts else due_aims (each_under is rs ts)
+
+-- if there is a struct
 abbrev pub with_aims : Around → ℕ → List ℕ → Indices-F Indices Reading → Option (List Aim)
-with_aims around u ks (W.Named v is rs) = Some (due_aims (each_under is rs (fields_of around u ks)))
+with_aims around u ks (W.Named v is rs) = Some (new_aims (fields_of around u ks) is rs)
 with_aims around u ks form = None
 
 -- what a value gives that is no struct
@@ -173,14 +180,14 @@ abbrev pub no_struct : Place → Indices-F Indices Reading → Walk Indices
 no_struct place W.Never = never_value
 no_struct place form = wrong_value place
 
--- the value is what it was
-abbrev pub with_behind : Place → List Part → Around → Scope → Indices → Option (List Aim) → Walk Indices
-with_behind place parts around scope i None = no_struct place (out-Indices i)
-with_behind place parts around scope i (Some aims) = bind (each_walk (take (length aims) parts) around scope aims) (λ is. give i)
+abbrev pub with_behind : Place → ℕ → List ℕ → List Part → Around → Scope → Indices → Option (List Aim) → Walk Indices
+with_behind place u ks parts around scope i None = no_struct place (out-Indices i)
+with_behind place u ks parts around scope i (Some aims) =
+    bind (each_walk (take (length aims) parts) around scope aims) (with_made around place u ks i)
 
 abbrev pub with_walk : Place → ℕ → List ℕ → Part → List Part → Around → Scope → Walk Indices
 with_walk place u ks a parts around scope =
-    bind (a.walk around scope Aims.Free) (λ i. with_behind place parts around scope i (with_aims around u ks (out-Indices i)))
+    bind (a.walk around scope Aims.Free) (λ i. with_behind place u ks parts around scope i (with_aims around u ks (out-Indices i)))
 
 -- ---- ways into a value
 
@@ -266,8 +273,7 @@ part_forms ss (a ∷ parts) around scope = part_walk ss a parts around scope
 -- ---- `[v with i = e]`, `[v with h .. l = e]`
 
 abbrev pub part_updated : Place → Part → Around → Scope → Indices → Reached → Walk Indices
-part_updated place c around scope i x =
-    bind (c.walk around scope (aimed Aims.Given x.typ)) (λ j. bind (owe_part around place x c.is_nested j) (λ t. give i))
+part_updated place c around scope i x = bind (c.walk around scope (put_aim x.typ)) (part_put around place c.is_nested i x)
 
 abbrev pub updated : Place → Part → Around → Scope → Indices → Option Reached → Walk Indices
 updated place c around scope i None = if_never_value place i

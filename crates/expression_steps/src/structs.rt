@@ -8,13 +8,15 @@ ghost use Rattle.expression_steps.specs.Values as value_spec;
 
 use crate::aims::{field_aims, part_aims};
 use crate::calls::named_made;
+use crate::filling::any_holed;
 use call_notes::{Aim, wrong_value};
 use expression_forms::fields_of;
 use pattern_leaves::Around;
 use sail_base::{Items, Place};
 use sail_core::Core;
+use sail_types::{Index, Typ};
 use std::alloc::{AllocError, Global};
-use value_indices::{Indices, Walking};
+use value_indices::{Indices, Reading, Walking};
 
 /// What is wanted of the values of fields, by the place of their struct in the table and theirs as they are written. It fails where memory
 /// is wanting, and where binders are too many.
@@ -71,7 +73,24 @@ pub(crate) fn struct_made(
     )
 }
 
-/// What is wanted of new values of fields of a struct; none of a value that is no struct. It fails where memory is wanting.
+/// What is wanted of new values of fields of these types, by what the variables of their struct stand for.
+fn new_aims(
+    alloc: Global,
+    types: &[Typ],
+    indices: &[Index],
+    readings: &[Reading],
+) -> Result<Items<Aim>, AllocError>
+    ensures { IfOk result (λ made. made ≡ value_spec.new_aims types.now indices.now readings.now) }
+{
+    if any_holed(readings) {
+        part_aims(alloc, &None, types)
+    } else {
+        field_aims(alloc, types, indices, readings)
+    }
+}
+
+/// What is wanted of new values of fields of a struct; none of a value that is no struct. It fails where memory is wanting, and where
+/// binders are too many.
 pub fn with_aims(
     alloc: Global,
     around: &Around<'_>,
@@ -84,7 +103,7 @@ pub fn with_aims(
     match value {
         Indices::Named(_, indices, readings) => {
             let types = fields_of(alloc, around, named, fields)?;
-            let aims = field_aims(
+            let aims = new_aims(
                 alloc,
                 types.as_slice(),
                 indices.as_slice(),

@@ -191,12 +191,12 @@ made::walk_with-returns-in-None t c =
     c.in_ok-value-in-len1-up.ensures.value c.in_ok-value-in-len1-up.ensures.walked _ c.in_ok-with_aims-in-len1-up.ensures c.in-None.is in
     record { value = value_same _ _ _ same.value c.no_struct.ensures.value; walked = walked_same _ _ _ _ same.walked c.no_struct.ensures.walked }
 
-pub made::walk_with-returns-in_ok-walk_each-in-Some : goal.made::walk_with-returns-in_ok-walk_each-in-Some
-made::walk_with-returns-in_ok-walk_each-in-Some t c =
+pub made::walk_with-returns-in_ok-values-in-Some : goal.made::walk_with-returns-in_ok-values-in-Some
+made::walk_with-returns-in_ok-values-in-Some t c = let by = c.with_made.ensures in let values = c.in_ok-values-in-Some.ensures in
     let same = with_values c.args.place _ _ _ c.args.parts.now _ _ _ _ _ (first_of _ _ c.in-len1-up.len_at_least c.base-item.is)
-    c.in_ok-value-in-len1-up.ensures.value c.in_ok-value-in-len1-up.ensures.walked _ _ _ _ _ c.in_ok-with_aims-in-len1-up.ensures c.in-Some.is
-    (c.first_parts-others.ensures ∙ ap (λ n. take n (others c.args.parts.now)) c.len.ensures) c.as_slice.ensures c.in_ok-walk_each-in-Some.ensures.walked in
-    record { value = same.value; walked = same.walked }
+    c.in_ok-value-in-len1-up.ensures.value c.in_ok-value-in-len1-up.ensures.walked _ _ _ _ _ _ c.in_ok-with_aims-in-len1-up.ensures c.in-Some.is
+    (c.first_parts-others.ensures ∙ ap (λ n. take n (others c.args.parts.now)) c.len.ensures) c.as_slice.ensures values.value values.walked in
+    record { value = value_same _ _ _ same.value by.value; walked = walked_same _ _ _ _ same.walked by.walked }
 
 pub reading::walk_way-returns-then-left-count : goal.reading::walk_way-returns-then-left-count
 reading::walk_way-returns-then-left-count t c = let around = around_of c.args.around.now in let scope = scope_of c.args.scope.now in
