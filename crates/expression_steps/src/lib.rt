@@ -1,9 +1,9 @@
 //! What forms of expressions want of their parts, and what they make of what these gave.
 //!
-//! Nothing here walks over parts: `expression_notes` does, and asks here before and behind each. `specs/Parts` has what is known of a part of
-//! an expression, `specs/Calls` calls, `specs/Values` values that are made of parts and parts of values, `specs/Targets` assignments,
-//! `specs/Statements` blocks, branches and loops, `specs/Expressions` one case for each kind of node, `specs/Making` kinds whose parts are
-//! walked from left to right, `specs/Coded` what the code holds on its way.
+//! Nothing here walks over parts: `expression_notes` does, and asks here before and behind each. `specs/Parts` has what is known of a part
+//! of an expression, `specs/Calls` calls, `specs/Values` values that are made of parts and parts of values, `specs/Filling` holes in their
+//! types that new parts fill, `specs/Targets` assignments, `specs/Statements` blocks, branches and loops, `specs/Expressions` one case for
+//! each kind of node, `specs/Making` kinds whose parts are walked from left to right, `specs/Coded` what the code holds on its way.
 #![tactic(auto)]
 
 mod aims;

@@ -69,6 +69,23 @@ val f : forall ('a : Type). list('a) -> list(option('a))
 function f(l) = match l { [||] => [||], x :: _ => [| Some(x) |] }
 # { let l = [| f([||]), [| Some(300) |] |]; match l { [| _, m |] => match m { Some(x) :: _ => 0x12[x] == bitone, _ => true }, _ => true } }
 # 1 M20 1:6:115 x = -85070591730234615865843651857942052864
+% check M // what is put into a struct fills the holes of its type, and so with vectors and lists
+struct t('a : Type) = { g : list('a), h : int }
+# { let y = { struct t { g = [||], h = 1 } with g = [| 300 |] }; match y.g { x :: _ => 0x12[x] == bitone, _ => true } }
+# 1 M20 1:5:108 x = -85070591730234615865843651857942052864
+% check M
+# { let w = [ [ None(), None() ] with 0 = Some(300) ]; match w[0] { Some(x) => 0x12[x] == bitone, _ => true } }
+# 1 M20 1:4:100 x = -85070591730234615865843651857942052864
+% check M
+val f : forall ('a : Type). list('a) -> list(option('a))
+function f(l) = match l { [||] => [||], x :: _ => [| Some(x) |] }
+# { let l = Some(300) :: f([||]); match l { Some(x) :: _ => 0x12[x] == bitone, _ => true } }
+# 1 M20 1:6:81 x = -85070591730234615865843651857942052864
+% check M // nothing is of a hole that the value of a `var` leaves
+val f : forall ('a : Type). list('a) -> list(option('a))
+function f(l) = match l { [||] => [||], x :: _ => [| Some(x) |] }
+# { var l = (f([||]) : list(option(int))); l = [| Some(300) |]; match l { Some(x) :: _ => 0x12[x] == bitone, _ => true } }
+# 1 M20 1:6:72
 % check M // items of types that bind a variable are of the first way's type
 val f : bool -> bits(16)
 function f(c) = {
