@@ -178,8 +178,8 @@ fn list_like(
     list_owing(alloc, walking, around, place, value, reading)
 }
 
-/// An item, at its place, before the items of a list, of this type; where that has a hole, both are of the item's type. It fails where memory
-/// is wanting, and where variables are too many.
+/// An item, at its place, before the items of a list, of this type; where that has a hole, both are of the item's type. It fails where
+/// memory is wanting, and where variables are too many.
 #[tactic(auto, using(value_indices::proofs::Walks::walks))]
 fn cons_onto(
     alloc: Global,

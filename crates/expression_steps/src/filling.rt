@@ -168,8 +168,8 @@ fn struct_holed(value: &Indices) -> bool
     }
 }
 
-/// A struct with new values of these fields, by its place in the table and theirs: of the type that it was, in which a hole is filled by what
-/// they give. It fails where memory is wanting, and where variables are too many.
+/// A struct with new values of these fields, by its place in the table and theirs: of the type that it was, in which a hole is filled by
+/// what they give. It fails where memory is wanting, and where variables are too many.
 #[tactic(auto, using(value_indices::proofs::Walks::walks))]
 pub fn with_made(
     alloc: Global,
