@@ -84,7 +84,8 @@ fn var_name(
 {
     match written {
         None => {
-            let reading = without_holes(alloc, &widened(alloc, value)?)?;
+            let typ = widened(alloc, value)?;
+            let reading = without_holes(alloc, &typ)?;
             one_name(alloc, name_var(name, reading)?)
         }
         Some(written) => one_name(alloc, name_var(name, written_in(alloc, around, written)?)?),
