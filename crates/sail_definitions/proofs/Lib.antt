@@ -2,4 +2,3 @@ pub mod ClauseRows
 pub mod DefinitionRows
 pub mod FunctionRows
 pub mod LeafRows
-pub mod ScatteredRows

@@ -12,7 +12,7 @@ use Rattle.sail_grammar.specs.declared.mode.Mode.TheVariants.{Full}
 use Rattle.sail_grammar.specs.RowName.{Typ}
 use Rattle.sail_grammar.specs.Table.{word, nothing}
 use Rattle.sail_grammar.specs.Form.{Form, Row, ◌or◌, ◌then◌, Tree, Leaf, Pair, Left, Right}
-use Rattle.sail_grammar.specs.DefTrees.{mapping_of, union_of, scattered_of}
+use Rattle.sail_grammar.specs.DefTrees.{mapping_of}
 
 -- the types of a mapping's sides, or nothing
 abbrev pub typed_sides : Form
@@ -34,18 +34,3 @@ mapping_clause_behind word t = mapping_of (Pair (Leaf word) (Left t))
 
 abbrev pub mapping_whole_behind : Sign → Tree → Def
 mapping_whole_behind word t = mapping_of (Pair (Leaf word) (Right t))
-
-abbrev pub union_clause_behind : Sign → Tree → Def
-union_clause_behind word t = union_of (Pair (Leaf word) (Left t))
-
-abbrev pub union_whole_behind : Sign → Tree → Def
-union_whole_behind word t = union_of (Pair (Leaf word) (Right t))
-
-abbrev pub scattered_union_behind : Sign → Tree → Def
-scattered_union_behind word t = scattered_of (Pair (Leaf word) (Left t))
-
-abbrev pub scattered_function_behind : Sign → Tree → Def
-scattered_function_behind word t = scattered_of (Pair (Leaf word) (Right (Left t)))
-
-abbrev pub scattered_mapping_behind : Sign → Tree → Def
-scattered_mapping_behind word t = scattered_of (Pair (Leaf word) (Right (Right t)))

@@ -7,11 +7,13 @@ ghost use Rattle.sail_grammar.specs.DefTrees.{order_of, alias_of, enum_of, struc
 
 use crate::clauses::mapping;
 use crate::functions::{function, let_definition, measure, register, val};
-use crate::scattered::{end, scattered, union_definition};
 use sail_base::Items;
 use sail_grammar::{Lexeme, Mode, Read, ReadError, expect, expect_identifier, name, sees};
 use sail_lex::TokenKind;
-use sail_parse_parts::{enum_members, kind_mark, members, names, overloaded, parameters};
+use sail_parse_parts::{
+    end, enum_members, kind_mark, members, names, overloaded, parameters, scattered,
+    union_definition,
+};
 use sail_parse_tp::typ;
 use sail_syntax::Def;
 use std::alloc::Global;

@@ -5,6 +5,5 @@ mod clauses;
 mod definition;
 mod functions;
 mod leaves;
-mod scattered;
 
 pub use definition::definitions;

@@ -1,4 +1,5 @@
 pub mod LeafRows
 pub mod ListRows
-pub mod VariableRows
+pub mod PieceRows
 pub mod Spelled
+pub mod VariableRows

@@ -86,8 +86,8 @@ fn enum_bars<'a>(mut list: Items<Name>, tokens: &'a [Lexeme]) -> Read<'a, Items<
     Ok((list, rest))
 }
 
-/// A name and its type.
-pub fn member<'a>(alloc: Global, tokens: &'a [Lexeme]) -> Read<'a, Member>
+// A name and its type.
+pub(crate) fn member<'a>(alloc: Global, tokens: &'a [Lexeme]) -> Read<'a, Member>
     ensures read { IfOk result (λ r. Reading (Row N.Member) member_of tokens.now r.0 r.1.now) }
     ensures shorter { IfOk result (λ r. length r.1.now < length tokens.now) }
     ensures stop { IfErr result (λ e. StopsAt (Row N.Member) tokens.now e) }

@@ -5,17 +5,18 @@ ghost use Rattle.sail_grammar.specs.Form.{Row, ◌then◌};
 ghost use Rattle.sail_grammar.specs.Table.{identifier, word};
 ghost use Rattle.sail_grammar.specs.Parsing.{Reading, StopsAt};
 ghost use Rattle.sail_grammar.specs.DefTrees.{scattered_of, end_of, union_of};
-ghost use Rattle.sail_definitions.specs.Parts.{scattered_union_behind, scattered_function_behind, scattered_mapping_behind};
-ghost use Rattle.sail_definitions.specs.Parts.{union_clause_behind, union_whole_behind};
+ghost use Rattle.sail_parse_parts.specs.Parts.{scattered_union_behind, scattered_function_behind, scattered_mapping_behind};
+ghost use Rattle.sail_parse_parts.specs.Parts.{union_clause_behind, union_whole_behind};
 
+use crate::lists::{member, members};
+use crate::variables::parameters;
 use sail_grammar::{Lexeme, Read, expect, expect_identifier, name, sees};
 use sail_lex::TokenKind;
-use sail_parse_parts::{member, members, parameters};
 use sail_syntax::Def;
 use std::alloc::Global;
 
-// A union, or one constructor of a scattered one.
-pub(crate) fn union_definition<'a>(alloc: Global, tokens: &'a [Lexeme]) -> Read<'a, Def>
+/// A union, or one constructor of a scattered one.
+pub fn union_definition<'a>(alloc: Global, tokens: &'a [Lexeme]) -> Read<'a, Def>
     ensures read { IfOk result (λ r. Reading (Row UnionDefinition) union_of tokens.now r.0 r.1.now) }
     ensures shorter { IfOk result (λ r. length r.1.now < length tokens.now) }
     ensures stop { IfErr result (λ e. StopsAt (Row UnionDefinition) tokens.now e) }
@@ -67,8 +68,8 @@ fn union_whole<'a>(alloc: Global, word: &Lexeme, tokens: &'a [Lexeme]) -> Read<'
     ))
 }
 
-// The opening of a definition whose clauses stand apart.
-pub(crate) fn scattered<'a>(alloc: Global, tokens: &'a [Lexeme]) -> Read<'a, Def>
+/// The opening of a definition whose clauses stand apart.
+pub fn scattered<'a>(alloc: Global, tokens: &'a [Lexeme]) -> Read<'a, Def>
     ensures read { IfOk result (λ r. Reading (Row ScatteredDefinition) scattered_of tokens.now r.0 r.1.now) }
     ensures shorter { IfOk result (λ r. length r.1.now < length tokens.now) }
     ensures stop { IfErr result (λ e. StopsAt (Row ScatteredDefinition) tokens.now e) }
@@ -120,8 +121,8 @@ fn scattered_mapping<'a>(first: &Lexeme, tokens: &'a [Lexeme]) -> Read<'a, Def>
     Ok((Def::ScatteredMapping(first.place, name), rest))
 }
 
-// The end of a definition whose clauses stand apart.
-pub(crate) fn end<'a>(tokens: &'a [Lexeme]) -> Read<'a, Def>
+/// The end of a definition whose clauses stand apart.
+pub fn end<'a>(tokens: &'a [Lexeme]) -> Read<'a, Def>
     ensures read { IfOk result (λ r. Reading (Row EndDefinition) end_of tokens.now r.0 r.1.now) }
     ensures shorter { IfOk result (λ r. length r.1.now < length tokens.now) }
     ensures stop { IfErr result (λ e. StopsAt (Row EndDefinition) tokens.now e) }

@@ -1,9 +1,9 @@
 use Rattle.std.proofs.Common.{sym, ◌∙◌}
 use Rattle.sail_grammar.proofs.Steps.{exit_stop, pass_ok, pass_stop, stops_row, stops_first}
-use Rattle.sail_definitions.proofs.ScatteredRows.{scattered_as_union, scattered_as_union_stops, scattered_as_function}
-use Rattle.sail_definitions.proofs.ScatteredRows.{scattered_as_function_stops, scattered_as_mapping}
-use Rattle.sail_definitions.proofs.ScatteredRows.{scattered_as_mapping_stops}
-use Rattle.sail_definitions.proofs.scattered.scattered.Goals as goal
+use Rattle.sail_parse_parts.proofs.PieceRows.{scattered_as_union, scattered_as_union_stops, scattered_as_function}
+use Rattle.sail_parse_parts.proofs.PieceRows.{scattered_as_function_stops, scattered_as_mapping}
+use Rattle.sail_parse_parts.proofs.PieceRows.{scattered_as_mapping_stops}
+use Rattle.sail_parse_parts.proofs.pieces.scattered.Goals as goal
 
 pub returns-in_err-word-clause-stop : goal.returns-in_err-word-clause-stop
 returns-in_err-word-clause-stop c = exit_stop _ c.from_residual.ensures.1 (stops_row (stops_first c.in_err-word.ensures.stop))

@@ -1,8 +1,8 @@
 use Rattle.std.proofs.Common.{sym, ◌∙◌}
 use Rattle.sail_grammar.proofs.Steps.{exit_stop, pass_ok, pass_stop, stops_row, stops_first}
-use Rattle.sail_definitions.proofs.ScatteredRows.{union_by_clause, union_by_clause_stops, union_in_one}
-use Rattle.sail_definitions.proofs.ScatteredRows.{union_in_one_stops}
-use Rattle.sail_definitions.proofs.scattered.union_definition.Goals as goal
+use Rattle.sail_parse_parts.proofs.PieceRows.{union_by_clause, union_by_clause_stops, union_in_one}
+use Rattle.sail_parse_parts.proofs.PieceRows.{union_in_one_stops}
+use Rattle.sail_parse_parts.proofs.pieces.union_definition.Goals as goal
 
 pub returns-in_err-word-clause-stop : goal.returns-in_err-word-clause-stop
 returns-in_err-word-clause-stop c = exit_stop _ c.from_residual.ensures.1 (stops_row (stops_first c.in_err-word.ensures.stop))

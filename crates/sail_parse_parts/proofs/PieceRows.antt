@@ -18,8 +18,8 @@ use Rattle.sail_grammar.specs.Parsing.{Reading, Takes, StopsAt}
 use Rattle.sail_grammar.specs.DefTrees.{member_of, members_of, parameters_of, union_of, scattered_of, end_of}
 use Rattle.sail_grammar.proofs.Steps.{stops_row, stops_next, stops_right}
 use Rattle.sail_parse_tp.proofs.Choices.{go_left, go_right, go_past, stop_left, stop_right, stop_past, past_word}
-use Rattle.sail_definitions.specs.Parts.{union_clause_behind, union_whole_behind, scattered_union_behind}
-use Rattle.sail_definitions.specs.Parts.{scattered_function_behind, scattered_mapping_behind}
+use Rattle.sail_parse_parts.specs.Parts.{union_clause_behind, union_whole_behind, scattered_union_behind}
+use Rattle.sail_parse_parts.specs.Parts.{scattered_function_behind, scattered_mapping_behind}
 use Rattle.sail_parse_parts.proofs.Spelled.{spelled}
 
 pub union_clause_all : (word : Sign) {ss m1 m2 m3 rest : List Sign} {k n q : Sign} {x : Member} {name : Name} → Takes (code K.Clause ∷ []) ss k m1 →

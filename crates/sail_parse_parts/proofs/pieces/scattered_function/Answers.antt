@@ -1,6 +1,6 @@
 use Rattle.sail_grammar.proofs.Steps.{exit_stop, stops_first, stops_next}
-use Rattle.sail_definitions.proofs.ScatteredRows.{scattered_function_all}
-use Rattle.sail_definitions.proofs.scattered.scattered_function.Goals as goal
+use Rattle.sail_parse_parts.proofs.PieceRows.{scattered_function_all}
+use Rattle.sail_parse_parts.proofs.pieces.scattered_function.Goals as goal
 
 pub returns-in_err-after_function-clause-stop : goal.returns-in_err-after_function-clause-stop
 returns-in_err-after_function-clause-stop c = exit_stop _ c.from_residual.ensures.1 (stops_first c.in_err-after_function.ensures.stop)

@@ -1,6 +1,6 @@
 use Rattle.sail_grammar.proofs.Steps.{exit_stop, stops_row, stops_first, stops_next}
-use Rattle.sail_definitions.proofs.ScatteredRows.{union_whole_all}
-use Rattle.sail_definitions.proofs.scattered.union_whole.Goals as goal
+use Rattle.sail_parse_parts.proofs.PieceRows.{union_whole_all}
+use Rattle.sail_parse_parts.proofs.pieces.union_whole.Goals as goal
 
 pub returns-in_err-token-clause-stop : goal.returns-in_err-token-clause-stop
 returns-in_err-token-clause-stop c = exit_stop _ c.from_residual.ensures.1 (stops_row (stops_first c.in_err-token.ensures.stop))
