@@ -128,9 +128,11 @@ abbrev pub list_like : Around → Place → Indices → Reading → Reading → 
 list_like around place i r q = bind (owe_fit place (item_fits (fits around.types) r q)) (λ t. list_owing around place i q)
 
 -- a hole in the type of the items is filled by what stands before them, and by the shape
+abbrev pub cons_filled : Around → Shape → Place → Indices → Reading → Walk Indices
+cons_filled around shape place i r = bind (filled_here around shape i) (list_like around place i r)
+
 abbrev pub cons_onto : Around → Shape → Place → Indices → Reading → Walk Indices
-cons_onto around shape place i r =
-    if has_hole r then bind (filled_here around shape i) (list_like around place i r) else list_owing around place i r
+cons_onto around shape place i r = if has_hole r then cons_filled around shape place i r else list_owing around place i r
 
 abbrev pub cons_before : Around → Shape → Place → Indices → Indices-F Indices Reading → Walk Indices
 cons_before around shape place i (W.List r) = cons_onto around shape place i r

@@ -178,6 +178,27 @@ fn list_like(
     list_owing(alloc, walking, around, place, value, reading)
 }
 
+/// An item, at its place, before the items of a list of a type that has a hole: both are of the item's type. It fails where memory is
+/// wanting, and where variables are too many.
+#[tactic(auto, using(value_indices::proofs::Walks::walks))]
+fn cons_filled(
+    alloc: Global,
+    walking: &mut Walking,
+    around: &Around<'_>,
+    shape: &Shape,
+    place: Place,
+    value: &Indices,
+    item: &Reading,
+) -> Result<Indices, AllocError>
+    ensures value { IfOk result (λ made. made
+        ≡ walk.got (value_spec.cons_filled (around_of around.now) shape.now place value.now item.now) (walk.seen walking.old)) }
+    ensures walked { OnOk result (walk.seen walking.new
+        ≡ walk.run (value_spec.cons_filled (around_of around.now) shape.now place value.now item.now) (walk.seen walking.old)) }
+{
+    let reading = filled_here(alloc, walking, around, shape, value)?;
+    list_like(alloc, walking, around, place, value, item, reading)
+}
+
 /// An item, at its place, before the items of a list, of this type; where that has a hole, both are of the item's type. It fails where
 /// memory is wanting, and where variables are too many.
 #[tactic(auto, using(value_indices::proofs::Walks::walks))]
@@ -196,8 +217,7 @@ fn cons_onto(
         ≡ walk.run (value_spec.cons_onto (around_of around.now) shape.now place value.now item.now) (walk.seen walking.old)) }
 {
     if has_hole(item) {
-        let reading = filled_here(alloc, walking, around, shape, value)?;
-        list_like(alloc, walking, around, place, value, item, reading)
+        cons_filled(alloc, walking, around, shape, place, value, item)
     } else {
         let reading = copy_reading(alloc, item)?;
         list_owing(alloc, walking, around, place, value, reading)
