@@ -1,5 +1,5 @@
 -- The numbers of a `foreach` as the code has them in hand.
-use Rattle.std.proofs.Common.{◌≡◌, List, ◌++◌, Option, Some, None, option_map, Result, OnOk, sym, ap, ◌∙◌}
+use Rattle.std.proofs.Common.{◌≡◌, List, [], ◌∷◌, ◌++◌, append_assoc, Option, Some, None, option_map, Result, OnOk, sym, ap, ◌∙◌}
 use Rattle.std.proofs.lemmas.Result.{on_ok_weaker}
 use Rattle.sail_base.specs.declared.place.Place.{Place}
 use Rattle.sail_syntax.specs.declared.expressions.Exp.{Exp}
@@ -8,6 +8,7 @@ use Rattle.sail_syntax.specs.declared.expressions.Exp.TheViews.{roll-out-Range}
 use Rattle.sail_syntax.specs.declared.expressions.Range.{Range, out-Range, roll-Range}
 use Rattle.sail_syntax.specs.declared.words.Direction.{Direction}
 use Rattle.sail_types.specs.declared.shapes.Shape.TheVariants as V
+use Rattle.sail_core.specs.declared.tree.Core.{Core}
 use Rattle.shape_rules.specs.declared.error.ShapeError.{ShapeError}
 use Rattle.shape_rules.specs.Findings.{first_failure}
 use Rattle.shape_rules.specs.Scopes.{Setting, Locals}
@@ -18,7 +19,7 @@ use Rattle.shape_rules.specs.Expressions.{elaborate as elaborated, part, exp_for
 use Rattle.shape_rules.specs.Expressions.{case_form, field_form}
 use Rattle.shape_rules.specs.Expressions.{index_form, range_form, further_form}
 use Rattle.shape_walks.specs.Trees.{range_part}
-use Rattle.shape_forms.specs.Steps.{range_faults}
+use Rattle.shape_forms.specs.Steps.{range_cores, range_faults}
 use Rattle.shape_values.proofs.Noted.{noted_behind}
 
 of_parts : (from to : Exp) (by : Option Exp) (direction : Direction)
@@ -60,3 +61,23 @@ pub three_noted : {T E : Type 0} (result : Result T E) (old mid far new : Option
     → OnOk result (new ≡ first_failure old ((es ++ fs) ++ gs))
 three_noted result old mid far new es fs gs first second third =
     on_ok_weaker result (noted_behind old far new (es ++ fs) gs (noted_behind old mid far es fs first second)) third
+
+-- their cores
+pub range_made : (r : Range) (place : Place) (setting : Setting) (locals : Locals) (from to : Exp)
+    → from ≡ (out-Range r).from → to ≡ (out-Range r).to
+    → range_cores place (range_part r) setting locals
+    ≡ (elaborated from setting locals V.Int).core ∷ (elaborated to setting locals V.Int).core
+    ∷ (by_found place (option_map part (out-Range r).by) setting locals).core ∷ []
+range_made r place setting locals from to first last =
+    let by : Core = (by_found place (option_map part (out-Range r).by) setting locals).core in
+    ap (λ (p : RangePart). range_cores place p setting locals) (range_is r)
+    ∙ ap (λ (e : Exp). (elaborated e setting locals V.Int).core ∷ (elaborated (out-Range r).to setting locals V.Int).core ∷ by ∷ []) (sym first)
+    ∙ ap (λ (e : Exp). (elaborated from setting locals V.Int).core ∷ (elaborated e setting locals V.Int).core ∷ by ∷ []) (sym last)
+
+pub three_pushed : {T E : Type 0} (result : Result T E) (old mid far new : List Core) (a b d : Core)
+    → mid ≡ old ++ a ∷ [] → far ≡ mid ++ b ∷ [] → OnOk result (new ≡ far ++ d ∷ []) → OnOk result (new ≡ old ++ a ∷ b ∷ d ∷ [])
+three_pushed result old mid far new a b d first second third =
+    on_ok_weaker result
+    (λ (h : new ≡ far ++ d ∷ []). h
+    ∙ ap (λ (xs : List Core). xs ++ d ∷ []) (second ∙ ap (λ (xs : List Core). xs ++ b ∷ []) first ∙ append_assoc old (a ∷ []) (b ∷ []))
+    ∙ append_assoc old (a ∷ b ∷ []) (d ∷ [])) third
