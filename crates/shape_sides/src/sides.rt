@@ -232,7 +232,7 @@ pub(crate) fn listed<
 
 /// An operator between two operands.
 #[tactic(auto, using(shape_walks::proofs::Infixes::infix_walked, shape_rules::proofs::Firsts::first_failure_append))]
-fn infix<F: Fn(Global, &Pat, &Around<'_>, &Locals, &Shape, &mut First) -> Result<Made, AllocError>>(
+pub(crate) fn infix<F: Fn(Global, &Pat, &Around<'_>, &Locals, &Shape, &mut First) -> Result<Made, AllocError>>(
     walker: &Walker<'_, F>,
     place: Place,
     operator: Operator,
@@ -262,7 +262,7 @@ fn infix<F: Fn(Global, &Pat, &Around<'_>, &Locals, &Shape, &mut First) -> Result
 /// A concatenation of at least two parts: each `@` has the part before it to the left, and the whole rest to the right.
 #[cycle(joined)]
 #[tactic(auto, using(shape_rules::proofs::Firsts::first_failure_append))]
-fn joined<
+pub(crate) fn joined<
     F: Fn(Global, &Pat, &Around<'_>, &Locals, &Shape, &mut First) -> Result<Made, AllocError>,
 >(
     walker: &Walker<'_, F>,
@@ -390,7 +390,7 @@ fn push_joined<
 
 /// `p : T`. The one error is want of memory.
 #[tactic(auto, using(shape_rules::proofs::Firsts::first_failure_append), unfolding(shape_forms::specs::Over::over_found))]
-fn typed<F: Fn(Global, &Pat, &Around<'_>, &Locals, &Shape, &mut First) -> Result<Made, AllocError>>(
+pub(crate) fn typed<F: Fn(Global, &Pat, &Around<'_>, &Locals, &Shape, &mut First) -> Result<Made, AllocError>>(
     walker: &Walker<'_, F>,
     place: Place,
     part: &Pat,
