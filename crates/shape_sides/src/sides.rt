@@ -232,7 +232,9 @@ pub(crate) fn listed<
 
 /// An operator between two operands.
 #[tactic(auto, using(shape_walks::proofs::Infixes::infix_walked, shape_rules::proofs::Firsts::first_failure_append))]
-pub(crate) fn infix<F: Fn(Global, &Pat, &Around<'_>, &Locals, &Shape, &mut First) -> Result<Made, AllocError>>(
+pub(crate) fn infix<
+    F: Fn(Global, &Pat, &Around<'_>, &Locals, &Shape, &mut First) -> Result<Made, AllocError>,
+>(
     walker: &Walker<'_, F>,
     place: Place,
     operator: Operator,
@@ -390,7 +392,9 @@ fn push_joined<
 
 /// `p : T`. The one error is want of memory.
 #[tactic(auto, using(shape_rules::proofs::Firsts::first_failure_append), unfolding(shape_forms::specs::Over::over_found))]
-pub(crate) fn typed<F: Fn(Global, &Pat, &Around<'_>, &Locals, &Shape, &mut First) -> Result<Made, AllocError>>(
+pub(crate) fn typed<
+    F: Fn(Global, &Pat, &Around<'_>, &Locals, &Shape, &mut First) -> Result<Made, AllocError>,
+>(
     walker: &Walker<'_, F>,
     place: Place,
     part: &Pat,
