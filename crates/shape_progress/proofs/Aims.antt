@@ -1,5 +1,5 @@
 -- Targets of an assignment by their rule go on: their indexes are evaluated, and what is found takes values of their shapes.
-use Rattle.std.proofs.Common.{◌≡◌, ℕ, zero, suc, List, [], ◌∷◌, ◌++◌, map, length, take, drop, ap, sym, refl, subst, Bool, true, false}
+use Rattle.std.proofs.Common.{◌≡◌, ℕ, zero, suc, List, [], ◌∷◌, ◌++◌, map, length, take, drop, ap, sym, refl, subst, Bool, true, false, Option, Some, None}
 use Rattle.sail_base.specs.declared.place.Place.{Place}
 use Rattle.sail_types.specs.Shapes.{at, put, shape}
 use Rattle.sail_types.specs.declared.shapes.Shape.{Shape}
@@ -98,19 +98,19 @@ module _ (t : Table) (w : World Value) (P : Rule)
   -- ---- targets
 
   -- what is found takes values of the shape s, and behind its parts these cores are left
-  abbrev Found : Reach → Bool → Shape → Shape → List Core → Spotted Value (Spot Value) → Type 0
+  abbrev Found : Reach → Bool → Shape → Option Shape → List Core → Spotted Value (Spot Value) → Type 0
   Found reach is_base s answer rest x = SpotGoes reach w is_base s answer x.found × (x.left ≡ runs rest)
 
   -- several, for values of these shapes
   abbrev AllFound : Reach → List Shape → List Core → Spotted Value (List (Spot Value)) → Type 0
   AllFound reach ss rest x = SpotsGo reach w ss x.found × (x.left ≡ runs rest)
 
-  abbrev Goal : Reach → Bool → Shape → Shape → Target → List Core → List Core → Type 0
+  abbrev Goal : Reach → Bool → Shape → Option Shape → Target → List Core → List Core → Type 0
   Goal reach is_base s answer target cs rest = GoesOn reach w (Found reach is_base s answer rest) (checked_spotting t w target (runs cs))
 
   abbrev Inside : Targeted → Reach → Type 0
   Inside Q reach =
-      (is_base : Bool) (s answer : Shape) (target : Target) (cs rest : List Core) → Q is_base s answer target cs rest
+      (is_base : Bool) (s : Shape) (answer : Option Shape) (target : Target) (cs rest : List Core) → Q is_base s answer target cs rest
       → Goal reach is_base s answer target cs rest
 
   spots_go : (Q : Targeted) (reach : Reach) → Inside Q reach → (ss : List Shape) (targets : List Target) (cs rest : List Core)
@@ -121,18 +121,18 @@ module _ (t : Table) (w : World Value) (P : Rule)
   spots_go Q reach inside [] (x ∷ xs) cs rest h = absurd h
   spots_go Q reach inside (s ∷ ss) [] cs rest h = absurd h
   spots_go Q reach inside (s ∷ ss) (x ∷ xs) cs rest h =
-      then_goes reach w (Found reach false s h.0 h.1) (AllFound reach (s ∷ ss) rest) (checked_spotting t w x (runs cs))
-      (λ first. also first.found (spots_of (map (checked_spotting t w) xs) first.left)) (inside false s h.0 x cs h.1 h.2)
+      then_goes reach w (Found reach false s None h.0) (AllFound reach (s ∷ ss) rest) (checked_spotting t w x (runs cs))
+      (λ first. also first.found (spots_of (map (checked_spotting t w) xs) first.left)) (inside false s None x cs h.0 h.1)
       (λ first found. subst (λ rs. GoesOn reach w (AllFound reach (s ∷ ss) rest)
       (also first.found (spots_of (map (checked_spotting t w) xs) rs))) (sym found.1)
       (then_goes reach w (AllFound reach ss rest) (AllFound reach (s ∷ ss) rest)
-      (spots_of (map (checked_spotting t w) xs) (runs h.1)) (λ more. spotted (first.found ∷ more.found) more.left)
-      (spots_go Q reach inside ss xs h.1 rest h.3)
+      (spots_of (map (checked_spotting t w) xs) (runs h.0)) (λ more. spotted (first.found ∷ more.found) more.left)
+      (spots_go Q reach inside ss xs h.0 rest h.2)
       (λ more is. gives_goes reach w (AllFound reach (s ∷ ss) rest)
-      (record { found = first.found ∷ more.found; left = more.left }) (((h.0, found.0), is.0), is.1))))
+      (record { found = first.found ∷ more.found; left = more.left }) ((found.0, is.0), is.1))))
 
   kind_goes : (Q : Targeted) (reach : Reach) → t.types ≡ reach.types → Inside Q reach → (place : Place) (k : ℕ) (kind : TargetKind) (targets : List Target)
-      (is_base : Bool) (s answer : Shape) (cs rest : List Core) → TargetKindHas Q (P reach) w reach kind targets is_base s answer cs rest
+      (is_base : Bool) (s : Shape) (answer : Option Shape) (cs rest : List Core) → TargetKindHas Q (P reach) w reach kind targets is_base s answer cs rest
       → GoesOn reach w (Found reach is_base s answer rest) (checked_target t w place k kind (map (checked_spotting t w) targets) (runs cs))
   kind_goes Q reach same inside place k (T.Variable name) [] is_base s answer cs rest h =
       gives_goes reach w (Found reach is_base s answer rest) (record { found = variable_spot plainly k name; left = runs cs })
@@ -186,9 +186,9 @@ module _ (t : Table) (w : World Value) (P : Rule)
   assigned_go reach same s [] (c ∷ []) h = sound reach same s c h
   assigned_go reach same s [] (c ∷ d ∷ cs) h = absurd h
   assigned_go reach same s (target ∷ targets) cs h =
-      then_goes reach w (Found reach false h.1 s h.3) (F reach w s) (checked_spotting t w target (runs cs))
+      then_goes reach w (Found reach false h.1 (Some s) h.3) (F reach w s) (checked_spotting t w target (runs cs))
       (λ spot. assigned (map (checked_spotting t w) targets) spot.left then spot.found.write)
-      (target_goes h.0 reach same false h.1 s target cs h.3 h.4)
+      (target_goes h.0 reach same false h.1 (Some s) target cs h.3 h.4)
       (λ spot is. subst (λ rs. GoesOn reach w (F reach w s) (assigned (map (checked_spotting t w) targets) rs then spot.found.write)) (sym is.1)
       (then_goes reach w (F reach w h.1) (F reach w s) (assigned (map (checked_spotting t w) targets) (runs h.3)) spot.found.write
       (goes_as reach w (F reach w h.2) (F reach w h.1) (assigned (map (checked_spotting t w) targets) (runs h.3))

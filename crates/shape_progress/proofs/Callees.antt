@@ -1,8 +1,8 @@
 -- Callees that take values of these shapes go on, where the table of builtins is met.
-use Rattle.std.proofs.Common.{◌≡◌, ℕ, List, [], ◌∷◌, map, sym, subst, true, false, None}
+use Rattle.std.proofs.Common.{◌≡◌, ℕ, List, [], ◌∷◌, subst, true, false, Option, None}
 use Rattle.std.proofs.lemmas.Bool.{and_parts}
 use Rattle.sail_base.specs.declared.place.Place.{Place}
-use Rattle.sail_types.specs.Shapes.{at, fits, each_fits, put, shape}
+use Rattle.sail_types.specs.Shapes.{fits, put}
 use Rattle.sail_types.specs.declared.shapes.Shape.{Shape}
 use Rattle.sail_types.specs.declared.values.Value.{Value}
 use Rattle.sail_types.specs.declared.values.Value.TheVariants as Val
@@ -17,39 +17,37 @@ use Rattle.shape_joins.proofs.Order.{no}
 use Rattle.shape_meanings.specs.Keeping.{Fits, FitAll, Reach}
 use Rattle.shape_progress.specs.Conditions.{row_met}
 use Rattle.shape_progress.specs.Checks.{Table, call_met}
-use Rattle.shape_progress.specs.Going.{GoesOn, Has}
-use Rattle.shape_progress.specs.TargetRules.{Takes}
+use Rattle.shape_progress.specs.Going.{GoesOn}
+use Rattle.shape_progress.specs.TargetRules.{GivesAs, Takes}
 use Rattle.shape_progress.proofs.Calls.{member_goes}
 use Rattle.shape_progress.proofs.Parts.{F}
 use Rattle.shape_progress.proofs.Runs.{then_goes, or_goes, gives_goes, tick_goes}
-use Rattle.shape_progress.proofs.Ways.{union_fits, payload_fit}
 
-converts_goes : (w : World Value) (reach : Reach) (q s : Shape) (place : Place) (k d : ℕ) → ((v : Value) → F reach w q v → Has reach w s (w.enter d v))
-    → (vs : List Value) → FitAll reach.types reach.choice (q ∷ []) vs → GoesOn reach w (F reach w s) (called plainly w place k (C.Converts d) vs)
-converts_goes w reach q s place k d enters [] fit = no fit
-converts_goes w reach q s place k d enters (v ∷ u ∷ us) fit = no (and_parts (fits reach.types v (put reach.choice q)) false fit).1
-converts_goes w reach q s place k d enters (v ∷ []) fit =
+converts_goes : (w : World Value) (reach : Reach) (q : Shape) (answer : Option Shape) (place : Place) (k d : ℕ)
+    → ((v : Value) → F reach w q v → GoesOn reach w (GivesAs reach answer) (w.enter d v))
+    → (vs : List Value) → FitAll reach.types reach.choice (q ∷ []) vs → GoesOn reach w (GivesAs reach answer) (called plainly w place k (C.Converts d) vs)
+converts_goes w reach q answer place k d enters [] fit = no fit
+converts_goes w reach q answer place k d enters (v ∷ u ∷ us) fit = no (and_parts (fits reach.types v (put reach.choice q)) false fit).1
+converts_goes w reach q answer place k d enters (v ∷ []) fit =
+    let P : Value → Type 0 = GivesAs reach answer in
     let fits_v = (and_parts (fits reach.types v (put reach.choice q)) true fit).0 in
-    then_goes reach w (F reach w s) (F reach w s) (tick then λ x. w.enter d v or_else stops (MatchFailure place)) (λ u. made plainly k (v ∷ []) u)
-    (then_goes reach w (λ (x : Unit {0}). Unit {0}) (F reach w s) tick (λ x. w.enter d v or_else stops (MatchFailure place)) (tick_goes reach w)
-    (λ x y. or_goes reach w (F reach w s) (w.enter d v) (stops (MatchFailure place)) (enters v fits_v) (λ now ready. tt)))
-    (λ u fu. gives_goes reach w (F reach w s) u fu)
+    then_goes reach w P P (tick then λ x. w.enter d v or_else stops (MatchFailure place)) (λ u. made plainly k (v ∷ []) u)
+    (then_goes reach w (λ (x : Unit {0}). Unit {0}) P tick (λ x. w.enter d v or_else stops (MatchFailure place)) (tick_goes reach w)
+    (λ x y. or_goes reach w P (w.enter d v) (stops (MatchFailure place)) (enters v fits_v) (λ now ready. tt)))
+    (λ u fu. gives_goes reach w P u fu)
 
-pub callee_goes : (t : Table) (w : World Value) (reach : Reach) → t.types ≡ reach.types → (ss : List Shape) (s : Shape) (place : Place) (k : ℕ)
-    (callee : Callee) (vs : List Value) → Takes w reach ss s callee → FitAll reach.types reach.choice ss vs → call_met t callee vs ≡ true
-    → GoesOn reach w (F reach w s) (called plainly w place k callee vs)
-callee_goes t w reach same ss s place k (C.Row row) vs h fit met =
-    then_goes reach w (Fits reach.types h.1 h.0.answer) (F reach w s) (row_run row w.hart vs) (λ v. made plainly k vs v)
-    (member_goes reach w t.beyond row h.0 h.1 vs h.2 h.3 (subst (λ qs. each_fits (map (fits reach.types) vs) qs ≡ true) (sym h.4) fit)
-    (subst (λ types. row_met types t.beyond row vs ≡ true) same met))
-    (λ v fv. gives_goes reach w (F reach w s) v (subst (λ x. fits reach.types v x ≡ true) h.5 fv))
-callee_goes t w reach same ss s place k (C.Constructor u n) vs h fit met =
-    gives_goes reach w (F reach w s) (Val.Union u n (payload_of vs))
-    (union_fits reach.types reach.choice s u n h.0 h.1 (payload_of vs) h.2 h.3
-    (payload_fit reach.types reach.choice (put (at h.0) (shape h.1)) ss vs h.4 fit))
-callee_goes t w reach same ss s place k (C.Function f) vs h fit met =
-    then_goes reach w (F reach w s) (F reach w s) (w.call place f None vs) (λ v. made plainly k vs v) (h place vs fit)
-    (λ v fv. gives_goes reach w (F reach w s) v fv)
-callee_goes t w reach same ss s place k (C.Converts d) vs h fit met =
-    converts_goes w reach h.0 s place k d h.2 vs (subst (λ qs. FitAll reach.types reach.choice qs vs) h.1 fit)
-callee_goes t w reach same ss s place k callee vs h fit met = absurd h
+pub callee_goes : (t : Table) (w : World Value) (reach : Reach) → t.types ≡ reach.types → (ss : List Shape) (answer : Option Shape) (place : Place) (k : ℕ)
+    (callee : Callee) (vs : List Value) → Takes w reach ss answer callee → FitAll reach.types reach.choice ss vs → call_met t callee vs ≡ true
+    → GoesOn reach w (GivesAs reach answer) (called plainly w place k callee vs)
+callee_goes t w reach same ss answer place k (C.Row row) vs h fit met =
+    then_goes reach w (Fits reach.types h.1 h.0.answer) (GivesAs reach answer) (row_run row w.hart vs) (λ v. made plainly k vs v)
+    (member_goes reach w t.beyond row h.0 h.1 vs h.2 h.3 (h.4 vs fit) (subst (λ types. row_met types t.beyond row vs ≡ true) same met))
+    (λ v fv. gives_goes reach w (GivesAs reach answer) v (h.5 v fv))
+callee_goes t w reach same ss answer place k (C.Constructor u n) vs h fit met =
+    gives_goes reach w (GivesAs reach answer) (Val.Union u n (payload_of vs)) (h vs fit)
+callee_goes t w reach same ss answer place k (C.Function f) vs h fit met =
+    then_goes reach w (GivesAs reach answer) (GivesAs reach answer) (w.call place f None vs) (λ v. made plainly k vs v) (h place vs fit)
+    (λ v fv. gives_goes reach w (GivesAs reach answer) v fv)
+callee_goes t w reach same ss answer place k (C.Converts d) vs h fit met =
+    converts_goes w reach h.0 answer place k d h.2 vs (subst (λ qs. FitAll reach.types reach.choice qs vs) h.1 fit)
+callee_goes t w reach same ss answer place k callee vs h fit met = absurd h

@@ -1,5 +1,5 @@
 -- Each form by its rule goes on, over parts that do; and so each core, by induction on the depth of its derivation.
-use Rattle.std.proofs.Common.{◌≡◌, ◌⊎◌, inl, inr, ℕ, zero, suc, List, [], ◌∷◌, map, length, reverse, ◌++◌, ap, sym, refl, subst}
+use Rattle.std.proofs.Common.{◌≡◌, inl, inr, ℕ, zero, suc, List, [], ◌∷◌, map, length, reverse, ◌++◌, ap, sym, refl, subst}
 use Rattle.std.proofs.Common.{Bool, true, false, not, ◌&&◌, ◌||◌, Option, Some, None, option_map, slice_get, if◌then◌else◌}
 use Rattle.std.proofs.lemmas.Bool.{and_parts}
 use Rattle.std.specs.List.{list_all}
@@ -44,7 +44,7 @@ use Rattle.shape_progress.specs.Checks.{Table, call_met, checked, checked_kind, 
 use Rattle.shape_progress.specs.Checks.{statements, if_met, where_met}
 use Rattle.shape_progress.specs.Going.{GoesOn, Has, under}
 use Rattle.shape_progress.specs.PatternRules.{ArmBinds}
-use Rattle.shape_progress.specs.Rules.{Rule, EachHas, IsEmpty, IsUnreached, SuffixesHave, ArmsHave, BlockHas, KindHas, IsShaped, CoresGoOn}
+use Rattle.shape_progress.specs.Rules.{Rule, EachHas, IsUnreached, NeverGives, SuffixesHave, ArmsHave, BlockHas, KindHas, IsShaped, CoresGoOn}
 use Rattle.shape_progress.specs.TargetRules.{AllHave, Takes, WayLeads}
 use Rattle.shape_progress.proofs.Runs.{then_goes, or_goes, caught_goes, goes_as, gives_goes, needs_goes, met_goes, within_goes}
 use Rattle.shape_progress.proofs.Forms.{is_list, unit_fits, integer_fits, truth_fits, met_of}
@@ -110,11 +110,11 @@ module _ (t : Table) (w : World Value) (P : Rule)
 
   abbrev More : Reach → Shape → List Suffix → Type 0
   More reach s ss =
-      (ds : List Core) (q : Shape) (u : Value) → SuffixesHave reach.types (P reach) ss ds q s → F reach w q u
+      (ds : List Core) (q : Shape) (u : Value) → SuffixesHave reach (P reach) ss ds q s → F reach w q u
       → GoesOn reach w (F reach w s) (checked_suffixes ss (runs ds) u)
 
   way_goes : (reach : Reach) → t.types ≡ reach.types → (k : ℕ) (way : Way) (ss : List Suffix) (cs : List Core) (s q : Shape) (v : Value) → More reach s ss
-      → WayLeads reach.types (P reach) way cs q (λ ds u. SuffixesHave reach.types (P reach) ss ds u s) → F reach w q v
+      → WayLeads reach.types (P reach) way cs q (λ ds u. SuffixesHave reach (P reach) ss ds u s) → F reach w q v
       → GoesOn reach w (F reach w s) (checked_suffix k way (runs cs) v (checked_suffixes ss))
   way_goes reach same k (Y.Field i n) ss cs s q v more h fit =
       taken_then reach w s (put (at h.0) (shape h.2)) k (field_way i n) v [] (checked_suffixes ss (runs cs))
@@ -139,16 +139,17 @@ module _ (t : Table) (w : World Value) (P : Rule)
   way_goes reach same k Y.Slice ss (a ∷ []) s q v more h fit = absurd h
 
   suffixes_go : (reach : Reach) → t.types ≡ reach.types → (s : Shape) (ss : List Suffix) → More reach s ss
-  suffixes_go reach same s [] [] q v h fit = gives_goes reach w (F reach w s) v (subst (λ x. F reach w x v) h fit)
-  suffixes_go reach same s [] (c ∷ cs) q v h fit = absurd h
+  suffixes_go reach same s [] [] q v (inl is) fit = gives_goes reach w (F reach w s) v (subst (λ x. F reach w x v) is fit)
+  suffixes_go reach same s [] [] q v (inr e) fit = absurd (e v fit)
+  suffixes_go reach same s [] (c ∷ cs) q v h fit = absurd (h v fit)
   suffixes_go reach same s (suffix ∷ ss) cs q v h fit =
       way_goes reach same suffix.number suffix.way ss cs s q v (suffixes_go reach same s ss) h fit
 
-  -- a base that never ends, or one of which suffixes take out a part
-  part_goes : (reach : Reach) → t.types ≡ reach.types → (s : Shape) (ss : List Suffix) (cs : List Core) (q : Shape) (v : Value)
-      → IsEmpty reach q ⊎ SuffixesHave reach.types (P reach) ss cs q s → F reach w q v → GoesOn reach w (F reach w s) (checked_suffixes ss (runs cs) v)
-  part_goes reach same s ss cs q v (inl e) fit = absurd (e v fit)
-  part_goes reach same s ss cs q v (inr h) fit = suffixes_go reach same s ss cs q v h fit
+  -- a part that no value is
+  never_goes : (reach : Reach) → t.types ≡ reach.types → (s : Shape) (a : Core) (next : Value → Run Value Value) → NeverGives P reach a
+      → GoesOn reach w (F reach w s) (checked t w a then next)
+  never_goes reach same s a next e =
+      then_goes reach w (F reach w e.0) (F reach w s) (checked t w a) next (sound reach same e.0 a e.1) (λ v fit. absurd (e.2 v fit))
 
   -- ---- arms and statements
 
@@ -203,10 +204,10 @@ module _ (t : Table) (w : World Value) (P : Rule)
   -- ---- calls
 
   call_goes : (reach : Reach) → t.types ≡ reach.types → (s : Shape) (place : Place) (k : ℕ) (callee : Callee) (cs : List Core) (ss : List Shape)
-      → AllHave (P reach) ss cs → Takes w reach ss s callee → Has reach w s (checked_kind t w place k (K.Call callee) (runs cs))
+      → AllHave (P reach) ss cs → Takes w reach ss (Some s) callee → Has reach w s (checked_kind t w place k (K.Call callee) (runs cs))
   call_goes reach same s place k callee cs ss h takes =
       operands_go reach w (FitAll reach.types reach.choice ss) (F reach w s) (call_met t callee) (runs cs) (called plainly w place k callee)
-      (all_go reach same ss cs h) (λ vs fit met. callee_goes t w reach same ss s place k callee vs takes fit met)
+      (all_go reach same ss cs h) (λ vs fit met. callee_goes t w reach same ss (Some s) place k callee vs takes fit met)
 
   -- ---- all kinds
 
@@ -299,8 +300,9 @@ module _ (t : Table) (w : World Value) (P : Rule)
       (λ vs fit. made_of reach s k (with_of i places) vs (with_of_leads reach.types reach.choice s i h.0 h.1 places h.2 vs h.3 h.4 h.6 fit))
   kind_goes reach same s place k (K.Part suffixes) (a ∷ cs) h =
       then_goes reach w (F reach w h.0) (F reach w s) (checked t w a) (checked_suffixes suffixes (runs cs)) (sound reach same h.0 a h.1)
-      (λ v fit. part_goes reach same s suffixes cs h.0 v h.2 fit)
-  kind_goes reach same s place k K.WithItem (a ∷ b ∷ c ∷ []) h =
+      (λ v fit. suffixes_go reach same s suffixes cs h.0 v h.2 fit)
+  kind_goes reach same s place k K.WithItem (a ∷ b ∷ c ∷ []) (inl e) = never_goes reach same s a _ e
+  kind_goes reach same s place k K.WithItem (a ∷ b ∷ c ∷ []) (inr h) =
       then_goes reach w (F reach w s) (F reach w s) (checked t w a) _ (sound reach same s a h.0)
       (λ v fv. then_goes reach w (F reach w V.Int) (F reach w s) (checked t w b) _ (sound reach same V.Int b h.1)
       (λ i fi. integer_then reach w (F reach w s) i _ fi
@@ -308,7 +310,8 @@ module _ (t : Table) (w : World Value) (P : Rule)
       (if_met (λ new. index_met (out-Value i) (out-Value v)) (checked t w c)) _
       (part_met reach w h.2.0 (λ new. index_met (out-Value i) (out-Value v)) (checked t w c) (sound reach same h.2.0 c h.2.2))
       (λ u fu. put_goes reach s k (item_way z) v (i ∷ []) u (item_takes reach.types reach.choice s h.2.0 i v u z h.2.1 at_z fv fu.0 fu.1)))))
-  kind_goes reach same s place k K.WithSlice (a ∷ b ∷ c ∷ d ∷ []) h =
+  kind_goes reach same s place k K.WithSlice (a ∷ b ∷ c ∷ d ∷ []) (inl e) = never_goes reach same s a _ e
+  kind_goes reach same s place k K.WithSlice (a ∷ b ∷ c ∷ d ∷ []) (inr h) =
       then_goes reach w (F reach w s) (F reach w s) (checked t w a) _ (sound reach same s a h.1)
       (λ v fv. then_goes reach w (F reach w V.Int) (F reach w s) (checked t w b) _ (sound reach same V.Int b h.2)
       (λ x fx. then_goes reach w (F reach w V.Int) (F reach w s) (checked t w c) _ (sound reach same V.Int c h.3)

@@ -7,7 +7,6 @@ use Rattle.sail_types.specs.declared.shapes.Shape.{Shape, out-Shape}
 use Rattle.sail_types.specs.declared.shapes.Shape.TheOpen as S
 use Rattle.sail_types.specs.declared.shapes.Shape.TheVariants as V
 use Rattle.sail_types.specs.declared.table.Field.{Field}
-use Rattle.sail_types.specs.declared.table.Types.{Types}
 use Rattle.sail_types.specs.declared.types.Typ.{Typ}
 use Rattle.sail_types.specs.declared.values.Value.{Value}
 use Rattle.sail_core.specs.declared.patterns.Arm.{Arm}
@@ -45,11 +44,15 @@ EachHas P s (c ∷ cs) = P s c × EachHas P s cs
 abbrev pub IsEmpty : Reach → Shape → Type 0
 IsEmpty reach s = (v : Value) → Fits reach.types reach.choice s v → ⊥
 
--- a value of a shape, and what suffixes take out of it
-abbrev pub SuffixesHave : Types → (Shape → Core → Type 0) → List Suffix → List Core → Shape → Shape → Type 0
-SuffixesHave types P [] [] s t = s ≡ t
-SuffixesHave types P [] (c ∷ cs) s t = ⊥
-SuffixesHave types P (suffix ∷ ss) cs s t = WayLeads types P suffix.way cs s (λ ds u. SuffixesHave types P ss ds u t)
+-- a value of a shape, and what suffixes take out of it; behind a part that no value is nothing is reached
+abbrev pub SuffixesHave : Reach → (Shape → Core → Type 0) → List Suffix → List Core → Shape → Shape → Type 0
+SuffixesHave reach P [] [] s t = (s ≡ t) ⊎ IsEmpty reach s
+SuffixesHave reach P [] (c ∷ cs) s t = IsEmpty reach s
+SuffixesHave reach P (suffix ∷ ss) cs s t = WayLeads reach.types P suffix.way cs s (λ ds u. SuffixesHave reach P ss ds u t)
+
+-- a part that no value is, so that nothing behind it is reached
+abbrev pub NeverGives : Rule → Reach → Core → Type 0
+NeverGives P reach a = (t : Shape) × P reach t a × IsEmpty reach t
 
 -- ---- fields of a struct whose arguments are these shapes
 
@@ -101,7 +104,7 @@ KindHas P w reach s (K.Local name) [] = (l : Local) × (local_of name reach.slot
 KindHas P w reach s (K.Variable name) [] = (l : Local) × (local_of name reach.slots ≡ Some l) × (l.shape ≡ s)
 KindHas P w reach s (K.TopLevel i) [] = (v : Value) × (slice_get w.lets i ≡ Some v) × Fits reach.types reach.choice s v
 KindHas P w reach s (K.Register r) [] = slice_get reach.registers r ≡ Some (put reach.choice s)
-KindHas P w reach s (K.Call callee) args = (ss : List Shape) × AllHave (P reach) ss args × Takes w reach ss s callee
+KindHas P w reach s (K.Call callee) args = (ss : List Shape) × AllHave (P reach) ss args × Takes w reach ss (Some s) callee
 KindHas P w reach s K.And (a ∷ b ∷ []) = (s ≡ V.Bool) × P reach V.Bool a × P reach V.Bool b
 KindHas P w reach s K.Or (a ∷ b ∷ []) = (s ≡ V.Bool) × P reach V.Bool a × P reach V.Bool b
 KindHas P w reach s (K.Cast written) (a ∷ []) = P reach s a
@@ -113,14 +116,15 @@ KindHas P w reach s (K.Struct i places) parts =
     (us : List Shape) × (fs : List Field) × (ss : List Shape) × (out-Shape s ≡ S.Named i us) × (fields reach.types i ≡ Some fs)
     × (length places ≡ length (field_types fs)) × Once places × FieldsAre us fs places ss × AllHave (P reach) ss parts
 KindHas P w reach s (K.With i places) (a ∷ parts) =
-    ((t : Shape) × P reach t a × IsEmpty reach t)
+    NeverGives P reach a
     ⊎ ((us : List Shape) × (fs : List Field) × (ss : List Shape) × (out-Shape s ≡ S.Named i us) × (fields reach.types i ≡ Some fs)
     × P reach s a × FieldsAre us fs places ss × AllHave (P reach) ss parts)
 KindHas P w reach s (K.Part suffixes) (a ∷ indexes) =
-    (t : Shape) × P reach t a × (IsEmpty reach t ⊎ SuffixesHave reach.types (P reach) suffixes indexes t s)
-KindHas P w reach s K.WithItem (a ∷ b ∷ c ∷ []) = P reach s a × P reach V.Int b × ((t : Shape) × ItemHas s t × P reach t c)
+    (t : Shape) × P reach t a × SuffixesHave reach (P reach) suffixes indexes t s
+KindHas P w reach s K.WithItem (a ∷ b ∷ c ∷ []) =
+    NeverGives P reach a ⊎ (P reach s a × P reach V.Int b × ((t : Shape) × ItemHas s t × P reach t c))
 KindHas P w reach s K.WithSlice (a ∷ b ∷ c ∷ d ∷ []) =
-    (out-Shape s ≡ S.Bits) × P reach s a × P reach V.Int b × P reach V.Int c × P reach V.Bits d
+    NeverGives P reach a ⊎ ((out-Shape s ≡ S.Bits) × P reach s a × P reach V.Int b × P reach V.Int c × P reach V.Bits d)
 KindHas P w reach s (K.SizeOf t numbers) [] = (s ≡ V.Int) × (given_in w.numbers t ≡ true)
 KindHas P w reach s (K.Constraint c numbers) [] = (s ≡ V.Bool) × (truth_given w.numbers c ≡ true)
 KindHas P w reach s (K.Assign targets) parts = AssignHas (P reach) w reach s targets parts
