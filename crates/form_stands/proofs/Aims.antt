@@ -240,7 +240,6 @@ tuple_aim_stands here locals place ts stand e =
     tuple_at : (s : Shape) (answer : Option Shape) → GivesUnit answer → fills (V.Tuple all.shapes) s ≡ true
         → AimShaped here locals false s answer (tuple_aimed place all)
     tuple_at s answer gives above registers c w inside slots seen rest =
-        let reach : Reach = reach_of here.setting registers c slots in
         let is = tuple_above all.shapes s above in
         by_targets is.0 (sym (roll-out-Shape s) ∙ ap roll-Shape is.1 ∙ V.rolls-Tuple is.0)
         (each_targeted ts here locals is.0 stand e is.2 registers c w inside slots seen rest)

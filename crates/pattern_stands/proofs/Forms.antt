@@ -1,5 +1,5 @@
 -- Forms of patterns: `_`, literals, names, `as`, types at patterns, tuples, vectors, lists, and `p :: q`.
-use Rattle.std.proofs.Common.{◌≡◌, ℕ, ℤ, pos, ◌-ℤ◌, zero, suc, List, [], ◌∷◌, ◌++◌, length, replicate, ap, sym, ◌∙◌, refl, subst, true, Option, Some}
+use Rattle.std.proofs.Common.{◌≡◌, ℕ, ℤ, pos, ◌-ℤ◌, zero, suc, List, [], ◌∷◌, ◌++◌, length, replicate, ap, sym, refl, subst, true, Option, Some}
 use Rattle.sail_base.specs.declared.place.Place.{Place}
 use Rattle.sail_syntax.specs.declared.name.Literal.{Literal}
 use Rattle.sail_syntax.specs.declared.name.Literal.TheVariants as N
