@@ -241,9 +241,9 @@ one_shaped here locals want place f es called stand e =
     let h = both_empty args.faults (call_found place want f args.known args.cores).faults (ap (λ (x : Found). x.faults) (sym is) ∙ e) in
     let r = solved_shaped es here locals f.params (holes f.variables) stand h.0 in
     let cores = subst (λ ps. AllShaped here locals (map (put (at args.known)) ps) args.cores)
-        (all_firsts es f.params (equal_counts (length f.params) (length es) many)) r.1 in
+    (all_firsts es f.params (equal_counts (length f.params) (length es) many)) r.1 in
     let shaped = call_shaped here locals place want f args.known (map (put (at args.known)) f.params) args.cores called
-        (all_itself (map (put (at args.known)) f.params)) cores h.1 in
+    (all_itself (map (put (at args.known)) f.params)) cores h.1 in
     subst (λ (x : Found). Shaped here locals x.shape x.core) (sym is) shaped
 
 -- ---- several callees

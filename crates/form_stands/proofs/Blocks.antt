@@ -61,7 +61,7 @@ declare_stands here locals place name typ a is one e registers c w inside slots 
     let h = both_empty (typ_faults here.setting typ ++ found.faults) (hole_faults place (is_some typ) found.shape) e in
     let h2 = both_empty (typ_faults here.setting typ) found.faults h.0 in
     let has = cast_shaped here locals l.shape found.core a.place
-        (declared_has here locals typ found is (one (written_shape here.setting typ) h2.1)) in
+    (declared_has here locals typ found is (one (written_shape here.setting typ) h2.1)) in
     (l.shape, has registers c w inside slots seen, rest (l ∷ slots) (seen_behind l slots locals seen))
 
 -- ---- blocks

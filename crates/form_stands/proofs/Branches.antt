@@ -41,7 +41,7 @@ if_shaped here locals place c a b rc ra rb want e =
     let both = given_over next two.shape sb.0 in
     let tested = truth_shaped here locals test (rc V.Bool k.0) in
     let then_has = cast_shaped here locals t one.core a.place
-        (filled here locals one.shape t one.core (fills_twice one.shape next t first.1 both.0) sa.1) in
+    (filled here locals one.shape t one.core (fills_twice one.shape next t first.1 both.0) sa.1) in
     let else_has = cast_shaped here locals t two.core b.place (filled here locals two.shape t two.core both.1 sb.1) in
     ruled here locals t place (K.If t) (test.core ∷ branch one a ∷ branch two b ∷ [])
     (λ registers choice w inside slots seen.

@@ -203,8 +203,13 @@ callee_aim here locals name f es n count s answer called is stand same many e ab
     let args : Solved = solved es here.setting locals f.params (holes f.variables) in
     let known : ℕ → Shape = at args.known in
     let r = solved_shaped es here locals f.params (holes f.variables) stand e in
-    subst (λ y. AimShaped here locals false s answer (record { shape = put known (last_param f.params);
-      target = call_target name.place count None y; parts = args.cores; faults = args.faults; answer = put known f.answer }))
+    subst (λ y. AimShaped here locals false s answer (record {
+      shape = put known (last_param f.params);
+      target = call_target name.place count None y;
+      parts = args.cores;
+      faults = args.faults;
+      answer = put known f.answer;
+    }))
     (ap doing_callee (sym is.0.1))
     (called_shaped here locals name false s answer (put known (last_param f.params)) args.faults (put known f.answer) args.cores
     (map (put known) (firsts es f.params)) count None is.0.0 r.1 (same ∙ sym (firsts_count known es f.params many))
@@ -240,8 +245,13 @@ member_aim here locals name fs es n s answer reader (Some x) called are stand is
     let known : ℕ → Shape = at x.known in
     let calls = (chosen_has IsCallee fs (args.shapes ++ V.Never ∷ []) x (each_called fs are) is).0 in
     let learnt = learnt_all f.params (args.shapes ++ V.Never ∷ []) (holes f.variables) x.known (is_taken fs (args.shapes ++ V.Never ∷ []) x is) in
-    subst (λ y. AimShaped here locals false s answer (record { shape = put known (last_param f.params);
-      target = call_target name.place (length args.cores) (reader_of reader) y; parts = args.cores; faults = args.faults; answer = put known f.answer }))
+    subst (λ y. AimShaped here locals false s answer (record {
+      shape = put known (last_param f.params);
+      target = call_target name.place (length args.cores) (reader_of reader) y;
+      parts = args.cores;
+      faults = args.faults;
+      answer = put known f.answer;
+    }))
     (ap doing_callee (sym calls.1))
     (called_shaped here locals name false s answer (put known (last_param f.params)) args.faults (put known f.answer) args.cores args.shapes
     (length args.cores) (reader_of reader) calls.0 (args_shaped es here locals stand e) (all_shapes here locals es)
@@ -376,12 +386,20 @@ module _ (here : Position) (locals : Locals) (name : Name) (args : List Part) (s
       let a : Aimed = read_with name (length args) None (Some x) (call_aimed name found.faults found (Some x) (Some y)) in
       let reader = (chosen_has IsCallee fs found.shapes x (each_called fs are) reads).0 in
       let writer = (chosen_has IsCallee fs (found.shapes ++ s ∷ []) y (each_called fs are) writes).0 in
-      subst (λ z. AimShaped here locals true s (Some t) (record { shape = s;
-        target = call_target name.place (length found.cores) (option_map caller_of (doing_callee x.candidate.doing)) z; parts = found.cores;
-        faults = a.faults; answer = t })) (ap doing_callee (sym writer.1))
-      (subst (λ z. AimShaped here locals true s (Some t) (record { shape = s;
-        target = call_target name.place (length found.cores) (option_map caller_of z) (Some writer.0); parts = found.cores;
-        faults = a.faults; answer = t })) (ap doing_callee (sym reader.1))
+      subst (λ z. AimShaped here locals true s (Some t) (record {
+        shape = s;
+        target = call_target name.place (length found.cores) (option_map caller_of (doing_callee x.candidate.doing)) z;
+        parts = found.cores;
+        faults = a.faults;
+        answer = t;
+      })) (ap doing_callee (sym writer.1))
+      (subst (λ z. AimShaped here locals true s (Some t) (record {
+        shape = s;
+        target = call_target name.place (length found.cores) (option_map caller_of z) (Some writer.0);
+        parts = found.cores;
+        faults = a.faults;
+        answer = t;
+      })) (ap doing_callee (sym reader.1))
       (called_shaped here locals name true s (Some t) s a.faults t found.cores found.shapes (length found.cores) (Some (caller_of reader.0)) writer.0
       (args_shaped (elaborations args) here locals stand e) (all_shapes here locals (elaborations args))
       (λ registers c w inside slots. (

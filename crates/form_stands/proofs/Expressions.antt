@@ -319,7 +319,7 @@ again (E.Infix place operator a d) b here locals bound r q c u =
     (stands d here locals bound k.1 r p.1 n2.1 h.1)
 again (E.Leave place Leave.Return a) b here locals bound r q c u = λ want e.
     return_stands here locals bound place (found_exp a.0) here.setting.answer r refl (stands a here locals bound b r (loud here
-        (manner_exp a.0) q) c u) want e e
+    (manner_exp a.0) q) c u) want e e
 again (E.Leave place Leave.Throw a) b here locals bound r q c u =
     let h = both_empty (Uses.throw_failures here.names.known.has_exception place) (failed_exp a.0 here.names bound) u in
     let i = r.known.exception (thrown here.names.known.has_exception place h.0) in

@@ -256,7 +256,7 @@ rolled_Exp d h =
     Manner.expression_form Manner.target_form Manner.statement_form Manner.suffix_form Manner.case_form Manner.field_form Manner.index_form
     Manner.range_form Manner.further_form d))
     (subst (λ k. ExpStands (Rules.exp_form (found_Exp d)) (Uses.expression_form (failed_Exp d)) (Trees.expression_form (written_Exp d))
-        (Manner.expression_form (manner_Exp d)) k)
+    (Manner.expression_form (manner_Exp d)) k)
     (sym (numbers_Exp d)) h))))
 
 abbrev pub first_LExp : OverSuch LExp-F → OverTrees LExp-F
@@ -302,12 +302,12 @@ rolled_LExp d h =
     Trees.expression_form Trees.target_form Trees.statement_form Trees.suffix_form Trees.case_form Trees.field_form Trees.index_form
     Trees.range_form Trees.further_form d))
     (subst (λ k. LExpStands (Rules.target_form (found_LExp d)) (Uses.target_form (failed_LExp d)) (Trees.target_form (written_LExp d)) k (in_lexp
-        (roll-LExp d)))
+    (roll-LExp d)))
     (sym (fold-roll-LExp Mannered Mannered Mannered Mannered Mannered Mannered Mannered Mannered Mannered
     Manner.expression_form Manner.target_form Manner.statement_form Manner.suffix_form Manner.case_form Manner.field_form Manner.index_form
     Manner.range_form Manner.further_form d))
     (subst (λ k. LExpStands (Rules.target_form (found_LExp d)) (Uses.target_form (failed_LExp d)) (Trees.target_form (written_LExp d)) (Manner.target_form
-        (manner_LExp d)) k)
+    (manner_LExp d)) k)
     (sym (numbers_LExp d)) h))))
 
 abbrev pub first_Stmt : OverSuch Stmt-F → OverTrees Stmt-F
@@ -353,12 +353,12 @@ rolled_Stmt d h =
     Trees.expression_form Trees.target_form Trees.statement_form Trees.suffix_form Trees.case_form Trees.field_form Trees.index_form
     Trees.range_form Trees.further_form d))
     (subst (λ k. StmtStands (Rules.statement_form (found_Stmt d)) (Uses.statement_form (failed_Stmt d)) (Trees.statement_form (written_Stmt d)) k (in_stmt
-        (roll-Stmt d)))
+    (roll-Stmt d)))
     (sym (fold-roll-Stmt Mannered Mannered Mannered Mannered Mannered Mannered Mannered Mannered Mannered
     Manner.expression_form Manner.target_form Manner.statement_form Manner.suffix_form Manner.case_form Manner.field_form Manner.index_form
     Manner.range_form Manner.further_form d))
     (subst (λ k. StmtStands (Rules.statement_form (found_Stmt d)) (Uses.statement_form (failed_Stmt d)) (Trees.statement_form (written_Stmt d))
-        (Manner.statement_form (manner_Stmt d)) k)
+    (Manner.statement_form (manner_Stmt d)) k)
     (sym (numbers_Stmt d)) h))))
 
 abbrev pub first_Suffix : OverSuch Suffix-F → OverTrees Suffix-F
@@ -397,22 +397,22 @@ rolled_Suffix d h =
     Rules.exp_form Rules.target_form Rules.statement_form Rules.suffix_form Rules.case_form Rules.field_form Rules.index_form Rules.range_form
     Rules.further_form d))
     (subst (λ k. SuffixTreeStands (Rules.suffix_form (found_Suffix d)) k (written_suffix (roll-Suffix d)) (manner_suffix (roll-Suffix d)) (in_suffix
-        (roll-Suffix d)))
+    (roll-Suffix d)))
     (sym (fold-roll-Suffix Failures Failures Uses.Statement Failures Failures Uses.Field Failures Failures Failures
     Uses.expression_form Uses.target_form Uses.statement_form Uses.suffix_form Uses.case_form Uses.field_form Uses.index_form Uses.range_form
     Uses.further_form d))
     (subst (λ k. SuffixTreeStands (Rules.suffix_form (found_Suffix d)) (Uses.suffix_form (failed_Suffix d)) k (manner_suffix (roll-Suffix d)) (in_suffix
-        (roll-Suffix d)))
+    (roll-Suffix d)))
     (sym (fold-roll-Suffix Bool Bool Bool Bool Bool Bool Bool Bool Bool
     Trees.expression_form Trees.target_form Trees.statement_form Trees.suffix_form Trees.case_form Trees.field_form Trees.index_form
     Trees.range_form Trees.further_form d))
     (subst (λ k. SuffixTreeStands (Rules.suffix_form (found_Suffix d)) (Uses.suffix_form (failed_Suffix d)) (Trees.suffix_form (written_Suffix d)) k
-        (in_suffix (roll-Suffix d)))
+    (in_suffix (roll-Suffix d)))
     (sym (fold-roll-Suffix Mannered Mannered Mannered Mannered Mannered Mannered Mannered Mannered Mannered
     Manner.expression_form Manner.target_form Manner.statement_form Manner.suffix_form Manner.case_form Manner.field_form Manner.index_form
     Manner.range_form Manner.further_form d))
     (subst (λ k. SuffixTreeStands (Rules.suffix_form (found_Suffix d)) (Uses.suffix_form (failed_Suffix d)) (Trees.suffix_form (written_Suffix d))
-        (Manner.suffix_form (manner_Suffix d)) k)
+    (Manner.suffix_form (manner_Suffix d)) k)
     (sym (numbers_Suffix d)) h))))
 
 abbrev pub first_Case : OverSuch Case-F → OverTrees Case-F
@@ -462,7 +462,7 @@ rolled_Case d h =
     Manner.expression_form Manner.target_form Manner.statement_form Manner.suffix_form Manner.case_form Manner.field_form Manner.index_form
     Manner.range_form Manner.further_form d))
     (subst (λ k. CaseTreeStands (Rules.case_form (found_Case d)) (Uses.case_form (failed_Case d)) (Trees.case_form (written_Case d)) (Manner.case_form
-        (manner_Case d)) k)
+    (manner_Case d)) k)
     (sym (numbers_Case d)) h))))
 
 abbrev pub first_FieldValue : OverSuch FieldValue-F → OverTrees FieldValue-F
@@ -497,27 +497,27 @@ pub rolled_FieldValue : (d : OverTrees FieldValue-F) → FieldValueForm d
     (in_field (roll-FieldValue d))
 rolled_FieldValue d h =
     subst (λ k. FieldStands k (failed_field (roll-FieldValue d)) (written_field (roll-FieldValue d)) (manner_field (roll-FieldValue d)) (in_field
-        (roll-FieldValue d)))
+    (roll-FieldValue d)))
     (sym (fold-roll-FieldValue Part TargetPart StatementPart SuffixPart CasePart FieldPart IndexPart RangePart FurtherPart
     Rules.exp_form Rules.target_form Rules.statement_form Rules.suffix_form Rules.case_form Rules.field_form Rules.index_form Rules.range_form
     Rules.further_form d))
     (subst (λ k. FieldStands (Rules.field_form (found_FieldValue d)) k (written_field (roll-FieldValue d)) (manner_field (roll-FieldValue d)) (in_field
-        (roll-FieldValue d)))
+    (roll-FieldValue d)))
     (sym (fold-roll-FieldValue Failures Failures Uses.Statement Failures Failures Uses.Field Failures Failures Failures
     Uses.expression_form Uses.target_form Uses.statement_form Uses.suffix_form Uses.case_form Uses.field_form Uses.index_form Uses.range_form
     Uses.further_form d))
     (subst (λ k. FieldStands (Rules.field_form (found_FieldValue d)) (Uses.field_form (failed_FieldValue d)) k (manner_field (roll-FieldValue d)) (in_field
-        (roll-FieldValue d)))
+    (roll-FieldValue d)))
     (sym (fold-roll-FieldValue Bool Bool Bool Bool Bool Bool Bool Bool Bool
     Trees.expression_form Trees.target_form Trees.statement_form Trees.suffix_form Trees.case_form Trees.field_form Trees.index_form
     Trees.range_form Trees.further_form d))
     (subst (λ k. FieldStands (Rules.field_form (found_FieldValue d)) (Uses.field_form (failed_FieldValue d)) (Trees.field_form (written_FieldValue d)) k
-        (in_field (roll-FieldValue d)))
+    (in_field (roll-FieldValue d)))
     (sym (fold-roll-FieldValue Mannered Mannered Mannered Mannered Mannered Mannered Mannered Mannered Mannered
     Manner.expression_form Manner.target_form Manner.statement_form Manner.suffix_form Manner.case_form Manner.field_form Manner.index_form
     Manner.range_form Manner.further_form d))
     (subst (λ k. FieldStands (Rules.field_form (found_FieldValue d)) (Uses.field_form (failed_FieldValue d)) (Trees.field_form (written_FieldValue d))
-        (Manner.field_form (manner_FieldValue d)) k)
+    (Manner.field_form (manner_FieldValue d)) k)
     (sym (numbers_FieldValue d)) h))))
 
 abbrev pub first_Index : OverSuch Index-F → OverTrees Index-F
@@ -560,17 +560,17 @@ rolled_Index d h =
     Uses.expression_form Uses.target_form Uses.statement_form Uses.suffix_form Uses.case_form Uses.field_form Uses.index_form Uses.range_form
     Uses.further_form d))
     (subst (λ k. IndexTreeStands (Rules.index_form (found_Index d)) (Uses.index_form (failed_Index d)) k (manner_index (roll-Index d)) (in_index
-        (roll-Index d)))
+    (roll-Index d)))
     (sym (fold-roll-Index Bool Bool Bool Bool Bool Bool Bool Bool Bool
     Trees.expression_form Trees.target_form Trees.statement_form Trees.suffix_form Trees.case_form Trees.field_form Trees.index_form
     Trees.range_form Trees.further_form d))
     (subst (λ k. IndexTreeStands (Rules.index_form (found_Index d)) (Uses.index_form (failed_Index d)) (Trees.index_form (written_Index d)) k (in_index
-        (roll-Index d)))
+    (roll-Index d)))
     (sym (fold-roll-Index Mannered Mannered Mannered Mannered Mannered Mannered Mannered Mannered Mannered
     Manner.expression_form Manner.target_form Manner.statement_form Manner.suffix_form Manner.case_form Manner.field_form Manner.index_form
     Manner.range_form Manner.further_form d))
     (subst (λ k. IndexTreeStands (Rules.index_form (found_Index d)) (Uses.index_form (failed_Index d)) (Trees.index_form (written_Index d)) (Manner.index_form
-        (manner_Index d)) k)
+    (manner_Index d)) k)
     (sym (numbers_Index d)) h))))
 
 abbrev pub first_Range : OverSuch Range-F → OverTrees Range-F
@@ -613,17 +613,17 @@ rolled_Range d h =
     Uses.expression_form Uses.target_form Uses.statement_form Uses.suffix_form Uses.case_form Uses.field_form Uses.index_form Uses.range_form
     Uses.further_form d))
     (subst (λ k. RangeTreeStands (Rules.range_form (found_Range d)) (Uses.range_form (failed_Range d)) k (manner_range (roll-Range d)) (in_range
-        (roll-Range d)))
+    (roll-Range d)))
     (sym (fold-roll-Range Bool Bool Bool Bool Bool Bool Bool Bool Bool
     Trees.expression_form Trees.target_form Trees.statement_form Trees.suffix_form Trees.case_form Trees.field_form Trees.index_form
     Trees.range_form Trees.further_form d))
     (subst (λ k. RangeTreeStands (Rules.range_form (found_Range d)) (Uses.range_form (failed_Range d)) (Trees.range_form (written_Range d)) k (in_range
-        (roll-Range d)))
+    (roll-Range d)))
     (sym (fold-roll-Range Mannered Mannered Mannered Mannered Mannered Mannered Mannered Mannered Mannered
     Manner.expression_form Manner.target_form Manner.statement_form Manner.suffix_form Manner.case_form Manner.field_form Manner.index_form
     Manner.range_form Manner.further_form d))
     (subst (λ k. RangeTreeStands (Rules.range_form (found_Range d)) (Uses.range_form (failed_Range d)) (Trees.range_form (written_Range d)) (Manner.range_form
-        (manner_Range d)) k)
+    (manner_Range d)) k)
     (sym (numbers_Range d)) h))))
 
 abbrev pub first_Target : OverSuch Target-F → OverTrees Target-F
@@ -658,25 +658,25 @@ pub rolled_Target : (d : OverTrees Target-F) → TargetForm d
     (in_target (roll-Target d))
 rolled_Target d h =
     subst (λ k. FurtherTreeStands k (failed_target (roll-Target d)) (written_target (roll-Target d)) (manner_target (roll-Target d)) (in_target
-        (roll-Target d)))
+    (roll-Target d)))
     (sym (fold-roll-Target Part TargetPart StatementPart SuffixPart CasePart FieldPart IndexPart RangePart FurtherPart
     Rules.exp_form Rules.target_form Rules.statement_form Rules.suffix_form Rules.case_form Rules.field_form Rules.index_form Rules.range_form
     Rules.further_form d))
     (subst (λ k. FurtherTreeStands (Rules.further_form (found_Target d)) k (written_target (roll-Target d)) (manner_target (roll-Target d)) (in_target
-        (roll-Target d)))
+    (roll-Target d)))
     (sym (fold-roll-Target Failures Failures Uses.Statement Failures Failures Uses.Field Failures Failures Failures
     Uses.expression_form Uses.target_form Uses.statement_form Uses.suffix_form Uses.case_form Uses.field_form Uses.index_form Uses.range_form
     Uses.further_form d))
     (subst (λ k. FurtherTreeStands (Rules.further_form (found_Target d)) (Uses.further_form (failed_Target d)) k (manner_target (roll-Target d)) (in_target
-        (roll-Target d)))
+    (roll-Target d)))
     (sym (fold-roll-Target Bool Bool Bool Bool Bool Bool Bool Bool Bool
     Trees.expression_form Trees.target_form Trees.statement_form Trees.suffix_form Trees.case_form Trees.field_form Trees.index_form
     Trees.range_form Trees.further_form d))
     (subst (λ k. FurtherTreeStands (Rules.further_form (found_Target d)) (Uses.further_form (failed_Target d)) (Trees.further_form (written_Target d)) k
-        (in_target (roll-Target d)))
+    (in_target (roll-Target d)))
     (sym (fold-roll-Target Mannered Mannered Mannered Mannered Mannered Mannered Mannered Mannered Mannered
     Manner.expression_form Manner.target_form Manner.statement_form Manner.suffix_form Manner.case_form Manner.field_form Manner.index_form
     Manner.range_form Manner.further_form d))
     (subst (λ k. FurtherTreeStands (Rules.further_form (found_Target d)) (Uses.further_form (failed_Target d)) (Trees.further_form (written_Target d))
-        (Manner.further_form (manner_Target d)) k)
+    (Manner.further_form (manner_Target d)) k)
     (sym (numbers_Target d)) h))))

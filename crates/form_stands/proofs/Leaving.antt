@@ -35,7 +35,7 @@ throw_shaped here locals place a i is one want e =
     let found : Found = a.elaborate here.setting locals s in
     let h = both_empty found.faults _ e in
     let has = cast_shaped here locals s found.core a.place
-        (has_wanted here locals s s found (λ above. exact s found.shape 0 above (ap (below 0) named ∙ named_below 0 i)) (one s h.0)) in
+    (has_wanted here locals s s found (λ above. exact s found.shape 0 above (ap (below 0) named ∙ named_below 0 i)) (one s h.0)) in
     settled_node here locals place place want V.Never (λ t. K.Throw) (cast found.core a.place ∷ []) h.1
     (λ t registers c w inside slots seen. (s, ap (put c) named ∙ named_put i c ∙ sym named, has registers c w inside slots seen))
 
@@ -49,6 +49,6 @@ return_shaped here locals place a s n is whole one want =
         let found : Found = a.elaborate here.setting locals s in
         let h = both_empty found.faults _ e in
         let has = cast_shaped here locals s found.core a.place
-            (has_wanted here locals s s found (λ above. exact s found.shape n above whole) (one s h.0)) in
+        (has_wanted here locals s s found (λ above. exact s found.shape n above whole) (one s h.0)) in
         settled_node here locals place place want V.Never (λ t. K.Return) (cast found.core a.place ∷ []) h.1
         (λ t registers c w inside slots seen. (s, is, has registers c w inside slots seen))

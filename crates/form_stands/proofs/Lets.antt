@@ -85,7 +85,7 @@ var_shaped here locals place name typ a body is first rest want e =
     let h2 = both_empty (typ_faults here.setting typ ++ found.faults) (hole_faults place (is_some typ) found.shape) h.0 in
     let h3 = both_empty (typ_faults here.setting typ) found.faults h2.0 in
     let has = cast_shaped here locals d.local.shape found.core a.place
-        (declared_has here locals typ found is (first (written_shape here.setting typ) h3.1)) in
+    (declared_has here locals typ found is (first (written_shape here.setting typ) h3.1)) in
     let behind = (rest h.0 want h.1).1 in
     ruled here locals inner.shape place (K.Var name.text d.typ) (cast found.core a.place ∷ inner.core ∷ [])
     (λ registers c w inside slots seen. (

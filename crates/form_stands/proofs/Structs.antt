@@ -140,9 +140,11 @@ fields_have : (here : Position) (locals : Locals) (known : Option (List TypeFiel
     (solved (values_of fs) here.setting locals named.shapes us).cores
 fields_have here locals known fs named us placed stand e =
     let args : Solved = solved (values_of fs) here.setting locals named.shapes us in
-    let r = solved_shaped (values_of fs) here locals named.shapes us (values_stand here locals fs stand) e in
-    (r.0, subst (λ ps. AllShaped here locals (map (put (at args.known)) ps) args.cores)
-    (all_firsts (values_of fs) named.shapes (placed_count known fs named.places named.shapes placed)) r.1)
+    let r = solved_shaped (values_of fs) here locals named.shapes us (values_stand here locals fs stand) e in (
+      r.0,
+      subst (λ ps. AllShaped here locals (map (put (at args.known)) ps) args.cores)
+          (all_firsts (values_of fs) named.shapes (placed_count known fs named.places named.shapes placed)) r.1,
+    )
 
 out_named : (i : ℕ) (us : List Shape) → out-Shape (V.Named i us) ≡ S.Named i us
 out_named i us = ap out-Shape (sym (V.rolls-Named i us)) ∙ out-roll-Shape (S.Named i us)

@@ -114,7 +114,7 @@ update_shaped here locals place base index value stand is put want e =
         let item : Shape = given_on t (new None (S.Vector t)).shape in
         let given = given_over t (new None (S.Vector t)).shape r.0 in
         let above = subst (λ s. fills s (V.Vector item) ≡ true) (sym (is_rolled a.shape (S.Vector t) (V.Vector t) same (V.rolls-Vector t)))
-            (vector_fills t item given.0) in
+        (vector_fills t item given.0) in
         let whole = filled here locals a.shape (V.Vector item) a.core above has in
         let part = filled here locals (new None (S.Vector t)).shape item (new None (S.Vector t)).core given.1 r.1 in
         λ registers c w inside slots seen. inr (

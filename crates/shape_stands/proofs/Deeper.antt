@@ -97,7 +97,7 @@ suffixes_more reach P Q f (suffix ∷ ss) cs s t h =
 abbrev pub TargetFollows : Targeted → Targeted → Type 0
 TargetFollows Q R =
     (is_base : Bool) (s : Shape) (answer : Option Shape) (target : Target) (cs rest : List Core) → Q is_base s answer target cs rest
-        → R is_base s answer target cs rest
+    → R is_base s answer target cs rest
 
 pub targets_more : (Q R : Targeted) → TargetFollows Q R → (ss : List Shape) (targets : List Target) (cs rest : List Core) → EachTargeted Q ss targets cs rest
     → EachTargeted R ss targets cs rest

@@ -97,7 +97,7 @@ module _ (w : World Value) where
   way_together types reach Y.Slice (a ∷ b ∷ cs) s M N g f h =
       let x = together (λ n. At n reach V.Int b) (λ n. N n cs V.Bits) (grows reach V.Int b) (g cs V.Bits) h.1 (f cs V.Bits h.3) in
       let y = together (λ n. At n reach V.Int a) (λ n. At n reach V.Int b × N n cs V.Bits) (grows reach V.Int a)
-          (λ k n e. (shaped_above k n w reach V.Int b e.0, g cs V.Bits k n e.1)) h.0 x in
+      (λ k n e. (shaped_above k n w reach V.Int b e.0, g cs V.Bits k n e.1)) h.0 x in
       (y.0, (y.1.0, y.1.1.0, h.2, y.1.1.1))
 
   suffixes_together : (reach : Reach) (ss : List Suffix) (cs : List Core) (s t : Shape) → SuffixesHave reach (HasShape w reach) ss cs s t
@@ -132,7 +132,7 @@ module _ (w : World Value) where
   abbrev TargetsTogether : ℕ → Reach → Type 0
   TargetsTogether d reach =
       (is_base : Bool) (s : Shape) (answer : Option Shape) (x : Target) (cs rest : List Core)
-          → TargetHas d (HasShape w reach) w reach is_base s answer x cs rest
+      → TargetHas d (HasShape w reach) w reach is_base s answer x cs rest
       → (n : ℕ) × TargetAt d n reach is_base s answer x cs rest
 
   targets_together : (d : ℕ) (reach : Reach) → TargetsTogether d reach → (ss : List Shape) (xs : List Target) (cs rest : List Core)
@@ -142,10 +142,10 @@ module _ (w : World Value) where
   targets_together d reach f (s ∷ ss) [] cs rest h = absurd h
   targets_together d reach f (s ∷ ss) (x ∷ xs) cs rest h =
       let y = together (λ n. TargetAt d n reach false s None x cs h.0) (λ n. EachTargeted (TargetAt d n reach) ss xs h.0 rest)
-          (target_grows d reach false s None x cs h.0)
-          (λ k n e. targets_more (TargetAt d n reach) (TargetAt d (k + n) reach)
-          (λ b q a z ds more o. target_grows d reach b q a z ds more k n o) ss xs h.0 rest e)
-          (f false s None x cs h.0 h.1) (targets_together d reach f ss xs h.0 rest h.2) in
+      (target_grows d reach false s None x cs h.0)
+      (λ k n e. targets_more (TargetAt d n reach) (TargetAt d (k + n) reach)
+      (λ b q a z ds more o. target_grows d reach b q a z ds more k n o) ss xs h.0 rest e)
+      (f false s None x cs h.0 h.1) (targets_together d reach f ss xs h.0 rest h.2) in
       (y.0, (h.0, y.1.0, y.1.1))
 
   target_kind_together : (d : ℕ) (reach : Reach) → TargetsTogether d reach
@@ -162,9 +162,9 @@ module _ (w : World Value) where
       (x.0, (h.0, h.1, h.2, x.1))
   target_kind_together d reach f (T.Part suffixes) (base ∷ []) is_base s answer cs rest h =
       let x = together (λ n. TargetAt d n reach true h.0 answer base cs h.1) (λ n. SuffixesLead reach.types (At n reach) suffixes h.1 rest h.0 s)
-          (target_grows d reach true h.0 answer base cs h.1)
-          (λ k n e. leads_more reach.types (At n reach) (At (k + n) reach) (λ q c z. shaped_above k n w reach q c z) suffixes h.1 rest h.0 s e)
-          (f true h.0 answer base cs h.1 h.2) (leads_together reach.types reach suffixes h.1 rest h.0 s h.3) in
+      (target_grows d reach true h.0 answer base cs h.1)
+      (λ k n e. leads_more reach.types (At n reach) (At (k + n) reach) (λ q c z. shaped_above k n w reach q c z) suffixes h.1 rest h.0 s e)
+      (f true h.0 answer base cs h.1 h.2) (leads_together reach.types reach suffixes h.1 rest h.0 s h.3) in
       (x.0, (h.0, h.1, x.1.0, x.1.1))
   target_kind_together d reach f kind xs is_base s answer cs rest h = absurd h
 
@@ -180,9 +180,9 @@ module _ (w : World Value) where
   assign_together reach s [] (c ∷ d ∷ cs) h = absurd h
   assign_together reach s (x ∷ xs) cs h =
       let y = together (λ n. TargetAt h.0 n reach false h.1 (Some s) x cs h.3) (λ n. AssignHas (At n reach) w reach h.2 xs h.3)
-          (target_grows h.0 reach false h.1 (Some s) x cs h.3)
-          (λ k n e. assign_more (At n reach) (At (k + n) reach) (λ q c z. shaped_above k n w reach q c z) w reach h.2 xs h.3 e)
-          (target_together h.0 reach false h.1 (Some s) x cs h.3 h.4) (assign_together reach h.2 xs h.3 h.6) in
+      (target_grows h.0 reach false h.1 (Some s) x cs h.3)
+      (λ k n e. assign_more (At n reach) (At (k + n) reach) (λ q c z. shaped_above k n w reach q c z) w reach h.2 xs h.3 e)
+      (target_together h.0 reach false h.1 (Some s) x cs h.3 h.4) (assign_together reach h.2 xs h.3 h.6) in
       (y.0, (h.0, h.1, h.2, h.3, y.1.0, h.5, y.1.1))
 
   -- ---- arms, statements and kinds
@@ -197,7 +197,7 @@ module _ (w : World Value) where
   arms_together reach ss s (arm ∷ arms) [] h = absurd h
   arms_together reach ss s (arm ∷ arms) (c ∷ cs) h =
       let x = together (λ n. At n (under reach h.0.1) s c) (λ n. ArmsHave (At n) w reach ss s arms cs) (grows (under reach h.0.1) s c)
-          (arms_grow reach ss s arms cs) h.0.3 (arms_together reach ss s arms cs h.1) in
+      (arms_grow reach ss s arms cs) h.0.3 (arms_together reach ss s arms cs h.1) in
       (x.0, ((h.0.0, h.0.1, h.0.2, x.1.0), x.1.1))
 
   block_grows : (reach : Reach) (s : Shape) (ss : List Statement) (cs : List Core) → Grows (λ n. BlockHas (At n) w reach s ss cs)
@@ -213,16 +213,16 @@ module _ (w : World Value) where
   block_together reach s (S.Declare name written ∷ ss) [] h = absurd h
   block_together reach s (S.Evaluate ∷ ss) (c ∷ cs) h =
       let x = together (λ n. At n reach h.0.0 c) (λ n. BlockHas (At n) w reach s ss cs) (grows reach h.0.0 c) (block_grows reach s ss cs) h.0.1
-          (block_together reach s ss cs h.1) in
+      (block_together reach s ss cs h.1) in
       (x.0, ((h.0.0, x.1.0), x.1.1))
   block_together reach s (S.Define place arm ∷ ss) (c ∷ cs) h =
       let x = together (λ n. At n reach h.0 c) (λ n. BlockHas (At n) w (under reach h.2) s ss cs) (grows reach h.0 c)
-          (block_grows (under reach h.2) s ss cs) h.3 (block_together (under reach h.2) s ss cs h.5) in
+      (block_grows (under reach h.2) s ss cs) h.3 (block_together (under reach h.2) s ss cs h.5) in
       (x.0, (h.0, h.1, h.2, x.1.0, h.4, x.1.1))
   block_together reach s (S.Declare name written ∷ ss) (c ∷ cs) h =
       let inner = under reach (variable name h.0 ∷ []) in
       let x = together (λ n. At n reach h.0 c) (λ n. BlockHas (At n) w inner s ss cs) (grows reach h.0 c) (block_grows inner s ss cs) h.1
-          (block_together inner s ss cs h.2) in
+      (block_together inner s ss cs h.2) in
       (x.0, (h.0, x.1.0, x.1.1))
 
   part_together : (reach : Reach) (q s : Shape) (suffixes : List Suffix) (a : Core) (cs : List Core) → HasShape w reach q a
@@ -267,7 +267,7 @@ module _ (w : World Value) where
   kind_together reach s (K.With i places) (a ∷ cs) (inl e) = (e.1.0, inl (e.0, e.1.1, e.2))
   kind_together reach s (K.With i places) (a ∷ cs) (inr h) =
       let x = together (λ n. At n reach s a) (λ n. AllHave (At n reach) h.2 cs) (grows reach s a) (all_grow reach h.2 cs) h.5
-          (all_together reach h.2 cs h.7) in
+      (all_together reach h.2 cs h.7) in
       (x.0, inr (h.0, h.1, h.2, h.3, h.4, x.1.0, h.6, x.1.1))
   kind_together reach s (K.Part suffixes) (a ∷ cs) h =
       let x = part_together reach h.0 s suffixes a cs h.1 h.2 in
@@ -298,11 +298,11 @@ module _ (w : World Value) where
       (x.0, (x.1.0, x.1.1.0, x.1.1.1))
   kind_together reach s (K.Match arms of) (a ∷ cs) h =
       let x = together (λ n. At n reach h.0 a) (λ n. ArmsHave (At n) w reach (h.0 ∷ []) s arms cs) (grows reach h.0 a)
-          (arms_grow reach (h.0 ∷ []) s arms cs) h.1 (arms_together reach (h.0 ∷ []) s arms cs h.2) in
+      (arms_grow reach (h.0 ∷ []) s arms cs) h.1 (arms_together reach (h.0 ∷ []) s arms cs h.2) in
       (x.0, (h.0, x.1.0, x.1.1))
   kind_together reach s (K.Try arms of) (a ∷ cs) h =
       let x = together (λ n. At n reach s a) (λ n. ArmsHave (At n) w reach (h.0 ∷ []) s arms cs) (grows reach s a)
-          (arms_grow reach (h.0 ∷ []) s arms cs) h.2 (arms_together reach (h.0 ∷ []) s arms cs h.3) in
+      (arms_grow reach (h.0 ∷ []) s arms cs) h.2 (arms_together reach (h.0 ∷ []) s arms cs h.3) in
       (x.0, (h.0, h.1, x.1.0, x.1.1))
   kind_together reach s (K.Clauses arms) cs h =
       let x = arms_together reach h.0 s arms cs h.2 in
