@@ -68,7 +68,7 @@ pub(crate) fn call_named<
 
 /// A call of one callee. The one error is want of memory.
 #[tactic(auto, using(shape_rules::proofs::Firsts::first_failure_append))]
-fn callee_called<
+pub(crate) fn callee_called<
     F: Fn(Global, &Pat, &Around<'_>, &Locals, &Shape, &mut First) -> Result<Made, AllocError>,
 >(
     walker: &Walker<'_, F>,
@@ -97,7 +97,7 @@ fn callee_called<
 
 /// A call of a builtin by its name. The one error is want of memory.
 #[tactic(auto, using(crate::proofs::Called::row_several, shape_rules::proofs::Firsts::first_failure_append))]
-fn row_called<
+pub(crate) fn row_called<
     F: Fn(Global, &Pat, &Around<'_>, &Locals, &Shape, &mut First) -> Result<Made, AllocError>,
 >(
     walker: &Walker<'_, F>,
@@ -135,7 +135,7 @@ fn row_called<
 
 /// Arguments as one value: `()` where there is none, and a tuple where there are several. The one error is want of memory.
 #[tactic(auto, using(shape_rules::proofs::Firsts::first_failure_append))]
-fn one_value<
+pub(crate) fn one_value<
     F: Fn(Global, &Pat, &Around<'_>, &Locals, &Shape, &mut First) -> Result<Made, AllocError>,
 >(
     walker: &Walker<'_, F>,
@@ -163,7 +163,7 @@ fn one_value<
 }
 
 /// Where the value of arguments stands: a written one where it does, else at the call.
-fn value_place(place: Place, parts: &[Pat]) -> Place
+pub(crate) fn value_place(place: Place, parts: &[Pat]) -> Place
     ensures { result ≡ (values.as_one place (map read_side parts.now)).place }
 {
     match parts {
@@ -174,7 +174,7 @@ fn value_place(place: Place, parts: &[Pat]) -> Place
 
 /// One part more of a walk: the value of arguments.
 #[tactic(auto, using(shape_walks::proofs::Taught::one_noted, shape_calls::proofs::Apart::some_noted))]
-fn push_value<
+pub(crate) fn push_value<
     F: Fn(Global, &Pat, &Around<'_>, &Locals, &Shape, &mut First) -> Result<Made, AllocError>,
 >(
     walker: &Walker<'_, F>,
@@ -201,7 +201,7 @@ fn push_value<
 
 /// A call of what takes one value. The one error is want of memory.
 #[tactic(auto, using(crate::proofs::Called::value_is, crate::proofs::Called::value_refused, shape_rules::proofs::Firsts::first_failure_append))]
-fn value_called<
+pub(crate) fn value_called<
     F: Fn(Global, &Pat, &Around<'_>, &Locals, &Shape, &mut First) -> Result<Made, AllocError>,
 >(
     walker: &Walker<'_, F>,
@@ -234,7 +234,7 @@ fn value_called<
 
 /// A call of a mapping, whose direction goes by the side that its value has. The one error is want of memory.
 #[tactic(auto, using(shape_calls::proofs::Apart::noted_apart, shape_calls::proofs::Apart::some_noted, shape_walks::proofs::Formed::mapping_is, shape_rules::proofs::Firsts::first_failure_append))]
-fn mapping_called<
+pub(crate) fn mapping_called<
     F: Fn(Global, &Pat, &Around<'_>, &Locals, &Shape, &mut First) -> Result<Made, AllocError>,
 >(
     walker: &Walker<'_, F>,

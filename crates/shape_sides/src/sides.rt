@@ -126,7 +126,7 @@ pub fn place_of_side(side: &Pat) -> Place
 }
 
 /// `-n`. The one error is want of memory, of which a number past those of 128 bits is taken to want too much.
-fn negative(
+pub(crate) fn negative(
     alloc: Global,
     place: Place,
     n: i128,
@@ -149,7 +149,7 @@ fn negative(
 
 /// One part more of a walk.
 #[tactic(auto, using(shape_walks::proofs::Taught::one_noted, shape_calls::proofs::Apart::some_noted))]
-fn push_one<
+pub(crate) fn push_one<
     F: Fn(Global, &Pat, &Around<'_>, &Locals, &Shape, &mut First) -> Result<Made, AllocError>,
 >(
     walker: &Walker<'_, F>,
@@ -175,7 +175,7 @@ fn push_one<
 
 /// Parts more of a walk.
 #[tactic(auto, using(shape_rules::proofs::Firsts::first_failure_append))]
-fn push_all<
+pub(crate) fn push_all<
     F: Fn(Global, &Pat, &Around<'_>, &Locals, &Shape, &mut First) -> Result<Made, AllocError>,
 >(
     walker: &Walker<'_, F>,
@@ -318,7 +318,7 @@ pub(crate) fn joined<
 /// An operator between a part and a concatenation of at least two parts.
 #[cycle(joined)]
 #[tactic(auto, using(shape_walks::proofs::Infixes::infix_walked, shape_rules::proofs::Firsts::first_failure_append))]
-fn infix_joined<
+pub(crate) fn infix_joined<
     F: Fn(Global, &Pat, &Around<'_>, &Locals, &Shape, &mut First) -> Result<Made, AllocError>,
 >(
     walker: &Walker<'_, F>,
@@ -359,7 +359,7 @@ fn infix_joined<
 /// One part more of a walk: a concatenation of at least two parts.
 #[cycle(joined)]
 #[tactic(auto, using(shape_walks::proofs::Taught::one_noted, shape_calls::proofs::Apart::some_noted))]
-fn push_joined<
+pub(crate) fn push_joined<
     F: Fn(Global, &Pat, &Around<'_>, &Locals, &Shape, &mut First) -> Result<Made, AllocError>,
 >(
     walker: &Walker<'_, F>,
