@@ -14,6 +14,7 @@ use Rattle.sail_grammar.proofs.Steps.{stops_row}
 use Rattle.sail_parse_tp.proofs.Choices.{go_left, go_right, go_past, stop_left, stop_right, stop_past}
 use Rattle.sail_parse_forms.specs.declared.grammar.Part.{Part}
 use Rattle.sail_parse_forms.specs.Parses.{row_of, tree_of}
+use Rattle.sail_parse_forms.proofs.FormRows.{control_symbols}
 
 -- an expression, by its first token
 pub exp_let : {m : Mode} {ss rest : List Sign} {z : Exp} → held ss (code K.Let ∷ []) ≡ true → Reading (Row (N.LetIn m)) T.let_of ss z rest →
