@@ -1,0 +1,7 @@
+pub mod Forms
+pub mod Plain
+pub mod Pieces
+pub mod Steps
+pub mod Spots
+pub mod Decided
+pub mod Numbered
