@@ -301,8 +301,10 @@ logical_fine place operator kind a b same one next setting locals want =
     by_left true v =
         settled_fine place want V.Bool _ (λ s. over_fine place kind _ (same _) (one setting locals V.Never, (next setting locals V.Bool, tt)))
     by_left false true = missing_fine _
-    by_left false false = several_fine place (operator_text operator) (operator_members setting operator) (a.elaborate ∷ b.elaborate ∷ []) (one,
-        (next, tt)) setting locals want
+    by_left false false = several_fine place (operator_text operator) (operator_members setting operator) (a.elaborate ∷ b.elaborate ∷ []) (
+      one,
+      (next, tt),
+    ) setting locals want
 
 plain_infix : (place : Place) (operator : Operator) (a b : Part) → logical_kind operator ≡ None → IsFine a.elaborate → IsFine b.elaborate
     → IsFine (infix_found place operator a b)
