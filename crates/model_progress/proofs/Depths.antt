@@ -28,7 +28,7 @@ use Rattle.shape_progress.proofs.Parts.{Measures as MeasureFits, natural_goes, p
 use Rattle.shape_progress.proofs.Runs.{gives_goes, needs_goes, or_goes, then_goes, tick_goes}
 use Rattle.model_progress.specs.Checked.{checked_answered, checked_calls, checked_entered, checked_gone, checked_measured, checked_ways, checked_world}
 use Rattle.model_progress.specs.Shaped.{Around, Common, ModelHas, common_of, params_of, reach_in}
-use Rattle.model_progress.proofs.Frames.{apart_goes, framed_goes}
+use Rattle.model_progress.proofs.Frames.{answer_goes, apart_goes, framed_goes}
 use Rattle.model_progress.proofs.Given.{numbers_told}
 
 module _ (m : CoreModel) (shapes : List Shape) (rank : ℕ → ℕ) (has : ModelHas (common_of m shapes) m rank) (t : Table) (same : t.types ≡ m.types) (hart : ℕ)
@@ -127,14 +127,13 @@ module _ (m : CoreModel) (shapes : List Shape) (rank : ℕ → ℕ) (has : Model
   measured_goes : (calls : Calls Value) → CallsOn calls → EntersOn calls → (active : Measures) (place : Place) (i : ℕ) (f : Function)
       → slice_get m.functions i ≡ Some f → (d : Choice) (vs : List Value) → FitAll m.types d (params_of f.parameters) vs → (nu : Givens)
       → givens_of (length f.variables) f.parameters vs ≡ Some nu → (cycle : Option ℕ) (measure : Option Core) → f.measure ≡ measure
-      → GoesOn (reach_in common (Some (shape f.result)) d []) at (λ (x : Measures). Unit {0})
-      (checked_measured t (called calls active nu vs) place cycle measure active)
+      → GoesOn (reach_in common None d []) at (λ (x : Measures). Unit {0}) (checked_measured t (called calls active nu vs) place cycle measure active)
   measured_goes calls hc he active place i f there d vs fit nu e None measure is =
-      gives_goes (reach_in common (Some (shape f.result)) d []) at (λ (x : Measures). Unit {0}) active tt
+      gives_goes (reach_in common None d []) at (λ (x : Measures). Unit {0}) active tt
   measured_goes calls hc he active place i f there d vs fit nu e (Some cycle) None is =
-      gives_goes (reach_in common (Some (shape f.result)) d []) at (λ (x : Measures). Unit {0}) active tt
+      gives_goes (reach_in common None d []) at (λ (x : Measures). Unit {0}) active tt
   measured_goes calls hc he active place i f there d vs fit nu e (Some cycle) (Some measure) is =
-      let reach : Reach = reach_in common (Some (shape f.result)) d [] in
+      let reach : Reach = reach_in common None d [] in
       let w : World Value = called calls active nu vs in
       let met : Value → Bool = λ v. measure_met (out-Value v) in
       let piece : Run Value Value = checked t w measure or_else stops (MatchFailure place) in
@@ -185,7 +184,9 @@ module _ (m : CoreModel) (shapes : List Shape) (rank : ℕ → ℕ) (has : Model
       checked_answered t (called calls then_active nu us) f)
       (λ nu e. then_goes (reach_in common (Some (shape f.result)) d []) at (λ (ms : Measures). Unit {0}) (Fits m.types d (shape f.result))
       (checked_measured t (called calls active nu vs) place f.cycle f.measure active) (λ then_active. checked_answered t (called calls then_active nu vs) f)
-      (measured_goes calls hc he active place i f there d vs fit nu e f.cycle f.measure refl)
+      (answer_goes common at (Some (shape f.result)) d [] (λ (ms : Measures). Unit {0})
+      (checked_measured t (called calls active nu vs) place f.cycle f.measure active)
+      (measured_goes calls hc he active place i f there d vs fit nu e f.cycle f.measure refl))
       (λ then_active u. answered_goes calls hc he then_active i f there d vs fit nu e))))
 
   enters_next : (calls : Calls Value) → CallsOn calls → EntersOn calls → EntersOn

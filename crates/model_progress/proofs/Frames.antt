@@ -69,3 +69,29 @@ module _ (common : Common) (w : World Value) (answer : Option Shape) (c : Choice
   apart_goes d P body h now ready =
       leaving_goes d P now (body (record now { locals = []; opened = λ i. None })) ready
       (h (record now { locals = []; opened = λ i. None }) (inside_ready None d now ready))
+
+  -- what returns nothing, where something may be returned
+  none_ready : (now : Now Value) → Ready outer w.hart now → Ready (reach_in common None c slots) w.hart now
+  none_ready now ready = record {
+    good = record { locals = ready.good.locals; state = ready.good.state };
+    here = ready.here;
+    there = ready.there;
+  }
+
+  some_ready : (now : Now Value) → Ready (reach_in common None c slots) w.hart now → Ready outer w.hart now
+  some_ready now ready = record {
+    good = record { locals = ready.good.locals; state = ready.good.state };
+    here = ready.here;
+    there = ready.there;
+  }
+
+  answers_goes : {A : Type 0} (P : A → Type 0) (e : Ended Value A) → Goes (reach_in common None c slots) w P e → Goes outer w P e
+  answers_goes P (R.Gives x after) h = (h.0, some_ready after h.1)
+  answers_goes P (R.No after) h = some_ready after h
+  answers_goes P (R.Returns v after) h = absurd h.0
+  answers_goes P (R.Throws v after) h = (h.0, some_ready after h.1)
+  answers_goes P (R.Stops cause after) h = tt
+  answers_goes P R.Stuck h = absurd h
+
+  pub answer_goes : {A : Type 0} (P : A → Type 0) (piece : Run Value A) → GoesOn (reach_in common None c slots) w P piece → GoesOn outer w P piece
+  answer_goes P piece h now ready = answers_goes P (piece now) (h now (none_ready now ready))

@@ -1,14 +1,11 @@
 -- Openings go on, one after the other, over values of the shapes of the lets before: each binds values of its shapes, or sets a register to one.
 use Rattle.std.proofs.Common.{◌≡◌, ℕ, zero, suc, List, [], ◌∷◌, ◌++◌, map, ap, sym, ◌∙◌, refl, subst, true, Some, slice_get, slice_set}
 use Rattle.std.proofs.lemmas.Bool.{and_parts}
-use Rattle.sail_types.specs.Shapes.{fits, each_fits, form_fits, put, Asked}
-use Rattle.sail_types.specs.declared.shapes.Shape.{Shape, roll-Shape}
-use Rattle.sail_types.specs.declared.shapes.Shape.TheOpen as Q
+use Rattle.sail_types.specs.Shapes.{fits, each_fits, put}
+use Rattle.sail_types.specs.declared.shapes.Shape.{Shape}
 use Rattle.sail_types.specs.declared.shapes.Shape.TheVariants as V
-use Rattle.sail_types.specs.declared.shapes.Shape.TheViews.{roll-out-Shape}
 use Rattle.sail_types.specs.declared.table.Types.{Types}
-use Rattle.sail_types.specs.declared.values.Value.{Value, Value-F, out-Value}
-use Rattle.sail_types.specs.declared.values.Value.TheFolds.{map-Value}
+use Rattle.sail_types.specs.declared.values.Value.{Value}
 use Rattle.model_state.specs.RunState.{RunState, hart_with_register, values_of}
 use Rattle.model_state.specs.declared.cause.Cause.TheVariants.{MatchFailure}
 use Rattle.model_state.specs.declared.state.Hart.{Hart}
@@ -16,7 +13,7 @@ use Rattle.sail_core.specs.declared.model.Opening.{Opening}
 use Rattle.sail_core.specs.declared.model.OpeningKind.{OpeningKind}
 use Rattle.sail_core.specs.declared.model.OpeningKind.TheVariants as O
 use Rattle.sail_core.specs.Run as R
-use Rattle.sail_core.specs.Run.{Ended, gives, or_so, stops, ◌then◌, ◌or_else◌}
+use Rattle.sail_core.specs.Run.{Ended, gives, stops, ◌then◌, ◌or_else◌}
 use Rattle.sail_core.specs.Making.{World, plainly}
 use Rattle.sail_core.specs.Start as S
 use Rattle.sail_core.specs.Start.{Added, Opened, after_opening, begun, opening_world, set_all}
@@ -25,7 +22,6 @@ use Rattle.shape_joins.proofs.Order.{no, two}
 use Rattle.shape_rules.specs.declared.locals.Local.{Local}
 use Rattle.shape_meanings.specs.Whole.{Choice}
 use Rattle.shape_meanings.specs.Keeping.{Fits, FitAll, Reach, Suits}
-use Rattle.shape_meanings.proofs.Matching.{form_given, leaf_out}
 use Rattle.shape_meanings.proofs.Naming.{closed_is}
 use Rattle.shape_meanings.proofs.Spots.{one_fits, set_get}
 use Rattle.shape_progress.specs.Checks.{Table, checked, checked_arm}
@@ -35,9 +31,8 @@ use Rattle.shape_progress.proofs.Nodes.{cores_go_on}
 use Rattle.shape_progress.proofs.Patterns.{arms_go_on}
 use Rattle.shape_progress.proofs.Runs.{gives_goes, or_goes, then_goes}
 use Rattle.model_progress.specs.Checked.{checked_opening, checked_opening_kind, checked_openings}
-use Rattle.model_progress.specs.Shaped.{Common, IsDecided, OpeningHas, OpeningsHave, common_of, plain_reach}
+use Rattle.model_progress.specs.Shaped.{Common, IsInside, OpeningHas, OpeningsHave, common_of, plain_reach}
 use Rattle.model_progress.specs.Progress.{IsFit, OpeningsGo, OpeningsGoOn}
-use Rattle.model_progress.proofs.Deciding.{decided_on, decided_or}
 
 -- ---- a register of all harts with another value
 
@@ -99,13 +94,13 @@ kind_goes : (common : Common) (t : Table) → t.types ≡ common.types → (befo
 kind_goes common t same before binds o (O.Let arm) h c lets fit =
     let reach : Reach = plain_reach common c in
     let w : World Value = opening_world lets in
-    let k = h.2 c lets fit in
+    let k = h.1 c lets fit in
     then_goes reach w (Fits common.types c h.0) (AddsFit common binds c) (checked t w o.value) (checked_opening_kind w o.place (O.Let arm))
     (cores_go_on k.0.0 t w reach h.0 o.value same k.0.1)
     (λ v fv. then_goes reach w (Suits common.types c binds) (AddsFit common binds c) (checked_arm w arm (v ∷ []) or_else stops (MatchFailure o.place))
     (λ found. gives (record { values = S.values_of plainly found; change = λ state. state }))
     (or_goes reach w (Suits common.types c binds) (checked_arm w arm (v ∷ [])) (stops (MatchFailure o.place))
-    (arms_go_on h.1 reach w (h.0 ∷ []) binds arm k.1 (v ∷ []) (fit_one common.types c h.0 v fv)) (λ now ready. tt))
+    (arms_go_on k.1.0 reach w (h.0 ∷ []) binds arm k.1.1 (v ∷ []) (fit_one common.types c h.0 v fv)) (λ now ready. tt))
     (λ found suits. gives_goes reach w (AddsFit common binds c) (record { values = S.values_of plainly found; change = λ state. state })
     (held_fit common.types c binds found suits, λ state is. is)))
 kind_goes common t same before binds o (O.Register r) h c lets fit =
@@ -118,13 +113,6 @@ kind_goes common t same before binds o (O.Register r) h c lets fit =
       subst (λ bs. FitAll common.types c (map (λ l. l.shape) bs) []) (sym h.0) refl,
       λ state is. set_fit common r v h.1.0 state h.1.1 (subst (λ x. fits common.types v x ≡ true) (closed_is h.1.0 c h.1.2) fv) is,
     ))
-
-kind_decides : (t : Table) (lets : List Value) (o : Opening) (kind : OpeningKind) (v : Value) (now : R.Now Value)
-    → IsDecided (checked_opening_kind (opening_world lets) o.place kind v now)
-kind_decides t lets o (O.Let arm) v now =
-    decided_on (or_so (checked_arm (opening_world lets) arm (v ∷ []) now) (stops (MatchFailure o.place))) _
-    (decided_or (checked_arm (opening_world lets) arm (v ∷ []) now) (stops (MatchFailure o.place)) (λ later. tt)) (λ found later. tt)
-kind_decides t lets o (O.Register r) v now = tt
 
 -- ---- several
 
@@ -144,21 +132,8 @@ both_fit types c (s ∷ ss) qs (v ∷ vs) us h k =
     let p = and_parts (fits types v (put c s)) (each_fits (map (fits types) vs) (map (put c) ss)) h in
     two (fits types v (put c s)) (each_fits (map (fits types) (vs ++ us)) (map (put c) (ss ++ qs))) p.0 (both_fit types c ss qs vs us p.1 k)
 
--- no value is of the shape of what never ends
-never_form : (types : Types) (x : Value-F Value) → form_fits types (map-Value Value Asked (fits types) x) Q.Never ≡ true → ⊥
-never_form types x h = no h
-
-never_put : (c : Choice) → put c V.Never ≡ V.Never
-never_put c = sym (roll-out-Shape (put c V.Never)) ∙ ap roll-Shape (leaf_out c Q.Never V.Never V.rolls-Never refl) ∙ V.rolls-Never
-
-no_never : (types : Types) (v : Value) → fits types v V.Never ≡ true → ⊥
-no_never types v h =
-    never_form types (out-Value v)
-    (form_given types (λ i. V.Never) V.Never Q.Never v (leaf_out (λ i. V.Never) Q.Never V.Never V.rolls-Never refl)
-    (subst (λ x. fits types v x ≡ true) (sym (never_put (λ i. V.Never))) h))
-
 after_goes : (common : Common) (binds : List Local) (before : List Shape) (w : World Value) (e : Ended Value Added) (lets : List Value) (state : RunState)
-    (more : List Value → RunState → Opened) → ((c : Choice) → Goes (plain_reach common c) w (AddsFit common binds c) e) → IsDecided e
+    (more : List Value → RunState → Opened) → ((c : Choice) → Goes (plain_reach common c) w (AddsFit common binds c) e) → IsInside e
     → ((c : Choice) → FitAll common.types c before lets) → IsFit common state
     → ((ls : List Value) (st : RunState) → ((c : Choice) → FitAll common.types c (before ++ map (λ l. l.shape) binds) ls) → IsFit common st
     → OpeningsGo common (more ls st))
@@ -168,7 +143,7 @@ after_goes common binds before w (R.Gives added now) lets state more g d fit is 
     (λ c. both_fit common.types c before (map (λ l. l.shape) binds) lets added.values (fit c) (g c).0.0) ((g (λ i. V.Never)).0.1 state is)
 after_goes common binds before w (R.No now) lets state more g d fit is k = absurd d
 after_goes common binds before w (R.Returns v now) lets state more g d fit is k = absurd (g (λ i. V.Never)).0
-after_goes common binds before w (R.Throws v now) lets state more g d fit is k = absurd (no_never common.types v (g (λ i. V.Never)).0)
+after_goes common binds before w (R.Throws v now) lets state more g d fit is k = absurd d
 after_goes common binds before w (R.Stops cause now) lets state more g d fit is k = tt
 after_goes common binds before w R.Stuck lets state more g d fit is k = absurd (g (λ i. V.Never))
 
@@ -179,8 +154,7 @@ openings_goes common t same [] before h lets state fit is = (λ c. subst (λ ss.
 openings_goes common t same (o ∷ os) before h lets state fit is =
     after_goes common h.0 before (opening_world lets) (checked_opening t lets o (begun 0 state)) lets state (checked_openings t os)
     (λ c. kind_goes common t same before h.0 o o.kind h.1 c lets (fit c) (begun 0 state) (begun_ready common c state))
-    (decided_on (checked t (opening_world lets) o.value (begun 0 state)) (checked_opening_kind (opening_world lets) o.place o.kind)
-    (h.2 lets t (begun 0 state)) (λ v now. kind_decides t lets o o.kind v now)) fit is
+    (h.2 t lets (begun 0 state)) fit is
     (λ ls st fits_all fit_state. openings_goes common t same os (before ++ map (λ l. l.shape) h.0) h.3 ls st fits_all fit_state)
 
 pub openings_go_on : OpeningsGoOn

@@ -25,10 +25,11 @@ use Rattle.shape_rules.specs.declared.locals.Local.{Local}
 use Rattle.shape_rules.specs.Written.{tells_number}
 use Rattle.shape_meanings.specs.Whole.{Choice, closed}
 use Rattle.shape_meanings.specs.Keeping.{Fits, FitAll, Reach}
-use Rattle.shape_progress.specs.Checks.{Table, checked}
+use Rattle.shape_progress.specs.Checks.{Table}
 use Rattle.shape_progress.specs.Going.{GoesOn}
 use Rattle.shape_progress.specs.PatternRules.{ArmBinds}
 use Rattle.shape_progress.specs.Rules.{IsShaped}
+use Rattle.model_progress.specs.Checked.{checked_opening}
 
 -- what is the same everywhere in a model: the named types, and the shapes of registers, of what is thrown, and of what top-level lets bind
 pub record Common : Type 0 where
@@ -88,8 +89,9 @@ HasShape reach w s c = (n : ℕ) × IsShaped n w reach s c
 pub record FunctionHas (common : Common) (m : CoreModel) (rank : ℕ → ℕ) (f : Function) : Type 0 where
   -- each of its Int and Bool variables stands alone in a parameter, or in a part of one that is a tuple: values of the parameters tell its number
   pub numbers : (j : ℕ) → j < length f.variables → list_any (tells_number j) f.parameters ≡ true
+  -- nothing returns from a measure, which is a plain expression
   pub measure : (x : Core) → f.measure ≡ Some x → (w : World Value) → Around common m rank (length m.directions) w → (c : Choice) → IsCalled common f c w
-      → HasShape (reach_in common (Some (shape f.result)) c []) w V.Int x
+      → HasShape (reach_in common None c []) w V.Int x
   pub body : (w : World Value) → Around common m rank (length m.directions) w → (c : Choice) → IsCalled common f c w
       → HasShape (reach_in common (Some (shape f.result)) c []) w (shape f.result) f.body
 
@@ -99,25 +101,31 @@ pub record DirectionHas (common : Common) (m : CoreModel) (rank : ℕ → ℕ) (
   pub body : (w : World Value) → Around common m rank (rank i) w → (c : Choice) (v : Value) → w.arguments ≡ v ∷ []
       → Fits common.types c (shape g.parameter) v → HasShape (reach_in common None c []) w (shape g.result) g.body
 
--- ---- openings, which read no register, call nothing of the model and throw nothing
+-- ---- openings, which read no register and call nothing of the model
 
 abbrev pub plain_reach : Common → Choice → Reach
-plain_reach common c = reach_in (record common { registers = []; thrown = V.Never }) None c []
+plain_reach common c = reach_in (record common { registers = [] }) None c []
 
 -- only guards and clauses say No, so no expression that is evaluated alone does
 abbrev pub IsDecided : {A : Type 0} → Ended Value A → Type 0
 IsDecided (R.No now) = ⊥
 IsDecided e = Unit {0}
 
-abbrev pub Decides : World Value → Core → Type 0
-Decides w c = (t : Table) (now : Now Value) → IsDecided (checked t w c now)
+-- an end that neither says No nor throws
+abbrev pub IsInside : {A : Type 0} → Ended Value A → Type 0
+IsInside (R.No now) = ⊥
+IsInside (R.Throws v now) = ⊥
+IsInside e = Unit {0}
+
+abbrev pub Decides : Opening → Type 0
+Decides o = (t : Table) (lets : List Value) (now : Now Value) → IsInside (checked_opening t lets o now)
 
 -- a let binds names of these shapes; an initial value is of its register's shape, which has no variable
 abbrev pub OpeningHas : Common → List Shape → List Local → Opening → OpeningKind → Type 0
 OpeningHas common before binds o (O.Let arm) =
-    (s : Shape) × (k : ℕ) × ((c : Choice) (lets : List Value) → FitAll common.types c before lets
+    (s : Shape) × ((c : Choice) (lets : List Value) → FitAll common.types c before lets
     → HasShape (plain_reach common c) (opening_world lets) s o.value
-    × ArmBinds k (plain_reach common c) (opening_world lets) (s ∷ []) binds arm)
+    × ((k : ℕ) × ArmBinds k (plain_reach common c) (opening_world lets) (s ∷ []) binds arm))
 OpeningHas common before binds o (O.Register r) =
     (binds ≡ []) × ((s : Shape) × (slice_get common.registers r ≡ Some s) × (closed s ≡ true)
     × ((c : Choice) (lets : List Value) → FitAll common.types c before lets → HasShape (plain_reach common c) (opening_world lets) s o.value))
@@ -126,7 +134,7 @@ OpeningHas common before binds o (O.Register r) =
 abbrev pub OpeningsHave : Common → List Shape → List Opening → Type 0
 OpeningsHave common before [] = before ≡ common.lets
 OpeningsHave common before (o ∷ os) =
-    (binds : List Local) × OpeningHas common before binds o o.kind × ((lets : List Value) → Decides (opening_world lets) o.value)
+    (binds : List Local) × OpeningHas common before binds o o.kind × Decides o
     × OpeningsHave common (before ++ map (λ l. l.shape) binds) os
 
 -- ---- a whole model
