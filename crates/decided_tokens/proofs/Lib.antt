@@ -1,0 +1,3 @@
+pub mod Ranks
+pub mod Ending
+pub mod Decided
