@@ -1,0 +1,7 @@
+//! The expressions of a text that is parsed are as the grammar has them: measures, top-level lets and initial values are plain, and each
+//! `with` has a field.
+#![tactic(auto)]
+
+mod laws;
+
+pub use laws::parsed_texts_have_manners;
