@@ -1,5 +1,5 @@
 -- The rows of blocks and of the values of fields.
-use Rattle.std.proofs.Common.{true, false, [], ◌∷◌, refl}
+use Rattle.std.proofs.Common.{true, false, [], ◌∷◌}
 use Rattle.sail_grammar.specs.declared.mode.Mode.{Mode}
 use Rattle.sail_grammar.specs.declared.mode.Mode.TheVariants.{Full, Limited}
 use Rattle.sail_grammar.specs.Form.{Tree, Leaf}

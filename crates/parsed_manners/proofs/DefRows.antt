@@ -2,7 +2,9 @@
 use Rattle.std.proofs.Common.{refl}
 use Rattle.sail_grammar.specs.Form.{Tree, Leaf}
 use Rattle.sail_grammar.specs.RowName as N
+use Rattle.sail_grammar.specs.Leaves.{name_at, place_at}
 use Rattle.sail_grammar.specs.Table.{rule}
+use Rattle.sail_grammar.specs.TypeTrees.{typ_of}
 use Rattle.shape_joins.proofs.Order.{two}
 use Rattle.parsed_texts.proofs.Trees.{Made, word, empty, left, right, both, row}
 use Rattle.parsed_manners.proofs.Rows.{Fine}
@@ -80,7 +82,8 @@ pub let_row : {t : Tree} → Made Fine (rule N.LetDefinition) t → Fine N.LetDe
 let_row (both (word w) (both (row p) (both (word e) (row a)))) = quiet_fine _ a.exp
 
 pub register_row : {t : Tree} → Made Fine (rule N.RegisterDefinition) t → Fine N.RegisterDefinition t
-register_row (both (word w) (both (word n) (both (word s) (both (row typ) initial)))) = register_fine _ _ _ _ (behind initial)
+register_row (both (word {s = first} w) (both (word {s = called} n) (both (word s) (both (row {t = typ} h) initial)))) =
+    register_fine (place_at (Leaf first)) (name_at (Leaf called)) (typ_of typ) _ (behind initial)
 
 pub overload_row : {t : Tree} → Made Fine (rule N.OverloadDefinition) t → Fine N.OverloadDefinition t
 overload_row (both (word w) (both what (both (word e) (both (word o) (both (row ns) (word c)))))) = refl

@@ -1,5 +1,5 @@
 -- The manners of each of the trees of expressions, and what is asked of one that is read in a mode.
-use Rattle.std.proofs.Common.{◌≡◌, Bool, true, List, [], ◌∷◌, refl, map}
+use Rattle.std.proofs.Common.{◌≡◌, true, List, [], ◌∷◌, refl, map}
 use Rattle.sail_syntax.specs.declared.expressions.Exp.{Exp, Exp-F}
 use Rattle.sail_syntax.specs.declared.expressions.Exp.TheOpen.{LExp-F, Stmt-F, Suffix-F, Case-F, FieldValue-F, Index-F, Range-F, Target-F}
 use Rattle.sail_syntax.specs.declared.expressions.Exp.TheFolds.{fold-LExp, fold-Stmt, fold-Suffix, fold-Case, fold-FieldValue, fold-Index, fold-Range}
@@ -18,7 +18,7 @@ use Rattle.sail_grammar.specs.declared.mode.Mode.TheVariants.{Full, Limited}
 use Rattle.shape_joins.proofs.Order.{no, two}
 use Rattle.shape_meanings.proofs.Folds.{OverTrees}
 use Rattle.shape_stands.specs.Manner as M
-use Rattle.shape_stands.specs.Manner.{Form, Manner, aside, both, every, fields_form, leaf, manner}
+use Rattle.shape_stands.specs.Manner.{Form, Manner, both, every, fields_form, leaf, manner}
 
 -- ---- the manners of trees
 

@@ -28,7 +28,7 @@ use Rattle.shape_joins.proofs.JoinsLeast.{none, some_same}
 use Rattle.shape_joins.proofs.Order.{two}
 use Rattle.shape_meanings.proofs.Folds.{OverTrees}
 use Rattle.shape_stands.specs.Manner as M
-use Rattle.shape_stands.specs.Manner.{Manner, both, every, leaf, manner}
+use Rattle.shape_stands.specs.Manner.{Manner, every, leaf, manner}
 use Rattle.parsed_manners.proofs.Manners.{Suits, manner_Case, manner_Index, manner_Range, manner_Stmt, manner_Suffix, manner_case, manner_field}
 use Rattle.parsed_manners.proofs.Manners.{manner_index, manner_lexp, manner_range, manner_stmt, manner_suffix, manner_target, suits_both, suits_leaf}
 use Rattle.parsed_manners.proofs.ExpForms.{FineExp, FineIf, block_fine, in_brackets_fine}
