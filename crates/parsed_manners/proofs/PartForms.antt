@@ -49,7 +49,8 @@ case_fine mode p (Some e) a f h =
 pub field_fine : (mode : Mode) (name : Name) (a : Exp) → FineExp mode a
     → Suits mode (manner_field (roll-FieldValue (record { name = name; value = a })))
 field_fine mode name a h = subst (Suits mode) (sym (fold-roll-FieldValue Manner Manner Manner Manner Manner Manner Manner Manner Manner
-    M.expression_form M.target_form M.statement_form M.suffix_form M.case_form M.field_form M.index_form M.range_form M.further_form (record { name = name; value = a }))) h.suits
+    M.expression_form M.target_form M.statement_form M.suffix_form M.case_form M.field_form M.index_form M.range_form M.further_form
+    (record { name = name; value = a }))) h.suits
 
 index_form : (mode : Mode) (x : OverTrees E.Index-F) → Suits mode (M.index_form (manner_Index x)) → Suits mode (manner_index (roll-Index x))
 index_form mode x h = subst (Suits mode) (sym (fold-roll-Index Manner Manner Manner Manner Manner Manner Manner Manner Manner
@@ -73,7 +74,8 @@ range_fine a b (Some e) d h k f =
 
 pub further_fine : (place : Place) (l : LExp) → (manner_lexp l).is_full ≡ true → (manner_target (roll-Target (record { place = place; to = l }))).is_full ≡ true
 further_fine place l h = ap (λ (m : Manner). m.is_full) (fold-roll-Target Manner Manner Manner Manner Manner Manner Manner Manner Manner
-    M.expression_form M.target_form M.statement_form M.suffix_form M.case_form M.field_form M.index_form M.range_form M.further_form (record { place = place; to = l })) ∙ h
+    M.expression_form M.target_form M.statement_form M.suffix_form M.case_form M.field_form M.index_form M.range_form M.further_form
+    (record { place = place; to = l })) ∙ h
 
 suffix_form : (mode : Mode) (x : OverTrees E.Suffix-F) (s : Suffix) → roll-Suffix x ≡ s → Suits mode (M.suffix_form (manner_Suffix x))
     → Suits mode (manner_suffix s)
