@@ -1,0 +1,755 @@
+-- What is known of a value of a type holds, form by form.
+use Rattle.std.proofs.Common.{◌≡◌, ℕ, zero, suc, ◌+◌, ◌≤◌, ◌^◌, ℤ, pos, int_le, Bool, true, false, ◌&&◌, List, [], ◌∷◌, map, length, slice_get, nat_eq}
+use Rattle.std.proofs.Common.{Option, Some, None, option_map, refl, sym, ap, ◌∙◌, subst, arith}
+use Rattle.std.specs.Bool.{beq}
+use Rattle.std.specs.List.{list_all}
+use Rattle.std.specs.Ordering.{int_eq}
+use Rattle.std.proofs.lemmas.Bool.{and_parts, leb-true, le-leb}
+use Rattle.std.proofs.lemmas.Bool.Decides.{Decides-int_eq}
+use Rattle.std.proofs.lemmas.List.{length-map}
+use Rattle.std.proofs.lemmas.Option.{slice_get-map}
+use Rattle.value_laws.proofs.Basics.{no, two, fronts}
+use Rattle.sail_types.proofs.SumNumbers.{some_same}
+use Rattle.sail_types.proofs.Substituted.{number_constant}
+use Rattle.sail_types.specs.Belongs.{Reading as Closed, Readings as Closeds, reading, no_readings, more_readings, assigned, under, read_each}
+use Rattle.sail_types.specs.Belongs.{Asked, each_belongs, all_belong, fields_belong, payload_belongs, given_belongs, belongs}
+use Rattle.sail_types.specs.Limits.{largest, is_small, is_width, is_length}
+use Rattle.sail_types.specs.Named.{fields, payload}
+use Rattle.sail_types.specs.Numbers.{Assignment, Positive, number, true_in}
+use Rattle.sail_types.specs.Places.{Given, an_int, a_bool, placed}
+use Rattle.sail_types.specs.Readings.{read_con}
+use Rattle.sail_types.specs.Sums.{constant, read, variable}
+use Rattle.sail_types.specs.declared.numbers.Con.{Con}
+use Rattle.sail_types.specs.declared.numbers.Index.{Index}
+use Rattle.sail_types.specs.declared.numbers.Index.TheVariants as N
+use Rattle.sail_types.specs.declared.numbers.Num.{Num}
+use Rattle.sail_types.specs.declared.table.Types.{Types}
+use Rattle.sail_types.specs.declared.types.Typ.{Typ, Typ-F, roll-Typ}
+use Rattle.sail_types.specs.declared.types.Typ.TheFolds.{para-roll-Typ, map-Typ, ind-Typ}
+use Rattle.sail_types.specs.declared.types.Typ.TheOpen as T
+use Rattle.sail_types.specs.declared.types.Typ.TheVariants as U
+use Rattle.sail_types.specs.declared.values.Value.{Value, Value-F, out-Value, roll-Value}
+use Rattle.sail_types.specs.declared.values.Value.TheFolds.{map-Value}
+use Rattle.sail_types.specs.declared.values.Value.TheOpen as V
+use Rattle.row_types.specs.Formulas.{least, most}
+use Rattle.value_indices.specs.declared.indices.Indices.{Indices, roll-Indices}
+use Rattle.value_indices.specs.declared.indices.Indices.TheFolds.{para-roll-Indices, para-roll-Reading, map-Indices, map-Reading, ind-Reading}
+use Rattle.value_indices.specs.declared.indices.Indices.TheOpen as W
+use Rattle.value_indices.specs.declared.indices.Indices.TheOpen.{Indices-F, Reading-F}
+use Rattle.value_indices.specs.declared.indices.Indices.TheVariants as I
+use Rattle.value_indices.specs.declared.indices.Naming.{Naming}
+use Rattle.value_indices.specs.declared.indices.Naming.TheVariants as M
+use Rattle.value_indices.specs.declared.indices.Reading.{Reading, roll-Reading}
+use Rattle.value_indices.specs.declared.indices.Reading.TheVariants as R
+use Rattle.value_indices.specs.declared.notes.Fact.{Fact}
+use Rattle.value_indices.specs.Steps.{Walk, bind}
+use Rattle.value_indices.specs.Opening.{least_num, largest_num}
+use Rattle.value_indices.specs.Opening.{any_integer, any_truth, bits_of, vector_of}
+use Rattle.value_indices.specs.Opening.{truth_opened, bits_opened, integer_opened, range_opened, vector_opened, named_opened}
+use Rattle.value_indices.specs.Opening.{bound_inside, variable_opened, parts_opened, namings_of, form_opened, typ_opened, widened_opened, reading_opened}
+use Rattle.value_indices.specs.Opening.{opening, wide_opening, with_openings, Opening, Inner as Inside}
+use Rattle.value_laws.specs.Belonging.{Integers, standing, nowhere, closeds, or_no_value, type_variables, number_there, index_there, meant, closed, has}
+use Rattle.value_laws.specs.Belonging.{is_of}
+use Rattle.value_laws.specs.Belonging.{types_or_own, form_holds, each_holds, wides, wide_of, closed_form}
+use Rattle.value_laws.specs.Known.{Point, Agree, Later, Goes}
+use Rattle.value_laws.specs.Laws.{OpeningIsSound}
+use Rattle.value_laws.proofs.Numbers.{above_least, below_most, number_read, truth_read}
+use Rattle.value_laws.proofs.Numbers.{under_is}
+use Rattle.value_laws.proofs.Steps.{same, agree_on, gives, goes_then, assumes_if, fresh_called}
+use Rattle.value_laws.proofs.Values.{questions, inner, form_asked, belongs_out, belongs_form, inner_is, answer, variable_belongs, nothing_belongs, answer_is}
+use Rattle.value_laws.proofs.Values.{meanings, has_form, closed_is, meant_is, closing}
+use Rattle.value_laws.proofs.Arguments.{under_these, Still, still_later, arguments_go, assigned_there}
+use Rattle.value_laws.proofs.Knowing.{number_goes, bits_known, vector_known, integer_known, between_known, truth_has, any_truth_known, truth_goes, both_goes}
+use Rattle.value_laws.proofs.Knowing.{tuple_known}
+use Rattle.value_laws.proofs.Alike.{asks, fields_alike, payload_alike, variables_same}
+
+none : {A B : Type 0} {x : A} → None ≡ Some x → B
+none h = absurd (cc)
+
+-- a count of bits or items is an integer within the limit
+small_count : (n : ℕ) → n ≤ 4096 → is_small (pos n) ≡ true
+unfolding largest
+small_count n le = le-leb n (2 ^ 126) (omega arith)
+
+module _ (types : Types) (past : Positive) (own : List Closed) where
+  abbrev there : Integers → Assignment
+  there g = standing past g
+
+  abbrev Has : Value → Integers → Indices → Type 0
+  Has v g i = has types (there g) own i v ≡ true
+
+  -- for all integers of variables that aren't fixed
+  abbrev Always : {n : ℕ} → Point n → (Integers → Type 0) → Type 0
+  Always f P = (g : Integers) → Agree f g → P g
+
+  abbrev AllHave : List Value → Integers → List Indices → Type 0
+  AllHave vs g is = each_holds (map (meant types (there g) own) is) vs ≡ true
+
+  -- ---- forms that are known as they stand
+
+  unit_holds : (mu : Assignment) (rs : Closeds) (g : Integers) (w : Value-F Value) → form_asked types w T.Unit mu rs ≡ true
+      → form_holds types (there g) own W.Unit w ≡ true
+  unit_holds mu rs g V.Unit h = refl
+  unit_holds mu rs g w h = no h
+
+  bit_holds : (mu : Assignment) (rs : Closeds) (g : Integers) (w : Value-F Value) → form_asked types w T.Bit mu rs ≡ true
+      → form_holds types (there g) own W.Bit w ≡ true
+  bit_holds mu rs g (V.Bit b) h = refl
+  bit_holds mu rs g w h = no h
+
+  string_holds : (mu : Assignment) (rs : Closeds) (g : Integers) (w : Value-F Value) → form_asked types w T.String mu rs ≡ true
+      → form_holds types (there g) own W.String w ≡ true
+  string_holds mu rs g (V.String text) h = refl
+  string_holds mu rs g w h = no h
+
+  all_of : (vs : List Value) (r q : Closed) → ((x : Value) → belongs types x r ≡ belongs types x q) → all_belong (asks types vs) r ≡ true
+      → list_all (λ x. belongs types x q) vs ≡ true
+  all_of [] r q e h = refl
+  all_of (v ∷ vs) r q e h =
+      let k = and_parts (belongs types v r) (all_belong (asks types vs) r) h in
+      two (belongs types v q) (list_all (λ x. belongs types x q) vs) (sym (e v) ∙ k.0) (all_of vs r q e k.1)
+
+  list_holds : (mu : Assignment) (rs : Closeds) (g : Integers) (t : Typ) (q : Closed) → ((x : Value) → belongs types x (reading t mu rs) ≡ belongs types x q)
+      → (w : Value-F Value) → form_asked types w (T.List t) mu rs ≡ true → form_holds types (there g) own (W.List q) w ≡ true
+  list_holds mu rs g t q e (V.List vs) h = all_of vs (reading t mu rs) q e h
+  list_holds mu rs g t q e w h = no h
+
+  bool_known : {n : ℕ} {f : Point n} {facts : List Fact} (name : Naming) (mu : Integers → Assignment) (rs : Integers → Closeds) (v : Value) (w : Value-F Value)
+      → out-Value v ≡ w → Always f (λ g. form_asked types w T.Bool (mu g) (rs g) ≡ true) → Goes past n f facts (any_truth name) (Has v)
+  bool_known name mu rs v (V.Truth b) e h = any_truth_known types past own name b v e
+  bool_known {n} {f} name mu rs v w e h = no (h f.integers (same f))
+
+  -- what a type of the walk is hangs on fixed variables alone
+  abbrev Steady : {n : ℕ} → Point n → Reading → Type 0
+  Steady f r = Always f (λ g. closed types (there g) own r ≡ closed types (there f.integers) own r)
+
+  steady_later : {n m : ℕ} (f : Point n) (g : Point m) (r : Reading) → Later f g → Steady f r → Steady g r
+  steady_later f g r a s k b = s k (agree_on a b) ∙ sym (s g.integers (agree_on a (same g)))
+
+  -- a type of the walk, where the value in hand belongs to it
+  ReadingGoes : Reading → Type 0
+  ReadingGoes r = (tells : Bool) (name : Naming) (n : ℕ) (f : Point n) (facts : List Fact) (v : Value) → Steady f r
+      → Always f (λ g. is_of types (there g) own r v ≡ true) → Goes past n f facts (opening r tells name) (Has v)
+
+  -- ---- types, under what the variables of the type stand for
+
+  module _ (rs : List Reading) where
+    abbrev stood : Integers → Closeds
+    stood g = closeds (types_or_own types (there g) own (map (closed types (there g) own) rs))
+
+    closed_of : (g : Integers) (t : Typ) (is : List Index) → closed types (there g) own (R.Of t is rs) ≡ reading t (under_these past g is) (stood g)
+    closed_of g t is = closed_is types (there g) own (R.Of t is rs) (W.Of t is rs) (R.rolls-Of t is rs)
+
+    closeds_of : (g : Integers) (is : List Index) (ts : List Typ)
+        → closeds (map (closed types (there g) own) (map (λ t. R.Of t is rs) ts)) ≡ read_each (under_these past g is) (stood g) ts
+    closeds_of g is [] = refl
+    closeds_of g is (t ∷ ts) = λ j. more_readings (closed_of g t is j) (closeds_of g is ts j)
+
+    -- what the Type variables stand for
+    abbrev Stand : {n : ℕ} → Point n → Type 0
+    Stand f = (i : ℕ) (r : Reading) → slice_get rs i ≡ Some r → Steady f r
+
+    stand_later : {n m : ℕ} (f : Point n) (g : Point m) → Later f g → Stand f → Stand g
+    stand_later f g a s i r e = steady_later f g r a (s i r e)
+
+    -- a type, where the value in hand belongs to it
+    TypGoes : List Index → Typ → Type 0
+    TypGoes is t = (tells : Bool) (name : Naming) (n : ℕ) (f : Point n) (facts : List Fact) (v : Value) → Still past f is → Stand f
+        → Always f (λ g. belongs types v (reading t (under_these past g is) (stood g)) ≡ true)
+        → Goes past n f facts (typ_opened (with_openings rs) t is tells name) (Has v)
+
+    abbrev Asks : {n : ℕ} → Point n → List Index → Value-F Value → Typ-F Typ → Type 0
+    Asks f is w x = Always f (λ g. form_asked types w x (under_these past g is) (stood g) ≡ true)
+
+    module _ {n : ℕ} {f : Point n} {facts : List Fact} (is : List Index) (v : Value) where
+      truth_known : (c : Con) (w : Value-F Value) → out-Value v ≡ w → Asks f is w (T.Truth c) → Goes past n f facts (truth_opened is c) (Has v)
+      unfolding truth_opened
+      truth_known c (V.Truth b) e h =
+          goes_then
+          (truth_goes types past own (read_con is c) b (λ d k g a. ap (beq b) (truth_read past g is c d k) ∙ h g a))
+          (λ m g fs d a q. gives (I.Truth d) (λ k l. truth_has types past own d b v e k (q k l)))
+      truth_known c w e h = no (h f.integers (same f))
+
+      bits_typ_known : (t : Num) (w : Value-F Value) → out-Value v ≡ w → Asks f is w (T.Bits t) → Goes past n f facts (bits_opened is t) (Has v)
+      unfolding bits_opened
+      bits_typ_known t (V.Bits bits) e h =
+          let width : is_width (length bits) ≡ true =
+          (and_parts (int_eq (pos (length bits)) (number (under_these past f.integers is) t)) _ (h f.integers (same f))).1 in
+          let few : length bits ≤ 128 = leb-true (length bits) 128 width in
+          goes_then
+          (number_goes types past own (read is t) (pos (length bits)) (small_count (length bits) (omega arith)) (λ u k g a. number_read past g is t u k
+          ∙ sym ((Decides-int_eq (pos (length bits)) (number (under_these past g is) t)).0
+          (and_parts (int_eq (pos (length bits)) (number (under_these past g is) t)) (is_width (length bits)) (h g a)).0)))
+          (λ m g fs u a q. bits_known types past own u v bits e width q)
+      bits_typ_known t w e h = no (h f.integers (same f))
+
+      integer_typ_known : (tells : Bool) (t : Num) (w : Value-F Value) → out-Value v ≡ w → Asks f is w (T.Int t)
+          → Goes past n f facts (integer_opened is tells t) (Has v)
+      unfolding integer_opened
+      integer_typ_known tells t (V.Integer z) e h =
+          let small : is_small z ≡ true = (and_parts (int_eq z (number (under_these past f.integers is) t)) (is_small z) (h f.integers (same f))).1 in
+          goes_then
+          (number_goes types past own (read is t) z small (λ u k g a. number_read past g is t u k
+          ∙ sym ((Decides-int_eq z (number (under_these past g is) t)).0 (and_parts (int_eq z (number (under_these past g is) t)) (is_small z) (h g a)).0)))
+          (λ m g fs u a q. integer_known types past own tells u z v e small q)
+      integer_typ_known tells t w e h = no (h f.integers (same f))
+
+      range_known : (name : Naming) (t u : Num) (w : Value-F Value) → out-Value v ≡ w → Asks f is w (T.Range t u)
+          → Goes past n f facts (range_opened is name t u) (Has v)
+      unfolding range_opened
+      range_known name t u (V.Integer z) e h =
+          let parts : (g : Integers) → Agree f g
+          → (int_le (number (under_these past g is) t) z ≡ true) × (int_le z (number (under_these past g is) u) ≡ true) × (is_small z ≡ true) =
+          λ g a.
+          let k = and_parts (int_le (number (under_these past g is) t) z && int_le z (number (under_these past g is) u)) (is_small z) (h g a) in
+          let l = and_parts (int_le (number (under_these past g is) t) z) (int_le z (number (under_these past g is) u)) k.0 in (l.0, l.1, k.1) in
+          between_known types past own name (read is t) (read is u) z v e (parts f.integers (same f)).2
+          (λ d k g a. ap (λ y. int_le y z) (number_read past g is t d k) ∙ (parts g a).0)
+          (λ d k g a. ap (int_le z) (number_read past g is u d k) ∙ (parts g a).1)
+      range_known name t u w e h = no (h f.integers (same f))
+
+      vector_typ_known : (l : Num) (t : Typ) (w : Value-F Value) → out-Value v ≡ w → Asks f is w (T.Vector l t)
+          → Goes past n f facts (vector_opened is rs l t) (Has v)
+      unfolding vector_opened
+      vector_typ_known l t (V.Vector vs) e h =
+          let same_length : length (asks types vs) ≡ length vs = length-map vs (λ x. (x, belongs types x)) in
+          let parts : (g : Integers) → Agree f g
+          → (int_eq (pos (length vs)) (number (under_these past g is) l) ≡ true) × (is_length (length vs) ≡ true)
+          × (all_belong (asks types vs) (reading t (under_these past g is) (stood g)) ≡ true) =
+          λ g a.
+          let k = and_parts (int_eq (pos (length (asks types vs))) (number (under_these past g is) l) && is_length (length (asks types vs))) _ (h g a) in
+          let m = and_parts (int_eq (pos (length vs)) (number (under_these past g is) l)) (is_length (length vs))
+          (subst (λ c. (int_eq (pos c) (number (under_these past g is) l) && is_length c) ≡ true) same_length k.0) in (m.0, m.1, k.1) in
+          let few : length vs ≤ 4096 = leb-true (length vs) 4096 (parts f.integers (same f)).1 in
+          goes_then
+          (number_goes types past own (read is l) (pos (length vs)) (small_count (length vs) few) (λ u k g a. number_read past g is l u k
+          ∙ sym ((Decides-int_eq (pos (length vs)) (number (under_these past g is) l)).0 (parts g a).0)))
+          (λ m g fs u a q. vector_known types past own u (R.Of t is rs) v vs e (parts f.integers (same f)).1 q
+          (λ k b. all_of vs (reading t (under_these past k is) (stood k)) (closed types (there k) own (R.Of t is rs))
+          (λ x. ap (belongs types x) (sym (closed_of k t is))) (parts k (agree_on a b)).2))
+      vector_typ_known l t w e h = no (h f.integers (same f))
+
+    -- ---- named types
+
+    named_holds : (g : Integers) (is : List Index) (u : ℕ) (args xs : List Index) (ts : List Typ)
+        → assigned (there g) xs ≡ assigned (under_these past g is) args → (w : Value-F Value)
+        → form_asked types w (T.Named u args ts) (under_these past g is) (stood g) ≡ true
+        → form_holds types (there g) own (W.Named u xs (map (closed types (there g) own) (map (λ t. R.Of t is rs) ts))) w ≡ true
+    named_holds g is u args xs ts same_assigned (V.Member i k) h = h
+    named_holds g is u args xs ts same_assigned (V.Struct i vs) h =
+        let of : Assignment → Closeds → Bool = λ nu ps. nat_eq i u && fields_belong (asks types vs) nu ps (fields types i) in
+        (λ j. of (same_assigned j) (closeds_of g is ts j))
+        ∙ ap (λ us. of (assigned (under_these past g is) args) (read_each (under_these past g is) (stood g) us))
+        (sym (fronts (inner types (V.Struct i vs) (stood g)) ts))
+        ∙ h
+    named_holds g is u args xs ts same_assigned (V.Union i k v) h =
+        let of : Assignment → Closeds → Bool = λ nu ps. nat_eq i u && payload_belongs (belongs types v) nu ps (payload types i k) in
+        (λ j. of (same_assigned j) (closeds_of g is ts j))
+        ∙ ap (λ us. of (assigned (under_these past g is) args) (read_each (under_these past g is) (stood g) us))
+        (sym (fronts (inner types (V.Union i k v) (stood g)) ts))
+        ∙ h
+    named_holds g is u args xs ts same_assigned w h = no h
+
+    -- the types that the Type parameters stand for
+    arguments_of : (is : List Index) (ts : List Typ)
+        → map (λ (t : Typ × Inside). R.Of t.0 is rs) (map (λ t. (t, typ_opened (with_openings rs) t)) ts) ≡ map (λ t. R.Of t is rs) ts
+    arguments_of is [] = refl
+    arguments_of is (t ∷ ts) = ap (λ qs. R.Of t is rs ∷ qs) (arguments_of is ts)
+
+    named_known : {n : ℕ} {f : Point n} {facts : List Fact} (is : List Index) (v : Value) (u : ℕ) (args : List Index) (ts : List Typ) → Still past f is
+        → Always f (λ g. form_asked types (out-Value v) (T.Named u args ts) (under_these past g is) (stood g) ≡ true)
+        → Goes past n f facts (named_opened is u args (map (λ t. R.Of t is rs) ts)) (Has v)
+    unfolding named_opened
+    named_known is v u args ts still h =
+        let qs : List Reading = map (λ t. R.Of t is rs) ts in
+        goes_then (arguments_go past is still args) (λ m g fs xs a q. gives (I.Named u xs qs) (λ k b.
+        has_form types (there k) own (I.Named u xs qs) (W.Named u xs qs) v (I.rolls-Named u xs qs)
+        ∙ named_holds k is u args xs ts (q k b) (out-Value v) (h k (agree_on a b))))
+
+    -- ---- `{'n, C. T}`
+
+    -- what is bound inside, where the value gives its number
+    abbrev Bound : ℤ → List Index → Integers → List Index → Type 0
+    Bound z is g js = under z (under_these past g is) ≡ under_these past g js
+
+    bound_goes : {n : ℕ} {f : Point n} {facts : List Fact} (name : List ℕ) (c : Con) (is : List Index) (z : ℤ)
+        → Always f (λ g. true_in (under z (under_these past g is)) c ≡ true) → Goes past n f facts (bound_inside name c is) (Bound z is)
+    unfolding bound_inside
+    bound_goes name c is z h =
+        goes_then (fresh_called name z) (λ m g fs i a q. goes_then
+        (assumes_if (read_con (N.Number (variable i) ∷ is) c) (λ d k l b.
+        truth_read past l (N.Number (variable i) ∷ is) c d k ∙ ap (λ mu. true_in mu c) (sym (under_is past l z is i (q l b))) ∙ h l (agree_on a b)))
+        (λ m2 g2 fs2 x a2 q2. gives (N.Number (variable i) ∷ is) (λ l b.
+        under_is past l z is i (q l (agree_on a2 b)))))
+
+    exists_goes : {n : ℕ} {f : Point n} {facts : List Fact} (is : List Index) (v : Value) (name : List ℕ) (c : Con) (t : Typ) (naming : Naming)
+        → ((js : List Index) → TypGoes js t) → Still past f is → Stand f → (given : Option Given)
+        → Always f (λ g. given_belongs given (under_these past g is) c (inner types (out-Value v) (stood g) t) ≡ true)
+        → Goes past n f facts (bind (bound_inside name c is) (λ js. typ_opened (with_openings rs) t js true naming)) (Has v)
+    unfolding TypGoes
+    exists_goes {n} {f} {facts} is v name c t naming go still stand (Some (an_int z)) h =
+        let parts : (g : Integers) → Agree f g
+        → (true_in (under z (under_these past g is)) c ≡ true) × (inner types (out-Value v) (stood g) t (under z (under_these past g is)) ≡ true) =
+        λ g a. and_parts (true_in (under z (under_these past g is)) c) (inner types (out-Value v) (stood g) t (under z (under_these past g is))) (h g a) in
+        goes_then (bound_goes name c is z (λ g a. (parts g a).0)) (λ m g fs js a q.
+        go js true naming m g fs v
+        (λ k b. sym (q k b) ∙ ap (under z) (still_later past f g is a still k b) ∙ q g.integers (same g))
+        (stand_later f g a stand)
+        (λ k b.
+        sym (inner_is types v t (under_these past k js) (stood k)) ∙ ap (inner types (out-Value v) (stood k) t) (sym (q k b)) ∙ (parts k (agree_on a b)).1))
+    exists_goes {n} {f} is v name c t naming go still stand (Some (a_bool b)) h = no (h f.integers (same f))
+    exists_goes {n} {f} is v name c t naming go still stand None h = no (h f.integers (same f))
+
+    -- ---- a Type variable: what it stands for, or one of the function at work
+
+    found_answer : (g : Integers) (qs : List Reading) (i : ℕ) (r : Reading) (v : Value) → slice_get qs i ≡ Some r
+        → answer types v (closeds (types_or_own types (there g) own (map (closed types (there g) own) qs))) i ≡ is_of types (there g) own r v
+    found_answer g [] i r v e = none e
+    found_answer g (q ∷ qs) i r v e =
+        answer_is types v (there g) (map (closed types (there g) own) (q ∷ qs)) i
+        ∙ ap (λ o. belongs types v (or_no_value (there g) o))
+        (slice_get-map (closed types (there g) own) (q ∷ qs) i ∙ ap (option_map (closed types (there g) own)) e)
+
+    free_answer : (g : Integers) (qs : List Reading) (i : ℕ) (v : Value) → slice_get qs i ≡ None
+        → answer types v (closeds (types_or_own types (there g) own (map (closed types (there g) own) qs))) i ≡ true
+        → belongs types v (or_no_value (there g) (slice_get own i)) ≡ true
+    free_answer g [] i v e h = sym (answer_is types v (there g) own i) ∙ h
+    free_answer g (q ∷ qs) i v e h =
+        no (sym (answer_is types v (there g) (map (closed types (there g) own) (q ∷ qs)) i
+        ∙ ap (λ o. belongs types v (or_no_value (there g) o))
+        (slice_get-map (closed types (there g) own) (q ∷ qs) i ∙ ap (option_map (closed types (there g) own)) e)
+        ∙ nothing_belongs types v (there g)) ∙ h)
+
+    variable_goes : {n : ℕ} {f : Point n} {facts : List Fact} → ((i : ℕ) (r : Reading) → slice_get rs i ≡ Some r → ReadingGoes r) → Stand f
+        → (i : ℕ) (tells : Bool) (name : Naming) (v : Value) (o : Option Reading) → slice_get rs i ≡ o
+        → Always f (λ g. answer types v (stood g) i ≡ true)
+        → Goes past n f facts (variable_opened i (option_map (λ r. (r, opening r)) o) tells name) (Has v)
+    unfolding ReadingGoes
+    variable_goes {n} {f} {facts} go stand i tells name v (Some r) e h =
+        go i r e tells name n f facts v (stand i r e) (λ g a. sym (found_answer g rs i r v e) ∙ h g a)
+    variable_goes go stand i tells name v None e h = gives (I.Variable i) (λ g a.
+        has_form types (there g) own (I.Variable i) (W.Variable i) v (I.rolls-Variable i) ∙ free_answer g rs i v e (h g a))
+
+    -- ---- types
+
+    abbrev SuchTyp : Type 0
+    SuchTyp = (t : Typ) × ((is : List Index) → TypGoes is t)
+
+    abbrev typ_form : Typ-F SuchTyp → Typ-F Typ
+    typ_form y = map-Typ SuchTyp Typ (λ p. p.0) y
+
+    abbrev types_in : List SuchTyp → List Typ
+    types_in ys = map (λ (y : SuchTyp). y.0) ys
+
+    -- the form of a type, opened
+    abbrev opened_form : Typ-F Typ → List Index → Bool → Naming → Walk Indices
+    opened_form x is tells name =
+        form_opened (with_openings rs) rs (map-Typ Typ (Typ × Inside) (λ t. (t, typ_opened (with_openings rs) t)) x) is tells name
+
+    opens_form : (x : Typ-F Typ) (is : List Index) (tells : Bool) (name : Naming)
+        → typ_opened (with_openings rs) (roll-Typ x) is tells name ≡ opened_form x is tells name
+    unfolding typ_opened
+    opens_form x is tells name =
+        ap (λ f. f is tells name) (para-roll-Typ Inside (form_opened (with_openings rs) (map (λ (r : Reading × Opening). r.0) (with_openings rs))) x)
+        ∙ ap (λ qs. form_opened (with_openings rs) qs (map-Typ Typ (Typ × Inside) (λ t. (t, typ_opened (with_openings rs) t)) x) is tells name)
+        (fronts opening rs)
+
+    -- parts of a tuple
+    typs_go : {n : ℕ} {f : Point n} {facts : List Fact} (ys : List SuchTyp) (is : List Index) → Still past f is → Stand f → (tells : Bool)
+        (ns : List Naming) (vs : List Value) → Always f (λ g. each_belongs (asks types vs) (under_these past g is) (stood g) (types_in ys) ≡ true)
+        → Goes past n f facts
+        (parts_opened tells (map (λ (t : Typ × Inside). t.1 is) (map (λ t. (t, typ_opened (with_openings rs) t)) (types_in ys))) ns) (AllHave vs)
+    unfolding TypGoes
+    typs_go [] is still stand tells ns [] h = gives [] (λ g a. refl)
+    typs_go {f} [] is still stand tells ns (v ∷ vs) h = no (h f.integers (same f))
+    typs_go {f} (y ∷ ys) is still stand tells ns [] h = no (h f.integers (same f))
+    typs_go {n} {f} {facts} (y ∷ ys) is still stand tells [] (v ∷ vs) h =
+        let parts : (g : Integers) → Agree f g → (belongs types v (reading y.0 (under_these past g is) (stood g)) ≡ true)
+        × (each_belongs (asks types vs) (under_these past g is) (stood g) (types_in ys) ≡ true) =
+        λ g a. and_parts (belongs types v (reading y.0 (under_these past g is) (stood g))) _ (h g a) in
+        both_goes types past own v vs (y.1 is tells M.Unnamed n f facts v still stand (λ g a. (parts g a).0)) (λ m g fs a.
+        typs_go ys is (still_later past f g is a still) (stand_later f g a stand) tells [] vs (λ k b. (parts k (agree_on a b)).1))
+    typs_go {n} {f} {facts} (y ∷ ys) is still stand tells (name ∷ ns) (v ∷ vs) h =
+        let parts : (g : Integers) → Agree f g → (belongs types v (reading y.0 (under_these past g is) (stood g)) ≡ true)
+        × (each_belongs (asks types vs) (under_these past g is) (stood g) (types_in ys) ≡ true) =
+        λ g a. and_parts (belongs types v (reading y.0 (under_these past g is) (stood g))) _ (h g a) in
+        both_goes types past own v vs (y.1 is tells name n f facts v still stand (λ g a. (parts g a).0)) (λ m g fs a.
+        typs_go ys is (still_later past f g is a still) (stand_later f g a stand) tells ns vs (λ k b. (parts k (agree_on a b)).1))
+
+    tuple_goes : {n : ℕ} {f : Point n} {facts : List Fact} (ys : List SuchTyp) (is : List Index) → Still past f is → Stand f → (tells : Bool)
+        (name : Naming) (v : Value) (w : Value-F Value) → out-Value v ≡ w
+        → Always f (λ g. form_asked types w (T.Tuple (types_in ys)) (under_these past g is) (stood g) ≡ true)
+        → Goes past n f facts (opened_form (T.Tuple (types_in ys)) is tells name) (Has v)
+    tuple_goes ys is still stand tells name v (V.Tuple vs) e h =
+        tuple_known types past own v vs e (typs_go ys is still stand tells (namings_of name) vs (λ g a.
+        ap (each_belongs (asks types vs) (under_these past g is) (stood g)) (sym (fronts (inner types (V.Tuple vs) (stood g)) (types_in ys))) ∙ h g a))
+    tuple_goes {f} ys is still stand tells name v w e h = no (h f.integers (same f))
+
+    module _ (go : (i : ℕ) (r : Reading) → slice_get rs i ≡ Some r → ReadingGoes r) where
+      form_goes : (y : Typ-F SuchTyp) (is : List Index) (tells : Bool) (name : Naming) (n : ℕ) (f : Point n) (facts : List Fact) (v : Value) → Still past f is
+          → Stand f → Always f (λ g. form_asked types (out-Value v) (typ_form y) (under_these past g is) (stood g) ≡ true)
+          → Goes past n f facts (opened_form (typ_form y) is tells name) (Has v)
+      form_goes T.Unit is tells name n f facts v still stand h = gives I.Unit (λ g a.
+          has_form types (there g) own I.Unit W.Unit v I.rolls-Unit ∙ unit_holds (under_these past g is) (stood g) g (out-Value v) (h g a))
+      form_goes T.Bool is tells name n f facts v still stand h = bool_known name (λ g. under_these past g is) stood v (out-Value v) refl h
+      form_goes (T.Truth c) is tells name n f facts v still stand h = truth_known is v c (out-Value v) refl h
+      form_goes T.Bit is tells name n f facts v still stand h = gives I.Bit (λ g a.
+          has_form types (there g) own I.Bit W.Bit v I.rolls-Bit ∙ bit_holds (under_these past g is) (stood g) g (out-Value v) (h g a))
+      form_goes (T.Bits t) is tells name n f facts v still stand h = bits_typ_known is v t (out-Value v) refl h
+      form_goes (T.Int t) is tells name n f facts v still stand h = integer_typ_known is v tells t (out-Value v) refl h
+      form_goes (T.Range t u) is tells name n f facts v still stand h = range_known is v name t u (out-Value v) refl h
+      form_goes T.String is tells name n f facts v still stand h = gives I.String (λ g a.
+          has_form types (there g) own I.String W.String v I.rolls-String ∙ string_holds (under_these past g is) (stood g) g (out-Value v) (h g a))
+      form_goes (T.List y) is tells name n f facts v still stand h = gives (I.List (R.Of y.0 is rs)) (λ g a.
+          has_form types (there g) own (I.List (R.Of y.0 is rs)) (W.List (R.Of y.0 is rs)) v (I.rolls-List (R.Of y.0 is rs))
+          ∙ list_holds (under_these past g is) (stood g) g y.0 (closed types (there g) own (R.Of y.0 is rs))
+          (λ x. ap (belongs types x) (sym (closed_of g y.0 is))) (out-Value v) (h g a))
+      form_goes (T.Vector l y) is tells name n f facts v still stand h = vector_typ_known is v l y.0 (out-Value v) refl h
+      form_goes (T.Tuple ys) is tells name n f facts v still stand h = tuple_goes ys is still stand tells name v (out-Value v) refl h
+      form_goes (T.Named u args ys) is tells name n f facts v still stand h =
+          subst (λ qs. Goes past n f facts (named_opened is u args qs) (Has v)) (sym (arguments_of is (types_in ys)))
+          (named_known is v u args (types_in ys) still h)
+      form_goes (T.Variable i) is tells name n f facts v still stand h =
+          subst (λ o. Goes past n f facts (variable_opened i o tells name) (Has v)) (sym (slice_get-map (λ r. (r, opening r)) rs i))
+          (variable_goes go stand i tells name v (slice_get rs i) refl h)
+      form_goes (T.Exists own_name c y) is tells name n f facts v still stand h =
+          exists_goes is v own_name c y.0 name y.1 still stand
+          (placed y.0 0 (roll-Value (map-Value (Value × Asked) Value (λ p. p.0) (questions types (out-Value v))))) h
+
+      typ_step : (y : Typ-F SuchTyp) (is : List Index) → TypGoes is (roll-Typ (typ_form y))
+      unfolding TypGoes
+      typ_step y is tells name n f facts v still stand h =
+          subst (λ w. Goes past n f facts w (Has v)) (sym (opens_form (typ_form y) is tells name))
+          (form_goes y is tells name n f facts v still stand (λ g a.
+          sym (belongs_form types v (typ_form y) (roll-Typ (typ_form y)) (under_these past g is) (stood g) refl) ∙ h g a))
+
+      typ_goes : (t : Typ) (is : List Index) → TypGoes is t
+      typ_goes = ind-Typ (λ t. (is : List Index) → TypGoes is t)
+          (λ e y same_form. subst (λ d. (is : List Index) → TypGoes is (roll-Typ d)) same_form (typ_step y))
+
+  -- ---- several types as what Type variables stand for
+
+  abbrev AllIn : List Value → List Closed → Type 0
+  AllIn [] [] = Unit {0}
+  AllIn (v ∷ vs) (c ∷ cs) = (belongs types v c ≡ true) × AllIn vs cs
+  AllIn vs cs = ⊥
+
+  each_in : (mu : Assignment) (all : Closeds) (k : ℕ) (cs : List Closed) (vs : List Value)
+      → ((i : ℕ) (w : Value) → answer types w all (k + i) ≡ answer types w (closeds cs) i)
+      → each_belongs (asks types vs) mu all (type_variables k cs) ≡ true → AllIn vs cs
+  each_in mu all k [] [] same h = tt
+  each_in mu all k [] (v ∷ vs) same h = no h
+  each_in mu all k (c ∷ cs) [] same h = no h
+  each_in mu all k (c ∷ cs) (v ∷ vs) same h =
+      let p = and_parts (belongs types v (reading (U.Variable k) mu all)) (each_belongs (asks types vs) mu all (type_variables (suc k) cs)) h in (
+        belongs_out types v c
+            ∙ sym (subst (λ n. answer types v all n ≡ answer types v (closeds (c ∷ cs)) 0) (omega arith) (same 0 v))
+            ∙ sym (variable_belongs types v k mu all) ∙ p.0,
+        each_in mu all (suc k) cs vs (λ i w. subst (λ n. answer types w all n ≡ answer types w (closeds cs) i) (omega arith) (same (suc i) w)) p.1,
+      )
+
+  -- a tuple of them
+  tuple_in : (mu : Assignment) (cs : List Closed) (vs : List Value)
+      → form_asked types (V.Tuple vs) (T.Tuple (type_variables 0 cs)) mu (closeds cs) ≡ true → AllIn vs cs
+  tuple_in mu cs vs h =
+      each_in mu (closeds cs) 0 cs vs (λ i w. subst (λ n. answer types w (closeds cs) n ≡ answer types w (closeds cs) i) (omega arith) refl)
+      (ap (each_belongs (asks types vs) mu (closeds cs)) (sym (fronts (inner types (V.Tuple vs) (closeds cs)) (type_variables 0 cs))) ∙ h)
+
+  item_same : (g : Integers) (q : Closed) (x : Value) → belongs types x (reading (U.Variable 0) (nowhere (there g)) (closeds (q ∷ []))) ≡ belongs types x q
+  item_same g q x = variable_belongs types x 0 (nowhere (there g)) (closeds (q ∷ [])) ∙ sym (belongs_out types x q)
+
+  -- ---- widened types
+
+  WideGoes : Indices → Type 0
+  WideGoes i = (name : Naming) (n : ℕ) (f : Point n) (facts : List Fact) (v : Value)
+      → Always f (λ g. belongs types v (meant types (there g) own i).wide ≡ true) → Goes past n f facts (wide_opening i false name) (Has v)
+
+  abbrev Wide : Type 0
+  Wide = (i : Indices) × WideGoes i
+
+  abbrev Known : Type 0
+  Known = (r : Reading) × ReadingGoes r
+
+  abbrev indices_of : Indices-F Wide Known → Indices-F Indices Reading
+  indices_of y = map-Indices Wide Known Indices Reading (λ p. p.0) (λ p. p.0) y
+
+  abbrev wide_form : Indices-F Indices Reading → Naming → Walk Indices
+  wide_form x name =
+      widened_opened (map-Indices Indices Reading (Indices × Opening) (Reading × Opening) (λ i. (i, wide_opening i)) (λ r. (r, opening r)) x) false name
+
+  widens_form : (x : Indices-F Indices Reading) (name : Naming) → wide_opening (roll-Indices x) false name ≡ wide_form x name
+  unfolding wide_opening opening
+  widens_form x name = ap (λ o. o false name) (para-roll-Indices Opening Opening widened_opened reading_opened x)
+
+  -- what is asked of the value
+  abbrev AsksWide : Value-F Value → Integers → Typ-F Typ → List Closed → Type 0
+  AsksWide w g x cs = form_asked types w x (nowhere (there g)) (closeds cs) ≡ true
+
+  wide_bits_known : {n : ℕ} {f : Point n} {facts : List Fact} (t : Num) (v : Value) (w : Value-F Value) → out-Value v ≡ w
+      → Always f (λ g. AsksWide w g (T.Bits (number_there (there g) t)) []) → Goes past n f facts (bits_of t) (Has v)
+  wide_bits_known {n} {f} t v (V.Bits bits) e h =
+      let at : Integers → ℤ = λ g. number (nowhere (there g)) (number_there (there g) t) in
+      let parts : (g : Integers) → Agree f g → (int_eq (pos (length bits)) (at g) ≡ true) × (is_width (length bits) ≡ true) =
+      λ g a. and_parts (int_eq (pos (length bits)) (at g)) (is_width (length bits)) (h g a) in
+      bits_known types past own t v bits e (parts f.integers (same f)).1 (λ g a.
+      sym (number_constant (nowhere (there g)) (number (there g) t)) ∙ sym ((Decides-int_eq (pos (length bits)) (at g)).0 (parts g a).0))
+  wide_bits_known {n} {f} t v w e h = no (h f.integers (same f))
+
+  wide_integer_known : {n : ℕ} {f : Point n} {facts : List Fact} (name : Naming) (v : Value) (w : Value-F Value) → out-Value v ≡ w
+      → Always f (λ g. AsksWide w g (T.Range (constant least) (constant most)) []) → Goes past n f facts (any_integer name) (Has v)
+  unfolding any_integer
+  wide_integer_known {n} {f} name v (V.Integer z) e h =
+      let small : is_small z ≡ true = (and_parts _ (is_small z) (h f.integers (same f))).1 in
+      between_known types past own name (Some least_num) (Some largest_num) z v e small
+      (λ t is g a. ap (λ u. int_le (number (there g) u) z) (sym (some_same least_num t is))
+      ∙ ap (λ y. int_le y z) (number_constant (there g) least) ∙ above_least z small)
+      (λ t is g a. ap (λ u. int_le z (number (there g) u)) (sym (some_same largest_num t is))
+      ∙ ap (int_le z) (number_constant (there g) most) ∙ below_most z small)
+  wide_integer_known {n} {f} name v w e h = no (h f.integers (same f))
+
+  wide_vector_known : {n : ℕ} {f : Point n} {facts : List Fact} (t : Num) (r : Reading) (v : Value) (w : Value-F Value) → out-Value v ≡ w
+      → Always f (λ g. AsksWide w g (T.Vector (number_there (there g) t) (U.Variable 0)) (closed types (there g) own r ∷ []))
+      → Goes past n f facts (vector_of r t) (Has v)
+  wide_vector_known {n} {f} t r v (V.Vector vs) e h =
+      let at : Integers → ℤ = λ g. number (nowhere (there g)) (number_there (there g) t) in
+      let same_length : length (asks types vs) ≡ length vs = length-map vs (λ x. (x, belongs types x)) in
+      let parts : (g : Integers) → Agree f g → (int_eq (pos (length vs)) (at g) ≡ true) × (is_length (length vs) ≡ true)
+      × (all_belong (asks types vs) (reading (U.Variable 0) (nowhere (there g)) (closeds (closed types (there g) own r ∷ []))) ≡ true) =
+      λ g a.
+      let k = and_parts (int_eq (pos (length (asks types vs))) (at g) && is_length (length (asks types vs))) _ (h g a) in
+      let m = and_parts (int_eq (pos (length vs)) (at g)) (is_length (length vs))
+      (subst (λ c. (int_eq (pos c) (at g) && is_length c) ≡ true) same_length k.0) in (m.0, m.1, k.1) in
+      vector_known types past own t r v vs e (parts f.integers (same f)).1
+      (λ g a. sym (number_constant (nowhere (there g)) (number (there g) t)) ∙ sym ((Decides-int_eq (pos (length vs)) (at g)).0 (parts g a).0))
+      (λ g a. all_of vs (reading (U.Variable 0) (nowhere (there g)) (closeds (closed types (there g) own r ∷ []))) (closed types (there g) own r)
+      (item_same g (closed types (there g) own r)) (parts g a).2)
+  wide_vector_known {n} {f} t r v w e h = no (h f.integers (same f))
+
+  named_wide : (g : Integers) (u : ℕ) (is : List Index) (cs : List Closed) (w : Value-F Value)
+      → AsksWide w g (T.Named u (map (index_there (there g)) is) (type_variables 0 cs)) cs → form_holds types (there g) own (W.Named u is cs) w ≡ true
+  named_wide g u is cs (V.Member i k) h = h
+  named_wide g u is cs (V.Struct i vs) h =
+      let ts = type_variables 0 cs in
+      let under : List Typ → Closeds = read_each (nowhere (there g)) (closeds cs) in
+      let of : Assignment → Closeds → Bool = λ nu ps. nat_eq i u && fields_belong (asks types vs) nu ps (fields types i) in
+      ap (λ b. nat_eq i u && b)
+      (sym (fields_alike types vs (fields types i) (assigned (there g) is) (under ts) (closeds cs) (variables_same types (nowhere (there g)) cs)))
+      ∙ ap (λ nu. of nu (under ts)) (sym (assigned_there past g is))
+      ∙ ap (λ us. of (assigned (nowhere (there g)) (map (index_there (there g)) is)) (under us)) (sym (fronts (inner types (V.Struct i vs) (closeds cs)) ts))
+      ∙ h
+  named_wide g u is cs (V.Union i k v) h =
+      let ts = type_variables 0 cs in
+      let under : List Typ → Closeds = read_each (nowhere (there g)) (closeds cs) in
+      let of : Assignment → Closeds → Bool = λ nu ps. nat_eq i u && payload_belongs (belongs types v) nu ps (payload types i k) in
+      ap (λ b. nat_eq i u && b)
+      (sym (payload_alike types v (payload types i k) (assigned (there g) is) (under ts) (closeds cs) (variables_same types (nowhere (there g)) cs)))
+      ∙ ap (λ nu. of nu (under ts)) (sym (assigned_there past g is))
+      ∙ ap (λ us. of (assigned (nowhere (there g)) (map (index_there (there g)) is)) (under us)) (sym (fronts (inner types (V.Union i k v) (closeds cs)) ts))
+      ∙ h
+  named_wide g u is cs w h = no h
+
+  abbrev bare : List Wide → List Indices
+  bare ys = map (λ (y : Wide). y.0) ys
+
+  wide_parts_go : {n : ℕ} {f : Point n} {facts : List Fact} (ys : List Wide) (ns : List Naming) (vs : List Value)
+      → Always f (λ g. AllIn vs (wides (map (meant types (there g) own) (bare ys))))
+      → Goes past n f facts (parts_opened false (map (λ (p : Indices × Opening). p.1) (map (λ i. (i, wide_opening i)) (bare ys))) ns) (AllHave vs)
+  unfolding WideGoes
+  wide_parts_go [] ns [] h = gives [] (λ g a. refl)
+  wide_parts_go {n} {f} [] ns (v ∷ vs) h = absurd (h f.integers (same f))
+  wide_parts_go {n} {f} (y ∷ ys) ns [] h = absurd (h f.integers (same f))
+  wide_parts_go {n} {f} {facts} (y ∷ ys) [] (v ∷ vs) h =
+      both_goes types past own v vs (y.1 M.Unnamed n f facts v (λ g a. (h g a).0)) (λ m g fs a. wide_parts_go ys [] vs (λ k b. (h k (agree_on a b)).1))
+  wide_parts_go {n} {f} {facts} (y ∷ ys) (name ∷ ns) (v ∷ vs) h =
+      both_goes types past own v vs (y.1 name n f facts v (λ g a. (h g a).0)) (λ m g fs a. wide_parts_go ys ns vs (λ k b. (h k (agree_on a b)).1))
+
+  wide_tuple_known : {n : ℕ} {f : Point n} {facts : List Fact} (ys : List Wide) (name : Naming) (v : Value) (w : Value-F Value) → out-Value v ≡ w
+      → Always f (λ g. AsksWide w g (T.Tuple (type_variables 0 (wides (map (meant types (there g) own) (bare ys)))))
+      (wides (map (meant types (there g) own) (bare ys))))
+      → Goes past n f facts (wide_form (W.Tuple (bare ys)) name) (Has v)
+  wide_tuple_known ys name v (V.Tuple vs) e h =
+      tuple_known types past own v vs e (wide_parts_go ys (namings_of name) vs (λ g a.
+      tuple_in (nowhere (there g)) (wides (map (meant types (there g) own) (bare ys))) vs (h g a)))
+  wide_tuple_known {n} {f} ys name v w e h = no (h f.integers (same f))
+
+  form_widens : (y : Indices-F Wide Known) (name : Naming) (n : ℕ) (f : Point n) (facts : List Fact) (v : Value)
+      → Always f (λ g. belongs types v (wide_of types (there g) own (meanings types (there g) own (indices_of y))) ≡ true)
+      → Goes past n f facts (wide_form (indices_of y) name) (Has v)
+  form_widens W.Never name n f facts v h = no (sym (nothing_belongs types v (there f.integers)) ∙ h f.integers (same f))
+  form_widens W.Unit name n f facts v h = gives I.Unit (λ g a.
+      has_form types (there g) own I.Unit W.Unit v I.rolls-Unit
+      ∙ unit_holds (nowhere (there g)) no_readings g (out-Value v)
+      (sym (belongs_form types v T.Unit U.Unit (nowhere (there g)) no_readings U.rolls-Unit) ∙ h g a))
+  form_widens (W.Truth c) name n f facts v h =
+      bool_known name (λ g. nowhere (there g)) (λ g. no_readings) v (out-Value v) refl
+      (λ g a. sym (belongs_form types v T.Bool U.Bool (nowhere (there g)) no_readings U.rolls-Bool) ∙ h g a)
+  form_widens W.Bit name n f facts v h = gives I.Bit (λ g a.
+      has_form types (there g) own I.Bit W.Bit v I.rolls-Bit
+      ∙ bit_holds (nowhere (there g)) no_readings g (out-Value v)
+      (sym (belongs_form types v T.Bit U.Bit (nowhere (there g)) no_readings U.rolls-Bit) ∙ h g a))
+  form_widens (W.Bits t) name n f facts v h =
+      wide_bits_known t v (out-Value v) refl (λ g a.
+      let u = number_there (there g) t in
+      sym (belongs_form types v (T.Bits u) (U.Bits u) (nowhere (there g)) no_readings (U.rolls-Bits u)) ∙ h g a)
+  form_widens (W.Integer t) name n f facts v h =
+      wide_integer_known name v (out-Value v) refl (λ g a.
+      sym (belongs_form types v (T.Range (constant least) (constant most)) (U.Range (constant least) (constant most)) (nowhere (there g)) no_readings
+      (U.rolls-Range (constant least) (constant most))) ∙ h g a)
+  form_widens W.String name n f facts v h = gives I.String (λ g a.
+      has_form types (there g) own I.String W.String v I.rolls-String
+      ∙ string_holds (nowhere (there g)) no_readings g (out-Value v)
+      (sym (belongs_form types v T.String U.String (nowhere (there g)) no_readings U.rolls-String) ∙ h g a))
+  form_widens (W.List r) name n f facts v h = gives (I.List r.0) (λ g a.
+      let q = closed types (there g) own r.0 in
+      has_form types (there g) own (I.List r.0) (W.List r.0) v (I.rolls-List r.0)
+      ∙ list_holds (nowhere (there g)) (closeds (q ∷ [])) g (U.Variable 0) q (item_same g q) (out-Value v)
+      (sym (belongs_form types v (T.List (U.Variable 0)) (U.List (U.Variable 0)) (nowhere (there g)) (closeds (q ∷ [])) (U.rolls-List (U.Variable 0))) ∙ h g a))
+  form_widens (W.Vector t r) name n f facts v h =
+      wide_vector_known t r.0 v (out-Value v) refl (λ g a.
+      let u = number_there (there g) t in
+      let q = closed types (there g) own r.0 in
+      sym (belongs_form types v (T.Vector u (U.Variable 0)) (U.Vector u (U.Variable 0)) (nowhere (there g)) (closeds (q ∷ []))
+      (U.rolls-Vector u (U.Variable 0))) ∙ h g a)
+  form_widens (W.Tuple ys) name n f facts v h =
+      wide_tuple_known ys name v (out-Value v) refl (λ g a.
+      let cs = wides (map (meant types (there g) own) (bare ys)) in
+      sym (belongs_form types v (T.Tuple (type_variables 0 cs)) (U.Tuple (type_variables 0 cs)) (nowhere (there g)) (closeds cs)
+      (U.rolls-Tuple (type_variables 0 cs))) ∙ h g a)
+  form_widens (W.Named u is rs) name n f facts v h =
+      let qs : List Reading = map (λ (r : Known). r.0) rs in
+      let back : List Reading = map (λ (r : Reading × Opening). r.0) (map (λ r. (r, opening r)) qs) in
+      gives (I.Named u is back) (λ g a.
+      let cs = map (closed types (there g) own) qs in
+      let args = map (index_there (there g)) is in
+      has_form types (there g) own (I.Named u is back) (W.Named u is back) v (I.rolls-Named u is back)
+      ∙ ap (λ ps. form_holds types (there g) own (W.Named u is (map (closed types (there g) own) ps)) (out-Value v)) (fronts opening qs)
+      ∙ named_wide g u is cs (out-Value v)
+      (sym (belongs_form types v (T.Named u args (type_variables 0 cs)) (U.Named u args (type_variables 0 cs)) (nowhere (there g)) (closeds cs)
+      (U.rolls-Named u args (type_variables 0 cs))) ∙ h g a))
+  form_widens (W.Variable i) name n f facts v h = gives (I.Variable i) (λ g a.
+      has_form types (there g) own (I.Variable i) (W.Variable i) v (I.rolls-Variable i) ∙ h g a)
+
+  rolled_widens : (y : Indices-F Wide Known) → WideGoes (roll-Indices (indices_of y))
+  unfolding WideGoes
+  rolled_widens y name n f facts v h =
+      subst (λ w. Goes past n f facts w (Has v)) (sym (widens_form (indices_of y) name))
+      (form_widens y name n f facts v (λ g a.
+      ap (belongs types v) (sym (ap (λ m. m.wide) (meant_is types (there g) own (roll-Indices (indices_of y)) (indices_of y) refl))) ∙ h g a))
+
+  -- ---- types of the walk
+
+  abbrev assignment_of : Closed → Assignment
+  assignment_of (reading t mu rs) = mu
+
+  abbrev readings_of : Closed → Closeds
+  readings_of (reading t mu rs) = rs
+
+  abbrev list_of : Closeds → List Closed
+  list_of no_readings = []
+  list_of (more_readings r rs) = r ∷ list_of rs
+
+  list_back : (cs : List Closed) → list_of (closeds cs) ≡ cs
+  list_back [] = refl
+  list_back (c ∷ cs) = ap (λ ds. c ∷ ds) (list_back cs)
+
+  same_lists : (cs ds : List Closed) → closeds cs ≡ closeds ds → cs ≡ ds
+  same_lists cs ds e = sym (list_back cs) ∙ ap list_of e ∙ list_back ds
+
+  each_same : (g k : Integers) (rs : List Reading) (i : ℕ) (r : Reading)
+      → map (closed types (there g) own) rs ≡ map (closed types (there k) own) rs → slice_get rs i ≡ Some r
+      → closed types (there g) own r ≡ closed types (there k) own r
+  each_same g k rs i r e found =
+      some_same (closed types (there g) own r) (closed types (there k) own r)
+      (sym (slice_get-map (closed types (there g) own) rs i ∙ ap (option_map (closed types (there g) own)) found)
+      ∙ ap (λ cs. slice_get cs i) e
+      ∙ slice_get-map (closed types (there k) own) rs i ∙ ap (option_map (closed types (there k) own)) found)
+
+  stood_same : (g k : Integers) (rs : List Reading) (i : ℕ) (r : Reading) → stood rs g ≡ stood rs k → slice_get rs i ≡ Some r
+      → closed types (there g) own r ≡ closed types (there k) own r
+  stood_same g k [] i r e found = none found
+  stood_same g k (q ∷ qs) i r e found =
+      each_same g k (q ∷ qs) i r (same_lists (map (closed types (there g) own) (q ∷ qs)) (map (closed types (there k) own) (q ∷ qs)) e) found
+
+  abbrev readings_in : List Known → List Reading
+  readings_in ys = map (λ (y : Known). y.0) ys
+
+  go_in : (ys : List Known) (i : ℕ) (r : Reading) → slice_get (readings_in ys) i ≡ Some r → ReadingGoes r
+  go_in [] i r e = none e
+  go_in (y ∷ ys) zero r e = subst ReadingGoes (some_same y.0 r e) y.1
+  go_in (y ∷ ys) (suc i) r e = go_in ys i r e
+
+  -- as what Type variables stand for
+  parts_go : {n : ℕ} {f : Point n} {facts : List Fact} (ys : List Known) (tells : Bool) (ns : List Naming) (vs : List Value)
+      → ((i : ℕ) (r : Reading) → slice_get (readings_in ys) i ≡ Some r → Steady f r)
+      → Always f (λ g. AllIn vs (map (closed types (there g) own) (readings_in ys)))
+      → Goes past n f facts (parts_opened tells (map (λ (r : Reading × Opening). r.1) (map (λ r. (r, opening r)) (readings_in ys))) ns) (AllHave vs)
+  unfolding ReadingGoes
+  parts_go [] tells ns [] steady h = gives [] (λ g a. refl)
+  parts_go {f} [] tells ns (v ∷ vs) steady h = absurd (h f.integers (same f))
+  parts_go {f} (y ∷ ys) tells ns [] steady h = absurd (h f.integers (same f))
+  parts_go {n} {f} {facts} (y ∷ ys) tells [] (v ∷ vs) steady h =
+      both_goes types past own v vs (y.1 tells M.Unnamed n f facts v (steady 0 y.0 refl) (λ g a. (h g a).0)) (λ m g fs a.
+      parts_go ys tells [] vs (λ i r e. steady_later f g r a (steady (suc i) r e)) (λ k b. (h k (agree_on a b)).1))
+  parts_go {n} {f} {facts} (y ∷ ys) tells (name ∷ ns) (v ∷ vs) steady h =
+      both_goes types past own v vs (y.1 tells name n f facts v (steady 0 y.0 refl) (λ g a. (h g a).0)) (λ m g fs a.
+      parts_go ys tells ns vs (λ i r e. steady_later f g r a (steady (suc i) r e)) (λ k b. (h k (agree_on a b)).1))
+
+  abbrev reading_in : Reading-F Wide Known → Reading-F Indices Reading
+  reading_in y = map-Reading Wide Known Indices Reading (λ p. p.0) (λ p. p.0) y
+
+  abbrev reading_form : Reading-F Indices Reading → Bool → Naming → Walk Indices
+  reading_form x tells name =
+      reading_opened (map-Reading Indices Reading (Indices × Opening) (Reading × Opening) (λ i. (i, wide_opening i)) (λ r. (r, opening r)) x) tells name
+
+  opens_reading : (x : Reading-F Indices Reading) (tells : Bool) (name : Naming) → opening (roll-Reading x) tells name ≡ reading_form x tells name
+  unfolding wide_opening opening
+  opens_reading x tells name = ap (λ o. o tells name) (para-roll-Reading Opening Opening widened_opened reading_opened x)
+
+  -- what such a type is
+  abbrev closed_in : Integers → Reading-F Wide Known → Closed
+  closed_in g y = closed_form types (there g) own (closing types (there g) own (reading_in y))
+
+  parts_known : {n : ℕ} {f : Point n} {facts : List Fact} (ys : List Known) (tells : Bool) (name : Naming) (v : Value)
+      → ((i : ℕ) (r : Reading) → slice_get (readings_in ys) i ≡ Some r → Steady f r) → (w : Value-F Value) → out-Value v ≡ w
+      → Always f (λ g. let cs = map (closed types (there g) own) (readings_in ys) in AsksWide w g (T.Tuple (type_variables 0 cs)) cs)
+      → Goes past n f facts (reading_form (W.Parts (readings_in ys)) tells name) (Has v)
+  parts_known ys tells name v steady (V.Tuple vs) e h =
+      tuple_known types past own v vs e (parts_go ys tells (namings_of name) vs steady (λ g a.
+      tuple_in (nowhere (there g)) (map (closed types (there g) own) (readings_in ys)) vs (h g a)))
+  parts_known {f} ys tells name v steady w e h = no (h f.integers (same f))
+
+  form_reads : (y : Reading-F Wide Known) (tells : Bool) (name : Naming) (n : ℕ) (f : Point n) (facts : List Fact) (v : Value)
+      → Always f (λ g. closed_in g y ≡ closed_in f.integers y) → Always f (λ g. belongs types v (closed_in g y) ≡ true)
+      → Goes past n f facts (reading_form (reading_in y) tells name) (Has v)
+  unfolding TypGoes WideGoes
+  form_reads (W.Of t is ys) tells name n f facts v steady h =
+      typ_goes (readings_in ys) (go_in ys) t is tells name n f facts v (λ g a. ap assignment_of (steady g a))
+      (λ i r e g a. stood_same g f.integers (readings_in ys) i r (ap readings_of (steady g a)) e) h
+  form_reads (W.Widened y) tells name n f facts v steady h = y.1 name n f facts v h
+  form_reads (W.Parts ys) tells name n f facts v steady h =
+      parts_known ys tells name v
+      (λ i r e g a. each_same g f.integers (readings_in ys) i r
+      (same_lists (map (closed types (there g) own) (readings_in ys)) (map (closed types (there f.integers) own) (readings_in ys))
+      (ap readings_of (steady g a))) e)
+      (out-Value v) refl (λ g a.
+      let cs = map (closed types (there g) own) (readings_in ys) in
+      sym (belongs_form types v (T.Tuple (type_variables 0 cs)) (U.Tuple (type_variables 0 cs)) (nowhere (there g)) (closeds cs)
+      (U.rolls-Tuple (type_variables 0 cs))) ∙ h g a)
+  form_reads W.Hole tells name n f facts v steady h = no (sym (nothing_belongs types v (there f.integers)) ∙ h f.integers (same f))
+
+  rolled_reads : (y : Reading-F Wide Known) → ReadingGoes (roll-Reading (reading_in y))
+  unfolding ReadingGoes
+  rolled_reads y tells name n f facts v steady h =
+      let is : (g : Integers) → closed types (there g) own (roll-Reading (reading_in y)) ≡ closed_in g y =
+      λ g. closed_is types (there g) own (roll-Reading (reading_in y)) (reading_in y) refl in
+      subst (λ w. Goes past n f facts w (Has v)) (sym (opens_reading (reading_in y) tells name))
+      (form_reads y tells name n f facts v (λ g a. sym (is g) ∙ steady g a ∙ is f.integers) (λ g a. ap (belongs types v) (sym (is g)) ∙ h g a))
+
+  reading_goes : (r : Reading) → ReadingGoes r
+  reading_goes = ind-Reading WideGoes ReadingGoes (λ e y same_form. subst (λ d. WideGoes (roll-Indices d)) same_form (rolled_widens y))
+      (λ e y same_form. subst (λ d. ReadingGoes (roll-Reading d)) same_form (rolled_reads y))
+
+pub opening_sound : OpeningIsSound
+unfolding ReadingGoes
+opening_sound types past own r tells name n f facts v steady h =
+    reading_goes types past own r tells name n f facts v steady (λ g a. ap (belongs types v) (steady g a) ∙ h)
