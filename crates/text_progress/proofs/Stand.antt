@@ -260,7 +260,7 @@ got_less (y ∷ xs) (suc i) x e = later i (length xs) (got_less xs i x e)
 
 module _ (text : List Def) (end : Place) (cycle : List ℕ → Option ℕ) (accepted : IsAccepted text end) (kept : refusal (tabled_of text) text ≡ None)
     (is_written : IsWritten text) (manners : HasManners text) where
-  clear : NothingFails text
+  abbrev clear : NothingFails text
   clear = nothing_fails text end accepted
 
   parts : TuplesHaveParts text
@@ -285,7 +285,8 @@ module _ (text : List Def) (end : Place) (cycle : List ℕ → Option ℕ) (acce
       → (c : Choice) (vs : List Value) → LetsThere (in_plain text [] names) c (opening_world vs) → Inside (in_plain text [] names) [] c (opening_world vs)
   initial_world names named plain are c vs there =
       Insides.measured_inside text cycle known typed [] names [] c (opening_world vs) are plain refl there
-      (plain_given_at text clear kept is_written [] names (opening_world vs) (none_bound (opening_world vs).numbers)) (fields_below (in_plain text [] names).setting row_fields)
+      (plain_given_at text clear kept is_written [] names (opening_world vs) (none_bound (opening_world {X = Value} vs).numbers)) (fields_below
+      (in_plain text [] names).setting row_fields)
 
   let_among : (lets : List Local) (name : List ℕ) (i : ℕ) (s : Shape)
       → (setting_of (tabled_of text) (own_in (tabled_of text) text) text lets []).value name ≡ Some (M.Let i s)
@@ -305,7 +306,7 @@ module _ (text : List Def) (end : Place) (cycle : List ℕ → Option ℕ) (acce
   signed : EachSigned text text
   signed = each_signed text clear (types_known text clear.types) (vals_signed text (types_known text clear.types) 0 text clear.bodies) is_written
 
-  has_all : EachHas (tabled_of text) text
+  abbrev has_all : EachHas (tabled_of text) text
   has_all = each_has text text (rows_are text clear (types_known text clear.types)) signed
 
   abbrev rank : ℕ → ℕ
