@@ -25,7 +25,7 @@ struct t('a : Type) = { g : list('a), h : int }
 %
 struct t('a : Type) = { g : list('a), h : int }
 # { let y = { struct t { g = [||], h = 1 } with g = [| 1 |] }; let z : t(int) = y; true }
-# 1 M05 1:1:1
+# 1 M21 1:5:84 number
 %
 register R : int
 val show_bool : bool -> int
