@@ -1,0 +1,11 @@
+pub mod Manners
+pub mod ExpForms
+pub mod PartForms
+pub mod DefForms
+pub mod Rows
+pub mod ExpRows
+pub mod OperatorRows
+pub mod BlockRows
+pub mod DefRows
+pub mod Parsed
+pub mod Gathered

@@ -1,1 +1,4 @@
-pub mod Laws
+pub mod Parsed
+pub mod Models
+pub mod Runs
+pub mod Words

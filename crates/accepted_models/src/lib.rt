@@ -1,6 +1,9 @@
-//! That the core of texts that the program accepts does what the texts do.
+//! What is so of texts that the program accepts, with no premise on their trees, and that words have an answer.
 #![tactic(auto)]
 
 mod laws;
 
-pub use laws::accepted_models_mean_text;
+pub use laws::{
+    accepted_models_go_on, accepted_models_mean_text, parsed_texts_go_on,
+    parsed_texts_have_manners, words_have_an_answer,
+};

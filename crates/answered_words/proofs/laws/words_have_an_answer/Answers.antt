@@ -1,4 +1,0 @@
-use Rattle.answered_words.proofs.laws.words_have_an_answer.Goals as goal
-
-pub returns : goal.returns
-returns c = λ words files. c.words_have_one_answer.ensures.some c.tokens_are_decided.ensures words files

@@ -1,8 +1,0 @@
-use Rattle.scattered.specs.Gathered.{gathered}
-use Rattle.parsed_manners.proofs.DefForms.{defs_have}
-use Rattle.parsed_manners.proofs.Gathered.{gathered_fine}
-use Rattle.parsed_manners.proofs.Parsed.{parsed_fine}
-use Rattle.parsed_manners.proofs.laws.parsed_texts_have_manners.Goals as goal
-
-pub returns : goal.returns
-returns c = λ tokens text model. defs_have (gathered text) (gathered_fine text (parsed_fine tokens text model))
