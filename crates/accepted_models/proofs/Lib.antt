@@ -9,3 +9,4 @@ pub mod BlockRows
 pub mod DefRows
 pub mod Parsed
 pub mod Gathered
+pub mod Starts

@@ -1,4 +1,5 @@
 pub mod Parsed
 pub mod Models
+pub mod Starts
 pub mod Runs
 pub mod Words

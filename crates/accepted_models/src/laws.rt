@@ -1,7 +1,8 @@
 //! Laws of texts that the program accepts, and of its answers: each function's contract is one, and it does nothing.
 ghost use Rattle.accepted_models.specs.Parsed.{ParsedTextsGoOn, ParsedTextsHaveManners};
 ghost use Rattle.accepted_models.specs.Models.{AcceptedModelsMeanText};
-ghost use Rattle.accepted_models.specs.Runs.{AcceptedModelsGoOn};
+ghost use Rattle.accepted_models.specs.Runs.{AcceptedModelsGoOn, AcceptedModelsOpen};
+ghost use Rattle.accepted_models.specs.Starts.{FreshStatesAreFit};
 ghost use Rattle.accepted_models.specs.Words.{WordsHaveAnAnswer};
 
 use decided_tokens::tokens_are_decided;
@@ -37,6 +38,19 @@ pub fn accepted_models_go_on()
     parsed_texts_are_written();
     parsed_texts_have_manners();
     accepted_texts_go_on();
+}
+
+/// The state in which a run of a model begins has each register of each hart at a value of its shape, where the type of each has a zero.
+pub fn fresh_states_are_fit()
+    ensures { FreshStatesAreFit }
+{}
+
+/// The openings of texts that the program accepts come from that state to values of their shapes, or stop.
+pub fn accepted_models_open()
+    ensures { AcceptedModelsOpen }
+{
+    accepted_models_go_on();
+    fresh_states_are_fit();
 }
 
 /// Words have an answer over files that are told.

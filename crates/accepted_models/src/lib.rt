@@ -4,6 +4,6 @@
 mod laws;
 
 pub use laws::{
-    accepted_models_go_on, accepted_models_mean_text, parsed_texts_go_on,
-    parsed_texts_have_manners, words_have_an_answer,
+    accepted_models_go_on, accepted_models_mean_text, accepted_models_open, fresh_states_are_fit,
+    parsed_texts_go_on, parsed_texts_have_manners, words_have_an_answer,
 };
