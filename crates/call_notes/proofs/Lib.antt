@@ -1,5 +1,6 @@
 pub mod Firsts
 pub mod Freshes
+pub mod Givens
 pub mod Integers
 pub mod KnownCalls
 pub mod Owed

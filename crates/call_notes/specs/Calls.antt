@@ -16,7 +16,8 @@ use Rattle.value_indices.specs.declared.indices.Reading.{Reading}
 use Rattle.value_indices.specs.declared.indices.Reading.TheVariants as R
 use Rattle.value_fits.specs.Fitting.{fits, owe_fit}
 use Rattle.pattern_leaves.specs.Settings.{Around}
-use Rattle.call_notes.specs.Ends.{any_never, fits_unless, never_value, opened_at, wrong_value}
+use Rattle.call_notes.specs.Ends.{any_never, fits_unless, never_value, wrong_value}
+use Rattle.call_notes.specs.Noted.{made_opened, node_ended}
 use Rattle.call_arguments.specs.Callees.{indices_from, number_parameters, numbers_from, type_parameters, types_from, types_or, was_due}
 use Rattle.call_arguments.specs.Holes.{types_without_holes}
 use Rattle.call_arguments.specs.Placing.{call_conditions}
@@ -31,7 +32,7 @@ noted_call place k is callee js qs = note (λ facts. call_note facts place k is 
 abbrev pub function_called : Around → Place → ℕ → ℕ → Function → List Index → List Reading → List Bool → List Indices → Walk Indices
 function_called around place k i f js qs bs is =
     bind (owe_fit place (call_conditions (fits around.types) f js qs bs is)) (λ t.
-    bind (noted_call place k is (D.Function i) js qs) (λ u. opened_at place (R.Of f.result js qs)))
+    bind (noted_call place k is (D.Function i) js qs) (λ u. made_opened place k is (R.Of f.result js qs)))
 
 abbrev pub known_call : Around → Place → ℕ → ℕ → Function → List Bool → List Indices → Walk Indices
 known_call around place k i f bs is =
@@ -47,7 +48,7 @@ function_call around place k i (Some f) bs is = known_call around place k i f bs
 abbrev pub direction_applied : Around → Place → ℕ → ℕ → Direction → Bool → List Indices → Indices → Walk Indices
 direction_applied around place k d m b is i =
     bind (owe_fit place (fits_unless b around i (R.Of m.parameter [] []))) (λ t.
-    bind (noted_call place k is (D.Converts d) [] []) (λ u. opened_at place (R.Of m.result [] [])))
+    bind (noted_call place k is (D.Converts d) [] []) (λ u. made_opened place k is (R.Of m.result [] [])))
 
 abbrev pub direction_called : Around → Place → ℕ → ℕ → Direction → List Bool → List Indices → Walk Indices
 direction_called around place k d m (b ∷ []) (i ∷ []) = direction_applied around place k d m b (i ∷ []) i
@@ -95,7 +96,7 @@ parameter_types None = []
 parameter_types (Some f) = f.parameters
 
 abbrev pub row_called : Place → ℕ → Row → List Indices → Walk Indices
-row_called place k row is = bind (noted_call place k is (D.Row row) [] []) (λ t. row_call place row is)
+row_called place k row is = bind (noted_call place k is (D.Row row) [] []) (λ t. bind (row_call place row is) (node_ended k is))
 
 -- on arguments that have been walked
 abbrev pub called : Around → Place → ℕ → Callee → List Bool → List Indices → Walk Indices

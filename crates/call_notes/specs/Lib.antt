@@ -1,3 +1,4 @@
 pub mod Ends
+pub mod Noted
 pub mod Rows
 pub mod Calls

@@ -6,7 +6,8 @@ ghost use Rattle.value_indices.specs.Walking as walk;
 ghost use Rattle.call_notes.specs.Calls as calls;
 ghost use Rattle.call_arguments.specs.Placing.{call_conditions as call_conditions_of};
 
-use crate::ends::{any_never, opened_at, owe_unless, wrong_value};
+use crate::ends::{any_never, owe_unless, wrong_value};
+use crate::noted::{made_opened, node_ended};
 use crate::rows::row_call;
 use call_arguments::{call_conditions, numbers_from, types_from, under};
 use pattern_leaves::Around;
@@ -104,7 +105,7 @@ fn function_called(
     note_call(
         alloc, walking, place, number, arguments, callee, indices, readings,
     )?;
-    opened_at(alloc, walking, place, &result)
+    made_opened(alloc, walking, place, number, arguments, &result)
 }
 
 /// A call of a function that is there.
@@ -195,7 +196,7 @@ fn direction_applied(
     note_call(
         alloc, walking, place, number, arguments, callee, indices, readings,
     )?;
-    opened_at(alloc, walking, place, &result)
+    made_opened(alloc, walking, place, number, arguments, &result)
 }
 
 /// A call of a direction on values that are there.
@@ -299,7 +300,8 @@ fn row_called(
     note_call(
         alloc, walking, place, number, arguments, callee, indices, readings,
     )?;
-    row_call(alloc, walking, place, row, arguments)
+    let value = row_call(alloc, walking, place, row, arguments)?;
+    node_ended(alloc, walking, number, arguments, value)
 }
 
 /// What a call, by the node of a number at a place, owes and gives, on arguments that have been walked, of which some owe what they owe

@@ -1,12 +1,13 @@
 //! What calls owe and make known, on arguments that have been walked.
 //!
-//! `specs/Ends` has the ends of values, `specs/Rows` calls of builtins, `specs/Calls` calls. What the arguments owe is in `call_arguments`,
-//! whose calls stand here too.
+//! `specs/Ends` has the ends of values, `specs/Noted` what is noted at a node that makes one, `specs/Rows` calls of builtins, `specs/Calls`
+//! calls. What the arguments owe is in `call_arguments`, whose calls stand here too.
 #![tactic(auto)]
 
 mod calls;
 mod ends;
 mod made;
+mod noted;
 mod numbers;
 mod rows;
 
@@ -20,5 +21,6 @@ pub use ends::{
     owe_value, settled, wrong_value,
 };
 pub use made::{made_named, part_owed};
+pub use noted::{made_by_type, made_by_value, made_opened, node_ended, node_given, note_numbers};
 pub use numbers::Numbers;
 pub use rows::row_call;

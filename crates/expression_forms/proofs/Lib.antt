@@ -4,7 +4,6 @@ pub mod NumberMasses
 pub mod Bounds
 pub mod SpotMasses
 pub mod SpotForms
-pub mod Noted
 pub mod Forms
 pub mod Tuples
 pub mod Groups

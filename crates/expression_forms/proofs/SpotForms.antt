@@ -23,23 +23,24 @@ use Rattle.expression_forms.proofs.Rests.{all_behind, rest_is}
 pub wrong_is : (around : Around) (s : code.Spot) (place : Place) → s ≡ V.Wrong place → spot_of around s ≡ wrong_spot place
 wrong_is around s place is = ap (spot_of around) (is ∙ sym (V.rolls-Wrong place)) ∙ code.fold-roll-Spot Spot (spot_form around) (S.Wrong place)
 
-pub named_is : (around : Around) (s : code.Spot) (place : Place) (name : List ℕ) (r : Reading) → s ≡ V.Named place name r
-    → spot_of around s ≡ named_spot around place name r
-named_is around s place name r is =
-    ap (spot_of around) (is ∙ sym (V.rolls-Named place name r)) ∙ code.fold-roll-Spot Spot (spot_form around) (S.Named place name r)
+pub named_is : (around : Around) (s : code.Spot) (place : Place) (k : ℕ) (name : List ℕ) (r : Reading) → s ≡ V.Named place k name r
+    → spot_of around s ≡ named_spot around place k name r
+named_is around s place k name r is =
+    ap (spot_of around) (is ∙ sym (V.rolls-Named place k name r)) ∙ code.fold-roll-Spot Spot (spot_form around) (S.Named place k name r)
 
-pub call_is : (around : Around) (s : code.Spot) (place : Place) (reader : Option Caller) (writer : Caller) (bs cs : List Bool) (is js : List Indices)
-    → s ≡ V.Call place reader writer bs is → cs ≡ bs → js ≡ is → spot_of around s ≡ call_spot around place reader writer cs js
-call_is around s place reader writer bs cs is js at same like =
-    ap (spot_of around) (at ∙ sym (V.rolls-Call place reader writer bs is))
-    ∙ code.fold-roll-Spot Spot (spot_form around) (S.Call place reader writer bs is)
-    ∙ (λ j. call_spot around place reader writer (sym same j) (sym like j))
+pub call_is : (around : Around) (s : code.Spot) (place : Place) (k : ℕ) (reader : Option Caller) (writer : Caller) (bs cs : List Bool)
+    (is js : List Indices) → s ≡ V.Call place k reader writer bs is → cs ≡ bs → js ≡ is
+    → spot_of around s ≡ call_spot around place k reader writer cs js
+call_is around s place k reader writer bs cs is js at same like =
+    ap (spot_of around) (at ∙ sym (V.rolls-Call place k reader writer bs is))
+    ∙ code.fold-roll-Spot Spot (spot_form around) (S.Call place k reader writer bs is)
+    ∙ (λ j. call_spot around place k reader writer (sym same j) (sym like j))
 
-pub tuple_is : (around : Around) (s : code.Spot) (place : Place) (ss ts : List code.Spot) → s ≡ V.Tuple place ss → ts ≡ ss
-    → spot_of around s ≡ tuple_spot place (map (spot_of around) ts)
-tuple_is around s place ss ts is same =
-    ap (spot_of around) (is ∙ sym (V.rolls-Tuple place ss)) ∙ code.fold-roll-Spot Spot (spot_form around) (S.Tuple place ss)
-    ∙ (λ j. tuple_spot place (map (spot_of around) (sym same j)))
+pub tuple_is : (around : Around) (s : code.Spot) (place : Place) (k : ℕ) (ss ts : List code.Spot) → s ≡ V.Tuple place k ss → ts ≡ ss
+    → spot_of around s ≡ tuple_spot place k (map (spot_of around) ts)
+tuple_is around s place k ss ts is same =
+    ap (spot_of around) (is ∙ sym (V.rolls-Tuple place k ss)) ∙ code.fold-roll-Spot Spot (spot_form around) (S.Tuple place k ss)
+    ∙ (λ j. tuple_spot place k (map (spot_of around) (sym same j)))
 
 -- ---- several, read in order
 

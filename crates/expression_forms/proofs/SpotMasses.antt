@@ -10,7 +10,7 @@ sum_of [] = 0
 sum_of (x ∷ xs) = x + sum_of xs
 
 form_mass : Spot-F ℕ → ℕ
-form_mass (S.Tuple place ss) = 8 + sum_of ss
+form_mass (S.Tuple place k ss) = 8 + sum_of ss
 form_mass s = 8
 
 pub spot_mass : Spot → ℕ
@@ -19,12 +19,12 @@ spot_mass = fold-Spot ℕ form_mass
 pub spot_masses : List Spot → ℕ
 spot_masses ss = sum_of (map spot_mass ss)
 
-pub tuple_mass : (place : Place) (ss : List Spot) → spot_mass (V.Tuple place ss) ≡ 8 + spot_masses ss
+pub tuple_mass : (place : Place) (k : ℕ) (ss : List Spot) → spot_mass (V.Tuple place k ss) ≡ 8 + spot_masses ss
 unfolding spot_mass spot_masses form_mass
-tuple_mass place ss = ap spot_mass (sym (V.rolls-Tuple place ss)) ∙ fold-roll-Spot ℕ form_mass (S.Tuple place ss)
+tuple_mass place k ss = ap spot_mass (sym (V.rolls-Tuple place k ss)) ∙ fold-roll-Spot ℕ form_mass (S.Tuple place k ss)
 
-pub tuple_opens : (s : Spot) (place : Place) (ss ts : List Spot) → s ≡ V.Tuple place ss → ts ≡ ss → spot_mass s ≡ 8 + spot_masses ts
-tuple_opens s place ss ts is same = ap spot_mass is ∙ tuple_mass place ss ∙ ap (λ (us : List Spot). 8 + spot_masses us) (sym same)
+pub tuple_opens : (s : Spot) (place : Place) (k : ℕ) (ss ts : List Spot) → s ≡ V.Tuple place k ss → ts ≡ ss → spot_mass s ≡ 8 + spot_masses ts
+tuple_opens s place k ss ts is same = ap spot_mass is ∙ tuple_mass place k ss ∙ ap (λ (us : List Spot). 8 + spot_masses us) (sym same)
 
 first_spot : (s : Spot) (ss : List Spot) → spot_masses (s ∷ ss) ≡ spot_mass s + spot_masses ss
 unfolding spot_masses sum_of

@@ -1,5 +1,5 @@
 -- Literals, and names that are read (Sail language manual, "Literals", "Variables and assignment", "Registers").
-use Rattle.std.specs.Prelude.{List, None, Option, Some, length, pos, ℕ, []}
+use Rattle.std.specs.Prelude.{List, None, Option, Some, length, pos, ℕ, [], ◌∷◌}
 use Rattle.sail_base.specs.declared.place.Place.{Place}
 use Rattle.sail_types.specs.Sums.{constant}
 use Rattle.sail_types.specs.declared.numbers.Con.TheVariants as C
@@ -17,12 +17,14 @@ use Rattle.value_indices.specs.declared.indices.Indices.TheOpen.{Reading-F}
 use Rattle.value_indices.specs.declared.indices.Naming.TheVariants as M
 use Rattle.value_indices.specs.declared.indices.Reading.{Reading, out-Reading}
 use Rattle.value_indices.specs.declared.indices.Reading.TheVariants as R
+use Rattle.value_indices.specs.declared.notes.Made.TheVariants as Makes
 use Rattle.wide_types.specs.Widening.{filled}
 use Rattle.pattern_leaves.specs.declared.names.Held.{Held}
 use Rattle.pattern_leaves.specs.declared.names.Held.TheVariants as H
 use Rattle.pattern_leaves.specs.declared.names.TopLevel.{TopLevel}
 use Rattle.pattern_leaves.specs.declared.names.TopLevel.TheVariants as T
 use Rattle.call_notes.specs.Ends.{sized_by, wrong_value}
+use Rattle.call_notes.specs.Noted.{node_ended, node_made}
 
 abbrev pub literal_indices : Literal → Indices
 literal_indices L.Unit = I.Unit
@@ -37,11 +39,15 @@ literal_indices (L.Member e k) = I.Named e [] []
 abbrev pub named_opened : Place → List ℕ → Reading → Walk Indices
 named_opened place name r = bind (sized_by place r) (λ t. opened_for (M.Named name) r)
 
+-- the same where the node of a number reads it
+abbrev pub named_read : Place → ℕ → List ℕ → Reading → Walk Indices
+named_read place k name r = bind (node_made k [] (Makes.ByType r)) (λ t. named_opened place name r)
+
 -- a name in scope
-abbrev pub held_walk : Place → List ℕ → Option Held → Walk Indices
-held_walk place name None = wrong_value place
-held_walk place name (Some (H.Value i)) = give i
-held_walk place name (Some (H.Var r)) = named_opened place name r
+abbrev pub held_walk : Place → ℕ → List ℕ → Option Held → Walk Indices
+held_walk place k name None = wrong_value place
+held_walk place k name (Some (H.Value i)) = node_ended k (i ∷ []) i
+held_walk place k name (Some (H.Var r)) = named_read place k name r
 
 -- the type of a top-level `let` where it is read: a number of a type that is found names the `let`'s own variables, unless it is constant,
 -- and is any number elsewhere; a type that is written names none
@@ -52,18 +58,21 @@ read_form types r form = give r
 abbrev pub type_read : Types → Reading → Walk Reading
 type_read types r = read_form types r (out-Reading r)
 
-abbrev pub read_opened : Types → List ℕ → Reading → Walk Indices
-read_opened types name r = bind (type_read types r) (λ q. opened_for (M.Named name) q)
+abbrev pub made_read : ℕ → List ℕ → Reading → Walk Indices
+made_read k name r = bind (node_made k [] (Makes.ByType r)) (λ t. opened_for (M.Named name) r)
+
+abbrev pub read_opened : Types → ℕ → List ℕ → Reading → Walk Indices
+read_opened types k name r = bind (type_read types r) (made_read k name)
 
 -- a name that a top-level `let` bound
-abbrev pub top_level_walk : Types → Place → Option TopLevel → Walk Indices
-top_level_walk types place None = wrong_value place
-top_level_walk types place (Some (T.Known i)) = give i
-top_level_walk types place (Some (T.Read name r)) = read_opened types name r
+abbrev pub top_level_walk : Types → Place → ℕ → Option TopLevel → Walk Indices
+top_level_walk types place k None = wrong_value place
+top_level_walk types place k (Some (T.Known i)) = node_ended k [] i
+top_level_walk types place k (Some (T.Read name r)) = read_opened types k name r
 
 abbrev pub register_type : Register → Reading
 register_type r = R.Of r.typ [] []
 
-abbrev pub register_walk : Place → Option Register → Walk Indices
-register_walk place None = wrong_value place
-register_walk place (Some r) = named_opened place r.name (register_type r)
+abbrev pub register_walk : Place → ℕ → Option Register → Walk Indices
+register_walk place k None = wrong_value place
+register_walk place k (Some r) = named_read place k r.name (register_type r)

@@ -19,10 +19,12 @@ use Rattle.pattern_leaves.specs.Settings.{Around}
 use Rattle.pattern_leaves.specs.declared.names.Held.{Held}
 use Rattle.pattern_leaves.specs.declared.names.Held.TheVariants as H
 use Rattle.call_notes.specs.Ends.{fits_unless, wrong_value}
+use Rattle.call_notes.specs.Noted.{node_ended, node_given, numbers_noted}
 use Rattle.call_arguments.specs.Callees.{is_closed}
 use Rattle.call_notes.specs.Calls.{called, callee_types}
-use Rattle.expression_forms.specs.Names.{named_opened, register_type}
-use Rattle.expression_forms.specs.Ways.{owe_part, part_fits, part_read}
+use Rattle.expression_forms.specs.Names.{named_read, register_type}
+use Rattle.expression_forms.specs.Nodes.{put}
+use Rattle.expression_forms.specs.Ways.{owe_part, part_fits, part_made}
 use Rattle.expression_forms.specs.declared.pending.Left as pending
 use Rattle.expression_forms.specs.declared.pending.Left.TheOpen as L
 use Rattle.expression_forms.specs.declared.pending.Wrote as written
@@ -38,10 +40,12 @@ pub record Wrote : Type 0 where
 abbrev pub wrote : (ℕ → Fitted) → Indices → Wrote
 wrote left answer = record { left = left; answer = answer }
 
--- the type of what is assigned; how it is read as the base of a part; what a new value owes, and what one of which a part is replaced does
+-- the type of what is assigned; how it is read as the base of a part, and what that gives: a run reads it once its part's new value is there;
+-- what a new value owes, and what one of which a part is replaced does
 pub record Spot : Type 0 where
   pub typ : Reading
   pub read : Walk Indices
+  pub given : Indices → Walk (Unit {0})
   pub write : Bool → Indices → Walk Wrote
   pub renew : Indices → Walk Indices
 
@@ -54,11 +58,12 @@ wrong_write place = bind (wrong_value place) gives
 
 -- ---- names: the assignment owes
 
-abbrev pub named_spot : Around → Place → List ℕ → Reading → Spot
-named_spot around place name r = record {
+abbrev pub named_spot : Around → Place → ℕ → List ℕ → Reading → Spot
+named_spot around place k name r = record {
   typ = r;
-  read = named_opened place name r;
-  write = λ is_nested i. give (wrote (fits_unless is_nested around i r) I.Unit);
+  read = named_read place k name r;
+  given = numbers_noted k;
+  write = λ is_nested i. bind (put k (i ∷ []) r i) (λ t. give (wrote (fits_unless is_nested around i r) I.Unit));
   renew = λ i. give I.Unit;
 }
 
@@ -66,17 +71,18 @@ abbrev pub wrong_spot : Place → Spot
 wrong_spot place = record {
   typ = R.Hole;
   read = wrong_value place;
+  given = λ i. give tt;
   write = λ is_nested i. wrong_write place;
   renew = λ i. wrong_value place;
 }
 
-abbrev pub held_spot : Around → Place → List ℕ → Option Held → Spot
-held_spot around place name (Some (H.Var r)) = named_spot around place name r
-held_spot around place name held = wrong_spot place
+abbrev pub held_spot : Around → Place → ℕ → List ℕ → Option Held → Spot
+held_spot around place k name (Some (H.Var r)) = named_spot around place k name r
+held_spot around place k name held = wrong_spot place
 
-abbrev pub register_spot : Around → Place → Option Register → Spot
-register_spot around place None = wrong_spot place
-register_spot around place (Some r) = named_spot around place r.name (register_type r)
+abbrev pub register_spot : Around → Place → ℕ → Option Register → Spot
+register_spot around place k None = wrong_spot place
+register_spot around place k (Some r) = named_spot around place k r.name (register_type r)
 
 -- ---- parts: by an index one owes as reading and then the new value, at its bracket; by a field, the assignment does
 
@@ -91,18 +97,26 @@ abbrev pub part_write : Around → Place → Bool → Reached → Walk Indices �
 part_write around place false x again is_nested i = bind again (part_left around x is_nested i)
 part_write around place true x again is_nested i = bind (owe_part around place x is_nested i) (λ t. bind again gives)
 
--- behind it the base is written again, of which a part is replaced
-abbrev pub reached_spot : Around → Place → Way → Walk Indices → Reached → Spot
-reached_spot around place way again x = record {
+abbrev pub part_put : Around → Place → ℕ → Bool → Reached → Walk Indices → Bool → Indices → Walk Wrote
+part_put around place k owes x again is_nested i =
+    bind (put k (i ∷ []) x.typ i) (λ t. part_write around place owes x again is_nested i)
+
+-- behind it the base is read and written again, of which a part is replaced
+abbrev pub rewritten : Spot → Indices → Walk Indices
+rewritten base held = bind (base.given held) (λ t. base.renew held)
+
+abbrev pub reached_spot : Around → Place → ℕ → Way → Spot → Indices → Reached → Spot
+reached_spot around place k way base held x = record {
   typ = x.typ;
-  read = part_read place x;
-  write = part_write around place (owes_itself way) x again;
-  renew = λ j. again;
+  read = part_made place k [] x;
+  given = λ j. bind (base.given held) (λ t. numbers_noted k j);
+  write = part_put around place k (owes_itself way) x (rewritten base held);
+  renew = λ j. rewritten base held;
 }
 
-abbrev pub part_spot : Around → Place → Way → Walk Indices → Option Reached → Spot
-part_spot around place way again None = wrong_spot place
-part_spot around place way again (Some x) = reached_spot around place way again x
+abbrev pub part_spot : Around → Place → ℕ → Way → Spot → Indices → Option Reached → Spot
+part_spot around place k way base held None = wrong_spot place
+part_spot around place k way base held (Some x) = reached_spot around place k way base held x
 
 -- ---- calls: `f(a) = e` is `f(a, e)`
 
@@ -122,12 +136,32 @@ asked around place (Some c) bs is = called around place c.number c.callee bs is
 abbrev pub asked_with : Around → Place → Caller → List Bool → List Indices → Bool → Indices → Walk Indices
 asked_with around place writer bs is b i = asked around place (Some writer) (bs ++ b ∷ []) (is ++ i ∷ [])
 
-abbrev pub call_spot : Around → Place → Option Caller → Caller → List Bool → List Indices → Spot
-call_spot around place reader writer bs is = record {
-  typ = last_type (callee_types around writer.callee);
+-- what it gives, with its numbers
+abbrev pub answered : Around → Place → Caller → List Bool → List Indices → Bool → Indices → Walk Indices
+answered around place writer bs is b i = bind (asked_with around place writer bs is b i) (node_given writer.number)
+
+abbrev pub reader_given : Option Caller → Indices → Walk (Unit {0})
+reader_given None i = give tt
+reader_given (Some c) i = numbers_noted c.number i
+
+abbrev pub writer_type : Around → Caller → Reading
+writer_type around writer = last_type (callee_types around writer.callee)
+
+-- it gets the new value, and the one of which a part was replaced, at its own number
+abbrev pub call_written : Around → Place → ℕ → Caller → List Bool → List Indices → Bool → Indices → Walk Indices
+call_written around place k writer bs is b i =
+    bind (put k (i ∷ []) (writer_type around writer) i) (λ t. answered around place writer bs is b i)
+
+abbrev pub call_renewed : Around → Place → ℕ → Caller → List Bool → List Indices → Indices → Walk Indices
+call_renewed around place k writer bs is i = bind (put k [] (writer_type around writer) i) (λ t. answered around place writer bs is false i)
+
+abbrev pub call_spot : Around → Place → ℕ → Option Caller → Caller → List Bool → List Indices → Spot
+call_spot around place k reader writer bs is = record {
+  typ = writer_type around writer;
   read = asked around place reader bs is;
-  write = λ is_nested i. bind (asked_with around place writer bs is is_nested i) gives;
-  renew = λ i. asked_with around place writer bs is false i;
+  given = reader_given reader;
+  write = λ is_nested i. bind (call_written around place k writer bs is is_nested i) gives;
+  renew = call_renewed around place k writer bs is;
 }
 
 -- ---- tuples
@@ -163,10 +197,11 @@ tuple_write place ss is_nested (W.Tuple is) = each_written place ss is_nested is
 tuple_write place ss is_nested W.Never = gives I.Unit
 tuple_write place ss is_nested form = wrong_write place
 
-abbrev pub tuple_spot : Place → List Spot → Spot
-tuple_spot place ss = record {
+abbrev pub tuple_spot : Place → ℕ → List Spot → Spot
+tuple_spot place k ss = record {
   typ = R.Parts (map (λ s. s.typ) ss);
-  read = bind (each_read ss) (λ is. give (I.Tuple is));
+  read = bind (each_read ss) (λ is. node_ended k is (I.Tuple is));
+  given = λ i. give tt;
   write = λ is_nested i. tuple_write place ss is_nested (out-Indices i);
   renew = λ i. wrong_value place;
 }
@@ -183,10 +218,10 @@ written_by place s is_nested i = bind (s.write is_nested i) (owed_answer place)
 
 abbrev pub spot_form : Around → code.Spot-F Spot → Spot
 spot_form around (S.Wrong place) = wrong_spot place
-spot_form around (S.Named place name r) = named_spot around place name r
-spot_form around (S.Part place way base held x) = reached_spot around place way (base.renew held) x
-spot_form around (S.Call place reader writer bs is) = call_spot around place reader writer bs is
-spot_form around (S.Tuple place ss) = tuple_spot place ss
+spot_form around (S.Named place k name r) = named_spot around place k name r
+spot_form around (S.Part place k way base held x) = reached_spot around place k way base held x
+spot_form around (S.Call place k reader writer bs is) = call_spot around place k reader writer bs is
+spot_form around (S.Tuple place k ss) = tuple_spot place k ss
 
 abbrev pub spot_of : Around → code.Spot → Spot
 spot_of around = code.fold-Spot Spot (spot_form around)

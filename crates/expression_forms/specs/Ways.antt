@@ -1,5 +1,5 @@
 -- Ways into values, and parts that are read (Sail language manual, "Structs", "Vectors", "Bitvectors").
-use Rattle.std.specs.Prelude.{Bool, List, None, Option, Some, if◌then◌else◌, pos, slice_get, ℕ, [], ◌++◌, ◌∷◌}
+use Rattle.std.specs.Prelude.{Bool, List, None, Option, Some, if◌then◌else◌, map, pos, slice_get, ℕ, [], ◌++◌, ◌∷◌}
 use Rattle.sail_base.specs.declared.place.Place.{Place}
 use Rattle.sail_types.specs.Named.{fields}
 use Rattle.sail_types.specs.Sums.{and_then, constant, difference, sum, zero_num}
@@ -22,6 +22,7 @@ use Rattle.value_fits.specs.Fitting.{also, owe_fit, says}
 use Rattle.value_fits.specs.declared.fitted.Fitted.{Fitted}
 use Rattle.pattern_leaves.specs.Settings.{Around}
 use Rattle.call_notes.specs.Ends.{fits_unless, is_never, never_value, opened_at, wrong_value}
+use Rattle.call_notes.specs.Noted.{made_opened, node_given}
 use Rattle.expression_forms.specs.declared.ways.Ends.{Ends}
 use Rattle.expression_forms.specs.declared.ways.Reached.{Reached}
 
@@ -43,10 +44,14 @@ fields_at (k ∷ ks) (Some fs) = field_typ k fs ++ fields_at ks (Some fs)
 abbrev pub fields_of : Around → ℕ → List ℕ → List Typ
 fields_of around u ks = fields_at ks (fields around.types u)
 
--- ---- what has to be true for there to be such a part, and its type
+-- ---- what has to be true for there to be such a part, the numbers of its indexes, and its type
 
-abbrev pub reached : Conditions → Reading → Option Reached
-reached cs r = Some (record { conditions = cs; typ = r })
+abbrev pub reached : Conditions → List Num → Reading → Option Reached
+reached cs ns r = Some (record { conditions = cs; numbers = ns; typ = r })
+
+-- the indexes, as values
+abbrev pub indexed : Reached → List Indices
+indexed x = map (λ n. I.Integer n) x.numbers
 
 abbrev pub less : Num → Num → Con
 less t u = C.Compare Is.Less t u
@@ -71,7 +76,7 @@ abbrev pub with_width : Num → Num → Walk (Option Ends)
 with_width high low = bind (number_or_fresh (slice_width high low)) (λ w. give (Some (ends high low w)))
 
 abbrev pub field_reached : List Typ → List Index → List Reading → Option Reached
-field_reached (t ∷ ts) is rs = reached [] (R.Of t is rs)
+field_reached (t ∷ ts) is rs = reached [] [] (R.Of t is rs)
 field_reached [] is rs = None
 
 abbrev pub into_field : Around → ℕ → ℕ → Indices-F Indices Reading → Option Reached
@@ -79,12 +84,12 @@ into_field around u k (W.Named v is rs) = field_reached (fields_of around u (k �
 into_field around u k form = None
 
 abbrev pub into_item : Num → Indices-F Indices Reading → Option Reached
-into_item i (W.Bits n) = reached (inside_length i n) (R.Widened I.Bit)
-into_item i (W.Vector n r) = reached (inside_length i n) r
+into_item i (W.Bits n) = reached (inside_length i n) (i ∷ []) (R.Widened I.Bit)
+into_item i (W.Vector n r) = reached (inside_length i n) (i ∷ []) r
 into_item i form = None
 
 abbrev pub into_slice : Num → Num → Num → Indices-F Indices Reading → Option Reached
-into_slice hi lo width (W.Bits n) = reached (inside_slice hi lo n) (R.Widened (I.Bits width))
+into_slice hi lo width (W.Bits n) = reached (inside_slice hi lo n) (hi ∷ lo ∷ []) (R.Widened (I.Bits width))
 into_slice hi lo width form = None
 
 -- ---- parts that are read: each owes, and is opened
@@ -99,6 +104,19 @@ abbrev pub read_into : Place → Indices → Option Reached → Walk Indices
 read_into place i None = if_never_value place i
 read_into place i (Some x) = part_read place x
 
+-- by the node of a number, of these operands
+abbrev pub part_made : Place → ℕ → List Indices → Reached → Walk Indices
+part_made place k is x = bind (owe place x.conditions) (λ t. made_opened place k is x.typ)
+
+-- a suffix takes a part out of a value, and gives its numbers
+abbrev pub taken_out : Place → ℕ → Indices → Option Reached → Walk Indices
+taken_out place k i None = if_never_value place i
+taken_out place k i (Some x) = bind (part_made place k (i ∷ indexed x) x) (node_given k)
+
+-- a suffix of a target makes nothing: it is a way to what is written
+abbrev pub suffix_read : Bool → Place → ℕ → Indices → Option Reached → Walk Indices
+suffix_read is_target place k i x = if is_target then read_into place i x else taken_out place k i x
+
 -- ---- parts that get a value
 
 -- that there is such a part, and that the value is of its type, unless it owes that itself
@@ -107,3 +125,7 @@ part_fits around x is_nested j n = also (says x.conditions n) (fits_unless is_ne
 
 abbrev pub owe_part : Around → Place → Reached → Bool → Indices → Walk (Unit {0})
 owe_part around place x is_nested j = owe_fit place (part_fits around x is_nested j)
+
+-- what a value with another part is made of
+abbrev pub update_operands : Indices → Reached → Indices → List Indices
+update_operands i x j = i ∷ indexed x ++ j ∷ []

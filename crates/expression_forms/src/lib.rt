@@ -2,7 +2,7 @@
 //!
 //! `specs/Names` has literals and names that are read, `specs/Sizes` `sizeof` and `constraint`, `specs/Truths` conditions, `specs/Ways` ways
 //! into values, `specs/Meeting` where branches meet, `specs/Inside` what stands in types inside others, `specs/Spots` what is assigned to,
-//! `specs/Scopes` the names in scope, `specs/Nodes` the end of a node.
+//! `specs/Scopes` the names in scope, `specs/Nodes` where a value comes to the type that is wanted.
 #![tactic(auto)]
 
 mod inside;
@@ -18,7 +18,7 @@ mod ways;
 
 pub use meeting::{first_way, like_first, met_ways, thrown};
 pub use names::{literal_indices, read_held, read_register, read_top_level};
-pub use nodes::made_at;
+pub use nodes::{cast_ended, cast_given};
 pub use pending::{Left, Wrote};
 pub use scopes::{Scope, look_up};
 pub use sizes::{constraint, size};
@@ -26,5 +26,5 @@ pub use spots::Spot;
 pub use truths::{and_right, claim_of, negated, or_right, truth_of};
 pub use ways::{
     Ends, Reached, fields_of, if_never_value, into_field, into_item, into_slice, owe_part,
-    read_into, with_width,
+    read_suffix, update_operands, with_width,
 };

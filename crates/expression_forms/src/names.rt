@@ -1,11 +1,12 @@
 //! Literals, and names that are read.
-ghost use Rattle.std.specs.Prelude.{◌≡◌, IfOk, OnOk};
+ghost use Rattle.std.specs.Prelude.{◌≡◌, [], ◌∷◌, IfOk, OnOk};
 ghost use Rattle.std.specs.Option.{option_copied};
 ghost use Rattle.value_indices.specs.Walking as walk;
 ghost use Rattle.value_indices.specs.declared.indices.Naming.TheVariants as M;
+ghost use Rattle.call_notes.specs.Noted as noted;
 ghost use Rattle.expression_forms.specs.Names as names;
 
-use call_notes::{note_type, under, wrong_value};
+use call_notes::{made_by_type, node_ended, note_type, under, wrong_value};
 use model_state::Register;
 use pattern_leaves::{Held, TopLevel};
 use sail_base::{Items, Place, Text};
@@ -41,7 +42,7 @@ fn named(name: &Text) -> Result<Naming, AllocError>
 
 /// A value of a type, opened for a name; its sizes are noted before. It fails where memory is wanting, and where variables are too many.
 #[tactic(auto, using(value_indices::proofs::Walks::walks))]
-pub(crate) fn named_opened(
+fn named_opened(
     alloc: Global,
     walking: &mut Walking,
     place: Place,
@@ -56,24 +57,60 @@ pub(crate) fn named_opened(
     opened_for(alloc, walking, &naming, reading)
 }
 
-/// A name in scope, by what it is. It fails where memory is wanting, and where variables are too many.
+/// The same where the node of a number reads it, which is noted. It fails where memory is wanting, and where variables are too many.
+#[tactic(auto, using(value_indices::proofs::Walks::walks))]
+pub(crate) fn named_read(
+    alloc: Global,
+    walking: &mut Walking,
+    place: Place,
+    number: u32,
+    name: &Text,
+    reading: &Reading,
+) -> Result<Indices, AllocError>
+    ensures value { IfOk result (λ made. made
+        ≡ walk.got (names.named_read place number name.now reading.now) (walk.seen walking.old)) }
+    ensures walked { OnOk result (walk.seen walking.new
+        ≡ walk.run (names.named_read place number name.now reading.now) (walk.seen walking.old)) }
+{
+    made_by_type(alloc, walking, number, &[], reading)?;
+    named_opened(alloc, walking, place, name, reading)
+}
+
+/// A value that has a name, as the node of a number reads it, which is noted. It fails where memory is wanting.
+fn value_read(
+    alloc: Global,
+    walking: &mut Walking,
+    number: u32,
+    value: &Indices,
+) -> Result<Indices, AllocError>
+    ensures value { IfOk result (λ made. made
+        ≡ walk.got (noted.node_ended number (value.now ∷ []) value.now) (walk.seen walking.old)) }
+    ensures walked { OnOk result (walk.seen walking.new
+        ≡ walk.run (noted.node_ended number (value.now ∷ []) value.now) (walk.seen walking.old)) }
+{
+    let read = copy_indices(alloc, value)?;
+    node_ended(alloc, walking, number, std::slice::from_ref(value), read)
+}
+
+/// A name in scope, by what it is, as the node of a number reads it. It fails where memory is wanting, and where variables are too many.
 #[tactic(auto, using(value_indices::proofs::Walks::walks))]
 pub fn read_held(
     alloc: Global,
     walking: &mut Walking,
     place: Place,
+    number: u32,
     name: &Text,
     held: Option<&Held>,
 ) -> Result<Indices, AllocError>
     ensures value { IfOk result (λ made. made
-        ≡ walk.got (names.held_walk place name.now (option_copied held.entry)) (walk.seen walking.old)) }
+        ≡ walk.got (names.held_walk place number name.now (option_copied held.entry)) (walk.seen walking.old)) }
     ensures walked { OnOk result (walk.seen walking.new
-        ≡ walk.run (names.held_walk place name.now (option_copied held.entry)) (walk.seen walking.old)) }
+        ≡ walk.run (names.held_walk place number name.now (option_copied held.entry)) (walk.seen walking.old)) }
 {
     match held {
         None => wrong_value(alloc, walking, place),
-        Some(Held::Value(value)) => copy_indices(alloc, value),
-        Some(Held::Var(reading)) => named_opened(alloc, walking, place, name, reading),
+        Some(Held::Value(value)) => value_read(alloc, walking, number, value),
+        Some(Held::Var(reading)) => named_read(alloc, walking, place, number, name, reading),
     }
 }
 
@@ -97,41 +134,80 @@ fn type_read(
     }
 }
 
-/// A value of the type of a top-level `let`, opened for its name. It fails where memory is wanting, and where variables are too many.
+/// A value of a type that the node of a number reads, which is noted, opened for a name. It fails where memory is wanting, and where
+/// variables are too many.
+#[tactic(auto, using(value_indices::proofs::Walks::walks))]
+fn made_read(
+    alloc: Global,
+    walking: &mut Walking,
+    number: u32,
+    name: &Text,
+    reading: &Reading,
+) -> Result<Indices, AllocError>
+    ensures value { IfOk result (λ made. made ≡ walk.got (names.made_read number name.now reading.now) (walk.seen walking.old)) }
+    ensures walked { OnOk result (walk.seen walking.new ≡ walk.run (names.made_read number name.now reading.now) (walk.seen walking.old)) }
+{
+    made_by_type(alloc, walking, number, &[], reading)?;
+    let naming = named(name)?;
+    opened_for(alloc, walking, &naming, reading)
+}
+
+/// A value of the type of a top-level `let`, opened for its name, as the node of a number reads it. It fails where memory is wanting, and
+/// where variables are too many.
 #[tactic(auto, using(value_indices::proofs::Walks::walks))]
 fn read_opened(
     alloc: Global,
     walking: &mut Walking,
     types: &Types,
+    number: u32,
     name: &Text,
     reading: &Reading,
 ) -> Result<Indices, AllocError>
-    ensures value { IfOk result (λ made. made ≡ walk.got (names.read_opened types.now name.now reading.now) (walk.seen walking.old)) }
-    ensures walked { OnOk result (walk.seen walking.new ≡ walk.run (names.read_opened types.now name.now reading.now) (walk.seen walking.old)) }
+    ensures value { IfOk result (λ made. made
+        ≡ walk.got (names.read_opened types.now number name.now reading.now) (walk.seen walking.old)) }
+    ensures walked { OnOk result (walk.seen walking.new
+        ≡ walk.run (names.read_opened types.now number name.now reading.now) (walk.seen walking.old)) }
 {
     let reading = type_read(alloc, walking, types, reading)?;
-    let naming = named(name)?;
-    opened_for(alloc, walking, &naming, &reading)
+    made_read(alloc, walking, number, name, &reading)
 }
 
-/// A name that a top-level `let` bound. It fails where memory is wanting, and where variables are too many.
+/// A value that a top-level `let` bound, as the node of a number reads it, which is noted. It fails where memory is wanting.
+fn constant_read(
+    alloc: Global,
+    walking: &mut Walking,
+    number: u32,
+    value: &Indices,
+) -> Result<Indices, AllocError>
+    ensures value { IfOk result (λ made. made ≡ walk.got (noted.node_ended number [] value.now) (walk.seen walking.old)) }
+    ensures walked { OnOk result (walk.seen walking.new ≡ walk.run (noted.node_ended number [] value.now) (walk.seen walking.old)) }
+{
+    let read = copy_indices(alloc, value)?;
+    node_ended(alloc, walking, number, &[], read)
+}
+
+/// A name that a top-level `let` bound, as the node of a number reads it. It fails where memory is wanting, and where variables are too
+/// many.
 #[tactic(auto, using(value_indices::proofs::Walks::walks))]
 pub fn read_top_level(
     alloc: Global,
     walking: &mut Walking,
     types: &Types,
     place: Place,
+    number: u32,
     bound: Option<&TopLevel>,
 ) -> Result<Indices, AllocError>
     ensures value { IfOk result (λ made. made
-        ≡ walk.got (names.top_level_walk types.now place (option_copied bound.entry)) (walk.seen walking.old)) }
+        ≡ walk.got (names.top_level_walk types.now place number (option_copied bound.entry)) (walk.seen walking.old)) }
     ensures walked { OnOk result (walk.seen walking.new
-        ≡ walk.run (names.top_level_walk types.now place (option_copied bound.entry)) (walk.seen walking.old)) }
+        ≡ walk.run (names.top_level_walk types.now place number (option_copied bound.entry)) (walk.seen walking.old)) }
 {
     match bound {
         None => wrong_value(alloc, walking, place),
-        Some(TopLevel::Known(value)) => copy_indices(alloc, value),
-        Some(TopLevel::Read(name, reading)) => { read_opened(alloc, walking, types, name, reading) }
+        Some(TopLevel::Known(value)) => constant_read(alloc, walking, number, value),
+        Some(TopLevel::Read(name, reading)) => {
+            read_opened(alloc, walking, types, number, name, reading)
+        }
     }
 }
 
@@ -142,23 +218,24 @@ pub(crate) fn register_type(alloc: Global, register: &Register) -> Result<Readin
     under(alloc, &register.typ, &[], &[])
 }
 
-/// A register. It fails where memory is wanting, and where variables are too many.
+/// A register, as the node of a number reads it. It fails where memory is wanting, and where variables are too many.
 pub fn read_register(
     alloc: Global,
     walking: &mut Walking,
     place: Place,
+    number: u32,
     register: Option<&Register>,
 ) -> Result<Indices, AllocError>
     ensures value { IfOk result (λ made. made
-        ≡ walk.got (names.register_walk place (option_copied register.entry)) (walk.seen walking.old)) }
+        ≡ walk.got (names.register_walk place number (option_copied register.entry)) (walk.seen walking.old)) }
     ensures walked { OnOk result (walk.seen walking.new
-        ≡ walk.run (names.register_walk place (option_copied register.entry)) (walk.seen walking.old)) }
+        ≡ walk.run (names.register_walk place number (option_copied register.entry)) (walk.seen walking.old)) }
 {
     match register {
         None => wrong_value(alloc, walking, place),
         Some(register) => {
             let reading = register_type(alloc, register)?;
-            named_opened(alloc, walking, place, &register.name, &reading)
+            named_read(alloc, walking, place, number, &register.name, &reading)
         }
     }
 }

@@ -1,16 +1,23 @@
 //! What is assigned to, once the indexes in it have been walked.
-ghost use Rattle.std.specs.Prelude.{◌≡◌, map, IfOk, OnOk};
+ghost use Rattle.std.specs.Prelude.{◌≡◌, [], ◌∷◌, map, IfOk, OnOk};
 ghost use Rattle.std.specs.Option.{option_copied};
 ghost use Rattle.value_indices.specs.Walking as walk;
 ghost use Rattle.value_indices.specs.declared.indices.Indices.{out-Indices};
+ghost use Rattle.value_indices.specs.declared.indices.Indices.TheVariants as I;
 ghost use Rattle.pattern_leaves.specs.Settings as settings;
 ghost use Rattle.pattern_leaves.specs.Settings.{around_of};
+ghost use Rattle.call_notes.specs.Ends.{fits_unless};
+ghost use Rattle.call_notes.specs.Noted as noted;
+ghost use Rattle.expression_forms.specs.Nodes as nodes;
 ghost use Rattle.expression_forms.specs.Spots as spec;
 
-use crate::names::{named_opened, register_type};
+use crate::names::{named_read, register_type};
+use crate::nodes::put;
 use crate::pending::Wrote;
 use crate::ways::{Reached, owe_part};
-use call_notes::{called, callee_types, is_closed, under, wrong_value};
+use call_notes::{
+    called, callee_types, is_closed, node_ended, node_given, note_numbers, under, wrong_value,
+};
 use model_state::Register;
 use pattern_leaves::{Around, Held};
 use sail_base::{Boxed, Items, Place, Text};
@@ -23,14 +30,15 @@ use value_indices::{Indices, Reading, Walking, copy_each, copy_indices, copy_rea
 pub enum Spot {
     /// Nothing that can be assigned to, at this place.
     Wrong(Place),
-    /// A `var` or a register at a place: its name, and its type.
-    Named(Place, Text, Reading),
-    /// A part at a place: the last way into it, the spot of which it is a part, the value there, and the part.
-    Part(Place, Way, Boxed<Spot>, Indices, Reached),
-    /// A call at a place: what reads it, what writes it, and the arguments, each with whether it owes what is wanted of it further in.
-    Call(Place, Option<Caller>, Caller, Items<bool>, Items<Indices>),
-    /// A tuple at a place.
-    Tuple(Place, Items<Spot>),
+    /// A `var` or a register at a place: its number, its name, and its type.
+    Named(Place, u32, Text, Reading),
+    /// A part at a place: its number, the last way into it, the spot of which it is a part, the value there, and the part.
+    Part(Place, u32, Way, Boxed<Spot>, Indices, Reached),
+    /// A call at a place: its number, what reads it, what writes it, and the arguments, each with whether it owes what is wanted of it
+    /// further in.
+    Call(Place, u32, Option<Caller>, Caller, Items<bool>, Items<Indices>),
+    /// A tuple at a place, and its number.
+    Tuple(Place, u32, Items<Spot>),
 }
 
 impl Drop for Spot {
@@ -38,10 +46,10 @@ impl Drop for Spot {
     fn drop(self) {
         match self {
             Spot::Wrong(_) => {}
-            Spot::Named(_, _, _) => {}
-            Spot::Part(_, _, _, _, _) => {}
-            Spot::Call(_, _, _, _, _) => {}
-            Spot::Tuple(_, _) => {}
+            Spot::Named(_, _, _, _) => {}
+            Spot::Part(_, _, _, _, _, _) => {}
+            Spot::Call(_, _, _, _, _, _) => {}
+            Spot::Tuple(_, _, _) => {}
         }
     }
 }
@@ -51,16 +59,18 @@ impl Spot {
     pub fn held(
         alloc: Global,
         place: Place,
+        number: u32,
         name: &Text,
         held: Option<&Held>,
     ) -> Result<Spot, AllocError>
         ensures { IfOk result (λ made. (around : settings.Around)
-            → spec.spot_of around made ≡ spec.held_spot around place name.now (option_copied held.entry)) }
+            → spec.spot_of around made ≡ spec.held_spot around place number name.now (option_copied held.entry)) }
     {
         match held {
             Some(Held::Var(reading)) => {
                 let name = name.clone()?;
-                Ok(Spot::Named(place, name, copy_reading(alloc, reading)?))
+                let reading = copy_reading(alloc, reading)?;
+                Ok(Spot::Named(place, number, name, reading))
             }
             _ => Ok(Spot::Wrong(place)),
         }
@@ -70,16 +80,18 @@ impl Spot {
     pub fn register(
         alloc: Global,
         place: Place,
+        number: u32,
         register: Option<&Register>,
     ) -> Result<Spot, AllocError>
         ensures { IfOk result (λ made. (around : settings.Around)
-            → spec.spot_of around made ≡ spec.register_spot around place (option_copied register.entry)) }
+            → spec.spot_of around made ≡ spec.register_spot around place number (option_copied register.entry)) }
     {
         match register {
             None => Ok(Spot::Wrong(place)),
             Some(register) => {
                 let name = register.name.clone()?;
-                Ok(Spot::Named(place, name, register_type(alloc, register)?))
+                let reading = register_type(alloc, register)?;
+                Ok(Spot::Named(place, number, name, reading))
             }
         }
     }
@@ -88,17 +100,21 @@ impl Spot {
     pub fn part(
         alloc: Global,
         place: Place,
+        number: u32,
         way: Way,
         base: Spot,
         held: Indices,
         reached: Option<Reached>,
     ) -> Result<Spot, AllocError>
         ensures { IfOk result (λ made. (around : settings.Around)
-            → spec.spot_of around made ≡ spec.part_spot around place way (spec.Spot.renew (spec.spot_of around base) held) reached) }
+            → spec.spot_of around made ≡ spec.part_spot around place number way (spec.spot_of around base) held reached) }
     {
         match reached {
             None => Ok(Spot::Wrong(place)),
-            Some(reached) => Ok(Spot::Part(place, way, Boxed::new(alloc, base)?, held, reached)),
+            Some(reached) => {
+                let base = Boxed::new(alloc, base)?;
+                Ok(Spot::Part(place, number, way, base, held, reached))
+            }
         }
     }
 
@@ -109,10 +125,10 @@ impl Spot {
     {
         match self {
             Spot::Wrong(_) => Ok(Reading::Hole),
-            Spot::Named(_, _, reading) => copy_reading(alloc, reading),
-            Spot::Part(_, _, _, _, reached) => copy_reading(alloc, &reached.typ),
-            Spot::Call(_, _, writer, _, _) => last_type(alloc, callee_types(around, writer.callee)),
-            Spot::Tuple(_, spots) => {
+            Spot::Named(_, _, _, reading) => copy_reading(alloc, reading),
+            Spot::Part(_, _, _, _, _, reached) => copy_reading(alloc, &reached.typ),
+            Spot::Call(_, _, _, writer, _, _) => writer_type(alloc, around, writer),
+            Spot::Tuple(_, _, spots) => {
                 let parts = each_typ(alloc, around, spots.as_slice())?;
                 Ok(Reading::Parts(parts))
             }
@@ -135,11 +151,13 @@ impl Spot {
     {
         match self {
             Spot::Wrong(place) => wrong_value(alloc, walking, *place),
-            Spot::Named(place, name, reading) => {
-                named_opened(alloc, walking, *place, name, reading)
+            Spot::Named(place, number, name, reading) => {
+                named_read(alloc, walking, *place, *number, name, reading)
             }
-            Spot::Part(place, _, _, _, reached) => reached.read(alloc, walking, *place),
-            Spot::Call(place, reader, _, nested, arguments) => asked(
+            Spot::Part(place, number, _, _, _, reached) => {
+                reached.make(alloc, walking, *place, *number, &[])
+            }
+            Spot::Call(place, _, reader, _, nested, arguments) => asked(
                 alloc,
                 walking,
                 around,
@@ -148,10 +166,35 @@ impl Spot {
                 nested.as_slice(),
                 arguments.as_slice(),
             ),
-            Spot::Tuple(_, spots) => {
+            Spot::Tuple(_, number, spots) => {
                 let parts = read_each(alloc, walking, around, spots.as_slice())?;
-                Ok(Indices::Tuple(parts))
+                tuple_ended(alloc, walking, *number, parts)
             }
+        }
+    }
+
+    /// Notes what its read gives in a run, where this is there: of a part first what the read of its base does. It fails where memory is
+    /// wanting.
+    #[tactic(auto, using(value_indices::proofs::Walks::walks))]
+    fn note_given(
+        &self,
+        alloc: Global,
+        walking: &mut Walking,
+        around: &Around<'_>,
+        value: &Indices,
+    ) -> Result<(), AllocError>
+        ensures { OnOk result (walk.seen walking.new
+            ≡ walk.run (spec.Spot.given (spec.spot_of (around_of around.now) self.now) value.now) (walk.seen walking.old)) }
+    {
+        match self {
+            Spot::Wrong(_) => Ok(()),
+            Spot::Named(_, number, _, _) => note_numbers(alloc, walking, *number, value),
+            Spot::Part(_, number, _, base, held, _) => {
+                base.get().note_given(alloc, walking, around, held)?;
+                note_numbers(alloc, walking, *number, value)
+            }
+            Spot::Call(_, _, reader, _, _, _) => reader_given(alloc, walking, *reader, value),
+            Spot::Tuple(_, _, _) => Ok(()),
         }
     }
 
@@ -172,20 +215,23 @@ impl Spot {
     {
         match self {
             Spot::Wrong(place) => wrong_value(alloc, walking, *place),
-            Spot::Named(_, _, _) => Ok(Indices::Unit),
-            Spot::Part(_, _, base, held, _) => base.get().renew(alloc, walking, around, held),
-            Spot::Call(place, _, writer, nested, arguments) => asked_with(
+            Spot::Named(_, _, _, _) => Ok(Indices::Unit),
+            Spot::Part(_, _, _, base, held, _) => {
+                base.get().note_given(alloc, walking, around, held)?;
+                base.get().renew(alloc, walking, around, held)
+            }
+            Spot::Call(place, number, _, writer, nested, arguments) => renew_call(
                 alloc,
                 walking,
                 around,
                 *place,
+                *number,
                 *writer,
                 nested.as_slice(),
                 arguments.as_slice(),
-                false,
                 value,
             ),
-            Spot::Tuple(place, _) => wrong_value(alloc, walking, *place),
+            Spot::Tuple(place, _, _) => wrong_value(alloc, walking, *place),
         }
     }
 
@@ -207,12 +253,15 @@ impl Spot {
     {
         match self {
             Spot::Wrong(place) => wrong_write(alloc, walking, *place),
-            Spot::Named(_, _, reading) => Wrote::of_value(alloc, is_nested, value, reading),
-            Spot::Part(place, way, base, held, reached) => write_part(
+            Spot::Named(_, number, _, reading) => {
+                write_named(alloc, walking, *number, reading, is_nested, value)
+            }
+            Spot::Part(place, number, way, base, held, reached) => put_part(
                 alloc,
                 walking,
                 around,
                 *place,
+                *number,
                 *way,
                 base.get(),
                 held,
@@ -220,12 +269,13 @@ impl Spot {
                 is_nested,
                 value,
             ),
-            Spot::Call(place, _, writer, nested, arguments) => {
-                let answer = asked_with(
+            Spot::Call(place, number, _, writer, nested, arguments) => {
+                let answer = write_call(
                     alloc,
                     walking,
                     around,
                     *place,
+                    *number,
                     *writer,
                     nested.as_slice(),
                     arguments.as_slice(),
@@ -234,7 +284,7 @@ impl Spot {
                 )?;
                 Ok(Wrote::gives(answer))
             }
-            Spot::Tuple(place, spots) => write_tuple(
+            Spot::Tuple(place, _, spots) => write_tuple(
                 alloc,
                 walking,
                 around,
@@ -288,6 +338,13 @@ fn last_type(alloc: Global, types: &[Typ]) -> Result<Reading, AllocError>
         None => Ok(Reading::Hole),
         Some(typ) => closed_type(alloc, typ),
     }
+}
+
+/// What is wanted of what a call writes: the type of its last parameter. It fails where memory is wanting, and where binders are too many.
+fn writer_type(alloc: Global, around: &Around<'_>, writer: &Caller) -> Result<Reading, AllocError>
+    ensures { IfOk result (λ made. made ≡ spec.writer_type (around_of around.now) writer.now) }
+{
+    last_type(alloc, callee_types(around, writer.callee))
 }
 
 /// The types of what is assigned to several. It fails where memory is wanting, and where binders are too many.
@@ -369,6 +426,123 @@ fn asked_with(
     )
 }
 
+/// The same with the numbers of what it gives, which are noted from here on. It fails where memory is wanting, and where variables are too
+/// many.
+#[tactic(auto, using(value_indices::proofs::Walks::walks))]
+fn answered(
+    alloc: Global,
+    walking: &mut Walking,
+    around: &Around<'_>,
+    place: Place,
+    writer: Caller,
+    nested: &[bool],
+    arguments: &[Indices],
+    is_nested: bool,
+    value: &Indices,
+) -> Result<Indices, AllocError>
+    ensures value { IfOk result (λ made. made
+        ≡ walk.got (spec.answered (around_of around.now) place writer nested.now arguments.now is_nested value.now) (walk.seen walking.old)) }
+    ensures walked { OnOk result (walk.seen walking.new
+        ≡ walk.run (spec.answered (around_of around.now) place writer nested.now arguments.now is_nested value.now) (walk.seen walking.old)) }
+{
+    let answer = asked_with(
+        alloc, walking, around, place, writer, nested, arguments, is_nested, value,
+    )?;
+    node_given(alloc, walking, writer.number, answer)
+}
+
+/// Notes the numbers of what is read by a call, if one reads. It fails where memory is wanting.
+#[tactic(auto, using(value_indices::proofs::Walks::walks))]
+fn reader_given(
+    alloc: Global,
+    walking: &mut Walking,
+    reader: Option<Caller>,
+    value: &Indices,
+) -> Result<(), AllocError>
+    ensures { OnOk result (walk.seen walking.new ≡ walk.run (spec.reader_given reader value.now) (walk.seen walking.old)) }
+{
+    match reader {
+        None => Ok(()),
+        Some(reader) => note_numbers(alloc, walking, reader.number, value),
+    }
+}
+
+/// Writes a new value by a call, which gets it at its own number. It fails where memory is wanting, and where variables are too many.
+#[tactic(auto, using(value_indices::proofs::Walks::walks))]
+fn write_call(
+    alloc: Global,
+    walking: &mut Walking,
+    around: &Around<'_>,
+    place: Place,
+    number: u32,
+    writer: Caller,
+    nested: &[bool],
+    arguments: &[Indices],
+    is_nested: bool,
+    value: &Indices,
+) -> Result<Indices, AllocError>
+    ensures value { IfOk result (λ made. made
+        ≡ walk.got (spec.call_written (around_of around.now) place number writer nested.now arguments.now is_nested value.now)
+        (walk.seen walking.old)) }
+    ensures walked { OnOk result (walk.seen walking.new
+        ≡ walk.run (spec.call_written (around_of around.now) place number writer nested.now arguments.now is_nested value.now)
+        (walk.seen walking.old)) }
+{
+    let typ = writer_type(alloc, around, &writer)?;
+    put(
+        alloc,
+        walking,
+        number,
+        std::slice::from_ref(value),
+        &typ,
+        value,
+    )?;
+    answered(
+        alloc, walking, around, place, writer, nested, arguments, is_nested, value,
+    )
+}
+
+/// Writes it again by a call, with this value, of which a part was replaced. It fails where memory is wanting, and where variables are too
+/// many.
+#[tactic(auto, using(value_indices::proofs::Walks::walks))]
+fn renew_call(
+    alloc: Global,
+    walking: &mut Walking,
+    around: &Around<'_>,
+    place: Place,
+    number: u32,
+    writer: Caller,
+    nested: &[bool],
+    arguments: &[Indices],
+    value: &Indices,
+) -> Result<Indices, AllocError>
+    ensures value { IfOk result (λ made. made
+        ≡ walk.got (spec.call_renewed (around_of around.now) place number writer nested.now arguments.now value.now) (walk.seen walking.old)) }
+    ensures walked { OnOk result (walk.seen walking.new
+        ≡ walk.run (spec.call_renewed (around_of around.now) place number writer nested.now arguments.now value.now) (walk.seen walking.old)) }
+{
+    let typ = writer_type(alloc, around, &writer)?;
+    put(alloc, walking, number, &[], &typ, value)?;
+    answered(
+        alloc, walking, around, place, writer, nested, arguments, false, value,
+    )
+}
+
+/// A tuple of what several hold, as the node of a number makes it, which is noted. It fails where memory is wanting.
+fn tuple_ended(
+    alloc: Global,
+    walking: &mut Walking,
+    number: u32,
+    parts: Items<Indices>,
+) -> Result<Indices, AllocError>
+    ensures value { IfOk result (λ made. made ≡ walk.got (noted.node_ended number parts (I.Tuple parts)) (walk.seen walking.old)) }
+    ensures walked { OnOk result (walk.seen walking.new ≡ walk.run (noted.node_ended number parts (I.Tuple parts)) (walk.seen walking.old)) }
+{
+    let operands = copy_each(alloc, parts.as_slice())?;
+    let value = Indices::Tuple(parts);
+    node_ended(alloc, walking, number, operands.as_slice(), value)
+}
+
 /// Several, read in order. It fails where memory is wanting, and where variables are too many.
 #[cycle(spot_read)]
 fn read_each(
@@ -410,6 +584,85 @@ fn wrong_write(alloc: Global, walking: &mut Walking, place: Place) -> Result<Wro
     Ok(Wrote::gives(answer))
 }
 
+/// Writes a `var` or a register of a number and a type. It fails where memory is wanting.
+fn write_named(
+    alloc: Global,
+    walking: &mut Walking,
+    number: u32,
+    reading: &Reading,
+    is_nested: bool,
+    value: &Indices,
+) -> Result<Wrote, AllocError>
+    ensures value { IfOk result (λ made. (around : settings.Around)
+        → spec.wrote_of around made ≡ spec.wrote (fits_unless is_nested around value.now reading.now) I.Unit) }
+    ensures walked { OnOk result (walk.seen walking.new
+        ≡ walk.run (nodes.put number (value.now ∷ []) reading.now value.now) (walk.seen walking.old)) }
+{
+    put(
+        alloc,
+        walking,
+        number,
+        std::slice::from_ref(value),
+        reading,
+        value,
+    )?;
+    Wrote::of_value(alloc, is_nested, value, reading)
+}
+
+/// The base of a part is read and written again, where this is there: what that gives. It fails where memory is wanting, and where variables
+/// are too many.
+#[tactic(auto, using(value_indices::proofs::Walks::walks))]
+fn rewrite(
+    alloc: Global,
+    walking: &mut Walking,
+    around: &Around<'_>,
+    base: &Spot,
+    held: &Indices,
+) -> Result<Indices, AllocError>
+    ensures value { IfOk result (λ made. made
+        ≡ walk.got (spec.rewritten (spec.spot_of (around_of around.now) base.now) held.now) (walk.seen walking.old)) }
+    ensures walked { OnOk result (walk.seen walking.new
+        ≡ walk.run (spec.rewritten (spec.spot_of (around_of around.now) base.now) held.now) (walk.seen walking.old)) }
+{
+    base.note_given(alloc, walking, around, held)?;
+    base.renew(alloc, walking, around, held)
+}
+
+/// Writes a part, which gets the new value at its own number. It fails where memory is wanting, and where variables are too many.
+#[tactic(auto, using(value_indices::proofs::Walks::walks))]
+fn put_part(
+    alloc: Global,
+    walking: &mut Walking,
+    around: &Around<'_>,
+    place: Place,
+    number: u32,
+    way: Way,
+    base: &Spot,
+    held: &Indices,
+    reached: &Reached,
+    is_nested: bool,
+    value: &Indices,
+) -> Result<Wrote, AllocError>
+    ensures value { IfOk result (λ made. spec.wrote_of (around_of around.now) made
+        ≡ walk.got (spec.part_put (around_of around.now) place number (spec.owes_itself way) reached.now
+        (spec.rewritten (spec.spot_of (around_of around.now) base.now) held.now) is_nested value.now) (walk.seen walking.old)) }
+    ensures walked { OnOk result (walk.seen walking.new
+        ≡ walk.run (spec.part_put (around_of around.now) place number (spec.owes_itself way) reached.now
+        (spec.rewritten (spec.spot_of (around_of around.now) base.now) held.now) is_nested value.now) (walk.seen walking.old)) }
+{
+    put(
+        alloc,
+        walking,
+        number,
+        std::slice::from_ref(value),
+        &reached.typ,
+        value,
+    )?;
+    write_part(
+        alloc, walking, around, place, way, base, held, reached, is_nested, value,
+    )
+}
+
 /// Writes a part: the base is written again. It fails where memory is wanting, and where variables are too many.
 #[tactic(auto, using(value_indices::proofs::Walks::walks))]
 fn write_part(
@@ -426,17 +679,17 @@ fn write_part(
 ) -> Result<Wrote, AllocError>
     ensures value { IfOk result (λ made. spec.wrote_of (around_of around.now) made
         ≡ walk.got (spec.part_write (around_of around.now) place (spec.owes_itself way) reached.now
-        (spec.Spot.renew (spec.spot_of (around_of around.now) base.now) held.now) is_nested value.now) (walk.seen walking.old)) }
+        (spec.rewritten (spec.spot_of (around_of around.now) base.now) held.now) is_nested value.now) (walk.seen walking.old)) }
     ensures walked { OnOk result (walk.seen walking.new
         ≡ walk.run (spec.part_write (around_of around.now) place (spec.owes_itself way) reached.now
-        (spec.Spot.renew (spec.spot_of (around_of around.now) base.now) held.now) is_nested value.now) (walk.seen walking.old)) }
+        (spec.rewritten (spec.spot_of (around_of around.now) base.now) held.now) is_nested value.now) (walk.seen walking.old)) }
 {
     if owes_itself(way) {
         owe_part(alloc, walking, around, place, reached, is_nested, value)?;
-        let answer = base.renew(alloc, walking, around, held)?;
+        let answer = rewrite(alloc, walking, around, base, held)?;
         Ok(Wrote::gives(answer))
     } else {
-        let answer = base.renew(alloc, walking, around, held)?;
+        let answer = rewrite(alloc, walking, around, base, held)?;
         Wrote::of_part(alloc, reached, is_nested, value, answer)
     }
 }

@@ -1,27 +1,32 @@
 //! Ways into values, and parts that are read.
-ghost use Rattle.std.specs.Prelude.{◌≡◌, ◌++◌, Some, slice_get, IfOk, OnOk};
+ghost use Rattle.std.specs.Prelude.{◌≡◌, [], ◌∷◌, ◌++◌, Some, map, slice_get, IfOk, OnOk};
 ghost use Rattle.std.specs.Option.{option_copied};
 ghost use Rattle.pattern_leaves.specs.Settings.{around_of};
 ghost use Rattle.value_indices.specs.Opening as opening;
 ghost use Rattle.value_indices.specs.Walking as walk;
 ghost use Rattle.value_indices.specs.declared.indices.Indices.{out-Indices};
+ghost use Rattle.value_indices.specs.declared.indices.Indices.TheVariants as I;
 ghost use Rattle.value_indices.specs.declared.indices.Reading.TheVariants as R;
 ghost use Rattle.expression_forms.specs.Ways as ways;
 
-use call_notes::{fits_unless, is_never, opened_at, under, wrong_value};
+use call_notes::{fits_unless, is_never, made_opened, node_given, opened_at, under, wrong_value};
 use pattern_leaves::Around;
 use sail_base::{Boxed, Items, Place};
 use sail_types::{Comparison, Con, Field, Index, Num, Typ, add, copy_con, copy_num, subtract};
 use std::alloc::{AllocError, Global};
 use type_arguments::copy_typ;
 use value_fits::{Fitted, Wanted, owe_fit};
-use value_indices::{Indices, Reading, Walking, at_most, copy_reading, number_or_fresh, zero_num};
+use value_indices::{
+    Indices, Reading, Walking, at_most, copy_indices, copy_reading, number_or_fresh, zero_num,
+};
 
 /// A part of a value that a way reaches.
 #[derive(Drop)]
 pub struct Reached {
     /// What has to be true for there to be such a part.
     pub conditions: Items<Option<Con>>,
+    /// The numbers of the way's indexes.
+    pub numbers: Items<Num>,
     /// The part's type.
     pub typ: Reading,
 }
@@ -171,7 +176,12 @@ fn field_reached(
         Some(typ) => {
             let typ = under(alloc, typ, indices, readings)?;
             let conditions = Items::new(alloc);
-            Ok(Some(Reached { conditions, typ }))
+            let numbers = Items::new(alloc);
+            Ok(Some(Reached {
+                conditions,
+                numbers,
+                typ,
+            }))
         }
     }
 }
@@ -208,6 +218,25 @@ fn widened(alloc: Global, value: Indices) -> Result<Reading, AllocError>
     Ok(Reading::Widened(Boxed::new(alloc, value)?))
 }
 
+/// The number of the one index. It fails where memory is wanting.
+fn one_number(alloc: Global, index: &Num) -> Result<Items<Num>, AllocError>
+    ensures { IfOk result (λ made. made ≡ index.now ∷ []) }
+{
+    let mut numbers = Items::new(alloc);
+    numbers.push(copy_num(alloc, index)?)?;
+    Ok(numbers)
+}
+
+/// Those of the two ends, the higher first. It fails where memory is wanting.
+fn two_numbers(alloc: Global, high: &Num, low: &Num) -> Result<Items<Num>, AllocError>
+    ensures { IfOk result (λ made. made ≡ high.now ∷ low.now ∷ []) }
+{
+    let mut numbers = Items::new(alloc);
+    numbers.push(copy_num(alloc, high)?)?;
+    numbers.push(copy_num(alloc, low)?)?;
+    Ok(numbers)
+}
+
 /// An item of a value; none where it has no items. It fails where memory is wanting.
 pub fn into_item(alloc: Global, index: &Num, value: &Indices) -> Result<Option<Reached>, AllocError>
     ensures { IfOk result (λ made. made ≡ ways.into_item index.now (out-Indices value.now)) }
@@ -215,13 +244,23 @@ pub fn into_item(alloc: Global, index: &Num, value: &Indices) -> Result<Option<R
     match value {
         Indices::Bits(length) => {
             let conditions = inside_length(alloc, index, length)?;
+            let numbers = one_number(alloc, index)?;
             let typ = widened(alloc, Indices::Bit)?;
-            Ok(Some(Reached { conditions, typ }))
+            Ok(Some(Reached {
+                conditions,
+                numbers,
+                typ,
+            }))
         }
         Indices::Vector(length, item) => {
             let conditions = inside_length(alloc, index, length)?;
+            let numbers = one_number(alloc, index)?;
             let typ = copy_reading(alloc, item.get())?;
-            Ok(Some(Reached { conditions, typ }))
+            Ok(Some(Reached {
+                conditions,
+                numbers,
+                typ,
+            }))
         }
         _ => Ok(None),
     }
@@ -240,8 +279,13 @@ pub fn into_slice(
     match value {
         Indices::Bits(length) => {
             let conditions = inside_slice(alloc, high, low, length)?;
+            let numbers = two_numbers(alloc, high, low)?;
             let typ = widened(alloc, Indices::Bits(width))?;
-            Ok(Some(Reached { conditions, typ }))
+            Ok(Some(Reached {
+                conditions,
+                numbers,
+                typ,
+            }))
         }
         _ => Ok(None),
     }
@@ -287,20 +331,101 @@ fn copy_condition(alloc: Global, condition: &Option<Con>) -> Result<Option<Con>,
     }
 }
 
+/// Numbers, copied. It fails where memory is wanting.
+fn copy_numbers(alloc: Global, numbers: &[Num]) -> Result<Items<Num>, AllocError>
+    ensures { IfOk result (λ made. made ≡ numbers.now) }
+{
+    let mut made = Items::new(alloc);
+    for number in numbers {
+        made.push(copy_num(alloc, number)?)?;
+    }
+    Ok(made)
+}
+
+/// A value, and behind it integers of these numbers. It fails where memory is wanting.
+fn with_integers(
+    alloc: Global,
+    value: &Indices,
+    numbers: &[Num],
+) -> Result<Items<Indices>, AllocError>
+    ensures { IfOk result (λ made. made ≡ value.now ∷ map (λ n. I.Integer n) numbers.now) }
+{
+    let mut made = Items::new(alloc);
+    made.push(copy_indices(alloc, value)?)?;
+    for number in numbers {
+        made.push(Indices::Integer(copy_num(alloc, number)?))?;
+    }
+    Ok(made)
+}
+
 impl Reached {
     /// The same. It fails where memory is wanting.
     pub fn copy(&self, alloc: Global) -> Result<Reached, AllocError>
         ensures { IfOk result (λ made. made ≡ self.now) }
     {
         let conditions = copy_conditions(alloc, self.conditions.as_slice())?;
+        let numbers = copy_numbers(alloc, self.numbers.as_slice())?;
         let typ = copy_reading(alloc, &self.typ)?;
-        Ok(Reached { conditions, typ })
+        Ok(Reached {
+            conditions,
+            numbers,
+            typ,
+        })
+    }
+
+    /// The value, and the indexes of the way into it. It fails where memory is wanting.
+    fn operands(&self, alloc: Global, value: &Indices) -> Result<Items<Indices>, AllocError>
+        ensures { IfOk result (λ made. made ≡ value.now ∷ ways.indexed self.now) }
+    {
+        with_integers(alloc, value, self.numbers.as_slice())
+    }
+
+    /// The part of a value, opened, as the node of a number makes it of these operands, which is noted; what has to be true for there to be
+    /// such a part is owed at a place. It fails where memory is wanting, and where variables are too many.
+    #[tactic(auto, using(value_indices::proofs::Walks::walks))]
+    pub(crate) fn make(
+        &self,
+        alloc: Global,
+        walking: &mut Walking,
+        place: Place,
+        number: u32,
+        operands: &[Indices],
+    ) -> Result<Indices, AllocError>
+        ensures value { IfOk result (λ made. made
+            ≡ walk.got (ways.part_made place number operands.now self.now) (walk.seen walking.old)) }
+        ensures walked { OnOk result (walk.seen walking.new
+            ≡ walk.run (ways.part_made place number operands.now self.now) (walk.seen walking.old)) }
+    {
+        let conditions = copy_conditions(alloc, self.conditions.as_slice())?;
+        walking.owe(alloc, place, conditions)?;
+        made_opened(alloc, walking, place, number, operands, &self.typ)
+    }
+
+    /// The part that a suffix of a number takes out of a value, with the numbers that it gives. It fails where memory is wanting, and where
+    /// variables are too many.
+    #[tactic(auto, using(value_indices::proofs::Walks::walks))]
+    fn take_out(
+        &self,
+        alloc: Global,
+        walking: &mut Walking,
+        place: Place,
+        number: u32,
+        value: &Indices,
+    ) -> Result<Indices, AllocError>
+        ensures value { IfOk result (λ made. made
+            ≡ walk.got (ways.taken_out place number value.now (Some self.now)) (walk.seen walking.old)) }
+        ensures walked { OnOk result (walk.seen walking.new
+            ≡ walk.run (ways.taken_out place number value.now (Some self.now)) (walk.seen walking.old)) }
+    {
+        let operands = self.operands(alloc, value)?;
+        let part = self.make(alloc, walking, place, number, operands.as_slice())?;
+        node_given(alloc, walking, number, part)
     }
 
     /// The part of a value, opened; what has to be true for there to be such a part is owed at a place. It fails where memory is
     /// wanting, and where variables are too many.
     #[tactic(auto, using(value_indices::proofs::Walks::walks))]
-    pub(crate) fn read(
+    fn read(
         &self,
         alloc: Global,
         walking: &mut Walking,
@@ -336,7 +461,7 @@ impl Reached {
 
 /// A part of a value that is read: it owes, and is opened. It fails where memory is wanting, and where variables are too many.
 #[tactic(auto, using(value_indices::proofs::Walks::walks))]
-pub fn read_into(
+fn read_into(
     alloc: Global,
     walking: &mut Walking,
     place: Place,
@@ -352,6 +477,65 @@ pub fn read_into(
         None => if_never_value(alloc, walking, place, value),
         Some(reached) => reached.read(alloc, walking, place),
     }
+}
+
+/// A part of a value that a suffix of a number takes out. It fails where memory is wanting, and where variables are too many.
+#[tactic(auto, using(value_indices::proofs::Walks::walks))]
+fn taken_out(
+    alloc: Global,
+    walking: &mut Walking,
+    place: Place,
+    number: u32,
+    value: &Indices,
+    reached: Option<&Reached>,
+) -> Result<Indices, AllocError>
+    ensures value { IfOk result (λ made. made
+        ≡ walk.got (ways.taken_out place number value.now (option_copied reached.entry)) (walk.seen walking.old)) }
+    ensures walked { OnOk result (walk.seen walking.new
+        ≡ walk.run (ways.taken_out place number value.now (option_copied reached.entry)) (walk.seen walking.old)) }
+{
+    match reached {
+        None => if_never_value(alloc, walking, place, value),
+        Some(reached) => reached.take_out(alloc, walking, place, number, value),
+    }
+}
+
+/// A part of a value by a suffix of a number: of a target it is read alone, since nothing is made there, and else taken out. It fails where
+/// memory is wanting, and where variables are too many.
+#[tactic(auto, using(value_indices::proofs::Walks::walks))]
+pub fn read_suffix(
+    alloc: Global,
+    walking: &mut Walking,
+    is_target: bool,
+    place: Place,
+    number: u32,
+    value: &Indices,
+    reached: Option<&Reached>,
+) -> Result<Indices, AllocError>
+    ensures value { IfOk result (λ made. made
+        ≡ walk.got (ways.suffix_read is_target place number value.now (option_copied reached.entry)) (walk.seen walking.old)) }
+    ensures walked { OnOk result (walk.seen walking.new
+        ≡ walk.run (ways.suffix_read is_target place number value.now (option_copied reached.entry)) (walk.seen walking.old)) }
+{
+    if is_target {
+        read_into(alloc, walking, place, value, reached)
+    } else {
+        taken_out(alloc, walking, place, number, value, reached)
+    }
+}
+
+/// What a value with another part is made of: what it was, the indexes of the way to the part, and that. It fails where memory is wanting.
+pub fn update_operands(
+    alloc: Global,
+    value: &Indices,
+    reached: &Reached,
+    part: &Indices,
+) -> Result<Items<Indices>, AllocError>
+    ensures { IfOk result (λ made. made ≡ ways.update_operands value.now reached.now part.now) }
+{
+    let mut operands = reached.operands(alloc, value)?;
+    operands.push(copy_indices(alloc, part)?)?;
+    Ok(operands)
 }
 
 /// Owes at a place that there is such a part, and that a new value of it is of its type, unless it owes that itself. It fails where

@@ -73,7 +73,7 @@ module _ (core : Core) (cs : List Core) (around : Around) (scope : Scope) (same 
     branches = branches_forms (out-Core core).place shape (each_part cs) around scope Aims.Free
 
     abbrev claims : Option (Con × Indices) → Walk (Option Con)
-    claims = claim_behind (out-Core core).place (out-Core core).number (each_part cs)
+    claims = claim_behind (out-Core core).place (each_part cs)
 
     if_got : met ≡ got branches w → v ≡ run branches w → got (claims met) v ≡ got claim w
     if_got found was = then_got branches claims w v met found was ∙ claim_got (K.If shape) is
@@ -87,7 +87,7 @@ module _ (core : Core) (cs : List Core) (around : Around) (scope : Scope) (same 
   -- of an assertion
   module _ (text : Option (List ℕ)) (is : (out-Core core).kind ≡ K.Assert text) where
     abbrev asserted : List Core → Walk (Option Con)
-    asserted qs = assert_state (out-Core core).place (out-Core core).number (each_part qs) around scope
+    asserted qs = assert_state (out-Core core).place (each_part qs) around scope
 
     assert_got : (qs : List Core) → cs ≡ qs → got (asserted qs) w ≡ got claim w
     assert_got qs opens = ap (λ (ds : List Core). got (asserted ds) w) (sym opens) ∙ claim_got (K.Assert text) is
@@ -98,19 +98,19 @@ module _ (core : Core) (cs : List Core) (around : Around) (scope : Scope) (same 
     pub assert_alike : (qs : List Core) → cs ≡ qs → Alike (got (asserted qs) w) (got claim w) (run (asserted qs) w) (run claim w)
     assert_alike qs opens = record { value = assert_got qs opens; walked = assert_run qs opens }
 
-    many : (qs : List Core) → 2 ≤ length qs → asserted qs ≡ wrong_state (out-Core core).place (out-Core core).number
+    many : (qs : List Core) → 2 ≤ length qs → asserted qs ≡ wrong_state (out-Core core).place
     many [] more = absurd (omega arith)
     many (a ∷ []) more = absurd (omega arith)
     many (a ∷ b ∷ qs) more = refl
 
-    more_got : 2 ≤ length cs → got (wrong_state (out-Core core).place (out-Core core).number) w ≡ got claim w
+    more_got : 2 ≤ length cs → got (wrong_state (out-Core core).place) w ≡ got claim w
     more_got more = ap (λ (x : Walk (Option Con)). got x w) (sym (many cs more)) ∙ claim_got (K.Assert text) is
 
-    more_run : 2 ≤ length cs → run (wrong_state (out-Core core).place (out-Core core).number) w ≡ run claim w
+    more_run : 2 ≤ length cs → run (wrong_state (out-Core core).place) w ≡ run claim w
     more_run more = ap (λ (x : Walk (Option Con)). run x w) (sym (many cs more)) ∙ claim_run (K.Assert text) is
 
-    pub more_alike : 2 ≤ length cs → Alike (got (wrong_state (out-Core core).place (out-Core core).number) w) (got claim w)
-        (run (wrong_state (out-Core core).place (out-Core core).number) w) (run claim w)
+    pub more_alike : 2 ≤ length cs → Alike (got (wrong_state (out-Core core).place) w) (got claim w)
+        (run (wrong_state (out-Core core).place) w) (run claim w)
     more_alike more = record { value = more_got more; walked = more_run more }
 
   -- of any other

@@ -26,10 +26,10 @@ abbrev first_aim : List Aim → Aim
 first_aim [] = Aims.Free
 first_aim (aim ∷ aims) = aim
 
-no_value : (around : Around) (place : Place) (kind : Kind) (parts : List Part) → one_made around place kind parts [] ≡ wrong_value place
-no_value around place kind [] = refl
-no_value around place kind (a ∷ []) = refl
-no_value around place kind (a ∷ b ∷ parts) = refl
+no_value : (around : Around) (place : Place) (k : ℕ) (kind : Kind) (parts : List Part) → one_made around place k kind parts [] ≡ wrong_value place
+no_value around place k kind [] = refl
+no_value around place k kind (a ∷ []) = refl
+no_value around place k kind (a ∷ b ∷ parts) = refl
 
 module _ (around : Around) (scope : Scope) (w : Noted) where
   abbrev each : List Part → List Aim → Walk (List Indices)
@@ -67,19 +67,19 @@ module _ (around : Around) (scope : Scope) (w : Noted) where
 
   -- types that are written
 
-  cast_got : (place : Place) (written : Option Written) (aim : Aim) (a : Part)
-      → got (bind (a.walk around scope (cast_aim around written aim)) (cast_made around place written a)) w
-      ≡ got (cast_walk place written a around scope aim) w
-  cast_got place None aim a =
+  cast_got : (place : Place) (k : ℕ) (written : Option Written) (aim : Aim) (a : Part)
+      → got (bind (a.walk around scope (cast_aim around written aim)) (cast_made around place k written a)) w
+      ≡ got (cast_walk place k written a around scope aim) w
+  cast_got place k None aim a =
       got_bind (a.walk around scope aim) (λ i. give i) w ∙ got_give (got (a.walk around scope aim) w) (run (a.walk around scope aim) w)
-  cast_got place (Some written) aim a = refl
+  cast_got place k (Some written) aim a = refl
 
-  cast_run : (place : Place) (written : Option Written) (aim : Aim) (a : Part)
-      → run (bind (a.walk around scope (cast_aim around written aim)) (cast_made around place written a)) w
-      ≡ run (cast_walk place written a around scope aim) w
-  cast_run place None aim a =
+  cast_run : (place : Place) (k : ℕ) (written : Option Written) (aim : Aim) (a : Part)
+      → run (bind (a.walk around scope (cast_aim around written aim)) (cast_made around place k written a)) w
+      ≡ run (cast_walk place k written a around scope aim) w
+  cast_run place k None aim a =
       run_bind (a.walk around scope aim) (λ i. give i) w ∙ run_give (got (a.walk around scope aim) w) (run (a.walk around scope aim) w)
-  cast_run place (Some written) aim a = refl
+  cast_run place k (Some written) aim a = refl
 
   -- what a function gives
 
@@ -111,49 +111,49 @@ module _ (around : Around) (scope : Scope) (w : Noted) where
 
   module _ (place : Place) (k : ℕ) (aim : Aim) where
     abbrev ends : Kind → List Part → List Indices → Walk Indices
-    ends kind parts is = one_made around place kind parts is
+    ends kind parts is = one_made around place k kind parts is
 
     kind_got : (kind : Kind) (parts : List Part)
         → got (made_walk place k kind parts around scope aim (length parts)) w ≡ got (made_plain place k kind parts around scope aim) w
     kind_got (K.Call callee) parts = refl
     kind_got (K.Struct u fields) parts = refl
-    kind_got K.Tuple parts = (λ j. got (bind (each (take_whole parts j) (tuple_aims aim)) tuple_of) w)
-    kind_got (K.Cons shape) parts = cons_got shape place around scope (wanted_item aim) w (out-Reading (wanted_item aim)) parts
+    kind_got K.Tuple parts = (λ j. got (bind (each (take_whole parts j) (tuple_aims aim)) (tuple_of k)) w)
+    kind_got (K.Cons shape) parts = cons_got k shape place around scope (wanted_item aim) w (out-Reading (wanted_item aim)) parts
     kind_got (K.Cast written) parts =
-        one_got place (cast_aim around written aim ∷ []) (ends (K.Cast written)) (λ a. cast_walk place written a around scope aim)
-        (no_value around place (K.Cast written)) parts (cast_got place written aim)
-    kind_got K.Return parts = answer_got place (ends K.Return) (no_value around place K.Return) around.answer parts (λ a i. refl)
+        one_got place (cast_aim around written aim ∷ []) (ends (K.Cast written)) (λ a. cast_walk place k written a around scope aim)
+        (no_value around place k (K.Cast written)) parts (cast_got place k written aim)
+    kind_got K.Return parts = answer_got place (ends K.Return) (no_value around place k K.Return) around.answer parts (λ a i. refl)
     kind_got K.Throw parts =
         one_got place (thrown_aim around.exception ∷ []) (ends K.Throw) (λ a. left_walk a around scope (thrown_aim around.exception))
-        (no_value around place K.Throw) parts (λ a. refl)
+        (no_value around place k K.Throw) parts (λ a. refl)
     kind_got K.Exit parts =
-        one_got place [] (ends K.Exit) (λ a. left_walk a around scope Aims.Free) (no_value around place K.Exit) parts (λ a. refl)
+        one_got place [] (ends K.Exit) (λ a. left_walk a around scope Aims.Free) (no_value around place k K.Exit) parts (λ a. refl)
     kind_got (K.Assert text) parts =
-        one_got place [] (ends (K.Assert text)) (λ a. free_giving a around scope I.Unit) (no_value around place (K.Assert text)) parts (λ a. refl)
+        one_got place [] (ends (K.Assert text)) (λ a. free_giving a around scope I.Unit) (no_value around place k (K.Assert text)) parts (λ a. refl)
     kind_got (K.Optional t) parts =
-        one_got place [] (ends (K.Optional t)) (λ a. free_giving a around scope (option_indices t)) (no_value around place (K.Optional t)) parts (λ a. refl)
-    kind_got kind parts = none_each_got (λ is. leaf_walk place kind parts around scope) w
+        one_got place [] (ends (K.Optional t)) (λ a. free_giving a around scope (option_indices t)) (no_value around place k (K.Optional t)) parts (λ a. refl)
+    kind_got kind parts = none_each_got (λ is. leaf_walk place k kind parts around scope) w
 
     kind_run : (kind : Kind) (parts : List Part)
         → run (made_walk place k kind parts around scope aim (length parts)) w ≡ run (made_plain place k kind parts around scope aim) w
     kind_run (K.Call callee) parts = refl
     kind_run (K.Struct u fields) parts = refl
-    kind_run K.Tuple parts = (λ j. run (bind (each (take_whole parts j) (tuple_aims aim)) tuple_of) w)
-    kind_run (K.Cons shape) parts = cons_run shape place around scope (wanted_item aim) w (out-Reading (wanted_item aim)) parts
+    kind_run K.Tuple parts = (λ j. run (bind (each (take_whole parts j) (tuple_aims aim)) (tuple_of k)) w)
+    kind_run (K.Cons shape) parts = cons_run k shape place around scope (wanted_item aim) w (out-Reading (wanted_item aim)) parts
     kind_run (K.Cast written) parts =
-        one_run place (cast_aim around written aim ∷ []) (ends (K.Cast written)) (λ a. cast_walk place written a around scope aim)
-        (no_value around place (K.Cast written)) parts (cast_run place written aim)
-    kind_run K.Return parts = answer_run place (ends K.Return) (no_value around place K.Return) around.answer parts (λ a i. refl)
+        one_run place (cast_aim around written aim ∷ []) (ends (K.Cast written)) (λ a. cast_walk place k written a around scope aim)
+        (no_value around place k (K.Cast written)) parts (cast_run place k written aim)
+    kind_run K.Return parts = answer_run place (ends K.Return) (no_value around place k K.Return) around.answer parts (λ a i. refl)
     kind_run K.Throw parts =
         one_run place (thrown_aim around.exception ∷ []) (ends K.Throw) (λ a. left_walk a around scope (thrown_aim around.exception))
-        (no_value around place K.Throw) parts (λ a. refl)
+        (no_value around place k K.Throw) parts (λ a. refl)
     kind_run K.Exit parts =
-        one_run place [] (ends K.Exit) (λ a. left_walk a around scope Aims.Free) (no_value around place K.Exit) parts (λ a. refl)
+        one_run place [] (ends K.Exit) (λ a. left_walk a around scope Aims.Free) (no_value around place k K.Exit) parts (λ a. refl)
     kind_run (K.Assert text) parts =
-        one_run place [] (ends (K.Assert text)) (λ a. free_giving a around scope I.Unit) (no_value around place (K.Assert text)) parts (λ a. refl)
+        one_run place [] (ends (K.Assert text)) (λ a. free_giving a around scope I.Unit) (no_value around place k (K.Assert text)) parts (λ a. refl)
     kind_run (K.Optional t) parts =
-        one_run place [] (ends (K.Optional t)) (λ a. free_giving a around scope (option_indices t)) (no_value around place (K.Optional t)) parts (λ a. refl)
-    kind_run kind parts = none_each_run (λ is. leaf_walk place kind parts around scope) w
+        one_run place [] (ends (K.Optional t)) (λ a. free_giving a around scope (option_indices t)) (no_value around place k (K.Optional t)) parts (λ a. refl)
+    kind_run kind parts = none_each_run (λ is. leaf_walk place k kind parts around scope) w
 
     pub made_kind_got : (kind : Kind) (parts : List Part) (n : ℕ) → n ≡ length parts
         → got (made_walk place k kind parts around scope aim n) w ≡ got (made_plain place k kind parts around scope aim) w

@@ -13,7 +13,7 @@ use Rattle.call_arguments.specs.declared.aims.Aim.{Aim}
 use Rattle.call_arguments.specs.declared.aims.Aim.TheVariants as Aims
 use Rattle.expression_steps.specs.Coded.{each_part}
 use Rattle.expression_steps.specs.Expressions.{part, made_plain}
-use Rattle.expression_steps.specs.Filling.{with_made}
+use Rattle.expression_steps.specs.Filling.{with_ended}
 use Rattle.expression_steps.specs.Making.{made_aims, made_count, made_end}
 use Rattle.expression_steps.specs.Parts.{each_walk, led}
 use Rattle.expression_steps.specs.Values.{no_struct, with_aims, with_behind, with_walk}
@@ -54,16 +54,16 @@ module _ (around : Around) (scope : Scope) (place : Place) (k : ℕ) (kind : Kin
 
 -- ---- `{ e with f = e }`
 
-module _ (place : Place) (u : ℕ) (ks : List ℕ) (a : Core) (cs : List Core) (around : Around) (scope : Scope) (i : Indices) (w v : Written)
+module _ (place : Place) (k u : ℕ) (ks : List ℕ) (a : Core) (cs : List Core) (around : Around) (scope : Scope) (i : Indices) (w v : Written)
     (parts : cs ≡ a ∷ others cs) (is : i ≡ got ((part a).walk around scope Aims.Free) w) (was : v ≡ run ((part a).walk around scope Aims.Free) w) where
   abbrev whole : List Core → Walk Indices
-  whole xs = led place (λ b values. with_walk place u ks b values around scope) (each_part xs)
+  whole xs = led place (λ b values. with_walk place k u ks b values around scope) (each_part xs)
 
   abbrev first : Walk Indices
   first = (part a).walk around scope Aims.Free
 
   abbrev behind : Indices → Option (List Aim) → Walk Indices
-  behind x = with_behind place u ks (each_part (others cs)) around scope x
+  behind x = with_behind place k u ks (each_part (others cs)) around scope x
 
   abbrev after : Indices → Walk Indices
   after x = behind x (with_aims around u ks (out-Indices x))
@@ -78,7 +78,7 @@ module _ (place : Place) (u : ℕ) (ks : List ℕ) (a : Core) (cs : List Core) (
       }
 
   abbrev ended : List Indices → Walk Indices
-  ended = with_made around place u ks i
+  ended = with_ended around place k u ks i
 
   pub with_values : (asked : Option (List Aim)) (aims wants : List Aim) (firsts : List Core) (values : List Indices) (z : Written)
       → asked ≡ with_aims around u ks (out-Indices i) → asked ≡ Some aims → firsts ≡ take (length aims) (others cs) → wants ≡ aims

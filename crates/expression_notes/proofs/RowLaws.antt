@@ -1,8 +1,7 @@
 -- A vector or a list, when the type of its items is known.
-use Rattle.std.proofs.Common.{◌≡◌, ◌∙◌, ap, sym, ℕ, pos, Bool, true, false, List, length, replicate}
+use Rattle.std.proofs.Common.{◌≡◌, ◌∙◌, ap, sym, ℕ, Bool, true, false, List, length, replicate}
 use Rattle.std.proofs.lemmas.List.{length-map}
 use Rattle.sail_base.specs.declared.place.Place.{Place}
-use Rattle.sail_types.specs.Sums.{constant}
 use Rattle.sail_types.specs.declared.shapes.Shape.{Shape}
 use Rattle.sail_core.specs.declared.tree.Core.{Core}
 use Rattle.value_indices.specs.Steps.{Walk}
@@ -17,44 +16,43 @@ use Rattle.call_arguments.specs.declared.aims.Aim.TheVariants as Aims
 use Rattle.expression_steps.specs.Coded.{each_part}
 use Rattle.expression_steps.specs.Expressions.{part}
 use Rattle.expression_steps.specs.Parts.{each_walk}
-use Rattle.expression_steps.specs.Values.{items_free, items_walk, items_wanted, row_of, row_walk, wanted_item}
+use Rattle.expression_steps.specs.Values.{Row, items_free, items_walk, items_wanted, row_of, row_walk, wanted_item}
 use Rattle.expression_steps.proofs.Rows.{due_items, free_items, wanted_got, wanted_run}
 use Rattle.expression_notes.proofs.Alike.{Alike}
 
-module _ (place : Place) (is_list : Bool) (shape : Shape) (cs : List Core) (around : Around) (scope : Scope) (aim : Aim) (wanted : Reading) (v w : Written)
-    (asked : wanted ≡ wanted_item aim) where
-  abbrev items : Reading → Walk Reading
+module _ (place : Place) (number : ℕ) (is_list : Bool) (shape : Shape) (cs : List Core) (around : Around) (scope : Scope) (aim : Aim) (wanted : Reading)
+    (v w : Written) (asked : wanted ≡ wanted_item aim) where
+  abbrev items : Reading → Walk Row
   items x = items_walk (each_part cs) around scope shape x
 
-  abbrev row : ℕ → Reading → Walk Indices
-  row n x = row_of place is_list (constant (pos n)) x
+  abbrev whole : Walk Indices
+  whole = row_walk place number is_list shape (each_part cs) around scope aim
 
-  abbrev RowIs : Reading → Type 0
-  RowIs r = Alike (got (row (length cs) r) w) (got (row_walk place is_list shape (each_part cs) around scope aim) v) (run (row (length cs) r) w)
-      (run (row_walk place is_list shape (each_part cs) around scope aim) v)
+  abbrev row : Row → Walk Indices
+  row x = row_of place number is_list x
 
-  ended : (r : Reading) (walk : Walk Reading) → walk ≡ items wanted → r ≡ got walk v → w ≡ run walk v → RowIs r
-  ended r walk opens is was =
+  abbrev RowIs : Row → Type 0
+  RowIs x = Alike (got (row x) w) (got whole v) (run (row x) w) (run whole v)
+
+  ended : (x : Row) (walk : Walk Row) → walk ≡ items wanted → x ≡ got walk v → w ≡ run walk v → RowIs x
+  ended x walk opens is was =
       let first = items (wanted_item aim) in
-      let same = sym (length-map cs part) in
-      let found : r ≡ got first v = is ∙ ap (λ (a : Walk Reading). got a v) opens ∙ ap (λ (x : Reading). got (items x) v) asked in
-      let went : w ≡ run first v = was ∙ ap (λ (a : Walk Reading). run a v) opens ∙ ap (λ (x : Reading). run (items x) v) asked in
-      record {
-        value = ap (λ (n : ℕ). got (row n r) w) same ∙ then_got first (row (length (each_part cs))) v w r found went;
-        walked = ap (λ (n : ℕ). run (row n r) w) same ∙ then_run first (row (length (each_part cs))) v w r found went;
-      }
+      let found : x ≡ got first v = is ∙ ap (λ (a : Walk Row). got a v) opens ∙ ap (λ (r : Reading). got (items r) v) asked in
+      let went : w ≡ run first v = was ∙ ap (λ (a : Walk Row). run a v) opens ∙ ap (λ (r : Reading). run (items r) v) asked in
+      record { value = then_got first row v w x found went; walked = then_run first row v w x found went }
 
   -- none is wanted
-  pub row_free : (r : Reading) → is_hole_form (out-Reading wanted) ≡ true → r ≡ got (items_free (each_part cs) around scope shape) v
-      → w ≡ run (items_free (each_part cs) around scope shape) v → RowIs r
-  row_free r hole is was =
-      ended r (items_free (each_part cs) around scope shape) (sym (free_items (each_part cs) around scope shape wanted (out-Reading wanted) hole)) is was
+  pub row_free : (x : Row) → is_hole_form (out-Reading wanted) ≡ true → x ≡ got (items_free (each_part cs) around scope shape) v
+      → w ≡ run (items_free (each_part cs) around scope shape) v → RowIs x
+  row_free x hole is was =
+      ended x (items_free (each_part cs) around scope shape) (sym (free_items (each_part cs) around scope shape wanted (out-Reading wanted) hole)) is was
 
   -- a type is wanted of each
-  pub row_due : (aims : List Aim) → is_hole_form (out-Reading wanted) ≡ false → aims ≡ replicate (length cs) (aimed Aims.Due wanted)
-      → w ≡ run (each_walk (each_part cs) around scope aims) v → RowIs wanted
-  row_due aims some wants was =
+  pub row_due : (aims : List Aim) (values : List Indices) → is_hole_form (out-Reading wanted) ≡ false
+      → aims ≡ replicate (length cs) (aimed Aims.Due wanted) → values ≡ got (each_walk (each_part cs) around scope aims) v
+      → w ≡ run (each_walk (each_part cs) around scope aims) v → RowIs (wanted, values)
+  row_due aims values some wants is was =
       let each = wants ∙ ap (λ (n : ℕ). replicate n (aimed Aims.Due wanted)) (sym (length-map cs part)) in
-      ended wanted (items_wanted (each_part cs) around scope wanted)
-      (sym (due_items (each_part cs) around scope shape wanted (out-Reading wanted) some)) (wanted_got (each_part cs) around scope wanted v)
-      (wanted_run (each_part cs) aims around scope wanted v w each was)
+      ended (wanted, values) (items_wanted (each_part cs) around scope wanted)
+      (sym (due_items (each_part cs) around scope shape wanted (out-Reading wanted) some))
+      (wanted_got (each_part cs) aims around scope wanted v each values is) (wanted_run (each_part cs) aims around scope wanted v each w was)

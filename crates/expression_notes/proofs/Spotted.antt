@@ -1,6 +1,6 @@
 -- Targets, one after the other, and parts of a target.
 use Rattle.std.proofs.Common.{◌≡◌, ◌∙◌, ◌<◌, ◌≤◌, ◌+◌, ap, sym, refl, ℕ, List, [], ◌∷◌, ◌++◌, map, length, drop, get_or, append_assoc, append-nil}
-use Rattle.std.proofs.Common.{Option, Some, None, Result, IfOk, OnOk, ◌-◌, arith, take, slice_get}
+use Rattle.std.proofs.Common.{true, Option, Some, None, Result, IfOk, OnOk, ◌-◌, arith, take, slice_get}
 use Rattle.std.proofs.lemmas.Option.{slice_get_read}
 use Rattle.sail_base.specs.declared.place.Place.{Place}
 use Rattle.sail_core.specs.declared.targets.Suffix.{Suffix}
@@ -29,9 +29,10 @@ use Rattle.expression_notes.proofs.Alike.{Alike}
 
 -- a target of a kind
 pub kind_opens : (t : Target) (ts : List Target) (kind : TargetKind) (around : Around) (scope : Scope) (parts : List Part) → ts ≡ (out-Target t).parts
-    → (out-Target t).kind ≡ kind → spotting t around scope parts ≡ kind_spot (out-Target t).place kind (map spotting ts) around scope parts
+    → (out-Target t).kind ≡ kind
+    → spotting t around scope parts ≡ kind_spot (out-Target t).place (out-Target t).number kind (map spotting ts) around scope parts
 kind_opens t ts kind around scope parts same is =
-    spotting_is t ts around scope parts same ∙ (λ j. kind_spot (out-Target t).place (is j) (map spotting ts) around scope parts)
+    spotting_is t ts around scope parts same ∙ (λ j. kind_spot (out-Target t).place (out-Target t).number (is j) (map spotting ts) around scope parts)
 
 -- those before, with what others are
 abbrev pub more_spots : List Spot → Option SpottedAll → Option SpottedAll
@@ -160,20 +161,20 @@ absent_alike around parts target next w none = record {
 
 -- ---- a part of a target that is there, behind what it holds
 
-module _ (around : Around) (scope : Scope) (place : Place) (ss : List Suffix) (parts : List Core) (target : Option (code.Spot × ℕ)) (base : code.Spot)
-    (at : ℕ) (is : target ≡ Some (base, at)) (held : Indices) (w v : Written) (held_is : held ≡ got ((spot_of around base).read) w)
+module _ (around : Around) (scope : Scope) (place : Place) (number : ℕ) (ss : List Suffix) (parts : List Core) (target : Option (code.Spot × ℕ))
+    (base : code.Spot) (at : ℕ) (is : target ≡ Some (base, at)) (held : Indices) (w v : Written) (held_is : held ≡ got ((spot_of around base).read) w)
     (was : v ≡ run ((spot_of around base).read) w) where
   abbrev within : Walk (Option Spotted)
-  within = then_spot (part_of place ss around scope) (spotted_in around parts target)
+  within = then_spot (part_of place number ss around scope) (spotted_in around parts target)
 
   abbrev left : List Part
   left = left_behind parts at
 
-  opens : within ≡ part_of place ss around scope (spot_of around base) left
-  opens = (λ j. then_spot (part_of place ss around scope) (spotted_in around parts (is j)))
+  opens : within ≡ part_of place number ss around scope (spot_of around base) left
+  opens = (λ j. then_spot (part_of place number ss around scope) (spotted_in around parts (is j)))
 
   abbrev further : Indices → Walk (Option Spotted)
-  further = suffixes_spot place (slice_get ss (length ss - 1)) (take (length ss - 1) ss) around scope (spot_of around base) left
+  further = suffixes_spot place number (slice_get ss (length ss - 1)) (take (length ss - 1) ss) around scope (spot_of around base) left
 
   -- where there is no suffix
   pub none_within_got : {E : Type 0} (r : Result (Option (code.Spot × ℕ)) E) → length ss < 1
@@ -181,22 +182,23 @@ module _ (around : Around) (scope : Scope) (place : Place) (ss : List Suffix) (p
       → IfOk r (λ made. spotted_in around parts made ≡ got within w)
   none_within_got r none h =
       then_got_in r (spotted_in around parts) ((spot_of around base).read) further within w v held opens held_is was
-      (no_spot_got r around parts place (further held) v (none_end around scope place ss (spot_of around base) left held none) h)
+      (no_spot_got r around parts place (further held) v (none_end around scope place number ss (spot_of around base) left held none) h)
 
   pub none_within_run : {E : Type 0} (r : Result (Option (code.Spot × ℕ)) E) (u : Written) → length ss < 1 → OnOk r (u ≡ run (no_spot place) v)
       → OnOk r (u ≡ run within w)
   none_within_run r u none h =
       then_run_in r ((spot_of around base).read) further within w v u held opens held_is was
-      (same_run r (no_spot place) (further held) v u (none_end around scope place ss (spot_of around base) left held none) h)
+      (same_run r (no_spot place) (further held) v u (none_end around scope place number ss (spot_of around base) left held none) h)
 
   module _ (read : List Suffix) (s : Suffix) (last : slice_get ss (length ss - 1) ≡ Some s) (before : read ≡ take (length ss - 1) ss) (copy : Indices)
       (same : copy ≡ held) (went : Option (Indices × ℕ)) (u : Written)
-      (found : passed_in parts went ≡ got (suffixes_walk read around scope left copy) v) (did : u ≡ run (suffixes_walk read around scope left copy) v) where
-    found_is : passed_in parts went ≡ got (suffixes_walk read around scope left held) v
-    found_is = found ∙ ap (λ (i : Indices). got (suffixes_walk read around scope left i) v) same
+      (found : passed_in parts went ≡ got (suffixes_walk true read around scope left copy) v)
+      (did : u ≡ run (suffixes_walk true read around scope left copy) v) where
+    found_is : passed_in parts went ≡ got (suffixes_walk true read around scope left held) v
+    found_is = found ∙ ap (λ (i : Indices). got (suffixes_walk true read around scope left i) v) same
 
-    did_is : u ≡ run (suffixes_walk read around scope left held) v
-    did_is = did ∙ ap (λ (i : Indices). run (suffixes_walk read around scope left i) v) same
+    did_is : u ≡ run (suffixes_walk true read around scope left held) v
+    did_is = did ∙ ap (λ (i : Indices). run (suffixes_walk true read around scope left i) v) same
 
     abbrev no_target : Option Spotted
     no_target = None
@@ -204,13 +206,13 @@ module _ (around : Around) (scope : Scope) (place : Place) (ss : List Suffix) (p
     -- where one that is read stops
     stopped_got : went ≡ None → no_target ≡ got within w
     stopped_got none =
-        stops_got around scope place ss read s (spot_of around base) left held w v u last before held_is was
+        stops_got around scope place number ss read s (spot_of around base) left held w v u last before held_is was
         ((λ j. passed_in parts (sym none j)) ∙ found_is) did_is
         ∙ ap (λ (x : Walk (Option Spotted)). got x w) (sym opens)
 
     stopped_run : went ≡ None → u ≡ run within w
     stopped_run none =
-        stops_run around scope place ss read s (spot_of around base) left held w v u last before held_is was
+        stops_run around scope place number ss read s (spot_of around base) left held w v u last before held_is was
         ((λ j. passed_in parts (sym none j)) ∙ found_is) did_is
         ∙ ap (λ (x : Walk (Option Spotted)). run x w) (sym opens)
 
@@ -223,17 +225,17 @@ module _ (around : Around) (scope : Scope) (place : Place) (ss : List Suffix) (p
       reaches = way_walk s.place (left_behind parts k) around scope i s.way
 
       pub part_got : {E : Type 0} (r : Result (Option (code.Spot × ℕ)) E) → taken_in parts x ≡ got reaches u
-          → IfOk r (λ made. (a : Around) (ps : List Core) → spotted_in a ps made ≡ part_spotted a s (spot_of a base) held (taken_in ps x))
+          → IfOk r (λ made. (a : Around) (ps : List Core) → spotted_in a ps made ≡ part_spotted a number s (spot_of a base) held (taken_in ps x))
           → IfOk r (λ made. spotted_in around parts made ≡ got within w)
       part_got r reached h =
-          of_any r (λ a ps. part_spotted a s (spot_of a base) held (taken_in ps x)) around parts (got within w)
-          (within_got around scope place ss read s (spot_of around base) left (left_behind parts k) held i (taken_in parts x) w v u t last before held_is
+          of_any r (λ a ps. part_spotted a number s (spot_of a base) held (taken_in ps x)) around parts (got within w)
+          (within_got around scope place number ss read s (spot_of around base) left (left_behind parts k) held i (taken_in parts x) w v u t last before held_is
           was ((λ j. passed_in parts (sym some j)) ∙ found_is) did_is reached
           ∙ ap (λ (y : Walk (Option Spotted)). got y w) (sym opens)) h
 
       pub part_run : {E : Type 0} (r : Result (Option (code.Spot × ℕ)) E) → t ≡ run reaches u → OnOk r (t ≡ run within w)
       part_run r reached =
-          on_ok r (within_run around scope place ss read s (spot_of around base) left (left_behind parts k) held i (taken_in parts x) w v u t last before
+          on_ok r (within_run around scope place number ss read s (spot_of around base) left (left_behind parts k) held i (taken_in parts x) w v u t last before
           held_is was ((λ j. passed_in parts (sym some j)) ∙ found_is) did_is reached
           ∙ ap (λ (y : Walk (Option Spotted)). run y w) (sym opens))
 

@@ -1,6 +1,6 @@
 -- Ways into a value, by the parts that are left of an expression.
 use Rattle.std.proofs.Common.{◌≡◌, ◌∙◌, ◌≤◌, ◌<◌, ◌+◌, ap, refl, sym, arith, ℕ, Bool, None, Some, Option, Result, Ok, Err, IfOk, OnOk}
-use Rattle.std.proofs.Common.{List, [], ◌∷◌, ◌++◌, length, drop, take, get_or, if◌then◌else◌, drop-drop, lt-ltb, le-ltb}
+use Rattle.std.proofs.Common.{false, List, [], ◌∷◌, ◌++◌, length, drop, take, get_or, if◌then◌else◌, drop-drop, lt-ltb, le-ltb}
 use Rattle.std.proofs.lemmas.List.{drop-map, length-map, take-map}
 use Rattle.sail_base.specs.declared.place.Place.{Place}
 use Rattle.sail_types.specs.declared.numbers.Num.{Num}
@@ -16,7 +16,7 @@ use Rattle.value_indices.proofs.Walks.{got_give, run_give}
 use Rattle.pattern_leaves.specs.Settings.{Around, Scope}
 use Rattle.pattern_leaves.proofs.Walked.{made_got, made_run, then_got, then_run}
 use Rattle.call_arguments.specs.declared.aims.Aim.TheVariants as Aims
-use Rattle.expression_forms.specs.Ways.{read_into}
+use Rattle.expression_forms.specs.Ways.{suffix_read}
 use Rattle.expression_forms.specs.declared.ways.Reached.{Reached}
 use Rattle.expression_steps.specs.Coded.{each_part, left_behind, passed_in, taken_in, value_passed}
 use Rattle.expression_steps.specs.Expressions.{part}
@@ -108,87 +108,94 @@ no_way_got (Err e) parts place whole w same h = tt
 
 -- ---- a part that is read
 
-module _ (around : Around) (scope : Scope) (s : Suffix) (parts left : List Part) (i : Indices) (x : Option Reached) (w v : Written) where
+module _ (around : Around) (scope : Scope) (is_target : Bool) (s : Suffix) (parts left : List Part) (i : Indices) (x : Option Reached) (w v : Written) where
   abbrev reaching : Walk (Option Taken)
   reaching = way_walk s.place parts around scope i s.way
 
-  pub read_got : (j : Indices) → taken x left ≡ got reaching w → v ≡ run reaching w → j ≡ got (read_into s.place i x) v
-      → passed left j ≡ got (suffix_walk s parts around scope i) w
+  pub read_got : (j : Indices) → taken x left ≡ got reaching w → v ≡ run reaching w → j ≡ got (suffix_read is_target s.place s.number i x) v
+      → passed left j ≡ got (suffix_walk is_target s parts around scope i) w
   read_got j found was is =
-      made_got (read_into s.place i x) (passed left) v j is ∙ then_got reaching (read_taken s.place i) w v (taken x left) found was
+      made_got (suffix_read is_target s.place s.number i x) (passed left) v j is
+      ∙ then_got reaching (read_taken is_target s.place s.number i) w v (taken x left) found was
 
-  pub read_run : (u : Written) → taken x left ≡ got reaching w → v ≡ run reaching w → u ≡ run (read_into s.place i x) v
-      → u ≡ run (suffix_walk s parts around scope i) w
+  pub read_run : (u : Written) → taken x left ≡ got reaching w → v ≡ run reaching w → u ≡ run (suffix_read is_target s.place s.number i x) v
+      → u ≡ run (suffix_walk is_target s parts around scope i) w
   read_run u found was is =
-      made_run (read_into s.place i x) (passed left) v u is ∙ then_run reaching (read_taken s.place i) w v (taken x left) found was
+      made_run (suffix_read is_target s.place s.number i x) (passed left) v u is
+      ∙ then_run reaching (read_taken is_target s.place s.number i) w v (taken x left) found was
 
 -- ---- suffixes, one after the other
 
-module _ (around : Around) (scope : Scope) (ss : List Suffix) (k : ℕ) (s : Suffix) (parts : List Part) (i : Indices) (w v : Written) where
+module _ (around : Around) (scope : Scope) (is_target : Bool) (ss : List Suffix) (k : ℕ) (s : Suffix) (parts : List Part) (i : Indices) (w v : Written) where
   abbrev first : Walk (Option Passed)
-  first = suffix_walk s parts around scope i
+  first = suffix_walk is_target s parts around scope i
 
   abbrev behind : Option Passed → Walk (Option Passed)
-  behind = then_on (suffixes_walk (drop (k + 1) ss) around scope)
+  behind = then_on (suffixes_walk is_target (drop (k + 1) ss) around scope)
 
   pub suffix_got : (left : List Part) (next : Indices) → k < length ss → s ≡ get_or ss k s → passed left next ≡ got first w → v ≡ run first w
-      → got (suffixes_walk (drop (k + 1) ss) around scope left next) v ≡ got (suffixes_walk (drop k ss) around scope parts i) w
+      → got (suffixes_walk is_target (drop (k + 1) ss) around scope left next) v ≡ got (suffixes_walk is_target (drop k ss) around scope parts i) w
   suffix_got left next within is found was =
-      then_got first behind w v (passed left next) found was ∙ (λ j. got (sym (suffixes_more ss around scope parts i k s within is) j) w)
+      then_got first behind w v (passed left next) found was ∙ (λ j. got (sym (suffixes_more is_target ss around scope parts i k s within is) j) w)
 
   pub suffix_run : (left : List Part) (next : Indices) → k < length ss → s ≡ get_or ss k s → passed left next ≡ got first w → v ≡ run first w
-      → run (suffixes_walk (drop (k + 1) ss) around scope left next) v ≡ run (suffixes_walk (drop k ss) around scope parts i) w
+      → run (suffixes_walk is_target (drop (k + 1) ss) around scope left next) v ≡ run (suffixes_walk is_target (drop k ss) around scope parts i) w
   suffix_run left next within is found was =
-      then_run first behind w v (passed left next) found was ∙ (λ j. run (sym (suffixes_more ss around scope parts i k s within is) j) w)
+      then_run first behind w v (passed left next) found was ∙ (λ j. run (sym (suffixes_more is_target ss around scope parts i k s within is) j) w)
 
   abbrev nothing : Option Passed
   nothing = None
 
   -- where an index is none
   pub none_got : k < length ss → s ≡ get_or ss k s → nothing ≡ got first w → v ≡ run first w
-      → nothing ≡ got (suffixes_walk (drop k ss) around scope parts i) w
+      → nothing ≡ got (suffixes_walk is_target (drop k ss) around scope parts i) w
   none_got within is found was =
-      given_got first behind (suffixes_walk (drop k ss) around scope parts i) w v nothing nothing (suffixes_more ss around scope parts i k s within is)
-      found was refl
+      given_got first behind (suffixes_walk is_target (drop k ss) around scope parts i) w v nothing nothing
+      (suffixes_more is_target ss around scope parts i k s within is) found was refl
 
   pub none_run : k < length ss → s ≡ get_or ss k s → nothing ≡ got first w → v ≡ run first w
-      → v ≡ run (suffixes_walk (drop k ss) around scope parts i) w
+      → v ≡ run (suffixes_walk is_target (drop k ss) around scope parts i) w
   none_run within is found was =
-      given_run first behind (suffixes_walk (drop k ss) around scope parts i) w v nothing nothing (suffixes_more ss around scope parts i k s within is)
-      found was refl
+      given_run first behind (suffixes_walk is_target (drop k ss) around scope parts i) w v nothing nothing
+      (suffixes_more is_target ss around scope parts i k s within is) found was refl
 
 -- a suffix that is read
-module _ (around : Around) (scope : Scope) (ss : List Suffix) (k : ℕ) (s : Suffix) (parts left : List Part) (i next : Indices) (x y : Option Reached)
-    (same : y ≡ x) (w v u : Written) where
-  value_is : next ≡ got (read_into s.place i y) v → next ≡ got (read_into s.place i x) v
-  value_is gives = gives ∙ (λ j. got (read_into s.place i (same j)) v)
+module _ (around : Around) (scope : Scope) (is_target : Bool) (ss : List Suffix) (k : ℕ) (s : Suffix) (parts left : List Part) (i next : Indices)
+    (x y : Option Reached) (same : y ≡ x) (w v u : Written) where
+  value_is : next ≡ got (suffix_read is_target s.place s.number i y) v → next ≡ got (suffix_read is_target s.place s.number i x) v
+  value_is gives = gives ∙ (λ j. got (suffix_read is_target s.place s.number i (same j)) v)
 
-  went_is : u ≡ run (read_into s.place i y) v → u ≡ run (read_into s.place i x) v
-  went_is did = did ∙ (λ j. run (read_into s.place i (same j)) v)
+  went_is : u ≡ run (suffix_read is_target s.place s.number i y) v → u ≡ run (suffix_read is_target s.place s.number i x) v
+  went_is did = did ∙ (λ j. run (suffix_read is_target s.place s.number i (same j)) v)
 
   step_got : k < length ss → s ≡ get_or ss k s → taken x left ≡ got (way_walk s.place parts around scope i s.way) w
-      → v ≡ run (way_walk s.place parts around scope i s.way) w → next ≡ got (read_into s.place i y) v → u ≡ run (read_into s.place i y) v
-      → got (suffixes_walk (drop (k + 1) ss) around scope left next) u ≡ got (suffixes_walk (drop k ss) around scope parts i) w
+      → v ≡ run (way_walk s.place parts around scope i s.way) w
+      → next ≡ got (suffix_read is_target s.place s.number i y) v → u ≡ run (suffix_read is_target s.place s.number i y) v
+      → got (suffixes_walk is_target (drop (k + 1) ss) around scope left next) u ≡ got (suffixes_walk is_target (drop k ss) around scope parts i) w
   step_got within is found was gives did =
-      suffix_got around scope ss k s parts i w u left next within is (read_got around scope s parts left i x w v next found was (value_is gives))
-      (read_run around scope s parts left i x w v u found was (went_is did))
+      suffix_got around scope is_target ss k s parts i w u left next within is
+      (read_got around scope is_target s parts left i x w v next found was (value_is gives))
+      (read_run around scope is_target s parts left i x w v u found was (went_is did))
 
   step_run : k < length ss → s ≡ get_or ss k s → taken x left ≡ got (way_walk s.place parts around scope i s.way) w
-      → v ≡ run (way_walk s.place parts around scope i s.way) w → next ≡ got (read_into s.place i y) v → u ≡ run (read_into s.place i y) v
-      → run (suffixes_walk (drop (k + 1) ss) around scope left next) u ≡ run (suffixes_walk (drop k ss) around scope parts i) w
+      → v ≡ run (way_walk s.place parts around scope i s.way) w
+      → next ≡ got (suffix_read is_target s.place s.number i y) v → u ≡ run (suffix_read is_target s.place s.number i y) v
+      → run (suffixes_walk is_target (drop (k + 1) ss) around scope left next) u ≡ run (suffixes_walk is_target (drop k ss) around scope parts i) w
   step_run within is found was gives did =
-      suffix_run around scope ss k s parts i w u left next within is (read_got around scope s parts left i x w v next found was (value_is gives))
-      (read_run around scope s parts left i x w v u found was (went_is did))
+      suffix_run around scope is_target ss k s parts i w u left next within is
+      (read_got around scope is_target s parts left i x w v next found was (value_is gives))
+      (read_run around scope is_target s parts left i x w v u found was (went_is did))
 
   pub step_alike : k < length ss → s ≡ get_or ss k s → taken x left ≡ got (way_walk s.place parts around scope i s.way) w
-      → v ≡ run (way_walk s.place parts around scope i s.way) w → next ≡ got (read_into s.place i y) v → u ≡ run (read_into s.place i y) v
-      → Alike (got (suffixes_walk (drop (k + 1) ss) around scope left next) u) (got (suffixes_walk (drop k ss) around scope parts i) w)
-      (run (suffixes_walk (drop (k + 1) ss) around scope left next) u) (run (suffixes_walk (drop k ss) around scope parts i) w)
+      → v ≡ run (way_walk s.place parts around scope i s.way) w
+      → next ≡ got (suffix_read is_target s.place s.number i y) v → u ≡ run (suffix_read is_target s.place s.number i y) v
+      → Alike (got (suffixes_walk is_target (drop (k + 1) ss) around scope left next) u) (got (suffixes_walk is_target (drop k ss) around scope parts i) w)
+      (run (suffixes_walk is_target (drop (k + 1) ss) around scope left next) u) (run (suffixes_walk is_target (drop k ss) around scope parts i) w)
   step_alike within is found was gives did =
       record { value = step_got within is found was gives did; walked = step_run within is found was gives did }
 
 -- one whose index gives no number
-module _ (around : Around) (scope : Scope) (ss : List Suffix) (k : ℕ) (s : Suffix) (parts : List Part) (i : Indices) (w v : Written) where
+module _ (around : Around) (scope : Scope) (is_target : Bool) (ss : List Suffix) (k : ℕ) (s : Suffix) (parts : List Part) (i : Indices) (w v : Written) where
   abbrev no_part : Option Taken
   no_part = None
 
@@ -196,40 +203,44 @@ module _ (around : Around) (scope : Scope) (ss : List Suffix) (k : ℕ) (s : Suf
   no_value = None
 
   stop_got : k < length ss → s ≡ get_or ss k s → no_part ≡ got (way_walk s.place parts around scope i s.way) w
-      → v ≡ run (way_walk s.place parts around scope i s.way) w → no_value ≡ got (suffixes_walk (drop k ss) around scope parts i) w
+      → v ≡ run (way_walk s.place parts around scope i s.way) w → no_value ≡ got (suffixes_walk is_target (drop k ss) around scope parts i) w
   stop_got within is found was =
-      none_got around scope ss k s parts i w v within is (given_got (way_walk s.place parts around scope i s.way) (read_taken s.place i)
-      (suffix_walk s parts around scope i) w v no_part no_value refl found was refl) (given_run (way_walk s.place parts around scope i s.way)
-      (read_taken s.place i) (suffix_walk s parts around scope i) w v no_part no_value refl found was refl)
+      none_got around scope is_target ss k s parts i w v within is
+      (given_got (way_walk s.place parts around scope i s.way) (read_taken is_target s.place s.number i)
+      (suffix_walk is_target s parts around scope i) w v no_part no_value refl found was refl) (given_run (way_walk s.place parts around scope i s.way)
+      (read_taken is_target s.place s.number i) (suffix_walk is_target s parts around scope i) w v no_part no_value refl found was refl)
 
   stop_run : k < length ss → s ≡ get_or ss k s → no_part ≡ got (way_walk s.place parts around scope i s.way) w
-      → v ≡ run (way_walk s.place parts around scope i s.way) w → v ≡ run (suffixes_walk (drop k ss) around scope parts i) w
+      → v ≡ run (way_walk s.place parts around scope i s.way) w → v ≡ run (suffixes_walk is_target (drop k ss) around scope parts i) w
   stop_run within is found was =
-      none_run around scope ss k s parts i w v within is (given_got (way_walk s.place parts around scope i s.way) (read_taken s.place i)
-      (suffix_walk s parts around scope i) w v no_part no_value refl found was refl) (given_run (way_walk s.place parts around scope i s.way)
-      (read_taken s.place i) (suffix_walk s parts around scope i) w v no_part no_value refl found was refl)
+      none_run around scope is_target ss k s parts i w v within is
+      (given_got (way_walk s.place parts around scope i s.way) (read_taken is_target s.place s.number i)
+      (suffix_walk is_target s parts around scope i) w v no_part no_value refl found was refl) (given_run (way_walk s.place parts around scope i s.way)
+      (read_taken is_target s.place s.number i) (suffix_walk is_target s parts around scope i) w v no_part no_value refl found was refl)
 
   pub stop_alike : k < length ss → s ≡ get_or ss k s → no_part ≡ got (way_walk s.place parts around scope i s.way) w
       → v ≡ run (way_walk s.place parts around scope i s.way) w
-      → Alike no_value (got (suffixes_walk (drop k ss) around scope parts i) w) v (run (suffixes_walk (drop k ss) around scope parts i) w)
+      → Alike no_value (got (suffixes_walk is_target (drop k ss) around scope parts i) w) v (run (suffixes_walk is_target (drop k ss) around scope parts i) w)
   stop_alike within is found was = record { value = stop_got within is found was; walked = stop_run within is found was }
 
 -- all of them
-suffixes_got : (around : Around) (scope : Scope) (ss : List Suffix) (k : ℕ) (parts : List Part) (i : Indices) (w : Written) → length ss ≤ k
-    → passed parts i ≡ got (suffixes_walk (drop k ss) around scope parts i) w
-suffixes_got around scope ss k parts i w past =
-    sym (got_give (passed parts i) w) ∙ (λ j. got (sym (suffixes_end ss around scope parts i k past) j) w)
+suffixes_got : (around : Around) (scope : Scope) (is_target : Bool) (ss : List Suffix) (k : ℕ) (parts : List Part) (i : Indices) (w : Written) → length ss ≤ k
+    → passed parts i ≡ got (suffixes_walk is_target (drop k ss) around scope parts i) w
+suffixes_got around scope is_target ss k parts i w past =
+    sym (got_give (passed parts i) w) ∙ (λ j. got (sym (suffixes_end is_target ss around scope parts i k past) j) w)
 
-suffixes_run : (around : Around) (scope : Scope) (ss : List Suffix) (k : ℕ) (parts : List Part) (i : Indices) (w : Written) → length ss ≤ k
-    → w ≡ run (suffixes_walk (drop k ss) around scope parts i) w
-suffixes_run around scope ss k parts i w past =
-    sym (run_give (passed parts i) w) ∙ (λ j. run (sym (suffixes_end ss around scope parts i k past) j) w)
+suffixes_run : (around : Around) (scope : Scope) (is_target : Bool) (ss : List Suffix) (k : ℕ) (parts : List Part) (i : Indices) (w : Written) → length ss ≤ k
+    → w ≡ run (suffixes_walk is_target (drop k ss) around scope parts i) w
+suffixes_run around scope is_target ss k parts i w past =
+    sym (run_give (passed parts i) w) ∙ (λ j. run (sym (suffixes_end is_target ss around scope parts i k past) j) w)
 
-pub suffixes_ended : (around : Around) (scope : Scope) (ss : List Suffix) (k : ℕ) (parts : List Part) (i : Indices) (w : Written) → length ss ≤ k
-    → Alike (passed parts i) (got (suffixes_walk (drop k ss) around scope parts i) w) w (run (suffixes_walk (drop k ss) around scope parts i) w)
-suffixes_ended around scope ss k parts i w past = record {
-  value = suffixes_got around scope ss k parts i w past;
-  walked = suffixes_run around scope ss k parts i w past;
+pub suffixes_ended : (around : Around) (scope : Scope) (is_target : Bool) (ss : List Suffix) (k : ℕ) (parts : List Part) (i : Indices) (w : Written)
+    → length ss ≤ k
+    → Alike (passed parts i) (got (suffixes_walk is_target (drop k ss) around scope parts i) w) w
+    (run (suffixes_walk is_target (drop k ss) around scope parts i) w)
+suffixes_ended around scope is_target ss k parts i w past = record {
+  value = suffixes_got around scope is_target ss k parts i w past;
+  walked = suffixes_run around scope is_target ss k parts i w past;
 }
 
 -- ---- the value on the way, as the code has it
@@ -243,7 +254,7 @@ module _ (around : Around) (scope : Scope) (ss : List Suffix) (a : Core) (qs : L
   base = (part a).walk around scope Aims.Free
 
   abbrev further : Indices → Walk (Option Passed)
-  further = suffixes_walk ss around scope (each_part qs)
+  further = suffixes_walk false ss around scope (each_part qs)
 
   abbrev onward : Indices → Walk Indices
   onward j = bind (further j) value_on
@@ -266,7 +277,7 @@ module _ (around : Around) (scope : Scope) (ss : List Suffix) (a : Core) (qs : L
 
 -- ---- a value of which a part is replaced
 
-module _ (place : Place) (way : Way) (around : Around) (scope : Scope) (a c : Core) (is : List Core) (i : Indices) (w v u : Written) where
+module _ (place : Place) (number : ℕ) (way : Way) (around : Around) (scope : Scope) (a c : Core) (is : List Core) (i : Indices) (w v u : Written) where
   abbrev whole : Walk Indices
   whole = (part a).walk around scope Aims.Free
 
@@ -274,59 +285,59 @@ module _ (place : Place) (way : Way) (around : Around) (scope : Scope) (a c : Co
   counted = numbers_walk (each_part is) around scope
 
   abbrev replaced : Indices → Walk Indices
-  replaced j = bind counted (numbers_updated place way (part c) around scope j)
+  replaced j = bind counted (numbers_updated place number way (part c) around scope j)
 
   abbrev no_numbers : Option (List Num)
   no_numbers = None
 
   -- where an index gives no number
   never_updated : i ≡ got whole w → v ≡ run whole w → no_numbers ≡ got counted v → u ≡ run counted v
-      → I.Never ≡ got (update_walk place way (part a) (each_part is) (part c) around scope) w
+      → I.Never ≡ got (update_walk place number way (part a) (each_part is) (part c) around scope) w
   never_updated is_value was found did =
-      given_got counted (numbers_updated place way (part c) around scope i) (replaced i) v u no_numbers I.Never refl found did refl
+      given_got counted (numbers_updated place number way (part c) around scope i) (replaced i) v u no_numbers I.Never refl found did refl
       ∙ then_got whole replaced w v i is_value was
 
   never_went : i ≡ got whole w → v ≡ run whole w → no_numbers ≡ got counted v → u ≡ run counted v
-      → u ≡ run (update_walk place way (part a) (each_part is) (part c) around scope) w
+      → u ≡ run (update_walk place number way (part a) (each_part is) (part c) around scope) w
   never_went is_value was found did =
-      given_run counted (numbers_updated place way (part c) around scope i) (replaced i) v u no_numbers I.Never refl found did refl
+      given_run counted (numbers_updated place number way (part c) around scope i) (replaced i) v u no_numbers I.Never refl found did refl
       ∙ then_run whole replaced w v i is_value was
 
   pub never_alike : i ≡ got whole w → v ≡ run whole w → no_numbers ≡ got counted v → u ≡ run counted v
-      → Alike I.Never (got (update_walk place way (part a) (each_part is) (part c) around scope) w) u
-      (run (update_walk place way (part a) (each_part is) (part c) around scope) w)
+      → Alike I.Never (got (update_walk place number way (part a) (each_part is) (part c) around scope) w) u
+      (run (update_walk place number way (part a) (each_part is) (part c) around scope) w)
   never_alike is_value was found did =
       record { value = never_updated is_value was found did; walked = never_went is_value was found did }
 
   pub updated_got : {E : Type 0} (r : Result Indices E) (ns : List Num) (x : Option Reached) (s : Written) → i ≡ got whole w → v ≡ run whole w
       → Some ns ≡ got counted v → u ≡ run counted v → x ≡ got (reached_by around i way ns) u → s ≡ run (reached_by around i way ns) u
-      → IfOk r (λ made. made ≡ got (updated place (part c) around scope i x) s)
-      → IfOk r (λ made. made ≡ got (update_walk place way (part a) (each_part is) (part c) around scope) w)
+      → IfOk r (λ made. made ≡ got (updated place number (part c) around scope i x) s)
+      → IfOk r (λ made. made ≡ got (update_walk place number way (part a) (each_part is) (part c) around scope) w)
   updated_got r ns x s is_value was found did reached went h =
-      then_got_in r (λ made. made) whole replaced (update_walk place way (part a) (each_part is) (part c) around scope) w v i refl is_value was
-      (then_got_in r (λ made. made) counted (numbers_updated place way (part c) around scope i) (replaced i) v u (Some ns) refl found did
-      (then_got_in r (λ made. made) (reached_by around i way ns) (updated place (part c) around scope i)
-      (numbers_updated place way (part c) around scope i (Some ns)) u s x refl reached went h))
+      then_got_in r (λ made. made) whole replaced (update_walk place number way (part a) (each_part is) (part c) around scope) w v i refl is_value was
+      (then_got_in r (λ made. made) counted (numbers_updated place number way (part c) around scope i) (replaced i) v u (Some ns) refl found did
+      (then_got_in r (λ made. made) (reached_by around i way ns) (updated place number (part c) around scope i)
+      (numbers_updated place number way (part c) around scope i (Some ns)) u s x refl reached went h))
 
   pub updated_run : {E : Type 0} (r : Result Indices E) (ns : List Num) (x : Option Reached) (s t : Written) → i ≡ got whole w → v ≡ run whole w
       → Some ns ≡ got counted v → u ≡ run counted v → x ≡ got (reached_by around i way ns) u → s ≡ run (reached_by around i way ns) u
-      → OnOk r (t ≡ run (updated place (part c) around scope i x) s)
-      → OnOk r (t ≡ run (update_walk place way (part a) (each_part is) (part c) around scope) w)
+      → OnOk r (t ≡ run (updated place number (part c) around scope i x) s)
+      → OnOk r (t ≡ run (update_walk place number way (part a) (each_part is) (part c) around scope) w)
   updated_run r ns x s t is_value was found did reached went h =
-      then_run_in r whole replaced (update_walk place way (part a) (each_part is) (part c) around scope) w v t i refl is_value was
-      (then_run_in r counted (numbers_updated place way (part c) around scope i) (replaced i) v u t (Some ns) refl found did
-      (then_run_in r (reached_by around i way ns) (updated place (part c) around scope i)
-      (numbers_updated place way (part c) around scope i (Some ns)) u s t x refl reached went h))
+      then_run_in r whole replaced (update_walk place number way (part a) (each_part is) (part c) around scope) w v t i refl is_value was
+      (then_run_in r counted (numbers_updated place number way (part c) around scope i) (replaced i) v u t (Some ns) refl found did
+      (then_run_in r (reached_by around i way ns) (updated place number (part c) around scope i)
+      (numbers_updated place number way (part c) around scope i (Some ns)) u s t x refl reached went h))
 
-pub one_value : (place : Place) (way : Way) (around : Around) (scope : Scope) (ps is : List Core) (a c : Core) → ps ≡ a ∷ is ++ c ∷ []
+pub one_value : (place : Place) (number : ℕ) (way : Way) (around : Around) (scope : Scope) (ps is : List Core) (a c : Core) → ps ≡ a ∷ is ++ c ∷ []
     → length is ≡ indexes_of way
-    → update_forms place way (each_part ps) around scope ≡ update_walk place way (part a) (each_part is) (part c) around scope
-one_value place (Y.Field u k) around scope ps [] a c opens count = (λ j. update_forms place (Y.Field u k) (each_part (opens j)) around scope)
-one_value place (Y.Field u k) around scope ps (x ∷ is) a c opens count = absurd (omega (arith, count))
-one_value place Y.Item around scope ps [] a c opens count = absurd (omega (arith, count))
-one_value place Y.Item around scope ps (x ∷ []) a c opens count = (λ j. update_forms place Y.Item (each_part (opens j)) around scope)
-one_value place Y.Item around scope ps (x ∷ y ∷ is) a c opens count = absurd (omega (arith, count))
-one_value place Y.Slice around scope ps [] a c opens count = absurd (omega (arith, count))
-one_value place Y.Slice around scope ps (x ∷ []) a c opens count = absurd (omega (arith, count))
-one_value place Y.Slice around scope ps (x ∷ y ∷ []) a c opens count = (λ j. update_forms place Y.Slice (each_part (opens j)) around scope)
-one_value place Y.Slice around scope ps (x ∷ y ∷ z ∷ is) a c opens count = absurd (omega (arith, count))
+    → update_forms place number way (each_part ps) around scope ≡ update_walk place number way (part a) (each_part is) (part c) around scope
+one_value place number (Y.Field u k) around scope ps [] a c opens count = (λ j. update_forms place number (Y.Field u k) (each_part (opens j)) around scope)
+one_value place number (Y.Field u k) around scope ps (x ∷ is) a c opens count = absurd (omega (arith, count))
+one_value place number Y.Item around scope ps [] a c opens count = absurd (omega (arith, count))
+one_value place number Y.Item around scope ps (x ∷ []) a c opens count = (λ j. update_forms place number Y.Item (each_part (opens j)) around scope)
+one_value place number Y.Item around scope ps (x ∷ y ∷ is) a c opens count = absurd (omega (arith, count))
+one_value place number Y.Slice around scope ps [] a c opens count = absurd (omega (arith, count))
+one_value place number Y.Slice around scope ps (x ∷ []) a c opens count = absurd (omega (arith, count))
+one_value place number Y.Slice around scope ps (x ∷ y ∷ []) a c opens count = (λ j. update_forms place number Y.Slice (each_part (opens j)) around scope)
+one_value place number Y.Slice around scope ps (x ∷ y ∷ z ∷ is) a c opens count = absurd (omega (arith, count))

@@ -14,7 +14,7 @@ use crate::parts::walk_truth;
 use call_notes::{Aim, wrong_value};
 use expression_forms::{Scope, negated, thrown};
 use expression_steps::{
-    Way, either_ways, end_way, is_free, match_ways, met_value, open_way, try_ways,
+    Way, catch_at, either_ways, end_way, is_free, match_ways, met_value, open_way, try_ways,
 };
 use pattern_leaves::Around;
 use sail_base::Place;
@@ -167,22 +167,24 @@ pub(crate) fn walk_cases<'a>(
     around: &Around<'_>,
     scope: &Scope<'_>,
     place: Place,
+    number: u32,
     is_try: bool,
     shape: &Shape,
     arms: &'a [Arm],
     parts: &'a [Core],
     aim: &Aim,
 ) -> Result<Indices, AllocError>
-    ensures value { IfOk result (λ made. made ≡ walk.got (part_spec.led place (λ a bodies. statement_spec.cases_walk is_try place shape.now arms.now a
-        bodies (around_of around.now) (scope_of scope.now) aim.now) (coded.each_part parts.now)) (walk.seen walking.old)) }
-    ensures walked { OnOk result (walk.seen walking.new ≡ walk.run (part_spec.led place (λ a bodies. statement_spec.cases_walk is_try place shape.now
+    ensures value { IfOk result (λ made. made ≡ walk.got (part_spec.led place (λ a bodies. statement_spec.cases_walk is_try place number shape.now
         arms.now a bodies (around_of around.now) (scope_of scope.now) aim.now) (coded.each_part parts.now)) (walk.seen walking.old)) }
+    ensures walked { OnOk result (walk.seen walking.new ≡ walk.run (part_spec.led place (λ a bodies. statement_spec.cases_walk is_try place number
+        shape.now arms.now a bodies (around_of around.now) (scope_of scope.now) aim.now) (coded.each_part parts.now)) (walk.seen walking.old)) }
 {
     match parts {
         [] => wrong_value(alloc, walking, place),
         [core, bodies @ ..] => {
             if is_try {
                 let sent = thrown(alloc, around.exception);
+                catch_at(alloc, walking, number, &sent)?;
                 let ways = try_ways(alloc, place, &*arms, &*core, &*bodies, &sent)?;
                 walk_ways(
                     alloc,

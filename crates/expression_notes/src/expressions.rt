@@ -10,15 +10,15 @@ ghost use Rattle.expression_steps.specs.Parts.{Part};
 
 use crate::branches::{walk_branches, walk_cases};
 use crate::loops::{walk_foreach, walk_loop};
-use crate::made::{walk_made, walk_with};
+use crate::made::{walk_made, walk_place, walk_with};
 use crate::reading::{walk_part, walk_update};
 use crate::statements::{walk_block, walk_in};
 use crate::targets::assign;
 use crate::truths::{walk_guarded, walk_joined};
 use crate::values::walk_row;
 use call_notes::{Aim, settled, wrong_value};
-use expression_forms::{Scope, made_at};
-use expression_steps::{Binding, goes_inward, if_end, is_made};
+use expression_forms::Scope;
+use expression_steps::{Binding, end_node, goes_inward, if_end, is_made, makes_value};
 use pattern_leaves::Around;
 use sail_base::Place;
 use sail_core::{Core, Kind, Way};
@@ -34,20 +34,18 @@ fn walk_inward(
     around: &Around<'_>,
     scope: &Scope<'_>,
     place: Place,
+    number: u32,
     kind: &Kind,
     parts: &[Core],
     aim: &Aim,
 ) -> Result<Indices, AllocError>
-    ensures value { IfOk result (λ made. made ≡ walk.got (spec.inward place kind.now (coded.each_part parts.now) (around_of around.now)
+    ensures value { IfOk result (λ made. made ≡ walk.got (spec.inward place number kind.now (coded.each_part parts.now) (around_of around.now)
         (scope_of scope.now) aim.now) (walk.seen walking.old)) }
-    ensures walked { OnOk result (walk.seen walking.new ≡ walk.run (spec.inward place kind.now (coded.each_part parts.now) (around_of around.now)
+    ensures walked { OnOk result (walk.seen walking.new ≡ walk.run (spec.inward place number kind.now (coded.each_part parts.now) (around_of around.now)
         (scope_of scope.now) aim.now) (walk.seen walking.old)) }
 {
     match kind {
-        Kind::Cast(None) => match parts {
-            [core] => walk_expression(alloc, walking, around, scope, core, aim),
-            _ => wrong_value(alloc, walking, place),
-        },
+        Kind::Cast(None) => walk_place(alloc, walking, around, scope, place, number, parts, aim),
         Kind::Block(statements) => {
             walk_block(
                 alloc,
@@ -79,6 +77,7 @@ fn walk_inward(
                 around,
                 scope,
                 place,
+                number,
                 false,
                 shape,
                 arms.as_slice(),
@@ -93,6 +92,7 @@ fn walk_inward(
                 around,
                 scope,
                 place,
+                number,
                 true,
                 shape,
                 arms.as_slice(),
@@ -114,13 +114,14 @@ fn walk_parted(
     around: &Around<'_>,
     scope: &Scope<'_>,
     place: Place,
+    number: u32,
     kind: &Kind,
     parts: &[Core],
     aim: &Aim,
 ) -> Result<Indices, AllocError>
-    ensures value { IfOk result (λ made. made ≡ walk.got (spec.parted place kind.now (coded.each_part parts.now) (around_of around.now)
+    ensures value { IfOk result (λ made. made ≡ walk.got (spec.parted place number kind.now (coded.each_part parts.now) (around_of around.now)
         (scope_of scope.now) aim.now) (walk.seen walking.old)) }
-    ensures walked { OnOk result (walk.seen walking.new ≡ walk.run (spec.parted place kind.now (coded.each_part parts.now) (around_of around.now)
+    ensures walked { OnOk result (walk.seen walking.new ≡ walk.run (spec.parted place number kind.now (coded.each_part parts.now) (around_of around.now)
         (scope_of scope.now) aim.now) (walk.seen walking.old)) }
 {
     match kind {
@@ -128,12 +129,12 @@ fn walk_parted(
         Kind::Or => walk_joined(alloc, walking, around, scope, place, true, parts),
         Kind::Vector(shape) => {
             walk_row(
-                alloc, walking, around, scope, place, false, shape, parts, aim,
+                alloc, walking, around, scope, place, number, false, shape, parts, aim,
             )
         }
         Kind::List(shape) => {
             walk_row(
-                alloc, walking, around, scope, place, true, shape, parts, aim,
+                alloc, walking, around, scope, place, number, true, shape, parts, aim,
             )
         }
         Kind::With(named, fields) => {
@@ -143,6 +144,7 @@ fn walk_parted(
                 around,
                 scope,
                 place,
+                number,
                 *named,
                 fields.as_slice(),
                 parts,
@@ -151,8 +153,30 @@ fn walk_parted(
         Kind::Part(suffixes) => {
             walk_part(alloc, walking, around, scope, suffixes.as_slice(), parts)
         }
-        Kind::WithItem => walk_update(alloc, walking, around, scope, place, Way::Item, parts),
-        Kind::WithSlice => walk_update(alloc, walking, around, scope, place, Way::Slice, parts),
+        Kind::WithItem => {
+            walk_update(
+                alloc,
+                walking,
+                around,
+                scope,
+                place,
+                number,
+                Way::Item,
+                parts,
+            )
+        }
+        Kind::WithSlice => {
+            walk_update(
+                alloc,
+                walking,
+                around,
+                scope,
+                place,
+                number,
+                Way::Slice,
+                parts,
+            )
+        }
         Kind::Assign(targets) => {
             assign(
                 alloc,
@@ -199,7 +223,9 @@ fn walk_plain(
             alloc, walking, around, scope, place, number, kind, parts, aim,
         )
     } else {
-        walk_parted(alloc, walking, around, scope, place, kind, parts, aim)
+        walk_parted(
+            alloc, walking, around, scope, place, number, kind, parts, aim,
+        )
     }
 }
 
@@ -227,11 +253,12 @@ pub fn walk_expression(
             around,
             scope,
             core.place,
+            core.number,
             &core.kind,
             core.parts.as_slice(),
             aim,
         )?;
-        made_at(alloc, walking, core.number, value)
+        end_node(alloc, walking, core.number, makes_value(&core.kind), value)
     } else {
         let plain = walk_plain(
             alloc,
@@ -245,6 +272,6 @@ pub fn walk_expression(
             aim,
         )?;
         let ended = settled(alloc, walking, around, core.place, aim, plain)?;
-        made_at(alloc, walking, core.number, ended)
+        end_node(alloc, walking, core.number, makes_value(&core.kind), ended)
     }
 }

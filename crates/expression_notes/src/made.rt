@@ -1,4 +1,5 @@
-//! Walks over parts from left to right: with what is wanted of each from the start, and over new values of fields.
+//! Walks over parts from left to right: with what is wanted of each from the start, over new values of fields, and over what comes to what is
+//! wanted of it.
 ghost use Rattle.std.specs.Prelude.{◌≡◌, IfOk, OnOk};
 ghost use Rattle.value_indices.specs.Walking as walk;
 ghost use Rattle.pattern_leaves.specs.Settings.{around_of};
@@ -11,9 +12,9 @@ ghost use Rattle.expression_steps.specs.Values as value_spec;
 use crate::expressions::walk_expression;
 use crate::parts::walk_each;
 use call_notes::{Aim, wrong_value};
-use expression_forms::Scope;
+use expression_forms::{Scope, cast_ended};
 use expression_steps::{
-    first_parts, made_aims, made_count, made_end, no_struct, with_aims, with_made,
+    first_parts, made_aims, made_count, made_end, no_struct, with_aims, with_ended,
 };
 use pattern_leaves::Around;
 use sail_base::Place;
@@ -60,13 +61,14 @@ pub(crate) fn walk_with(
     around: &Around<'_>,
     scope: &Scope<'_>,
     place: Place,
+    number: u32,
     named: u32,
     fields: &[u32],
     parts: &[Core],
 ) -> Result<Indices, AllocError>
-    ensures value { IfOk result (λ made. made ≡ walk.got (part_spec.led place (λ a values. value_spec.with_walk place named fields.now a values
+    ensures value { IfOk result (λ made. made ≡ walk.got (part_spec.led place (λ a values. value_spec.with_walk place number named fields.now a values
         (around_of around.now) (scope_of scope.now)) (coded.each_part parts.now)) (walk.seen walking.old)) }
-    ensures walked { OnOk result (walk.seen walking.new ≡ walk.run (part_spec.led place (λ a values. value_spec.with_walk place named fields.now a
+    ensures walked { OnOk result (walk.seen walking.new ≡ walk.run (part_spec.led place (λ a values. value_spec.with_walk place number named fields.now a
         values (around_of around.now) (scope_of scope.now)) (coded.each_part parts.now)) (walk.seen walking.old)) }
 {
     match parts {
@@ -78,9 +80,38 @@ pub(crate) fn walk_with(
                 Some(aims) => {
                     let others = first_parts(others, aims.len());
                     let values = walk_each(alloc, walking, around, scope, others, aims.as_slice())?;
-                    with_made(alloc, walking, around, place, named, fields, value, values)
+                    with_ended(
+                        alloc, walking, around, place, number, named, fields, value, values,
+                    )
                 }
             }
         }
+    }
+}
+
+/// A value that comes to what is wanted of it. It fails where memory is wanting, and where variables are too many.
+#[cycle(walk)]
+#[tactic(auto, using(value_indices::proofs::Walks::walks, expression_steps::proofs::Masses::weights))]
+pub(crate) fn walk_place(
+    alloc: Global,
+    walking: &mut Walking,
+    around: &Around<'_>,
+    scope: &Scope<'_>,
+    place: Place,
+    number: u32,
+    parts: &[Core],
+    aim: &Aim,
+) -> Result<Indices, AllocError>
+    ensures value { IfOk result (λ made. made ≡ walk.got (part_spec.one place (λ a. spec.place_walk number a (around_of around.now)
+        (scope_of scope.now) aim.now) (coded.each_part parts.now)) (walk.seen walking.old)) }
+    ensures walked { OnOk result (walk.seen walking.new ≡ walk.run (part_spec.one place (λ a. spec.place_walk number a (around_of around.now)
+        (scope_of scope.now) aim.now) (coded.each_part parts.now)) (walk.seen walking.old)) }
+{
+    match parts {
+        [core] => {
+            let value = walk_expression(alloc, walking, around, scope, core, aim)?;
+            cast_ended(alloc, walking, number, aim, value)
+        }
+        _ => wrong_value(alloc, walking, place),
     }
 }

@@ -11,9 +11,9 @@ ghost use Rattle.expression_steps.specs.Values as value_spec;
 use crate::expressions::walk_expression;
 use crate::parts::walk_numbers;
 use call_notes::{Aim, wrong_value};
-use expression_forms::{Reached, Scope, if_never_value, read_into};
+use expression_forms::{Reached, Scope, if_never_value, read_suffix};
 use expression_steps::{
-    behind, first_parts, indexes_of, is_nested, left_at, no_way, part_put, put_aim, reach,
+    behind, first_parts, indexes_of, is_nested, left_at, no_way, put_aim, put_ended, reach,
     value_of, way_reached,
 };
 use pattern_leaves::Around;
@@ -61,8 +61,8 @@ pub(crate) fn walk_way(
     }
 }
 
-/// A part of a value by one suffix after the other, and how many parts of the expression have been taken. It fails where memory is wanting,
-/// and where variables are too many.
+/// A part of a value by one suffix after the other, of a target or to be taken out, and how many parts of the expression have been taken. It
+/// fails where memory is wanting, and where variables are too many.
 #[cycle(walk)]
 #[tactic(auto, using(value_indices::proofs::Walks::walks))]
 pub(crate) fn walk_suffixes(
@@ -70,15 +70,16 @@ pub(crate) fn walk_suffixes(
     walking: &mut Walking,
     around: &Around<'_>,
     scope: &Scope<'_>,
+    is_target: bool,
     suffixes: &[Suffix],
     parts: &[Core],
     at: usize,
     value: Indices,
 ) -> Result<Option<(Indices, usize)>, AllocError>
-    ensures value { IfOk result (λ made. coded.passed_in parts.now made ≡ walk.got (value_spec.suffixes_walk suffixes.now (around_of around.now)
+    ensures value { IfOk result (λ made. coded.passed_in parts.now made ≡ walk.got (value_spec.suffixes_walk is_target suffixes.now
+        (around_of around.now) (scope_of scope.now) (coded.left_behind parts.now at) value) (walk.seen walking.old)) }
+    ensures walked { OnOk result (walk.seen walking.new ≡ walk.run (value_spec.suffixes_walk is_target suffixes.now (around_of around.now)
         (scope_of scope.now) (coded.left_behind parts.now at) value) (walk.seen walking.old)) }
-    ensures walked { OnOk result (walk.seen walking.new ≡ walk.run (value_spec.suffixes_walk suffixes.now (around_of around.now) (scope_of scope.now)
-        (coded.left_behind parts.now at) value) (walk.seen walking.old)) }
 {
     let mut value = value;
     let mut at = at;
@@ -89,7 +90,15 @@ pub(crate) fn walk_suffixes(
         )? {
             None => return Ok(None),
             Some((reached, left)) => {
-                value = read_into(alloc, walking, place, &value, reached.as_ref())?;
+                value = read_suffix(
+                    alloc,
+                    walking,
+                    is_target,
+                    place,
+                    suffix.number,
+                    &value,
+                    reached.as_ref(),
+                )?;
                 at = left;
             }
         }
@@ -117,7 +126,9 @@ pub(crate) fn walk_part(
         [] => Ok(Indices::Never),
         [base, indexes @ ..] => {
             let value = walk_expression(alloc, walking, around, scope, base, &Aim::Free)?;
-            let found = walk_suffixes(alloc, walking, around, scope, suffixes, indexes, 0, value)?;
+            let found = walk_suffixes(
+                alloc, walking, around, scope, false, suffixes, indexes, 0, value,
+            )?;
             Ok(value_of(found))
         }
     }
@@ -132,13 +143,14 @@ fn updated(
     around: &Around<'_>,
     scope: &Scope<'_>,
     place: Place,
+    number: u32,
     core: &Core,
     value: Indices,
     reached: Option<&Reached>,
 ) -> Result<Indices, AllocError>
-    ensures value { IfOk result (λ made. made ≡ walk.got (value_spec.updated place (part core.now) (around_of around.now) (scope_of scope.now) value
+    ensures value { IfOk result (λ made. made ≡ walk.got (value_spec.updated place number (part core.now) (around_of around.now) (scope_of scope.now) value
         (option_copied reached.entry)) (walk.seen walking.old)) }
-    ensures walked { OnOk result (walk.seen walking.new ≡ walk.run (value_spec.updated place (part core.now) (around_of around.now)
+    ensures walked { OnOk result (walk.seen walking.new ≡ walk.run (value_spec.updated place number (part core.now) (around_of around.now)
         (scope_of scope.now) value (option_copied reached.entry)) (walk.seen walking.old)) }
 {
     match reached {
@@ -147,7 +159,9 @@ fn updated(
             let aim = put_aim(alloc, &reached.typ)?;
             let new = walk_expression(alloc, walking, around, scope, core, &aim)?;
             let nested = is_nested(core);
-            part_put(alloc, walking, around, place, nested, value, reached, &new)
+            put_ended(
+                alloc, walking, around, place, number, nested, value, reached, &new,
+            )
         }
     }
 }
@@ -161,12 +175,13 @@ pub(crate) fn walk_update(
     around: &Around<'_>,
     scope: &Scope<'_>,
     place: Place,
+    number: u32,
     way: Way,
     parts: &[Core],
 ) -> Result<Indices, AllocError>
-    ensures value { IfOk result (λ made. made ≡ walk.got (value_spec.update_forms place way (coded.each_part parts.now) (around_of around.now)
+    ensures value { IfOk result (λ made. made ≡ walk.got (value_spec.update_forms place number way (coded.each_part parts.now) (around_of around.now)
         (scope_of scope.now)) (walk.seen walking.old)) }
-    ensures walked { OnOk result (walk.seen walking.new ≡ walk.run (value_spec.update_forms place way (coded.each_part parts.now)
+    ensures walked { OnOk result (walk.seen walking.new ≡ walk.run (value_spec.update_forms place number way (coded.each_part parts.now)
         (around_of around.now) (scope_of scope.now)) (walk.seen walking.old)) }
 {
     match parts {
@@ -186,6 +201,7 @@ pub(crate) fn walk_update(
                         around,
                         scope,
                         place,
+                        number,
                         core,
                         value,
                         reached.as_ref(),

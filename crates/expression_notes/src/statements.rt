@@ -48,12 +48,12 @@ fn walk_state(
             let met = walk_branches(
                 alloc, walking, around, scope, core.place, shape, parts, &free,
             )?;
-            claim_behind(alloc, walking, core.place, core.number, parts, met)
+            claim_behind(alloc, walking, core.place, parts, met)
         }
         Kind::Assert(_) => match parts {
-            [] => wrong_state(alloc, walking, core.place, core.number),
+            [] => wrong_state(alloc, walking, core.place),
             [condition] => walk_truth(alloc, walking, around, scope, condition),
-            _ => wrong_state(alloc, walking, core.place, core.number),
+            _ => wrong_state(alloc, walking, core.place),
         },
         _ => {
             walk_expression(alloc, walking, around, scope, core, &Aim::Free)?;

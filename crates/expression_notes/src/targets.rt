@@ -33,14 +33,15 @@ fn spot_within(
     around: &Around<'_>,
     scope: &Scope<'_>,
     place: Place,
+    number: u32,
     suffixes: &[Suffix],
     found: Option<(Spot, usize)>,
     parts: &[Core],
 ) -> Result<Option<(Spot, usize)>, AllocError>
     ensures value { IfOk result (λ made. coded.spotted_in (around_of around.now) parts.now made ≡ walk.got (target_spec.then_spot (target_spec.part_of
-        place suffixes.now (around_of around.now) (scope_of scope.now)) (coded.spotted_in (around_of around.now) parts.now found))
+        place number suffixes.now (around_of around.now) (scope_of scope.now)) (coded.spotted_in (around_of around.now) parts.now found))
         (walk.seen walking.old)) }
-    ensures walked { OnOk result (walk.seen walking.new ≡ walk.run (target_spec.then_spot (target_spec.part_of place suffixes.now
+    ensures walked { OnOk result (walk.seen walking.new ≡ walk.run (target_spec.then_spot (target_spec.part_of place number suffixes.now
         (around_of around.now) (scope_of scope.now)) (coded.spotted_in (around_of around.now) parts.now found)) (walk.seen walking.old)) }
 {
     match found {
@@ -51,14 +52,16 @@ fn spot_within(
                 [] => no_spot(alloc, walking, place),
                 [read @ .., last] => {
                     let value = copy_indices(alloc, &held)?;
-                    match walk_suffixes(alloc, walking, around, scope, read, parts, at, value)? {
+                    match walk_suffixes(
+                        alloc, walking, around, scope, true, read, parts, at, value,
+                    )? {
                         None => Ok(None),
                         Some((value, at)) => {
                             let reached = walk_way(
                                 alloc, walking, around, scope, last.place, parts, at, &value,
                                 last.way,
                             )?;
-                            part_found(alloc, last, base, held, reached)
+                            part_found(alloc, number, last, base, held, reached)
                         }
                     }
                 }
@@ -117,32 +120,37 @@ fn spot_target(
         (coded.left_behind parts.now at)) (walk.seen walking.old)) }
 {
     let place = target.place;
+    let number = target.number;
     let targets = target.parts.as_slice();
     match &target.kind {
         TargetKind::Variable(name) => spot_name(
-            alloc, walking, around, scope, place, name, targets, parts, at,
+            alloc, walking, around, scope, place, number, name, targets, parts, at,
         ),
         TargetKind::Register(register) => spot_register(
-            alloc, walking, around, scope, place, *register, targets, parts, at,
+            alloc, walking, around, scope, place, number, *register, targets, parts, at,
         ),
         TargetKind::Call(count, reader, writer) => match targets {
             [] => {
                 let arguments = first_parts(left_at(parts, at), *count as usize);
                 let aims = argument_aims(alloc, callee_types(around, writer.callee))?;
                 let values = walk_each(alloc, walking, around, scope, arguments, aims.as_slice())?;
-                call_found(alloc, place, *reader, *writer, arguments, values, at)
+                call_found(
+                    alloc, place, number, *reader, *writer, arguments, values, at,
+                )
             }
             _ => no_spot(alloc, walking, place),
         },
         TargetKind::Tuple => {
             let found = spot_each(alloc, walking, around, scope, targets, parts, at)?;
-            Ok(tuple_found(place, found))
+            Ok(tuple_found(place, number, found))
         }
         TargetKind::Part(suffixes) => match targets {
             [base] => {
                 let found = spot_target(alloc, walking, around, scope, base, parts, at)?;
                 let suffixes = suffixes.as_slice();
-                spot_within(alloc, walking, around, scope, place, suffixes, found, parts)
+                spot_within(
+                    alloc, walking, around, scope, place, number, suffixes, found, parts,
+                )
             }
             _ => no_spot(alloc, walking, place),
         },

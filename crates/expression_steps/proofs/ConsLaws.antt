@@ -23,44 +23,44 @@ not_two (suc zero) other = refl
 not_two (suc (suc zero)) other = absurd (other refl)
 not_two (suc (suc (suc n))) other = refl
 
-module _ (shape : Shape) (place : Place) (around : Around) (scope : Scope) (r : Reading) (w : Written) where
+module _ (k : ℕ) (shape : Shape) (place : Place) (around : Around) (scope : Scope) (r : Reading) (w : Written) where
   abbrev made : Reading-F Indices Reading → List Part → Walk Indices
-  made form ps = bind (each_walk (take (two_or_none (length ps)) ps) around scope (cons_aims form r)) (cons_end around shape place form r ps)
+  made form ps = bind (each_walk (take (two_or_none (length ps)) ps) around scope (cons_aims form r)) (cons_end around shape place k form r ps)
 
   abbrev whole : Reading-F Indices Reading → List Part → Walk Indices
-  whole form ps = two place (λ a b. cons_of shape a b around scope form r) ps
+  whole form ps = two place (λ a b. cons_of k shape a b around scope form r) ps
 
   free_got : (a b : Part) → got (made W.Hole (a ∷ b ∷ [])) w ≡ got (whole W.Hole (a ∷ b ∷ [])) w
   free_got a b =
-      two_each_got (cons_end around shape place W.Hole r (a ∷ b ∷ [])) w (a.walk around scope Aims.Free) (b.walk around scope Aims.Free)
+      two_each_got (cons_end around shape place k W.Hole r (a ∷ b ∷ [])) w (a.walk around scope Aims.Free) (b.walk around scope Aims.Free)
 
   free_run : (a b : Part) → run (made W.Hole (a ∷ b ∷ [])) w ≡ run (whole W.Hole (a ∷ b ∷ [])) w
   free_run a b =
-      two_each_run (cons_end around shape place W.Hole r (a ∷ b ∷ [])) w (a.walk around scope Aims.Free) (b.walk around scope Aims.Free)
+      two_each_run (cons_end around shape place k W.Hole r (a ∷ b ∷ [])) w (a.walk around scope Aims.Free) (b.walk around scope Aims.Free)
 
   abbrev list_due : Part → Walk Indices
   list_due b = b.walk around scope (Aims.Due (R.Widened (I.List r)))
 
   pub cons_got : (form : Reading-F Indices Reading) (ps : List Part) → got (made form ps) w ≡ got (whole form ps) w
-  cons_got form [] = none_each_got (cons_end around shape place form r []) w
-  cons_got form (a ∷ []) = none_each_got (cons_end around shape place form r (a ∷ [])) w
+  cons_got form [] = none_each_got (cons_end around shape place k form r []) w
+  cons_got form (a ∷ []) = none_each_got (cons_end around shape place k form r (a ∷ [])) w
   cons_got W.Hole (a ∷ b ∷ []) = free_got a b
   cons_got (W.Of t is rs) (a ∷ b ∷ []) =
-      two_each_got (cons_end around shape place (W.Of t is rs) r (a ∷ b ∷ [])) w (a.walk around scope (aimed Aims.Due r)) (list_due b)
+      two_each_got (cons_end around shape place k (W.Of t is rs) r (a ∷ b ∷ [])) w (a.walk around scope (aimed Aims.Due r)) (list_due b)
   cons_got (W.Widened i) (a ∷ b ∷ []) =
-      two_each_got (cons_end around shape place (W.Widened i) r (a ∷ b ∷ [])) w (a.walk around scope (aimed Aims.Due r)) (list_due b)
+      two_each_got (cons_end around shape place k (W.Widened i) r (a ∷ b ∷ [])) w (a.walk around scope (aimed Aims.Due r)) (list_due b)
   cons_got (W.Parts rs) (a ∷ b ∷ []) =
-      two_each_got (cons_end around shape place (W.Parts rs) r (a ∷ b ∷ [])) w (a.walk around scope (aimed Aims.Due r)) (list_due b)
-  cons_got form (a ∷ b ∷ c ∷ ps) = none_each_got (cons_end around shape place form r (a ∷ b ∷ c ∷ ps)) w
+      two_each_got (cons_end around shape place k (W.Parts rs) r (a ∷ b ∷ [])) w (a.walk around scope (aimed Aims.Due r)) (list_due b)
+  cons_got form (a ∷ b ∷ c ∷ ps) = none_each_got (cons_end around shape place k form r (a ∷ b ∷ c ∷ ps)) w
 
   pub cons_run : (form : Reading-F Indices Reading) (ps : List Part) → run (made form ps) w ≡ run (whole form ps) w
-  cons_run form [] = none_each_run (cons_end around shape place form r []) w
-  cons_run form (a ∷ []) = none_each_run (cons_end around shape place form r (a ∷ [])) w
+  cons_run form [] = none_each_run (cons_end around shape place k form r []) w
+  cons_run form (a ∷ []) = none_each_run (cons_end around shape place k form r (a ∷ [])) w
   cons_run W.Hole (a ∷ b ∷ []) = free_run a b
   cons_run (W.Of t is rs) (a ∷ b ∷ []) =
-      two_each_run (cons_end around shape place (W.Of t is rs) r (a ∷ b ∷ [])) w (a.walk around scope (aimed Aims.Due r)) (list_due b)
+      two_each_run (cons_end around shape place k (W.Of t is rs) r (a ∷ b ∷ [])) w (a.walk around scope (aimed Aims.Due r)) (list_due b)
   cons_run (W.Widened i) (a ∷ b ∷ []) =
-      two_each_run (cons_end around shape place (W.Widened i) r (a ∷ b ∷ [])) w (a.walk around scope (aimed Aims.Due r)) (list_due b)
+      two_each_run (cons_end around shape place k (W.Widened i) r (a ∷ b ∷ [])) w (a.walk around scope (aimed Aims.Due r)) (list_due b)
   cons_run (W.Parts rs) (a ∷ b ∷ []) =
-      two_each_run (cons_end around shape place (W.Parts rs) r (a ∷ b ∷ [])) w (a.walk around scope (aimed Aims.Due r)) (list_due b)
-  cons_run form (a ∷ b ∷ c ∷ ps) = none_each_run (cons_end around shape place form r (a ∷ b ∷ c ∷ ps)) w
+      two_each_run (cons_end around shape place k (W.Parts rs) r (a ∷ b ∷ [])) w (a.walk around scope (aimed Aims.Due r)) (list_due b)
+  cons_run form (a ∷ b ∷ c ∷ ps) = none_each_run (cons_end around shape place k form r (a ∷ b ∷ c ∷ ps)) w

@@ -16,29 +16,29 @@ use Rattle.expression_steps.specs.Expressions.{leaf_form, leaf_walk}
 use Rattle.expression_steps.proofs.BranchEnds.{alone_got, alone_run}
 
 -- without parts
-bare_leaf : (place : Place) (kind : Kind) (cs : List Core) (around : Around) (scope : Scope) → (length cs == 0) ≡ true
-    → leaf_walk place kind (each_part cs) around scope ≡ leaf_form place kind around scope
-bare_leaf place kind [] around scope bare = refl
-bare_leaf place kind (c ∷ cs) around scope bare =
+bare_leaf : (place : Place) (number : ℕ) (kind : Kind) (cs : List Core) (around : Around) (scope : Scope) → (length cs == 0) ≡ true
+    → leaf_walk place number kind (each_part cs) around scope ≡ leaf_form place number kind around scope
+bare_leaf place number kind [] around scope bare = refl
+bare_leaf place number kind (c ∷ cs) around scope bare =
     let empty : length (c ∷ cs) ≡ 0 = eqb-true (length (c ∷ cs)) 0 bare in absurd (omega (arith, empty))
 
-module _ (place : Place) (kind : Kind) (cs : List Core) (around : Around) (scope : Scope) (bare : (length cs == 0) ≡ true) where
-  as_kind : (other : Kind) → kind ≡ other → leaf_walk place kind (each_part cs) around scope ≡ leaf_form place other around scope
-  as_kind other is = bare_leaf place kind cs around scope bare ∙ ap (λ (k : Kind). leaf_form place k around scope) is
+module _ (place : Place) (number : ℕ) (kind : Kind) (cs : List Core) (around : Around) (scope : Scope) (bare : (length cs == 0) ≡ true) where
+  as_kind : (other : Kind) → kind ≡ other → leaf_walk place number kind (each_part cs) around scope ≡ leaf_form place number other around scope
+  as_kind other is = bare_leaf place number kind cs around scope bare ∙ ap (λ (k : Kind). leaf_form place number k around scope) is
 
   pub literal_got : (literal : Literal) (w : Written) → kind ≡ K.Constant literal
-      → literal_indices literal ≡ got (leaf_walk place kind (each_part cs) around scope) w
+      → literal_indices literal ≡ got (leaf_walk place number kind (each_part cs) around scope) w
   literal_got literal w is =
-      alone_got (leaf_walk place kind (each_part cs) around scope) (literal_indices literal) w (as_kind (K.Constant literal) is)
+      alone_got (leaf_walk place number kind (each_part cs) around scope) (literal_indices literal) w (as_kind (K.Constant literal) is)
 
-  pub literal_run : (literal : Literal) (w : Written) → kind ≡ K.Constant literal → w ≡ run (leaf_walk place kind (each_part cs) around scope) w
+  pub literal_run : (literal : Literal) (w : Written) → kind ≡ K.Constant literal → w ≡ run (leaf_walk place number kind (each_part cs) around scope) w
   literal_run literal w is =
-      alone_run (leaf_walk place kind (each_part cs) around scope) (literal_indices literal) w (as_kind (K.Constant literal) is)
+      alone_run (leaf_walk place number kind (each_part cs) around scope) (literal_indices literal) w (as_kind (K.Constant literal) is)
 
   pub top_level_is : (i : ℕ) (found : Option TopLevel) → kind ≡ K.TopLevel i → found ≡ slice_get around.lets i
-      → top_level_walk around.types place found ≡ leaf_walk place kind (each_part cs) around scope
-  top_level_is i found is there = ap (λ (o : Option TopLevel). top_level_walk around.types place o) there ∙ sym (as_kind (K.TopLevel i) is)
+      → top_level_walk around.types place number found ≡ leaf_walk place number kind (each_part cs) around scope
+  top_level_is i found is there = ap (λ (o : Option TopLevel). top_level_walk around.types place number o) there ∙ sym (as_kind (K.TopLevel i) is)
 
   pub register_is : (r : ℕ) (found : Option Register) → kind ≡ K.Register r → found ≡ slice_get around.registers r
-      → register_walk place found ≡ leaf_walk place kind (each_part cs) around scope
-  register_is r found is there = ap (λ (o : Option Register). register_walk place o) there ∙ sym (as_kind (K.Register r) is)
+      → register_walk place number found ≡ leaf_walk place number kind (each_part cs) around scope
+  register_is r found is there = ap (λ (o : Option Register). register_walk place number o) there ∙ sym (as_kind (K.Register r) is)

@@ -27,9 +27,9 @@ use Rattle.expression_forms.specs.Meeting.{thrown}
 use Rattle.expression_steps.specs.Coded.{each_part, way_core, way_cores, way_opened, way_seen, ways_seen}
 use Rattle.expression_steps.specs.Expressions.{part}
 use Rattle.expression_steps.specs.Parts.{given_that, led, truth_walk, under}
-use Rattle.expression_steps.specs.Statements.{branches_forms, case_way, case_ways, cases_walk, each_way, either_met, either_walk, first_behind}
+use Rattle.expression_steps.specs.Statements.{branches_forms, case_way, case_ways, cases_walk, caught_at, each_way, either_met, either_walk, first_behind}
 use Rattle.expression_steps.specs.Statements.{meeting, meeting_from, met_value, one_way, owed_of_first, try_over, try_way, two_ways, way_behind}
-use Rattle.expression_steps.specs.Statements.{match_under, match_walk, when_met, when_under}
+use Rattle.expression_steps.specs.Statements.{match_under, match_walk, try_walk, when_met, when_under}
 use Rattle.expression_steps.specs.Statements.{Way as Meeting}
 use Rattle.expression_steps.specs.declared.ways.Way.{Way}
 use Rattle.expression_steps.specs.declared.ways.Way.TheVariants as B
@@ -273,9 +273,9 @@ behind_mass ws c bodies n is =
 
 -- ---- the cases of a `match` and a `try`
 
-module _ (place : Place) (is_try : Bool) (shape : Shape) (arms : List Arm) (around : Around) (scope : Scope) (aim : Aim) (cs : List Core) where
+module _ (place : Place) (number : ℕ) (is_try : Bool) (shape : Shape) (arms : List Arm) (around : Around) (scope : Scope) (aim : Aim) (cs : List Core) where
   abbrev cases_form : List Core → Walk Indices
-  cases_form ds = led place (λ a bodies. cases_walk is_try place shape arms a bodies around scope aim) (each_part ds)
+  cases_form ds = led place (λ a bodies. cases_walk is_try place number shape arms a bodies around scope aim) (each_part ds)
 
   abbrev meets : List Meeting → Walk Indices
   meets ws = meeting around place shape (wanted aim) ws
@@ -284,11 +284,30 @@ module _ (place : Place) (is_try : Bool) (shape : Shape) (arms : List Arm) (arou
   no_cases none = sym (ap cases_form none)
 
   module _ (c : Core) (rest : List Core) (first : cs ≡ c ∷ rest) where
-    pub try_is : (i : Indices) (ws : List Meeting) → is_try ≡ true → i ≡ thrown around.exception
-        → ws ≡ try_way (part c) around scope aim ∷ case_ways place arms (each_part rest) around scope aim i → meets ws ≡ cases_form cs
-    try_is i ws tries sent same =
-        ap meets same ∙ ap (λ (k : Indices). try_over place shape arms (part c) (each_part rest) around scope aim k) sent
-        ∙ ap (λ (b : Bool). cases_walk b place shape arms (part c) (each_part rest) around scope aim) (sym tries) ∙ ap cases_form (sym first)
+    module _ (i : Indices) (ws : List Meeting) (v w : Written) (tries : is_try ≡ true) (sent : i ≡ thrown around.exception)
+        (was : w ≡ run (caught_at number i) v)
+        (same : ws ≡ try_way (part c) around scope aim ∷ case_ways place arms (each_part rest) around scope aim i) where
+      abbrev caught : Walk (Unit {0})
+      caught = caught_at number (thrown around.exception)
+
+      abbrev tried : Indices → Walk Indices
+      tried = try_over place shape arms (part c) (each_part rest) around scope aim
+
+      try_is : try_walk place number shape arms (part c) (each_part rest) around scope aim ≡ cases_form cs
+      try_is = ap (λ (b : Bool). cases_walk b place number shape arms (part c) (each_part rest) around scope aim) (sym tries) ∙ ap cases_form (sym first)
+
+      went : w ≡ run caught v
+      went = was ∙ ap (λ (k : Indices). run (caught_at number k) v) sent
+
+      pub try_got : got (meets ws) w ≡ got (cases_form cs) v
+      try_got =
+          ap (λ (vs : List Meeting). got (meets vs) w) same ∙ ap (λ (k : Indices). got (tried k) w) sent
+          ∙ then_got caught (λ t. tried (thrown around.exception)) v w (got caught v) refl went ∙ ap (λ (a : Walk Indices). got a v) try_is
+
+      pub try_run : run (meets ws) w ≡ run (cases_form cs) v
+      try_run =
+          ap (λ (vs : List Meeting). run (meets vs) w) same ∙ ap (λ (k : Indices). run (tried k) w) sent
+          ∙ then_run caught (λ t. tried (thrown around.exception)) v w (got caught v) refl went ∙ ap (λ (a : Walk Indices). run a v) try_is
 
     module _ (i : Indices) (ws : List Meeting) (v w : Written) (matches : is_try ≡ false) (is : i ≡ got ((part c).walk around scope Aims.Free) v)
         (was : w ≡ run ((part c).walk around scope Aims.Free) v) (same : ws ≡ case_ways place arms (each_part rest) around scope aim i) where
@@ -296,7 +315,7 @@ module _ (place : Place) (is_try : Bool) (shape : Shape) (arms : List Arm) (arou
       over = match_under place shape arms (each_part rest) around scope aim
 
       match_is : match_walk place shape arms (part c) (each_part rest) around scope aim ≡ cases_form cs
-      match_is = ap (λ (b : Bool). cases_walk b place shape arms (part c) (each_part rest) around scope aim) (sym matches) ∙ ap cases_form (sym first)
+      match_is = ap (λ (b : Bool). cases_walk b place number shape arms (part c) (each_part rest) around scope aim) (sym matches) ∙ ap cases_form (sym first)
 
       pub match_got : got (meets ws) w ≡ got (cases_form cs) v
       match_got =

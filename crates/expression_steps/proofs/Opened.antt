@@ -1,15 +1,17 @@
 -- How an expression opens.
 use Rattle.std.proofs.Common.{◌≡◌, ◌∙◌, ◌+◌, ap, sym, ℕ, zero, suc, List, [], ◌∷◌, map, length, get_or, arith, Bool, true, false, if◌then◌else◌}
+use Rattle.sail_base.specs.declared.place.Place.{Place}
 use Rattle.sail_core.specs.declared.targets.Target.{Target, fold_out-Target, out-Target}
 use Rattle.sail_core.specs.declared.tree.Core.{Core, fold_out-Core, out-Core}
-use Rattle.value_indices.specs.Steps.{bind}
+use Rattle.sail_core.specs.declared.tree.Kind.{Kind}
+use Rattle.value_indices.specs.Steps.{Walk, bind}
+use Rattle.value_indices.specs.declared.indices.Indices.{Indices}
 use Rattle.pattern_leaves.specs.Settings.{Around, Scope}
 use Rattle.call_arguments.specs.declared.aims.Aim.{Aim}
 use Rattle.call_notes.specs.Ends.{settled}
-use Rattle.expression_forms.specs.Nodes.{made_at}
 use Rattle.expression_steps.specs.Coded.{each_part}
-use Rattle.expression_steps.specs.Expressions.{core_part, goes_inward, inward, kind_nested, kind_never_ends, kind_place, kind_state, kind_walk, part}
-use Rattle.expression_steps.specs.Expressions.{plain, settled_walk}
+use Rattle.expression_steps.specs.Expressions.{core_part, goes_inward, inward, kind_nested, kind_never_ends, kind_place, kind_state}
+use Rattle.expression_steps.specs.Expressions.{kind_walk, makes_value, node_end, part, plain, settled_walk}
 use Rattle.expression_steps.specs.Parts.{Part}
 use Rattle.expression_steps.specs.Statements.{last_never_ends}
 use Rattle.expression_steps.specs.Targets.{Spotting, kind_spot, spotting}
@@ -39,10 +41,10 @@ pub ending_is : (c : Core) (ps : List Core) → ps ≡ (out-Core c).parts → (p
 ending_is c ps same = ap (λ (a : Part). a.never_ends) (part_is c ps same)
 
 pub spotting_is : (t : Target) (ts : List Target) (around : Around) (scope : Scope) (parts : List Part) → ts ≡ (out-Target t).parts
-    → spotting t around scope parts ≡ kind_spot (out-Target t).place (out-Target t).kind (map spotting ts) around scope parts
+    → spotting t around scope parts ≡ kind_spot (out-Target t).place (out-Target t).number (out-Target t).kind (map spotting ts) around scope parts
 spotting_is t ts around scope parts same =
-    ap (λ (s : Spotting). s around scope parts) (fold_out-Target Spotting (λ t. kind_spot t.place t.kind t.parts) t)
-    ∙ (λ j. kind_spot (out-Target t).place (out-Target t).kind (map spotting (sym same j)) around scope parts)
+    ap (λ (s : Spotting). s around scope parts) (fold_out-Target Spotting (λ t. kind_spot t.place t.number t.kind t.parts) t)
+    ∙ (λ j. kind_spot (out-Target t).place (out-Target t).number (out-Target t).kind (map spotting (sym same j)) around scope parts)
 
 -- the last of some
 pub last_at : (cs : List Core) (k : ℕ) (c : Core) → k + 1 ≡ length cs → c ≡ get_or cs k c → (part c).never_ends ≡ last_never_ends (each_part cs)
@@ -54,19 +56,27 @@ last_at (x ∷ y ∷ cs) (suc k) c count is = last_at (y ∷ cs) k c (omega (ari
 
 -- ---- a node by whether it takes a wanted type further in
 
-pub inward_is : (c : Core) (ps : List Core) (around : Around) (scope : Scope) (aim : Aim) → ps ≡ (out-Core c).parts → goes_inward (out-Core c).kind ≡ true
-    → (part c).walk around scope aim
-    ≡ bind (inward (out-Core c).place (out-Core c).kind (each_part ps) around scope aim) (made_at (out-Core c).number)
-inward_is c ps around scope aim same goes =
-    walk_is c ps around scope aim same
-    ∙ ap (λ (b : Bool). bind (if b then inward (out-Core c).place (out-Core c).kind (each_part ps) around scope aim
-    else settled_walk (out-Core c).place (out-Core c).number (out-Core c).kind (each_part ps) around scope aim) (made_at (out-Core c).number)) goes
+module _ (c : Core) (ps : List Core) (around : Around) (scope : Scope) (aim : Aim) (same : ps ≡ (out-Core c).parts) where
+  abbrev place : Place
+  place = (out-Core c).place
 
-pub plain_is : (c : Core) (ps : List Core) (around : Around) (scope : Scope) (aim : Aim) → ps ≡ (out-Core c).parts → goes_inward (out-Core c).kind ≡ false
-    → (part c).walk around scope aim
-    ≡ bind (bind (plain (out-Core c).place (out-Core c).number (out-Core c).kind (each_part ps) around scope aim)
-    (settled around (out-Core c).place aim)) (made_at (out-Core c).number)
-plain_is c ps around scope aim same goes =
-    walk_is c ps around scope aim same
-    ∙ ap (λ (b : Bool). bind (if b then inward (out-Core c).place (out-Core c).kind (each_part ps) around scope aim
-    else settled_walk (out-Core c).place (out-Core c).number (out-Core c).kind (each_part ps) around scope aim) (made_at (out-Core c).number)) goes
+  abbrev number : ℕ
+  number = (out-Core c).number
+
+  abbrev kind : Kind
+  kind = (out-Core c).kind
+
+  module _ (is_made : Bool) (makes : is_made ≡ makes_value kind) where
+    abbrev by_form : Bool → Bool → Walk Indices
+    by_form made b =
+        bind (if b then inward place number kind (each_part ps) around scope aim else settled_walk place number kind (each_part ps) around scope aim)
+        (node_end number made)
+
+    pub inward_is : goes_inward kind ≡ true
+        → (part c).walk around scope aim ≡ bind (inward place number kind (each_part ps) around scope aim) (node_end number is_made)
+    inward_is goes = walk_is c ps around scope aim same ∙ (λ j. by_form (sym makes j) (goes j))
+
+    pub plain_is : goes_inward kind ≡ false
+        → (part c).walk around scope aim
+        ≡ bind (bind (plain place number kind (each_part ps) around scope aim) (settled around place aim)) (node_end number is_made)
+    plain_is goes = walk_is c ps around scope aim same ∙ (λ j. by_form (sym makes j) (goes j))

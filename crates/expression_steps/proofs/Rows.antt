@@ -8,25 +8,16 @@ use Rattle.value_indices.specs.declared.indices.Indices.{Indices}
 use Rattle.value_indices.specs.declared.indices.Indices.TheOpen as W
 use Rattle.value_indices.specs.declared.indices.Indices.TheOpen.{Reading-F}
 use Rattle.value_indices.specs.declared.indices.Reading.{Reading}
+use Rattle.value_indices.specs.declared.indices.Reading.TheVariants as R
 use Rattle.value_indices.proofs.Walks.{got_bind, got_give, run_bind, run_give}
 use Rattle.pattern_leaves.specs.Settings.{Around, Scope}
-use Rattle.pattern_leaves.proofs.Walked.{consed_run, then_got, then_run}
+use Rattle.pattern_leaves.proofs.Walked.{made_got, made_run, then_got, then_run}
 use Rattle.call_arguments.specs.Aims.{aimed, is_hole_form}
 use Rattle.call_arguments.specs.declared.aims.Aim.{Aim}
 use Rattle.call_arguments.specs.declared.aims.Aim.TheVariants as Aims
 use Rattle.expression_steps.specs.Parts.{Part, each_walk}
-use Rattle.expression_steps.specs.Values.{filled_here, first_free, first_like, item_like, item_owed, items_due, items_free, items_like, items_of, items_wanted}
-
--- ---- items of which each owes the same: what they give is not kept
-
-pub repeated_run : (ps : List Part) (around : Around) (scope : Scope) (aim : Aim) (w : Written)
-    → run (each_walk ps around scope (replicate (length ps) aim)) w ≡ run (items_due ps around scope aim) w
-repeated_run [] around scope aim w = run_give {A = List Indices} [] w ∙ sym (run_give tt w)
-repeated_run (a ∷ ps) around scope aim w =
-    let first = a.walk around scope aim in
-    consed_run first (each_walk ps around scope (replicate (length ps) aim)) w
-    ∙ repeated_run ps around scope aim (run first w)
-    ∙ sym (run_bind first (λ i. items_due ps around scope aim) w)
+use Rattle.expression_steps.specs.Values.{Row, filled_here, first_free, first_like, item_like, item_owed, items_due, items_free, items_like, items_of}
+use Rattle.expression_steps.specs.Values.{items_wanted}
 
 -- one more of the same
 pub one_more_of : {A : Type 0} (n : ℕ) (x : A) → replicate (suc n) x ≡ replicate n x ++ x ∷ []
@@ -35,56 +26,82 @@ one_more_of (suc n) x = ap (λ xs. x ∷ xs) (one_more_of n x)
 
 -- ---- an item that owes a type
 
-module _ (a : Part) (around : Around) (scope : Scope) (r : Reading) (place : Place) (w u v : Written) (i : Indices) where
-  pub item_walked : place ≡ a.place → i ≡ got (a.walk around scope Aims.Free) w → u ≡ run (a.walk around scope Aims.Free) w
-      → v ≡ run (item_owed around place r i) u → v ≡ run (item_like a around scope r) w
-  item_walked here is was owes =
+module _ (a : Part) (around : Around) (scope : Scope) (r : Reading) (place : Place) (w u : Written) (i : Indices) (here : place ≡ a.place)
+    (is : i ≡ got (a.walk around scope Aims.Free) w) (was : u ≡ run (a.walk around scope Aims.Free) w) where
+  abbrev owing : Walk (Unit {0})
+  owing = item_owed around a.place r i
+
+  abbrev behind : Indices → Walk Indices
+  behind j = bind (item_owed around a.place r j) (λ t. give j)
+
+  pub item_got : i ≡ got (item_like a around scope r) w
+  item_got =
+      sym (got_give i (run owing u)) ∙ sym (got_bind owing (λ t. give i) u) ∙ then_got (a.walk around scope Aims.Free) behind w u i is was
+
+  pub item_run : (v : Written) → v ≡ run (item_owed around place r i) u → v ≡ run (item_like a around scope r) w
+  item_run v owes =
       owes
       ∙ ap (λ (p : Place). run (item_owed around p r i) u) here
-      ∙ then_run (a.walk around scope Aims.Free) (item_owed around a.place r) w u i is was
+      ∙ sym (run_give i (run owing u))
+      ∙ sym (run_bind owing (λ t. give i) u)
+      ∙ then_run (a.walk around scope Aims.Free) behind w u i is was
 
 -- ---- a first item, and the others
 
 module _ (a : Part) (ps : List Part) (around : Around) (scope : Scope) (shape : Shape) (place : Place) (w0 w1 w2 w3 w4 : Written) (i : Indices) (r : Reading)
-    (here : place ≡ a.place) (is : i ≡ got (a.walk around scope Aims.Free) w0) (was : w1 ≡ run (a.walk around scope Aims.Free) w0)
-    (fills : r ≡ got (filled_here around shape i) w1) (filled : w2 ≡ run (filled_here around shape i) w1)
-    (owes : w3 ≡ run (item_owed around place r i) w2) (others : w4 ≡ run (items_like ps around scope r) w3) where
-  owed : w3 ≡ run (item_owed around a.place r i) w2
-  owed = owes ∙ ap (λ (p : Place). run (item_owed around p r i) w2) here
+    (one values : List Indices) (begun : one ≡ i ∷ []) (here : place ≡ a.place) (found : i ≡ got (a.walk around scope Aims.Free) w0)
+    (was : w1 ≡ run (a.walk around scope Aims.Free) w0) (fills : r ≡ got (filled_here around shape i) w1)
+    (filled : w2 ≡ run (filled_here around shape i) w1) (owes : w3 ≡ run (item_owed around place r i) w2)
+    (others : values ≡ one ++ got (items_like ps around scope r) w3) (went : w4 ≡ run (items_like ps around scope r) w3) where
+  abbrev owed : Walk (Unit {0})
+  owed = item_owed around a.place r i
 
-  abbrev last : Walk Reading
-  last = bind (items_like ps around scope r) (λ u. give r)
+  abbrev row : List Indices → Row
+  row xs = (r, xs)
 
-  last_got : r ≡ got (first_like ps around scope a.place i r) w2
+  abbrev onto : List Indices → Row
+  onto xs = row (i ∷ xs)
+
+  abbrev like : Walk Row
+  like = bind (items_like ps around scope r) (λ xs. give (onto xs))
+
+  values_are : values ≡ i ∷ got (items_like ps around scope r) w3
+  values_are = others ∙ ap (λ (xs : List Indices). xs ++ got (items_like ps around scope r) w3) begun
+
+  came : w3 ≡ run owed w2
+  came = owes ∙ ap (λ (p : Place). run (item_owed around p r i) w2) here
+
+  last_got : row values ≡ got (first_like ps around scope a.place i r) w2
   last_got =
-      sym (got_give r w4)
-      ∙ ap (λ (x : Written). got (give r) x) others
-      ∙ sym (got_bind (items_like ps around scope r) (λ u. give r) w3)
-      ∙ ap (λ (x : Written). got last x) owed
-      ∙ sym (got_bind (item_owed around a.place r i) (λ t. last) w2)
+      ap row values_are
+      ∙ made_got (items_like ps around scope r) onto w3 (got (items_like ps around scope r) w3) refl
+      ∙ then_got owed (λ t. like) w2 w3 (got owed w2) refl came
 
   last_run : w4 ≡ run (first_like ps around scope a.place i r) w2
-  last_run =
-      sym (run_give r w4)
-      ∙ ap (λ (x : Written). run (give r) x) others
-      ∙ sym (run_bind (items_like ps around scope r) (λ u. give r) w3)
-      ∙ ap (λ (x : Written). run last x) owed
-      ∙ sym (run_bind (item_owed around a.place r i) (λ t. last) w2)
+  last_run = made_run (items_like ps around scope r) onto w3 w4 went ∙ then_run owed (λ t. like) w2 w3 (got owed w2) refl came
 
-  abbrev rest : Indices → Walk Reading
+  abbrev rest : Indices → Walk Row
   rest k = bind (filled_here around shape k) (first_like ps around scope a.place k)
 
-  pub items_got : r ≡ got (first_free a ps around scope shape) w0
+  pub items_got : row values ≡ got (first_free a ps around scope shape) w0
   items_got =
       last_got
       ∙ then_got (filled_here around shape i) (first_like ps around scope a.place i) w1 w2 r fills filled
-      ∙ then_got (a.walk around scope Aims.Free) rest w0 w1 i is was
+      ∙ then_got (a.walk around scope Aims.Free) rest w0 w1 i found was
 
   pub items_run : w4 ≡ run (first_free a ps around scope shape) w0
   items_run =
       last_run
       ∙ then_run (filled_here around shape i) (first_like ps around scope a.place i) w1 w2 r fills filled
-      ∙ then_run (a.walk around scope Aims.Free) rest w0 w1 i is was
+      ∙ then_run (a.walk around scope Aims.Free) rest w0 w1 i found was
+
+-- ---- no items
+
+abbrev pub no_row : List Indices → Row
+no_row xs = (R.Hole, xs)
+
+pub no_items : (xs : List Indices) (v : Written) → xs ≡ [] → no_row xs ≡ got (give (no_row [])) v
+no_items xs v none = ap no_row none ∙ sym (got_give (no_row []) v)
 
 -- ---- items of which a type is wanted, or none
 
@@ -102,16 +119,16 @@ due_items ps around scope shape r (W.Of t is rs) some = refl
 due_items ps around scope shape r (W.Widened i) some = refl
 due_items ps around scope shape r (W.Parts rs) some = refl
 
-pub wanted_got : (ps : List Part) (around : Around) (scope : Scope) (r : Reading) (v : Written) → r ≡ got (items_wanted ps around scope r) v
-wanted_got ps around scope r v =
-    let due = items_due ps around scope (aimed Aims.Due r) in
-    sym (got_bind due (λ t. give r) v ∙ got_give r (run due v))
+module _ (ps : List Part) (aims : List Aim) (around : Around) (scope : Scope) (r : Reading) (v : Written)
+    (wants : aims ≡ replicate (length ps) (aimed Aims.Due r)) where
+  abbrev due : Walk (List Indices)
+  due = items_due ps around scope (aimed Aims.Due r)
 
-pub wanted_run : (ps : List Part) (aims : List Aim) (around : Around) (scope : Scope) (r : Reading) (v w : Written)
-    → aims ≡ replicate (length ps) (aimed Aims.Due r) → w ≡ run (each_walk ps around scope aims) v → w ≡ run (items_wanted ps around scope r) v
-wanted_run ps aims around scope r v w wants was =
-    let due = items_due ps around scope (aimed Aims.Due r) in
-    was
-    ∙ ap (λ (xs : List Aim). run (each_walk ps around scope xs) v) wants
-    ∙ repeated_run ps around scope (aimed Aims.Due r) v
-    ∙ sym (run_bind due (λ t. give r) v ∙ run_give r (run due v))
+  abbrev wanted_row : List Indices → Row
+  wanted_row is = (r, is)
+
+  pub wanted_got : (is : List Indices) → is ≡ got (each_walk ps around scope aims) v → wanted_row is ≡ got (items_wanted ps around scope r) v
+  wanted_got is found = made_got due wanted_row v is (found ∙ ap (λ (xs : List Aim). got (each_walk ps around scope xs) v) wants)
+
+  pub wanted_run : (w : Written) → w ≡ run (each_walk ps around scope aims) v → w ≡ run (items_wanted ps around scope r) v
+  wanted_run w was = made_run due wanted_row v w (was ∙ ap (λ (xs : List Aim). run (each_walk ps around scope xs) v) wants)

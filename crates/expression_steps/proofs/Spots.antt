@@ -1,5 +1,5 @@
 -- What targets are, by the suffixes and targets in them, and by the parts that are left.
-use Rattle.std.proofs.Common.{◌≡◌, ◌≢◌, ◌∙◌, ◌≤◌, ◌<◌, ◌+◌, ◌-◌, ap, refl, sym, arith, ℕ, Bool, false, None, Some, Option, Result, Ok, Err, IfOk}
+use Rattle.std.proofs.Common.{◌≡◌, ◌≢◌, ◌∙◌, ◌≤◌, ◌<◌, ◌+◌, ◌-◌, ap, refl, sym, arith, ℕ, Bool, false, true, None, Some, Option, Result, Ok, Err, IfOk}
 use Rattle.std.proofs.Common.{List, [], ◌∷◌, length, drop, take, get_or, slice_get, map}
 use Rattle.std.proofs.lemmas.List.{drop-map, take-map}
 use Rattle.sail_base.specs.declared.place.Place.{Place}
@@ -36,13 +36,15 @@ use Rattle.expression_steps.proofs.Rests.{none_of}
 
 -- ---- as the code holds them
 
-pub tuple_is : (around : Around) (place : Place) (ss : List code.Spot) → spot_of around (V.Tuple place ss) ≡ tuple_spot place (map (spot_of around) ss)
-tuple_is around place ss = ap (spot_of around) (sym (V.rolls-Tuple place ss)) ∙ code.fold-roll-Spot Spot (spot_form around) (S.Tuple place ss)
+pub tuple_is : (around : Around) (place : Place) (k : ℕ) (ss : List code.Spot)
+    → spot_of around (V.Tuple place k ss) ≡ tuple_spot place k (map (spot_of around) ss)
+tuple_is around place k ss = ap (spot_of around) (sym (V.rolls-Tuple place k ss)) ∙ code.fold-roll-Spot Spot (spot_form around) (S.Tuple place k ss)
 
-pub call_is : (around : Around) (place : Place) (reader : Option Caller) (writer : Caller) (bs : List Bool) (is : List Indices)
-    → spot_of around (V.Call place reader writer bs is) ≡ call_spot around place reader writer bs is
-call_is around place reader writer bs is =
-    ap (spot_of around) (sym (V.rolls-Call place reader writer bs is)) ∙ code.fold-roll-Spot Spot (spot_form around) (S.Call place reader writer bs is)
+pub call_is : (around : Around) (place : Place) (k : ℕ) (reader : Option Caller) (writer : Caller) (bs : List Bool) (is : List Indices)
+    → spot_of around (V.Call place k reader writer bs is) ≡ call_spot around place k reader writer bs is
+call_is around place k reader writer bs is =
+    ap (spot_of around) (sym (V.rolls-Call place k reader writer bs is))
+    ∙ code.fold-roll-Spot Spot (spot_form around) (S.Call place k reader writer bs is)
 
 -- where there is no such target
 pub no_spot_got : {E : Type 0} (r : Result (Option (code.Spot × ℕ)) E) (around : Around) (parts : List Core) (place : Place) (whole : Walk (Option Spotted))
@@ -53,50 +55,50 @@ no_spot_got (Err e) around parts place whole w same h = tt
 
 -- ---- parts: the last suffix, and those before it, which are read
 
-module _ (around : Around) (scope : Scope) (place : Place) (ss : List Suffix) (base : Spot) (parts : List Part) where
+module _ (around : Around) (scope : Scope) (place : Place) (k : ℕ) (ss : List Suffix) (base : Spot) (parts : List Part) where
   abbrev ending : Indices → Walk (Option Spotted)
-  ending = suffixes_spot place (slice_get ss (length ss - 1)) (take (length ss - 1) ss) around scope base parts
+  ending = suffixes_spot place k (slice_get ss (length ss - 1)) (take (length ss - 1) ss) around scope base parts
 
   -- no suffix
   pub none_end : (held : Indices) → length ss < 1 → ending held ≡ no_spot place
   none_end held none =
-      (λ j. suffixes_spot place (slice_get (none_of ss none j) (length ss - 1)) (take (length ss - 1) ss) around scope base parts held)
+      (λ j. suffixes_spot place k (slice_get (none_of ss none j) (length ss - 1)) (take (length ss - 1) ss) around scope base parts held)
 
   pub ends : (read : List Suffix) (s : Suffix) (held : Indices) → slice_get ss (length ss - 1) ≡ Some s → read ≡ take (length ss - 1) ss
-      → ending held ≡ bind (suffixes_walk read around scope parts held) (then_on (last_suffix s around scope base held))
+      → ending held ≡ bind (suffixes_walk true read around scope parts held) (then_on (last_suffix k s around scope base held))
   ends read s held last before =
-      (λ j. suffixes_spot place (last j) (take (length ss - 1) ss) around scope base parts held)
-      ∙ (λ j. bind (suffixes_walk (sym before j) around scope parts held) (then_on (last_suffix s around scope base held)))
+      (λ j. suffixes_spot place k (last j) (take (length ss - 1) ss) around scope base parts held)
+      ∙ (λ j. bind (suffixes_walk true (sym before j) around scope parts held) (then_on (last_suffix k s around scope base held)))
 
 -- a suffix that is the last: what it reaches, behind what is read and what the base holds
-module _ (around : Around) (scope : Scope) (place : Place) (ss read : List Suffix) (s : Suffix) (base : Spot) (parts left : List Part)
+module _ (around : Around) (scope : Scope) (place : Place) (k : ℕ) (ss read : List Suffix) (s : Suffix) (base : Spot) (parts left : List Part)
     (held i : Indices) (x : Option Taken) (w v u t : Written) where
   abbrev reading : Walk (Option Passed)
-  reading = suffixes_walk read around scope parts held
+  reading = suffixes_walk true read around scope parts held
 
   abbrev reaching : Walk (Option Taken)
   reaching = way_walk s.place left around scope i s.way
 
   pub within_got : slice_get ss (length ss - 1) ≡ Some s → read ≡ take (length ss - 1) ss → held ≡ got base.read w → v ≡ run base.read w
       → passed left i ≡ got reading v → u ≡ run reading v → x ≡ got reaching u
-      → part_spotted around s base held x ≡ got (part_of place ss around scope base parts) w
+      → part_spotted around k s base held x ≡ got (part_of place k ss around scope base parts) w
   within_got last before held_is was found did reached =
-      made_got reaching (part_spotted around s base held) u x reached
-      ∙ then_got reading (then_on (last_suffix s around scope base held)) v u (passed left i) found did
-      ∙ (λ j. got (sym (ends around scope place ss base parts read s held last before) j) v)
-      ∙ then_got base.read (ending around scope place ss base parts) w v held held_is was
+      made_got reaching (part_spotted around k s base held) u x reached
+      ∙ then_got reading (then_on (last_suffix k s around scope base held)) v u (passed left i) found did
+      ∙ (λ j. got (sym (ends around scope place k ss base parts read s held last before) j) v)
+      ∙ then_got base.read (ending around scope place k ss base parts) w v held held_is was
 
   pub within_run : slice_get ss (length ss - 1) ≡ Some s → read ≡ take (length ss - 1) ss → held ≡ got base.read w → v ≡ run base.read w
       → passed left i ≡ got reading v → u ≡ run reading v → t ≡ run reaching u
-      → t ≡ run (part_of place ss around scope base parts) w
+      → t ≡ run (part_of place k ss around scope base parts) w
   within_run last before held_is was found did went =
-      made_run reaching (part_spotted around s base held) u t went
-      ∙ then_run reading (then_on (last_suffix s around scope base held)) v u (passed left i) found did
-      ∙ (λ j. run (sym (ends around scope place ss base parts read s held last before) j) v)
-      ∙ then_run base.read (ending around scope place ss base parts) w v held held_is was
+      made_run reaching (part_spotted around k s base held) u t went
+      ∙ then_run reading (then_on (last_suffix k s around scope base held)) v u (passed left i) found did
+      ∙ (λ j. run (sym (ends around scope place k ss base parts read s held last before) j) v)
+      ∙ then_run base.read (ending around scope place k ss base parts) w v held held_is was
 
 -- where one that is read stops
-module _ (around : Around) (scope : Scope) (place : Place) (ss read : List Suffix) (s : Suffix) (base : Spot) (parts : List Part)
+module _ (around : Around) (scope : Scope) (place : Place) (k : ℕ) (ss read : List Suffix) (s : Suffix) (base : Spot) (parts : List Part)
     (held : Indices) (w v u : Written) where
   abbrev nothing : Option Passed
   nothing = None
@@ -105,24 +107,24 @@ module _ (around : Around) (scope : Scope) (place : Place) (ss read : List Suffi
   no_target = None
 
   abbrev rest : Option Passed → Walk (Option Spotted)
-  rest = then_on (last_suffix s around scope base held)
+  rest = then_on (last_suffix k s around scope base held)
 
   abbrev reads : Walk (Option Passed)
-  reads = suffixes_walk read around scope parts held
+  reads = suffixes_walk true read around scope parts held
 
   pub stops_got : slice_get ss (length ss - 1) ≡ Some s → read ≡ take (length ss - 1) ss → held ≡ got base.read w → v ≡ run base.read w
-      → nothing ≡ got reads v → u ≡ run reads v → no_target ≡ got (part_of place ss around scope base parts) w
+      → nothing ≡ got reads v → u ≡ run reads v → no_target ≡ got (part_of place k ss around scope base parts) w
   stops_got last before held_is was found did =
-      given_got reads rest (ending around scope place ss base parts held) v u nothing no_target
-      (ends around scope place ss base parts read s held last before) found did refl
-      ∙ then_got base.read (ending around scope place ss base parts) w v held held_is was
+      given_got reads rest (ending around scope place k ss base parts held) v u nothing no_target
+      (ends around scope place k ss base parts read s held last before) found did refl
+      ∙ then_got base.read (ending around scope place k ss base parts) w v held held_is was
 
   pub stops_run : slice_get ss (length ss - 1) ≡ Some s → read ≡ take (length ss - 1) ss → held ≡ got base.read w → v ≡ run base.read w
-      → nothing ≡ got reads v → u ≡ run reads v → u ≡ run (part_of place ss around scope base parts) w
+      → nothing ≡ got reads v → u ≡ run reads v → u ≡ run (part_of place k ss around scope base parts) w
   stops_run last before held_is was found did =
-      given_run reads rest (ending around scope place ss base parts held) v u nothing no_target
-      (ends around scope place ss base parts read s held last before) found did refl
-      ∙ then_run base.read (ending around scope place ss base parts) w v held held_is was
+      given_run reads rest (ending around scope place k ss base parts held) v u nothing no_target
+      (ends around scope place k ss base parts read s held last before) found did refl
+      ∙ then_run base.read (ending around scope place k ss base parts) w v held held_is was
 
 -- what is said of any parts, of these
 pub of_any : {E : Type 0} (r : Result (Option (code.Spot × ℕ)) E) (f : Around → List Core → Option Spotted) (around : Around) (parts : List Core)
@@ -133,77 +135,80 @@ of_any (Err e) f around parts y same h = tt
 
 -- ---- kinds, by the targets inside
 
-module _ (place : Place) (around : Around) (scope : Scope) (parts : List Part) where
-  pub no_name : (name : List ℕ) (ts : List Target) → 1 ≤ length ts → kind_spot place (T.Variable name) (map spotting ts) around scope parts ≡ no_spot place
+module _ (place : Place) (number : ℕ) (around : Around) (scope : Scope) (parts : List Part) where
+  pub no_name : (name : List ℕ) (ts : List Target) → 1 ≤ length ts
+      → kind_spot place number (T.Variable name) (map spotting ts) around scope parts ≡ no_spot place
   no_name name [] some = absurd (omega arith)
   no_name name (t ∷ ts) some = refl
 
-  pub no_register : (r : ℕ) (ts : List Target) → 1 ≤ length ts → kind_spot place (T.Register r) (map spotting ts) around scope parts ≡ no_spot place
+  pub no_register : (r : ℕ) (ts : List Target) → 1 ≤ length ts → kind_spot place number (T.Register r) (map spotting ts) around scope parts ≡ no_spot place
   no_register r [] some = absurd (omega arith)
   no_register r (t ∷ ts) some = refl
 
   pub no_call : (count : ℕ) (reader : Option Caller) (writer : Caller) (ts : List Target) → 1 ≤ length ts
-      → kind_spot place (T.Call count reader writer) (map spotting ts) around scope parts ≡ no_spot place
+      → kind_spot place number (T.Call count reader writer) (map spotting ts) around scope parts ≡ no_spot place
   no_call count reader writer [] some = absurd (omega arith)
   no_call count reader writer (t ∷ ts) some = refl
 
   pub call_alone : (count : ℕ) (reader : Option Caller) (writer : Caller) (ts : List Target) → length ts < 1
-      → kind_spot place (T.Call count reader writer) (map spotting ts) around scope parts ≡ call_target place count reader writer around scope parts
-  call_alone count reader writer ts none = (λ j. kind_spot place (T.Call count reader writer) (map spotting (none_of ts none j)) around scope parts)
+      → kind_spot place number (T.Call count reader writer) (map spotting ts) around scope parts
+      ≡ call_target place number count reader writer around scope parts
+  call_alone count reader writer ts none = (λ j. kind_spot place number (T.Call count reader writer) (map spotting (none_of ts none j)) around scope parts)
 
   pub part_opens : (ss : List Suffix) (ts : List Target) (t : Target) → 1 ≤ length ts → length ts < 2 → t ≡ get_or ts 0 t
-      → kind_spot place (T.Part ss) (map spotting ts) around scope parts
-      ≡ bind (spotting t around scope parts) (then_spot (part_of place ss around scope))
-  part_opens ss ts t some few is = (λ j. kind_spot place (T.Part ss) (map spotting (one_of ts t some few is j)) around scope parts)
+      → kind_spot place number (T.Part ss) (map spotting ts) around scope parts
+      ≡ bind (spotting t around scope parts) (then_spot (part_of place number ss around scope))
+  part_opens ss ts t some few is = (λ j. kind_spot place number (T.Part ss) (map spotting (one_of ts t some few is j)) around scope parts)
 
   pub no_base : (ss : List Suffix) (ts : List Target) → length ts ≢ 1
-      → kind_spot place (T.Part ss) (map spotting ts) around scope parts ≡ no_spot place
+      → kind_spot place number (T.Part ss) (map spotting ts) around scope parts ≡ no_spot place
   no_base ss [] other = refl
   no_base ss (t ∷ []) other = absurd (other (omega arith))
   no_base ss (t ∷ u ∷ ts) other = refl
 
-  name_is : (name : List ℕ) (ts : List Target) (spot : Spot) (h : Option Held) → length ts < 1 → spot ≡ held_spot around place name h
-      → h ≡ held_in name scope → kind_spot place (T.Variable name) (map spotting ts) around scope parts ≡ give (spotted spot parts)
+  name_is : (name : List ℕ) (ts : List Target) (spot : Spot) (h : Option Held) → length ts < 1 → spot ≡ held_spot around place number name h
+      → h ≡ held_in name scope → kind_spot place number (T.Variable name) (map spotting ts) around scope parts ≡ give (spotted spot parts)
   name_is name ts spot h none is held =
-      (λ j. kind_spot place (T.Variable name) (map spotting (none_of ts none j)) around scope parts)
-      ∙ (λ j. give (spotted (held_spot around place name (sym held j)) parts)) ∙ (λ j. give (spotted (sym is j) parts))
+      (λ j. kind_spot place number (T.Variable name) (map spotting (none_of ts none j)) around scope parts)
+      ∙ (λ j. give (spotted (held_spot around place number name (sym held j)) parts)) ∙ (λ j. give (spotted (sym is j) parts))
 
   pub name_got : (name : List ℕ) (ts : List Target) (spot : Spot) (h : Option Held) (w : Written) → length ts < 1
-      → spot ≡ held_spot around place name h → h ≡ held_in name scope
-      → spotted spot parts ≡ got (kind_spot place (T.Variable name) (map spotting ts) around scope parts) w
+      → spot ≡ held_spot around place number name h → h ≡ held_in name scope
+      → spotted spot parts ≡ got (kind_spot place number (T.Variable name) (map spotting ts) around scope parts) w
   name_got name ts spot h w none is held =
       sym (got_give (spotted spot parts) w) ∙ (λ j. got (sym (name_is name ts spot h none is held) j) w)
 
   pub name_run : (name : List ℕ) (ts : List Target) (w : Written) → length ts < 1
-      → w ≡ run (kind_spot place (T.Variable name) (map spotting ts) around scope parts) w
+      → w ≡ run (kind_spot place number (T.Variable name) (map spotting ts) around scope parts) w
   name_run name ts w none =
-      sym (run_give (spotted (held_spot around place name (held_in name scope)) parts) w)
-      ∙ (λ j. run (kind_spot place (T.Variable name) (map spotting (sym (none_of ts none) j)) around scope parts) w)
+      sym (run_give (spotted (held_spot around place number name (held_in name scope)) parts) w)
+      ∙ (λ j. run (kind_spot place number (T.Variable name) (map spotting (sym (none_of ts none) j)) around scope parts) w)
 
-  pub register_got : (k : ℕ) (ts : List Target) (spot : Spot) (w : Written) → length ts < 1 → spot ≡ register_spot around place (slice_get around.registers k)
-      → spotted spot parts ≡ got (kind_spot place (T.Register k) (map spotting ts) around scope parts) w
+  pub register_got : (k : ℕ) (ts : List Target) (spot : Spot) (w : Written) → length ts < 1
+      → spot ≡ register_spot around place number (slice_get around.registers k)
+      → spotted spot parts ≡ got (kind_spot place number (T.Register k) (map spotting ts) around scope parts) w
   register_got k ts spot w none is =
-      (λ j. spotted (is j) parts) ∙ sym (got_give (spotted (register_spot around place (slice_get around.registers k)) parts) w)
-      ∙ (λ j. got (kind_spot place (T.Register k) (map spotting (sym (none_of ts none) j)) around scope parts) w)
+      (λ j. spotted (is j) parts) ∙ sym (got_give (spotted (register_spot around place number (slice_get around.registers k)) parts) w)
+      ∙ (λ j. got (kind_spot place number (T.Register k) (map spotting (sym (none_of ts none) j)) around scope parts) w)
 
   pub register_run : (k : ℕ) (ts : List Target) (w : Written) → length ts < 1
-      → w ≡ run (kind_spot place (T.Register k) (map spotting ts) around scope parts) w
+      → w ≡ run (kind_spot place number (T.Register k) (map spotting ts) around scope parts) w
   register_run k ts w none =
-      sym (run_give (spotted (register_spot around place (slice_get around.registers k)) parts) w)
-      ∙ (λ j. run (kind_spot place (T.Register k) (map spotting (sym (none_of ts none) j)) around scope parts) w)
+      sym (run_give (spotted (register_spot around place number (slice_get around.registers k)) parts) w)
+      ∙ (λ j. run (kind_spot place number (T.Register k) (map spotting (sym (none_of ts none) j)) around scope parts) w)
 
 -- ---- calls
 
-module _ (around : Around) (scope : Scope) (place : Place) (count : ℕ) (reader : Option Caller) (writer : Caller) (k : ℕ) (ps args : List Core)
+module _ (around : Around) (scope : Scope) (place : Place) (number count : ℕ) (reader : Option Caller) (writer : Caller) (k : ℕ) (ps args : List Core)
     (aims : List Aim) (is : List Indices) (w v : Written) where
   abbrev walked : Walk (List Indices)
   walked = arguments_walk (take count (left_behind ps k)) around scope (callee_types around writer.callee)
 
   abbrev made : List Indices → Walk (Option Spotted)
-  made = call_spotted around place count reader writer (left_behind ps k)
+  made = call_spotted around place number count reader writer (left_behind ps k)
 
   abbrev given : Option Spotted
-  given = spotted (call_spot around place reader writer (nestings (each_part args)) is) (left_behind ps (k + length args))
+  given = spotted (call_spot around place number reader writer (nestings (each_part args)) is) (left_behind ps (k + length args))
 
   args_are : args ≡ take count (drop k ps) → each_part args ≡ take count (left_behind ps k)
   args_are same = ap each_part same ∙ sym (take-map part count (drop k ps))
@@ -214,7 +219,7 @@ module _ (around : Around) (scope : Scope) (place : Place) (count : ℕ) (reader
 
   given_is : args ≡ take count (drop k ps) → made is ≡ give given
   given_is same =
-      (λ j. give (spotted (call_spot around place reader writer (nestings (sym (args_are same) j)) is) (sym (left_is same) j)))
+      (λ j. give (spotted (call_spot around place number reader writer (nestings (sym (args_are same) j)) is) (sym (left_is same) j)))
 
   found_is : args ≡ take count (drop k ps) → aims ≡ argument_aims (callee_types around writer.callee)
       → is ≡ got (each_walk (each_part args) around scope aims) w → is ≡ got walked w
@@ -226,16 +231,16 @@ module _ (around : Around) (scope : Scope) (place : Place) (count : ℕ) (reader
 
   pub call_got : args ≡ take count (drop k ps) → aims ≡ argument_aims (callee_types around writer.callee)
       → is ≡ got (each_walk (each_part args) around scope aims) w → v ≡ run (each_walk (each_part args) around scope aims) w
-      → given ≡ got (call_target place count reader writer around scope (left_behind ps k)) w
+      → given ≡ got (call_target place number count reader writer around scope (left_behind ps k)) w
   call_got same types found was =
-      given_got walked made (call_target place count reader writer around scope (left_behind ps k)) w v is given refl
+      given_got walked made (call_target place number count reader writer around scope (left_behind ps k)) w v is given refl
       (found_is same types found) (was_is same types was) (given_is same)
 
   pub call_run : args ≡ take count (drop k ps) → aims ≡ argument_aims (callee_types around writer.callee)
       → is ≡ got (each_walk (each_part args) around scope aims) w → v ≡ run (each_walk (each_part args) around scope aims) w
-      → v ≡ run (call_target place count reader writer around scope (left_behind ps k)) w
+      → v ≡ run (call_target place number count reader writer around scope (left_behind ps k)) w
   call_run same types found was =
-      given_run walked made (call_target place count reader writer around scope (left_behind ps k)) w v is given refl
+      given_run walked made (call_target place number count reader writer around scope (left_behind ps k)) w v is given refl
       (found_is same types found) (was_is same types was) (given_is same)
 
 -- ---- assignments

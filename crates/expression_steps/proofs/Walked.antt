@@ -1,13 +1,11 @@
 -- What is written down behind walks over several parts.
-use Rattle.std.proofs.Common.{◌≡◌, ◌∙◌, ◌<◌, ◌≤◌, ◌+◌, ap, sym, refl, ℕ, zero, suc, List, [], ◌∷◌, length, drop, get_or, slice_get, add-one}
+use Rattle.std.proofs.Common.{◌≡◌, ◌∙◌, ◌<◌, ◌≤◌, ◌+◌, sym, refl, ℕ, zero, suc, List, [], ◌∷◌, length, drop, get_or, slice_get, add-one}
 use Rattle.std.proofs.Common.{Bool, Option}
 use Rattle.sail_core.specs.declared.targets.Suffix.{Suffix}
 use Rattle.sail_core.specs.declared.tree.Core.{Core}
 use Rattle.value_indices.specs.Steps.{bind, give}
-use Rattle.value_indices.specs.Walking.{Written, run}
 use Rattle.value_indices.specs.declared.indices.Indices.{Indices}
 use Rattle.value_indices.specs.declared.indices.Reading.{Reading}
-use Rattle.value_indices.proofs.Walks.{run_give, run_bind}
 use Rattle.pattern_leaves.specs.Settings.{Around, Scope}
 use Rattle.pattern_leaves.proofs.Rests.{rest_is, all_behind}
 use Rattle.pattern_leaves.proofs.Walked.{consed}
@@ -17,7 +15,7 @@ use Rattle.expression_steps.specs.Expressions.{part}
 use Rattle.expression_steps.specs.Parts.{Part, each_walk}
 use Rattle.expression_steps.specs.Statements.{each_way, one_way}
 use Rattle.expression_steps.specs.Statements as statements
-use Rattle.expression_steps.specs.Values.{item_like, items_due, items_like, suffix_walk, suffixes_walk, then_on}
+use Rattle.expression_steps.specs.Values.{item_like, items_like, suffix_walk, suffixes_walk, then_on}
 use Rattle.expression_steps.specs.declared.ways.Way.{Way}
 use Rattle.expression_steps.specs.declared.ways.Way.TheVariants as B
 
@@ -46,41 +44,26 @@ each_end cs around scope aims k past = (λ j. each_walk (each_part (all_behind c
 
 -- ---- items
 
-pub due_more : (cs : List Core) (around : Around) (scope : Scope) (aim : Aim) (k : ℕ) (c : Core) (w v : Written) → k < length cs → c ≡ get_or cs k c
-    → v ≡ run ((part c).walk around scope aim) w
-    → run (items_due (each_part (drop (k + 1) cs)) around scope aim) v ≡ run (items_due (each_part (drop k cs)) around scope aim) w
-due_more cs around scope aim k c w v within is was =
-    let rest = items_due (each_part (drop (k + 1) cs)) around scope aim in
-    ap (run rest) was ∙ sym (run_bind ((part c).walk around scope aim) (λ i. rest) w)
-    ∙ sym (λ j. run (items_due (each_part (rest_is cs k c within is j)) around scope aim) w)
+pub like_more : (cs : List Core) (around : Around) (scope : Scope) (r : Reading) (k : ℕ) (c : Core) → k < length cs → c ≡ get_or cs k c
+    → items_like (each_part (drop k cs)) around scope r
+    ≡ consed (item_like (part c) around scope r) (items_like (each_part (drop (k + 1) cs)) around scope r)
+like_more cs around scope r k c within is = (λ j. items_like (each_part (rest_is cs k c within is j)) around scope r)
 
-pub due_end : (cs : List Core) (around : Around) (scope : Scope) (aim : Aim) (k : ℕ) (w : Written) → length cs ≤ k
-    → run (items_due (each_part (drop k cs)) around scope aim) w ≡ w
-due_end cs around scope aim k w past = (λ j. run (items_due (each_part (all_behind cs k past j)) around scope aim) w) ∙ run_give tt w
-
-pub like_more : (cs : List Core) (around : Around) (scope : Scope) (r : Reading) (k : ℕ) (c : Core) (w v : Written) → k < length cs → c ≡ get_or cs k c
-    → v ≡ run (item_like (part c) around scope r) w
-    → run (items_like (each_part (drop (k + 1) cs)) around scope r) v ≡ run (items_like (each_part (drop k cs)) around scope r) w
-like_more cs around scope r k c w v within is was =
-    let rest = items_like (each_part (drop (k + 1) cs)) around scope r in
-    ap (run rest) was ∙ sym (run_bind (item_like (part c) around scope r) (λ t. rest) w)
-    ∙ sym (λ j. run (items_like (each_part (rest_is cs k c within is j)) around scope r) w)
-
-pub like_end : (cs : List Core) (around : Around) (scope : Scope) (r : Reading) (k : ℕ) (w : Written) → length cs ≤ k
-    → run (items_like (each_part (drop k cs)) around scope r) w ≡ w
-like_end cs around scope r k w past = (λ j. run (items_like (each_part (all_behind cs k past j)) around scope r) w) ∙ run_give tt w
+pub like_end : (cs : List Core) (around : Around) (scope : Scope) (r : Reading) (k : ℕ) → length cs ≤ k
+    → items_like (each_part (drop k cs)) around scope r ≡ give []
+like_end cs around scope r k past = (λ j. items_like (each_part (all_behind cs k past j)) around scope r)
 
 -- ---- suffixes
 
-pub suffixes_more : (ss : List Suffix) (around : Around) (scope : Scope) (parts : List Part) (i : Indices) (k : ℕ) (s : Suffix)
+pub suffixes_more : (is_target : Bool) (ss : List Suffix) (around : Around) (scope : Scope) (parts : List Part) (i : Indices) (k : ℕ) (s : Suffix)
     → k < length ss → s ≡ get_or ss k s
-    → suffixes_walk (drop k ss) around scope parts i
-    ≡ bind (suffix_walk s parts around scope i) (then_on (suffixes_walk (drop (k + 1) ss) around scope))
-suffixes_more ss around scope parts i k s within is = (λ j. suffixes_walk (rest_is ss k s within is j) around scope parts i)
+    → suffixes_walk is_target (drop k ss) around scope parts i
+    ≡ bind (suffix_walk is_target s parts around scope i) (then_on (suffixes_walk is_target (drop (k + 1) ss) around scope))
+suffixes_more is_target ss around scope parts i k s within is = (λ j. suffixes_walk is_target (rest_is ss k s within is j) around scope parts i)
 
-pub suffixes_end : (ss : List Suffix) (around : Around) (scope : Scope) (parts : List Part) (i : Indices) (k : ℕ) → length ss ≤ k
-    → suffixes_walk (drop k ss) around scope parts i ≡ suffixes_walk [] around scope parts i
-suffixes_end ss around scope parts i k past = (λ j. suffixes_walk (all_behind ss k past j) around scope parts i)
+pub suffixes_end : (is_target : Bool) (ss : List Suffix) (around : Around) (scope : Scope) (parts : List Part) (i : Indices) (k : ℕ) → length ss ≤ k
+    → suffixes_walk is_target (drop k ss) around scope parts i ≡ suffixes_walk is_target [] around scope parts i
+suffixes_end is_target ss around scope parts i k past = (λ j. suffixes_walk is_target (all_behind ss k past j) around scope parts i)
 
 -- ---- ways
 

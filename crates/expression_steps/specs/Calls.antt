@@ -13,6 +13,7 @@ use Rattle.pattern_leaves.specs.Settings.{Around, Scope}
 use Rattle.call_arguments.specs.Aims.{of_wanted, type_arguments, wanted}
 use Rattle.call_arguments.specs.Callees.{argument_aim, part_aim, payload_types}
 use Rattle.call_notes.specs.Calls.{called, callee_types, made_named}
+use Rattle.call_notes.specs.Noted.{node_ended}
 use Rattle.call_arguments.specs.declared.aims.Aim.{Aim}
 use Rattle.expression_steps.specs.Parts.{Part, each_walk}
 
@@ -58,9 +59,12 @@ abbrev pub call_count : Around → Callee → ℕ → ℕ
 call_count around (D.Constructor u c) n = length (constructor_types around u c n)
 call_count around callee n = n
 
+abbrev pub constructed : Around → ℕ → ℕ → ℕ → List Part → Aim → List Indices → Walk Indices
+constructed around k u c args aim is =
+    bind (named_made around u args (known_arguments aim) (constructor_types around u c (length args)) is) (node_ended k is)
+
 abbrev pub call_made : Around → Place → ℕ → Callee → List Part → Aim → List Indices → Walk Indices
-call_made around place k (D.Constructor u c) args aim is =
-    named_made around u args (known_arguments aim) (constructor_types around u c (length args)) is
+call_made around place k (D.Constructor u c) args aim is = constructed around k u c args aim is
 call_made around place k callee args aim is = called around place k callee (nestings args) is
 
 abbrev pub call_walk : Place → ℕ → Callee → List Part → Around → Scope → Aim → Walk Indices

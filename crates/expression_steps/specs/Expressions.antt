@@ -17,10 +17,11 @@ use Rattle.pattern_leaves.specs.Settings.{Around, Scope, exponents_owed, held_in
 use Rattle.call_arguments.specs.Aims.{aimed}
 use Rattle.call_notes.specs.Ends.{never_value, settled, wrong_value}
 use Rattle.call_notes.specs.Calls.{part_owed}
+use Rattle.call_notes.specs.Noted.{node_ended, node_given}
 use Rattle.call_arguments.specs.declared.aims.Aim.{Aim}
 use Rattle.call_arguments.specs.declared.aims.Aim.TheVariants as Aims
 use Rattle.expression_forms.specs.Names.{held_walk, literal_indices, register_walk, top_level_walk}
-use Rattle.expression_forms.specs.Nodes.{made_at}
+use Rattle.expression_forms.specs.Nodes.{cast_ended}
 use Rattle.expression_forms.specs.Sizes.{constraint_walk, size_walk}
 use Rattle.expression_steps.specs.Calls.{call_walk}
 use Rattle.expression_steps.specs.Parts.{Part, four, led, none, one, three, two}
@@ -31,14 +32,17 @@ use Rattle.expression_steps.specs.Values.{cons_walk, list_walk, part_forms, stru
 
 -- ---- `e : T`: it owes once, and keeps the indices of e
 
-abbrev pub cast_owed : Around → Place → Written → Bool → Indices → Walk Indices
+abbrev pub cast_owed : Around → Place → Written → Bool → Indices → Walk (Unit {0})
 cast_owed around place w is_nested i =
-    bind (exponents_owed around w.numbers) (λ t. bind (part_owed around is_nested place i (written_in around w)) (λ u. give i))
+    bind (exponents_owed around w.numbers) (λ t. part_owed around is_nested place i (written_in around w))
 
-abbrev pub cast_walk : Place → Option Written → Part → Around → Scope → Aim → Walk Indices
-cast_walk place None a around scope aim = a.walk around scope aim
-cast_walk place (Some w) a around scope aim =
-    bind (a.walk around scope (aimed Aims.Given (written_in around w))) (cast_owed around place w a.is_nested)
+abbrev pub written_ended : Around → Place → ℕ → Written → Bool → Indices → Walk Indices
+written_ended around place k w is_nested i = bind (cast_owed around place w is_nested i) (λ t. node_ended k (i ∷ []) i)
+
+abbrev pub cast_walk : Place → ℕ → Option Written → Part → Around → Scope → Aim → Walk Indices
+cast_walk place k None a around scope aim = a.walk around scope aim
+cast_walk place k (Some w) a around scope aim =
+    bind (a.walk around scope (aimed Aims.Given (written_in around w))) (written_ended around place k w a.is_nested)
 
 -- ---- leaving
 
@@ -70,61 +74,66 @@ option_indices t = I.Named 0 [] (R.Of t [] [] ∷ [])
 abbrev pub Walking : Type 0
 Walking = Around → Scope → Aim → Walk Indices
 
+-- where a value comes to what is wanted of it
+abbrev pub place_walk : ℕ → Part → Walking
+place_walk k a around scope aim = bind (a.walk around scope aim) (cast_ended k aim)
+
 -- a kind that takes a wanted type further in, or owes it by itself
-abbrev pub inward : Place → Kind → List Part → Walking
-inward place (K.Cast None) parts around scope aim = one place (λ a. a.walk around scope aim) parts
-inward place (K.Block statements) parts around scope aim = block_walk place statements parts around scope aim
-inward place (K.Let arm) parts around scope aim = two place (λ a b. let_walk place arm a b around scope aim) parts
-inward place (K.Var name written) parts around scope aim = two place (λ a b. var_walk name written a b around scope aim) parts
-inward place (K.If shape) parts around scope aim = if_forms place shape parts around scope aim
-inward place (K.Match arms shape) parts around scope aim = led place (λ a bodies. match_walk place shape arms a bodies around scope aim) parts
-inward place (K.Try arms shape) parts around scope aim = led place (λ a bodies. try_walk place shape arms a bodies around scope aim) parts
-inward place K.When parts around scope aim = two place (λ a b. guarded a b around scope aim) parts
-inward place kind parts around scope aim = wrong_value place
+abbrev pub inward : Place → ℕ → Kind → List Part → Walking
+inward place k (K.Cast None) parts around scope aim = one place (λ a. place_walk k a around scope aim) parts
+inward place k (K.Block statements) parts around scope aim = block_walk place statements parts around scope aim
+inward place k (K.Let arm) parts around scope aim = two place (λ a b. let_walk place arm a b around scope aim) parts
+inward place k (K.Var name written) parts around scope aim = two place (λ a b. var_walk name written a b around scope aim) parts
+inward place k (K.If shape) parts around scope aim = if_forms place shape parts around scope aim
+inward place k (K.Match arms shape) parts around scope aim = led place (λ a bodies. match_walk place shape arms a bodies around scope aim) parts
+inward place k (K.Try arms shape) parts around scope aim = led place (λ a bodies. try_walk place k shape arms a bodies around scope aim) parts
+inward place k K.When parts around scope aim = two place (λ a b. guarded a b around scope aim) parts
+inward place k kind parts around scope aim = wrong_value place
 
 -- a kind that has no parts
-abbrev pub leaf_form : Place → Kind → Around → Scope → Walk Indices
-leaf_form place (K.Constant literal) around scope = give (literal_indices literal)
-leaf_form place (K.Local name) around scope = held_walk place name (held_in name scope)
-leaf_form place (K.Variable name) around scope = held_walk place name (held_in name scope)
-leaf_form place (K.TopLevel i) around scope = top_level_walk around.types place (slice_get around.lets i)
-leaf_form place (K.Register r) around scope = register_walk place (slice_get around.registers r)
-leaf_form place (K.SizeOf t numbers) around scope = size_walk place t numbers around
-leaf_form place (K.Constraint c numbers) around scope = constraint_walk c numbers around
-leaf_form place kind around scope = wrong_value place
+abbrev pub leaf_form : Place → ℕ → Kind → Around → Scope → Walk Indices
+leaf_form place k (K.Constant literal) around scope = give (literal_indices literal)
+leaf_form place k (K.Local name) around scope = held_walk place k name (held_in name scope)
+leaf_form place k (K.Variable name) around scope = held_walk place k name (held_in name scope)
+leaf_form place k (K.TopLevel i) around scope = top_level_walk around.types place k (slice_get around.lets i)
+leaf_form place k (K.Register r) around scope = register_walk place k (slice_get around.registers r)
+leaf_form place k (K.SizeOf t numbers) around scope = size_walk place t numbers around
+leaf_form place k (K.Constraint c numbers) around scope = constraint_walk c numbers around
+leaf_form place k kind around scope = wrong_value place
 
-abbrev pub leaf_walk : Place → Kind → List Part → Around → Scope → Walk Indices
-leaf_walk place kind parts around scope = none place (leaf_form place kind around scope) parts
+abbrev pub leaf_walk : Place → ℕ → Kind → List Part → Around → Scope → Walk Indices
+leaf_walk place k kind parts around scope = none place (leaf_form place k kind around scope) parts
 
 -- a kind whose parts are walked from left to right, each with what is wanted of it from the start, or that has none
 abbrev pub made_plain : Place → ℕ → Kind → List Part → Walking
 made_plain place k (K.Call callee) args around scope aim = call_walk place k callee args around scope aim
-made_plain place k (K.Cast written) parts around scope aim = one place (λ a. cast_walk place written a around scope aim) parts
-made_plain place k K.Tuple parts around scope aim = tuple_walk parts around scope aim
-made_plain place k (K.Cons shape) parts around scope aim = two place (λ a b. cons_walk shape a b around scope aim) parts
-made_plain place k (K.Struct u fields) parts around scope aim = struct_walk u fields parts around scope
+made_plain place k (K.Cast written) parts around scope aim = one place (λ a. cast_walk place k written a around scope aim) parts
+made_plain place k K.Tuple parts around scope aim = tuple_walk k parts around scope aim
+made_plain place k (K.Cons shape) parts around scope aim = two place (λ a b. cons_walk k shape a b around scope aim) parts
+made_plain place k (K.Struct u fields) parts around scope aim = struct_walk k u fields parts around scope
 made_plain place k K.Return parts around scope aim = one place (λ a. return_walk place a around scope around.answer) parts
 made_plain place k K.Throw parts around scope aim = one place (λ a. left_walk a around scope (thrown_aim around.exception)) parts
 made_plain place k K.Exit parts around scope aim = one place (λ a. left_walk a around scope Aims.Free) parts
 made_plain place k (K.Assert text) parts around scope aim = one place (λ a. free_giving a around scope I.Unit) parts
 made_plain place k (K.Optional t) parts around scope aim = one place (λ a. free_giving a around scope (option_indices t)) parts
-made_plain place k kind parts around scope aim = leaf_walk place kind parts around scope
+made_plain place k kind parts around scope aim = leaf_walk place k kind parts around scope
 
 -- a kind whose parts depend on one another
-abbrev pub parted : Place → Kind → List Part → Walking
-parted place K.And parts around scope aim = two place (λ a b. and_walk a b around scope) parts
-parted place K.Or parts around scope aim = two place (λ a b. or_walk a b around scope) parts
-parted place (K.Vector shape) items around scope aim = vector_walk place shape items around scope aim
-parted place (K.List shape) items around scope aim = list_walk place shape items around scope aim
-parted place (K.With u fields) parts around scope aim = led place (λ a values. with_walk place u fields a values around scope) parts
-parted place (K.Part suffixes) parts around scope aim = part_forms suffixes parts around scope
-parted place K.WithItem parts around scope aim = update_forms place Y.Item parts around scope
-parted place K.WithSlice parts around scope aim = update_forms place Y.Slice parts around scope
-parted place (K.Assign targets) parts around scope aim = assigned place (map spotting targets) around scope parts
-parted place (K.Foreach name way) parts around scope aim = four place (λ a b c body. foreach_walk place name way a b c body around scope) parts
-parted place K.While parts around scope aim = three place (λ measure a b. loop_walk measure a b around scope) parts
-parted place K.Repeat parts around scope aim = three place (λ measure a b. loop_walk measure a b around scope) parts
-parted place kind parts around scope aim = wrong_value place
+abbrev pub parted : Place → ℕ → Kind → List Part → Walking
+parted place k K.And parts around scope aim = two place (λ a b. and_walk a b around scope) parts
+parted place k K.Or parts around scope aim = two place (λ a b. or_walk a b around scope) parts
+parted place k (K.Vector shape) items around scope aim = vector_walk place k shape items around scope aim
+parted place k (K.List shape) items around scope aim = list_walk place k shape items around scope aim
+parted place k (K.With u fields) parts around scope aim = led place (λ a values. with_walk place k u fields a values around scope) parts
+parted place k (K.Part suffixes) parts around scope aim = part_forms suffixes parts around scope
+parted place k K.WithItem parts around scope aim = update_forms place k Y.Item parts around scope
+parted place k K.WithSlice parts around scope aim = update_forms place k Y.Slice parts around scope
+parted place k (K.Assign targets) parts around scope aim = assigned place (map spotting targets) around scope parts
+parted place k (K.Foreach name way) parts around scope aim =
+    four place (λ a b c body. foreach_walk place name way a b c body around scope) parts
+parted place k K.While parts around scope aim = three place (λ measure a b. loop_walk measure a b around scope) parts
+parted place k K.Repeat parts around scope aim = three place (λ measure a b. loop_walk measure a b around scope) parts
+parted place k kind parts around scope aim = wrong_value place
 
 abbrev pub is_made : Kind → Bool
 is_made K.And = false
@@ -144,7 +153,7 @@ is_made kind = true
 -- any kind that takes no wanted type further in
 abbrev pub plain : Place → ℕ → Kind → List Part → Walking
 plain place k kind parts around scope aim =
-    if is_made kind then made_plain place k kind parts around scope aim else parted place kind parts around scope aim
+    if is_made kind then made_plain place k kind parts around scope aim else parted place k kind parts around scope aim
 
 -- whether a kind takes a wanted type further in
 abbrev pub goes_inward : Kind → Bool
@@ -163,10 +172,33 @@ settled_walk place k kind parts around scope aim = bind (plain place k kind part
 
 abbrev pub form_walk : Place → ℕ → Kind → List Part → Walking
 form_walk place k kind parts around scope aim =
-    if goes_inward kind then inward place kind parts around scope aim else settled_walk place k kind parts around scope aim
+    if goes_inward kind then inward place k kind parts around scope aim else settled_walk place k kind parts around scope aim
+
+-- whether a node of a kind makes a value of its own: one that an operator on truths, a branch, a loop or an assignment gives was made further
+-- in, and a part by its suffixes
+abbrev pub makes_value : Kind → Bool
+makes_value (K.Local name) = true
+makes_value (K.Variable name) = true
+makes_value (K.TopLevel i) = true
+makes_value (K.Register r) = true
+makes_value (K.Call callee) = true
+makes_value (K.Cast written) = true
+makes_value K.Tuple = true
+makes_value (K.Vector shape) = true
+makes_value (K.List shape) = true
+makes_value (K.Cons shape) = true
+makes_value (K.Struct u fields) = true
+makes_value (K.With u fields) = true
+makes_value K.WithItem = true
+makes_value K.WithSlice = true
+makes_value kind = false
+
+-- the end of a node: with the numbers of the value that it makes
+abbrev pub node_end : ℕ → Bool → Indices → Walk Indices
+node_end k is_made i = if is_made then node_given k i else give i
 
 abbrev pub kind_walk : Place → ℕ → Kind → List Part → Walking
-kind_walk place k kind parts around scope aim = bind (form_walk place k kind parts around scope aim) (made_at k)
+kind_walk place k kind parts around scope aim = bind (form_walk place k kind parts around scope aim) (node_end k (makes_value kind))
 
 -- ---- what is known of a node besides
 
@@ -195,8 +227,8 @@ kind_place place K.When (a ∷ b ∷ []) = b.place
 kind_place place kind parts = place
 
 abbrev pub kind_state : Place → ℕ → Kind → List Part → Around → Scope → Walk (Option Con)
-kind_state place k (K.If shape) parts around scope = if_state place k shape parts around scope
-kind_state place k (K.Assert text) parts around scope = assert_state place k parts around scope
+kind_state place k (K.If shape) parts around scope = if_state place shape parts around scope
+kind_state place k (K.Assert text) parts around scope = assert_state place parts around scope
 kind_state place k kind parts around scope = plain_state (kind_walk place k kind parts around scope Aims.Free)
 
 abbrev pub core_part : Core-F Part → Part

@@ -19,9 +19,10 @@ use Rattle.pattern_leaves.specs.Settings.{Around}
 use Rattle.call_arguments.specs.Aims.{aimed}
 use Rattle.call_arguments.specs.Callees.{types_from}
 use Rattle.call_arguments.specs.Holes.{has_hole, types_without_holes, without_holes}
+use Rattle.call_notes.specs.Noted.{node_ended}
 use Rattle.call_arguments.specs.declared.aims.Aim.{Aim}
 use Rattle.call_arguments.specs.declared.aims.Aim.TheVariants as Aims
-use Rattle.expression_forms.specs.Ways.{fields_of, owe_part}
+use Rattle.expression_forms.specs.Ways.{fields_of, owe_part, update_operands}
 use Rattle.expression_forms.specs.declared.ways.Reached.{Reached}
 
 -- whether one of these types has a hole
@@ -66,6 +67,10 @@ abbrev pub with_made : Around → Place → ℕ → List ℕ → Indices → Lis
 with_made around place u ks i is =
     if struct_holed (out-Indices i) then with_filled around place (fields_of around u ks) i is (out-Indices i) else give i
 
+-- which the node of a number makes of it and of the new values
+abbrev pub with_ended : Around → Place → ℕ → ℕ → List ℕ → Indices → List Indices → Walk Indices
+with_ended around place k u ks i is = bind (with_made around place u ks i is) (node_ended k (i ∷ is))
+
 -- ---- `[v with i = e]`
 
 -- what is wanted of a part that is put in
@@ -88,3 +93,7 @@ part_behind around place i r j = if has_hole r then part_holed around place i r 
 -- a value, in which this one is put at such a part
 abbrev pub part_put : Around → Place → Bool → Indices → Reached → Indices → Walk Indices
 part_put around place is_nested i x j = bind (owe_part around place x is_nested j) (λ t. part_behind around place i x.typ j)
+
+-- which the node of a number makes of these
+abbrev pub put_ended : Around → Place → ℕ → Bool → Indices → Reached → Indices → Walk Indices
+put_ended around place k is_nested i x j = bind (part_put around place is_nested i x j) (node_ended k (update_operands i x j))

@@ -15,7 +15,7 @@ use Rattle.call_arguments.specs.declared.aims.Aim.{Aim}
 use Rattle.call_arguments.specs.declared.aims.Aim.TheVariants as Aims
 use Rattle.call_notes.specs.Ends.{never_value, wrong_value}
 use Rattle.expression_steps.specs.Calls.{call_aims, call_count, call_made}
-use Rattle.expression_steps.specs.Expressions.{cast_owed, leaf_walk, option_indices, return_owed, thrown_aim}
+use Rattle.expression_steps.specs.Expressions.{leaf_walk, option_indices, return_owed, thrown_aim, written_ended}
 use Rattle.expression_steps.specs.Parts.{Part, each_walk}
 use Rattle.expression_steps.specs.Values.{cons_aims, cons_ended, struct_aims, struct_count, struct_made, tuple_aims, tuple_of, two_or_none, wanted_item}
 
@@ -38,9 +38,9 @@ abbrev pub cast_aim : Around → Option Written → Aim → Aim
 cast_aim around None aim = aim
 cast_aim around (Some w) aim = aimed Aims.Given (written_in around w)
 
-abbrev pub cast_made : Around → Place → Option Written → Part → Indices → Walk Indices
-cast_made around place None a i = give i
-cast_made around place (Some w) a i = cast_owed around place w a.is_nested i
+abbrev pub cast_made : Around → Place → ℕ → Option Written → Part → Indices → Walk Indices
+cast_made around place k None a i = give i
+cast_made around place k (Some w) a i = written_ended around place k w a.is_nested i
 
 -- of what a function gives, where it is known
 abbrev pub answer_aims : Option Reading → List Aim
@@ -55,27 +55,27 @@ abbrev pub answer_made : Around → Place → Option Reading → Part → Indice
 answer_made around place None a i = wrong_value place
 answer_made around place (Some r) a i = return_owed around place a.is_nested r i
 
-abbrev pub part_made : Around → Place → Kind → Part → Indices → Walk Indices
-part_made around place (K.Cast written) a i = cast_made around place written a i
-part_made around place K.Return a i = answer_made around place around.answer a i
-part_made around place K.Throw a i = never_value
-part_made around place K.Exit a i = never_value
-part_made around place (K.Assert text) a i = give I.Unit
-part_made around place (K.Optional t) a i = give (option_indices t)
-part_made around place kind a i = wrong_value place
+abbrev pub part_made : Around → Place → ℕ → Kind → Part → Indices → Walk Indices
+part_made around place k (K.Cast written) a i = cast_made around place k written a i
+part_made around place k K.Return a i = answer_made around place around.answer a i
+part_made around place k K.Throw a i = never_value
+part_made around place k K.Exit a i = never_value
+part_made around place k (K.Assert text) a i = give I.Unit
+part_made around place k (K.Optional t) a i = give (option_indices t)
+part_made around place k kind a i = wrong_value place
 
 abbrev pub single_count : Kind → ℕ → ℕ
 single_count kind n = if is_single kind then one_or_none n else 0
 
 -- of one part and its value alone
-abbrev pub one_made : Around → Place → Kind → List Part → List Indices → Walk Indices
-one_made around place kind (a ∷ []) (i ∷ []) = part_made around place kind a i
-one_made around place kind parts is = wrong_value place
+abbrev pub one_made : Around → Place → ℕ → Kind → List Part → List Indices → Walk Indices
+one_made around place k kind (a ∷ []) (i ∷ []) = part_made around place k kind a i
+one_made around place k kind parts is = wrong_value place
 
 -- of a kind of one part, and of one that has none
-abbrev pub single_end : Around → Scope → Place → Kind → List Part → List Indices → Walk Indices
-single_end around scope place kind parts is =
-    if is_single kind then one_made around place kind parts is else leaf_walk place kind parts around scope
+abbrev pub single_end : Around → Scope → Place → ℕ → Kind → List Part → List Indices → Walk Indices
+single_end around scope place k kind parts is =
+    if is_single kind then one_made around place k kind parts is else leaf_walk place k kind parts around scope
 
 -- ---- every such kind
 
@@ -99,10 +99,10 @@ made_count around kind n = single_count kind n
 
 abbrev pub made_end : Around → Scope → Place → ℕ → Kind → List Part → Aim → List Indices → Walk Indices
 made_end around scope place k (K.Call callee) parts aim is = call_made around place k callee parts aim is
-made_end around scope place k K.Tuple parts aim is = tuple_of is
-made_end around scope place k (K.Cons shape) parts aim is = cons_ended around shape place (wanted_item aim) parts is
-made_end around scope place k (K.Struct u fields) parts aim is = struct_made around u fields parts is
-made_end around scope place k kind parts aim is = single_end around scope place kind parts is
+made_end around scope place k K.Tuple parts aim is = tuple_of k is
+made_end around scope place k (K.Cons shape) parts aim is = cons_ended around shape place k (wanted_item aim) parts is
+made_end around scope place k (K.Struct u fields) parts aim is = struct_made around k u fields parts is
+made_end around scope place k kind parts aim is = single_end around scope place k kind parts is
 
 -- the walk over so many parts
 abbrev pub made_walk : Place → ℕ → Kind → List Part → Around → Scope → Aim → ℕ → Walk Indices

@@ -27,10 +27,10 @@ use Rattle.pattern_leaves.specs.declared.names.Bound.{Bound}
 use Rattle.call_arguments.specs.Aims.{aimed, branch_aim, inner_aim, wanted}
 use Rattle.call_arguments.specs.Holes.{without_holes}
 use Rattle.call_notes.specs.Ends.{never_value, opened_at, wrong_value}
+use Rattle.call_notes.specs.Noted.{node_ended, numbers_noted}
 use Rattle.call_arguments.specs.declared.aims.Aim.{Aim}
 use Rattle.call_arguments.specs.declared.aims.Aim.TheVariants as Aims
 use Rattle.expression_forms.specs.Meeting.{first_way, like_first, met_ways, thrown}
-use Rattle.expression_forms.specs.Nodes.{made_at}
 use Rattle.expression_forms.specs.Truths.{and_right, claim_of, or_right}
 use Rattle.expression_steps.specs.Parts.{Part, condition_walk, given_that, numbers_walk, truth_walk, under}
 use Rattle.expression_steps.specs.declared.counting.Bounds.{Bounds}
@@ -157,8 +157,8 @@ if_forms place shape parts around scope aim = bind (branches_forms place shape p
 abbrev pub plain_state : Walk Indices → Walk (Option Con)
 plain_state w = bind w (λ i. give None)
 
-abbrev pub wrong_state : Place → ℕ → Walk (Option Con)
-wrong_state place k = plain_state (bind (wrong_value place) (made_at k))
+abbrev pub wrong_state : Place → Walk (Option Con)
+wrong_state place = plain_state (wrong_value place)
 
 abbrev pub met_condition : Option (Con × Indices) → Option Con
 met_condition None = None
@@ -170,17 +170,17 @@ claim_met then_never_ends else_never_ends None = None
 claim_met then_never_ends else_never_ends (Some c) = claim_of then_never_ends else_never_ends c
 
 -- of any other number of parts what is false is owed
-abbrev pub claim_behind : Place → ℕ → List Part → Option (Con × Indices) → Walk (Option Con)
-claim_behind place k (c ∷ a ∷ []) m = give (claim_met a.never_ends false (met_condition m))
-claim_behind place k (c ∷ a ∷ b ∷ []) m = give (claim_met a.never_ends b.never_ends (met_condition m))
-claim_behind place k parts m = wrong_state place k
+abbrev pub claim_behind : Place → List Part → Option (Con × Indices) → Walk (Option Con)
+claim_behind place (c ∷ a ∷ []) m = give (claim_met a.never_ends false (met_condition m))
+claim_behind place (c ∷ a ∷ b ∷ []) m = give (claim_met a.never_ends b.never_ends (met_condition m))
+claim_behind place parts m = wrong_state place
 
-abbrev pub if_state : Place → ℕ → Shape → List Part → Around → Scope → Walk (Option Con)
-if_state place k shape parts around scope = bind (branches_forms place shape parts around scope Aims.Free) (claim_behind place k parts)
+abbrev pub if_state : Place → Shape → List Part → Around → Scope → Walk (Option Con)
+if_state place shape parts around scope = bind (branches_forms place shape parts around scope Aims.Free) (claim_behind place parts)
 
-abbrev pub assert_state : Place → ℕ → List Part → Around → Scope → Walk (Option Con)
-assert_state place k (a ∷ []) around scope = truth_walk a around scope
-assert_state place k parts around scope = wrong_state place k
+abbrev pub assert_state : Place → List Part → Around → Scope → Walk (Option Con)
+assert_state place (a ∷ []) around scope = truth_walk a around scope
+assert_state place parts around scope = wrong_state place
 
 -- ---- names that are bound
 
@@ -273,12 +273,17 @@ abbrev pub try_over : Place → Shape → List Arm → Part → List Part → Ar
 try_over place shape arms a bodies around scope aim i =
     meeting around place shape (wanted aim) (try_way a around scope aim ∷ case_ways place arms bodies around scope aim i)
 
-abbrev pub try_walk : Place → Shape → List Arm → Part → List Part → Around → Scope → Aim → Walk Indices
-try_walk place shape arms a bodies around scope aim = try_over place shape arms a bodies around scope aim (thrown around.exception)
+-- what is thrown is caught by the node: it stands before the first way, behind which the same is in force
+abbrev pub caught_at : ℕ → Indices → Walk (Unit {0})
+caught_at k i = bind (node_ended k [] i) (numbers_noted k)
 
-abbrev pub cases_walk : Bool → Place → Shape → List Arm → Part → List Part → Around → Scope → Aim → Walk Indices
-cases_walk is_try place shape arms a bodies around scope aim =
-    if is_try then try_walk place shape arms a bodies around scope aim else match_walk place shape arms a bodies around scope aim
+abbrev pub try_walk : Place → ℕ → Shape → List Arm → Part → List Part → Around → Scope → Aim → Walk Indices
+try_walk place k shape arms a bodies around scope aim =
+    bind (caught_at k (thrown around.exception)) (λ t. try_over place shape arms a bodies around scope aim (thrown around.exception))
+
+abbrev pub cases_walk : Bool → Place → ℕ → Shape → List Arm → Part → List Part → Around → Scope → Aim → Walk Indices
+cases_walk is_try place k shape arms a bodies around scope aim =
+    if is_try then try_walk place k shape arms a bodies around scope aim else match_walk place shape arms a bodies around scope aim
 
 -- a guard is in force in its case
 abbrev pub guarded : Part → Part → Around → Scope → Aim → Walk Indices

@@ -1,5 +1,5 @@
 -- What assignments owe (Sail language manual, "Variables and assignment").
-use Rattle.std.specs.Prelude.{List, None, Option, Some, drop, false, length, slice_get, take, ℕ, [], ◌-◌, ◌∷◌}
+use Rattle.std.specs.Prelude.{List, None, Option, Some, drop, false, length, slice_get, take, true, ℕ, [], ◌-◌, ◌∷◌}
 use Rattle.sail_base.specs.declared.place.Place.{Place}
 use Rattle.sail_core.specs.declared.targets.Caller.{Caller}
 use Rattle.sail_core.specs.declared.targets.Suffix.{Suffix}
@@ -47,22 +47,23 @@ no_spot place = bind (wrong place) (λ t. give None)
 
 -- ---- parts: the last suffix is what is assigned, those before it are read
 
-abbrev pub part_spotted : Around → Suffix → Spot → Indices → Option Taken → Option Spotted
-part_spotted around s base held None = None
-part_spotted around s base held (Some w) = spotted (part_spot around s.place s.way (base.renew held) w.reached) w.left
+abbrev pub part_spotted : Around → ℕ → Suffix → Spot → Indices → Option Taken → Option Spotted
+part_spotted around k s base held None = None
+part_spotted around k s base held (Some w) = spotted (part_spot around s.place k s.way base held w.reached) w.left
 
-abbrev pub last_suffix : Suffix → Around → Scope → Spot → Indices → List Part → Indices → Walk (Option Spotted)
-last_suffix s around scope base held parts i = bind (way_walk s.place parts around scope i s.way) (λ w. give (part_spotted around s base held w))
+abbrev pub last_suffix : ℕ → Suffix → Around → Scope → Spot → Indices → List Part → Indices → Walk (Option Spotted)
+last_suffix k s around scope base held parts i =
+    bind (way_walk s.place parts around scope i s.way) (λ w. give (part_spotted around k s base held w))
 
 -- the last, those before it, the base, what it holds, and the parts that are left
-abbrev pub suffixes_spot : Place → Option Suffix → List Suffix → Around → Scope → Spot → List Part → Indices → Walk (Option Spotted)
-suffixes_spot place None ss around scope base parts held = no_spot place
-suffixes_spot place (Some s) ss around scope base parts held =
-    bind (suffixes_walk ss around scope parts held) (then_on (last_suffix s around scope base held))
+abbrev pub suffixes_spot : Place → ℕ → Option Suffix → List Suffix → Around → Scope → Spot → List Part → Indices → Walk (Option Spotted)
+suffixes_spot place k None ss around scope base parts held = no_spot place
+suffixes_spot place k (Some s) ss around scope base parts held =
+    bind (suffixes_walk true ss around scope parts held) (then_on (last_suffix k s around scope base held))
 
-abbrev pub part_of : Place → List Suffix → Around → Scope → Spot → List Part → Walk (Option Spotted)
-part_of place ss around scope s left =
-    bind s.read (suffixes_spot place (slice_get ss (length ss - 1)) (take (length ss - 1) ss) around scope s left)
+abbrev pub part_of : Place → ℕ → List Suffix → Around → Scope → Spot → List Part → Walk (Option Spotted)
+part_of place k ss around scope s left =
+    bind s.read (suffixes_spot place k (slice_get ss (length ss - 1)) (take (length ss - 1) ss) around scope s left)
 
 -- ---- tuples
 
@@ -75,31 +76,31 @@ each_spot [] around scope parts = give (spotted_all [] parts)
 each_spot (t ∷ ts) around scope parts =
     bind (t around scope parts) (then_spot (λ s left. bind (each_spot ts around scope left) (with_spot s)))
 
-abbrev pub tuple_spotted : Place → Option SpottedAll → Option Spotted
-tuple_spotted place None = None
-tuple_spotted place (Some all) = spotted (tuple_spot place all.spots) all.left
+abbrev pub tuple_spotted : Place → ℕ → Option SpottedAll → Option Spotted
+tuple_spotted place k None = None
+tuple_spotted place k (Some all) = spotted (tuple_spot place k all.spots) all.left
 
 -- ---- the kinds
 
-abbrev pub call_spotted : Around → Place → ℕ → Option Caller → Caller → List Part → List Indices → Walk (Option Spotted)
-call_spotted around place count reader writer parts is =
-    give (spotted (call_spot around place reader writer (nestings (take count parts)) is) (drop count parts))
+abbrev pub call_spotted : Around → Place → ℕ → ℕ → Option Caller → Caller → List Part → List Indices → Walk (Option Spotted)
+call_spotted around place k count reader writer parts is =
+    give (spotted (call_spot around place k reader writer (nestings (take count parts)) is) (drop count parts))
 
-abbrev pub call_target : Place → ℕ → Option Caller → Caller → Spotting
-call_target place count reader writer around scope parts =
-    bind (arguments_walk (take count parts) around scope (callee_types around writer.callee)) (call_spotted around place count reader writer parts)
+abbrev pub call_target : Place → ℕ → ℕ → Option Caller → Caller → Spotting
+call_target place k count reader writer around scope parts =
+    bind (arguments_walk (take count parts) around scope (callee_types around writer.callee)) (call_spotted around place k count reader writer parts)
 
-abbrev pub kind_spot : Place → TargetKind → List Spotting → Spotting
-kind_spot place (T.Variable name) [] around scope parts = give (spotted (held_spot around place name (held_in name scope)) parts)
-kind_spot place (T.Register r) [] around scope parts = give (spotted (register_spot around place (slice_get around.registers r)) parts)
-kind_spot place (T.Call count reader writer) [] around scope parts = call_target place count reader writer around scope parts
-kind_spot place T.Tuple targets around scope parts = bind (each_spot targets around scope parts) (λ all. give (tuple_spotted place all))
-kind_spot place (T.Part suffixes) (base ∷ []) around scope parts =
-    bind (base around scope parts) (then_spot (part_of place suffixes around scope))
-kind_spot place kind targets around scope parts = no_spot place
+abbrev pub kind_spot : Place → ℕ → TargetKind → List Spotting → Spotting
+kind_spot place k (T.Variable name) [] around scope parts = give (spotted (held_spot around place k name (held_in name scope)) parts)
+kind_spot place k (T.Register r) [] around scope parts = give (spotted (register_spot around place k (slice_get around.registers r)) parts)
+kind_spot place k (T.Call count reader writer) [] around scope parts = call_target place k count reader writer around scope parts
+kind_spot place k T.Tuple targets around scope parts = bind (each_spot targets around scope parts) (λ all. give (tuple_spotted place k all))
+kind_spot place k (T.Part suffixes) (base ∷ []) around scope parts =
+    bind (base around scope parts) (then_spot (part_of place k suffixes around scope))
+kind_spot place k kind targets around scope parts = no_spot place
 
 abbrev pub spotting : Target → Spotting
-spotting = fold-Target Spotting (λ t. kind_spot t.place t.kind t.parts)
+spotting = fold-Target Spotting (λ t. kind_spot t.place t.number t.kind t.parts)
 
 -- ---- assignments: what is on the right of one is its value, or what further assignments give
 

@@ -1,5 +1,5 @@
 -- Values that are made of parts, and parts of values (Sail language manual, "Vectors", "Lists", "Structs", "Bitvectors").
-use Rattle.std.specs.Prelude.{Bool, List, None, Option, Some, drop, if◌then◌else◌, length, map, nat_lt, pos, suc, take, zero, ℕ, [], ◌∷◌}
+use Rattle.std.specs.Prelude.{Bool, List, None, Option, Some, drop, false, if◌then◌else◌, length, map, nat_lt, pos, replicate, suc, take, zero, ℕ, [], ◌∷◌}
 use Rattle.sail_base.specs.declared.place.Place.{Place}
 use Rattle.sail_types.specs.Sums.{constant}
 use Rattle.sail_types.specs.declared.numbers.Index.{Index}
@@ -22,13 +22,14 @@ use Rattle.pattern_leaves.specs.Settings.{Around, Scope}
 use Rattle.call_arguments.specs.Aims.{aimed, each_under, item_type, of_wanted, part_types, wanted}
 use Rattle.call_arguments.specs.Holes.{has_hole}
 use Rattle.call_notes.specs.Ends.{any_never, never_value, sized, wrong_value}
+use Rattle.call_notes.specs.Noted.{node_ended}
 use Rattle.call_arguments.specs.declared.aims.Aim.{Aim}
 use Rattle.call_arguments.specs.declared.aims.Aim.TheVariants as Aims
-use Rattle.expression_forms.specs.Ways.{fields_of, if_never_value, into_field, into_item, into_slice, read_into, with_width}
+use Rattle.expression_forms.specs.Ways.{fields_of, if_never_value, into_field, into_item, into_slice, suffix_read, with_width}
 use Rattle.expression_forms.specs.declared.ways.Ends.{Ends}
 use Rattle.expression_forms.specs.declared.ways.Reached.{Reached}
 use Rattle.expression_steps.specs.Calls.{named_made, part_aims}
-use Rattle.expression_steps.specs.Filling.{any_holed, part_put, put_aim, with_made}
+use Rattle.expression_steps.specs.Filling.{any_holed, put_aim, put_ended, with_ended}
 use Rattle.expression_steps.specs.Parts.{Part, each_walk, numbers_walk}
 
 -- ---- tuples: the form around one owes for its parts
@@ -37,57 +38,60 @@ use Rattle.expression_steps.specs.Parts.{Part, each_walk, numbers_walk}
 abbrev pub tuple_indices : List Indices → Indices
 tuple_indices is = if any_never is then I.Never else I.Tuple is
 
-abbrev pub tuple_of : List Indices → Walk Indices
-tuple_of is = give (tuple_indices is)
+abbrev pub tuple_of : ℕ → List Indices → Walk Indices
+tuple_of k is = node_ended k is (tuple_indices is)
 
 abbrev pub tuple_aims : Aim → List Aim
 tuple_aims aim = map (aimed Aims.PartOf) (of_wanted [] part_types (wanted aim))
 
-abbrev pub tuple_walk : List Part → Around → Scope → Aim → Walk Indices
-tuple_walk parts around scope aim = bind (each_walk parts around scope (tuple_aims aim)) tuple_of
+abbrev pub tuple_walk : ℕ → List Part → Around → Scope → Aim → Walk Indices
+tuple_walk k parts around scope aim = bind (each_walk parts around scope (tuple_aims aim)) (tuple_of k)
 
 -- ---- vectors and lists: each item owes at itself
 
 -- items of which a type is wanted
-abbrev pub items_due : List Part → Around → Scope → Aim → Walk (Unit {0})
-items_due [] around scope aim = give tt
-items_due (a ∷ items) around scope aim = bind (a.walk around scope aim) (λ i. items_due items around scope aim)
+abbrev pub items_due : List Part → Around → Scope → Aim → Walk (List Indices)
+items_due items around scope aim = each_walk items around scope (replicate (length items) aim)
 
 abbrev pub item_owed : Around → Place → Reading → Indices → Walk (Unit {0})
 item_owed around place r i = owe_fit place (fits around.types i r)
 
 -- items of which none is wanted: the widened type of the first, which each owes
-abbrev pub item_like : Part → Around → Scope → Reading → Walk (Unit {0})
-item_like a around scope r = bind (a.walk around scope Aims.Free) (item_owed around a.place r)
+abbrev pub item_like : Part → Around → Scope → Reading → Walk Indices
+item_like a around scope r = bind (a.walk around scope Aims.Free) (λ i. bind (item_owed around a.place r i) (λ t. give i))
 
-abbrev pub items_like : List Part → Around → Scope → Reading → Walk (Unit {0})
-items_like [] around scope r = give tt
-items_like (a ∷ items) around scope r = bind (item_like a around scope r) (λ t. items_like items around scope r)
+abbrev pub items_like : List Part → Around → Scope → Reading → Walk (List Indices)
+items_like [] around scope r = give []
+items_like (a ∷ items) around scope r = bind (item_like a around scope r) (λ i. bind (items_like items around scope r) (λ is. give (i ∷ is)))
 
 -- holes in it take what the literal's shape says
 abbrev pub filled_here : Around → Shape → Indices → Walk Reading
 filled_here around shape i = bind next_variable (λ m. filled around.types m shape i)
 
-abbrev pub first_like : List Part → Around → Scope → Place → Indices → Reading → Walk Reading
-first_like items around scope place i r = bind (item_owed around place r i) (λ t. bind (items_like items around scope r) (λ u. give r))
+-- the type of items, and the items
+abbrev pub Row : Type 0
+Row = Reading × List Indices
 
-abbrev pub first_free : Part → List Part → Around → Scope → Shape → Walk Reading
+abbrev pub first_like : List Part → Around → Scope → Place → Indices → Reading → Walk Row
+first_like items around scope place i r =
+    bind (item_owed around place r i) (λ t. bind (items_like items around scope r) (λ is. give (r, i ∷ is)))
+
+abbrev pub first_free : Part → List Part → Around → Scope → Shape → Walk Row
 first_free a items around scope shape =
     bind (a.walk around scope Aims.Free) (λ i. bind (filled_here around shape i) (first_like items around scope a.place i))
 
-abbrev pub items_free : List Part → Around → Scope → Shape → Walk Reading
-items_free [] around scope shape = give R.Hole
+abbrev pub items_free : List Part → Around → Scope → Shape → Walk Row
+items_free [] around scope shape = give (R.Hole, [])
 items_free (a ∷ items) around scope shape = first_free a items around scope shape
 
-abbrev pub items_wanted : List Part → Around → Scope → Reading → Walk Reading
-items_wanted items around scope r = bind (items_due items around scope (aimed Aims.Due r)) (λ t. give r)
+abbrev pub items_wanted : List Part → Around → Scope → Reading → Walk Row
+items_wanted items around scope r = bind (items_due items around scope (aimed Aims.Due r)) (λ is. give (r, is))
 
-abbrev pub items_of : List Part → Around → Scope → Shape → Reading-F Indices Reading → Reading → Walk Reading
+abbrev pub items_of : List Part → Around → Scope → Shape → Reading-F Indices Reading → Reading → Walk Row
 items_of items around scope shape W.Hole r = items_free items around scope shape
 items_of items around scope shape form r = items_wanted items around scope r
 
--- the type of the items
-abbrev pub items_walk : List Part → Around → Scope → Shape → Reading → Walk Reading
+abbrev pub items_walk : List Part → Around → Scope → Shape → Reading → Walk Row
 items_walk items around scope shape r = items_of items around scope shape (out-Reading r) r
 
 abbrev pub wanted_item : Aim → Reading
@@ -96,29 +100,35 @@ wanted_item aim = of_wanted R.Hole item_type (wanted aim)
 abbrev pub sized_vector : Place → Num → Reading → Walk Indices
 sized_vector place n r = bind (sized place (I.Vector n r)) (λ t. give (I.Vector n r))
 
-abbrev pub vector_walk : Place → Shape → List Part → Around → Scope → Aim → Walk Indices
-vector_walk place shape items around scope aim =
-    bind (items_walk items around scope shape (wanted_item aim)) (sized_vector place (constant (pos (length items))))
+-- as long as there are items
+abbrev pub vector_of : Place → ℕ → Row → Walk Indices
+vector_of place k x = bind (sized_vector place (constant (pos (length x.1))) x.0) (node_ended k x.1)
+
+abbrev pub vector_walk : Place → ℕ → Shape → List Part → Around → Scope → Aim → Walk Indices
+vector_walk place k shape items around scope aim = bind (items_walk items around scope shape (wanted_item aim)) (vector_of place k)
 
 abbrev pub sized_list : Place → Reading → Walk Indices
 sized_list place r = bind (sized place (I.List r)) (λ t. give (I.List r))
 
-abbrev pub list_walk : Place → Shape → List Part → Around → Scope → Aim → Walk Indices
-list_walk place shape items around scope aim = bind (items_walk items around scope shape (wanted_item aim)) (sized_list place)
+abbrev pub list_of : Place → ℕ → Row → Walk Indices
+list_of place k x = bind (sized_list place x.0) (node_ended k x.1)
+
+abbrev pub list_walk : Place → ℕ → Shape → List Part → Around → Scope → Aim → Walk Indices
+list_walk place k shape items around scope aim = bind (items_walk items around scope shape (wanted_item aim)) (list_of place k)
 
 -- one of the two
-abbrev pub row_of : Place → Bool → Num → Reading → Walk Indices
-row_of place is_list n r = if is_list then sized_list place r else sized_vector place n r
+abbrev pub row_of : Place → ℕ → Bool → Row → Walk Indices
+row_of place k is_list x = if is_list then list_of place k x else vector_of place k x
 
-abbrev pub row_walk : Place → Bool → Shape → List Part → Around → Scope → Aim → Walk Indices
-row_walk place is_list shape items around scope aim =
-    bind (items_walk items around scope shape (wanted_item aim)) (row_of place is_list (constant (pos (length items))))
+abbrev pub row_walk : Place → ℕ → Bool → Shape → List Part → Around → Scope → Aim → Walk Indices
+row_walk place k is_list shape items around scope aim = bind (items_walk items around scope shape (wanted_item aim)) (row_of place k is_list)
 
 -- ---- `a :: b`
 
-abbrev pub cons_due : Part → Part → Around → Scope → Reading → Walk Indices
-cons_due a b around scope r =
-    bind (a.walk around scope (aimed Aims.Due r)) (λ i. bind (b.walk around scope (Aims.Due (R.Widened (I.List r)))) (λ j. give (I.List r)))
+abbrev pub cons_due : ℕ → Part → Part → Around → Scope → Reading → Walk Indices
+cons_due k a b around scope r =
+    bind (a.walk around scope (aimed Aims.Due r)) (λ i.
+    bind (b.walk around scope (Aims.Due (R.Widened (I.List r)))) (λ j. node_ended k (i ∷ j ∷ []) (I.List r)))
 
 abbrev pub list_owing : Around → Place → Indices → Reading → Walk Indices
 list_owing around place i r = bind (item_owed around place r i) (λ t. give (I.List r))
@@ -139,16 +149,20 @@ cons_before around shape place i (W.List r) = cons_onto around shape place i r
 cons_before around shape place i W.Never = never_value
 cons_before around shape place i form = wrong_value place
 
-abbrev pub cons_free : Shape → Part → Part → Around → Scope → Walk Indices
-cons_free shape a b around scope =
-    bind (a.walk around scope Aims.Free) (λ i. bind (b.walk around scope Aims.Free) (λ j. cons_before around shape a.place i (out-Indices j)))
+-- a list of which no type is wanted
+abbrev pub cons_found : Around → Shape → Place → ℕ → Indices → Indices → Walk Indices
+cons_found around shape place k i j = bind (cons_before around shape place i (out-Indices j)) (node_ended k (i ∷ j ∷ []))
 
-abbrev pub cons_of : Shape → Part → Part → Around → Scope → Reading-F Indices Reading → Reading → Walk Indices
-cons_of shape a b around scope W.Hole r = cons_free shape a b around scope
-cons_of shape a b around scope form r = cons_due a b around scope r
+abbrev pub cons_free : ℕ → Shape → Part → Part → Around → Scope → Walk Indices
+cons_free k shape a b around scope =
+    bind (a.walk around scope Aims.Free) (λ i. bind (b.walk around scope Aims.Free) (cons_found around shape a.place k i))
 
-abbrev pub cons_walk : Shape → Part → Part → Around → Scope → Aim → Walk Indices
-cons_walk shape a b around scope aim = cons_of shape a b around scope (out-Reading (wanted_item aim)) (wanted_item aim)
+abbrev pub cons_of : ℕ → Shape → Part → Part → Around → Scope → Reading-F Indices Reading → Reading → Walk Indices
+cons_of k shape a b around scope W.Hole r = cons_free k shape a b around scope
+cons_of k shape a b around scope form r = cons_due k a b around scope r
+
+abbrev pub cons_walk : ℕ → Shape → Part → Part → Around → Scope → Aim → Walk Indices
+cons_walk k shape a b around scope aim = cons_of k shape a b around scope (out-Reading (wanted_item aim)) (wanted_item aim)
 
 -- ---- structs: what is wanted of the values of fields, how many of them there are, and what is made of them
 
@@ -158,12 +172,12 @@ struct_aims around u ks = part_aims None (fields_of around u ks)
 abbrev pub struct_count : Around → ℕ → List ℕ → ℕ
 struct_count around u ks = length (fields_of around u ks)
 
-abbrev pub struct_made : Around → ℕ → List ℕ → List Part → List Indices → Walk Indices
-struct_made around u ks parts is = named_made around u parts None (fields_of around u ks) is
+abbrev pub struct_made : Around → ℕ → ℕ → List ℕ → List Part → List Indices → Walk Indices
+struct_made around k u ks parts is = bind (named_made around u parts None (fields_of around u ks) is) (node_ended k is)
 
-abbrev pub struct_walk : ℕ → List ℕ → List Part → Around → Scope → Walk Indices
-struct_walk u ks parts around scope =
-    bind (each_walk (take (struct_count around u ks) parts) around scope (struct_aims around u ks)) (struct_made around u ks parts)
+abbrev pub struct_walk : ℕ → ℕ → List ℕ → List Part → Around → Scope → Walk Indices
+struct_walk k u ks parts around scope =
+    bind (each_walk (take (struct_count around u ks) parts) around scope (struct_aims around u ks)) (struct_made around k u ks parts)
 
 abbrev pub due_aims : List Reading → List Aim
 due_aims rs = map (aimed Aims.Due) rs
@@ -182,14 +196,14 @@ abbrev pub no_struct : Place → Indices-F Indices Reading → Walk Indices
 no_struct place W.Never = never_value
 no_struct place form = wrong_value place
 
-abbrev pub with_behind : Place → ℕ → List ℕ → List Part → Around → Scope → Indices → Option (List Aim) → Walk Indices
-with_behind place u ks parts around scope i None = no_struct place (out-Indices i)
-with_behind place u ks parts around scope i (Some aims) =
-    bind (each_walk (take (length aims) parts) around scope aims) (with_made around place u ks i)
+abbrev pub with_behind : Place → ℕ → ℕ → List ℕ → List Part → Around → Scope → Indices → Option (List Aim) → Walk Indices
+with_behind place k u ks parts around scope i None = no_struct place (out-Indices i)
+with_behind place k u ks parts around scope i (Some aims) =
+    bind (each_walk (take (length aims) parts) around scope aims) (with_ended around place k u ks i)
 
-abbrev pub with_walk : Place → ℕ → List ℕ → Part → List Part → Around → Scope → Walk Indices
-with_walk place u ks a parts around scope =
-    bind (a.walk around scope Aims.Free) (λ i. with_behind place u ks parts around scope i (with_aims around u ks (out-Indices i)))
+abbrev pub with_walk : Place → ℕ → ℕ → List ℕ → Part → List Part → Around → Scope → Walk Indices
+with_walk place k u ks a parts around scope =
+    bind (a.walk around scope Aims.Free) (λ i. with_behind place k u ks parts around scope i (with_aims around u ks (out-Indices i)))
 
 -- ---- ways into a value
 
@@ -245,20 +259,22 @@ pub record Passed : Type 0 where
 abbrev pub passed : List Part → Indices → Option Passed
 passed left i = Some (record { value = i; left = left })
 
-abbrev pub read_taken : Place → Indices → Option Taken → Walk (Option Passed)
-read_taken place i None = give None
-read_taken place i (Some w) = bind (read_into place i w.reached) (λ j. give (passed w.left j))
+-- a suffix of a target, or one that takes a part out
+abbrev pub read_taken : Bool → Place → ℕ → Indices → Option Taken → Walk (Option Passed)
+read_taken is_target place k i None = give None
+read_taken is_target place k i (Some w) = bind (suffix_read is_target place k i w.reached) (λ j. give (passed w.left j))
 
-abbrev pub suffix_walk : Suffix → List Part → Around → Scope → Indices → Walk (Option Passed)
-suffix_walk s parts around scope i = bind (way_walk s.place parts around scope i s.way) (read_taken s.place i)
+abbrev pub suffix_walk : Bool → Suffix → List Part → Around → Scope → Indices → Walk (Option Passed)
+suffix_walk is_target s parts around scope i = bind (way_walk s.place parts around scope i s.way) (read_taken is_target s.place s.number i)
 
 abbrev pub then_on : {A : Type 0} → (List Part → Indices → Walk (Option A)) → Option Passed → Walk (Option A)
 then_on next None = give None
 then_on next (Some w) = next w.left w.value
 
-abbrev pub suffixes_walk : List Suffix → Around → Scope → List Part → Indices → Walk (Option Passed)
-suffixes_walk [] around scope parts i = give (passed parts i)
-suffixes_walk (s ∷ ss) around scope parts i = bind (suffix_walk s parts around scope i) (then_on (suffixes_walk ss around scope))
+abbrev pub suffixes_walk : Bool → List Suffix → Around → Scope → List Part → Indices → Walk (Option Passed)
+suffixes_walk is_target [] around scope parts i = give (passed parts i)
+suffixes_walk is_target (s ∷ ss) around scope parts i =
+    bind (suffix_walk is_target s parts around scope i) (then_on (suffixes_walk is_target ss around scope))
 
 abbrev pub value_on : Option Passed → Walk Indices
 value_on None = never_value
@@ -266,7 +282,7 @@ value_on (Some w) = give w.value
 
 abbrev pub part_walk : List Suffix → Part → List Part → Around → Scope → Walk Indices
 part_walk ss a parts around scope =
-    bind (a.walk around scope Aims.Free) (λ i. bind (suffixes_walk ss around scope parts i) value_on)
+    bind (a.walk around scope Aims.Free) (λ i. bind (suffixes_walk false ss around scope parts i) value_on)
 
 abbrev pub part_forms : List Suffix → List Part → Around → Scope → Walk Indices
 part_forms ss [] around scope = never_value
@@ -274,27 +290,27 @@ part_forms ss (a ∷ parts) around scope = part_walk ss a parts around scope
 
 -- ---- `[v with i = e]`, `[v with h .. l = e]`
 
-abbrev pub part_updated : Place → Part → Around → Scope → Indices → Reached → Walk Indices
-part_updated place c around scope i x = bind (c.walk around scope (put_aim x.typ)) (part_put around place c.is_nested i x)
+abbrev pub part_updated : Place → ℕ → Part → Around → Scope → Indices → Reached → Walk Indices
+part_updated place k c around scope i x = bind (c.walk around scope (put_aim x.typ)) (put_ended around place k c.is_nested i x)
 
-abbrev pub updated : Place → Part → Around → Scope → Indices → Option Reached → Walk Indices
-updated place c around scope i None = if_never_value place i
-updated place c around scope i (Some x) = part_updated place c around scope i x
+abbrev pub updated : Place → ℕ → Part → Around → Scope → Indices → Option Reached → Walk Indices
+updated place k c around scope i None = if_never_value place i
+updated place k c around scope i (Some x) = part_updated place k c around scope i x
 
-abbrev pub numbers_updated : Place → Way → Part → Around → Scope → Indices → Option (List Num) → Walk Indices
-numbers_updated place way c around scope i None = never_value
-numbers_updated place way c around scope i (Some ns) = bind (reached_by around i way ns) (updated place c around scope i)
+abbrev pub numbers_updated : Place → ℕ → Way → Part → Around → Scope → Indices → Option (List Num) → Walk Indices
+numbers_updated place k way c around scope i None = never_value
+numbers_updated place k way c around scope i (Some ns) = bind (reached_by around i way ns) (updated place k c around scope i)
 
-abbrev pub update_walk : Place → Way → Part → List Part → Part → Around → Scope → Walk Indices
-update_walk place way a indexes c around scope =
-    bind (a.walk around scope Aims.Free) (λ i. bind (numbers_walk indexes around scope) (numbers_updated place way c around scope i))
+abbrev pub update_walk : Place → ℕ → Way → Part → List Part → Part → Around → Scope → Walk Indices
+update_walk place k way a indexes c around scope =
+    bind (a.walk around scope Aims.Free) (λ i. bind (numbers_walk indexes around scope) (numbers_updated place k way c around scope i))
 
 -- a value, as many indexes as the way has, and what is put there
-abbrev pub update_forms : Place → Way → List Part → Around → Scope → Walk Indices
-update_forms place (Y.Field u k) (a ∷ c ∷ []) around scope = update_walk place (Y.Field u k) a [] c around scope
-update_forms place Y.Item (a ∷ b ∷ c ∷ []) around scope = update_walk place Y.Item a (b ∷ []) c around scope
-update_forms place Y.Slice (a ∷ b ∷ c ∷ d ∷ []) around scope = update_walk place Y.Slice a (b ∷ c ∷ []) d around scope
-update_forms place way parts around scope = wrong_value place
+abbrev pub update_forms : Place → ℕ → Way → List Part → Around → Scope → Walk Indices
+update_forms place k (Y.Field u f) (a ∷ c ∷ []) around scope = update_walk place k (Y.Field u f) a [] c around scope
+update_forms place k Y.Item (a ∷ b ∷ c ∷ []) around scope = update_walk place k Y.Item a (b ∷ []) c around scope
+update_forms place k Y.Slice (a ∷ b ∷ c ∷ d ∷ []) around scope = update_walk place k Y.Slice a (b ∷ c ∷ []) d around scope
+update_forms place k way parts around scope = wrong_value place
 
 -- ---- tuples and `a :: b`: what is wanted of the parts, of how many, and what is made of them
 
@@ -302,17 +318,17 @@ abbrev pub cons_aims : Reading-F Indices Reading → Reading → List Aim
 cons_aims W.Hole r = []
 cons_aims form r = aimed Aims.Due r ∷ Aims.Due (R.Widened (I.List r)) ∷ []
 
-abbrev pub cons_made : Around → Shape → Place → Reading-F Indices Reading → Reading → Indices → Indices → Walk Indices
-cons_made around shape place W.Hole r i j = cons_before around shape place i (out-Indices j)
-cons_made around shape place form r i j = give (I.List r)
+abbrev pub cons_made : Around → Shape → Place → ℕ → Reading-F Indices Reading → Reading → Indices → Indices → Walk Indices
+cons_made around shape place k W.Hole r i j = cons_found around shape place k i j
+cons_made around shape place k form r i j = node_ended k (i ∷ j ∷ []) (I.List r)
 
 -- of two parts alone
-abbrev pub cons_end : Around → Shape → Place → Reading-F Indices Reading → Reading → List Part → List Indices → Walk Indices
-cons_end around shape place form r (a ∷ b ∷ []) (i ∷ j ∷ []) = cons_made around shape a.place form r i j
-cons_end around shape place form r parts is = wrong_value place
+abbrev pub cons_end : Around → Shape → Place → ℕ → Reading-F Indices Reading → Reading → List Part → List Indices → Walk Indices
+cons_end around shape place k form r (a ∷ b ∷ []) (i ∷ j ∷ []) = cons_made around shape a.place k form r i j
+cons_end around shape place k form r parts is = wrong_value place
 
-abbrev pub cons_ended : Around → Shape → Place → Reading → List Part → List Indices → Walk Indices
-cons_ended around shape place r parts is = cons_end around shape place (out-Reading r) r parts is
+abbrev pub cons_ended : Around → Shape → Place → ℕ → Reading → List Part → List Indices → Walk Indices
+cons_ended around shape place k r parts is = cons_end around shape place k (out-Reading r) r parts is
 
 abbrev pub two_or_none : ℕ → ℕ
 two_or_none (suc (suc zero)) = 2

@@ -7,7 +7,7 @@ ghost use Rattle.expression_steps.specs.Coded as coded;
 
 use crate::aims::{argument_aims, known_arguments, part_aims};
 use crate::knowing::{nestings, places_of};
-use call_notes::{Aim, called, callee_types, made_named, payload_types};
+use call_notes::{Aim, called, callee_types, made_named, node_ended, payload_types};
 use pattern_leaves::{Around, payload};
 use sail_base::{Items, Place};
 use sail_core::{Callee, Core};
@@ -91,6 +91,31 @@ pub(crate) fn named_made(
     )
 }
 
+/// What a constructor makes of the values of its arguments, by its node at a place, which is noted. It fails where memory is wanting, and
+/// where variables are too many.
+#[tactic(auto, using(value_indices::proofs::Walks::walks))]
+fn constructed(
+    alloc: Global,
+    walking: &mut Walking,
+    around: &Around<'_>,
+    number: u32,
+    union: u32,
+    constructor: u32,
+    parts: &[Core],
+    aim: &Aim,
+    values: &[Indices],
+) -> Result<Indices, AllocError>
+    ensures value { IfOk result (λ made. made ≡ walk.got (call_spec.constructed (around_of around.now) number union constructor
+        (coded.each_part parts.now) aim.now values.now) (walk.seen walking.old)) }
+    ensures walked { OnOk result (walk.seen walking.new ≡ walk.run (call_spec.constructed (around_of around.now) number union constructor
+        (coded.each_part parts.now) aim.now values.now) (walk.seen walking.old)) }
+{
+    let known = known_arguments(alloc, aim)?;
+    let types = constructor_types(around, union, constructor, parts.len());
+    let value = named_made(alloc, walking, around, union, parts, &known, types, values)?;
+    node_ended(alloc, walking, number, values, value)
+}
+
 /// What is made of the values of the arguments of a call, by its node at a place. It fails where memory is wanting, and where variables
 /// are too many.
 pub(crate) fn call_made(
@@ -111,9 +136,17 @@ pub(crate) fn call_made(
 {
     match callee {
         Callee::Constructor(union, constructor) => {
-            let known = known_arguments(alloc, aim)?;
-            let types = constructor_types(around, union, constructor, parts.len());
-            named_made(alloc, walking, around, union, parts, &known, types, values)
+            constructed(
+                alloc,
+                walking,
+                around,
+                number,
+                union,
+                constructor,
+                parts,
+                aim,
+                values,
+            )
         }
         _ => {
             let nested = nestings(alloc, parts)?;

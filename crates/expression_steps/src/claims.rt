@@ -44,13 +44,12 @@ pub fn claim_behind(
     alloc: Global,
     walking: &mut Walking,
     place: Place,
-    number: u32,
     parts: &[Core],
     met: Option<(Con, Indices)>,
 ) -> Result<Option<Con>, AllocError>
-    ensures value { IfOk result (λ made. made ≡ walk.got (statement_spec.claim_behind place number (coded.each_part parts.now) met)
+    ensures value { IfOk result (λ made. made ≡ walk.got (statement_spec.claim_behind place (coded.each_part parts.now) met)
         (walk.seen walking.old)) }
-    ensures walked { OnOk result (walk.seen walking.new ≡ walk.run (statement_spec.claim_behind place number (coded.each_part parts.now) met)
+    ensures walked { OnOk result (walk.seen walking.new ≡ walk.run (statement_spec.claim_behind place (coded.each_part parts.now) met)
         (walk.seen walking.old)) }
 {
     match parts {
@@ -61,6 +60,6 @@ pub fn claim_behind(
             never_ends(otherwise),
             met_condition(met),
         ),
-        _ => wrong_state(alloc, walking, place, number),
+        _ => wrong_state(alloc, walking, place),
     }
 }

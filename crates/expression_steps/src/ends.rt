@@ -1,5 +1,5 @@
 //! What forms owe once their parts have been walked.
-ghost use Rattle.std.specs.Prelude.{◌≡◌, List, pos, IfOk, OnOk};
+ghost use Rattle.std.specs.Prelude.{◌≡◌, [], ◌∷◌, List, pos, IfOk, OnOk};
 ghost use Rattle.sail_types.specs.Sums.{constant};
 ghost use Rattle.sail_core.specs.declared.tree.Core.{Core};
 ghost use Rattle.value_indices.specs.Walking as walk;
@@ -14,19 +14,23 @@ ghost use Rattle.expression_steps.specs.Targets as target_spec;
 ghost use Rattle.expression_steps.specs.Values as value_spec;
 
 use call_arguments::has_hole;
-use call_notes::{any_never, note_value, owe_value, part_owed, wrong_value};
-use expression_forms::{Reached, Spot, made_at};
+use call_notes::{
+    any_never, node_ended, node_given, note_numbers, note_value, owe_value, part_owed, wrong_value,
+};
+use expression_forms::{Reached, Spot};
 use pattern_leaves::{Around, owe_exponents, written_in};
 use sail_base::{Boxed, Items, Place};
 use sail_core::{Counting, Written};
 use sail_types::{Con, Num, Shape};
 use std::alloc::{AllocError, Global};
 use value_fits::{Wanted, item_fits, owe_fit};
-use value_indices::{Indices, Reading, Walking, at_most, between, copy_reading};
+use value_indices::{
+    Indices, Reading, Walking, at_most, between, copy_each, copy_indices, copy_reading,
+};
 use wide_types::filled;
 
 /// A tuple of these; none where there is no value for one of them.
-pub(crate) fn tuple_of(values: Items<Indices>) -> Indices
+fn tuple_indices(values: Items<Indices>) -> Indices
     ensures { result ≡ value_spec.tuple_indices values }
 {
     if any_never(values.as_slice()) {
@@ -34,6 +38,26 @@ pub(crate) fn tuple_of(values: Items<Indices>) -> Indices
     } else {
         Indices::Tuple(values)
     }
+}
+
+/// The same as the node of a number makes it, which is noted. It fails where memory is wanting.
+pub(crate) fn tuple_of(
+    alloc: Global,
+    walking: &mut Walking,
+    number: u32,
+    values: Items<Indices>,
+) -> Result<Indices, AllocError>
+    ensures value { IfOk result (λ made. made ≡ walk.got (value_spec.tuple_of number values) (walk.seen walking.old)) }
+    ensures walked { OnOk result (walk.seen walking.new ≡ walk.run (value_spec.tuple_of number values) (walk.seen walking.old)) }
+{
+    let operands = copy_each(alloc, values.as_slice())?;
+    node_ended(
+        alloc,
+        walking,
+        number,
+        operands.as_slice(),
+        tuple_indices(values),
+    )
 }
 
 /// The widened type of a first item of this shape: holes in it take what the shape says. It fails where memory is wanting, and where
@@ -92,7 +116,7 @@ fn sized_vector(
 }
 
 /// A list of items of this type. It fails where memory is wanting.
-pub(crate) fn list_of(alloc: Global, reading: Reading) -> Result<Indices, AllocError>
+pub(crate) fn list_indices(alloc: Global, reading: Reading) -> Result<Indices, AllocError>
     ensures { IfOk result (λ made. made ≡ I.List reading) }
 {
     Ok(Indices::List(Boxed::new(alloc, reading)?))
@@ -109,31 +133,77 @@ fn sized_list(
     ensures value { IfOk result (λ made. made ≡ walk.got (value_spec.sized_list place reading) (walk.seen walking.old)) }
     ensures walked { OnOk result (walk.seen walking.new ≡ walk.run (value_spec.sized_list place reading) (walk.seen walking.old)) }
 {
-    let value = list_of(alloc, reading)?;
+    let value = list_indices(alloc, reading)?;
     note_value(alloc, walking, place, &value)?;
     Ok(value)
 }
 
-/// A vector of so many items of this type, or a list of them, whose sizes are noted. It fails where memory is wanting.
+/// A vector of these items, of this type, as the node of a number makes it; that and its sizes are noted. It fails where memory is wanting.
+#[tactic(auto, using(value_indices::proofs::Walks::walks))]
+fn vector_of(
+    alloc: Global,
+    walking: &mut Walking,
+    place: Place,
+    number: u32,
+    reading: Reading,
+    items: &[Indices],
+) -> Result<Indices, AllocError>
+    ensures value { IfOk result (λ made. made
+        ≡ walk.got (value_spec.vector_of place number (reading, items.now)) (walk.seen walking.old)) }
+    ensures walked { OnOk result (walk.seen walking.new
+        ≡ walk.run (value_spec.vector_of place number (reading, items.now)) (walk.seen walking.old)) }
+{
+    let value = sized_vector(alloc, walking, place, items.len(), reading)?;
+    node_ended(alloc, walking, number, items, value)
+}
+
+/// A list of these items, likewise. It fails where memory is wanting.
+#[tactic(auto, using(value_indices::proofs::Walks::walks))]
+fn list_of(
+    alloc: Global,
+    walking: &mut Walking,
+    place: Place,
+    number: u32,
+    reading: Reading,
+    items: &[Indices],
+) -> Result<Indices, AllocError>
+    ensures value { IfOk result (λ made. made
+        ≡ walk.got (value_spec.list_of place number (reading, items.now)) (walk.seen walking.old)) }
+    ensures walked { OnOk result (walk.seen walking.new
+        ≡ walk.run (value_spec.list_of place number (reading, items.now)) (walk.seen walking.old)) }
+{
+    let value = sized_list(alloc, walking, place, reading)?;
+    node_ended(alloc, walking, number, items, value)
+}
+
+/// A vector or a list of items of a type, as the node of a number makes it; that and its sizes are noted. It fails where memory is wanting.
 #[tactic(auto, using(value_indices::proofs::Walks::walks))]
 pub fn row_of(
     alloc: Global,
     walking: &mut Walking,
     place: Place,
+    number: u32,
     is_list: bool,
-    count: usize,
-    reading: Reading,
+    row: (Reading, Items<Indices>),
 ) -> Result<Indices, AllocError>
-    ensures value { IfOk result (λ made. made
-        ≡ walk.got (value_spec.row_of place is_list (constant (pos count)) reading) (walk.seen walking.old)) }
-    ensures walked { OnOk result (walk.seen walking.new
-        ≡ walk.run (value_spec.row_of place is_list (constant (pos count)) reading) (walk.seen walking.old)) }
+    ensures value { IfOk result (λ made. made ≡ walk.got (value_spec.row_of place number is_list row) (walk.seen walking.old)) }
+    ensures walked { OnOk result (walk.seen walking.new ≡ walk.run (value_spec.row_of place number is_list row) (walk.seen walking.old)) }
 {
+    let (reading, items) = row;
     if is_list {
-        sized_list(alloc, walking, place, reading)
+        list_of(alloc, walking, place, number, reading, items.as_slice())
     } else {
-        sized_vector(alloc, walking, place, count, reading)
+        vector_of(alloc, walking, place, number, reading, items.as_slice())
     }
+}
+
+/// The first of some values. It fails where memory is wanting.
+pub fn first_item(alloc: Global, value: Indices) -> Result<Items<Indices>, AllocError>
+    ensures { IfOk result (λ made. made ≡ value ∷ []) }
+{
+    let mut items = Items::new(alloc);
+    items.push(value)?;
+    Ok(items)
 }
 
 /// A list of items of this type, which an item owes at its place. It fails where memory is wanting, and where variables are too many.
@@ -152,7 +222,7 @@ fn list_owing(
         ≡ walk.run (value_spec.list_owing (around_of around.now) place value.now reading) (walk.seen walking.old)) }
 {
     owe_item(alloc, walking, around, place, &reading, value)?;
-    list_of(alloc, reading)
+    list_indices(alloc, reading)
 }
 
 /// The same, where the items of a list, of the type that comes before, owe that type too. It fails where memory is wanting, and where
@@ -285,14 +355,45 @@ pub fn wrong_state(
     alloc: Global,
     walking: &mut Walking,
     place: Place,
-    number: u32,
 ) -> Result<Option<Con>, AllocError>
-    ensures value { IfOk result (λ made. made ≡ walk.got (statement_spec.wrong_state place number) (walk.seen walking.old)) }
-    ensures walked { OnOk result (walk.seen walking.new ≡ walk.run (statement_spec.wrong_state place number) (walk.seen walking.old)) }
+    ensures value { IfOk result (λ made. made ≡ walk.got (statement_spec.wrong_state place) (walk.seen walking.old)) }
+    ensures walked { OnOk result (walk.seen walking.new ≡ walk.run (statement_spec.wrong_state place) (walk.seen walking.old)) }
 {
-    let value = wrong_value(alloc, walking, place)?;
-    made_at(alloc, walking, number, value)?;
+    wrong_value(alloc, walking, place)?;
     Ok(None)
+}
+
+/// The end of a node: with the numbers of the value, where it makes one. It fails where memory is wanting.
+pub fn end_node(
+    alloc: Global,
+    walking: &mut Walking,
+    number: u32,
+    is_made: bool,
+    value: Indices,
+) -> Result<Indices, AllocError>
+    ensures value { IfOk result (λ made. made ≡ walk.got (spec.node_end number is_made value) (walk.seen walking.old)) }
+    ensures walked { OnOk result (walk.seen walking.new ≡ walk.run (spec.node_end number is_made value) (walk.seen walking.old)) }
+{
+    if is_made {
+        node_given(alloc, walking, number, value)
+    } else {
+        Ok(value)
+    }
+}
+
+/// What is thrown, as the node of a number catches it, which is noted. It fails where memory is wanting.
+#[tactic(auto, using(value_indices::proofs::Walks::walks))]
+pub fn catch_at(
+    alloc: Global,
+    walking: &mut Walking,
+    number: u32,
+    value: &Indices,
+) -> Result<(), AllocError>
+    ensures { OnOk result (walk.seen walking.new ≡ walk.run (statement_spec.caught_at number value.now) (walk.seen walking.old)) }
+{
+    let caught = copy_indices(alloc, value)?;
+    let caught = node_ended(alloc, walking, number, &[], caught)?;
+    note_numbers(alloc, walking, number, &caught)
 }
 
 /// The bounds of the variable of a `foreach` come into force. They fail where memory is wanting.

@@ -5,17 +5,17 @@ ghost use Rattle.value_indices.specs.declared.indices.Indices.{out-Indices};
 ghost use Rattle.pattern_leaves.specs.Settings.{around_of};
 ghost use Rattle.expression_steps.specs.Filling as filling;
 
-use crate::ends::owe_item;
+use crate::ends::{first_item, owe_item};
 use call_arguments::{has_hole, types_from, types_without_holes, without_holes};
-use call_notes::{Aim, owe_value};
-use expression_forms::{Reached, fields_of, owe_part};
+use call_notes::{Aim, node_ended, owe_value};
+use expression_forms::{Reached, fields_of, owe_part, update_operands};
 use pattern_leaves::Around;
 use sail_base::{Boxed, Items, Place};
 use sail_types::{Index, Num, Typ, copy_num};
 use std::alloc::{AllocError, Global};
 use type_arguments::copy_indices as copy_numbers;
 use value_fits::Wanted;
-use value_indices::{Indices, Reading, Walking, copy_indices, copy_reading};
+use value_indices::{Indices, Reading, Walking, copy_each, copy_indices, copy_reading};
 use wide_types::widened;
 
 /// Whether one of these types has a hole inside.
@@ -171,7 +171,7 @@ fn struct_holed(value: &Indices) -> bool
 /// A struct with new values of these fields, by its place in the table and theirs: of the type that it was, in which a hole is filled by
 /// what they give. It fails where memory is wanting, and where variables are too many.
 #[tactic(auto, using(value_indices::proofs::Walks::walks))]
-pub fn with_made(
+fn with_made(
     alloc: Global,
     walking: &mut Walking,
     around: &Around<'_>,
@@ -192,6 +192,30 @@ pub fn with_made(
     } else {
         Ok(value)
     }
+}
+
+/// The same, as the node of a number makes it, which is noted. It fails where memory is wanting, and where variables are too many.
+#[tactic(auto, using(value_indices::proofs::Walks::walks))]
+pub fn with_ended(
+    alloc: Global,
+    walking: &mut Walking,
+    around: &Around<'_>,
+    place: Place,
+    number: u32,
+    named: u32,
+    fields: &[u32],
+    value: Indices,
+    values: Items<Indices>,
+) -> Result<Indices, AllocError>
+    ensures value { IfOk result (λ made. made
+        ≡ walk.got (filling.with_ended (around_of around.now) place number named fields.now value values) (walk.seen walking.old)) }
+    ensures walked { OnOk result (walk.seen walking.new
+        ≡ walk.run (filling.with_ended (around_of around.now) place number named fields.now value values) (walk.seen walking.old)) }
+{
+    let mut operands = first_item(alloc, copy_indices(alloc, &value)?)?;
+    operands.append(copy_each(alloc, values.as_slice())?)?;
+    let made = with_made(alloc, walking, around, place, named, fields, value, values)?;
+    node_ended(alloc, walking, number, operands.as_slice(), made)
 }
 
 /// What is wanted of a part of this type that is put in: nothing where that has a hole inside. It fails where memory is wanting.
@@ -286,7 +310,7 @@ fn part_behind(
 /// A value in which a new one is put at a part, which may owe further in that it is of the part's type. It fails where memory is wanting,
 /// and where variables are too many.
 #[tactic(auto, using(value_indices::proofs::Walks::walks))]
-pub fn part_put(
+fn part_put(
     alloc: Global,
     walking: &mut Walking,
     around: &Around<'_>,
@@ -303,4 +327,29 @@ pub fn part_put(
 {
     owe_part(alloc, walking, around, place, reached, is_nested, new)?;
     part_behind(alloc, walking, around, place, value, &reached.typ, new)
+}
+
+/// The same, as the node of a number makes it, which is noted. It fails where memory is wanting, and where variables are too many.
+#[tactic(auto, using(value_indices::proofs::Walks::walks))]
+pub fn put_ended(
+    alloc: Global,
+    walking: &mut Walking,
+    around: &Around<'_>,
+    place: Place,
+    number: u32,
+    is_nested: bool,
+    value: Indices,
+    reached: &Reached,
+    new: &Indices,
+) -> Result<Indices, AllocError>
+    ensures value { IfOk result (λ made. made
+        ≡ walk.got (filling.put_ended (around_of around.now) place number is_nested value reached.now new.now) (walk.seen walking.old)) }
+    ensures walked { OnOk result (walk.seen walking.new
+        ≡ walk.run (filling.put_ended (around_of around.now) place number is_nested value reached.now new.now) (walk.seen walking.old)) }
+{
+    let operands = update_operands(alloc, &value, reached, new)?;
+    let made = part_put(
+        alloc, walking, around, place, is_nested, value, reached, new,
+    )?;
+    node_ended(alloc, walking, number, operands.as_slice(), made)
 }

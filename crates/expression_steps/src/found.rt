@@ -29,20 +29,21 @@ pub fn spot_name(
     around: &Around<'_>,
     scope: &Scope<'_>,
     place: Place,
+    number: u32,
     name: &Text,
     targets: &[Target],
     parts: &[Core],
     at: usize,
 ) -> Result<Option<(Spot, usize)>, AllocError>
-    ensures value { IfOk result (λ made. coded.spotted_in (around_of around.now) parts.now made ≡ walk.got (target_spec.kind_spot place (T.Variable
+    ensures value { IfOk result (λ made. coded.spotted_in (around_of around.now) parts.now made ≡ walk.got (target_spec.kind_spot place number (T.Variable
         name.now) (map target_spec.spotting targets.now) (around_of around.now) (scope_of scope.now) (coded.left_behind parts.now at))
         (walk.seen walking.old)) }
-    ensures walked { OnOk result (walk.seen walking.new ≡ walk.run (target_spec.kind_spot place (T.Variable name.now) (map target_spec.spotting
+    ensures walked { OnOk result (walk.seen walking.new ≡ walk.run (target_spec.kind_spot place number (T.Variable name.now) (map target_spec.spotting
         targets.now) (around_of around.now) (scope_of scope.now) (coded.left_behind parts.now at)) (walk.seen walking.old)) }
 {
     match targets {
         [] => {
-            let spot = Spot::held(alloc, place, name, look_up(name.as_str(), scope))?;
+            let spot = Spot::held(alloc, place, number, name, look_up(name.as_str(), scope))?;
             Ok(Some((spot, at)))
         }
         _ => no_spot(alloc, walking, place),
@@ -57,20 +58,26 @@ pub fn spot_register(
     around: &Around<'_>,
     scope: &Scope<'_>,
     place: Place,
+    number: u32,
     register: u32,
     targets: &[Target],
     parts: &[Core],
     at: usize,
 ) -> Result<Option<(Spot, usize)>, AllocError>
-    ensures value { IfOk result (λ made. coded.spotted_in (around_of around.now) parts.now made ≡ walk.got (target_spec.kind_spot place (T.Register
+    ensures value { IfOk result (λ made. coded.spotted_in (around_of around.now) parts.now made ≡ walk.got (target_spec.kind_spot place number (T.Register
         register) (map target_spec.spotting targets.now) (around_of around.now) (scope_of scope.now) (coded.left_behind parts.now at))
         (walk.seen walking.old)) }
-    ensures walked { OnOk result (walk.seen walking.new ≡ walk.run (target_spec.kind_spot place (T.Register register) (map target_spec.spotting
+    ensures walked { OnOk result (walk.seen walking.new ≡ walk.run (target_spec.kind_spot place number (T.Register register) (map target_spec.spotting
         targets.now) (around_of around.now) (scope_of scope.now) (coded.left_behind parts.now at)) (walk.seen walking.old)) }
 {
     match targets {
         [] => {
-            let spot = Spot::register(alloc, place, around.registers.get(register as usize))?;
+            let spot = Spot::register(
+                alloc,
+                place,
+                number,
+                around.registers.get(register as usize),
+            )?;
             Ok(Some((spot, at)))
         }
         _ => no_spot(alloc, walking, place),
@@ -80,31 +87,36 @@ pub fn spot_register(
 /// The part of a target that its last suffix reaches, by the base and what it holds. It fails where memory is wanting.
 pub fn part_found(
     alloc: Global,
+    number: u32,
     suffix: &Suffix,
     base: Spot,
     held: Indices,
     found: Option<(Option<Reached>, usize)>,
 ) -> Result<Option<(Spot, usize)>, AllocError>
     ensures { IfOk result (λ made. (around : settings.Around) (parts : List Core) → coded.spotted_in around parts made
-        ≡ target_spec.part_spotted around suffix.now (spot_of around base) held (coded.taken_in parts found)) }
+        ≡ target_spec.part_spotted around number suffix.now (spot_of around base) held (coded.taken_in parts found)) }
 {
     match found {
         None => Ok(None),
         Some((reached, at)) => {
-            let spot = Spot::part(alloc, suffix.place, suffix.way, base, held, reached)?;
+            let spot = Spot::part(alloc, suffix.place, number, suffix.way, base, held, reached)?;
             Ok(Some((spot, at)))
         }
     }
 }
 
 /// A tuple of targets.
-pub fn tuple_found(place: Place, found: Option<(Items<Spot>, usize)>) -> Option<(Spot, usize)>
+pub fn tuple_found(
+    place: Place,
+    number: u32,
+    found: Option<(Items<Spot>, usize)>,
+) -> Option<(Spot, usize)>
     ensures { (around : settings.Around) (parts : List Core) → coded.spotted_in around parts result
-        ≡ target_spec.tuple_spotted place (coded.spotted_all_in around parts found) }
+        ≡ target_spec.tuple_spotted place number (coded.spotted_all_in around parts found) }
 {
     match found {
         None => None,
-        Some((spots, at)) => Some((Spot::Tuple(place, spots), at)),
+        Some((spots, at)) => Some((Spot::Tuple(place, number, spots), at)),
     }
 }
 
@@ -112,6 +124,7 @@ pub fn tuple_found(place: Place, found: Option<(Items<Spot>, usize)>) -> Option<
 pub fn call_found(
     alloc: Global,
     place: Place,
+    number: u32,
     reader: Option<Caller>,
     writer: Caller,
     arguments: &[Core],
@@ -120,10 +133,10 @@ pub fn call_found(
 ) -> Result<Option<(Spot, usize)>, AllocError>
     requires { at + length arguments.now < 2 ^ 64 }
     ensures { IfOk result (λ made. (around : settings.Around) (parts : List Core) → coded.spotted_in around parts made
-        ≡ target_spec.spotted (call_spot around place reader writer (call_spec.nestings (coded.each_part arguments.now)) values)
+        ≡ target_spec.spotted (call_spot around place number reader writer (call_spec.nestings (coded.each_part arguments.now)) values)
         (coded.left_behind parts (at + length arguments.now))) }
 {
     let nested = nestings(alloc, arguments)?;
-    let spot = Spot::Call(place, reader, writer, nested, values);
+    let spot = Spot::Call(place, number, reader, writer, nested, values);
     Ok(Some((spot, behind(at, arguments.len()))))
 }

@@ -72,6 +72,30 @@ pub fn is_made(kind: &Kind) -> bool
     }
 }
 
+/// Whether a node of a kind makes a value of its own: what an operator on truths, a branch, a loop or an assignment gives was made further in,
+/// and a part by its suffixes.
+pub fn makes_value(kind: &Kind) -> bool
+    ensures { result ≡ spec.makes_value kind.now }
+{
+    match kind {
+        Kind::Local(_) => true,
+        Kind::Variable(_) => true,
+        Kind::TopLevel(_) => true,
+        Kind::Register(_) => true,
+        Kind::Call(_) => true,
+        Kind::Cast(_) => true,
+        Kind::Tuple => true,
+        Kind::Vector(_) => true,
+        Kind::List(_) => true,
+        Kind::Cons(_) => true,
+        Kind::Struct(_, _) => true,
+        Kind::With(_, _) => true,
+        Kind::WithItem => true,
+        Kind::WithSlice => true,
+        _ => false,
+    }
+}
+
 /// Whether what is wanted of an expression is owed further in: in a block, a `let`, a `var`, an `if`, `match` or `try`.
 #[cycle(nested)]
 pub fn is_nested(core: &Core) -> bool

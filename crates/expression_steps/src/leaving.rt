@@ -5,13 +5,14 @@ ghost use Rattle.value_indices.specs.Walking as walk;
 ghost use Rattle.pattern_leaves.specs.Settings as settings;
 ghost use Rattle.pattern_leaves.specs.Settings.{around_of};
 ghost use Rattle.expression_steps.specs.Coded as coded;
+ghost use Rattle.expression_steps.specs.Expressions as spec;
 ghost use Rattle.expression_steps.specs.Expressions.{part};
 ghost use Rattle.expression_steps.specs.Making as making;
 
 use crate::aims::{copy_aim, one_aim, option_indices};
 use crate::ends::owe_cast;
 use crate::knowing::is_nested;
-use call_notes::{Aim, part_owed, wrong_value};
+use call_notes::{Aim, node_ended, part_owed, wrong_value};
 use pattern_leaves::{Around, written_in};
 use sail_base::{Items, Place};
 use sail_core::{Core, Kind, Written};
@@ -88,36 +89,58 @@ pub(crate) fn answer_count(answer: Option<&Reading>, count: usize) -> usize
     }
 }
 
-/// `e : T`: it owes once, and keeps what is known of e. It fails where memory is wanting, and where variables are too many.
+/// `e : T`: it owes once, and keeps what is known of e, as the node of a number makes it, which is noted. It fails where memory is wanting,
+/// and where variables are too many.
+#[tactic(auto, using(value_indices::proofs::Walks::walks))]
+fn written_ended(
+    alloc: Global,
+    walking: &mut Walking,
+    around: &Around<'_>,
+    place: Place,
+    number: u32,
+    written: &Written,
+    is_nested: bool,
+    value: &Indices,
+) -> Result<Indices, AllocError>
+    ensures value { IfOk result (λ made. made ≡ walk.got (spec.written_ended (around_of around.now) place number written.now is_nested value.now)
+        (walk.seen walking.old)) }
+    ensures walked { OnOk result (walk.seen walking.new ≡ walk.run (spec.written_ended (around_of around.now) place number written.now is_nested
+        value.now) (walk.seen walking.old)) }
+{
+    owe_cast(alloc, walking, around, place, written, is_nested, value)?;
+    let made = copy_indices(alloc, value)?;
+    node_ended(alloc, walking, number, std::slice::from_ref(value), made)
+}
+
+/// The same where a type may be written. It fails where memory is wanting, and where variables are too many.
 #[tactic(auto, using(value_indices::proofs::Walks::walks))]
 fn cast_made(
     alloc: Global,
     walking: &mut Walking,
     around: &Around<'_>,
     place: Place,
+    number: u32,
     written: &Option<Written>,
     core: &Core,
     value: &Indices,
 ) -> Result<Indices, AllocError>
-    ensures value { IfOk result (λ made. made ≡ walk.got (making.cast_made (around_of around.now) place written.now (part core.now) value.now)
-        (walk.seen walking.old)) }
-    ensures walked { OnOk result (walk.seen walking.new ≡ walk.run (making.cast_made (around_of around.now) place written.now (part core.now)
+    ensures value { IfOk result (λ made. made ≡ walk.got (making.cast_made (around_of around.now) place number written.now (part core.now)
         value.now) (walk.seen walking.old)) }
+    ensures walked { OnOk result (walk.seen walking.new ≡ walk.run (making.cast_made (around_of around.now) place number written.now
+        (part core.now) value.now) (walk.seen walking.old)) }
 {
     match written {
         None => copy_indices(alloc, value),
-        Some(written) => {
-            owe_cast(
-                alloc,
-                walking,
-                around,
-                place,
-                written,
-                is_nested(core),
-                value,
-            )?;
-            copy_indices(alloc, value)
-        }
+        Some(written) => written_ended(
+            alloc,
+            walking,
+            around,
+            place,
+            number,
+            written,
+            is_nested(core),
+            value,
+        ),
     }
 }
 
@@ -161,17 +184,20 @@ fn part_made(
     walking: &mut Walking,
     around: &Around<'_>,
     place: Place,
+    number: u32,
     kind: &Kind,
     core: &Core,
     value: &Indices,
 ) -> Result<Indices, AllocError>
-    ensures value { IfOk result (λ made. made ≡ walk.got (making.part_made (around_of around.now) place kind.now (part core.now) value.now)
+    ensures value { IfOk result (λ made. made ≡ walk.got (making.part_made (around_of around.now) place number kind.now (part core.now) value.now)
         (walk.seen walking.old)) }
-    ensures walked { OnOk result (walk.seen walking.new ≡ walk.run (making.part_made (around_of around.now) place kind.now (part core.now) value.now)
+    ensures walked { OnOk result (walk.seen walking.new ≡ walk.run (making.part_made (around_of around.now) place number kind.now (part core.now) value.now)
         (walk.seen walking.old)) }
 {
     match kind {
-        Kind::Cast(written) => cast_made(alloc, walking, around, place, written, core, value),
+        Kind::Cast(written) => cast_made(
+            alloc, walking, around, place, number, written, core, value,
+        ),
         Kind::Return => answer_made(alloc, walking, around, place, core, value),
         Kind::Throw => Ok(Indices::Never),
         Kind::Exit => Ok(Indices::Never),
@@ -187,17 +213,18 @@ fn value_made(
     walking: &mut Walking,
     around: &Around<'_>,
     place: Place,
+    number: u32,
     kind: &Kind,
     core: &Core,
     values: &[Indices],
 ) -> Result<Indices, AllocError>
-    ensures value { IfOk result (λ made. made ≡ walk.got (making.one_made (around_of around.now) place kind.now (part core.now ∷ []) values.now)
+    ensures value { IfOk result (λ made. made ≡ walk.got (making.one_made (around_of around.now) place number kind.now (part core.now ∷ []) values.now)
         (walk.seen walking.old)) }
-    ensures walked { OnOk result (walk.seen walking.new ≡ walk.run (making.one_made (around_of around.now) place kind.now (part core.now ∷ [])
+    ensures walked { OnOk result (walk.seen walking.new ≡ walk.run (making.one_made (around_of around.now) place number kind.now (part core.now ∷ [])
         values.now) (walk.seen walking.old)) }
 {
     match values {
-        [value] => part_made(alloc, walking, around, place, kind, core, value),
+        [value] => part_made(alloc, walking, around, place, number, kind, core, value),
         _ => wrong_value(alloc, walking, place),
     }
 }
@@ -208,17 +235,18 @@ pub(crate) fn one_made(
     walking: &mut Walking,
     around: &Around<'_>,
     place: Place,
+    number: u32,
     kind: &Kind,
     parts: &[Core],
     values: &[Indices],
 ) -> Result<Indices, AllocError>
-    ensures value { IfOk result (λ made. made ≡ walk.got (making.one_made (around_of around.now) place kind.now (coded.each_part parts.now) values.now)
-        (walk.seen walking.old)) }
-    ensures walked { OnOk result (walk.seen walking.new ≡ walk.run (making.one_made (around_of around.now) place kind.now (coded.each_part parts.now)
+    ensures value { IfOk result (λ made. made ≡ walk.got (making.one_made (around_of around.now) place number kind.now (coded.each_part parts.now)
+        values.now) (walk.seen walking.old)) }
+    ensures walked { OnOk result (walk.seen walking.new ≡ walk.run (making.one_made (around_of around.now) place number kind.now (coded.each_part parts.now)
         values.now) (walk.seen walking.old)) }
 {
     match parts {
-        [core] => value_made(alloc, walking, around, place, kind, core, values),
+        [core] => value_made(alloc, walking, around, place, number, kind, core, values),
         _ => wrong_value(alloc, walking, place),
     }
 }

@@ -29,11 +29,13 @@ pub use aims::{argument_aims, is_hole, natural_aim, repeated, wanted_item, writt
 pub use binding::{Binding, begin_binding, binding_of, end_binding};
 pub use claims::claim_behind;
 pub use counting::{Bounds, begin_turn, bounds_of};
-pub use ends::{filled_here, no_spot, no_way, owe_item, row_of, wrong_state};
-pub use filling::{part_put, put_aim, with_made};
+pub use ends::{
+    catch_at, end_node, filled_here, first_item, no_spot, no_way, owe_item, row_of, wrong_state,
+};
+pub use filling::{put_aim, put_ended, with_ended};
 pub use found::{call_found, part_found, spot_name, spot_register, tuple_found};
 pub use joining::{joined, under_or_not};
-pub use knowing::{goes_inward, is_made, is_nested, never_ends, place_of};
+pub use knowing::{goes_inward, is_made, is_nested, makes_value, never_ends, place_of};
 pub use making::{made_aims, made_count, made_end};
 pub use reached::{indexes_of, reach, value_of, way_reached};
 pub use slices::{behind, first_parts, left_at};

@@ -70,19 +70,20 @@ fn single_end(
     around: &Around<'_>,
     scope: &Scope<'_>,
     place: Place,
+    number: u32,
     kind: &Kind,
     parts: &[Core],
     values: &[Indices],
 ) -> Result<Indices, AllocError>
-    ensures value { IfOk result (λ made. made ≡ walk.got (making.single_end (around_of around.now) (scope_of scope.now) place kind.now
+    ensures value { IfOk result (λ made. made ≡ walk.got (making.single_end (around_of around.now) (scope_of scope.now) place number kind.now
         (coded.each_part parts.now) values.now) (walk.seen walking.old)) }
-    ensures walked { OnOk result (walk.seen walking.new ≡ walk.run (making.single_end (around_of around.now) (scope_of scope.now) place kind.now
+    ensures walked { OnOk result (walk.seen walking.new ≡ walk.run (making.single_end (around_of around.now) (scope_of scope.now) place number kind.now
         (coded.each_part parts.now) values.now) (walk.seen walking.old)) }
 {
     if is_single(kind) {
-        one_made(alloc, walking, around, place, kind, parts, values)
+        one_made(alloc, walking, around, place, number, kind, parts, values)
     } else {
-        leaf(alloc, walking, around, scope, place, kind, parts)
+        leaf(alloc, walking, around, scope, place, number, kind, parts)
     }
 }
 
@@ -119,7 +120,7 @@ pub fn made_end(
                 values.as_slice(),
             )
         }
-        Kind::Tuple => Ok(tuple_of(values)),
+        Kind::Tuple => tuple_of(alloc, walking, number, values),
         Kind::Cons(shape) => {
             cons_ended(
                 alloc,
@@ -127,6 +128,7 @@ pub fn made_end(
                 around,
                 shape,
                 place,
+                number,
                 aim,
                 parts,
                 values.as_slice(),
@@ -137,6 +139,7 @@ pub fn made_end(
                 alloc,
                 walking,
                 around,
+                number,
                 *named,
                 fields.as_slice(),
                 parts,
@@ -149,6 +152,7 @@ pub fn made_end(
             around,
             scope,
             place,
+            number,
             kind,
             parts,
             values.as_slice(),

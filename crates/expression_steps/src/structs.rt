@@ -9,7 +9,7 @@ ghost use Rattle.expression_steps.specs.Values as value_spec;
 use crate::aims::{field_aims, part_aims};
 use crate::calls::named_made;
 use crate::filling::any_holed;
-use call_notes::{Aim, wrong_value};
+use call_notes::{Aim, node_ended, wrong_value};
 use expression_forms::fields_of;
 use pattern_leaves::Around;
 use sail_base::{Items, Place};
@@ -45,23 +45,26 @@ pub(crate) fn struct_count(
     Ok(types.len())
 }
 
-/// What is made of the values of these fields. It fails where memory is wanting, and where variables are too many.
+/// What the node of a number makes of the values of these fields, which is noted. It fails where memory is wanting, and where variables are
+/// too many.
+#[tactic(auto, using(value_indices::proofs::Walks::walks))]
 pub(crate) fn struct_made(
     alloc: Global,
     walking: &mut Walking,
     around: &Around<'_>,
+    number: u32,
     named: u32,
     fields: &[u32],
     parts: &[Core],
     values: &[Indices],
 ) -> Result<Indices, AllocError>
-    ensures value { IfOk result (λ made. made ≡ walk.got (value_spec.struct_made (around_of around.now) named fields.now (coded.each_part parts.now)
-        values.now) (walk.seen walking.old)) }
-    ensures walked { OnOk result (walk.seen walking.new ≡ walk.run (value_spec.struct_made (around_of around.now) named fields.now
+    ensures value { IfOk result (λ made. made ≡ walk.got (value_spec.struct_made (around_of around.now) number named fields.now
+        (coded.each_part parts.now) values.now) (walk.seen walking.old)) }
+    ensures walked { OnOk result (walk.seen walking.new ≡ walk.run (value_spec.struct_made (around_of around.now) number named fields.now
         (coded.each_part parts.now) values.now) (walk.seen walking.old)) }
 {
     let types = fields_of(alloc, around, named, fields)?;
-    named_made(
+    let value = named_made(
         alloc,
         walking,
         around,
@@ -70,7 +73,8 @@ pub(crate) fn struct_made(
         &None,
         types.as_slice(),
         values,
-    )
+    )?;
+    node_ended(alloc, walking, number, values, value)
 }
 
 /// What is wanted of new values of fields of these types, by what the variables of their struct stand for.

@@ -1,11 +1,12 @@
 -- Walks one after the other, and what is written down behind them.
-use Rattle.std.proofs.Common.{◌≡◌, ◌∙◌, ap, sym, true, List, [], Result, Ok, Err}
+use Rattle.std.proofs.Common.{◌≡◌, ◌∙◌, ap, sym, Some, true, List, [], Result, Ok, Err}
 use Rattle.std.specs.Prelude.{OnOk}
 use Rattle.sail_types.specs.declared.numbers.Index.{Index}
 use Rattle.sail_types.specs.declared.types.Typ.{Typ}
 use Rattle.sail_core.specs.declared.model.Function.{Function}
 use Rattle.sail_core.specs.declared.tree.Core.{Core}
 use Rattle.sail_core.specs.declared.written.WrittenNumber.{WrittenNumber}
+use Rattle.value_indices.specs.declared.indices.Reading.{Reading}
 use Rattle.value_indices.specs.Steps.{Walk, bind, scoped}
 use Rattle.value_indices.specs.Walking.{Written, got, run, remembering, restored}
 use Rattle.value_indices.proofs.Walks.{got_bind, run_bind, got_scoped, run_scoped}
@@ -15,7 +16,7 @@ use Rattle.call_arguments.specs.declared.aims.Aim.{Aim}
 use Rattle.call_arguments.specs.declared.aims.Aim.TheVariants as Aims
 use Rattle.expression_steps.specs.Statements.{natural_type}
 use Rattle.function_notes.specs.Functions.{own_indices, constrained, inside_function, reading_under, clauses_of}
-use Rattle.function_notes.specs.Functions.{body_walk, measured_walk, function_walk, measure_walk}
+use Rattle.function_notes.specs.Functions.{body_walk, function_clauses, function_walk, last_made, measure_walk, measured_walk}
 
 module _ {A B C : Type 0} (first : Walk A) (second : Walk (Unit {0})) (third : A → Walk B) (last : B → Walk C) where
   abbrev chain : Walk C
@@ -69,16 +70,23 @@ module _ {A C : Type 0} (first : Walk A) (second : Walk (Unit {0})) (last : A �
 module _ (around : Around) (f : Function) (inner : Around) (ts : List Typ) (once : List WrittenNumber) (aim : Aim) (is : List Index) (w v u : Written)
     (gives : is ≡ got (own_indices f.variables) w) (walks : v ≡ run (own_indices f.variables) w) (owes : u ≡ run (constrained f.constraint) v)
     (inside : inner ≡ inside_function around f is) (types : ts ≡ f.parameters) where
-  pub function_end : {A E : Type 0} (r : Result A E) (s : Written) → once ≡ f.numbers → aim ≡ aimed Aims.Due (reading_under f.result is)
-      → OnOk r (s ≡ run (clauses_of inner ts once aim f.is_declared f.body) u) → OnOk r (s ≡ run (function_walk around f) w)
-  function_end (Ok x) s numbers wanted h =
-      plain_run (own_indices f.variables) (constrained f.constraint) (λ (js : List Index). body_walk f (inside_function around f js)) w v u s is
-      gives walks owes (h ∙ (λ j. run (clauses_of (inside j) (types j) (numbers j) (wanted j) f.is_declared f.body) u))
-  function_end (Err e) s numbers wanted h = tt
+  pub function_end : {A E : Type 0} (r : Result A E) (s t : Written) (last : Reading) → once ≡ f.numbers
+      → aim ≡ aimed Aims.Due (reading_under f.result is) → last ≡ reading_under f.result is
+      → s ≡ run (clauses_of (Some f.entry) inner ts once aim f.is_declared f.body) u → OnOk r (t ≡ run (last_made f.last last) s)
+      → OnOk r (t ≡ run (function_walk around f) w)
+  function_end (Ok x) s t last numbers wanted same went h =
+      let within = inside_function around f is in
+      let clauses : s ≡ run (function_clauses f within) u =
+      went ∙ (λ j. run (clauses_of (Some f.entry) (inside j) (types j) (numbers j) (wanted j) f.is_declared f.body) u) in
+      plain_run (own_indices f.variables) (constrained f.constraint) (λ (js : List Index). body_walk f (inside_function around f js)) w v u t is
+      gives walks owes (h
+      ∙ (λ j. run (last_made f.last (same j)) (clauses j))
+      ∙ sym (run_bind (function_clauses f within) (λ y. last_made f.last (reading_under f.result is)) u))
+  function_end (Err e) s t last numbers wanted same went h = tt
 
   pub measure_end : {A E : Type 0} (r : Result A E) (s : Written) (measure : Core) → once ≡ [] → aim ≡ Aims.Due natural_type
-      → OnOk r (s ≡ run (clauses_of inner ts once aim true measure) u) → OnOk r (s ≡ run (measure_walk around f measure) w)
+      → OnOk r (s ≡ run (clauses_of (Some f.entry) inner ts once aim true measure) u) → OnOk r (s ≡ run (measure_walk around f measure) w)
   measure_end (Ok x) s measure numbers wanted h =
       plain_run (own_indices f.variables) (constrained f.constraint) (λ (js : List Index). measured_walk f measure (inside_function around f js)) w v u s is
-      gives walks owes (h ∙ (λ j. run (clauses_of (inside j) (types j) (numbers j) (wanted j) true measure) u))
+      gives walks owes (h ∙ (λ j. run (clauses_of (Some f.entry) (inside j) (types j) (numbers j) (wanted j) true measure) u))
   measure_end (Err e) s measure numbers wanted h = tt

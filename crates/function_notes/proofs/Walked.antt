@@ -1,7 +1,7 @@
 -- Walks over lists of parameters, clauses and definitions: the first, then the others.
 use Rattle.std.proofs.Common.{◌≡◌, ◌∙◌, ap, sym, refl, ℕ, suc, zero, ◌+◌, ◌-◌, ◌<◌, ◌≤◌, List, [], ◌∷◌, ◌++◌, drop, length, get_or, min, arith}
 use Rattle.std.proofs.Common.{append_assoc, append-nil, length-drop, Result, Ok, Err}
-use Rattle.std.specs.Prelude.{Bool, true, false, ◌&&◌, ◌==◌, if◌then◌else◌, OnOk}
+use Rattle.std.specs.Prelude.{Bool, Option, true, false, ◌&&◌, ◌==◌, if◌then◌else◌, OnOk}
 use Rattle.std.proofs.lemmas.Bool.{eqb-true, eqb-false, eq-eqb, ne_eqb}
 use Rattle.sail_base.specs.declared.place.Place.{Place}
 use Rattle.sail_types.specs.declared.numbers.Index.{Index}
@@ -103,29 +103,29 @@ pub not_first : (at : ℕ) (once : List WrittenNumber) → (at ≡ 0 → ⊥) �
 not_first zero once some = absurd (some refl)
 not_first (suc n) once some = refl
 
-module _ (place : Place) (around : Around) (ts : List Typ) (aim : Aim) (declared : Bool) where
+module _ (place : Place) (entry : Option ℕ) (around : Around) (ts : List Typ) (aim : Aim) (declared : Bool) where
   clauses_behind : (at : ℕ) (once : List WrittenNumber) (arms : List Arm) (bodies : List Core)
-      → clauses_walk place around ts [] aim declared arms bodies ≡ clauses_walk place around ts (due_at (at + 1) once) aim declared arms bodies
+      → clauses_walk place entry around ts [] aim declared arms bodies ≡ clauses_walk place entry around ts (due_at (at + 1) once) aim declared arms bodies
   clauses_behind at once arms bodies =
-      let more : suc at ≡ at + 1 = omega arith in ap (λ n. clauses_walk place around ts (due_at n once) aim declared arms bodies) more
+      let more : suc at ≡ at + 1 = omega arith in ap (λ n. clauses_walk place entry around ts (due_at n once) aim declared arms bodies) more
 
   pub clause_walked : (once : List WrittenNumber) (arms : List Arm) (bodies : List Core) (k : ℕ) (arm : Arm) (body : Core) (due : List WrittenNumber)
       (w v : Written) → k < length arms → k < length bodies → arm ≡ get_or arms k arm → body ≡ get_or bodies k body → due ≡ due_at k once
-      → v ≡ run (written_walk place around ts due aim declared arm body) w → (all : Written)
-      → run (clauses_walk place around ts (due_at k once) aim declared (drop k arms) (drop k bodies)) w ≡ all
-      → run (clauses_walk place around ts (due_at (k + 1) once) aim declared (drop (k + 1) arms) (drop (k + 1) bodies)) v ≡ all
+      → v ≡ run (written_walk place entry around ts due aim declared arm body) w → (all : Written)
+      → run (clauses_walk place entry around ts (due_at k once) aim declared (drop k arms) (drop k bodies)) w ≡ all
+      → run (clauses_walk place entry around ts (due_at (k + 1) once) aim declared (drop (k + 1) arms) (drop (k + 1) bodies)) v ≡ all
   clause_walked once arms bodies k arm body due w v p q at_arm at_body owed walked all whole =
-      let rest = clauses_walk place around ts [] aim declared (drop (k + 1) arms) (drop (k + 1) bodies) in
-      let this = written_walk place around ts (due_at k once) aim declared arm body in
+      let rest = clauses_walk place entry around ts [] aim declared (drop (k + 1) arms) (drop (k + 1) bodies) in
+      let this = written_walk place entry around ts (due_at k once) aim declared arm body in
       ap (λ c. run c v) (sym (clauses_behind k once (drop (k + 1) arms) (drop (k + 1) bodies)))
-      ∙ (ap (run rest) (walked ∙ ap (λ d. run (written_walk place around ts d aim declared arm body) w) owed)
+      ∙ (ap (run rest) (walked ∙ ap (λ d. run (written_walk place entry around ts d aim declared arm body) w) owed)
       ∙ (sym (run_bind this (λ i. rest) w)
-      ∙ ((λ j. run (clauses_walk place around ts (due_at k once) aim declared (sym (rest_at arms k arm p at_arm) j)
+      ∙ ((λ j. run (clauses_walk place entry around ts (due_at k once) aim declared (sym (rest_at arms k arm p at_arm) j)
       (sym (rest_at bodies k body q at_body) j)) w)
       ∙ whole)))
 
   none_of_clauses : (once : List WrittenNumber) (arms : List Arm) (bodies : List Core) → min (length arms) (length bodies) ≡ 0
-      → clauses_walk place around ts once aim declared arms bodies
+      → clauses_walk place entry around ts once aim declared arms bodies
       ≡ (if (length arms == 0) && (length bodies == 0) then give tt else wrong place)
   none_of_clauses once [] [] e = refl
   none_of_clauses once [] (b ∷ bs) e = ap (λ (t : Bool). ended place ((0 == 0) && t)) (sym (some_items (length bs)))
@@ -133,7 +133,7 @@ module _ (place : Place) (around : Around) (ts : List Typ) (aim : Aim) (declared
   none_of_clauses once (a ∷ others) (b ∷ bs) e = absurd (omega arith)
 
   pub clauses_end : (once : List WrittenNumber) (arms : List Arm) (bodies : List Core) (k : ℕ) → k ≡ min (length arms) (length bodies) → (w all : Written)
-      → run (clauses_walk place around ts (due_at k once) aim declared (drop k arms) (drop k bodies)) w ≡ all
+      → run (clauses_walk place entry around ts (due_at k once) aim declared (drop k arms) (drop k bodies)) w ≡ all
       → run (if (length arms == k) && (length bodies == k) then give tt else wrong place) w ≡ all
   clauses_end once arms bodies k e w all h =
       let p : k ≤ length arms = omega arith in
@@ -145,7 +145,7 @@ module _ (place : Place) (around : Around) (ts : List Typ) (aim : Aim) (declared
 
   pub arms_end : {A E : Type 0} (once : List WrittenNumber) (arms : List Arm) (bodies : List Core) (k count : ℕ) (t : Bool) (r : Result A E)
       (w v all : Written) → count ≡ min (length arms) (length bodies) → k ≡ count → t ≡ (length arms == count) && (length bodies == count)
-      → run (clauses_walk place around ts (due_at k once) aim declared (drop k arms) (drop k bodies)) w ≡ all
+      → run (clauses_walk place entry around ts (due_at k once) aim declared (drop k arms) (drop k bodies)) w ≡ all
       → OnOk r (v ≡ run (if t then give tt else wrong place) w) → OnOk r (v ≡ all)
   arms_end once arms bodies k count t (Ok x) w v all least at tests whole h =
       let same : t ≡ (length arms == k) && (length bodies == k) = tests ∙ ap (λ (n : ℕ). (length arms == n) && (length bodies == n)) (sym at) in

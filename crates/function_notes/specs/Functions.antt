@@ -23,12 +23,14 @@ use Rattle.sail_core.specs.declared.tree.Kind.{Kind as CoreKind}
 use Rattle.sail_core.specs.declared.tree.Kind.TheVariants as K
 use Rattle.sail_core.specs.declared.written.WrittenNumber.{WrittenNumber}
 use Rattle.value_indices.specs.declared.indices.Indices.{Indices}
+use Rattle.value_indices.specs.declared.indices.Indices.TheVariants as I
 use Rattle.value_indices.specs.declared.indices.Reading.{Reading}
 use Rattle.value_indices.specs.declared.indices.Reading.TheVariants as R
 use Rattle.value_indices.specs.declared.indices.Naming.{Naming}
 use Rattle.value_indices.specs.declared.indices.Naming.TheVariants as M
+use Rattle.value_indices.specs.declared.notes.Made.TheVariants as Makes
 use Rattle.value_indices.specs.Steps.{Walk, bind, give, assume, fresh_named, scoped, wrong, each}
-use Rattle.value_indices.specs.Opening.{opening}
+use Rattle.value_indices.specs.Opening.{opened, opening}
 use Rattle.pattern_leaves.specs.Settings.{Around, exponents_owed}
 use Rattle.pattern_notes.specs.Patterns.{Look, looks, arm_match}
 use Rattle.pattern_notes.specs.declared.matching.Matching.{Matching}
@@ -36,6 +38,7 @@ use Rattle.call_arguments.specs.declared.aims.Aim.{Aim}
 use Rattle.call_arguments.specs.declared.aims.Aim.TheVariants as Aims
 use Rattle.call_arguments.specs.Aims.{aimed}
 use Rattle.call_arguments.specs.Placing.{is_trivial_form}
+use Rattle.call_notes.specs.Noted.{node_made, numbers_noted}
 use Rattle.expression_steps.specs.Parts.{Part}
 use Rattle.expression_steps.specs.Statements.{natural_type}
 use Rattle.expression_steps.specs.Expressions.{part}
@@ -89,8 +92,13 @@ comes_to_written kind = false
 abbrev pub behind_type : Core-F Core → Option Core
 behind_type form = only (comes_to_written form.kind) form.parts
 
+-- it comes to what is wanted of it
+abbrev pub wanted_cast : Core → Option Core → Core
+wanted_cast c (Some a) = roll-Core (record (out-Core c) { kind = K.Cast None; parts = a ∷ [] })
+wanted_cast c None = c
+
 abbrev pub bare_cast : Core → Core
-bare_cast c = unwrap_or (behind_type (out-Core c)) c
+bare_cast c = wanted_cast c (behind_type (out-Core c))
 
 abbrev pub comes_to_result : CoreKind → Bool
 comes_to_result (K.Cast None) = true
@@ -103,6 +111,14 @@ bare_by form None = roll-Core form
 -- where a body comes to the type of the result
 abbrev pub bare_result : Core-F Core → Core
 bare_result form = bare_by form (only (comes_to_result form.kind) form.parts)
+
+-- what stands behind the type that is written before a body
+abbrev pub inside_result : Core → Option Core → Core
+inside_result c None = c
+inside_result c (Some inside) = unwrap_or (behind_type (out-Core inside)) c
+
+abbrev pub unwritten : Core → Core
+unwritten c = inside_result c (only (comes_to_result (out-Core c).kind) (out-Core c).parts)
 
 abbrev pub arm_of : Bool → Arm → Arm
 arm_of declared arm = if declared then arm else bare_arm arm
@@ -133,42 +149,50 @@ parameters_opened ps is [] = give []
 parameters_opened ps is (t ∷ ts) =
     bind (parameter_opened ps is t) (λ i. bind (parameters_opened (other_looks ps) is ts) (λ more. give (i ∷ more)))
 
+-- with the numbers that they give, which the entry of a function notes; a direction has none
+abbrev pub entered_at : Option ℕ → List Indices → Walk (Unit {0})
+entered_at None is = give tt
+entered_at (Some k) is = numbers_noted k (I.Tuple is)
+
+abbrev pub parameters_entered : Option ℕ → List Look → List Index → List Typ → Walk (List Indices)
+parameters_entered entry ps is ts = bind (parameters_opened ps is ts) (λ found. bind (entered_at entry found) (λ t. give found))
+
 -- in a function's clause no type is owed already, and integer literals make nothing known
 abbrev pub in_clause : Matching
 in_clause = record { in_case = false; is_owed = false }
 
 -- one clause: its parameters, the exponents that are owed once they are opened, its patterns, and its body
-abbrev pub clause_walk : Place → Around → List Typ → List WrittenNumber → Aim → Arm → Part → Walk Indices
-clause_walk place around ts once aim arm body =
-    scoped (bind (parameters_opened (looks arm) around.numbers ts) (λ is.
+abbrev pub clause_walk : Place → Option ℕ → Around → List Typ → List WrittenNumber → Aim → Arm → Part → Walk Indices
+clause_walk place entry around ts once aim arm body =
+    scoped (bind (parameters_entered entry (looks arm) around.numbers ts) (λ is.
     bind (exponents_owed around once) (λ t.
     bind (arm_match place arm around in_clause is) (λ found. body.walk around found aim))))
 
-abbrev pub written_walk : Place → Around → List Typ → List WrittenNumber → Aim → Bool → Arm → Core → Walk Indices
-written_walk place around ts once aim declared arm body =
-    clause_walk place around ts once aim (arm_of declared arm) (part (body_of declared body))
+abbrev pub written_walk : Place → Option ℕ → Around → List Typ → List WrittenNumber → Aim → Bool → Arm → Core → Walk Indices
+written_walk place entry around ts once aim declared arm body =
+    clause_walk place entry around ts once aim (arm_of declared arm) (part (body_of declared body))
 
 -- exponents are owed in the first clause alone
-abbrev pub clauses_walk : Place → Around → List Typ → List WrittenNumber → Aim → Bool → List Arm → List Core → Walk (Unit {0})
-clauses_walk place around ts once aim declared [] [] = give tt
-clauses_walk place around ts once aim declared (arm ∷ arms) (body ∷ bodies) =
-    bind (written_walk place around ts once aim declared arm body) (λ i. clauses_walk place around ts [] aim declared arms bodies)
-clauses_walk place around ts once aim declared arms bodies = wrong place
+abbrev pub clauses_walk : Place → Option ℕ → Around → List Typ → List WrittenNumber → Aim → Bool → List Arm → List Core → Walk (Unit {0})
+clauses_walk place entry around ts once aim declared [] [] = give tt
+clauses_walk place entry around ts once aim declared (arm ∷ arms) (body ∷ bodies) =
+    bind (written_walk place entry around ts once aim declared arm body) (λ i. clauses_walk place entry around ts [] aim declared arms bodies)
+clauses_walk place entry around ts once aim declared arms bodies = wrong place
 
 -- what the clause at a place owes of it
 abbrev pub due_at : ℕ → List WrittenNumber → List WrittenNumber
 due_at zero once = once
 due_at (suc n) once = []
 
-abbrev pub kind_clauses : Place → Around → List Typ → List WrittenNumber → Aim → Bool → CoreKind → List Core → Walk (Unit {0})
-kind_clauses place around ts once aim declared (K.Clauses arms) bodies = clauses_walk place around ts once aim declared arms bodies
-kind_clauses place around ts once aim declared kind bodies = wrong place
+abbrev pub kind_clauses : Place → Option ℕ → Around → List Typ → List WrittenNumber → Aim → Bool → CoreKind → List Core → Walk (Unit {0})
+kind_clauses place entry around ts once aim declared (K.Clauses arms) bodies = clauses_walk place entry around ts once aim declared arms bodies
+kind_clauses place entry around ts once aim declared kind bodies = wrong place
 
-abbrev pub form_clauses : Around → List Typ → List WrittenNumber → Aim → Bool → Core-F Core → Walk (Unit {0})
-form_clauses around ts once aim declared c = kind_clauses c.place around ts once aim declared c.kind c.parts
+abbrev pub form_clauses : Option ℕ → Around → List Typ → List WrittenNumber → Aim → Bool → Core-F Core → Walk (Unit {0})
+form_clauses entry around ts once aim declared c = kind_clauses c.place entry around ts once aim declared c.kind c.parts
 
-abbrev pub clauses_of : Around → List Typ → List WrittenNumber → Aim → Bool → Core → Walk (Unit {0})
-clauses_of around ts once aim declared core = form_clauses around ts once aim declared (out-Core core)
+abbrev pub clauses_of : Option ℕ → Around → List Typ → List WrittenNumber → Aim → Bool → Core → Walk (Unit {0})
+clauses_of entry around ts once aim declared core = form_clauses entry around ts once aim declared (out-Core core)
 
 -- ---- functions and measures
 
@@ -179,15 +203,25 @@ abbrev pub in_function : Around → Function → (Around → Walk (Unit {0})) �
 in_function around f inner =
     bind (own_indices f.variables) (λ is. bind (constrained f.constraint) (λ t. inner (inside_function around f is)))
 
+-- what the clauses give comes to the type of the result: the last of a function's numbers makes it
+abbrev pub last_of : ℕ → Reading → Indices → Walk (Unit {0})
+last_of k r i = bind (node_made k (i ∷ []) (Makes.ByType r)) (λ t. numbers_noted k i)
+
+abbrev pub last_made : ℕ → Reading → Walk (Unit {0})
+last_made k r = bind (opened r) (last_of k r)
+
+abbrev pub function_clauses : Function → Around → Walk (Unit {0})
+function_clauses f inner =
+    clauses_of (Some f.entry) inner f.parameters f.numbers (aimed Aims.Due (R.Of f.result inner.numbers [])) f.is_declared f.body
+
 abbrev pub body_walk : Function → Around → Walk (Unit {0})
-body_walk f inner =
-    clauses_of inner f.parameters f.numbers (aimed Aims.Due (R.Of f.result inner.numbers [])) f.is_declared f.body
+body_walk f inner = bind (function_clauses f inner) (λ t. last_made f.last (R.Of f.result inner.numbers []))
 
 abbrev pub function_walk : Around → Function → Walk (Unit {0})
 function_walk around f = in_function around f (body_walk f)
 
 abbrev pub measured_walk : Function → Core → Around → Walk (Unit {0})
-measured_walk f measure inner = clauses_of inner f.parameters [] (Aims.Due natural_type) true measure
+measured_walk f measure inner = clauses_of (Some f.entry) inner f.parameters [] (Aims.Due natural_type) true measure
 
 abbrev pub measure_walk : Around → Function → Core → Walk (Unit {0})
 measure_walk around f measure = in_function around f (measured_walk f measure)
@@ -195,7 +229,8 @@ measure_walk around f measure = in_function around f (measured_walk f measure)
 -- ---- mappings: each clause forwards and then backwards
 
 abbrev pub direction_walk : Place → Around → Direction → Arm → Core → Walk Indices
-direction_walk place around m arm body = clause_walk place around (m.parameter ∷ []) [] (aimed Aims.Due (R.Of m.result [] [])) arm (part body)
+direction_walk place around m arm body =
+    clause_walk place None around (m.parameter ∷ []) [] (aimed Aims.Due (R.Of m.result [] [])) arm (part body)
 
 abbrev pub both_walk : Place → Around → Direction → Direction → List Arm → List Core → List Arm → List Core → Walk (Unit {0})
 both_walk place around m n [] [] [] [] = give tt

@@ -206,23 +206,13 @@ fn only(parts: &[Core]) -> Option<&Core>
 }
 
 /// What stands behind a written type; none where a node isn't of that kind.
-fn behind_type(core: &Core) -> Option<&Core>
+pub(crate) fn behind_type(core: &Core) -> Option<&Core>
     ensures { option_copied result ≡ spec.behind_type (out-Core core.now) }
 {
     if comes_to_written(&core.kind) {
         only(core.parts.as_slice())
     } else {
         None
-    }
-}
-
-/// A body behind the type that is written before it, if there is one.
-pub fn inside_cast(core: &Core) -> &Core
-    ensures { result.now ≡ spec.bare_cast core.now }
-{
-    match behind_type(core) {
-        Some(part) => part,
-        None => core,
     }
 }
 
@@ -234,5 +224,18 @@ pub fn behind_result(core: &Core) -> Option<&Core>
         only(core.parts.as_slice())
     } else {
         None
+    }
+}
+
+/// What stands behind the type that is written before a body; where none is, the body.
+pub fn unwritten(core: &Core) -> &Core
+    ensures { result.now ≡ spec.unwritten core.now }
+{
+    match behind_result(core) {
+        None => core,
+        Some(inside) => match behind_type(inside) {
+            None => core,
+            Some(part) => part,
+        },
     }
 }

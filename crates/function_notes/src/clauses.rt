@@ -1,6 +1,7 @@
 //! Clauses of functions, measures and mappings.
-ghost use Rattle.std.specs.Prelude.{◌≡◌, ◌==◌, ◌&&◌, IfOk, OnOk, map, min, if◌then◌else◌};
+ghost use Rattle.std.specs.Prelude.{◌≡◌, ◌==◌, ◌&&◌, Some, IfOk, OnOk, map, min, if◌then◌else◌};
 ghost use Rattle.pattern_leaves.specs.Settings.{around_of};
+ghost use Rattle.expression_forms.specs.Scopes.{scope_of};
 ghost use Rattle.pattern_notes.specs.Patterns.{look, nested};
 ghost use Rattle.value_indices.specs.Steps.{give, wrong};
 ghost use Rattle.value_indices.specs.Walking as walk;
@@ -8,9 +9,10 @@ ghost use Rattle.expression_steps.specs.Expressions.{part};
 ghost use Rattle.expression_steps.specs.Parts as parts;
 ghost use Rattle.function_notes.specs.Functions as spec;
 
-use crate::bare::{bare_arm, behind_result, inside_cast};
+use crate::bare::{bare_arm, behind_result, behind_type};
 use call_arguments::Aim;
-use expression_forms::{Scope, made_at};
+use call_notes::note_numbers;
+use expression_forms::{Scope, cast_given};
 use expression_notes::walk_expression;
 use pattern_leaves::{Around, Bound, owe_exponents};
 use pattern_notes::{Matching, match_arm, naming_of};
@@ -19,13 +21,15 @@ use sail_core::{Arm, Core, Kind, Pattern, WrittenNumber};
 use sail_types::{Index, Typ};
 use std::alloc::{AllocError, Global};
 use type_arguments::{copy_indices, copy_typ};
-use value_indices::{Indices, Naming, Reading, Walking, open_reading};
+use value_indices::{Indices, Naming, Reading, Walking, copy_each, open_reading};
 
 /// What the clauses of a definition have in common.
 #[derive(Clone, Copy)]
 pub struct Common<'a> {
     /// Where the definition's clauses stand.
     pub place: Place,
+    /// The number of the entry of the function, where its parameters are noted; a direction has none.
+    pub entry: Option<u32>,
     /// The types of their parameters.
     pub types: &'a [Typ],
     /// What is wanted of their bodies.
@@ -107,6 +111,70 @@ fn open_parameters(
     Ok(made)
 }
 
+/// Parameters that are opened: the entry of a function notes the numbers that they give. It fails where memory is wanting.
+fn enter(
+    alloc: Global,
+    walking: &mut Walking,
+    entry: Option<u32>,
+    values: &[Indices],
+) -> Result<(), AllocError>
+    ensures { OnOk result (walk.seen walking.new ≡ walk.run (spec.entered_at entry values.now) (walk.seen walking.old)) }
+{
+    match entry {
+        None => Ok(()),
+        Some(entry) => {
+            let parameters = Indices::Tuple(copy_each(alloc, values)?);
+            note_numbers(alloc, walking, entry, &parameters)
+        }
+    }
+}
+
+/// Parameters of these types, each opened for its pattern, with the numbers that they give. It fails where memory is wanting, and where
+/// variables are too many.
+#[tactic(auto, using(value_indices::proofs::Walks::walks))]
+fn enter_parameters(
+    alloc: Global,
+    walking: &mut Walking,
+    entry: Option<u32>,
+    numbers: &[Index],
+    patterns: &[Pattern],
+    types: &[Typ],
+) -> Result<Items<Indices>, AllocError>
+    ensures value { IfOk result (λ made. made ≡ walk.got (spec.parameters_entered entry (map look patterns.now) numbers.now types.now)
+        (walk.seen walking.old)) }
+    ensures walked { OnOk result (walk.seen walking.new ≡ walk.run (spec.parameters_entered entry (map look patterns.now) numbers.now types.now)
+        (walk.seen walking.old)) }
+{
+    let values = open_parameters(alloc, walking, numbers, patterns, types)?;
+    enter(alloc, walking, entry, values.as_slice())?;
+    Ok(values)
+}
+
+/// A body without the type that is written before it: what stands behind that comes to what is wanted. It fails where memory is wanting, and
+/// where variables are too many.
+#[tactic(auto, using(value_indices::proofs::Walks::walks))]
+fn walk_behind(
+    alloc: Global,
+    walking: &mut Walking,
+    around: &Around<'_>,
+    scope: &Scope<'_>,
+    aim: &Aim,
+    body: &Core,
+) -> Result<Indices, AllocError>
+    ensures value { IfOk result (λ made. made ≡ walk.got (parts.Part.walk (part (spec.bare_cast body.now)) (around_of around.now)
+        (scope_of scope.now) aim.now) (walk.seen walking.old)) }
+    ensures walked { OnOk result (walk.seen walking.new ≡ walk.run (parts.Part.walk (part (spec.bare_cast body.now)) (around_of around.now)
+        (scope_of scope.now) aim.now) (walk.seen walking.old)) }
+{
+    match behind_type(body) {
+        Some(core) => {
+            let value = walk_expression(alloc, walking, around, scope, core, aim)?;
+            cast_given(alloc, walking, body.number, aim, value)
+        }
+        None => walk_expression(alloc, walking, around, scope, body, aim),
+    }
+}
+
 /// A body, where these names are in scope: of a clause that no `val` declares without the type that is written before it. It fails where
 /// memory is wanting, and where variables are too many.
 #[tactic(auto, using(value_indices::proofs::Walks::walks))]
@@ -130,15 +198,8 @@ fn walk_body(
     }
     match behind_result(body) {
         Some(inside) => {
-            let value = walk_expression(
-                alloc,
-                walking,
-                around,
-                &scope,
-                inside_cast(inside),
-                common.aim,
-            )?;
-            made_at(alloc, walking, body.number, value)
+            let value = walk_behind(alloc, walking, around, &scope, common.aim, inside)?;
+            cast_given(alloc, walking, body.number, common.aim, value)
         }
         None => walk_expression(alloc, walking, around, &scope, body, common.aim),
     }
@@ -154,15 +215,16 @@ pub fn walk_clause(
     arm: &Arm,
     body: &Core,
 ) -> Result<Indices, AllocError>
-    ensures value { IfOk result (λ made. made ≡ walk.got (spec.clause_walk common.now.place (around_of around.now) common.now.types.now once.now
-        common.now.aim.now arm.now (part (spec.body_of common.now.is_declared body.now))) (walk.seen walking.old)) }
-    ensures walked { OnOk result (walk.seen walking.new ≡ walk.run (spec.clause_walk common.now.place (around_of around.now) common.now.types.now
+    ensures value { IfOk result (λ made. made ≡ walk.got (spec.clause_walk common.now.place common.now.entry (around_of around.now) common.now.types.now
         once.now common.now.aim.now arm.now (part (spec.body_of common.now.is_declared body.now))) (walk.seen walking.old)) }
+    ensures walked { OnOk result (walk.seen walking.new ≡ walk.run (spec.clause_walk common.now.place common.now.entry (around_of around.now)
+        common.now.types.now once.now common.now.aim.now arm.now (part (spec.body_of common.now.is_declared body.now))) (walk.seen walking.old)) }
 {
     walking.remember()?;
-    let values = open_parameters(
+    let values = enter_parameters(
         alloc,
         walking,
+        common.entry,
         around.numbers,
         patterns_of(arm),
         common.types,
@@ -197,10 +259,10 @@ pub fn walk_written(
     arm: &Arm,
     body: &Core,
 ) -> Result<Indices, AllocError>
-    ensures value { IfOk result (λ made. made ≡ walk.got (spec.written_walk common.now.place (around_of around.now) common.now.types.now once.now
-        common.now.aim.now common.now.is_declared arm.now body.now) (walk.seen walking.old)) }
-    ensures walked { OnOk result (walk.seen walking.new ≡ walk.run (spec.written_walk common.now.place (around_of around.now) common.now.types.now
-        once.now common.now.aim.now common.now.is_declared arm.now body.now) (walk.seen walking.old)) }
+    ensures value { IfOk result (λ made. made ≡ walk.got (spec.written_walk common.now.place common.now.entry (around_of around.now)
+        common.now.types.now once.now common.now.aim.now common.now.is_declared arm.now body.now) (walk.seen walking.old)) }
+    ensures walked { OnOk result (walk.seen walking.new ≡ walk.run (spec.written_walk common.now.place common.now.entry (around_of around.now)
+        common.now.types.now once.now common.now.aim.now common.now.is_declared arm.now body.now) (walk.seen walking.old)) }
 {
     if common.is_declared {
         return walk_clause(alloc, walking, around, common, once, arm, body);
@@ -262,8 +324,8 @@ fn walk_arms(
     arms: &[Arm],
     bodies: &[Core],
 ) -> Result<(), AllocError>
-    ensures { OnOk result (walk.seen walking.new ≡ walk.run (spec.clauses_walk common.now.place (around_of around.now) common.now.types.now
-        once.now common.now.aim.now common.now.is_declared arms.now bodies.now) (walk.seen walking.old)) }
+    ensures { OnOk result (walk.seen walking.new ≡ walk.run (spec.clauses_walk common.now.place common.now.entry (around_of around.now)
+        common.now.types.now once.now common.now.aim.now common.now.is_declared arms.now bodies.now) (walk.seen walking.old)) }
 {
     let count = lesser(arms.len(), bodies.len());
     for at in 0..count {
@@ -280,6 +342,7 @@ fn walk_arms(
 pub fn walk_clauses(
     alloc: Global,
     walking: &mut Walking,
+    entry: u32,
     around: &Around<'_>,
     types: &[Typ],
     once: &[WrittenNumber],
@@ -287,11 +350,12 @@ pub fn walk_clauses(
     is_declared: bool,
     core: &Core,
 ) -> Result<(), AllocError>
-    ensures { OnOk result (walk.seen walking.new ≡ walk.run (spec.clauses_of (around_of around.now) types.now once.now aim.now is_declared core.now)
-        (walk.seen walking.old)) }
+    ensures { OnOk result (walk.seen walking.new ≡ walk.run (spec.clauses_of (Some entry) (around_of around.now) types.now once.now aim.now is_declared
+        core.now) (walk.seen walking.old)) }
 {
     let common = Common {
         place: core.place,
+        entry: Some(entry),
         types,
         aim,
         is_declared,

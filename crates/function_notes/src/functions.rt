@@ -8,6 +8,7 @@ ghost use Rattle.function_notes.specs.Functions as spec;
 
 use crate::clauses::walk_clauses;
 use call_arguments::Aim;
+use call_notes::{made_by_type, note_numbers};
 use expression_steps::natural_aim;
 use model_state::Register;
 use pattern_leaves::{Around, TopLevel};
@@ -16,7 +17,7 @@ use sail_core::{Core, Direction, Function};
 use sail_types::{Con, Index, Num, Parameter, Typ, Types, copy_con};
 use std::alloc::{AllocError, Global};
 use type_arguments::{copy_indices, copy_typ};
-use value_indices::{Reading, Walking};
+use value_indices::{Naming, Reading, Walking, open_reading};
 
 /// What a type variable of this kind and number stands for: itself. It fails where memory is wanting.
 fn variable_index(alloc: Global, kind: Kind, variable: u32) -> Result<Index, AllocError>
@@ -118,6 +119,28 @@ pub fn inside<'a>(
     }
 }
 
+/// What the clauses of a function give comes to the type of its result, as the node of the last of its numbers makes it, which is noted. It
+/// fails where memory is wanting, and where variables are too many.
+#[tactic(auto, using(value_indices::proofs::Walks::walks))]
+pub fn make_last(
+    alloc: Global,
+    walking: &mut Walking,
+    number: u32,
+    reading: &Reading,
+) -> Result<(), AllocError>
+    ensures { OnOk result (walk.seen walking.new ≡ walk.run (spec.last_made number reading.now) (walk.seen walking.old)) }
+{
+    let value = open_reading(alloc, walking, reading, false, &Naming::Unnamed)?;
+    made_by_type(
+        alloc,
+        walking,
+        number,
+        std::slice::from_ref(&value),
+        reading,
+    )?;
+    note_numbers(alloc, walking, number, &value)
+}
+
 /// A function. The one error is want of memory, also of numbers for variables.
 #[tactic(auto, using(value_indices::proofs::Walks::walks))]
 pub fn walk_function(
@@ -145,13 +168,15 @@ pub fn walk_function(
     walk_clauses(
         alloc,
         walking,
+        function.entry,
         &inner,
         function.parameters.as_slice(),
         function.numbers.as_slice(),
         &aim,
         function.is_declared,
         &function.body,
-    )
+    )?;
+    make_last(alloc, walking, function.last, &answer)
 }
 
 /// A function's measure. The one error is want of memory, also of numbers for variables.
@@ -183,6 +208,7 @@ pub fn walk_measure(
     walk_clauses(
         alloc,
         walking,
+        function.entry,
         &inner,
         function.parameters.as_slice(),
         &[],

@@ -8,7 +8,9 @@ mod clauses;
 mod functions;
 mod mappings;
 
-pub use bare::bare_arm;
+pub use bare::{bare_arm, unwritten};
 pub use clauses::{Common, lesser, walk_written};
-pub use functions::{constrain, inside, own_indices, reading_of, walk_function, walk_measure};
+pub use functions::{
+    constrain, inside, make_last, own_indices, reading_of, walk_function, walk_measure,
+};
 pub use mappings::walk_mapping;

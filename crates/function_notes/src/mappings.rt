@@ -41,6 +41,7 @@ fn walk_direction(
     types.push(copy_typ(alloc, &direction.parameter)?)?;
     let common = Common {
         place,
+        entry: None,
         types: types.as_slice(),
         aim: &aim,
         is_declared: true,

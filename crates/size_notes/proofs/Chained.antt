@@ -1,5 +1,5 @@
 -- Walks of a body one after the other, and bodies in lists.
-use Rattle.std.proofs.Common.{◌≡◌, ◌∙◌, ap, sym, refl, ℕ, ◌+◌, ◌<◌, ◌≤◌, List, [], ◌∷◌, ◌++◌, drop, length, get_or, map, true, arith}
+use Rattle.std.proofs.Common.{◌≡◌, ◌∙◌, ap, sym, refl, ℕ, ◌+◌, ◌<◌, ◌≤◌, List, [], ◌∷◌, ◌++◌, drop, length, get_or, map, subst, true, Some, arith}
 use Rattle.std.proofs.Common.{append_assoc, append-nil, length-drop, Result, Ok, Err}
 use Rattle.std.specs.Prelude.{OnOk, IfOk}
 use Rattle.std.proofs.lemmas.List.{map-append}
@@ -8,7 +8,8 @@ use Rattle.sail_types.specs.declared.table.Parameter.{Parameter}
 use Rattle.sail_types.specs.declared.types.Typ.{Typ}
 use Rattle.sail_core.specs.declared.model.Direction.{Direction}
 use Rattle.sail_core.specs.declared.model.Function.{Function}
-use Rattle.sail_core.specs.declared.tree.Core.{Core}
+use Rattle.sail_core.specs.declared.tree.Core.{Core, out-Core}
+use Rattle.value_indices.specs.declared.indices.Reading.{Reading}
 use Rattle.value_indices.specs.Steps.{Walk, bind}
 use Rattle.value_indices.specs.Walking.{Written, begun, run, got, remembering, restored}
 use Rattle.value_indices.proofs.Walks.{run_bind}
@@ -22,9 +23,10 @@ use Rattle.function_notes.specs.Functions.{inside_function, own_indices, reading
 use Rattle.size_splits.specs.declared.bodies.BodySteps.{BodySteps}
 use Rattle.size_splits.specs.Bodies.{Body, body_read}
 use Rattle.size_notes.specs.declared.behind.Behind.{Behind}
-use Rattle.size_notes.specs.Bodies.{alone, body_of, clauses_read, declared_read, mapping_bodies, mapping_read, measured_read}
-use Rattle.size_notes.specs.Reading.{with_alone, body_seen}
-use Rattle.size_notes.proofs.Walked.{run_alone, whole_body}
+use Rattle.size_notes.specs.Bodies.{alone, body_of, clauses_read, declared_read, function_arms, kind_arms, last_read, mapping_bodies, mapping_read}
+use Rattle.size_notes.specs.Bodies.{measured_read}
+use Rattle.size_notes.specs.Reading.{IsAtRest, body_seen, with_alone}
+use Rattle.size_notes.proofs.Walked.{arms_rest, run_alone, whole_body}
 
 -- ---- a walk of its own behind others
 
@@ -46,14 +48,31 @@ opening_end bs found walk w v new start walked same h =
 
 module _ (around : Around) (f : Function) (is : List Index) (inner : Around) (ts : List Typ) (aim : Aim) (w s : Written)
     (inside : inner ≡ inside_function around f is) (types : ts ≡ f.parameters) where
-  pub declared_end : {A E : Type 0} (r : Result A E) → aim ≡ aimed Aims.Due (reading_under f.result is)
-      → OnOk r (s ≡ run (clauses_read f.constraint inner ts aim f.is_declared f.body) w) → OnOk r (s ≡ run (declared_read around f is) w)
-  declared_end (Ok x) wanted h = h ∙ (λ j. run (clauses_read f.constraint (inside j) (types j) (wanted j) f.is_declared f.body) w)
-  declared_end (Err e) wanted h = tt
+  arms_are : aim ≡ aimed Aims.Due (reading_under f.result is)
+      → s ≡ run (clauses_read f.constraint (Some f.entry) inner ts aim f.is_declared f.body) w → s ≡ run (function_arms around f is) w
+  arms_are wanted h = h ∙ (λ j. run (clauses_read f.constraint (Some f.entry) (inside j) (types j) (wanted j) f.is_declared f.body) w)
+
+  -- behind the clauses nothing is in force
+  pub arms_end : aim ≡ aimed Aims.Due (reading_under f.result is)
+      → s ≡ run (clauses_read f.constraint (Some f.entry) inner ts aim f.is_declared f.body) w → IsAtRest w → IsAtRest s
+  arms_end wanted h rest =
+      subst (λ (v : Written). IsAtRest v) (sym (arms_are wanted h))
+      (arms_rest f.constraint (out-Core f.body).place (Some f.entry) (inside_function around f is) f.parameters
+      (aimed Aims.Due (reading_under f.result is)) f.is_declared (kind_arms (out-Core f.body).kind) (out-Core f.body).parts w rest)
+
+  pub declared_end : {A E : Type 0} (r : Result A E) (t : Written) (answer : Reading) → aim ≡ aimed Aims.Due (reading_under f.result is)
+      → answer ≡ reading_under f.result is → s ≡ run (clauses_read f.constraint (Some f.entry) inner ts aim f.is_declared f.body) w
+      → OnOk r (t ≡ run (last_read f.constraint f.last answer) s) → OnOk r (t ≡ run (declared_read around f is) w)
+  declared_end (Ok x) t answer wanted same went h =
+      h
+      ∙ ((λ j. run (last_read f.constraint f.last (same j)) (arms_are wanted went j))
+      ∙ sym (run_bind (function_arms around f is) (λ y. last_read f.constraint f.last (reading_under f.result is)) w))
+  declared_end (Err e) t answer wanted same went h = tt
 
   pub measured_end : {A E : Type 0} (r : Result A E) (measure : Core) → aim ≡ Aims.Due natural_type
-      → OnOk r (s ≡ run (clauses_read f.constraint inner ts aim true measure) w) → OnOk r (s ≡ run (measured_read around f measure is) w)
-  measured_end (Ok x) measure wanted h = h ∙ (λ j. run (clauses_read f.constraint (inside j) (types j) (wanted j) true measure) w)
+      → OnOk r (s ≡ run (clauses_read f.constraint (Some f.entry) inner ts aim true measure) w) → OnOk r (s ≡ run (measured_read around f measure is) w)
+  measured_end (Ok x) measure wanted h =
+      h ∙ (λ j. run (clauses_read f.constraint (Some f.entry) (inside j) (types j) (wanted j) true measure) w)
   measured_end (Err e) measure wanted h = tt
 
 -- a definition, from its type variables on

@@ -1,7 +1,9 @@
 -- Walks of their own behind others, and walks over two lists at once.
-use Rattle.std.proofs.Common.{◌≡◌, ◌∙◌, ap, sym, refl, ℕ, suc, ◌+◌, ◌-◌, ◌<◌, List, [], ◌∷◌, drop, length, get_or, min, arith, length-drop}
+use Rattle.std.proofs.Common.{Bool, Option, subst, ◌≡◌, ◌∙◌, ap, sym, refl, ℕ, suc, ◌+◌, ◌-◌, ◌<◌, List, [], ◌∷◌, drop, length, get_or, min, arith, length-drop}
 use Rattle.sail_base.specs.declared.place.Place.{Place}
+use Rattle.sail_types.specs.declared.numbers.Con.{Con}
 use Rattle.sail_types.specs.declared.table.Parameter.{Parameter}
+use Rattle.sail_types.specs.declared.types.Typ.{Typ}
 use Rattle.sail_core.specs.declared.model.Direction.{Direction}
 use Rattle.sail_core.specs.declared.patterns.Arm.{Arm}
 use Rattle.sail_core.specs.declared.tree.Core.{Core}
@@ -14,12 +16,14 @@ use Rattle.value_indices.specs.Steps.{Walk, bind, give, fresh_named, note, size_
 use Rattle.value_indices.specs.Walking.{Written, begun, run, seen, remembering, restored, counted_from, steps_read}
 use Rattle.value_indices.proofs.Walks.{run_bind, run_give}
 use Rattle.pattern_leaves.specs.Settings.{Around}
+use Rattle.call_arguments.specs.declared.aims.Aim.{Aim}
 use Rattle.function_notes.proofs.Lists.{rest_at}
 use Rattle.function_notes.specs.Functions.{own_indices}
 use Rattle.constraint_gen.specs.Obligations.{names_of}
 use Rattle.size_notes.specs.declared.behind.Behind.{Behind}
 use Rattle.size_notes.specs.declared.written.WrittenSize.{WrittenSize}
-use Rattle.size_notes.specs.Bodies.{alone, beforehand, body_of, both_read, sizes_read, way_read}
+use Rattle.size_notes.specs.Behind.{found_in, node_of}
+use Rattle.size_notes.specs.Bodies.{alone, arms_read, beforehand, body_of, both_read, clause_inside, clause_read, sized_body, sizes_read, way_read}
 use Rattle.size_notes.specs.Reading.{IsAtRest, with_alone, body_seen}
 
 -- ---- what stays of a walk
@@ -59,6 +63,18 @@ ended_rest walk n = record { facts = refl; remembered = refl }
 pub alone_rest : {A : Type 0} (bs : List Behind) (walk : Walk A) (w : Written) → IsAtRest w → IsAtRest (run (alone bs walk) w)
 unfolding run alone
 alone_rest bs walk w rest = record { facts = rest.facts; remembered = rest.remembered }
+
+-- behind clauses
+pub arms_rest : (con : Con) (place : Place) (entry : Option ℕ) (around : Around) (ts : List Typ) (aim : Aim) (declared : Bool) (arms : List Arm)
+    (cs : List Core) (w : Written) → IsAtRest w → IsAtRest (run (arms_read con place entry around ts aim declared arms cs) w)
+arms_rest con place entry around ts aim declared [] cs w rest = subst (λ (v : Written). IsAtRest v) (sym (run_give tt w)) rest
+arms_rest con place entry around ts aim declared (arm ∷ arms) [] w rest = subst (λ (v : Written). IsAtRest v) (sym (run_give tt w)) rest
+arms_rest con place entry around ts aim declared (arm ∷ arms) (c ∷ cs) w rest =
+    let first = clause_read con place entry around ts aim declared arm c in
+    let own = alone_rest (found_in (node_of around.numbers (sized_body declared c)))
+    (clause_inside con place entry around ts aim declared arm c) w rest in
+    subst (λ (v : Written). IsAtRest v) (sym (run_bind first (λ t. arms_read con place entry around ts aim declared arms cs) w))
+    (arms_rest con place entry around ts aim declared arms cs (run first w) own)
 
 own_facts : (ps : List Parameter) (facts : List Fact) (n : ℕ) → (own_indices ps facts n).facts ≡ facts
 unfolding bind give fresh_named

@@ -1,5 +1,5 @@
 //! Clauses, each a walk of its own.
-ghost use Rattle.std.specs.Prelude.{◌≡◌, IfOk, OnOk};
+ghost use Rattle.std.specs.Prelude.{◌≡◌, Some, IfOk, OnOk};
 ghost use Rattle.value_indices.specs.Walking as walk;
 ghost use Rattle.pattern_leaves.specs.Settings.{around_of};
 ghost use Rattle.size_notes.specs.Bodies as spec;
@@ -9,13 +9,13 @@ use crate::behind::push_core;
 use crate::parameters::read_beforehand;
 use crate::steps::append_alone;
 use call_arguments::Aim;
-use function_notes::{Common, constrain, lesser, walk_written};
+use function_notes::{Common, constrain, lesser, make_last, unwritten, walk_written};
 use pattern_leaves::Around;
 use sail_base::Items;
 use sail_core::{Arm, Core, Kind};
 use sail_types::{Con, Typ};
 use std::alloc::{AllocError, Global};
-use value_indices::Walking;
+use value_indices::{Reading, Walking};
 
 /// A clause under the constraint of its function: the types of its parameters, then its walk. It fails where memory is wanting, and where
 /// variables are too many.
@@ -29,7 +29,7 @@ fn walk_inside(
     arm: &Arm,
     core: &Core,
 ) -> Result<(), AllocError>
-    ensures { OnOk result (walk.seen walking.new ≡ walk.run (spec.clause_inside constraint.now common.now.place (around_of around.now)
+    ensures { OnOk result (walk.seen walking.new ≡ walk.run (spec.clause_inside constraint.now common.now.place common.now.entry (around_of around.now)
         common.now.types.now common.now.aim.now common.now.is_declared arm.now core.now) (walk.seen walking.old)) }
 {
     constrain(alloc, walking, constraint)?;
@@ -57,13 +57,21 @@ fn walk_alone(
     core: &Core,
 ) -> Result<Walking, AllocError>
     ensures { IfOk result (λ inner. walk.seen inner ≡ walk.restored (walk.run (spec.clause_inside constraint.now common.now.place
-        (around_of around.now) common.now.types.now common.now.aim.now common.now.is_declared arm.now core.now) (walk.remembering (walk.begun next)))) }
+        common.now.entry (around_of around.now) common.now.types.now common.now.aim.now common.now.is_declared arm.now core.now)
+        (walk.remembering (walk.begun next)))) }
 {
     let mut inner = Walking::new(alloc, next);
     inner.remember()?;
     walk_inside(alloc, &mut inner, around, common, constraint, arm, core)?;
     inner.restore()?;
     Ok(inner)
+}
+
+/// A body as its types are read: of what no `val` declares, the one before it is of no matter.
+fn sized_body(is_declared: bool, core: &Core) -> &Core
+    ensures { result.now ≡ spec.sized_body is_declared core.now }
+{
+    if is_declared { core } else { unwritten(core) }
 }
 
 /// What is read of a clause. It fails where memory is wanting, and where variables are too many.
@@ -77,12 +85,13 @@ pub fn read_clause(
     core: &Core,
 ) -> Result<(), AllocError>
     requires { IsAtRest (walk.seen body.old) }
-    ensures { OnOk result (walk.seen body.new ≡ walk.run (spec.clause_read constraint.now common.now.place (around_of around.now)
+    ensures { OnOk result (walk.seen body.new ≡ walk.run (spec.clause_read constraint.now common.now.place common.now.entry (around_of around.now)
         common.now.types.now common.now.aim.now common.now.is_declared arm.now core.now) (walk.seen body.old)) }
 {
     let inner = walk_alone(alloc, body.next(), around, common, constraint, arm, core)?;
     let mut behind = Items::new(alloc);
-    push_core(alloc, &mut behind, around.numbers, core)?;
+    let sized = sized_body(common.is_declared, core);
+    push_core(alloc, &mut behind, around.numbers, sized)?;
     append_alone(alloc, body, inner, behind.as_slice())
 }
 
@@ -97,7 +106,7 @@ fn read_arms(
     cores: &[Core],
 ) -> Result<(), AllocError>
     requires { IsAtRest (walk.seen body.old) }
-    ensures { OnOk result (walk.seen body.new ≡ walk.run (spec.arms_read constraint.now common.now.place (around_of around.now)
+    ensures { OnOk result (walk.seen body.new ≡ walk.run (spec.arms_read constraint.now common.now.place common.now.entry (around_of around.now)
         common.now.types.now common.now.aim.now common.now.is_declared arms.now cores.now) (walk.seen body.old)) }
 {
     let count = lesser(arms.len(), cores.len());
@@ -123,6 +132,7 @@ pub fn arms_of(core: &Core) -> &[Arm]
 pub fn read_clauses(
     alloc: Global,
     body: &mut Walking,
+    entry: u32,
     around: &Around<'_>,
     constraint: &Con,
     types: &[Typ],
@@ -131,11 +141,12 @@ pub fn read_clauses(
     core: &Core,
 ) -> Result<(), AllocError>
     requires { IsAtRest (walk.seen body.old) }
-    ensures { OnOk result (walk.seen body.new ≡ walk.run (spec.clauses_read constraint.now (around_of around.now) types.now aim.now is_declared
-        core.now) (walk.seen body.old)) }
+    ensures { OnOk result (walk.seen body.new ≡ walk.run (spec.clauses_read constraint.now (Some entry) (around_of around.now) types.now aim.now
+        is_declared core.now) (walk.seen body.old)) }
 {
     let common = Common {
         place: core.place,
+        entry: Some(entry),
         types,
         aim,
         is_declared,
@@ -149,4 +160,53 @@ pub fn read_clauses(
         arms_of(core),
         core.parts.as_slice(),
     )
+}
+
+/// What the clauses of a function give, under its constraint. It fails where memory is wanting, and where variables are too many.
+#[tactic(auto, using(value_indices::proofs::Walks::walks))]
+fn last_inside(
+    alloc: Global,
+    walking: &mut Walking,
+    constraint: &Con,
+    number: u32,
+    reading: &Reading,
+) -> Result<(), AllocError>
+    ensures { OnOk result (walk.seen walking.new ≡ walk.run (spec.last_inside constraint.now number reading.now) (walk.seen walking.old)) }
+{
+    constrain(alloc, walking, constraint)?;
+    make_last(alloc, walking, number, reading)
+}
+
+/// The same in a walk by itself, where variables are counted from this number on. It fails where memory is wanting, and where variables are
+/// too many.
+fn last_alone(
+    alloc: Global,
+    next: u32,
+    constraint: &Con,
+    number: u32,
+    reading: &Reading,
+) -> Result<Walking, AllocError>
+    ensures { IfOk result (λ inner. walk.seen inner ≡ walk.restored (walk.run (spec.last_inside constraint.now number reading.now)
+        (walk.remembering (walk.begun next)))) }
+{
+    let mut inner = Walking::new(alloc, next);
+    inner.remember()?;
+    last_inside(alloc, &mut inner, constraint, number, reading)?;
+    inner.restore()?;
+    Ok(inner)
+}
+
+/// What is read of that. It fails where memory is wanting, and where variables are too many.
+pub fn read_last(
+    alloc: Global,
+    body: &mut Walking,
+    constraint: &Con,
+    number: u32,
+    reading: &Reading,
+) -> Result<(), AllocError>
+    requires { IsAtRest (walk.seen body.old) }
+    ensures { OnOk result (walk.seen body.new ≡ walk.run (spec.last_read constraint.now number reading.now) (walk.seen body.old)) }
+{
+    let inner = last_alone(alloc, body.next(), constraint, number, reading)?;
+    append_alone(alloc, body, inner, &[])
 }

@@ -6,7 +6,7 @@ ghost use Rattle.size_splits.specs.Bodies.{body_read};
 ghost use Rattle.size_notes.specs.Bodies as spec;
 ghost use Rattle.size_notes.specs.Reading.{IsAtRest};
 
-use crate::clauses::read_clauses;
+use crate::clauses::{read_clauses, read_last};
 use crate::steps::ended_body;
 use call_arguments::Aim;
 use expression_steps::natural_aim;
@@ -46,13 +46,15 @@ fn read_declared(
     read_clauses(
         alloc,
         body,
+        function.entry,
         &inner,
         &function.constraint,
         function.parameters.as_slice(),
         &aim,
         function.is_declared,
         &function.body,
-    )
+    )?;
+    read_last(alloc, body, &function.constraint, function.last, &answer)
 }
 
 /// What is read of a function's measure, where its variables stand for these. It fails where memory is wanting, and where variables are
@@ -84,6 +86,7 @@ fn read_measured(
     read_clauses(
         alloc,
         body,
+        function.entry,
         &inner,
         &function.constraint,
         function.parameters.as_slice(),

@@ -47,6 +47,7 @@ fn read_way(
     types.push(copy_typ(alloc, &direction.parameter)?)?;
     let common = Common {
         place,
+        entry: None,
         types: types.as_slice(),
         aim: &aim,
         is_declared: true,

@@ -10,8 +10,6 @@ use Rattle.value_indices.specs.Steps.{Walk, bind}
 use Rattle.value_indices.specs.Walking.{got, run, seen}
 use Rattle.value_indices.specs.declared.indices.Indices.TheVariants as I
 use Rattle.value_indices.specs.declared.indices.Indices.{Indices}
-use Rattle.value_indices.specs.declared.indices.Reading.TheVariants as R
-use Rattle.value_indices.specs.declared.indices.Reading.{Reading}
 use Rattle.wide_types.proofs.Turns.{found}
 use Rattle.pattern_leaves.proofs.Rests.{two_of, one_of}
 use Rattle.pattern_leaves.proofs.Walked.{ended_by, pushed_got, pushed_run, then_got, then_run, made_got, made_run}
@@ -22,6 +20,7 @@ use Rattle.call_arguments.specs.Aims.{aimed}
 use Rattle.call_arguments.specs.declared.aims.Aim.TheVariants as Aims
 use Rattle.call_arguments.specs.declared.aims.Aim.{Aim}
 use Rattle.call_notes.specs.Ends.{settled}
+use Rattle.expression_forms.specs.Nodes.{cast_ended}
 use Rattle.expression_forms.specs.Scopes.{newest, scope_of}
 use Rattle.expression_forms.specs.Spots.{spot_of, written_by}
 use Rattle.expression_steps.specs.Calls.{argument_aims}
@@ -30,7 +29,7 @@ use Rattle.expression_steps.specs.Expressions.{part}
 use Rattle.expression_steps.specs.Parts.{three, under}
 use Rattle.expression_steps.specs.Statements.{alone_walk, measure_walk, natural_type, joined_under}
 use Rattle.expression_steps.specs.Targets.{spotting, part_of, tuple_spotted, assigned, assigned_one}
-use Rattle.expression_steps.specs.Values.{taken, no_way}
+use Rattle.expression_steps.specs.Values.{Row, taken, no_way}
 use Rattle.expression_notes.proofs.Bindings.{names_alike}
 use Rattle.expression_steps.proofs.Conditions.{value_same, walked_same, scoped_run}
 use Rattle.expression_notes.proofs.JoinLaws.{guarded_alike, joined_alike, none_alike}
@@ -38,12 +37,12 @@ use Rattle.expression_notes.proofs.LeftMasses.{ends_masses, only_target, taken_m
 use Rattle.expression_notes.proofs.MadeLaws.{made_ends, with_values, without}
 use Rattle.expression_steps.proofs.Masses.{either_masses, kind_mass, mass_at, mass_opens, masses, masses_take, one_mass, rest_mass, rest_target, target_at}
 use Rattle.expression_steps.proofs.Masses.{masses_drop, target_masses, target_opens, target_some, two_masses, way_at, way_mass, mass}
-use Rattle.expression_steps.proofs.Meeting.{Opened, match_got, match_run, try_is, way_got, way_run}
+use Rattle.expression_steps.proofs.Meeting.{Opened, match_got, match_run, try_got, try_run, way_got, way_run}
 use Rattle.expression_notes.proofs.Numbers.{numbers_end, numbers_walked, number_is, number_onward, number_stop}
 use Rattle.expression_steps.proofs.Onward.{given_got, given_run, same_got, same_run, then_got_in, then_run_in, on_ok, ok_then}
 use Rattle.expression_steps.proofs.Opened.{inward_is, plain_is}
 use Rattle.expression_steps.proofs.Rests.{first_of, none_of, others, three_of}
-use Rattle.expression_steps.proofs.Rows.{item_walked, items_got, items_run}
+use Rattle.expression_steps.proofs.Rows.{item_got, item_run, items_got, items_run, no_items, no_row}
 use Rattle.expression_steps.proofs.Spots.{call_got, call_run, one_assigned, call_alone, of_any, part_opens}
 use Rattle.expression_notes.proofs.Spotted.{last_there, none_within_got, spots_onward, spots_stop, none_within_run, part_got, part_run, last_is, kind_opens}
 use Rattle.expression_notes.proofs.Spotted.{absent_alike, spots_ended, stopped_alike}
@@ -64,17 +63,19 @@ use Rattle.expression_notes.proofs.FewParts.{few_alike, many_alike}
 
 pub expressions::walk_expression-returns-in_ok-value : goal.expressions::walk_expression-returns-in_ok-value
 expressions::walk_expression-returns-in_ok-value t c = let around = around_of c.args.around.now in let scope = scope_of c.args.scope.now in
-    let aim = c.args.aim.now in let opens = inward_is _ _ around scope aim c.as_slice.ensures (sym c.goes_inward.ensures ∙ c.if-goes_inward.true) in
-    let is = c.in_ok-value.ensures.value in let was = c.in_ok-value.ensures.walked in let by = c.made_at.ensures in
+    let aim = c.args.aim.now in
+    let opens = inward_is _ _ around scope aim c.as_slice.ensures _ c.makes_value.ensures (sym c.goes_inward.ensures ∙ c.if-goes_inward.true) in
+    let is = c.in_ok-value.ensures.value in let was = c.in_ok-value.ensures.walked in let by = c.end_node.ensures in
     record { value = then_got_in _ (λ (i : Indices). i) _ _ _ _ _ _ opens is was by.value; walked = then_run_in _ _ _ _ _ _ _ _ opens is was by.walked }
 
 pub expressions::walk_expression-returns-in_ok-ended : goal.expressions::walk_expression-returns-in_ok-ended
 expressions::walk_expression-returns-in_ok-ended t c = let around = around_of c.args.around.now in let scope = scope_of c.args.scope.now in
     let aim = c.args.aim.now in let core = c.args.core.now in let settles = settled around (out-Core core).place aim in
-    let opens = plain_is _ _ around scope aim c.as_slice-else-goes_inward.ensures (sym c.goes_inward.ensures ∙ c.if-goes_inward.false) in
+    let opens = plain_is _ _ around scope aim c.as_slice-else-goes_inward.ensures _ c.makes_value-else-goes_inward.ensures (sym c.goes_inward.ensures ∙
+    c.if-goes_inward.false) in
     let is = c.in_ok-ended.ensures.value ∙ then_got _ settles _ _ _ c.in_ok-plain.ensures.value c.in_ok-plain.ensures.walked in
     let was = c.in_ok-ended.ensures.walked ∙ then_run _ settles _ _ _ c.in_ok-plain.ensures.value c.in_ok-plain.ensures.walked in
-    let by = c.made_at-else-goes_inward.ensures in
+    let by = c.end_node-else-goes_inward.ensures in
     record { value = then_got_in _ (λ (i : Indices). i) _ _ _ _ _ _ opens is was by.value; walked = then_run_in _ _ _ _ _ _ _ _ opens is was by.walked }
 
 pub parts::walk_each-loop-index-preserved : goal.parts::walk_each-loop-index-preserved
@@ -140,45 +141,45 @@ truths::walk_guarded-returns-in-None t c = let truth = c.in_ok-walk_truth-in-len
     record { value = rw two none.value; walked = rw two none.walked }
 
 pub values::walk_like-loop-item-preserved : goal.values::walk_like-loop-item-preserved
-values::walk_like-loop-item-preserved t c = let around = around_of c.args.around.now in let scope = scope_of c.args.scope.now in let a = c.item-item.result in
-    let w = seen c.loop-item.walking in let v = seen c.owe_item.new.walking in
-    like_more _ around scope c.args.reading.now _ _ w v c.loop-item-test.true c.item-item.is (item_walked (part a) _ _ _ _ _ _ _ _ c.place_of.ensures
-    c.in_ok-value.ensures.value c.in_ok-value.ensures.walked c.in_ok-owe_item.ensures) ∙ c.loop-item.invariant
+values::walk_like-loop-item-preserved t c = let around = around_of c.args.around.now in let scope = scope_of c.args.scope.now in
+    let a = part c.item-item.result in let r = c.args.reading.now in let z = c.in_ok-value.ensures in let here = c.place_of.ensures in
+    let opens = like_more _ around scope r _ _ c.loop-item-test.true c.item-item.is in let by = c.loop-item.invariant in
+    let is = item_got a around scope r _ _ _ _ here z.value z.walked in let was = item_run a around scope r _ _ _ _ here z.value z.walked _
+    c.in_ok-owe_item.ensures in
+    record { value = pushed_got _ _ _ _ _ _ _ _ c.in_ok-push.ensures.pushed is was opens ∙ by.value; walked = pushed_run _ _ _ _ _ was opens ∙ by.walked }
 
 pub values::walk_like-returns : goal.values::walk_like-returns
-values::walk_like-returns t c =
-    sym (like_end _ (around_of c.args.around.now) (scope_of c.args.scope.now) c.args.reading.now _ (seen c.loop-item.walking) c.loop-item-test.false) ∙
-    c.loop-item.invariant
+values::walk_like-returns t c = let v = seen c.loop-item.walking in let on = c.loop-item.invariant in
+    let ends = like_end _ (around_of c.args.around.now) (scope_of c.args.scope.now) c.args.reading.now _ c.loop-item-test.false in
+    let none = sym (run_give {A = List Indices} [] v) in
+    record { value = ended_by _ _ _ _ ends on.value; walked = none ∙ ap (λ (a : Walk (List Indices)). run a v) (sym ends) ∙ on.walked }
 
 pub values::walk_first-returns-in-empty : goal.values::walk_first-returns-in-empty
 values::walk_first-returns-in-empty t c = let is = none_of _ c.in-empty.len_below in let v = seen c.args.walking.now in
-    record { value = rw is (sym (got_give R.Hole v)); walked = rw is (sym (run_give {A = Reading} R.Hole v)) }
+    record { value = rw is (no_items _ v c.new.ensures); walked = rw is (sym (run_give {A = Row} (no_row []) v)) }
 
-pub values::walk_first-returns-in_ok-walk_like-in-len1-up : goal.values::walk_first-returns-in_ok-walk_like-in-len1-up
-values::walk_first-returns-in_ok-walk_like-in-len1-up t c = let a = c.first-item.result in let is = first_of _ _ c.in-len1-up.len_at_least c.first-item.is in
+pub values::walk_first-returns-in_ok-values-in-len1-up : goal.values::walk_first-returns-in_ok-values-in-len1-up
+values::walk_first-returns-in_ok-values-in-len1-up t c = let a = c.first-item.result in let is = first_of _ _ c.in-len1-up.len_at_least c.first-item.is in
     let z = c.in_ok-value-in-len1-up.ensures in let r = c.in_ok-reading-in-len1-up.ensures in let owed = c.in_ok-owe_item-in-len1-up.ensures in
-    let like = c.in_ok-walk_like-in-len1-up.ensures in
+    let like = c.in_ok-values-in-len1-up.ensures in let one = c.in_ok-one-in-len1-up.ensures in let here = c.place_of.ensures in
     record {
-      value = rw is (items_got (part a) _ _ _ _ _ _ _ _ _ _ _ _ c.place_of.ensures z.value z.walked r.value r.walked owed like);
-      walked = rw is (items_run (part a) _ _ _ _ _ _ _ _ _ _ _ _ c.place_of.ensures z.value z.walked r.value r.walked owed like);
+      value = rw is (items_got (part a) _ _ _ _ _ _ _ _ _ _ _ _ _ _ one here z.value z.walked r.value r.walked owed like.value like.walked);
+      walked = rw is (items_run (part a) _ _ _ _ _ _ _ _ _ _ _ _ _ _ one here z.value z.walked r.value r.walked owed like.value like.walked);
     }
 
-pub values::walk_row-returns-in_ok-reading : goal.values::walk_row-returns-in_ok-reading
-values::walk_row-returns-in_ok-reading t c =
-    let same = row_free c.args.place c.args.is_list _ _ _ _ _ _ _ _ c.in_ok-wanted.ensures _ (sym c.is_hole.ensures ∙ c.if-is_hole.true)
-    c.in_ok-reading.ensures.value c.in_ok-reading.ensures.walked in
+pub values::walk_row-returns-in_ok-row : goal.values::walk_row-returns-in_ok-row
+values::walk_row-returns-in_ok-row t c = let same = row_free c.args.place c.args.number c.args.is_list _ _ _ _ _ _ _ _ c.in_ok-wanted.ensures _ (sym
+    c.is_hole.ensures ∙ c.if-is_hole.true) c.in_ok-row.ensures.value c.in_ok-row.ensures.walked in
     record { value = value_same _ _ _ same.value c.row_of.ensures.value; walked = walked_same _ _ _ _ same.walked c.row_of.ensures.walked }
 
-pub values::walk_row-returns-in_ok-walk_each : goal.values::walk_row-returns-in_ok-walk_each
-values::walk_row-returns-in_ok-walk_each t c =
-    let same = row_due c.args.place c.args.is_list c.args.shape.now _ _ _ _ _ _ _ c.in_ok-wanted.ensures _ (sym c.is_hole.ensures ∙ c.if-is_hole.false)
-    (c.as_slice.ensures ∙ c.in_ok-aims.ensures) c.in_ok-walk_each.ensures.walked in
+pub values::walk_row-returns-in_ok-values : goal.values::walk_row-returns-in_ok-values
+values::walk_row-returns-in_ok-values t c = let same = row_due c.args.place c.args.number c.args.is_list c.args.shape.now _ _ _ _ _ _ _ c.in_ok-wanted.ensures _
+    _ (sym c.is_hole.ensures ∙ c.if-is_hole.false) (c.as_slice.ensures ∙ c.in_ok-aims.ensures) c.in_ok-values.ensures.value c.in_ok-values.ensures.walked in
     let by = c.row_of-else-is_hole.ensures in record { value = value_same _ _ _ same.value by.value; walked = walked_same _ _ _ _ same.walked by.walked }
 
 pub made::walk_made-returns : goal.made::walk_made-returns
-made::walk_made-returns t c =
-    let same = made_ends _ _ c.args.place c.args.number _ _ _ c.args.aim.now _ _ _ _ _ c.in_ok-count.ensures c.first_parts-first.ensures (c.as_slice.ensures ∙
-    c.in_ok-aims.ensures) c.in_ok-values.ensures.value c.in_ok-values.ensures.walked in
+made::walk_made-returns t c = let same = made_ends _ _ c.args.place c.args.number _ _ _ c.args.aim.now _ _ _ _ _ c.in_ok-count.ensures
+    c.first_parts-first.ensures (c.as_slice.ensures ∙ c.in_ok-aims.ensures) c.in_ok-values.ensures.value c.in_ok-values.ensures.walked in
     record { value = value_same _ _ _ same.value c.made_end.ensures.value; walked = walked_same _ _ _ _ same.walked c.made_end.ensures.walked }
 
 pub made::walk_with-returns-in-empty : goal.made::walk_with-returns-in-empty
@@ -186,17 +187,24 @@ made::walk_with-returns-in-empty t c = let is = none_of _ c.in-empty.len_below i
     record { value = rw is c.wrong_value.ensures.value; walked = rw is c.wrong_value.ensures.walked }
 
 pub made::walk_with-returns-in-None : goal.made::walk_with-returns-in-None
-made::walk_with-returns-in-None t c =
-    let same = without c.args.place _ _ _ c.args.parts.now _ _ _ _ _ (first_of _ _ c.in-len1-up.len_at_least c.base-item.is)
-    c.in_ok-value-in-len1-up.ensures.value c.in_ok-value-in-len1-up.ensures.walked _ c.in_ok-with_aims-in-len1-up.ensures c.in-None.is in
+made::walk_with-returns-in-None t c = let same = without c.args.place c.args.number _ _ _ c.args.parts.now _ _ _ _ _ (first_of _ _ c.in-len1-up.len_at_least
+    c.base-item.is) c.in_ok-value-in-len1-up.ensures.value c.in_ok-value-in-len1-up.ensures.walked _ c.in_ok-with_aims-in-len1-up.ensures c.in-None.is in
     record { value = value_same _ _ _ same.value c.no_struct.ensures.value; walked = walked_same _ _ _ _ same.walked c.no_struct.ensures.walked }
 
 pub made::walk_with-returns-in_ok-values-in-Some : goal.made::walk_with-returns-in_ok-values-in-Some
-made::walk_with-returns-in_ok-values-in-Some t c = let by = c.with_made.ensures in let values = c.in_ok-values-in-Some.ensures in
-    let same = with_values c.args.place _ _ _ c.args.parts.now _ _ _ _ _ (first_of _ _ c.in-len1-up.len_at_least c.base-item.is)
+made::walk_with-returns-in_ok-values-in-Some t c = let by = c.with_ended.ensures in let values = c.in_ok-values-in-Some.ensures in
+    let same = with_values c.args.place c.args.number _ _ _ c.args.parts.now _ _ _ _ _ (first_of _ _ c.in-len1-up.len_at_least c.base-item.is)
     c.in_ok-value-in-len1-up.ensures.value c.in_ok-value-in-len1-up.ensures.walked _ _ _ _ _ _ c.in_ok-with_aims-in-len1-up.ensures c.in-Some.is
     (c.first_parts-others.ensures ∙ ap (λ n. take n (others c.args.parts.now)) c.len.ensures) c.as_slice.ensures values.value values.walked in
     record { value = value_same _ _ _ same.value by.value; walked = walked_same _ _ _ _ same.walked by.walked }
+
+pub made::walk_place-returns-in_ok-value-in-len1 : goal.made::walk_place-returns-in_ok-value-in-len1
+made::walk_place-returns-in_ok-value-in-len1 t c = let one = one_of _ _ c.in-len1.len_at_least c.in-len1.len_below c.core-item.is in
+    let value = c.in_ok-value-in-len1.ensures in let by = c.cast_ended.ensures in let next = cast_ended c.args.number c.args.aim.now in
+    record {
+      value = rw one (then_got_in _ (λ (i : Indices). i) _ next _ _ _ _ refl value.value value.walked by.value);
+      walked = rw one (then_run_in _ _ next _ _ _ _ _ refl value.value value.walked by.walked);
+    }
 
 pub reading::walk_way-returns-then-left-count : goal.reading::walk_way-returns-then-left-count
 reading::walk_way-returns-then-left-count t c = let around = around_of c.args.around.now in let scope = scope_of c.args.scope.now in
@@ -228,20 +236,19 @@ reading::walk_way-returns-in-Some t c = let around = around_of c.args.around.now
 pub reading::walk_suffixes-loop-suffix-preserved : goal.reading::walk_suffixes-loop-suffix-preserved
 reading::walk_suffixes-loop-suffix-preserved t c = let parts = c.args.parts.now in let is = item_is _ _ _ c.loop-suffix-test.true in
     let found = (λ j. taken_in parts (sym c.in-Some.is j)) ∙ c.in_ok-walk_way.ensures.value in let read = c.in_ok-value-in-Some.ensures in
-    let same = step_alike _ _ _ _ _ _ _ _ _ _ _ c.as_ref.ensures.value _ _ _ c.loop-suffix-test.true is found c.in_ok-walk_way.ensures.walked read.value
-    read.walked in
+    let same = step_alike _ _ c.args.is_target _ _ _ _ _ _ _ _ _ c.as_ref.ensures.value _ _ _ c.loop-suffix-test.true is found
+    c.in_ok-walk_way.ensures.walked read.value read.walked in
     record { value = same.value ∙ c.loop-suffix.invariant.value; walked = same.walked ∙ c.loop-suffix.invariant.walked }
 
 pub reading::walk_suffixes-returns-in-None : goal.reading::walk_suffixes-returns-in-None
 reading::walk_suffixes-returns-in-None t c = let parts = c.args.parts.now in
-    let found = (λ j. taken_in parts (sym c.in-None.is j)) ∙ c.in_ok-walk_way.ensures.value in
-    let same = stop_alike _ _ _ _ _ _ _ _ _ c.loop-suffix-test.true (item_is _ _ _ c.loop-suffix-test.true) found c.in_ok-walk_way.ensures.walked in
+    let found = (λ j. taken_in parts (sym c.in-None.is j)) ∙ c.in_ok-walk_way.ensures.value in let within = c.loop-suffix-test.true in
+    let same = stop_alike _ _ c.args.is_target _ _ _ _ _ _ _ within (item_is _ _ _ within) found c.in_ok-walk_way.ensures.walked in
     record { value = same.value ∙ c.loop-suffix.invariant.value; walked = same.walked ∙ c.loop-suffix.invariant.walked }
 
 pub reading::walk_suffixes-returns : goal.reading::walk_suffixes-returns
-reading::walk_suffixes-returns t c =
-    let same = suffixes_ended (around_of c.args.around.now) (scope_of c.args.scope.now) c.args.suffixes.now _ (left_behind c.args.parts.now c.loop-suffix.at)
-    c.loop-suffix.value (seen c.loop-suffix.walking) c.loop-suffix-test.false in
+reading::walk_suffixes-returns t c = let same = suffixes_ended (around_of c.args.around.now) (scope_of c.args.scope.now) c.args.is_target c.args.suffixes.now _
+    (left_behind c.args.parts.now c.loop-suffix.at) c.loop-suffix.value (seen c.loop-suffix.walking) c.loop-suffix-test.false in
     record { value = same.value ∙ c.loop-suffix.invariant.value; walked = same.walked ∙ c.loop-suffix.invariant.walked }
 
 pub reading::walk_part-returns-in-empty : goal.reading::walk_part-returns-in-empty
@@ -256,26 +263,25 @@ reading::walk_part-returns-in_ok-found-in-len1-up t c = let first = first_of _ _
     record { value = rw first (c.value_of.ensures ∙ same.value); walked = rw first same.walked }
 
 pub reading::walk_update-returns-in-None : goal.reading::walk_update-returns-in-None
-reading::walk_update-returns-in-None t c = let around = around_of c.args.around.now in let scope = scope_of c.args.scope.now in
-    let parts = c.args.parts.now in
-    let opens = one_value c.args.place c.args.way around scope parts (between parts) c.base-item.result c.core-item.result (ends_are _ _ _
+reading::walk_update-returns-in-None t c = let around = around_of c.args.around.now in let scope = scope_of c.args.scope.now in let parts = c.args.parts.now in
+    let opens = one_value c.args.place c.args.number c.args.way around scope parts (between parts) c.base-item.result c.core-item.result (ends_are _ _ _
     c.in-len2-up.len_at_least c.base-item.is c.core-item.is) (c.if-indexes-count.false ∙ c.indexes_of-count.ensures) in
     let value = c.in_ok-value-in-len2-up.ensures in
-    let same = never_alike c.args.place c.args.way around scope c.base-item.result c.core-item.result (between parts) _ _ _ _ value.value value.walked (sym
-    c.in-None.is ∙ c.in_ok-walk_numbers-in-len2-up.ensures.value) c.in_ok-walk_numbers-in-len2-up.ensures.walked in let w = seen c.args.walking.now in
-    record { value = same.value ∙ (λ j. got (sym opens j) w); walked = same.walked ∙ (λ j. run (sym opens j) w) }
+    let same = never_alike c.args.place c.args.number c.args.way around scope c.base-item.result c.core-item.result (between parts) _ _ _ _ value.value
+    value.walked (sym c.in-None.is ∙ c.in_ok-walk_numbers-in-len2-up.ensures.value) c.in_ok-walk_numbers-in-len2-up.ensures.walked in
+    let w = seen c.args.walking.now in record { value = same.value ∙ (λ j. got (sym opens j) w); walked = same.walked ∙ (λ j. run (sym opens j) w) }
 
 pub reading::walk_update-returns-in_ok-reached-in-Some : goal.reading::walk_update-returns-in_ok-reached-in-Some
 reading::walk_update-returns-in_ok-reached-in-Some t c = let around = around_of c.args.around.now in let scope = scope_of c.args.scope.now in
     let parts = c.args.parts.now in
-    let opens = one_value c.args.place c.args.way around scope parts (between parts) c.base-item.result c.core-item.result (ends_are _ _ _
+    let opens = one_value c.args.place c.args.number c.args.way around scope parts (between parts) c.base-item.result c.core-item.result (ends_are _ _ _
     c.in-len2-up.len_at_least c.base-item.is c.core-item.is) (c.if-indexes-count.false ∙ c.indexes_of-count.ensures) in
     let value = c.in_ok-value-in-len2-up.ensures in let numbers = c.in_ok-walk_numbers-in-len2-up.ensures in let reached = c.in_ok-reached-in-Some.ensures in
     let found = (λ j. Some (c.as_slice.ensures j)) ∙ sym c.in-Some.is ∙ numbers.value in let is = c.as_ref.ensures.value ∙ reached.value in
     record {
-      value = same_got c.updated.result (λ made. made) _ _ _ opens (updated_got _ _ _ _ c.base-item.result _ (between parts) _ _ _ _ _ _ _ _ value.value
+      value = same_got c.updated.result (λ made. made) _ _ _ opens (updated_got _ _ _ _ _ c.base-item.result _ (between parts) _ _ _ _ _ _ _ _ value.value
           value.walked found numbers.walked is reached.walked c.updated.ensures.value);
-      walked = same_run c.updated.result _ _ _ _ opens (updated_run _ _ _ _ c.base-item.result _ (between parts) _ _ _ _ _ _ _ _ _ value.value value.walked
+      walked = same_run c.updated.result _ _ _ _ opens (updated_run _ _ _ _ _ c.base-item.result _ (between parts) _ _ _ _ _ _ _ _ _ value.value value.walked
           found numbers.walked is reached.walked c.updated.ensures.walked);
     }
 
@@ -301,7 +307,7 @@ targets::spot_each-returns t c = let around = around_of c.args.around.now in
 
 pub targets::spot_within-returns-in-None : goal.targets::spot_within-returns-in-None
 targets::spot_within-returns-in-None t c = let around = around_of c.args.around.now in
-    let next = part_of c.args.place c.args.suffixes.now around (scope_of c.args.scope.now) in
+    let next = part_of c.args.place c.args.number c.args.suffixes.now around (scope_of c.args.scope.now) in
     let same = absent_alike around c.args.parts.now c.args.found next (seen c.args.walking.now) c.in-None.is in
     record { value = same.value; walked = same.walked }
 
@@ -309,47 +315,47 @@ pub targets::spot_within-returns-in-empty : goal.targets::spot_within-returns-in
 targets::spot_within-returns-in-empty t c = let scope = scope_of c.args.scope.now in let parts = c.args.parts.now in
     let held = c.in_ok-held-in-Some.ensures in
     record {
-      value = none_within_got _ scope _ _ parts _ _ _ c.in-Some.is _ _ _ held.value held.walked _ c.in-empty.len_below c.no_spot.ensures.value;
-      walked = none_within_run _ scope _ _ parts _ _ _ c.in-Some.is _ _ _ held.value held.walked _ _ c.in-empty.len_below c.no_spot.ensures.walked;
+      value = none_within_got _ scope _ c.args.number _ parts _ _ _ c.in-Some.is _ _ _ held.value held.walked _ c.in-empty.len_below c.no_spot.ensures.value;
+      walked = none_within_run _ scope _ c.args.number _ parts _ _ _ c.in-Some.is _ _ _ held.value held.walked _ _ c.in-empty.len_below
+          c.no_spot.ensures.walked;
     }
 
 pub targets::spot_within-returns-in-None-2 : goal.targets::spot_within-returns-in-None-2
 targets::spot_within-returns-in-None-2 t c = let ss = c.args.suffixes.now in let held = c.in_ok-held-in-Some.ensures in
     let went = c.in_ok-walk_suffixes-in-len1-up.ensures in let last = last_is ss c.in-len1-up.len_at_least in
-    let same = stopped_alike (around_of c.args.around.now) (scope_of c.args.scope.now) c.args.place ss c.args.parts.now _ _ _ c.in-Some.is _ _ _ held.value
-    held.walked _ last.0 last.1 refl _ c.in_ok-value-in-len1-up.ensures _ _ went.value went.walked c.in-None-2.is in
+    let same = stopped_alike (around_of c.args.around.now) (scope_of c.args.scope.now) c.args.place c.args.number ss c.args.parts.now _ _ _ c.in-Some.is _ _ _
+    held.value held.walked _ last.0 last.1 refl _ c.in_ok-value-in-len1-up.ensures _ _ went.value went.walked c.in-None-2.is in
     record { value = same.value; walked = same.walked }
 
 pub targets::spot_within-returns-in_ok-reached-in-Some-2 : goal.targets::spot_within-returns-in_ok-reached-in-Some-2
 targets::spot_within-returns-in_ok-reached-in-Some-2 t c = let ss = c.args.suffixes.now in let held = c.in_ok-held-in-Some.ensures in
     let went = c.in_ok-walk_suffixes-in-len1-up.ensures in let reached = c.in_ok-reached-in-Some-2.ensures in
     record {
-      value = part_got _ _ c.args.place ss _ _ _ _ c.in-Some.is _ _ _ held.value held.walked _ _ (last_there _ _ c.in-len1-up.len_at_least) refl _
+      value = part_got _ _ c.args.place c.args.number ss _ _ _ _ c.in-Some.is _ _ _ held.value held.walked _ _ (last_there _ _ c.in-len1-up.len_at_least) refl _
           c.in_ok-value-in-len1-up.ensures _ _ went.value went.walked _ _ c.in-Some-2.is _ (seen c.walk_way.new.walking) _ reached.value c.part_found.ensures;
-      walked = part_run _ _ c.args.place ss _ _ _ _ c.in-Some.is _ _ _ held.value held.walked _ _ (last_there _ _ c.in-len1-up.len_at_least) refl _
-          c.in_ok-value-in-len1-up.ensures _ _ went.value went.walked _ _ c.in-Some-2.is c.in_ok-reached-in-Some-2.reached _ c.part_found.result
+      walked = part_run _ _ c.args.place c.args.number ss _ _ _ _ c.in-Some.is _ _ _ held.value held.walked _ _ (last_there _ _ c.in-len1-up.len_at_least)
+          refl _ c.in_ok-value-in-len1-up.ensures _ _ went.value went.walked _ _ c.in-Some-2.is c.in_ok-reached-in-Some-2.reached _ c.part_found.result
           reached.walked;
     }
 
 pub targets::spot_target-returns-in-Variable : goal.targets::spot_target-returns-in-Variable
-targets::spot_target-returns-in-Variable t c =
-    let opens = kind_opens _ _ _ (around_of c.args.around.now) (scope_of c.args.scope.now) (left_behind c.args.parts.now c.args.at) c.as_slice-targets.ensures
-    c.in-Variable.is in
+targets::spot_target-returns-in-Variable t c = let opens = kind_opens _ _ _ (around_of c.args.around.now) (scope_of c.args.scope.now) (left_behind
+    c.args.parts.now c.args.at) c.as_slice-targets.ensures c.in-Variable.is in
     record { value = same_got _ _ _ _ _ opens c.spot_name.ensures.value; walked = same_run _ _ _ _ _ opens c.spot_name.ensures.walked }
 
 pub targets::spot_target-returns-in-Register : goal.targets::spot_target-returns-in-Register
-targets::spot_target-returns-in-Register t c =
-    let opens = kind_opens _ _ _ (around_of c.args.around.now) (scope_of c.args.scope.now) (left_behind c.args.parts.now c.args.at) c.as_slice-targets.ensures
-    c.in-Register.is in
+targets::spot_target-returns-in-Register t c = let opens = kind_opens _ _ _ (around_of c.args.around.now) (scope_of c.args.scope.now) (left_behind
+    c.args.parts.now c.args.at) c.as_slice-targets.ensures c.in-Register.is in
     record { value = same_got _ _ _ _ _ opens c.spot_register.ensures.value; walked = same_run _ _ _ _ _ opens c.spot_register.ensures.walked }
 
 pub targets::spot_target-returns-in_ok-found-in-Tuple : goal.targets::spot_target-returns-in_ok-found-in-Tuple
-targets::spot_target-returns-in_ok-found-in-Tuple t c = let place = (out-Target c.args.target.now).place in let found = c.in_ok-found-in-Tuple.ensures in
+targets::spot_target-returns-in_ok-found-in-Tuple t c = let place = (out-Target c.args.target.now).place in
+    let number = (out-Target c.args.target.now).number in let found = c.in_ok-found-in-Tuple.ensures in
     let opens = kind_opens _ _ _ (around_of c.args.around.now) (scope_of c.args.scope.now) (left_behind c.args.parts.now c.args.at) c.as_slice-targets.ensures
     c.in-Tuple.is in let w = seen c.args.walking.now in let around = around_of c.args.around.now in
     record {
-      value = c.tuple_found.ensures around c.args.parts.now ∙ made_got _ (tuple_spotted place) _ _ found.value ∙ (λ j. got (sym opens j) w);
-      walked = made_run _ (tuple_spotted place) _ _ found.walked ∙ (λ j. run (sym opens j) w);
+      value = c.tuple_found.ensures around c.args.parts.now ∙ made_got _ (tuple_spotted place number) _ _ found.value ∙ (λ j. got (sym opens j) w);
+      walked = made_run _ (tuple_spotted place number) _ _ found.walked ∙ (λ j. run (sym opens j) w);
     }
 
 pub targets::spot_target-returns-in_ok-values-in-empty : goal.targets::spot_target-returns-in_ok-values-in-empty
@@ -358,21 +364,22 @@ targets::spot_target-returns-in_ok-values-in-empty t c = let around = around_of 
     let taken = c.first_parts-arguments.ensures ∙ ap (take _) c.left_at.ensures in
     let aims = c.as_slice.ensures ∙ c.in_ok-aims-in-empty.ensures ∙ ap argument_aims c.callee_types.ensures in
     let left = left_behind parts c.args.at in let ts = c.as_slice-targets.result.now in
-    let opens = kind_opens _ _ _ around scope left c.as_slice-targets.ensures c.in-Call.is ∙ call_alone place around scope left _ _ _ ts c.in-empty.len_below in
+    let opens = kind_opens _ _ _ around scope left c.as_slice-targets.ensures c.in-Call.is ∙ call_alone place (out-Target c.args.target.now).number around scope
+    left _ _ _ ts c.in-empty.len_below in
     let first = c.first_parts-arguments.result.now in let due = c.as_slice.result.now in let held = c.in_ok-values-in-empty in
     let is = held.ensures.value in let was = held.ensures.walked in let v = seen c.args.walking.now in let w = seen c.walk_each.new.walking in
     let k = c.args.at in let r = c.call_found.result in let by = c.call_found.ensures in
     record {
-      value = of_any r _ around parts _ (call_got around scope _ _ _ _ k parts first due held.values v w taken aims is was ∙ (λ j. got (sym opens j) v)) by;
-      walked = on_ok r (call_run around scope _ _ _ _ k parts first due held.values v w taken aims is was ∙ (λ j. run (sym opens j) v));
+      value = of_any r _ around parts _ (call_got around scope _ _ _ _ _ k parts first due held.values v w taken aims is was ∙ (λ j. got (sym opens j) v)) by;
+      walked = on_ok r (call_run around scope _ _ _ _ _ k parts first due held.values v w taken aims is was ∙ (λ j. run (sym opens j) v));
     }
 
 pub targets::spot_target-returns-in_ok-found-in-len1 : goal.targets::spot_target-returns-in_ok-found-in-len1
 targets::spot_target-returns-in_ok-found-in-len1 t c = let around = around_of c.args.around.now in let scope = scope_of c.args.scope.now in
     let parts = c.args.parts.now in let place = (out-Target c.args.target.now).place in
     let kind = c.in-Part.is ∙ (λ j. T.Part (sym c.as_slice-suffixes.ensures j)) in let left = left_behind parts c.args.at in
-    let opens = kind_opens _ _ _ around scope left c.as_slice-targets.ensures kind ∙ part_opens place around scope left c.as_slice-suffixes.result.now _ _
-    c.in-len1.len_at_least c.in-len1.len_below c.base-item.is in
+    let opens = kind_opens _ _ _ around scope left c.as_slice-targets.ensures kind ∙ part_opens place (out-Target c.args.target.now).number around scope left
+    c.as_slice-suffixes.result.now _ _ c.in-len1.len_at_least c.in-len1.len_below c.base-item.is in
     let is = c.in_ok-found-in-len1.ensures in let by = c.spot_within.ensures in
     record { value = then_got_in _ _ _ _ _ _ _ _ opens is.value is.walked by.value; walked = then_run_in _ _ _ _ _ _ _ _ opens is.value is.walked by.walked }
 
@@ -417,10 +424,9 @@ targets::assign_to-loop-target-preserved t c = let around = around_of c.args.aro
 pub targets::assign_to-returns-in-None : goal.targets::assign_to-returns-in-None
 targets::assign_to-returns-in-None t c = let around = around_of c.args.around.now in let l = c.loop-target in let parts = c.args.parts.now in
     let found = (λ j. spotted_in around parts (sym c.in-None.is j)) ∙ c.in_ok-spot_target.ensures.value in
-    let grown = ap (map (spot_of around)) (c.as_slice.ensures ∙ c.in_ok-push-in-None.ensures.pushed)
-    ∙ map-append (spot_of around) l.before (l.spot ∷ []) in
-    let same = gone_alike c.args.place around (scope_of c.args.scope.now) c.args.targets.now l.target-index _ c.loop-target-test.true c.target-item.is
-    (spot_of around l.spot) (left_behind parts l.at) (map (spot_of around) l.before) _ grown (seen l.walking) _ c.in_ok-spot_target.ensures.walked found in
+    let grown = ap (map (spot_of around)) (c.as_slice.ensures ∙ c.in_ok-push-in-None.ensures.pushed) ∙ map-append (spot_of around) l.before (l.spot ∷ []) in
+    let same = gone_alike c.args.place around (scope_of c.args.scope.now) c.args.targets.now l.target-index _ c.loop-target-test.true c.target-item.is (spot_of
+    around l.spot) (left_behind parts l.at) (map (spot_of around) l.before) _ grown (seen l.walking) _ c.in_ok-spot_target.ensures.walked found in
     let by = c.assign_back.ensures in let on = l.invariant in
     record { value = value_same _ _ _ (same.value ∙ on.value) by.value; walked = walked_same _ _ _ _ (same.walked ∙ on.walked) by.walked }
 
@@ -463,10 +469,9 @@ branches::walk_ways-loop-way-preserved t c = let way = c.in_ok-first.ensures in
     record { value = same.value ∙ c.loop-way.invariant.value; walked = same.walked ∙ c.loop-way.invariant.walked }
 
 pub branches::walk_ways-returns : goal.branches::walk_ways-returns
-branches::walk_ways-returns t c =
-    let same = ways_met c.is_free-free.result c.next-before.result (around_of c.args.around.now) (scope_of c.args.scope.now) c.args.aim.now c.args.ways.now
-    c.args.place c.args.shape.now c.is_free-free.ensures c.loop-way.first _ _ (seen c.args.walking.now) (seen c.loop-way.walking) c.next-before.ensures
-    c.loop-way-test.false c.as_ref.ensures.value c.loop-way.invariant.value c.loop-way.invariant.walked in
+branches::walk_ways-returns t c = let same = ways_met c.is_free-free.result c.next-before.result (around_of c.args.around.now) (scope_of c.args.scope.now)
+    c.args.aim.now c.args.ways.now c.args.place c.args.shape.now c.is_free-free.ensures c.loop-way.first _ _ (seen c.args.walking.now) (seen c.loop-way.walking)
+    c.next-before.ensures c.loop-way-test.false c.as_ref.ensures.value c.loop-way.invariant.value c.loop-way.invariant.walked in
     record { value = value_same _ _ _ same.value c.met_value.ensures.value; walked = walked_same _ _ _ _ same.walked c.met_value.ensures.walked }
 
 pub branches::walk_either-returns-in-None : goal.branches::walk_either-returns-in-None
@@ -504,21 +509,18 @@ branches::walk_branches-returns-in-len3 t c =
     record { value = rw parts c.walk_either.ensures.value; walked = rw parts c.walk_either.ensures.walked }
 
 pub branches::walk_branches-returns-in-empty : goal.branches::walk_branches-returns-in-empty
-branches::walk_branches-returns-in-empty t c =
-    let same = few_alike c.args.place c.args.shape.now (around_of c.args.around.now) (scope_of c.args.scope.now) c.args.aim.now (seen c.args.walking.now)
-    c.args.parts.now (omega arith) in
+branches::walk_branches-returns-in-empty t c = let same = few_alike c.args.place c.args.shape.now (around_of c.args.around.now) (scope_of c.args.scope.now)
+    c.args.aim.now (seen c.args.walking.now) c.args.parts.now (omega arith) in
     record { value = same.value; walked = same.walked }
 
 pub branches::walk_branches-returns-in-len1 : goal.branches::walk_branches-returns-in-len1
-branches::walk_branches-returns-in-len1 t c =
-    let same = few_alike c.args.place c.args.shape.now (around_of c.args.around.now) (scope_of c.args.scope.now) c.args.aim.now (seen c.args.walking.now)
-    c.args.parts.now (omega arith) in
+branches::walk_branches-returns-in-len1 t c = let same = few_alike c.args.place c.args.shape.now (around_of c.args.around.now) (scope_of c.args.scope.now)
+    c.args.aim.now (seen c.args.walking.now) c.args.parts.now (omega arith) in
     record { value = same.value; walked = same.walked }
 
 pub branches::walk_branches-returns-in_default : goal.branches::walk_branches-returns-in_default
-branches::walk_branches-returns-in_default t c =
-    let same = many_alike c.args.place c.args.shape.now (around_of c.args.around.now) (scope_of c.args.scope.now) c.args.aim.now (seen c.args.walking.now)
-    c.args.parts.now (omega arith) in
+branches::walk_branches-returns-in_default t c = let same = many_alike c.args.place c.args.shape.now (around_of c.args.around.now) (scope_of c.args.scope.now)
+    c.args.aim.now (seen c.args.walking.now) c.args.parts.now (omega arith) in
     record { value = same.value; walked = same.walked }
 
 pub branches::walk_cases-returns-in-empty : goal.branches::walk_cases-returns-in-empty
@@ -527,11 +529,13 @@ branches::walk_cases-returns-in-empty t c = let none = none_of _ c.in-empty.len_
 
 pub branches::walk_cases-returns-in_ok-ways-in-len1-up : goal.branches::walk_cases-returns-in_ok-ways-in-len1-up
 branches::walk_cases-returns-in_ok-ways-in-len1-up t c = let around = around_of c.args.around.now in let scope = scope_of c.args.scope.now in
-    let aim = c.args.aim.now in let seen_as = ap (ways_seen around scope aim) c.as_slice.ensures ∙ c.in_ok-ways-in-len1-up.ensures.ways around scope aim in
-    let is = try_is _ _ c.args.shape.now _ _ _ _ c.args.parts.now _ _ (first_of _ _ c.in-len1-up.len_at_least c.core-item.is) _ _ c.if-is_try.true
-    c.thrown-sent.ensures seen_as in let v = seen c.args.walking.now in let by = c.walk_ways.ensures in
-    let got_is = ap (λ (a : Walk Indices). got a v) is in let run_is = ap (λ (a : Walk Indices). run a v) is in
-    record { value = value_same _ _ _ got_is by.value; walked = walked_same _ _ _ _ run_is by.walked }
+    let aim = c.args.aim.now in let first = first_of _ _ c.in-len1-up.len_at_least c.core-item.is in let caught = c.in_ok-catch_at-in-len1-up.ensures in
+    let ways = ap (ways_seen around scope aim) c.as_slice.ensures ∙ c.in_ok-ways-in-len1-up.ensures.ways around scope aim in
+    let shape = c.args.shape.now in let yes = c.if-is_try.true in let sent = c.thrown-sent.ensures in let by = c.walk_ways.ensures in
+    record {
+      value = value_same _ _ _ (try_got _ _ _ shape _ _ _ _ _ _ _ first _ _ _ _ yes sent caught ways) by.value;
+      walked = walked_same _ _ _ _ (try_run _ _ _ shape _ _ _ _ _ _ _ first _ _ _ _ yes sent caught ways) by.walked;
+    }
 
 pub branches::walk_cases-returns-in_ok-cases-in-len1-up : goal.branches::walk_cases-returns-in_ok-cases-in-len1-up
 branches::walk_cases-returns-in_ok-cases-in-len1-up t c = let around = around_of c.args.around.now in let scope = scope_of c.args.scope.now in
@@ -539,8 +543,8 @@ branches::walk_cases-returns-in_ok-cases-in-len1-up t c = let around = around_of
     let ways = ap (ways_seen around scope aim) c.as_slice-else-is_try.ensures ∙ c.in_ok-cases-in-len1-up.ensures.ways around scope aim in
     let shape = c.args.shape.now in let no = c.if-is_try.false in let by = c.walk_ways-else-is_try.ensures in
     record {
-      value = value_same _ _ _ (match_got _ _ shape _ _ _ _ _ _ _ first _ _ _ _ no value.value value.walked ways) by.value;
-      walked = walked_same _ _ _ _ (match_run _ _ shape _ _ _ _ _ _ _ first _ _ _ _ no value.value value.walked ways) by.walked;
+      value = value_same _ _ _ (match_got _ _ _ shape _ _ _ _ _ _ _ first _ _ _ _ no value.value value.walked ways) by.value;
+      walked = walked_same _ _ _ _ (match_run _ _ _ shape _ _ _ _ _ _ _ first _ _ _ _ no value.value value.walked ways) by.walked;
     }
 
 pub statements::walk_bound-returns : goal.statements::walk_bound-returns
@@ -561,9 +565,8 @@ statements::walk_state-returns-in-len1 t c = let one = one_of _ _ c.in-len1.len_
     record { value = value_same _ _ _ same.value c.walk_truth.ensures.value; walked = walked_same _ _ _ _ same.walked c.walk_truth.ensures.walked }
 
 pub statements::walk_state-returns-in-empty : goal.statements::walk_state-returns-in-empty
-statements::walk_state-returns-in-empty t c =
-    let same = assert_alike _ _ (around_of c.args.around.now) (scope_of c.args.scope.now) c.as_slice-parts.ensures (seen c.args.walking.now) _ c.in-Assert.is
-    _ (none_of _ c.in-empty.len_below) in
+statements::walk_state-returns-in-empty t c = let same = assert_alike _ _ (around_of c.args.around.now) (scope_of c.args.scope.now) c.as_slice-parts.ensures
+    (seen c.args.walking.now) _ c.in-Assert.is _ (none_of _ c.in-empty.len_below) in
     record { value = value_same _ _ _ same.value c.wrong_state.ensures.value; walked = walked_same _ _ _ _ same.walked c.wrong_state.ensures.walked }
 
 pub statements::walk_state-returns-in_default-parts : goal.statements::walk_state-returns-in_default-parts
@@ -573,9 +576,8 @@ statements::walk_state-returns-in_default-parts t c = let more : 2 ≤ length c.
     record { value = value_same _ _ _ same.value by.value; walked = walked_same _ _ _ _ same.walked by.walked }
 
 pub statements::walk_state-returns-in_ok-walk_expression-in_default : goal.statements::walk_state-returns-in_ok-walk_expression-in_default
-statements::walk_state-returns-in_ok-walk_expression-in_default t c =
-    let same = other_alike _ _ (around_of c.args.around.now) (scope_of c.args.scope.now) c.as_slice-parts.ensures _ c.in_default.not-If
-    c.in_default.not-Assert _ c.in_ok-walk_expression-in_default.ensures.walked in
+statements::walk_state-returns-in_ok-walk_expression-in_default t c = let same = other_alike _ _ (around_of c.args.around.now) (scope_of c.args.scope.now)
+    c.as_slice-parts.ensures _ c.in_default.not-If c.in_default.not-Assert _ c.in_ok-walk_expression-in_default.ensures.walked in
     record { value = same.value; walked = same.walked }
 
 pub statements::walk_in-returns-in_ok-aim-in-len2 : goal.statements::walk_in-returns-in_ok-aim-in-len2
@@ -616,10 +618,9 @@ loops::walk_foreach-returns-in-None t c = let n = c.in_ok-numbers-in-len4.ensure
 pub loops::walk_foreach-returns-in_ok-restore-in-Some : goal.loops::walk_foreach-returns-in_ok-restore-in-Some
 loops::walk_foreach-returns-in_ok-restore-in-Some t c = let n = c.in_ok-numbers-in-len4.ensures in
     let inside = c.with-inside.ensures ∙ ap (λ (bs : List Bound). bs ++ scope_of c.args.scope.now) c.as_slice.ensures in
-    let same = some_turns c.args.place c.args.name.now c.args.way _ _ c.body-item.result c.args.parts.now _ _ _ _ _ c.in-len4.len_at_least
-    c.in-len4.len_below c.body-item.is c.first_parts-three.ensures n.value n.walked c.in_ok-bounds_of-in-len4.ensures _ c.in-Some.is _ _ _ _ _
-    c.in_ok-found-in-Some.ensures.value c.in_ok-found-in-Some.ensures.walked inside c.in_ok-walk_expression-in-Some.ensures.walked
-    c.in_ok-restore-in-Some.ensures in
+    let same = some_turns c.args.place c.args.name.now c.args.way _ _ c.body-item.result c.args.parts.now _ _ _ _ _ c.in-len4.len_at_least c.in-len4.len_below
+    c.body-item.is c.first_parts-three.ensures n.value n.walked c.in_ok-bounds_of-in-len4.ensures _ c.in-Some.is _ _ _ _ _ c.in_ok-found-in-Some.ensures.value
+    c.in_ok-found-in-Some.ensures.walked inside c.in_ok-walk_expression-in-Some.ensures.walked c.in_ok-restore-in-Some.ensures in
     record { value = same.value; walked = same.walked }
 
 pub loops::walk_loop-returns-in_ok-restore-in-len3-3 : goal.loops::walk_loop-returns-in_ok-restore-in-len3-3
@@ -654,8 +655,8 @@ expressions::walk_expression-walk_inward-requires t c = (omega (arith, mass_open
 pub expressions::walk_expression-walk_plain-requires : goal.expressions::walk_expression-walk_plain-requires
 expressions::walk_expression-walk_plain-requires t c = (omega (arith, mass_opens _ _ c.as_slice-else-goes_inward.ensures, c.decreases), tt)
 
-pub expressions::walk_inward-walk_expression-requires : goal.expressions::walk_inward-walk_expression-requires
-expressions::walk_inward-walk_expression-requires t c = (omega (arith, one_mass _ _ c.in-len1.len_at_least c.core-item.is, c.decreases), tt)
+pub made::walk_place-walk_expression-requires : goal.made::walk_place-walk_expression-requires
+made::walk_place-walk_expression-requires t c = (omega (arith, one_mass _ _ c.in-len1.len_at_least c.core-item.is, c.decreases), tt)
 
 pub expressions::walk_parted-assign-requires : goal.expressions::walk_parted-assign-requires
 expressions::walk_parted-assign-requires t c = (omega (arith, ap kind_mass c.in-Assign.is, ap target_masses c.as_slice-in-Assign.ensures, c.decreases), tt)
@@ -727,10 +728,8 @@ targets::spot_target-spot_target-requires t c =
     (omega (arith, target_opens _ _ c.as_slice-targets.ensures, only_target _ _ c.in-len1.len_at_least c.base-item.is, c.decreases), tt)
 
 pub targets::spot_target-walk_each-requires : goal.targets::spot_target-walk_each-requires
-targets::spot_target-walk_each-requires t c = (
-  omega (arith, target_some c.args.target.now, taken_mass c.args.at _ c.args.parts.now _ _ c.left_at.ensures c.first_parts-arguments.ensures, c.decreases),
-  tt,
-)
+targets::spot_target-walk_each-requires t c = let taken = taken_mass c.args.at _ c.args.parts.now _ _ c.left_at.ensures c.first_parts-arguments.ensures in
+    (omega (arith, target_some c.args.target.now, taken, c.decreases), tt)
 
 pub targets::assign_last-walk_expression-requires : goal.targets::assign_last-walk_expression-requires
 targets::assign_last-walk_expression-requires t c = (omega (arith, one_mass _ _ c.in-len1.len_at_least c.core-item.is, c.decreases), tt)
@@ -767,14 +766,8 @@ branches::walk_cases-walk_ways-requires t c =
     (omega (arith, tried_masses _ _ _ _ _ c.as_slice.ensures c.in_ok-ways-in-len1-up.ensures.cores c.in-len1-up.len_at_least c.core-item.is, c.decreases), tt)
 
 pub branches::walk_cases-walk_ways-requires-else-is_try : goal.branches::walk_cases-walk_ways-requires-else-is_try
-branches::walk_cases-walk_ways-requires-else-is_try t c = (
-  omega (
-    arith,
-    cased_masses _ _ _ _ _ c.as_slice-else-is_try.ensures c.in_ok-cases-in-len1-up.ensures.cores c.in-len1-up.len_at_least c.core-item.is,
-    c.decreases,
-  ),
-  tt,
-)
+branches::walk_cases-walk_ways-requires-else-is_try t c = let cores = c.in_ok-cases-in-len1-up.ensures.cores in
+    (omega (arith, cased_masses _ _ _ _ _ c.as_slice-else-is_try.ensures cores c.in-len1-up.len_at_least c.core-item.is, c.decreases), tt)
 
 pub statements::walk_value-walk_expression-requires : goal.statements::walk_value-walk_expression-requires
 statements::walk_value-walk_expression-requires t c = (omega (arith, one_mass _ _ c.in-len1.len_at_least c.value-item.is, c.decreases), tt)

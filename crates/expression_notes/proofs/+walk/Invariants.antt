@@ -45,8 +45,12 @@ invariant-parts::walk_each-loop-index l =
 
 abbrev pub invariant-values::walk_like-loop-item : goal.invariant-values::walk_like-loop-item
 invariant-values::walk_like-loop-item l =
-    run (items_like (each_part (drop l.item-index l.items)) (around_of l.around) (scope_of l.scope) l.reading) (seen l.walking)
-    ≡ run (items_like (each_part l.items) (around_of l.around) (scope_of l.scope) l.reading) (seen l.fn.walking)
+    let rest = items_like (each_part (drop l.item-index l.items)) (around_of l.around) (scope_of l.scope) l.reading in
+    let all = items_like (each_part l.items) (around_of l.around) (scope_of l.scope) l.reading in
+    record {
+      value : l.made ++ got rest (seen l.walking) ≡ l.initial.made ++ got all (seen l.fn.walking);
+      walked : run rest (seen l.walking) ≡ run all (seen l.fn.walking);
+    }
 
 abbrev pub decreases-expressions::walk_inward : goal.decreases-expressions::walk_inward
 decreases-expressions::walk_inward l = masses l.parts.now + 58
@@ -80,6 +84,9 @@ decreases-made::walk_made l = masses l.parts.now + 50
 
 abbrev pub decreases-made::walk_with : goal.decreases-made::walk_with
 decreases-made::walk_with l = masses l.parts.now + 40
+
+abbrev pub decreases-made::walk_place : goal.decreases-made::walk_place
+decreases-made::walk_place l = masses l.parts.now + 40
 
 abbrev pub decreases-branches::walk_branch : goal.decreases-branches::walk_branch
 decreases-branches::walk_branch l = way_mass l.way.now + 6
@@ -176,8 +183,8 @@ decreases-targets::assign l = masses l.parts.now + target_masses l.targets.now +
 
 abbrev pub invariant-reading::walk_suffixes-loop-suffix : goal.invariant-reading::walk_suffixes-loop-suffix
 invariant-reading::walk_suffixes-loop-suffix l =
-    let rest = suffixes_walk (drop l.suffix-index l.suffixes) (around_of l.around) (scope_of l.scope) (left_behind l.parts l.at) l.value in
-    let all = suffixes_walk l.suffixes (around_of l.around) (scope_of l.scope) (left_behind l.parts l.initial.at) l.initial.value in
+    let rest = suffixes_walk l.is_target (drop l.suffix-index l.suffixes) (around_of l.around) (scope_of l.scope) (left_behind l.parts l.at) l.value in
+    let all = suffixes_walk l.is_target l.suffixes (around_of l.around) (scope_of l.scope) (left_behind l.parts l.initial.at) l.initial.value in
     record {
       value : got rest (seen l.walking) ≡ got all (seen l.fn.walking);
       walked : run rest (seen l.walking) ≡ run all (seen l.fn.walking);

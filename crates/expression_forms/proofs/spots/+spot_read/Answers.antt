@@ -1,31 +1,33 @@
 use Rattle.std.proofs.Common.{◌∙◌, ◌+◌, ap, sym, List, [], map, drop}
 use Rattle.value_indices.specs.Steps.{Walk}
-use Rattle.value_indices.specs.Walking.{run, seen}
+use Rattle.value_indices.specs.Walking.{got, run, seen}
 use Rattle.value_indices.specs.declared.indices.Indices.{Indices}
 use Rattle.value_indices.specs.declared.indices.Indices.TheVariants as I
 use Rattle.value_indices.proofs.Walks.{run_give}
-use Rattle.wide_types.proofs.Turns.{once_got, once_run}
+use Rattle.wide_types.proofs.Turns.{found, left_as}
 use Rattle.pattern_leaves.specs.Settings.{around_of}
-use Rattle.pattern_leaves.proofs.Walked.{ended_by, pushed_got, pushed_run}
+use Rattle.pattern_leaves.proofs.Walked.{ended_by, pushed_got, pushed_run, then_got, then_run}
+use Rattle.call_notes.specs.Noted.{node_ended}
 use Rattle.expression_forms.specs.Spots.{Spot, each_read, spot_of}
 use Rattle.expression_forms.proofs.SpotForms.{read_end, read_more, tuple_is}
 use Rattle.expression_forms.proofs.spots.+spot_read.Goals as goal
 
-pub Spot::read-returns-in_ok-parts-in-Tuple-clause-value : goal.Spot::read-returns-in_ok-parts-in-Tuple-clause-value
-Spot::read-returns-in_ok-parts-in-Tuple-clause-value t c =
+pub Spot::read-returns-in_ok-parts-in-Tuple : goal.Spot::read-returns-in_ok-parts-in-Tuple
+Spot::read-returns-in_ok-parts-in-Tuple t c =
     let around = around_of c.args.around.now in
+    let k = c.in-Tuple.number in
     let spots = c.as_slice-in-Tuple.result.now in
-    let is = tuple_is around c.args.self.now c.in-Tuple.field-0 c.in-Tuple.spots spots c.in-Tuple.is c.as_slice-in-Tuple.ensures in
-    once_got (each_read (map (spot_of around) spots)) I.Tuple ((spot_of around c.args.self.now).read) (seen c.args.walking.now)
-    c.in_ok-parts-in-Tuple.parts (ap (λ (s : Spot). s.read) is) c.in_ok-parts-in-Tuple.ensures.value
-
-pub Spot::read-returns-in_ok-parts-in-Tuple-clause-walked : goal.Spot::read-returns-in_ok-parts-in-Tuple-clause-walked
-Spot::read-returns-in_ok-parts-in-Tuple-clause-walked t c =
-    let around = around_of c.args.around.now in
-    let spots = c.as_slice-in-Tuple.result.now in
-    let is = tuple_is around c.args.self.now c.in-Tuple.field-0 c.in-Tuple.spots spots c.in-Tuple.is c.as_slice-in-Tuple.ensures in
-    once_run (each_read (map (spot_of around) spots)) I.Tuple ((spot_of around c.args.self.now).read) (seen c.args.walking.now)
-    (seen c.read_each.new.walking) (ap (λ (s : Spot). s.read) is) c.in_ok-parts-in-Tuple.ensures.walked
+    let is = tuple_is around c.args.self.now c.in-Tuple.field-0 k c.in-Tuple.spots spots c.in-Tuple.is c.as_slice-in-Tuple.ensures in
+    let all = each_read (map (spot_of around) spots) in
+    let ends = λ (parts : List Indices). node_ended k parts (I.Tuple parts) in
+    let w = seen c.args.walking.now in
+    let v = seen c.read_each.new.walking in
+    let read = c.in_ok-parts-in-Tuple in record {
+      value = found c.tuple_ended.result _ _ c.tuple_ended.ensures.value
+          (then_got all ends w v read.parts read.ensures.value read.ensures.walked ∙ sym (ap (λ (s : Spot). got s.read w) is));
+      walked = left_as c.tuple_ended.result (seen c.tuple_ended.new.walking) _ _ c.tuple_ended.ensures.walked
+          (then_run all ends w v read.parts read.ensures.value read.ensures.walked ∙ sym (ap (λ (s : Spot). run s.read w) is));
+    }
 
 pub read_each-loop-spot-preserved : goal.read_each-loop-spot-preserved
 read_each-loop-spot-preserved t c =

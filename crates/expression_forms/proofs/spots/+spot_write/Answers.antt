@@ -1,17 +1,18 @@
-use Rattle.std.proofs.Common.{◌≡◌, ◌∙◌, ◌+◌, ◌*◌, [], ap, arith, map, sym}
-use Rattle.value_indices.specs.Steps.{Walk}
+use Rattle.std.proofs.Common.{◌≡◌, ◌∙◌, ◌+◌, ◌*◌, [], ◌∷◌, ap, arith, map, sym}
+use Rattle.value_indices.specs.Steps.{Walk, give}
 use Rattle.value_indices.specs.Walking.{got, run, seen}
 use Rattle.value_indices.specs.declared.indices.Indices.{Indices}
 use Rattle.value_indices.specs.declared.indices.Indices.TheOpen.{Indices-F}
 use Rattle.value_indices.specs.declared.indices.Indices.TheVariants as I
 use Rattle.value_indices.specs.declared.indices.Reading.{Reading}
-use Rattle.value_indices.proofs.Walks.{got_give, run_give}
+use Rattle.value_indices.proofs.Walks.{got_bind, got_give, run_bind, run_give}
 use Rattle.value_fits.specs.Fitting.{says}
-use Rattle.wide_types.proofs.Turns.{gave_got, gave_run, left, left_as, once_got, once_run}
+use Rattle.wide_types.proofs.Turns.{gave_got, gave_run, left_as, once_got, once_run}
 use Rattle.pattern_leaves.specs.Settings.{around_of}
 use Rattle.pattern_leaves.proofs.Opened.{out_never}
 use Rattle.call_notes.specs.Ends.{fits_unless, wrong_value}
-use Rattle.expression_forms.specs.Spots.{Spot, Wrote, asked_with, left_of, spot_of, tuple_write, wrong_write, wrote, wrote_of}
+use Rattle.expression_forms.specs.Nodes.{put}
+use Rattle.expression_forms.specs.Spots.{Spot, Wrote, call_written, left_of, spot_of, tuple_write, wrong_write, wrote, wrote_of}
 use Rattle.expression_forms.proofs.SpotForms.{call_is, named_is, no_tuple, wrong_is, wrote_in}
 use Rattle.expression_forms.proofs.SpotMasses.{one_spot, spot_mass, spot_masses, tuple_opens}
 use Rattle.expression_forms.proofs.Tuples.{all_written, even_end, uneven_end, written_got, written_run}
@@ -21,7 +22,8 @@ use Rattle.expression_forms.proofs.spots.+spot_write.Goals as goal
 
 pub Spot::write-write_tuple-requires : goal.Spot::write-write_tuple-requires
 Spot::write-write_tuple-requires t c =
-    let opens = tuple_opens c.args.self.now c.in-Tuple.place c.in-Tuple.spots c.as_slice-in-Tuple.result.now c.in-Tuple.is c.as_slice-in-Tuple.ensures in
+    let opens = tuple_opens c.args.self.now c.in-Tuple.place c.in-Tuple.field-1 c.in-Tuple.spots c.as_slice-in-Tuple.result.now c.in-Tuple.is
+    c.as_slice-in-Tuple.ensures in
     let measure : 2 * spot_mass c.args.self.now ≡ t = c.decreases in
     (omega (arith, opens, measure), tt)
 
@@ -48,9 +50,12 @@ Spot::write-returns-in-Named-clause-value t c =
     let n = c.args.is_nested in
     let i = c.args.value.now in
     let r = c.in-Named.reading in
-    let is = named_is around c.args.self.now c.in-Named.field-0 c.in-Named.field-1 r c.in-Named.is in
-    wrote_in c.of_value.result around (λ a. wrote (fits_unless n a i r) I.Unit) _ c.of_value.ensures
-    (sym (ap (λ (s : Spot). got (s.write n i) w) is ∙ got_give (wrote (fits_unless n around i r) I.Unit) w))
+    let k = c.in-Named.number in
+    let is = named_is around c.args.self.now c.in-Named.field-0 k c.in-Named.field-2 r c.in-Named.is in
+    let puts = put k (i ∷ []) r i in
+    let y = wrote (fits_unless n around i r) I.Unit in
+    wrote_in c.write_named.result around (λ a. wrote (fits_unless n a i r) I.Unit) _ c.write_named.ensures.value
+    (sym (ap (λ (s : Spot). got (s.write n i) w) is ∙ got_bind puts (λ t. give y) w ∙ got_give y (run puts w)))
 
 pub Spot::write-returns-in-Named-clause-walked : goal.Spot::write-returns-in-Named-clause-walked
 Spot::write-returns-in-Named-clause-walked t c =
@@ -59,8 +64,12 @@ Spot::write-returns-in-Named-clause-walked t c =
     let n = c.args.is_nested in
     let i = c.args.value.now in
     let r = c.in-Named.reading in
-    let is = named_is around c.args.self.now c.in-Named.field-0 c.in-Named.field-1 r c.in-Named.is in
-    left c.of_value.result w _ (sym (ap (λ (s : Spot). run (s.write n i) w) is ∙ run_give (wrote (fits_unless n around i r) I.Unit) w))
+    let k = c.in-Named.number in
+    let is = named_is around c.args.self.now c.in-Named.field-0 k c.in-Named.field-2 r c.in-Named.is in
+    let puts = put k (i ∷ []) r i in
+    let y = wrote (fits_unless n around i r) I.Unit in
+    left_as c.write_named.result (seen c.write_named.new.walking) _ _ c.write_named.ensures.walked
+    (sym (ap (λ (s : Spot). run (s.write n i) w) is ∙ run_bind puts (λ t. give y) w ∙ run_give y (run puts w)))
 
 pub Spot::write-returns-in_ok-answer-in-Call-clause-value : goal.Spot::write-returns-in_ok-answer-in-Call-clause-value
 Spot::write-returns-in_ok-answer-in-Call-clause-value t c =
@@ -69,10 +78,10 @@ Spot::write-returns-in_ok-answer-in-Call-clause-value t c =
     let i = c.args.value.now in
     let bs = c.as_slice.result.now in
     let is = c.as_slice-in-Call.result.now in
-    let whole = call_is around c.args.self.now c.in-Call.place c.in-Call.field-1 c.in-Call.writer c.in-Call.nested bs c.in-Call.arguments is c.in-Call.is
-    c.as_slice.ensures c.as_slice-in-Call.ensures in
+    let whole = call_is around c.args.self.now c.in-Call.place c.in-Call.number c.in-Call.field-2 c.in-Call.writer c.in-Call.nested bs
+    c.in-Call.arguments is c.in-Call.is c.as_slice.ensures c.as_slice-in-Call.ensures in
     c.gives.ensures around
-    ∙ once_got (asked_with around c.in-Call.place c.in-Call.writer bs is n i) (λ (answer : Indices). wrote (says []) answer)
+    ∙ once_got (call_written around c.in-Call.place c.in-Call.number c.in-Call.writer bs is n i) (λ (answer : Indices). wrote (says []) answer)
     ((spot_of around c.args.self.now).write n i) (seen c.args.walking.now) c.in_ok-answer-in-Call.answer (ap (λ (s : Spot). s.write n i) whole)
     c.in_ok-answer-in-Call.ensures.value
 
@@ -83,10 +92,10 @@ Spot::write-returns-in_ok-answer-in-Call-clause-walked t c =
     let i = c.args.value.now in
     let bs = c.as_slice.result.now in
     let is = c.as_slice-in-Call.result.now in
-    let whole = call_is around c.args.self.now c.in-Call.place c.in-Call.field-1 c.in-Call.writer c.in-Call.nested bs c.in-Call.arguments is c.in-Call.is
-    c.as_slice.ensures c.as_slice-in-Call.ensures in
-    once_run (asked_with around c.in-Call.place c.in-Call.writer bs is n i) (λ (answer : Indices). wrote (says []) answer)
-    ((spot_of around c.args.self.now).write n i) (seen c.args.walking.now) (seen c.asked_with.new.walking) (ap (λ (s : Spot). s.write n i) whole)
+    let whole = call_is around c.args.self.now c.in-Call.place c.in-Call.number c.in-Call.field-2 c.in-Call.writer c.in-Call.nested bs
+    c.in-Call.arguments is c.in-Call.is c.as_slice.ensures c.as_slice-in-Call.ensures in
+    once_run (call_written around c.in-Call.place c.in-Call.number c.in-Call.writer bs is n i) (λ (answer : Indices). wrote (says []) answer)
+    ((spot_of around c.args.self.now).write n i) (seen c.args.walking.now) (seen c.write_call.new.walking) (ap (λ (s : Spot). s.write n i) whole)
     c.in_ok-answer-in-Call.ensures.walked
 
 -- ---- several

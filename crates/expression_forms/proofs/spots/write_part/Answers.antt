@@ -6,7 +6,7 @@ use Rattle.value_fits.specs.Fitting.{says}
 use Rattle.wide_types.proofs.Turns.{once_got}
 use Rattle.pattern_leaves.specs.Settings.{around_of}
 use Rattle.pattern_leaves.proofs.Walked.{then_got}
-use Rattle.expression_forms.specs.Spots.{gives, owes_itself, part_write, spot_of, wrote}
+use Rattle.expression_forms.specs.Spots.{gives, owes_itself, part_write, rewritten, spot_of, wrote}
 use Rattle.expression_forms.specs.Ways.{owe_part, part_fits}
 use Rattle.expression_forms.proofs.SpotForms.{wrote_in}
 use Rattle.expression_forms.proofs.spots.write_part.Goals as goal
@@ -18,7 +18,7 @@ returns-in_ok-answer-clause-value c =
     let x = c.args.reached.now in
     let n = c.args.is_nested in
     let i = c.args.value.now in
-    let again = (spot_of around c.args.base.now).renew c.args.held.now in
+    let again = rewritten (spot_of around c.args.base.now) c.args.held.now in
     let owes = owe_part around c.args.place x n i in
     let w = seen c.args.walking.now in
     let v = seen c.owe_part.new.walking in
@@ -34,7 +34,7 @@ returns-in_ok-answer-2-clause-value c =
     let x = c.args.reached.now in
     let n = c.args.is_nested in
     let i = c.args.value.now in
-    let again = (spot_of around c.args.base.now).renew c.args.held.now in
+    let again = rewritten (spot_of around c.args.base.now) c.args.held.now in
     let w = seen c.args.walking.now in
     let answer = c.in_ok-answer-2.answer in
     let is = ap (λ (b : Bool). part_write around c.args.place b x again n i) (sym c.owes_itself.ensures ∙ c.if-owes_itself.false) in

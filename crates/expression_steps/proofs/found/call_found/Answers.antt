@@ -7,6 +7,7 @@ use Rattle.expression_steps.proofs.found.call_found.Goals as goal
 
 pub returns : goal.returns
 returns c around parts =
-    (λ j. spotted (call_is around c.args.place c.args.reader c.args.writer c.in_ok-nested.nested c.args.values j) (left_behind parts c.behind.result))
-    ∙ (λ j. spotted (call_spot around c.args.place c.args.reader c.args.writer (c.in_ok-nested.ensures j) c.args.values)
+    (λ j. spotted (call_is around c.args.place c.args.number c.args.reader c.args.writer c.in_ok-nested.nested c.args.values j)
+    (left_behind parts c.behind.result))
+    ∙ (λ j. spotted (call_spot around c.args.place c.args.number c.args.reader c.args.writer (c.in_ok-nested.ensures j) c.args.values)
     (left_behind parts (c.behind.ensures j)))

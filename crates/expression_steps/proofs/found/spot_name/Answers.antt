@@ -14,8 +14,8 @@ returns-in_ok-spot-in-empty c =
     let scope = scope_of c.args.scope.now in
     let left = left_behind c.args.parts.now c.args.at in
     record {
-      value = name_got c.args.place around scope left c.args.name.now c.args.targets.now (spot_of around c.in_ok-spot-in-empty.spot)
+      value = name_got c.args.place c.args.number around scope left c.args.name.now c.args.targets.now (spot_of around c.in_ok-spot-in-empty.spot)
           (option_copied c.look_up.result) (seen c.args.walking.now) c.in-empty.len_below (c.in_ok-spot-in-empty.ensures around)
           (c.look_up.ensures ∙ (λ j. held_in (c.as_str.ensures j) scope));
-      walked = name_run c.args.place around scope left c.args.name.now c.args.targets.now (seen c.args.walking.now) c.in-empty.len_below;
+      walked = name_run c.args.place c.args.number around scope left c.args.name.now c.args.targets.now (seen c.args.walking.now) c.in-empty.len_below;
     }

@@ -15,8 +15,8 @@ returns-in_ok-spot-in-empty c =
     let left = left_behind c.args.parts.now c.args.at in
     let there = item_there around.registers c.args.register c.get.result c.get.ensures.lookup.0 c.get.ensures.lookup.1 in
     record {
-      value = register_got c.args.place around scope left c.args.register c.args.targets.now (spot_of around c.in_ok-spot-in-empty.spot)
+      value = register_got c.args.place c.args.number around scope left c.args.register c.args.targets.now (spot_of around c.in_ok-spot-in-empty.spot)
           (seen c.args.walking.now) c.in-empty.len_below
-          (c.in_ok-spot-in-empty.ensures around ∙ (λ j. register_spot around c.args.place (there j)));
-      walked = register_run c.args.place around scope left c.args.register c.args.targets.now (seen c.args.walking.now) c.in-empty.len_below;
+          (c.in_ok-spot-in-empty.ensures around ∙ (λ j. register_spot around c.args.place c.args.number (there j)));
+      walked = register_run c.args.place c.args.number around scope left c.args.register c.args.targets.now (seen c.args.walking.now) c.in-empty.len_below;
     }

@@ -5,9 +5,9 @@ use Rattle.expression_steps.proofs.Spots.{tuple_is}
 use Rattle.expression_steps.proofs.found.tuple_found.Goals as goal
 
 pub returns-in-None : goal.returns-in-None
-returns-in-None c around parts = (λ j. tuple_spotted c.args.place (spotted_all_in around parts (sym c.in-None.is j)))
+returns-in-None c around parts = (λ j. tuple_spotted c.args.place c.args.number (spotted_all_in around parts (sym c.in-None.is j)))
 
 pub returns-in-Some : goal.returns-in-Some
 returns-in-Some c around parts =
-    (λ j. spotted (tuple_is around c.args.place c.in-Some.spots j) (left_behind parts c.in-Some.at))
-    ∙ (λ j. tuple_spotted c.args.place (spotted_all_in around parts (sym c.in-Some.is j)))
+    (λ j. spotted (tuple_is around c.args.place c.args.number c.in-Some.spots j) (left_behind parts c.in-Some.at))
+    ∙ (λ j. tuple_spotted c.args.place c.args.number (spotted_all_in around parts (sym c.in-Some.is j)))

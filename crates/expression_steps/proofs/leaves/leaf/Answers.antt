@@ -12,12 +12,12 @@ use Rattle.expression_steps.proofs.leaves.leaf.Goals as goal
 pub returns-in-Constant-clause-value : goal.returns-in-Constant-clause-value
 returns-in-Constant-clause-value c =
     c.literal_indices.ensures
-    ∙ literal_got c.args.place c.args.kind.now c.args.parts.now (around_of c.args.around.now) (scope_of c.args.scope.now)
+    ∙ literal_got c.args.place c.args.number c.args.kind.now c.args.parts.now (around_of c.args.around.now) (scope_of c.args.scope.now)
     (sym c.is_empty.ensures ∙ c.if-not-is_empty.false) c.in-Constant.literal (seen c.args.walking.now) c.in-Constant.is
 
 pub returns-in-Constant-clause-walked : goal.returns-in-Constant-clause-walked
 returns-in-Constant-clause-walked c =
-    literal_run c.args.place c.args.kind.now c.args.parts.now (around_of c.args.around.now) (scope_of c.args.scope.now)
+    literal_run c.args.place c.args.number c.args.kind.now c.args.parts.now (around_of c.args.around.now) (scope_of c.args.scope.now)
     (sym c.is_empty.ensures ∙ c.if-not-is_empty.false) c.in-Constant.literal (seen c.args.walking.now) c.in-Constant.is
 
 pub returns-in-TopLevel-clause-value : goal.returns-in-TopLevel-clause-value
@@ -26,7 +26,7 @@ returns-in-TopLevel-clause-value c =
     let there = item_there around.lets c.in-TopLevel.index c.get.result c.get.ensures.lookup.0 c.get.ensures.lookup.1 in
     value_same c.read_top_level.result _ _
     (ap (λ (a : Walk Indices). got a (seen c.args.walking.now))
-    (top_level_is c.args.place c.args.kind.now c.args.parts.now around (scope_of c.args.scope.now)
+    (top_level_is c.args.place c.args.number c.args.kind.now c.args.parts.now around (scope_of c.args.scope.now)
     (sym c.is_empty.ensures ∙ c.if-not-is_empty.false) c.in-TopLevel.index _ c.in-TopLevel.is there))
     c.read_top_level.ensures.value
 
@@ -36,7 +36,7 @@ returns-in-TopLevel-clause-walked c =
     let there = item_there around.lets c.in-TopLevel.index c.get.result c.get.ensures.lookup.0 c.get.ensures.lookup.1 in
     walked_same c.read_top_level.result _ _ _
     (ap (λ (a : Walk Indices). run a (seen c.args.walking.now))
-    (top_level_is c.args.place c.args.kind.now c.args.parts.now around (scope_of c.args.scope.now)
+    (top_level_is c.args.place c.args.number c.args.kind.now c.args.parts.now around (scope_of c.args.scope.now)
     (sym c.is_empty.ensures ∙ c.if-not-is_empty.false) c.in-TopLevel.index _ c.in-TopLevel.is there))
     c.read_top_level.ensures.walked
 
@@ -47,7 +47,7 @@ returns-in-Register-clause-value c =
     c.get-in-Register.ensures.lookup.1 in
     value_same c.read_register.result _ _
     (ap (λ (a : Walk Indices). got a (seen c.args.walking.now))
-    (register_is c.args.place c.args.kind.now c.args.parts.now around (scope_of c.args.scope.now)
+    (register_is c.args.place c.args.number c.args.kind.now c.args.parts.now around (scope_of c.args.scope.now)
     (sym c.is_empty.ensures ∙ c.if-not-is_empty.false) c.in-Register.index _ c.in-Register.is there))
     c.read_register.ensures.value
 
@@ -58,6 +58,6 @@ returns-in-Register-clause-walked c =
     c.get-in-Register.ensures.lookup.1 in
     walked_same c.read_register.result _ _ _
     (ap (λ (a : Walk Indices). run a (seen c.args.walking.now))
-    (register_is c.args.place c.args.kind.now c.args.parts.now around (scope_of c.args.scope.now)
+    (register_is c.args.place c.args.number c.args.kind.now c.args.parts.now around (scope_of c.args.scope.now)
     (sym c.is_empty.ensures ∙ c.if-not-is_empty.false) c.in-Register.index _ c.in-Register.is there))
     c.read_register.ensures.walked

@@ -5,7 +5,7 @@ use Rattle.pattern_leaves.specs.Settings.{around_of, exponents_owed}
 use Rattle.pattern_notes.specs.Patterns.{look, looks, arm_match}
 use Rattle.expression_steps.specs.Parts.{Part}
 use Rattle.expression_steps.specs.Expressions.{part}
-use Rattle.function_notes.specs.Functions.{parameters_opened, in_clause, body_of}
+use Rattle.function_notes.specs.Functions.{parameters_entered, in_clause, body_of}
 use Rattle.function_notes.proofs.Chained.{chained_run, chained_got}
 use Rattle.function_notes.proofs.clauses.walk_clause.Goals as goal
 
@@ -14,12 +14,12 @@ returns-clause-value c =
     let around = around_of c.args.around.now in
     let common = c.args.common.now in
     let arm = c.args.arm.now in
-    let first = λ (ps : List Pattern). parameters_opened (map look ps) around.numbers common.types.now in
+    let first = λ (ps : List Pattern). parameters_entered common.entry (map look ps) around.numbers common.types.now in
     let v = seen c.remember.new.self in
-    chained_got (parameters_opened (looks arm) around.numbers common.types.now) (exponents_owed around c.args.once.now)
+    chained_got (parameters_entered common.entry (looks arm) around.numbers common.types.now) (exponents_owed around c.args.once.now)
     (λ is. arm_match common.place arm around in_clause is)
     (λ found. Part.walk (part (body_of common.is_declared c.args.body.now)) around found common.aim.now)
-    (seen c.args.walking.now) v (seen c.open_parameters.new.walking) (seen c.owe_exponents.new.walking) (seen c.match_arm.new.walking)
+    (seen c.args.walking.now) v (seen c.enter_parameters.new.walking) (seen c.owe_exponents.new.walking) (seen c.match_arm.new.walking)
     c.as_slice.result.now c.as_slice-2.result.now c.in_ok-remember.ensures
     (c.as_slice.ensures ∙ (c.in_ok-values.ensures.value ∙ ap (λ ps. got (first ps) v) c.patterns_of.ensures))
     (c.in_ok-values.ensures.walked ∙ ap (λ ps. run (first ps) v) c.patterns_of.ensures)
@@ -31,12 +31,12 @@ returns-clause-walked c =
     let around = around_of c.args.around.now in
     let common = c.args.common.now in
     let arm = c.args.arm.now in
-    let first = λ (ps : List Pattern). parameters_opened (map look ps) around.numbers common.types.now in
+    let first = λ (ps : List Pattern). parameters_entered common.entry (map look ps) around.numbers common.types.now in
     let v = seen c.remember.new.self in
-    chained_run (parameters_opened (looks arm) around.numbers common.types.now) (exponents_owed around c.args.once.now)
+    chained_run (parameters_entered common.entry (looks arm) around.numbers common.types.now) (exponents_owed around c.args.once.now)
     (λ is. arm_match common.place arm around in_clause is)
     (λ found. Part.walk (part (body_of common.is_declared c.args.body.now)) around found common.aim.now)
-    (seen c.args.walking.now) v (seen c.open_parameters.new.walking) (seen c.owe_exponents.new.walking) (seen c.match_arm.new.walking)
+    (seen c.args.walking.now) v (seen c.enter_parameters.new.walking) (seen c.owe_exponents.new.walking) (seen c.match_arm.new.walking)
     c.as_slice.result.now c.as_slice-2.result.now c.in_ok-remember.ensures
     (c.as_slice.ensures ∙ (c.in_ok-values.ensures.value ∙ ap (λ ps. got (first ps) v) c.patterns_of.ensures))
     (c.in_ok-values.ensures.walked ∙ ap (λ ps. run (first ps) v) c.patterns_of.ensures)

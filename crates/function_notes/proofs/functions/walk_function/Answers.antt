@@ -22,5 +22,5 @@ returns c =
     (seen c.own_indices.new.walking) (seen c.constrain.new.walking)
     (c.in_ok-numbers.ensures.value ∙ ap (λ vs. got (own_indices vs) w) c.as_slice.ensures)
     (c.in_ok-numbers.ensures.walked ∙ ap (λ vs. run (own_indices vs) w) c.as_slice.ensures)
-    c.in_ok-constrain.ensures inner c.as_slice-5.ensures c.walk_clauses.result (seen c.walk_clauses.new.walking) c.as_slice-6.ensures aim
-    c.walk_clauses.ensures
+    c.in_ok-constrain.ensures inner c.as_slice-5.ensures c.make_last.result (seen c.walk_clauses.new.walking) (seen c.make_last.new.walking)
+    c.in_ok-answer.answer c.as_slice-6.ensures aim answer c.in_ok-walk_clauses.ensures c.make_last.ensures

@@ -1,4 +1,4 @@
-use Rattle.std.proofs.Common.{◌≡◌, sym, subst, [], ◌∷◌, true, arith}
+use Rattle.std.proofs.Common.{◌≡◌, sym, subst, [], ◌∷◌, None, true, arith}
 use Rattle.sail_types.specs.declared.numbers.Con.TheVariants as C
 use Rattle.sail_core.specs.declared.model.Direction.{Direction}
 use Rattle.sail_core.specs.declared.patterns.Arm.{Arm}
@@ -19,7 +19,7 @@ way_rest : (place : Place) (around : Around) (m : Direction) (arm : Arm) (core :
     → v ≡ run (way_read place around m arm core) w → IsAtRest v
 way_rest place around m arm core w v rest walked =
     subst (λ (u : Written). IsAtRest u) (sym walked) (alone_rest (found_in (node_of around.numbers core))
-    (clause_inside (C.Truth true) place around (m.parameter ∷ []) (aimed Aims.Due (R.Of m.result [] [])) true arm core) w rest)
+    (clause_inside (C.Truth true) place None around (m.parameter ∷ []) (aimed Aims.Due (R.Of m.result [] [])) true arm core) w rest)
 
 pub read_way-requires-in-loop-at : goal.read_way-requires-in-loop-at
 read_way-requires-in-loop-at c =
