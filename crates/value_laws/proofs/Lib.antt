@@ -4,5 +4,6 @@ pub mod Steps
 pub mod Values
 pub mod Alike
 pub mod Arguments
+pub mod Meanings
 pub mod Knowing
 pub mod Opening

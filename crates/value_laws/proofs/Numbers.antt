@@ -22,7 +22,7 @@ use Rattle.sail_types.proofs.Substituted.{number_atom, number_constant, atom_var
 use Rattle.row_types.specs.Formulas.{least, most}
 use Rattle.row_types.specs.laws.Goals.{con_read}
 use Rattle.value_indices.specs.Opening.{at_most}
-use Rattle.value_laws.specs.Belonging.{Integers, standing}
+use Rattle.value_laws.specs.Belonging.{Integers, index_there, standing}
 
 none : {A B : Type 0} {x : B} → None ≡ Some x → A
 none h = absurd (cc)
@@ -121,3 +121,11 @@ module _ (past : Positive) (f : Integers) where
         ap (λ i. true_in there (truth_or_false (Some i))) (sym k.2) ∙ truth_is there false ∙ sym (truth_is before false)
     index_truth (N.Truth c) x h =
         let k = mapped N.Truth (read_con is c) x h in ap (λ i. true_in there (truth_or_false (Some i))) (sym k.2) ∙ truth_read is c k.0 k.1
+
+    pub index_read : (a x : Index) → read_index is a ≡ Some x → index_there there x ≡ index_there before a
+    index_read (N.Number t) x h =
+        let k = mapped N.Number (read is t) x h in
+        ap (index_there there) (sym k.2) ∙ ap (λ z. N.Number (constant z)) (number_read is t k.0 k.1)
+    index_read (N.Truth c) x h =
+        let k = mapped N.Truth (read_con is c) x h in
+        ap (index_there there) (sym k.2) ∙ ap (λ b. N.Truth (C.Truth b)) (truth_read is c k.0 k.1)

@@ -24,9 +24,10 @@ use Rattle.sail_types.specs.declared.numbers.Index.{Index}
 use Rattle.sail_types.specs.declared.numbers.Index.TheVariants as N
 use Rattle.sail_types.specs.declared.numbers.Num.{Num}
 use Rattle.sail_types.specs.declared.table.Types.{Types}
-use Rattle.sail_types.specs.declared.types.Typ.{Typ, Typ-F, roll-Typ}
+use Rattle.sail_types.specs.declared.types.Typ.{Typ, Typ-F, out-Typ, roll-Typ}
 use Rattle.sail_types.specs.declared.types.Typ.TheFolds.{para-roll-Typ, map-Typ, ind-Typ}
 use Rattle.sail_types.specs.declared.types.Typ.TheOpen as T
+use Rattle.sail_types.specs.declared.types.Typ.TheViews.{out-roll-Typ}
 use Rattle.sail_types.specs.declared.types.Typ.TheVariants as U
 use Rattle.sail_types.specs.declared.values.Value.{Value, Value-F, out-Value, roll-Value}
 use Rattle.sail_types.specs.declared.values.Value.TheFolds.{map-Value}
@@ -48,19 +49,20 @@ use Rattle.value_indices.specs.Opening.{any_integer, any_truth, bits_of, vector_
 use Rattle.value_indices.specs.Opening.{truth_opened, bits_opened, integer_opened, range_opened, vector_opened, named_opened}
 use Rattle.value_indices.specs.Opening.{bound_inside, variable_opened, parts_opened, namings_of, form_opened, typ_opened, widened_opened, reading_opened}
 use Rattle.value_indices.specs.Opening.{opening, wide_opening, with_openings, Opening, Inner as Inside}
-use Rattle.value_laws.specs.Belonging.{Integers, standing, nowhere, closeds, or_no_value, type_variables, number_there, index_there, meant, closed, has}
+use Rattle.value_laws.specs.Belonging.{Integers, standing, nowhere, closeds, or_no_value, type_variables, number_there, index_there, Meant, meant, closed}
 use Rattle.value_laws.specs.Belonging.{is_of}
-use Rattle.value_laws.specs.Belonging.{types_or_own, form_holds, each_holds, wides, wide_of, closed_form}
+use Rattle.value_laws.specs.Belonging.{types_or_own, form_holds, wides, wide_of, closed_form}
 use Rattle.value_laws.specs.Known.{Point, Agree, Later, Goes}
 use Rattle.value_laws.specs.Laws.{OpeningIsSound}
 use Rattle.value_laws.proofs.Numbers.{above_least, below_most, number_read, truth_read}
 use Rattle.value_laws.proofs.Numbers.{under_is}
 use Rattle.value_laws.proofs.Steps.{same, agree_on, gives, goes_then, assumes_if, fresh_called}
 use Rattle.value_laws.proofs.Values.{questions, inner, form_asked, belongs_out, belongs_form, inner_is, answer, variable_belongs, nothing_belongs, answer_is}
-use Rattle.value_laws.proofs.Values.{meanings, has_form, closed_is, meant_is, closing}
-use Rattle.value_laws.proofs.Arguments.{under_these, Still, still_later, arguments_go, assigned_there}
-use Rattle.value_laws.proofs.Knowing.{number_goes, bits_known, vector_known, integer_known, between_known, truth_has, any_truth_known, truth_goes, both_goes}
-use Rattle.value_laws.proofs.Knowing.{tuple_known}
+use Rattle.value_laws.proofs.Values.{meanings, closed_is, meant_is, closing}
+use Rattle.value_laws.proofs.Arguments.{under_these, Still, still_later, arguments_go, assigned_there, assigned_under, indices_there}
+use Rattle.value_laws.proofs.Knowing.{AllOpened, Opened, any_truth_known, between_known, bits_known, both_opened, form_meant, integer_known, number_goes}
+use Rattle.value_laws.proofs.Knowing.{opens_then, truth_goes, truth_holds, truth_meant, truth_means, tuple_known, vector_known}
+use Rattle.value_laws.proofs.Meanings.{bit_same, lists_same, named_same, strings_same, units_same, variable_same}
 use Rattle.value_laws.proofs.Alike.{asks, fields_alike, payload_alike, variables_same}
 
 none : {A B : Type 0} {x : A} → None ≡ Some x → B
@@ -71,19 +73,35 @@ small_count : (n : ℕ) → n ≤ 4096 → is_small (pos n) ≡ true
 unfolding largest
 small_count n le = le-leb n (2 ^ 126) (omega arith)
 
+truth_same : (b c : Bool) → beq b c ≡ true → c ≡ b
+truth_same true true h = refl
+truth_same true false h = no h
+truth_same false true h = no h
+truth_same false false h = refl
+
 module _ (types : Types) (past : Positive) (own : List Closed) where
   abbrev there : Integers → Assignment
   there g = standing past g
 
-  abbrev Has : Value → Integers → Indices → Type 0
-  Has v g i = has types (there g) own i v ≡ true
+  abbrev zeros : Integers
+  zeros i = pos 0
+
+  -- a walk that gives indices that a value has, whatever variables stand for that aren't fixed
+  abbrev Opens : Value → (n : ℕ) → Point n → List Fact → Walk Indices → Type 0
+  Opens v n f facts walk = Opened types past own v n f facts walk
+
+  abbrev AllOpen : List Value → (n : ℕ) → Point n → List Fact → Walk (List Indices) → Type 0
+  AllOpen vs n f facts walk = AllOpened types past own vs n f facts walk
+
+  abbrev Means : Meant → Integers → Indices → Type 0
+  Means m g i = meant types (there g) own i ≡ m
+
+  abbrev meant_by : Indices-F Meant Closed → Meant
+  meant_by x = form_meant types past own x
 
   -- for all integers of variables that aren't fixed
   abbrev Always : {n : ℕ} → Point n → (Integers → Type 0) → Type 0
   Always f P = (g : Integers) → Agree f g → P g
-
-  abbrev AllHave : List Value → Integers → List Indices → Type 0
-  AllHave vs g is = each_holds (map (meant types (there g) own) is) vs ≡ true
 
   -- ---- forms that are known as they stand
 
@@ -115,9 +133,53 @@ module _ (types : Types) (past : Positive) (own : List Closed) where
   list_holds mu rs g t q e w h = no h
 
   bool_known : {n : ℕ} {f : Point n} {facts : List Fact} (name : Naming) (mu : Integers → Assignment) (rs : Integers → Closeds) (v : Value) (w : Value-F Value)
-      → out-Value v ≡ w → Always f (λ g. form_asked types w T.Bool (mu g) (rs g) ≡ true) → Goes past n f facts (any_truth name) (Has v)
+      → out-Value v ≡ w → Always f (λ g. form_asked types w T.Bool (mu g) (rs g) ≡ true) → Opens v n f facts (any_truth name)
   bool_known name mu rs v (V.Truth b) e h = any_truth_known types past own name b v e
   bool_known {n} {f} name mu rs v w e h = no (h f.integers (same f))
+
+  -- ---- parts of types, with what their variables stand for
+
+  abbrev assignment_of : Closed → Assignment
+  assignment_of (reading t mu rs) = mu
+
+  abbrev readings_of : Closed → Closeds
+  readings_of (reading t mu rs) = rs
+
+  abbrev list_of : Closeds → List Closed
+  list_of no_readings = []
+  list_of (more_readings r rs) = r ∷ list_of rs
+
+  list_back : (cs : List Closed) → list_of (closeds cs) ≡ cs
+  list_back [] = refl
+  list_back (c ∷ cs) = ap (λ ds. c ∷ ds) (list_back cs)
+
+  same_lists : (cs ds : List Closed) → closeds cs ≡ closeds ds → cs ≡ ds
+  same_lists cs ds e = sym (list_back cs) ∙ ap list_of e ∙ list_back ds
+
+  abbrev typ_of : Closed → Typ
+  typ_of (reading t mu rs) = t
+
+  abbrev first_or : Closed → List Closed → Closed
+  first_or c [] = c
+  first_or c (d ∷ ds) = d
+
+  abbrev behind_first : List Closed → List Closed
+  behind_first [] = []
+  behind_first (d ∷ ds) = ds
+
+  -- of lists that are the same the first and the rest are
+  cons_same : (c d : Closed) (cs ds : List Closed) → (c ∷ cs) ≡ (d ∷ ds) → (c ≡ d) × (cs ≡ ds)
+  cons_same c d cs ds e = (ap (first_or c) e, ap behind_first e)
+
+  abbrev args_in : Typ-F Typ → List Index
+  args_in (T.Named u is ts) = is
+  args_in x = []
+
+  args_back : (u : ℕ) (is : List Index) (ts : List Typ) → args_in (out-Typ (U.Named u is ts)) ≡ is
+  args_back u is ts = ap args_in (ap out-Typ (sym (U.rolls-Named u is ts)) ∙ out-roll-Typ (T.Named u is ts))
+
+  args_same : (u : ℕ) (is js : List Index) (ts us : List Typ) → U.Named u is ts ≡ U.Named u js us → is ≡ js
+  args_same u is js ts us e = sym (args_back u is ts) ∙ ap (λ t. args_in (out-Typ t)) e ∙ args_back u js us
 
   -- what a type of the walk is hangs on fixed variables alone
   abbrev Steady : {n : ℕ} → Point n → Reading → Type 0
@@ -129,7 +191,7 @@ module _ (types : Types) (past : Positive) (own : List Closed) where
   -- a type of the walk, where the value in hand belongs to it
   ReadingGoes : Reading → Type 0
   ReadingGoes r = (tells : Bool) (name : Naming) (n : ℕ) (f : Point n) (facts : List Fact) (v : Value) → Steady f r
-      → Always f (λ g. is_of types (there g) own r v ≡ true) → Goes past n f facts (opening r tells name) (Has v)
+      → Always f (λ g. is_of types (there g) own r v ≡ true) → Opens v n f facts (opening r tells name)
 
   -- ---- types, under what the variables of the type stand for
 
@@ -152,31 +214,64 @@ module _ (types : Types) (past : Positive) (own : List Closed) where
     stand_later : {n m : ℕ} (f : Point n) (g : Point m) → Later f g → Stand f → Stand g
     stand_later f g a s i r e = steady_later f g r a (s i r e)
 
+    stood_by : (g k : Integers) (cs ds : List Closed) → cs ≡ ds → types_or_own types (there g) own cs ≡ types_or_own types (there k) own ds
+    stood_by g k [] [] e = refl
+    stood_by g k [] (d ∷ ds) e = absurd (never e)
+      where
+        never : {A : Type 0} {x : A} {xs : List A} → [] ≡ (x ∷ xs) → ⊥
+        never h = cc
+    stood_by g k (c ∷ cs) [] e = absurd (never e)
+      where
+        never : {A : Type 0} {x : A} {xs : List A} → (x ∷ xs) ≡ [] → ⊥
+        never h = cc
+    stood_by g k (c ∷ cs) (d ∷ ds) e = e
+
+    all_steady : (g k : Integers) (qs : List Reading)
+        → ((i : ℕ) (r : Reading) → slice_get qs i ≡ Some r → closed types (there g) own r ≡ closed types (there k) own r)
+        → map (closed types (there g) own) qs ≡ map (closed types (there k) own) qs
+    all_steady g k [] h = refl
+    all_steady g k (q ∷ qs) h = λ j. h 0 q refl j ∷ all_steady g k qs (λ i r e. h (suc i) r e) j
+
+    stood_steady : {n : ℕ} (f : Point n) → Stand f → (g : Integers) → Agree f g → stood g ≡ stood f.integers
+    stood_steady f stand g a =
+        ap closeds (stood_by g f.integers (map (closed types (there g) own) rs) (map (closed types (there f.integers) own) rs)
+        (all_steady g f.integers rs (λ i r e. stand i r e g a)))
+
+    -- so is a type under them
+    of_steady : {n : ℕ} (f : Point n) (is : List Index) (t : Typ) → Still past f is → Stand f → Steady f (R.Of t is rs)
+    of_steady f is t still stand g a =
+        closed_of g t is ∙ (λ j. reading t (still g a j) (stood_steady f stand g a j)) ∙ sym (closed_of f.integers t is)
+
+    ofs_steady : {n : ℕ} (f : Point n) (is : List Index) (ts : List Typ) → Still past f is → Stand f
+        → Always f (λ g. map (closed types (there g) own) (map (λ t. R.Of t is rs) ts) ≡ map (closed types (there f.integers) own) (map (λ t. R.Of t is rs) ts))
+    ofs_steady f is [] still stand g a = refl
+    ofs_steady f is (t ∷ ts) still stand g a = λ j. of_steady f is t still stand g a j ∷ ofs_steady f is ts still stand g a j
+
     -- a type, where the value in hand belongs to it
     TypGoes : List Index → Typ → Type 0
     TypGoes is t = (tells : Bool) (name : Naming) (n : ℕ) (f : Point n) (facts : List Fact) (v : Value) → Still past f is → Stand f
         → Always f (λ g. belongs types v (reading t (under_these past g is) (stood g)) ≡ true)
-        → Goes past n f facts (typ_opened (with_openings rs) t is tells name) (Has v)
+        → Opens v n f facts (typ_opened (with_openings rs) t is tells name)
 
     abbrev Asks : {n : ℕ} → Point n → List Index → Value-F Value → Typ-F Typ → Type 0
     Asks f is w x = Always f (λ g. form_asked types w x (under_these past g is) (stood g) ≡ true)
 
     module _ {n : ℕ} {f : Point n} {facts : List Fact} (is : List Index) (v : Value) where
-      truth_known : (c : Con) (w : Value-F Value) → out-Value v ≡ w → Asks f is w (T.Truth c) → Goes past n f facts (truth_opened is c) (Has v)
+      truth_known : (c : Con) (w : Value-F Value) → out-Value v ≡ w → Asks f is w (T.Truth c) → Opens v n f facts (truth_opened is c)
       unfolding truth_opened
       truth_known c (V.Truth b) e h =
-          goes_then
-          (truth_goes types past own (read_con is c) b (λ d k g a. ap (beq b) (truth_read past g is c d k) ∙ h g a))
-          (λ m g fs d a q. gives (I.Truth d) (λ k l. truth_has types past own d b v e k (q k l)))
+          opens_then types past own v
+          (truth_goes types past own (read_con is c) b (λ d k g a. truth_read past g is c d k ∙ truth_same b (true_in (under_these past g is) c) (h g a)))
+          (λ m g fs d a q. (truth_meant types past own b, truth_holds types past own b v e, gives (I.Truth d) (λ k l. truth_means types past own d b k (q k l))))
       truth_known c w e h = no (h f.integers (same f))
 
-      bits_typ_known : (t : Num) (w : Value-F Value) → out-Value v ≡ w → Asks f is w (T.Bits t) → Goes past n f facts (bits_opened is t) (Has v)
+      bits_typ_known : (t : Num) (w : Value-F Value) → out-Value v ≡ w → Asks f is w (T.Bits t) → Opens v n f facts (bits_opened is t)
       unfolding bits_opened
       bits_typ_known t (V.Bits bits) e h =
           let width : is_width (length bits) ≡ true =
           (and_parts (int_eq (pos (length bits)) (number (under_these past f.integers is) t)) _ (h f.integers (same f))).1 in
           let few : length bits ≤ 128 = leb-true (length bits) 128 width in
-          goes_then
+          opens_then types past own v
           (number_goes types past own (read is t) (pos (length bits)) (small_count (length bits) (omega arith)) (λ u k g a. number_read past g is t u k
           ∙ sym ((Decides-int_eq (pos (length bits)) (number (under_these past g is) t)).0
           (and_parts (int_eq (pos (length bits)) (number (under_these past g is) t)) (is_width (length bits)) (h g a)).0)))
@@ -184,18 +279,18 @@ module _ (types : Types) (past : Positive) (own : List Closed) where
       bits_typ_known t w e h = no (h f.integers (same f))
 
       integer_typ_known : (tells : Bool) (t : Num) (w : Value-F Value) → out-Value v ≡ w → Asks f is w (T.Int t)
-          → Goes past n f facts (integer_opened is tells t) (Has v)
+          → Opens v n f facts (integer_opened is tells t)
       unfolding integer_opened
       integer_typ_known tells t (V.Integer z) e h =
           let small : is_small z ≡ true = (and_parts (int_eq z (number (under_these past f.integers is) t)) (is_small z) (h f.integers (same f))).1 in
-          goes_then
+          opens_then types past own v
           (number_goes types past own (read is t) z small (λ u k g a. number_read past g is t u k
           ∙ sym ((Decides-int_eq z (number (under_these past g is) t)).0 (and_parts (int_eq z (number (under_these past g is) t)) (is_small z) (h g a)).0)))
           (λ m g fs u a q. integer_known types past own tells u z v e small q)
       integer_typ_known tells t w e h = no (h f.integers (same f))
 
       range_known : (name : Naming) (t u : Num) (w : Value-F Value) → out-Value v ≡ w → Asks f is w (T.Range t u)
-          → Goes past n f facts (range_opened is name t u) (Has v)
+          → Opens v n f facts (range_opened is name t u)
       unfolding range_opened
       range_known name t u (V.Integer z) e h =
           let parts : (g : Integers) → Agree f g
@@ -208,10 +303,10 @@ module _ (types : Types) (past : Positive) (own : List Closed) where
           (λ d k g a. ap (int_le z) (number_read past g is u d k) ∙ (parts g a).1)
       range_known name t u w e h = no (h f.integers (same f))
 
-      vector_typ_known : (l : Num) (t : Typ) (w : Value-F Value) → out-Value v ≡ w → Asks f is w (T.Vector l t)
-          → Goes past n f facts (vector_opened is rs l t) (Has v)
+      vector_typ_known : Still past f is → Stand f → (l : Num) (t : Typ) (w : Value-F Value) → out-Value v ≡ w → Asks f is w (T.Vector l t)
+          → Opens v n f facts (vector_opened is rs l t)
       unfolding vector_opened
-      vector_typ_known l t (V.Vector vs) e h =
+      vector_typ_known still stand l t (V.Vector vs) e h =
           let same_length : length (asks types vs) ≡ length vs = length-map vs (λ x. (x, belongs types x)) in
           let parts : (g : Integers) → Agree f g
           → (int_eq (pos (length vs)) (number (under_these past g is) l) ≡ true) × (is_length (length vs) ≡ true)
@@ -221,34 +316,36 @@ module _ (types : Types) (past : Positive) (own : List Closed) where
           let m = and_parts (int_eq (pos (length vs)) (number (under_these past g is) l)) (is_length (length vs))
           (subst (λ c. (int_eq (pos c) (number (under_these past g is) l) && is_length c) ≡ true) same_length k.0) in (m.0, m.1, k.1) in
           let few : length vs ≤ 4096 = leb-true (length vs) 4096 (parts f.integers (same f)).1 in
-          goes_then
+          let c : Closed = closed types (there f.integers) own (R.Of t is rs) in
+          opens_then types past own v
           (number_goes types past own (read is l) (pos (length vs)) (small_count (length vs) few) (λ u k g a. number_read past g is l u k
           ∙ sym ((Decides-int_eq (pos (length vs)) (number (under_these past g is) l)).0 (parts g a).0)))
-          (λ m g fs u a q. vector_known types past own u (R.Of t is rs) v vs e (parts f.integers (same f)).1 q
-          (λ k b. all_of vs (reading t (under_these past k is) (stood k)) (closed types (there k) own (R.Of t is rs))
-          (λ x. ap (belongs types x) (sym (closed_of k t is))) (parts k (agree_on a b)).2))
-      vector_typ_known l t w e h = no (h f.integers (same f))
+          (λ m g fs u a q. vector_known types past own u (R.Of t is rs) c v vs e (parts f.integers (same f)).1 q
+          (λ k b. of_steady f is t still stand k (agree_on a b))
+          (all_of vs (reading t (under_these past f.integers is) (stood f.integers)) c (λ x. ap (belongs types x) (sym (closed_of f.integers t is)))
+          (parts f.integers (same f)).2))
+      vector_typ_known still stand l t w e h = no (h f.integers (same f))
 
     -- ---- named types
 
-    named_holds : (g : Integers) (is : List Index) (u : ℕ) (args xs : List Index) (ts : List Typ)
-        → assigned (there g) xs ≡ assigned (under_these past g is) args → (w : Value-F Value)
+    named_holds : (g o : Integers) (is : List Index) (u : ℕ) (args xs : List Index) (ts : List Typ)
+        → assigned (there o) xs ≡ assigned (under_these past g is) args → (w : Value-F Value)
         → form_asked types w (T.Named u args ts) (under_these past g is) (stood g) ≡ true
-        → form_holds types (there g) own (W.Named u xs (map (closed types (there g) own) (map (λ t. R.Of t is rs) ts))) w ≡ true
-    named_holds g is u args xs ts same_assigned (V.Member i k) h = h
-    named_holds g is u args xs ts same_assigned (V.Struct i vs) h =
+        → form_holds types (there o) own (W.Named u xs (map (closed types (there g) own) (map (λ t. R.Of t is rs) ts))) w ≡ true
+    named_holds g o is u args xs ts same_assigned (V.Member i k) h = h
+    named_holds g o is u args xs ts same_assigned (V.Struct i vs) h =
         let of : Assignment → Closeds → Bool = λ nu ps. nat_eq i u && fields_belong (asks types vs) nu ps (fields types i) in
         (λ j. of (same_assigned j) (closeds_of g is ts j))
         ∙ ap (λ us. of (assigned (under_these past g is) args) (read_each (under_these past g is) (stood g) us))
         (sym (fronts (inner types (V.Struct i vs) (stood g)) ts))
         ∙ h
-    named_holds g is u args xs ts same_assigned (V.Union i k v) h =
+    named_holds g o is u args xs ts same_assigned (V.Union i k v) h =
         let of : Assignment → Closeds → Bool = λ nu ps. nat_eq i u && payload_belongs (belongs types v) nu ps (payload types i k) in
         (λ j. of (same_assigned j) (closeds_of g is ts j))
         ∙ ap (λ us. of (assigned (under_these past g is) args) (read_each (under_these past g is) (stood g) us))
         (sym (fronts (inner types (V.Union i k v) (stood g)) ts))
         ∙ h
-    named_holds g is u args xs ts same_assigned w h = no h
+    named_holds g o is u args xs ts same_assigned w h = no h
 
     -- the types that the Type parameters stand for
     arguments_of : (is : List Index) (ts : List Typ)
@@ -257,14 +354,23 @@ module _ (types : Types) (past : Positive) (own : List Closed) where
     arguments_of is (t ∷ ts) = ap (λ qs. R.Of t is rs ∷ qs) (arguments_of is ts)
 
     named_known : {n : ℕ} {f : Point n} {facts : List Fact} (is : List Index) (v : Value) (u : ℕ) (args : List Index) (ts : List Typ) → Still past f is
-        → Always f (λ g. form_asked types (out-Value v) (T.Named u args ts) (under_these past g is) (stood g) ≡ true)
-        → Goes past n f facts (named_opened is u args (map (λ t. R.Of t is rs) ts)) (Has v)
+        → Stand f → Always f (λ g. form_asked types (out-Value v) (T.Named u args ts) (under_these past g is) (stood g) ≡ true)
+        → Opens v n f facts (named_opened is u args (map (λ t. R.Of t is rs) ts))
     unfolding named_opened
-    named_known is v u args ts still h =
+    named_known {f} is v u args ts still stand h =
         let qs : List Reading = map (λ t. R.Of t is rs) ts in
-        goes_then (arguments_go past is still args) (λ m g fs xs a q. gives (I.Named u xs qs) (λ k b.
-        has_form types (there k) own (I.Named u xs qs) (W.Named u xs qs) v (I.rolls-Named u xs qs)
-        ∙ named_holds k is u args xs ts (q k b) (out-Value v) (h k (agree_on a b))))
+        let js : List Index = map (index_there (under_these past f.integers is)) args in
+        let cs : List Closed = map (closed types (there f.integers) own) qs in (
+          meant_by (W.Named u js cs),
+          named_holds f.integers zeros is u args js ts (assigned_under past f.integers is args) (out-Value v) (h f.integers (same f)),
+          goes_then (arguments_go past is still args) (λ m g fs xs a q. gives (I.Named u xs qs) (λ k b.
+              let c = agree_on a b in
+              meant_is types (there k) own (I.Named u xs qs) (W.Named u xs qs) (I.rolls-Named u xs qs)
+              ∙ named_same types past own k zeros u xs js (map (closed types (there k) own) qs) cs
+              ((q k b).0 ∙ ap (λ mu. assigned mu args) (still k c) ∙ sym (assigned_under past f.integers is args))
+              ((q k b).1 ∙ ap (λ mu. map (index_there mu) args) (still k c) ∙ sym (indices_there past (under_these past f.integers is) args))
+              (ofs_steady f is ts still stand k c))),
+        )
 
     -- ---- `{'n, C. T}`
 
@@ -285,13 +391,13 @@ module _ (types : Types) (past : Positive) (own : List Closed) where
     exists_goes : {n : ℕ} {f : Point n} {facts : List Fact} (is : List Index) (v : Value) (name : List ℕ) (c : Con) (t : Typ) (naming : Naming)
         → ((js : List Index) → TypGoes js t) → Still past f is → Stand f → (given : Option Given)
         → Always f (λ g. given_belongs given (under_these past g is) c (inner types (out-Value v) (stood g) t) ≡ true)
-        → Goes past n f facts (bind (bound_inside name c is) (λ js. typ_opened (with_openings rs) t js true naming)) (Has v)
+        → Opens v n f facts (bind (bound_inside name c is) (λ js. typ_opened (with_openings rs) t js true naming))
     unfolding TypGoes
     exists_goes {n} {f} {facts} is v name c t naming go still stand (Some (an_int z)) h =
         let parts : (g : Integers) → Agree f g
         → (true_in (under z (under_these past g is)) c ≡ true) × (inner types (out-Value v) (stood g) t (under z (under_these past g is)) ≡ true) =
         λ g a. and_parts (true_in (under z (under_these past g is)) c) (inner types (out-Value v) (stood g) t (under z (under_these past g is))) (h g a) in
-        goes_then (bound_goes name c is z (λ g a. (parts g a).0)) (λ m g fs js a q.
+        opens_then types past own v (bound_goes name c is z (λ g a. (parts g a).0)) (λ m g fs js a q.
         go js true naming m g fs v
         (λ k b. sym (q k b) ∙ ap (under z) (still_later past f g is a still k b) ∙ q g.integers (same g))
         (stand_later f g a stand)
@@ -323,12 +429,16 @@ module _ (types : Types) (past : Positive) (own : List Closed) where
     variable_goes : {n : ℕ} {f : Point n} {facts : List Fact} → ((i : ℕ) (r : Reading) → slice_get rs i ≡ Some r → ReadingGoes r) → Stand f
         → (i : ℕ) (tells : Bool) (name : Naming) (v : Value) (o : Option Reading) → slice_get rs i ≡ o
         → Always f (λ g. answer types v (stood g) i ≡ true)
-        → Goes past n f facts (variable_opened i (option_map (λ r. (r, opening r)) o) tells name) (Has v)
+        → Opens v n f facts (variable_opened i (option_map (λ r. (r, opening r)) o) tells name)
     unfolding ReadingGoes
     variable_goes {n} {f} {facts} go stand i tells name v (Some r) e h =
         go i r e tells name n f facts v (stand i r e) (λ g a. sym (found_answer g rs i r v e) ∙ h g a)
-    variable_goes go stand i tells name v None e h = gives (I.Variable i) (λ g a.
-        has_form types (there g) own (I.Variable i) (W.Variable i) v (I.rolls-Variable i) ∙ free_answer g rs i v e (h g a))
+    variable_goes {n} {f} go stand i tells name v None e h = (
+      meant_by (W.Variable i),
+      sym (ap (λ (m : Meant). m.holds v) (variable_same types past own f.integers zeros i)) ∙ free_answer f.integers rs i v e (h f.integers (same f)),
+      gives (I.Variable i) (λ g a.
+          meant_is types (there g) own (I.Variable i) (W.Variable i) (I.rolls-Variable i) ∙ variable_same types past own g zeros i),
+    )
 
     -- ---- types
 
@@ -357,29 +467,29 @@ module _ (types : Types) (past : Positive) (own : List Closed) where
     -- parts of a tuple
     typs_go : {n : ℕ} {f : Point n} {facts : List Fact} (ys : List SuchTyp) (is : List Index) → Still past f is → Stand f → (tells : Bool)
         (ns : List Naming) (vs : List Value) → Always f (λ g. each_belongs (asks types vs) (under_these past g is) (stood g) (types_in ys) ≡ true)
-        → Goes past n f facts
-        (parts_opened tells (map (λ (t : Typ × Inside). t.1 is) (map (λ t. (t, typ_opened (with_openings rs) t)) (types_in ys))) ns) (AllHave vs)
+        → AllOpen vs n f facts
+        (parts_opened tells (map (λ (t : Typ × Inside). t.1 is) (map (λ t. (t, typ_opened (with_openings rs) t)) (types_in ys))) ns)
     unfolding TypGoes
-    typs_go [] is still stand tells ns [] h = gives [] (λ g a. refl)
+    typs_go [] is still stand tells ns [] h = ([], refl, gives [] (λ g a. refl))
     typs_go {f} [] is still stand tells ns (v ∷ vs) h = no (h f.integers (same f))
     typs_go {f} (y ∷ ys) is still stand tells ns [] h = no (h f.integers (same f))
     typs_go {n} {f} {facts} (y ∷ ys) is still stand tells [] (v ∷ vs) h =
         let parts : (g : Integers) → Agree f g → (belongs types v (reading y.0 (under_these past g is) (stood g)) ≡ true)
         × (each_belongs (asks types vs) (under_these past g is) (stood g) (types_in ys) ≡ true) =
         λ g a. and_parts (belongs types v (reading y.0 (under_these past g is) (stood g))) _ (h g a) in
-        both_goes types past own v vs (y.1 is tells M.Unnamed n f facts v still stand (λ g a. (parts g a).0)) (λ m g fs a.
+        both_opened types past own v vs (y.1 is tells M.Unnamed n f facts v still stand (λ g a. (parts g a).0)) (λ m g fs a.
         typs_go ys is (still_later past f g is a still) (stand_later f g a stand) tells [] vs (λ k b. (parts k (agree_on a b)).1))
     typs_go {n} {f} {facts} (y ∷ ys) is still stand tells (name ∷ ns) (v ∷ vs) h =
         let parts : (g : Integers) → Agree f g → (belongs types v (reading y.0 (under_these past g is) (stood g)) ≡ true)
         × (each_belongs (asks types vs) (under_these past g is) (stood g) (types_in ys) ≡ true) =
         λ g a. and_parts (belongs types v (reading y.0 (under_these past g is) (stood g))) _ (h g a) in
-        both_goes types past own v vs (y.1 is tells name n f facts v still stand (λ g a. (parts g a).0)) (λ m g fs a.
+        both_opened types past own v vs (y.1 is tells name n f facts v still stand (λ g a. (parts g a).0)) (λ m g fs a.
         typs_go ys is (still_later past f g is a still) (stand_later f g a stand) tells ns vs (λ k b. (parts k (agree_on a b)).1))
 
     tuple_goes : {n : ℕ} {f : Point n} {facts : List Fact} (ys : List SuchTyp) (is : List Index) → Still past f is → Stand f → (tells : Bool)
         (name : Naming) (v : Value) (w : Value-F Value) → out-Value v ≡ w
         → Always f (λ g. form_asked types w (T.Tuple (types_in ys)) (under_these past g is) (stood g) ≡ true)
-        → Goes past n f facts (opened_form (T.Tuple (types_in ys)) is tells name) (Has v)
+        → Opens v n f facts (opened_form (T.Tuple (types_in ys)) is tells name)
     tuple_goes ys is still stand tells name v (V.Tuple vs) e h =
         tuple_known types past own v vs e (typs_go ys is still stand tells (namings_of name) vs (λ g a.
         ap (each_belongs (asks types vs) (under_these past g is) (stood g)) (sym (fronts (inner types (V.Tuple vs) (stood g)) (types_in ys))) ∙ h g a))
@@ -388,29 +498,44 @@ module _ (types : Types) (past : Positive) (own : List Closed) where
     module _ (go : (i : ℕ) (r : Reading) → slice_get rs i ≡ Some r → ReadingGoes r) where
       form_goes : (y : Typ-F SuchTyp) (is : List Index) (tells : Bool) (name : Naming) (n : ℕ) (f : Point n) (facts : List Fact) (v : Value) → Still past f is
           → Stand f → Always f (λ g. form_asked types (out-Value v) (typ_form y) (under_these past g is) (stood g) ≡ true)
-          → Goes past n f facts (opened_form (typ_form y) is tells name) (Has v)
-      form_goes T.Unit is tells name n f facts v still stand h = gives I.Unit (λ g a.
-          has_form types (there g) own I.Unit W.Unit v I.rolls-Unit ∙ unit_holds (under_these past g is) (stood g) g (out-Value v) (h g a))
+          → Opens v n f facts (opened_form (typ_form y) is tells name)
+      form_goes T.Unit is tells name n f facts v still stand h = (
+        meant_by W.Unit,
+        unit_holds (under_these past f.integers is) (stood f.integers) zeros (out-Value v) (h f.integers (same f)),
+        gives I.Unit (λ g a. meant_is types (there g) own I.Unit W.Unit I.rolls-Unit ∙ units_same types past own g zeros),
+      )
       form_goes T.Bool is tells name n f facts v still stand h = bool_known name (λ g. under_these past g is) stood v (out-Value v) refl h
       form_goes (T.Truth c) is tells name n f facts v still stand h = truth_known is v c (out-Value v) refl h
-      form_goes T.Bit is tells name n f facts v still stand h = gives I.Bit (λ g a.
-          has_form types (there g) own I.Bit W.Bit v I.rolls-Bit ∙ bit_holds (under_these past g is) (stood g) g (out-Value v) (h g a))
+      form_goes T.Bit is tells name n f facts v still stand h = (
+        meant_by W.Bit,
+        bit_holds (under_these past f.integers is) (stood f.integers) zeros (out-Value v) (h f.integers (same f)),
+        gives I.Bit (λ g a. meant_is types (there g) own I.Bit W.Bit I.rolls-Bit ∙ bit_same types past own g zeros),
+      )
       form_goes (T.Bits t) is tells name n f facts v still stand h = bits_typ_known is v t (out-Value v) refl h
       form_goes (T.Int t) is tells name n f facts v still stand h = integer_typ_known is v tells t (out-Value v) refl h
       form_goes (T.Range t u) is tells name n f facts v still stand h = range_known is v name t u (out-Value v) refl h
-      form_goes T.String is tells name n f facts v still stand h = gives I.String (λ g a.
-          has_form types (there g) own I.String W.String v I.rolls-String ∙ string_holds (under_these past g is) (stood g) g (out-Value v) (h g a))
-      form_goes (T.List y) is tells name n f facts v still stand h = gives (I.List (R.Of y.0 is rs)) (λ g a.
-          has_form types (there g) own (I.List (R.Of y.0 is rs)) (W.List (R.Of y.0 is rs)) v (I.rolls-List (R.Of y.0 is rs))
-          ∙ list_holds (under_these past g is) (stood g) g y.0 (closed types (there g) own (R.Of y.0 is rs))
-          (λ x. ap (belongs types x) (sym (closed_of g y.0 is))) (out-Value v) (h g a))
-      form_goes (T.Vector l y) is tells name n f facts v still stand h = vector_typ_known is v l y.0 (out-Value v) refl h
+      form_goes T.String is tells name n f facts v still stand h = (
+        meant_by W.String,
+        string_holds (under_these past f.integers is) (stood f.integers) zeros (out-Value v) (h f.integers (same f)),
+        gives I.String (λ g a. meant_is types (there g) own I.String W.String I.rolls-String ∙ strings_same types past own g zeros),
+      )
+      form_goes (T.List y) is tells name n f facts v still stand h =
+          let r : Reading = R.Of y.0 is rs in
+          let c : Closed = closed types (there f.integers) own r in (
+            meant_by (W.List c),
+            list_holds (under_these past f.integers is) (stood f.integers) zeros y.0 c (λ x. ap (belongs types x) (sym (closed_of f.integers y.0 is)))
+                (out-Value v) (h f.integers (same f)),
+            gives (I.List r) (λ g a.
+                meant_is types (there g) own (I.List r) (W.List r) (I.rolls-List r)
+                ∙ lists_same types past own g zeros (closed types (there g) own r) c (of_steady f is y.0 still stand g a)),
+          )
+      form_goes (T.Vector l y) is tells name n f facts v still stand h = vector_typ_known is v still stand l y.0 (out-Value v) refl h
       form_goes (T.Tuple ys) is tells name n f facts v still stand h = tuple_goes ys is still stand tells name v (out-Value v) refl h
       form_goes (T.Named u args ys) is tells name n f facts v still stand h =
-          subst (λ qs. Goes past n f facts (named_opened is u args qs) (Has v)) (sym (arguments_of is (types_in ys)))
-          (named_known is v u args (types_in ys) still h)
+          subst (λ qs. Opens v n f facts (named_opened is u args qs)) (sym (arguments_of is (types_in ys)))
+          (named_known is v u args (types_in ys) still stand h)
       form_goes (T.Variable i) is tells name n f facts v still stand h =
-          subst (λ o. Goes past n f facts (variable_opened i o tells name) (Has v)) (sym (slice_get-map (λ r. (r, opening r)) rs i))
+          subst (λ o. Opens v n f facts (variable_opened i o tells name)) (sym (slice_get-map (λ r. (r, opening r)) rs i))
           (variable_goes go stand i tells name v (slice_get rs i) refl h)
       form_goes (T.Exists own_name c y) is tells name n f facts v still stand h =
           exists_goes is v own_name c y.0 name y.1 still stand
@@ -419,7 +544,7 @@ module _ (types : Types) (past : Positive) (own : List Closed) where
       typ_step : (y : Typ-F SuchTyp) (is : List Index) → TypGoes is (roll-Typ (typ_form y))
       unfolding TypGoes
       typ_step y is tells name n f facts v still stand h =
-          subst (λ w. Goes past n f facts w (Has v)) (sym (opens_form (typ_form y) is tells name))
+          subst (λ w. Opens v n f facts w) (sym (opens_form (typ_form y) is tells name))
           (form_goes y is tells name n f facts v still stand (λ g a.
           sym (belongs_form types v (typ_form y) (roll-Typ (typ_form y)) (under_these past g is) (stood g) refl) ∙ h g a))
 
@@ -462,7 +587,8 @@ module _ (types : Types) (past : Positive) (own : List Closed) where
 
   WideGoes : Indices → Type 0
   WideGoes i = (name : Naming) (n : ℕ) (f : Point n) (facts : List Fact) (v : Value)
-      → Always f (λ g. belongs types v (meant types (there g) own i).wide ≡ true) → Goes past n f facts (wide_opening i false name) (Has v)
+      → Always f (λ g. (meant types (there g) own i).wide ≡ (meant types (there f.integers) own i).wide)
+      → Always f (λ g. belongs types v (meant types (there g) own i).wide ≡ true) → Opens v n f facts (wide_opening i false name)
 
   abbrev Wide : Type 0
   Wide = (i : Indices) × WideGoes i
@@ -486,7 +612,7 @@ module _ (types : Types) (past : Positive) (own : List Closed) where
   AsksWide w g x cs = form_asked types w x (nowhere (there g)) (closeds cs) ≡ true
 
   wide_bits_known : {n : ℕ} {f : Point n} {facts : List Fact} (t : Num) (v : Value) (w : Value-F Value) → out-Value v ≡ w
-      → Always f (λ g. AsksWide w g (T.Bits (number_there (there g) t)) []) → Goes past n f facts (bits_of t) (Has v)
+      → Always f (λ g. AsksWide w g (T.Bits (number_there (there g) t)) []) → Opens v n f facts (bits_of t)
   wide_bits_known {n} {f} t v (V.Bits bits) e h =
       let at : Integers → ℤ = λ g. number (nowhere (there g)) (number_there (there g) t) in
       let parts : (g : Integers) → Agree f g → (int_eq (pos (length bits)) (at g) ≡ true) × (is_width (length bits) ≡ true) =
@@ -496,7 +622,7 @@ module _ (types : Types) (past : Positive) (own : List Closed) where
   wide_bits_known {n} {f} t v w e h = no (h f.integers (same f))
 
   wide_integer_known : {n : ℕ} {f : Point n} {facts : List Fact} (name : Naming) (v : Value) (w : Value-F Value) → out-Value v ≡ w
-      → Always f (λ g. AsksWide w g (T.Range (constant least) (constant most)) []) → Goes past n f facts (any_integer name) (Has v)
+      → Always f (λ g. AsksWide w g (T.Range (constant least) (constant most)) []) → Opens v n f facts (any_integer name)
   unfolding any_integer
   wide_integer_known {n} {f} name v (V.Integer z) e h =
       let small : is_small z ≡ true = (and_parts _ (is_small z) (h f.integers (same f))).1 in
@@ -508,9 +634,9 @@ module _ (types : Types) (past : Positive) (own : List Closed) where
   wide_integer_known {n} {f} name v w e h = no (h f.integers (same f))
 
   wide_vector_known : {n : ℕ} {f : Point n} {facts : List Fact} (t : Num) (r : Reading) (v : Value) (w : Value-F Value) → out-Value v ≡ w
-      → Always f (λ g. AsksWide w g (T.Vector (number_there (there g) t) (U.Variable 0)) (closed types (there g) own r ∷ []))
-      → Goes past n f facts (vector_of r t) (Has v)
-  wide_vector_known {n} {f} t r v (V.Vector vs) e h =
+      → Steady f r → Always f (λ g. AsksWide w g (T.Vector (number_there (there g) t) (U.Variable 0)) (closed types (there g) own r ∷ []))
+      → Opens v n f facts (vector_of r t)
+  wide_vector_known {f} t r v (V.Vector vs) e steady h =
       let at : Integers → ℤ = λ g. number (nowhere (there g)) (number_there (there g) t) in
       let same_length : length (asks types vs) ≡ length vs = length-map vs (λ x. (x, belongs types x)) in
       let parts : (g : Integers) → Agree f g → (int_eq (pos (length vs)) (at g) ≡ true) × (is_length (length vs) ≡ true)
@@ -519,11 +645,11 @@ module _ (types : Types) (past : Positive) (own : List Closed) where
       let k = and_parts (int_eq (pos (length (asks types vs))) (at g) && is_length (length (asks types vs))) _ (h g a) in
       let m = and_parts (int_eq (pos (length vs)) (at g)) (is_length (length vs))
       (subst (λ c. (int_eq (pos c) (at g) && is_length c) ≡ true) same_length k.0) in (m.0, m.1, k.1) in
-      vector_known types past own t r v vs e (parts f.integers (same f)).1
-      (λ g a. sym (number_constant (nowhere (there g)) (number (there g) t)) ∙ sym ((Decides-int_eq (pos (length vs)) (at g)).0 (parts g a).0))
-      (λ g a. all_of vs (reading (U.Variable 0) (nowhere (there g)) (closeds (closed types (there g) own r ∷ []))) (closed types (there g) own r)
-      (item_same g (closed types (there g) own r)) (parts g a).2)
-  wide_vector_known {n} {f} t r v w e h = no (h f.integers (same f))
+      let c : Closed = closed types (there f.integers) own r in
+      vector_known types past own t r c v vs e (parts f.integers (same f)).1
+      (λ g a. sym (number_constant (nowhere (there g)) (number (there g) t)) ∙ sym ((Decides-int_eq (pos (length vs)) (at g)).0 (parts g a).0)) steady
+      (all_of vs (reading (U.Variable 0) (nowhere (there f.integers)) (closeds (c ∷ []))) c (item_same f.integers c) (parts f.integers (same f)).2)
+  wide_vector_known {f} t r v w e steady h = no (h f.integers (same f))
 
   named_wide : (g : Integers) (u : ℕ) (is : List Index) (cs : List Closed) (w : Value-F Value)
       → AsksWide w g (T.Named u (map (index_there (there g)) is) (type_variables 0 cs)) cs → form_holds types (there g) own (W.Named u is cs) w ≡ true
@@ -551,109 +677,150 @@ module _ (types : Types) (past : Positive) (own : List Closed) where
   abbrev bare : List Wide → List Indices
   bare ys = map (λ (y : Wide). y.0) ys
 
+  -- the first and the others of them
+  first_steady : {n : ℕ} (f : Point n) (y : Wide) (ys : List Wide)
+      → Always f (λ g. wides (map (meant types (there g) own) (bare (y ∷ ys))) ≡ wides (map (meant types (there f.integers) own) (bare (y ∷ ys))))
+      → (g : Integers) → Agree f g
+      → ((meant types (there g) own y.0).wide ≡ (meant types (there f.integers) own y.0).wide)
+      × (wides (map (meant types (there g) own) (bare ys)) ≡ wides (map (meant types (there f.integers) own) (bare ys)))
+  first_steady f y ys steady g a =
+      cons_same (meant types (there g) own y.0).wide (meant types (there f.integers) own y.0).wide (wides (map (meant types (there g) own) (bare ys)))
+      (wides (map (meant types (there f.integers) own) (bare ys))) (steady g a)
+
   wide_parts_go : {n : ℕ} {f : Point n} {facts : List Fact} (ys : List Wide) (ns : List Naming) (vs : List Value)
+      → Always f (λ g. wides (map (meant types (there g) own) (bare ys)) ≡ wides (map (meant types (there f.integers) own) (bare ys)))
       → Always f (λ g. AllIn vs (wides (map (meant types (there g) own) (bare ys))))
-      → Goes past n f facts (parts_opened false (map (λ (p : Indices × Opening). p.1) (map (λ i. (i, wide_opening i)) (bare ys))) ns) (AllHave vs)
+      → AllOpen vs n f facts (parts_opened false (map (λ (p : Indices × Opening). p.1) (map (λ i. (i, wide_opening i)) (bare ys))) ns)
   unfolding WideGoes
-  wide_parts_go [] ns [] h = gives [] (λ g a. refl)
-  wide_parts_go {n} {f} [] ns (v ∷ vs) h = absurd (h f.integers (same f))
-  wide_parts_go {n} {f} (y ∷ ys) ns [] h = absurd (h f.integers (same f))
-  wide_parts_go {n} {f} {facts} (y ∷ ys) [] (v ∷ vs) h =
-      both_goes types past own v vs (y.1 M.Unnamed n f facts v (λ g a. (h g a).0)) (λ m g fs a. wide_parts_go ys [] vs (λ k b. (h k (agree_on a b)).1))
-  wide_parts_go {n} {f} {facts} (y ∷ ys) (name ∷ ns) (v ∷ vs) h =
-      both_goes types past own v vs (y.1 name n f facts v (λ g a. (h g a).0)) (λ m g fs a. wide_parts_go ys ns vs (λ k b. (h k (agree_on a b)).1))
+  wide_parts_go [] ns [] steady h = ([], refl, gives [] (λ g a. refl))
+  wide_parts_go {n} {f} [] ns (v ∷ vs) steady h = absurd (h f.integers (same f))
+  wide_parts_go {n} {f} (y ∷ ys) ns [] steady h = absurd (h f.integers (same f))
+  wide_parts_go {n} {f} {facts} (y ∷ ys) [] (v ∷ vs) steady h =
+      let apart = first_steady f y ys steady in
+      both_opened types past own v vs (y.1 M.Unnamed n f facts v (λ g a. (apart g a).0) (λ g a. (h g a).0))
+      (λ m g fs a. wide_parts_go ys [] vs (λ k b. (apart k (agree_on a b)).1 ∙ sym (apart g.integers (agree_on a (same g))).1)
+      (λ k b. (h k (agree_on a b)).1))
+  wide_parts_go {n} {f} {facts} (y ∷ ys) (name ∷ ns) (v ∷ vs) steady h =
+      let apart = first_steady f y ys steady in
+      both_opened types past own v vs (y.1 name n f facts v (λ g a. (apart g a).0) (λ g a. (h g a).0))
+      (λ m g fs a. wide_parts_go ys ns vs (λ k b. (apart k (agree_on a b)).1 ∙ sym (apart g.integers (agree_on a (same g))).1)
+      (λ k b. (h k (agree_on a b)).1))
 
   wide_tuple_known : {n : ℕ} {f : Point n} {facts : List Fact} (ys : List Wide) (name : Naming) (v : Value) (w : Value-F Value) → out-Value v ≡ w
+      → Always f (λ g. wides (map (meant types (there g) own) (bare ys)) ≡ wides (map (meant types (there f.integers) own) (bare ys)))
       → Always f (λ g. AsksWide w g (T.Tuple (type_variables 0 (wides (map (meant types (there g) own) (bare ys)))))
       (wides (map (meant types (there g) own) (bare ys))))
-      → Goes past n f facts (wide_form (W.Tuple (bare ys)) name) (Has v)
-  wide_tuple_known ys name v (V.Tuple vs) e h =
-      tuple_known types past own v vs e (wide_parts_go ys (namings_of name) vs (λ g a.
+      → Opens v n f facts (wide_form (W.Tuple (bare ys)) name)
+  wide_tuple_known ys name v (V.Tuple vs) e steady h =
+      tuple_known types past own v vs e (wide_parts_go ys (namings_of name) vs steady (λ g a.
       tuple_in (nowhere (there g)) (wides (map (meant types (there g) own) (bare ys))) vs (h g a)))
-  wide_tuple_known {n} {f} ys name v w e h = no (h f.integers (same f))
+  wide_tuple_known {n} {f} ys name v w e steady h = no (h f.integers (same f))
+
+  -- the type of the items of a list or vector
+  item_steady : (g k : Integers) (r : Reading) → closeds (closed types (there g) own r ∷ []) ≡ closeds (closed types (there k) own r ∷ [])
+      → closed types (there g) own r ≡ closed types (there k) own r
+  item_steady g k r e =
+      (cons_same (closed types (there g) own r) (closed types (there k) own r) [] []
+      (same_lists (closed types (there g) own r ∷ []) (closed types (there k) own r ∷ []) e)).0
+
+  -- what widened indices are
+  abbrev wide_in : Integers → Indices-F Wide Known → Closed
+  wide_in g y = wide_of types (there g) own (meanings types (there g) own (indices_of y))
 
   form_widens : (y : Indices-F Wide Known) (name : Naming) (n : ℕ) (f : Point n) (facts : List Fact) (v : Value)
-      → Always f (λ g. belongs types v (wide_of types (there g) own (meanings types (there g) own (indices_of y))) ≡ true)
-      → Goes past n f facts (wide_form (indices_of y) name) (Has v)
-  form_widens W.Never name n f facts v h = no (sym (nothing_belongs types v (there f.integers)) ∙ h f.integers (same f))
-  form_widens W.Unit name n f facts v h = gives I.Unit (λ g a.
-      has_form types (there g) own I.Unit W.Unit v I.rolls-Unit
-      ∙ unit_holds (nowhere (there g)) no_readings g (out-Value v)
-      (sym (belongs_form types v T.Unit U.Unit (nowhere (there g)) no_readings U.rolls-Unit) ∙ h g a))
-  form_widens (W.Truth c) name n f facts v h =
+      → Always f (λ g. wide_in g y ≡ wide_in f.integers y) → Always f (λ g. belongs types v (wide_in g y) ≡ true)
+      → Opens v n f facts (wide_form (indices_of y) name)
+  form_widens W.Never name n f facts v steady h = no (sym (nothing_belongs types v (there f.integers)) ∙ h f.integers (same f))
+  form_widens W.Unit name n f facts v steady h = (
+    meant_by W.Unit,
+    unit_holds (there zeros) no_readings zeros (out-Value v)
+        (sym (belongs_form types v T.Unit U.Unit (there zeros) no_readings U.rolls-Unit) ∙ h f.integers (same f)),
+    gives I.Unit (λ g a. meant_is types (there g) own I.Unit W.Unit I.rolls-Unit ∙ units_same types past own g zeros),
+  )
+  form_widens (W.Truth c) name n f facts v steady h =
       bool_known name (λ g. nowhere (there g)) (λ g. no_readings) v (out-Value v) refl
       (λ g a. sym (belongs_form types v T.Bool U.Bool (nowhere (there g)) no_readings U.rolls-Bool) ∙ h g a)
-  form_widens W.Bit name n f facts v h = gives I.Bit (λ g a.
-      has_form types (there g) own I.Bit W.Bit v I.rolls-Bit
-      ∙ bit_holds (nowhere (there g)) no_readings g (out-Value v)
-      (sym (belongs_form types v T.Bit U.Bit (nowhere (there g)) no_readings U.rolls-Bit) ∙ h g a))
-  form_widens (W.Bits t) name n f facts v h =
+  form_widens W.Bit name n f facts v steady h = (
+    meant_by W.Bit,
+    bit_holds (there zeros) no_readings zeros (out-Value v)
+        (sym (belongs_form types v T.Bit U.Bit (there zeros) no_readings U.rolls-Bit) ∙ h f.integers (same f)),
+    gives I.Bit (λ g a. meant_is types (there g) own I.Bit W.Bit I.rolls-Bit ∙ bit_same types past own g zeros),
+  )
+  form_widens (W.Bits t) name n f facts v steady h =
       wide_bits_known t v (out-Value v) refl (λ g a.
       let u = number_there (there g) t in
       sym (belongs_form types v (T.Bits u) (U.Bits u) (nowhere (there g)) no_readings (U.rolls-Bits u)) ∙ h g a)
-  form_widens (W.Integer t) name n f facts v h =
+  form_widens (W.Integer t) name n f facts v steady h =
       wide_integer_known name v (out-Value v) refl (λ g a.
       sym (belongs_form types v (T.Range (constant least) (constant most)) (U.Range (constant least) (constant most)) (nowhere (there g)) no_readings
       (U.rolls-Range (constant least) (constant most))) ∙ h g a)
-  form_widens W.String name n f facts v h = gives I.String (λ g a.
-      has_form types (there g) own I.String W.String v I.rolls-String
-      ∙ string_holds (nowhere (there g)) no_readings g (out-Value v)
-      (sym (belongs_form types v T.String U.String (nowhere (there g)) no_readings U.rolls-String) ∙ h g a))
-  form_widens (W.List r) name n f facts v h = gives (I.List r.0) (λ g a.
-      let q = closed types (there g) own r.0 in
-      has_form types (there g) own (I.List r.0) (W.List r.0) v (I.rolls-List r.0)
-      ∙ list_holds (nowhere (there g)) (closeds (q ∷ [])) g (U.Variable 0) q (item_same g q) (out-Value v)
-      (sym (belongs_form types v (T.List (U.Variable 0)) (U.List (U.Variable 0)) (nowhere (there g)) (closeds (q ∷ [])) (U.rolls-List (U.Variable 0))) ∙ h g a))
-  form_widens (W.Vector t r) name n f facts v h =
-      wide_vector_known t r.0 v (out-Value v) refl (λ g a.
+  form_widens W.String name n f facts v steady h = (
+    meant_by W.String,
+    string_holds (there zeros) no_readings zeros (out-Value v)
+        (sym (belongs_form types v T.String U.String (there zeros) no_readings U.rolls-String) ∙ h f.integers (same f)),
+    gives I.String (λ g a. meant_is types (there g) own I.String W.String I.rolls-String ∙ strings_same types past own g zeros),
+  )
+  form_widens (W.List r) name n f facts v steady h =
+      let c : Closed = closed types (there f.integers) own r.0 in (
+        meant_by (W.List c),
+        list_holds (there zeros) (closeds (c ∷ [])) zeros (U.Variable 0) c (item_same f.integers c) (out-Value v)
+            (sym (belongs_form types v (T.List (U.Variable 0)) (U.List (U.Variable 0)) (there zeros) (closeds (c ∷ [])) (U.rolls-List (U.Variable 0)))
+            ∙ h f.integers (same f)),
+        gives (I.List r.0) (λ g a.
+            meant_is types (there g) own (I.List r.0) (W.List r.0) (I.rolls-List r.0)
+            ∙ lists_same types past own g zeros (closed types (there g) own r.0) c (item_steady g f.integers r.0 (ap readings_of (steady g a)))),
+      )
+  form_widens (W.Vector t r) name n f facts v steady h =
+      wide_vector_known t r.0 v (out-Value v) refl (λ g a. item_steady g f.integers r.0 (ap readings_of (steady g a))) (λ g a.
       let u = number_there (there g) t in
       let q = closed types (there g) own r.0 in
       sym (belongs_form types v (T.Vector u (U.Variable 0)) (U.Vector u (U.Variable 0)) (nowhere (there g)) (closeds (q ∷ []))
       (U.rolls-Vector u (U.Variable 0))) ∙ h g a)
-  form_widens (W.Tuple ys) name n f facts v h =
-      wide_tuple_known ys name v (out-Value v) refl (λ g a.
+  form_widens (W.Tuple ys) name n f facts v steady h =
+      wide_tuple_known ys name v (out-Value v) refl
+      (λ g a. same_lists (wides (map (meant types (there g) own) (bare ys))) (wides (map (meant types (there f.integers) own) (bare ys)))
+      (ap readings_of (steady g a)))
+      (λ g a.
       let cs = wides (map (meant types (there g) own) (bare ys)) in
       sym (belongs_form types v (T.Tuple (type_variables 0 cs)) (U.Tuple (type_variables 0 cs)) (nowhere (there g)) (closeds cs)
       (U.rolls-Tuple (type_variables 0 cs))) ∙ h g a)
-  form_widens (W.Named u is rs) name n f facts v h =
+  form_widens (W.Named u is rs) name n f facts v steady h =
       let qs : List Reading = map (λ (r : Known). r.0) rs in
       let back : List Reading = map (λ (r : Reading × Opening). r.0) (map (λ r. (r, opening r)) qs) in
-      gives (I.Named u is back) (λ g a.
-      let cs = map (closed types (there g) own) qs in
-      let args = map (index_there (there g)) is in
-      has_form types (there g) own (I.Named u is back) (W.Named u is back) v (I.rolls-Named u is back)
-      ∙ ap (λ ps. form_holds types (there g) own (W.Named u is (map (closed types (there g) own) ps)) (out-Value v)) (fronts opening qs)
-      ∙ named_wide g u is cs (out-Value v)
-      (sym (belongs_form types v (T.Named u args (type_variables 0 cs)) (U.Named u args (type_variables 0 cs)) (nowhere (there g)) (closeds cs)
-      (U.rolls-Named u args (type_variables 0 cs))) ∙ h g a))
-  form_widens (W.Variable i) name n f facts v h = gives (I.Variable i) (λ g a.
-      has_form types (there g) own (I.Variable i) (W.Variable i) v (I.rolls-Variable i) ∙ h g a)
+      let js : List Index = map (index_there (there f.integers)) is in
+      let cs : List Closed = map (closed types (there f.integers) own) qs in (
+        meant_by (W.Named u js cs),
+        sym (ap (λ (m : Meant). m.holds v)
+            (named_same types past own f.integers zeros u is js cs cs (sym (assigned_there past f.integers is))
+            (sym (indices_there past (there f.integers) is)) refl))
+            ∙ named_wide f.integers u is cs (out-Value v)
+            (sym (belongs_form types v (T.Named u js (type_variables 0 cs)) (U.Named u js (type_variables 0 cs)) (there zeros) (closeds cs)
+            (U.rolls-Named u js (type_variables 0 cs))) ∙ h f.integers (same f)),
+        gives (I.Named u is back) (λ g a.
+            let ds : List Closed = map (closed types (there g) own) qs in
+            let args : map (index_there (there g)) is ≡ js =
+            args_same u (map (index_there (there g)) is) js (type_variables 0 ds) (type_variables 0 cs) (ap typ_of (steady g a)) in
+            meant_is types (there g) own (I.Named u is back) (W.Named u is back) (I.rolls-Named u is back)
+            ∙ named_same types past own g zeros u is js (map (closed types (there g) own) back) cs
+            (sym (assigned_there past g is) ∙ ap (assigned (there zeros)) args) (args ∙ sym (indices_there past (there f.integers) is))
+            (ap (map (closed types (there g) own)) (fronts opening qs) ∙ same_lists ds cs (ap readings_of (steady g a)))),
+      )
+  form_widens (W.Variable i) name n f facts v steady h = (
+    meant_by (W.Variable i),
+    sym (ap (λ (m : Meant). m.holds v) (variable_same types past own f.integers zeros i)) ∙ h f.integers (same f),
+    gives (I.Variable i) (λ g a.
+        meant_is types (there g) own (I.Variable i) (W.Variable i) (I.rolls-Variable i) ∙ variable_same types past own g zeros i),
+  )
 
   rolled_widens : (y : Indices-F Wide Known) → WideGoes (roll-Indices (indices_of y))
   unfolding WideGoes
-  rolled_widens y name n f facts v h =
-      subst (λ w. Goes past n f facts w (Has v)) (sym (widens_form (indices_of y) name))
-      (form_widens y name n f facts v (λ g a.
-      ap (belongs types v) (sym (ap (λ m. m.wide) (meant_is types (there g) own (roll-Indices (indices_of y)) (indices_of y) refl))) ∙ h g a))
+  rolled_widens y name n f facts v steady h =
+      let is : (g : Integers) → (meant types (there g) own (roll-Indices (indices_of y))).wide ≡ wide_in g y =
+      λ g. ap (λ m. m.wide) (meant_is types (there g) own (roll-Indices (indices_of y)) (indices_of y) refl) in
+      subst (λ w. Opens v n f facts w) (sym (widens_form (indices_of y) name))
+      (form_widens y name n f facts v (λ g a. sym (is g) ∙ steady g a ∙ is f.integers) (λ g a. ap (belongs types v) (sym (is g)) ∙ h g a))
 
   -- ---- types of the walk
-
-  abbrev assignment_of : Closed → Assignment
-  assignment_of (reading t mu rs) = mu
-
-  abbrev readings_of : Closed → Closeds
-  readings_of (reading t mu rs) = rs
-
-  abbrev list_of : Closeds → List Closed
-  list_of no_readings = []
-  list_of (more_readings r rs) = r ∷ list_of rs
-
-  list_back : (cs : List Closed) → list_of (closeds cs) ≡ cs
-  list_back [] = refl
-  list_back (c ∷ cs) = ap (λ ds. c ∷ ds) (list_back cs)
-
-  same_lists : (cs ds : List Closed) → closeds cs ≡ closeds ds → cs ≡ ds
-  same_lists cs ds e = sym (list_back cs) ∙ ap list_of e ∙ list_back ds
 
   each_same : (g k : Integers) (rs : List Reading) (i : ℕ) (r : Reading)
       → map (closed types (there g) own) rs ≡ map (closed types (there k) own) rs → slice_get rs i ≡ Some r
@@ -682,16 +849,16 @@ module _ (types : Types) (past : Positive) (own : List Closed) where
   parts_go : {n : ℕ} {f : Point n} {facts : List Fact} (ys : List Known) (tells : Bool) (ns : List Naming) (vs : List Value)
       → ((i : ℕ) (r : Reading) → slice_get (readings_in ys) i ≡ Some r → Steady f r)
       → Always f (λ g. AllIn vs (map (closed types (there g) own) (readings_in ys)))
-      → Goes past n f facts (parts_opened tells (map (λ (r : Reading × Opening). r.1) (map (λ r. (r, opening r)) (readings_in ys))) ns) (AllHave vs)
+      → AllOpen vs n f facts (parts_opened tells (map (λ (r : Reading × Opening). r.1) (map (λ r. (r, opening r)) (readings_in ys))) ns)
   unfolding ReadingGoes
-  parts_go [] tells ns [] steady h = gives [] (λ g a. refl)
+  parts_go [] tells ns [] steady h = ([], refl, gives [] (λ g a. refl))
   parts_go {f} [] tells ns (v ∷ vs) steady h = absurd (h f.integers (same f))
   parts_go {f} (y ∷ ys) tells ns [] steady h = absurd (h f.integers (same f))
   parts_go {n} {f} {facts} (y ∷ ys) tells [] (v ∷ vs) steady h =
-      both_goes types past own v vs (y.1 tells M.Unnamed n f facts v (steady 0 y.0 refl) (λ g a. (h g a).0)) (λ m g fs a.
+      both_opened types past own v vs (y.1 tells M.Unnamed n f facts v (steady 0 y.0 refl) (λ g a. (h g a).0)) (λ m g fs a.
       parts_go ys tells [] vs (λ i r e. steady_later f g r a (steady (suc i) r e)) (λ k b. (h k (agree_on a b)).1))
   parts_go {n} {f} {facts} (y ∷ ys) tells (name ∷ ns) (v ∷ vs) steady h =
-      both_goes types past own v vs (y.1 tells name n f facts v (steady 0 y.0 refl) (λ g a. (h g a).0)) (λ m g fs a.
+      both_opened types past own v vs (y.1 tells name n f facts v (steady 0 y.0 refl) (λ g a. (h g a).0)) (λ m g fs a.
       parts_go ys tells ns vs (λ i r e. steady_later f g r a (steady (suc i) r e)) (λ k b. (h k (agree_on a b)).1))
 
   abbrev reading_in : Reading-F Wide Known → Reading-F Indices Reading
@@ -712,7 +879,7 @@ module _ (types : Types) (past : Positive) (own : List Closed) where
   parts_known : {n : ℕ} {f : Point n} {facts : List Fact} (ys : List Known) (tells : Bool) (name : Naming) (v : Value)
       → ((i : ℕ) (r : Reading) → slice_get (readings_in ys) i ≡ Some r → Steady f r) → (w : Value-F Value) → out-Value v ≡ w
       → Always f (λ g. let cs = map (closed types (there g) own) (readings_in ys) in AsksWide w g (T.Tuple (type_variables 0 cs)) cs)
-      → Goes past n f facts (reading_form (W.Parts (readings_in ys)) tells name) (Has v)
+      → Opens v n f facts (reading_form (W.Parts (readings_in ys)) tells name)
   parts_known ys tells name v steady (V.Tuple vs) e h =
       tuple_known types past own v vs e (parts_go ys tells (namings_of name) vs steady (λ g a.
       tuple_in (nowhere (there g)) (map (closed types (there g) own) (readings_in ys)) vs (h g a)))
@@ -720,12 +887,12 @@ module _ (types : Types) (past : Positive) (own : List Closed) where
 
   form_reads : (y : Reading-F Wide Known) (tells : Bool) (name : Naming) (n : ℕ) (f : Point n) (facts : List Fact) (v : Value)
       → Always f (λ g. closed_in g y ≡ closed_in f.integers y) → Always f (λ g. belongs types v (closed_in g y) ≡ true)
-      → Goes past n f facts (reading_form (reading_in y) tells name) (Has v)
+      → Opens v n f facts (reading_form (reading_in y) tells name)
   unfolding TypGoes WideGoes
   form_reads (W.Of t is ys) tells name n f facts v steady h =
       typ_goes (readings_in ys) (go_in ys) t is tells name n f facts v (λ g a. ap assignment_of (steady g a))
       (λ i r e g a. stood_same g f.integers (readings_in ys) i r (ap readings_of (steady g a)) e) h
-  form_reads (W.Widened y) tells name n f facts v steady h = y.1 name n f facts v h
+  form_reads (W.Widened y) tells name n f facts v steady h = y.1 name n f facts v steady h
   form_reads (W.Parts ys) tells name n f facts v steady h =
       parts_known ys tells name v
       (λ i r e g a. each_same g f.integers (readings_in ys) i r
@@ -742,7 +909,7 @@ module _ (types : Types) (past : Positive) (own : List Closed) where
   rolled_reads y tells name n f facts v steady h =
       let is : (g : Integers) → closed types (there g) own (roll-Reading (reading_in y)) ≡ closed_in g y =
       λ g. closed_is types (there g) own (roll-Reading (reading_in y)) (reading_in y) refl in
-      subst (λ w. Goes past n f facts w (Has v)) (sym (opens_reading (reading_in y) tells name))
+      subst (λ w. Opens v n f facts w) (sym (opens_reading (reading_in y) tells name))
       (form_reads y tells name n f facts v (λ g a. sym (is g) ∙ steady g a ∙ is f.integers) (λ g a. ap (belongs types v) (sym (is g)) ∙ h g a))
 
   reading_goes : (r : Reading) → ReadingGoes r

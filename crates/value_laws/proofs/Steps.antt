@@ -92,14 +92,14 @@ module _ {past : Positive} where
   unfolding give
   gives {f} x h = record { goes = record { point = f; later = no_later f; true_there = λ g a t. t; holds = h; given = refl } }
 
-  pub goes_then : {n : ℕ} {f : Point n} {facts : List Fact} {A B : Type 0} {w : Walk A} {k : A → Walk B} {Holds : Integers → A → Type 0}
-      {Then : Integers → B → Type 0} → Goes past n f facts w Holds
-      → ((m : ℕ) (g : Point m) (fs : List Fact) (x : A) → Later f g → ((h : Integers) → Agree g h → Holds h x) → Goes past m g fs (k x) Then)
-      → Goes past n f facts (bind w k) Then
+  -- the second walk goes on where the first ended
+  pub goes_on : {n : ℕ} {f : Point n} {facts : List Fact} {A B : Type 0} {w : Walk A} {Holds : Integers → A → Type 0}
+      {Then : Integers → B → Type 0} (k : A → Walk B) (r : Goes past n f facts w Holds)
+      → Goes past (w facts n).next r.goes.point (w facts n).facts (k (w facts n).value) Then → Goes past n f facts (bind w k) Then
   unfolding bind
-  goes_then {n} {f} {facts} {w} {k} r next =
+  goes_on k r s =
       let first = r.goes in
-      let last = (next (w facts n).next first.point (w facts n).facts (w facts n).value first.later first.holds).goes in
+      let last = s.goes in
       record {
         goes = record {
           point = last.point;
@@ -109,6 +109,13 @@ module _ {past : Positive} where
           given = last.given ∙ first.given;
         };
       }
+
+  pub goes_then : {n : ℕ} {f : Point n} {facts : List Fact} {A B : Type 0} {w : Walk A} {k : A → Walk B} {Holds : Integers → A → Type 0}
+      {Then : Integers → B → Type 0} → Goes past n f facts w Holds
+      → ((m : ℕ) (g : Point m) (fs : List Fact) (x : A) → Later f g → ((h : Integers) → Agree g h → Holds h x) → Goes past m g fs (k x) Then)
+      → Goes past n f facts (bind w k) Then
+  goes_then {n} {f} {facts} {w} {k} r next =
+      goes_on k r (next (w facts n).next r.goes.point (w facts n).facts (w facts n).value r.goes.later r.goes.holds)
 
   -- what is known behind a walk, and so what follows
   pub goes_as : {n : ℕ} {f : Point n} {facts : List Fact} {A : Type 0} {w : Walk A} {Holds Then : Integers → A → Type 0} → Goes past n f facts w Holds

@@ -8,14 +8,14 @@ use Rattle.value_indices.specs.declared.indices.Naming.{Naming}
 use Rattle.value_indices.specs.declared.indices.Reading.{Reading}
 use Rattle.value_indices.specs.declared.notes.Fact.{Fact}
 use Rattle.value_indices.specs.Opening.{opening}
-use Rattle.value_laws.specs.Belonging.{Integers, standing, closed, has, is_of}
+use Rattle.value_laws.specs.Belonging.{Integers, Meant, standing, meant, closed, is_of}
 use Rattle.value_laws.specs.Known.{Point, Agree, Goes}
 
--- where a value belongs to a type that hangs on fixed variables alone, opening the type gives indices that the value has, and all that comes
--- into force is true
+-- where a value belongs to a type that hangs on fixed variables alone, opening the type gives indices that the value has, which mean one and the same
+-- whatever variables stand for that aren't fixed, and all that comes into force is true
 abbrev pub OpeningIsSound : Type 0
 OpeningIsSound = (types : Types) (past : Positive) (own : List Closed) (r : Reading) (tells : Bool) (name : Naming) (n : ℕ) (f : Point n)
     (facts : List Fact) (v : Value)
     → ((g : Integers) → Agree f g → closed types (standing past g) own r ≡ closed types (standing past f.integers) own r)
     → is_of types (standing past f.integers) own r v ≡ true
-    → Goes past n f facts (opening r tells name) (λ g i. has types (standing past g) own i v ≡ true)
+    → (m : Meant) × (m.holds v ≡ true) × Goes past n f facts (opening r tells name) (λ g i. meant types (standing past g) own i ≡ m)
