@@ -1,13 +1,14 @@
 //! A model of a small machine of 16 bits, as flat code: it reads its instructions from memory.
-use jib::{
-    Checked, Function, Instruction, Literal, Module, Opening, Operation, Source, Target, ValueType,
-    validate,
-};
+use crate::written::Line::{Apply, End, JumpIf, Label, Set};
+use crate::written::Read::{Bits, Integer, Let, Register, Slot, Truth};
+use crate::written::{Head, Line, Type, function, machine, no_types, types};
+use jib::Operation::{Builtin, Slice};
+use jib::{Module, Opening, Target};
 use jib_machine::{Entries, Machine};
 use mem_store::Flat;
-use model_state::{Ended, Register, State};
+use model_state::{Ended, Register as ModelRegister, State};
 use sail_base::{Items, Text, Word};
-use sail_types::{Num, Row, Typ, Types, Value};
+use sail_types::{Num, Row, Typ, Value};
 use std::alloc::{AllocError, Global};
 use std::test::Fail;
 
@@ -25,312 +26,306 @@ const CODE: u32 = 5;
 
 const OPERAND: u32 = 6;
 
+const TYPES: &[Type] = &[
+    Type::Unit,
+    Type::Integer,
+    Type::Truth,
+    Type::Bits(16),
+    Type::Bits(64),
+    Type::Bits(4),
+    Type::Bits(12),
+];
+
 /// The registers: where the next instruction stands, and the accumulator.
 const PLACE: Target = Target::Register(0);
 
 const SUM: Target = Target::Register(1);
 
-fn int(n: i128) -> Source {
-    Source::Constant(INTEGER, Literal::Integer(n))
-}
-
-fn bits(typ: u32, word: Word) -> Source {
-    Source::Constant(typ, Literal::Bits(word))
-}
-
-fn apply(
-    alloc: Global,
-    code: &mut Items<Instruction>,
-    target: Target,
-    operation: Operation,
-    sources: Items<Source>,
-) -> Result<(), AllocError> {
-    let _alloc: Global = alloc;
-    code.push(Instruction::Apply(target, operation, sources))
-}
-
-fn two(alloc: Global, a: Source, b: Source) -> Result<Items<Source>, AllocError> {
-    let mut sources = Items::new(alloc);
-    sources.push(a)?;
-    sources.push(b)?;
-    Ok(sources)
-}
-
-fn three(alloc: Global, a: Source, b: Source, c: Source) -> Result<Items<Source>, AllocError> {
-    let mut sources = two(alloc, a, b)?;
-    sources.push(c)?;
-    Ok(sources)
-}
-
-fn yes() -> Instruction {
-    Instruction::End(Source::Constant(TRUTH, Literal::Truth(true)))
-}
-
 /// Reads the instruction, takes it apart, and goes on to the next.
-fn fetch(alloc: Global, code: &mut Items<Instruction>) -> Result<(), AllocError> {
-    let wide = two(alloc, int(64), Source::Register(0))?;
-    apply(
-        alloc,
-        code,
+const FETCH: &[Line] = &[
+    Apply(
         Target::Slot(2),
-        Operation::Builtin(Row::ZeroExtend),
-        wide,
-    )?;
-    let read = two(alloc, int(2), Source::Slot(2))?;
-    apply(
-        alloc,
-        code,
+        Builtin(Row::ZeroExtend),
+        &[Integer(INTEGER, 64), Register(0)],
+    ),
+    Apply(
         Target::Slot(3),
-        Operation::Builtin(Row::MemRead),
-        read,
-    )?;
-    let high = three(alloc, Source::Slot(3), int(15), int(12))?;
-    apply(alloc, code, Target::Slot(4), Operation::Slice, high)?;
-    let low = three(alloc, Source::Slot(3), int(11), int(0))?;
-    apply(alloc, code, Target::Slot(5), Operation::Slice, low)?;
-    let next = two(alloc, Source::Register(0), Source::Let(0))?;
-    apply(alloc, code, PLACE, Operation::Builtin(Row::AddBits), next)?;
-    let value = two(alloc, int(16), Source::Slot(5))?;
-    apply(
-        alloc,
-        code,
+        Builtin(Row::MemRead),
+        &[Integer(INTEGER, 2), Slot(2)],
+    ),
+    Apply(
+        Target::Slot(4),
+        Slice,
+        &[Slot(3), Integer(INTEGER, 15), Integer(INTEGER, 12)],
+    ),
+    Apply(
+        Target::Slot(5),
+        Slice,
+        &[Slot(3), Integer(INTEGER, 11), Integer(INTEGER, 0)],
+    ),
+    Apply(PLACE, Builtin(Row::AddBits), &[Register(0), Let(0)]),
+    Apply(
         Target::Slot(7),
-        Operation::Builtin(Row::ZeroExtend),
-        value,
-    )?;
-    let place = two(alloc, int(64), Source::Slot(5))?;
-    apply(
-        alloc,
-        code,
+        Builtin(Row::ZeroExtend),
+        &[Integer(INTEGER, 16), Slot(5)],
+    ),
+    Apply(
         Target::Slot(2),
-        Operation::Builtin(Row::ZeroExtend),
-        place,
-    )
-}
+        Builtin(Row::ZeroExtend),
+        &[Integer(INTEGER, 64), Slot(5)],
+    ),
+];
 
 /// To the label of the operation; past them the machine rests.
-fn choose(alloc: Global, code: &mut Items<Instruction>) -> Result<(), AllocError> {
-    for label in 0..6 {
-        let same = two(
-            alloc,
-            Source::Slot(4),
-            bits(CODE, Word::low(4, label as u128)),
-        )?;
-        apply(
-            alloc,
-            code,
-            Target::Slot(6),
-            Operation::Builtin(Row::Eq),
-            same,
-        )?;
-        code.push(Instruction::JumpIf(Source::Slot(6), label))?;
-    }
-    code.push(Instruction::End(Source::Constant(TRUTH, Literal::Truth(false))))
-}
+const CHOOSE: &[Line] = &[
+    Apply(
+        Target::Slot(6),
+        Builtin(Row::Eq),
+        &[Slot(4), Bits(CODE, 4, 0)],
+    ),
+    JumpIf(Slot(6), 0),
+    Apply(
+        Target::Slot(6),
+        Builtin(Row::Eq),
+        &[Slot(4), Bits(CODE, 4, 1)],
+    ),
+    JumpIf(Slot(6), 1),
+    Apply(
+        Target::Slot(6),
+        Builtin(Row::Eq),
+        &[Slot(4), Bits(CODE, 4, 2)],
+    ),
+    JumpIf(Slot(6), 2),
+    Apply(
+        Target::Slot(6),
+        Builtin(Row::Eq),
+        &[Slot(4), Bits(CODE, 4, 3)],
+    ),
+    JumpIf(Slot(6), 3),
+    Apply(
+        Target::Slot(6),
+        Builtin(Row::Eq),
+        &[Slot(4), Bits(CODE, 4, 4)],
+    ),
+    JumpIf(Slot(6), 4),
+    Apply(
+        Target::Slot(6),
+        Builtin(Row::Eq),
+        &[Slot(4), Bits(CODE, 4, 5)],
+    ),
+    JumpIf(Slot(6), 5),
+    End(Truth(TRUTH, false)),
+];
 
 /// 0 sets the accumulator, 1 adds to it, 2 takes away from it.
-fn sums(alloc: Global, code: &mut Items<Instruction>) -> Result<(), AllocError> {
-    code.push(Instruction::Label(0))?;
-    code.push(Instruction::Copy(SUM, Source::Slot(7)))?;
-    code.push(yes())?;
-    code.push(Instruction::Label(1))?;
-    let sum = two(alloc, Source::Register(1), Source::Slot(7))?;
-    apply(alloc, code, SUM, Operation::Builtin(Row::AddBits), sum)?;
-    code.push(yes())?;
-    code.push(Instruction::Label(2))?;
-    let rest = two(alloc, Source::Register(1), Source::Slot(7))?;
-    apply(alloc, code, SUM, Operation::Builtin(Row::SubBits), rest)?;
-    code.push(yes())
-}
+const SUMS: &[Line] = &[
+    Label(0),
+    Set(SUM, Slot(7)),
+    End(Truth(TRUTH, true)),
+    Label(1),
+    Apply(SUM, Builtin(Row::AddBits), &[Register(1), Slot(7)]),
+    End(Truth(TRUTH, true)),
+    Label(2),
+    Apply(SUM, Builtin(Row::SubBits), &[Register(1), Slot(7)]),
+    End(Truth(TRUTH, true)),
+];
 
 /// 3 writes the accumulator to memory, 4 reads it from there, 5 jumps where it isn't zero.
-fn moves(alloc: Global, code: &mut Items<Instruction>) -> Result<(), AllocError> {
-    code.push(Instruction::Label(3))?;
-    let write = three(alloc, int(2), Source::Slot(2), Source::Register(1))?;
-    apply(
-        alloc,
-        code,
+const MOVES: &[Line] = &[
+    Label(3),
+    Apply(
         Target::Slot(1),
-        Operation::Builtin(Row::MemWrite),
-        write,
-    )?;
-    code.push(yes())?;
-    code.push(Instruction::Label(4))?;
-    let read = two(alloc, int(2), Source::Slot(2))?;
-    apply(alloc, code, SUM, Operation::Builtin(Row::MemRead), read)?;
-    code.push(yes())?;
-    code.push(Instruction::Label(5))?;
-    let some = two(alloc, Source::Register(1), bits(WORD, Word::low(16, 0)))?;
-    apply(
-        alloc,
-        code,
+        Builtin(Row::MemWrite),
+        &[Integer(INTEGER, 2), Slot(2), Register(1)],
+    ),
+    End(Truth(TRUTH, true)),
+    Label(4),
+    Apply(SUM, Builtin(Row::MemRead), &[Integer(INTEGER, 2), Slot(2)]),
+    End(Truth(TRUTH, true)),
+    Label(5),
+    Apply(
         Target::Slot(6),
-        Operation::Builtin(Row::Neq),
-        some,
-    )?;
-    code.push(Instruction::JumpIf(Source::Slot(6), 6))?;
-    code.push(yes())?;
-    code.push(Instruction::Label(6))?;
-    code.push(Instruction::Copy(PLACE, Source::Slot(7)))?;
-    code.push(yes())
-}
+        Builtin(Row::Neq),
+        &[Register(1), Bits(WORD, 16, 0)],
+    ),
+    JumpIf(Slot(6), 6),
+    End(Truth(TRUTH, true)),
+    Label(6),
+    Set(PLACE, Slot(7)),
+    End(Truth(TRUTH, true)),
+];
 
-fn step(alloc: Global) -> Result<Function, AllocError> {
-    let mut code = Items::new(alloc);
-    fetch(alloc, &mut code)?;
-    choose(alloc, &mut code)?;
-    sums(alloc, &mut code)?;
-    moves(alloc, &mut code)?;
-    Ok(Function {
-        parameters: Items::from_slice(alloc, &[UNIT])?,
-        result: TRUTH,
-        slots: Items::from_slice(
-            alloc,
-            &[INTEGER, UNIT, ADDRESS, WORD, CODE, OPERAND, TRUTH, WORD],
-        )?,
-        cycle: 0,
-        lets: 1,
-        is_pure: false,
-        code,
-    })
-}
+const STEP: Head = Head {
+    parameters: &[UNIT],
+    result: TRUTH,
+    slots: &[INTEGER, UNIT, ADDRESS, WORD, CODE, OPERAND, TRUTH, WORD],
+    cycle: 0,
+    lets: 1,
+    is_pure: false,
+};
 
-/// Counts down from a number: it writes the accumulator to memory, takes one away, goes back while it isn't zero, adds 7,
-/// reads what was written last, and rests.
-const PROGRAM: &[u128] = &[0x012c, 0x3100, 0x2001, 0x5002, 0x1007, 0x4100, 0xf000];
-
-/// Writes the program to memory, from the entry on.
-fn reset(alloc: Global) -> Result<Function, AllocError> {
-    let mut code = Items::new(alloc);
-    let low = two(alloc, Source::Slot(2), int(16))?;
-    apply(
-        alloc,
-        &mut code,
+/// Writes the program to memory, from the entry on. It counts down from a number: it writes the accumulator to memory, takes
+/// one away, goes back while it isn't zero, adds 7, reads what was written last, and rests.
+const WRITES: &[Line] = &[
+    Apply(
         PLACE,
-        Operation::Builtin(Row::Truncate),
-        low,
-    )?;
-    for word in PROGRAM {
-        let write = three(
-            alloc,
-            int(2),
-            Source::Slot(2),
-            bits(WORD, Word::low(16, *word)),
-        )?;
-        apply(
-            alloc,
-            &mut code,
-            Target::Slot(3),
-            Operation::Builtin(Row::MemWrite),
-            write,
-        )?;
-        let next = two(alloc, Source::Slot(2), int(2))?;
-        apply(
-            alloc,
-            &mut code,
-            Target::Slot(2),
-            Operation::Builtin(Row::AddBitsInt),
-            next,
-        )?;
-    }
-    code.push(Instruction::End(Source::Slot(3)))?;
-    Ok(Function {
-        parameters: Items::from_slice(alloc, &[INTEGER, ADDRESS])?,
-        result: UNIT,
-        slots: Items::from_slice(alloc, &[INTEGER, INTEGER, ADDRESS, UNIT])?,
-        cycle: 0,
-        lets: 0,
-        is_pure: false,
-        code,
-    })
-}
+        Builtin(Row::Truncate),
+        &[Slot(2), Integer(INTEGER, 16)],
+    ),
+    Apply(
+        Target::Slot(3),
+        Builtin(Row::MemWrite),
+        &[Integer(INTEGER, 2), Slot(2), Bits(WORD, 16, 0x012c)],
+    ),
+    Apply(
+        Target::Slot(2),
+        Builtin(Row::AddBitsInt),
+        &[Slot(2), Integer(INTEGER, 2)],
+    ),
+    Apply(
+        Target::Slot(3),
+        Builtin(Row::MemWrite),
+        &[Integer(INTEGER, 2), Slot(2), Bits(WORD, 16, 0x3100)],
+    ),
+    Apply(
+        Target::Slot(2),
+        Builtin(Row::AddBitsInt),
+        &[Slot(2), Integer(INTEGER, 2)],
+    ),
+    Apply(
+        Target::Slot(3),
+        Builtin(Row::MemWrite),
+        &[Integer(INTEGER, 2), Slot(2), Bits(WORD, 16, 0x2001)],
+    ),
+    Apply(
+        Target::Slot(2),
+        Builtin(Row::AddBitsInt),
+        &[Slot(2), Integer(INTEGER, 2)],
+    ),
+    Apply(
+        Target::Slot(3),
+        Builtin(Row::MemWrite),
+        &[Integer(INTEGER, 2), Slot(2), Bits(WORD, 16, 0x5002)],
+    ),
+    Apply(
+        Target::Slot(2),
+        Builtin(Row::AddBitsInt),
+        &[Slot(2), Integer(INTEGER, 2)],
+    ),
+    Apply(
+        Target::Slot(3),
+        Builtin(Row::MemWrite),
+        &[Integer(INTEGER, 2), Slot(2), Bits(WORD, 16, 0x1007)],
+    ),
+    Apply(
+        Target::Slot(2),
+        Builtin(Row::AddBitsInt),
+        &[Slot(2), Integer(INTEGER, 2)],
+    ),
+    Apply(
+        Target::Slot(3),
+        Builtin(Row::MemWrite),
+        &[Integer(INTEGER, 2), Slot(2), Bits(WORD, 16, 0x4100)],
+    ),
+    Apply(
+        Target::Slot(2),
+        Builtin(Row::AddBitsInt),
+        &[Slot(2), Integer(INTEGER, 2)],
+    ),
+    Apply(
+        Target::Slot(3),
+        Builtin(Row::MemWrite),
+        &[Integer(INTEGER, 2), Slot(2), Bits(WORD, 16, 0xf000)],
+    ),
+    Apply(
+        Target::Slot(2),
+        Builtin(Row::AddBitsInt),
+        &[Slot(2), Integer(INTEGER, 2)],
+    ),
+    End(Slot(3)),
+];
+
+const RESET: Head = Head {
+    parameters: &[INTEGER, ADDRESS],
+    result: UNIT,
+    slots: &[INTEGER, INTEGER, ADDRESS, UNIT],
+    cycle: 0,
+    lets: 0,
+    is_pure: false,
+};
 
 /// How many bytes an instruction has, which is a let.
-fn size(alloc: Global) -> Result<Function, AllocError> {
-    let mut code = Items::new(alloc);
-    code.push(Instruction::End(bits(WORD, Word::low(16, 2))))?;
-    Ok(Function {
-        parameters: Items::new(alloc),
-        result: WORD,
-        slots: Items::from_slice(alloc, &[INTEGER])?,
-        cycle: 0,
-        lets: 0,
-        is_pure: true,
-        code,
+const TWO: &[Line] = &[End(Bits(WORD, 16, 2))];
+
+const SIZE: Head = Head {
+    parameters: &[],
+    result: WORD,
+    slots: &[INTEGER],
+    cycle: 0,
+    lets: 0,
+    is_pure: true,
+};
+
+const OPENING: Opening = Opening {
+    function: 2,
+    register: None,
+};
+
+fn module(alloc: Global) -> Result<Module, AllocError> {
+    let mut functions = Items::new(alloc);
+    functions.push(function(alloc, &STEP, &[FETCH, CHOOSE, SUMS, MOVES])?)?;
+    functions.push(function(alloc, &RESET, &[WRITES])?)?;
+    functions.push(function(alloc, &SIZE, &[TWO])?)?;
+    Ok(Module {
+        types: types(alloc, TYPES)?,
+        exception: INTEGER,
+        registers: Items::from_slice(alloc, &[WORD, WORD])?,
+        openings: Items::from_slice(alloc, &[OPENING])?,
+        functions,
     })
 }
 
-fn program(alloc: Global) -> Result<Option<Checked>, AllocError> {
-    let mut types = Items::new(alloc);
-    types.push(ValueType::Unit)?;
-    types.push(ValueType::Integer)?;
-    types.push(ValueType::Truth)?;
-    types.push(ValueType::Bits(16))?;
-    types.push(ValueType::Bits(64))?;
-    types.push(ValueType::Bits(4))?;
-    types.push(ValueType::Bits(12))?;
-    let mut functions = Items::new(alloc);
-    functions.push(step(alloc)?)?;
-    functions.push(reset(alloc)?)?;
-    functions.push(size(alloc)?)?;
-    let mut openings = Items::new(alloc);
-    openings.push(Opening {
-        function: 2,
-        register: None,
-    })?;
-    Ok(validate(Module {
-        types,
-        exception: INTEGER,
-        registers: Items::from_slice(alloc, &[WORD, WORD])?,
-        openings,
-        functions,
-    }))
-}
+const NAMES: &[&str] = &["PLACE", "SUM"];
 
-fn no_types(alloc: Global) -> Types {
-    Types {
-        definitions: Items::new(alloc),
-    }
-}
-
-fn registers(alloc: Global) -> Result<Items<Register>, AllocError> {
+fn registers(alloc: Global) -> Result<Items<ModelRegister>, AllocError> {
     let mut registers = Items::new(alloc);
-    registers.push(Register {
-        name: Text::new(alloc, "PLACE")?,
-        typ: Typ::Bits(Num::constant(alloc, 16)),
-    })?;
-    registers.push(Register {
-        name: Text::new(alloc, "SUM")?,
-        typ: Typ::Bits(Num::constant(alloc, 16)),
-    })?;
+    for name in NAMES {
+        registers.push(ModelRegister {
+            name: Text::new(alloc, name)?,
+            typ: Typ::Bits(Num::constant(alloc, 16)),
+        })?;
+    }
     Ok(registers)
 }
 
-fn goes_on(ended: &Ended) -> bool {
-    match ended {
-        Ended::Value(Value::Truth(true)) => true,
-        _ => false,
-    }
-}
-
-/// How many steps the program takes, at most so many, and the accumulator then.
-fn run(alloc: Global, most: u32) -> Result<Option<(u32, u128)>, AllocError> {
-    let Some(checked) = program(alloc)? else {
-        return Ok(None);
-    };
-    let entries = Entries { reset: 1, step: 0 };
-    let machine = Machine::new(alloc, checked, no_types(alloc), registers(alloc)?, entries)?;
-    let memory = Flat::new(alloc, 0, 65536)?;
-    let mut state = State::new(alloc, no_types(alloc), registers(alloc)?, 1, memory)?;
+/// Starts a machine at address 0.
+fn begin(alloc: Global, machine: &Machine, state: &mut State<Flat>) -> Result<(), AllocError> {
     let mut arguments = Vec::new(alloc);
     arguments.push(Value::Integer(0))?;
     arguments.push(Value::Bits(Word::low(64, 0)))?;
-    let _begun = machine.call(alloc, &mut state, 0, 1, arguments)?;
+    let _begun = machine.call(alloc, state, 0, 1, arguments)?;
+    Ok(())
+}
+
+/// Takes one step; whether the machine goes on.
+fn goes_on(alloc: Global, machine: &Machine, state: &mut State<Flat>) -> Result<bool, AllocError> {
+    let mut arguments = Vec::new(alloc);
+    arguments.push(Value::Unit)?;
+    match &machine.call(alloc, state, 0, machine.step_entry(), arguments)? {
+        Ended::Value(Value::Truth(true)) => Ok(true),
+        _ => Ok(false),
+    }
+}
+
+/// How many steps a started machine takes, at most so many, and the accumulator then.
+fn steps(
+    alloc: Global,
+    machine: &Machine,
+    state: &mut State<Flat>,
+    most: u32,
+) -> Result<Option<(u32, u128)>, AllocError> {
     for steps in 0..most {
-        let mut arguments = Vec::new(alloc);
-        arguments.push(Value::Unit)?;
-        let ended = machine.call(alloc, &mut state, 0, machine.step_entry(), arguments)?;
-        if !goes_on(&ended) {
+        if !goes_on(alloc, machine, state)? {
             return Ok(match state.find_register(0, 1) {
                 Some(Value::Bits(word)) => Some((steps, word.bits())),
                 _ => None,
@@ -338,6 +333,18 @@ fn run(alloc: Global, most: u32) -> Result<Option<(u32, u128)>, AllocError> {
         }
     }
     Ok(None)
+}
+
+/// How many steps the program takes, at most so many, and the accumulator then.
+fn run(alloc: Global, most: u32) -> Result<Option<(u32, u128)>, AllocError> {
+    let entries = Entries { reset: 1, step: 0 };
+    let Some(machine) = machine(alloc, module(alloc)?, registers(alloc)?, entries)? else {
+        return Ok(None);
+    };
+    let memory = Flat::new(alloc, 0, 65536)?;
+    let mut state = State::new(alloc, no_types(alloc), registers(alloc)?, 1, memory)?;
+    begin(alloc, &machine, &mut state)?;
+    steps(alloc, &machine, &mut state, most)
 }
 
 #[test]

@@ -12,3 +12,5 @@ mod interpreter;
 mod modules;
 #[cfg(test)]
 mod running;
+#[cfg(test)]
+mod written;

@@ -1,10 +1,17 @@
 //! Modules by hand: one that keeps all rules, and for each rule some that break it alone.
-use jib::{
-    Call, Checked, Function, Instruction, Literal, Module, Opening, Operation, Source, Target,
-    ValueType, label_place, validate,
+use crate::written::Line::{
+    End, Enter, Goto, JumpIf, Label, Measure, NoMeasure, Payload, Set, StepsDone, Throw, Tick,
+    WorkLimit,
 };
-use model_state::Cause;
-use sail_base::{Items, Place, Word};
+use crate::written::Read::{Bits, Integer, Let, Slot, Truth, Unit};
+use crate::written::{
+    Head, Line, Type, function, headed, instruction, push_lines, push_types, types,
+};
+use jib::{
+    Checked, Function, Instruction, Module, Opening, Operation, Source, Target, ValueType,
+    label_place, validate,
+};
+use sail_base::Items;
 use sail_types::Row;
 use std::alloc::{AllocError, Global};
 use std::test::Fail;
@@ -66,30 +73,36 @@ enum Change {
     OtherRegister,
 }
 
-fn numbers(alloc: Global, items: &[u32]) -> Result<Items<u32>, AllocError> {
-    Items::from_slice(alloc, items)
-}
+const TYPES: &[Type] = &[
+    Type::Unit,
+    Type::Integer,
+    Type::Truth,
+    Type::Bits(8),
+    Type::String,
+    Type::Union(0, &[INTEGER, UNIT]),
+    Type::List(INTEGER),
+    Type::Vector(2, INTEGER),
+    Type::Tuple(&[INTEGER, TRUTH]),
+    Type::Bit,
+];
 
-fn types(alloc: Global, change: Change) -> Result<Items<ValueType>, AllocError> {
-    let mut types = Items::new(alloc);
-    types.push(ValueType::Unit)?;
-    types.push(ValueType::Integer)?;
-    types.push(ValueType::Truth)?;
-    types.push(ValueType::Bits(8))?;
-    types.push(ValueType::String)?;
-    types.push(ValueType::Union(0, numbers(alloc, &[INTEGER, UNIT])?))?;
-    types.push(ValueType::List(INTEGER))?;
-    types.push(ValueType::Vector(2, INTEGER))?;
-    types.push(ValueType::Tuple(numbers(alloc, &[INTEGER, TRUTH])?))?;
-    types.push(ValueType::Bit)?;
+const WIDE: &[Type] = &[Type::Bits(129)];
+
+const FORWARD: &[Type] = &[Type::List(10)];
+
+const EMPTY: &[Type] = &[Type::Enum(1, 0)];
+
+const LONG: &[Type] = &[Type::Vector(4097, BIT)];
+
+/// The types that a change puts behind the others.
+fn more_types(change: Change) -> &'static [Type] {
     match change {
-        Change::Wide => types.push(ValueType::Bits(129))?,
-        Change::Forward => types.push(ValueType::List(10))?,
-        Change::Empty => types.push(ValueType::Enum(1, 0))?,
-        Change::Long => types.push(ValueType::Vector(4097, BIT))?,
-        _ => {}
+        Change::Wide => WIDE,
+        Change::Forward => FORWARD,
+        Change::Empty => EMPTY,
+        Change::Long => LONG,
+        _ => &[],
     }
-    Ok(types)
 }
 
 /// A slot for each type, the first for exceptions, and the last for unit.
@@ -97,138 +110,153 @@ const SLOTS: &[u32] = &[
     OPTION, INTEGER, TRUTH, BYTE, STRING, OPTION, INTEGERS, TWO, PAIR, BIT, UNIT,
 ];
 
+const INTEGER_ALONE: &[u32] = &[INTEGER];
+
+const TRUTH_ALONE: &[u32] = &[TRUTH];
+
+const TWO_INTEGERS: &[u32] = &[INTEGER, INTEGER];
+
+/// What stands behind the instruction in the first function.
+const END: &[Line] = &[Label(0), End(Slot(1))];
+
 /// A tick, the instruction, a label and the end.
 fn code(alloc: Global, instruction: Instruction) -> Result<Items<Instruction>, AllocError> {
     let mut code = Items::new(alloc);
     code.push(Instruction::Tick)?;
     code.push(instruction)?;
-    code.push(Instruction::Label(0))?;
-    code.push(Instruction::End(Source::Slot(1)))?;
+    push_lines(alloc, &mut code, END)?;
     Ok(code)
 }
 
-fn caller(alloc: Global, change: Change, instruction: Instruction) -> Result<Function, AllocError> {
-    let slots = match change {
-        Change::FirstSlot => numbers(alloc, &[INTEGER, INTEGER])?,
-        _ => numbers(alloc, SLOTS)?,
-    };
-    let parameters = match change {
-        Change::Parameter => numbers(alloc, &[TRUTH])?,
-        _ => numbers(alloc, &[INTEGER])?,
-    };
-    Ok(Function {
-        parameters,
+fn caller(change: Change) -> Head {
+    Head {
+        parameters: match change {
+            Change::Parameter => TRUTH_ALONE,
+            _ => INTEGER_ALONE,
+        },
         result: INTEGER,
-        slots,
+        slots: match change {
+            Change::FirstSlot => TWO_INTEGERS,
+            _ => SLOTS,
+        },
         cycle: 1,
         lets: 1,
         is_pure: false,
-        code: code(alloc, instruction)?,
-    })
+    }
 }
 
 /// Takes an integer and gives a truth.
-fn callee(alloc: Global, change: Change) -> Result<Function, AllocError> {
-    let mut code = Items::new(alloc);
-    code.push(Instruction::Tick)?;
-    code.push(Instruction::End(Source::Constant(TRUTH, Literal::Truth(true))))?;
-    let result = TRUTH;
-    let cycle = match change {
-        Change::Cycle => 2,
-        _ => 1,
-    };
-    let lets = match change {
-        Change::Lets => 2,
-        _ => 1,
-    };
-    Ok(Function {
-        parameters: numbers(alloc, &[INTEGER])?,
-        result,
-        slots: numbers(alloc, &[OPTION, INTEGER])?,
-        cycle,
-        lets,
+fn callee(change: Change) -> Head {
+    Head {
+        parameters: &[INTEGER],
+        result: TRUTH,
+        slots: &[OPTION, INTEGER],
+        cycle: match change {
+            Change::Cycle => 2,
+            _ => 1,
+        },
+        lets: match change {
+            Change::Lets => 2,
+            _ => 1,
+        },
         is_pure: false,
-        code,
-    })
+    }
 }
+
+const GIVES_TRUE: &[Line] = &[Tick, End(Truth(TRUTH, true))];
 
 /// Works out a byte.
-fn initial(alloc: Global, change: Change) -> Result<Function, AllocError> {
-    let mut code = Items::new(alloc);
-    let zero = Literal::Bits(Word::new(8, 0));
-    code.push(Instruction::Copy(Target::Slot(1), Source::Constant(BYTE, zero)))?;
-    match change {
-        Change::ReadsItself => code.push(Instruction::End(Source::Let(0)))?,
-        _ => code.push(Instruction::End(Source::Slot(1)))?,
-    }
-    let lets = match change {
-        Change::ReadsItself => 1,
-        _ => 0,
-    };
-    let is_pure = match change {
-        Change::Impure => false,
-        _ => true,
-    };
-    Ok(Function {
-        parameters: Items::new(alloc),
+fn initial(change: Change) -> Head {
+    Head {
+        parameters: &[],
         result: BYTE,
-        slots: numbers(alloc, &[OPTION, BYTE])?,
+        slots: &[OPTION, BYTE],
         cycle: 0,
-        lets,
-        is_pure,
-        code,
-    })
+        lets: match change {
+            Change::ReadsItself => 1,
+            _ => 0,
+        },
+        is_pure: match change {
+            Change::Impure => false,
+            _ => true,
+        },
+    }
 }
 
+const GIVES_ZERO: &[Line] = &[Set(Target::Slot(1), Bits(BYTE, 8, 0)), End(Slot(1))];
+
+const GIVES_ITSELF: &[Line] = &[Set(Target::Slot(1), Bits(BYTE, 8, 0)), End(Let(0))];
+
 /// A function that throws always.
-fn thrower(alloc: Global, change: Change) -> Result<Function, AllocError> {
-    let mut code = Items::new(alloc);
-    code.push(Instruction::Throw(Source::Slot(0)))?;
-    let result = match change {
-        Change::Answer => 10,
-        _ => UNIT,
-    };
-    Ok(Function {
-        parameters: Items::new(alloc),
-        result,
-        slots: numbers(alloc, &[OPTION])?,
+fn thrower(change: Change) -> Head {
+    Head {
+        parameters: &[],
+        result: match change {
+            Change::Answer => 10,
+            _ => UNIT,
+        },
+        slots: &[OPTION],
         cycle: 0,
         lets: 0,
         is_pure: true,
-        code,
-    })
+    }
+}
+
+const THROWS: &[Line] = &[Throw(Slot(0))];
+
+/// The functions of a module with this instruction in its first function, and one change.
+fn functions(
+    alloc: Global,
+    change: Change,
+    instruction: Instruction,
+) -> Result<Items<Function>, AllocError> {
+    let works_out = match change {
+        Change::ReadsItself => GIVES_ITSELF,
+        _ => GIVES_ZERO,
+    };
+    let mut functions = Items::new(alloc);
+    functions.push(headed(alloc, &caller(change), code(alloc, instruction)?)?)?;
+    functions.push(function(alloc, &callee(change), &[GIVES_TRUE])?)?;
+    functions.push(function(alloc, &initial(change), &[works_out])?)?;
+    functions.push(function(alloc, &thrower(change), &[THROWS])?)?;
+    Ok(functions)
+}
+
+fn opening(change: Change) -> Opening {
+    Opening {
+        function: 2,
+        register: match change {
+            Change::OtherRegister => Some(1),
+            _ => Some(0),
+        },
+    }
+}
+
+const REGISTERS: &[u32] = &[BYTE, TWO];
+
+const UNKNOWN_REGISTERS: &[u32] = &[BYTE, TWO, 10];
+
+fn all_types(alloc: Global, change: Change) -> Result<Items<ValueType>, AllocError> {
+    let mut types = types(alloc, TYPES)?;
+    push_types(alloc, &mut types, more_types(change))?;
+    Ok(types)
 }
 
 /// A module with this instruction in its first function, and one change.
 fn module(alloc: Global, change: Change, instruction: Instruction) -> Result<Module, AllocError> {
-    let mut functions = Items::new(alloc);
-    functions.push(caller(alloc, change, instruction)?)?;
-    functions.push(callee(alloc, change)?)?;
-    functions.push(initial(alloc, change)?)?;
-    functions.push(thrower(alloc, change)?)?;
-    let register = match change {
-        Change::OtherRegister => Some(1),
-        _ => Some(0),
-    };
-    let mut openings = Items::new(alloc);
-    openings.push(Opening {
-        function: 2,
-        register,
-    })?;
     let registers = match change {
-        Change::Register => numbers(alloc, &[BYTE, TWO, 10])?,
-        _ => numbers(alloc, &[BYTE, TWO])?,
-    };
-    let exception = match change {
-        Change::Exception => 10,
-        _ => OPTION,
+        Change::Register => UNKNOWN_REGISTERS,
+        _ => REGISTERS,
     };
     Ok(Module {
-        types: types(alloc, change)?,
-        exception,
-        registers,
-        openings,
-        functions,
+        types: all_types(alloc, change)?,
+        exception: match change {
+            Change::Exception => 10,
+            _ => OPTION,
+        },
+        registers: Items::from_slice(alloc, registers)?,
+        openings: Items::from_slice(alloc, &[opening(change)])?,
+        functions: functions(alloc, change, instruction)?,
     })
 }
 
@@ -308,77 +336,53 @@ fn operations_have_their_types(rt: HostRuntime) -> Result<(), Fail> {
     Ok(())
 }
 
-fn call(
-    alloc: Global,
-    slot: u32,
-    function: u32,
-    argument: u32,
-    on_throw: u32,
-) -> Result<Instruction, AllocError> {
-    Ok(Instruction::Call(Call {
-        slot,
-        function,
-        arguments: slots(alloc, &[argument])?,
-        on_throw,
-        place: Place {
-            file: 1,
-            line: 1,
-            column: 1,
-        },
-    }))
-}
-
-fn constant(typ: u32, literal: Literal) -> Instruction {
-    Instruction::Copy(Target::Slot(typ), Source::Constant(typ, literal))
-}
+/// An instruction, and whether it keeps the rules.
+const INSTRUCTIONS: &[(Line, bool)] = &[
+    (Set(Target::Slot(INTEGER), Integer(INTEGER, 1 << 126)), true),
+    (
+        Set(Target::Slot(INTEGER), Integer(INTEGER, (1 << 126) + 1)),
+        false,
+    ),
+    (Set(Target::Slot(BYTE), Bits(BYTE, 8, 1)), true),
+    (Set(Target::Slot(BYTE), Bits(BYTE, 4, 1)), false),
+    (Set(Target::Slot(INTEGERS), Unit(INTEGERS)), false),
+    (Set(Target::Slot(1), Slot(2)), false),
+    (Set(Target::Slot(11), Slot(1)), false),
+    (Set(Target::Register(0), Slot(3)), true),
+    (Set(Target::Register(1), Slot(3)), false),
+    (Set(Target::Slot(3), Let(0)), true),
+    (Set(Target::Slot(3), Let(1)), false),
+    (Enter(2, 1, &[Slot(1)], 0), true),
+    (Enter(1, 1, &[Slot(1)], 0), false),
+    (Enter(2, 1, &[Slot(2)], 0), false),
+    (Enter(2, 4, &[Slot(1)], 0), false),
+    (Enter(2, 1, &[Slot(1)], 1), false),
+    (Enter(3, 2, &[Slot(1)], 0), false),
+    (JumpIf(Slot(2), 0), true),
+    (JumpIf(Slot(1), 0), false),
+    (JumpIf(Slot(2), 1), false),
+    (Payload(1, Slot(5), 0, 0), true),
+    (Payload(1, Slot(5), 1, 0), false),
+    (Goto(0), true),
+    (Label(0), false),
+    (Label(1), true),
+    (End(Slot(2)), false),
+    (Throw(Slot(5)), true),
+    (Throw(Slot(1)), false),
+    (WorkLimit, true),
+    (StepsDone, false),
+    (NoMeasure, true),
+    (Measure(Slot(1)), true),
+    (Measure(Slot(2)), false),
+    (Tick, true),
+];
 
 #[test]
 fn instructions_keep_their_rules(rt: HostRuntime) -> Result<(), Fail> {
     let alloc = rt.alloc();
-    let cases = [
-        (constant(INTEGER, Literal::Integer(1 << 126)), true),
-        (constant(INTEGER, Literal::Integer((1 << 126) + 1)), false),
-        (constant(BYTE, Literal::Bits(Word::new(8, 1))), true),
-        (constant(BYTE, Literal::Bits(Word::new(4, 1))), false),
-        (constant(INTEGERS, Literal::Unit), false),
-        (Instruction::Copy(Target::Slot(1), Source::Slot(2)), false),
-        (Instruction::Copy(Target::Slot(11), Source::Slot(1)), false),
-        (
-            Instruction::Copy(Target::Register(0), Source::Slot(3)),
-            true,
-        ),
-        (
-            Instruction::Copy(Target::Register(1), Source::Slot(3)),
-            false,
-        ),
-        (Instruction::Copy(Target::Slot(3), Source::Let(0)), true),
-        (Instruction::Copy(Target::Slot(3), Source::Let(1)), false),
-        (call(alloc, 2, 1, 1, 0)?, true),
-        (call(alloc, 1, 1, 1, 0)?, false),
-        (call(alloc, 2, 1, 2, 0)?, false),
-        (call(alloc, 2, 4, 1, 0)?, false),
-        (call(alloc, 2, 1, 1, 1)?, false),
-        (call(alloc, 3, 2, 1, 0)?, false),
-        (Instruction::JumpIf(Source::Slot(2), 0), true),
-        (Instruction::JumpIf(Source::Slot(1), 0), false),
-        (Instruction::JumpIf(Source::Slot(2), 1), false),
-        (Instruction::Payload(1, Source::Slot(5), 0, 0), true),
-        (Instruction::Payload(1, Source::Slot(5), 1, 0), false),
-        (Instruction::Goto(0), true),
-        (Instruction::Label(0), false),
-        (Instruction::Label(1), true),
-        (Instruction::End(Source::Slot(2)), false),
-        (Instruction::Throw(Source::Slot(5)), true),
-        (Instruction::Throw(Source::Slot(1)), false),
-        (Instruction::Stop(Cause::WorkLimit), true),
-        (Instruction::Stop(Cause::StepsDone), false),
-        (Instruction::NoMeasure, true),
-        (Instruction::Measure(Source::Slot(1)), true),
-        (Instruction::Measure(Source::Slot(2)), false),
-        (Instruction::Tick, true),
-    ];
-    for (instruction, right) in cases {
-        assert!(rt; is_valid(alloc, Change::Nothing, instruction)? == right);
+    for (line, right) in INSTRUCTIONS {
+        let instruction = instruction(alloc, line)?;
+        assert!(rt; is_valid(alloc, Change::Nothing, instruction)? == *right);
     }
     Ok(())
 }
@@ -401,11 +405,14 @@ const CHANGES: &[(Change, bool)] = &[
     (Change::OtherRegister, false),
 ];
 
+/// A call that keeps the rules.
+const CALL: Line = Enter(2, 1, &[Slot(1)], 0);
+
 #[test]
 fn modules_keep_their_rules(rt: HostRuntime) -> Result<(), Fail> {
     let alloc = rt.alloc();
     for (change, right) in CHANGES {
-        let instruction = call(alloc, 2, 1, 1, 0)?;
+        let instruction = instruction(alloc, &CALL)?;
         assert!(rt; is_valid(alloc, *change, instruction)? == *right);
     }
     Ok(())

@@ -1,23 +1,23 @@
-use crate::definitions::{function, mapping, on_line, overload};
-use sail_base::{Items, Text};
+use crate::definitions::{Row, definitions};
+use sail_base::Text;
 use sail_globals::{Called, Role, find_globals, find_members, find_namings, note_clashes};
 use sail_kinds::{First, TableError};
-use sail_syntax::{Def, Name, TyExp};
+use sail_syntax::Def;
 use std::alloc::{AllocError, Global};
 use std::test::Fail;
 
-/// A register of `bool`.
-fn register(alloc: Global, line: u32, name: &str) -> Result<Def, AllocError> {
-    let place = on_line(line);
-    let name = Name::new(alloc, place, name)?;
-    let typ = TyExp::Named(Name::new(alloc, place, "bool")?, Items::new(alloc));
-    Ok(Def::Register {
-        place,
-        name,
-        typ,
-        initial: None,
-    })
-}
+/// A direction of a mapping and a function of its name.
+const DIRECTION: &[Row] = &[Row::Mapping((1, "m")), Row::Function((2, "m_backwards"))];
+
+/// Two overloads of a name, which don't clash, and a register of a builtin's name.
+const BUILTIN: &[Row] = &[
+    Row::Overload((1, "f"), ""),
+    Row::Overload((2, "f"), ""),
+    Row::Register((3, "length")),
+];
+
+/// A function and a register of one name.
+const TWICE: &[Row] = &[Row::Function((1, "f")), Row::Register((2, "f"))];
 
 /// The line and the name of the first clash, 0 where there is none.
 fn first_clash(alloc: Global, definitions: &[Def]) -> Result<(u32, Text), Fail> {
@@ -30,29 +30,25 @@ fn first_clash(alloc: Global, definitions: &[Def]) -> Result<(u32, Text), Fail> 
     }
 }
 
+/// Whether the first clash of a table is on this line, of this name.
+fn clashes(alloc: Global, rows: &[Row], line: u32, name: &str) -> Result<bool, Fail> {
+    let definitions = definitions(alloc, rows)?;
+    let found = first_clash(alloc, definitions.as_slice())?;
+    Ok(found.0 == line && found.1.is(name))
+}
+
 #[test]
 fn names_clash(rt: HostRuntime) -> Result<(), Fail> {
     let alloc = rt.alloc();
-    let mut direction = Vec::new(alloc);
-    direction.push(mapping(alloc, 1, "m")?)?;
-    direction.push(function(alloc, 2, "m_backwards")?)?;
-    let found = first_clash(alloc, direction.as_slice())?;
-    assert!(rt; found.0 == 2 && found.1.is("m_backwards"));
-    let mut builtin = Vec::new(alloc);
-    builtin.push(overload(alloc, 1, "f", Items::new(alloc))?)?;
-    builtin.push(overload(alloc, 2, "f", Items::new(alloc))?)?;
-    builtin.push(register(alloc, 3, "length")?)?;
-    let found = first_clash(alloc, builtin.as_slice())?;
-    assert!(rt; found.0 == 3 && found.1.is("length"));
+    assert!(rt; clashes(alloc, DIRECTION, 2, "m_backwards")?);
+    assert!(rt; clashes(alloc, BUILTIN, 3, "length")?);
     Ok(())
 }
 
 #[test]
 fn names_have_meanings(rt: HostRuntime) -> Result<(), Fail> {
     let alloc = rt.alloc();
-    let mut definitions = Vec::new(alloc);
-    definitions.push(function(alloc, 1, "f")?)?;
-    definitions.push(register(alloc, 2, "f")?)?;
+    let definitions = definitions(alloc, TWICE)?;
     let members = find_members(alloc, definitions.as_slice())?;
     assert!(rt; !members.has("f"));
     let namings = find_namings(alloc, definitions.as_slice())?;

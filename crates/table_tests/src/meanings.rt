@@ -1,42 +1,11 @@
-use crate::definitions::{function, mapping, names, on_line, overload};
+use crate::definitions::{Row, definitions};
 use known_names::find_names;
-use sail_base::{Items, Operator};
+use sail_base::Operator;
 use sail_globals::find_namings;
 use sail_names::Global as Named;
-use sail_syntax::{Def, Member, Name, Overloaded, TyExp};
 use std::alloc::{AllocError, Global};
 use std::slice::from_ref;
 use std::test::Fail;
-
-fn member(alloc: Global, name: &str) -> Result<Items<Member>, AllocError> {
-    let name = Name::new(alloc, on_line(1), name)?;
-    let typ = TyExp::Named(Name::new(alloc, on_line(1), "bool")?, Items::new(alloc));
-    let mut members = Items::new(alloc);
-    members.push(Member { name, typ })?;
-    Ok(members)
-}
-
-fn union(alloc: Global, name: &str, constructor: &str) -> Result<Def, AllocError> {
-    let name = Name::new(alloc, on_line(1), name)?;
-    let constructors = member(alloc, constructor)?;
-    Ok(Def::Union {
-        place: on_line(1),
-        name,
-        variables: Items::new(alloc),
-        constructors,
-    })
-}
-
-fn structure(alloc: Global, name: &str, field: &str) -> Result<Def, AllocError> {
-    let name = Name::new(alloc, on_line(1), name)?;
-    let fields = member(alloc, field)?;
-    Ok(Def::Struct {
-        place: on_line(1),
-        name,
-        variables: Items::new(alloc),
-        fields,
-    })
-}
 
 /// What a name is.
 fn kind_of(named: &Named) -> &'static str {
@@ -82,21 +51,16 @@ fn told(alloc: Global, name: &str, named: Option<&Named>) -> Result<String, Allo
     Ok(told)
 }
 
-fn model(alloc: Global) -> Result<Vec<Def>, AllocError> {
-    let mut definitions = Vec::new(alloc);
-    definitions.push(function(alloc, 1, "f")?)?;
-    definitions.push(mapping(alloc, 1, "m")?)?;
-    definitions.push(structure(alloc, "S", "x")?)?;
-    definitions.push(union(alloc, "exception", "C")?)?;
-    let members = names(alloc, on_line(1), "f C m")?;
-    definitions.push(overload(alloc, 1, "o", members)?)?;
-    let members = names(alloc, on_line(1), "m_backwards length")?;
-    definitions.push(overload(alloc, 1, "o", members)?)?;
-    let members = names(alloc, on_line(1), "m_forwards f")?;
-    let disjunction = Overloaded::Operator(on_line(1), Operator::Or);
-    definitions.push(Def::Overload(on_line(1), disjunction, members))?;
-    Ok(definitions)
-}
+/// A model.
+const MODEL: &[Row] = &[
+    Row::Function((1, "f")),
+    Row::Mapping((1, "m")),
+    Row::Struct((1, "S"), "x"),
+    Row::Union((1, "exception"), "C"),
+    Row::Overload((1, "o"), "f C m"),
+    Row::Overload((1, "o"), "m_backwards length"),
+    Row::Operator(1, Operator::Or, "m_forwards f"),
+];
 
 /// Names, what each is, and the numbers of what it is or can enter.
 const MEANINGS: &str = "f function 0
@@ -113,7 +77,7 @@ x nothing";
 #[test]
 fn names_mean_what_is_defined(rt: HostRuntime) -> Result<(), Fail> {
     let alloc = rt.alloc();
-    let definitions = model(alloc)?;
+    let definitions = definitions(alloc, MODEL)?;
     let namings = find_namings(alloc, definitions.as_slice())?;
     let names = find_names(alloc, definitions.as_slice(), namings.as_slice())?;
     for row in MEANINGS.split('\n') {

@@ -1,7 +1,11 @@
+use crate::named::{Named, Part, table};
+use crate::written::Written::{Bit, Int, Truth, Unit};
+use crate::written::{Shaped, Written, shape, value};
 use sail_base::{Boxed, Items, Text};
 use sail_fits::{same_type, value_fits};
-use sail_types::{Con, Definition, Field, Form, Index, Num, Shape, Typ, Types, Value};
+use sail_types::{Con, Index, Num, Typ};
 use std::alloc::{AllocError, Global};
+use std::process::Abort;
 use std::test::Fail;
 
 const OPTION: u32 = 0;
@@ -14,43 +18,21 @@ const SHADE: u32 = 3;
 
 const WRAPPED: u32 = 4;
 
-/// A table: `option`, a struct `pair` of a bool and a bit, enums `color` of two members and `shade` of one, and
-/// a struct `wrapped('a)` with one field of `option('a)`.
-fn table(alloc: Global) -> Result<Types, AllocError> {
-    let mut constructors = Items::new(alloc);
-    constructors.push(field(alloc, "Some", Typ::Variable(0))?)?;
-    constructors.push(field(alloc, "None", Typ::Unit)?)?;
-    let mut fields = Items::new(alloc);
-    fields.push(field(alloc, "f", Typ::Bool)?)?;
-    fields.push(field(alloc, "g", Typ::Bit)?)?;
-    let mut colors = Items::new(alloc);
-    colors.push(Text::new(alloc, "Red")?)?;
-    colors.push(Text::new(alloc, "Green")?)?;
-    let shades = one_of(alloc, Text::new(alloc, "Dark")?)?;
-    let inside = Typ::Named(OPTION, Items::new(alloc), one_of(alloc, Typ::Variable(0))?);
-    let wrapped = one_of(alloc, field(alloc, "inside", inside)?)?;
-    let mut definitions = Items::new(alloc);
-    definitions.push(definition(alloc, "option", Form::Union(constructors))?)?;
-    definitions.push(definition(alloc, "pair", Form::Struct(fields))?)?;
-    definitions.push(definition(alloc, "color", Form::Enum(colors))?)?;
-    definitions.push(definition(alloc, "shade", Form::Enum(shades))?)?;
-    definitions.push(definition(alloc, "wrapped", Form::Struct(wrapped))?)?;
-    Ok(Types { definitions })
-}
-
-fn field(alloc: Global, name: &str, typ: Typ) -> Result<Field, AllocError> {
-    let name = Text::new(alloc, name)?;
-    Ok(Field { name, typ })
-}
-
-fn definition(alloc: Global, name: &str, form: Form) -> Result<Definition, AllocError> {
-    let name = Text::new(alloc, name)?;
-    Ok(Definition {
-        name,
-        parameters: Items::new(alloc),
-        form,
-    })
-}
+/// `option`, a struct `pair` of a bool and a bit, enums `color` of two members and `shade` of one, and a struct `wrapped('a)` with
+/// one field of `option('a)`.
+const TABLE: &[(&str, Named)] = &[
+    (
+        "option",
+        Named::Union(&[("Some", Part::Variable), ("None", Part::Unit)]),
+    ),
+    (
+        "pair",
+        Named::Struct(&[("f", Part::Bool), ("g", Part::Bit)]),
+    ),
+    ("color", Named::Enum(&["Red", "Green"])),
+    ("shade", Named::Enum(&["Dark"])),
+    ("wrapped", Named::Struct(&[("inside", Part::Of(OPTION))])),
+];
 
 fn one_of<T: Drop>(alloc: Global, a: T) -> Result<Items<T>, AllocError> {
     let mut items = Items::new(alloc);
@@ -58,112 +40,98 @@ fn one_of<T: Drop>(alloc: Global, a: T) -> Result<Items<T>, AllocError> {
     Ok(items)
 }
 
-fn pair_of<T: Drop>(alloc: Global, a: T, b: T) -> Result<Items<T>, AllocError> {
-    let mut items = one_of(alloc, a)?;
-    items.push(b)?;
-    Ok(items)
-}
+/// A value, a shape, and whether the value fits it.
+type Row = (Written, Shaped, bool);
 
-/// `Some(value)`
-fn some(alloc: Global, value: Value) -> Result<Value, AllocError> {
-    Ok(Value::Union(OPTION, 0, Boxed::new(alloc, value)?))
-}
+const LISTS: &[Row] = &[
+    (Written::EmptyList, Shaped::List(&Shaped::Int), true),
+    (Written::EmptyList, Shaped::List(&Shaped::Hole), true),
+    (Written::EmptyList, Shaped::Vector(&Shaped::Int), false),
+    (Written::List(&Int(1)), Shaped::List(&Shaped::Bool), false),
+];
 
-/// `option(item)`
-fn option(alloc: Global, item: Shape) -> Result<Shape, AllocError> {
-    Ok(Shape::Named(OPTION, one_of(alloc, item)?))
-}
+const OPTIONS: &[Row] = &[
+    (
+        Written::Some(&Truth(true)),
+        Shaped::Of(OPTION, &Shaped::Bool),
+        true,
+    ),
+    (
+        Written::Some(&Truth(true)),
+        Shaped::Of(OPTION, &Shaped::Int),
+        false,
+    ),
+    (Written::Some(&Unit), Shaped::Named(COLOR), false),
+    (
+        Written::Struct(WRAPPED, &Written::Some(&Truth(true))),
+        Shaped::Of(WRAPPED, &Shaped::Bool),
+        true,
+    ),
+];
 
-fn list(alloc: Global, item: Shape) -> Result<Shape, AllocError> {
-    Ok(Shape::List(Boxed::new(alloc, item)?))
-}
+const PARTS: &[Row] = &[
+    (
+        Written::Pair(PAIR, &Truth(true), &Bit(true)),
+        Shaped::Named(PAIR),
+        true,
+    ),
+    (
+        Written::Pair(PAIR, &Bit(true), &Truth(true)),
+        Shaped::Named(PAIR),
+        false,
+    ),
+    (
+        Written::Struct(PAIR, &Truth(true)),
+        Shaped::Named(PAIR),
+        false,
+    ),
+    (
+        Written::Tuple(&Int(1), &Unit),
+        Shaped::Tuple(&Shaped::Int, &Shaped::Unit),
+        true,
+    ),
+];
 
-/// Whether a value fits a shape.
-fn fits(types: &Types, value: Value, shape: Shape) -> bool {
-    value_fits(types, &value, &shape)
-}
+const PLAIN: &[Row] = &[
+    (Written::Member(COLOR, 1), Shaped::Named(COLOR), true),
+    (Written::Member(COLOR, 2), Shaped::Named(COLOR), false),
+    (Written::Member(COLOR, 0), Shaped::Named(SHADE), false),
+    (Int(-1), Shaped::Variable(0), true),
+    (Unit, Shaped::Hole, false),
+    (Unit, Shaped::Never, false),
+];
 
-/// The shape of a named type without arguments.
-fn of(alloc: Global, place: u32) -> Shape {
-    Shape::Named(place, Items::new(alloc))
+fn check(rt: &impl Abort, alloc: Global, rows: &[Row]) -> Result<(), AllocError> {
+    let types = table(alloc, TABLE)?;
+    for (written, shaped, wanted) in rows {
+        let value = value(alloc, written)?;
+        let shape = shape(alloc, shaped)?;
+        assert!(rt; value_fits(&types, &value, &shape) == *wanted);
+    }
+    Ok(())
 }
 
 #[test]
 fn lists_fit_their_shapes(rt: HostRuntime) -> Result<(), Fail> {
-    let alloc = rt.alloc();
-    let types = table(alloc)?;
-    assert!(rt;
-        fits(
-            &types,
-            Value::List(Items::new(alloc)),
-            list(alloc, Shape::Int)?
-        )
-    );
-    assert!(rt;
-        fits(
-            &types,
-            Value::List(Items::new(alloc)),
-            list(alloc, Shape::Hole)?
-        )
-    );
-    let vector = Shape::Vector(Boxed::new(alloc, Shape::Int)?);
-    assert!(rt; !fits(&types, Value::List(Items::new(alloc)), vector));
-    let integers = Value::List(one_of(alloc, Value::Integer(1))?);
-    assert!(rt; !fits(&types, integers, list(alloc, Shape::Bool)?));
+    check(&rt, rt.alloc(), LISTS)?;
     Ok(())
 }
 
 #[test]
 fn options_fit_their_shapes(rt: HostRuntime) -> Result<(), Fail> {
-    let alloc = rt.alloc();
-    let types = table(alloc)?;
-    assert!(rt;
-        fits(
-            &types,
-            some(alloc, Value::Truth(true))?,
-            option(alloc, Shape::Bool)?
-        )
-    );
-    assert!(rt;
-        !fits(
-            &types,
-            some(alloc, Value::Truth(true))?,
-            option(alloc, Shape::Int)?
-        )
-    );
-    assert!(rt; !fits(&types, some(alloc, Value::Unit)?, of(alloc, COLOR)));
-    let wrapped = Value::Struct(WRAPPED, one_of(alloc, some(alloc, Value::Truth(true))?)?);
-    let shape = Shape::Named(WRAPPED, one_of(alloc, Shape::Bool)?);
-    assert!(rt; fits(&types, wrapped, shape));
+    check(&rt, rt.alloc(), OPTIONS)?;
     Ok(())
 }
 
 #[test]
 fn structs_and_tuples_fit_their_shapes(rt: HostRuntime) -> Result<(), Fail> {
-    let alloc = rt.alloc();
-    let types = table(alloc)?;
-    let pair = Value::Struct(PAIR, pair_of(alloc, Value::Truth(true), Value::Bit(true))?);
-    assert!(rt; fits(&types, pair, of(alloc, PAIR)));
-    let crossed = Value::Struct(PAIR, pair_of(alloc, Value::Bit(true), Value::Truth(true))?);
-    assert!(rt; !fits(&types, crossed, of(alloc, PAIR)));
-    let short = Value::Struct(PAIR, one_of(alloc, Value::Truth(true))?);
-    assert!(rt; !fits(&types, short, of(alloc, PAIR)));
-    let two = Value::Tuple(pair_of(alloc, Value::Integer(1), Value::Unit)?);
-    let shape = Shape::Tuple(pair_of(alloc, Shape::Int, Shape::Unit)?);
-    assert!(rt; fits(&types, two, shape));
+    check(&rt, rt.alloc(), PARTS)?;
     Ok(())
 }
 
 #[test]
 fn members_and_plain_values_fit_their_shapes(rt: HostRuntime) -> Result<(), Fail> {
-    let alloc = rt.alloc();
-    let types = table(alloc)?;
-    assert!(rt; fits(&types, Value::Member(COLOR, 1), of(alloc, COLOR)));
-    assert!(rt; !fits(&types, Value::Member(COLOR, 2), of(alloc, COLOR)));
-    assert!(rt; !fits(&types, Value::Member(COLOR, 0), of(alloc, SHADE)));
-    assert!(rt; fits(&types, Value::Integer(-1), Shape::Variable(0)));
-    assert!(rt; !fits(&types, Value::Unit, Shape::Hole));
-    assert!(rt; !fits(&types, Value::Unit, Shape::Never));
+    check(&rt, rt.alloc(), PLAIN)?;
     Ok(())
 }
 

@@ -13,6 +13,8 @@ mod fits;
 #[cfg(test)]
 mod joins;
 #[cfg(test)]
+mod named;
+#[cfg(test)]
 mod rows;
 #[cfg(test)]
 mod small;
@@ -20,3 +22,5 @@ mod small;
 mod types;
 #[cfg(test)]
 mod words;
+#[cfg(test)]
+mod written;

@@ -23,20 +23,22 @@ fn boxes_and_texts_are_made_where_memory_is_ample(rt: HostRuntime) -> Result<(),
     Ok(())
 }
 
+/// Numbers, and their texts.
+const NUMBERS: &[(i128, &str)] = &[
+    (0, "0"),
+    (-1, "-1"),
+    (
+        85070591730234615865843651857942052864,
+        "85070591730234615865843651857942052864",
+    ),
+    (i128::MIN, "-170141183460469231731687303715884105728"),
+];
+
 #[test]
 fn numbers_and_bytes_are_printed(rt: HostRuntime) -> Result<(), Fail> {
     let alloc = rt.alloc();
-    let numbers = [
-        (0, "0"),
-        (-1, "-1"),
-        (
-            85070591730234615865843651857942052864,
-            "85070591730234615865843651857942052864",
-        ),
-        (i128::MIN, "-170141183460469231731687303715884105728"),
-    ];
-    for (number, text) in numbers {
-        assert_eq!(rt; dec_text(alloc, number)?.as_str(), text);
+    for (number, text) in NUMBERS {
+        assert_eq!(rt; dec_text(alloc, *number)?.as_str(), *text);
     }
     assert_eq!(rt; hex_text(alloc, &[0x00, 0xa5, 0xff])?.as_str(), "00a5ff");
     assert_eq!(rt; hex_text(alloc, &[])?.as_str(), "");

@@ -1,67 +1,47 @@
-use sail_base::{Boxed, Items, Text, Word};
+use crate::named::{Named, Part, table, texts};
+use crate::written::Written::{Bit, Bits, Int, Truth, Unit};
+use crate::written::{Shaped, Written, shape, value};
+use sail_base::Items;
 use sail_types::*;
 use std::alloc::{AllocError, Global};
+use std::process::Abort;
 use std::test::Fail;
 
-/// A table: `option`, a struct `pair` of the fields `f` and `g`, an enum `color` of `Red` and `Green`, and a
-/// struct `flags` of the field `bits`.
-fn table(alloc: Global) -> Result<Types, AllocError> {
-    let mut constructors = Items::new(alloc);
-    constructors.push(field(alloc, "Some", Typ::Variable(0))?)?;
-    constructors.push(field(alloc, "None", Typ::Unit)?)?;
-    let mut fields = Items::new(alloc);
-    fields.push(field(alloc, "f", Typ::Bool)?)?;
-    fields.push(field(alloc, "g", Typ::Bit)?)?;
-    let mut members = Items::new(alloc);
-    members.push(Text::new(alloc, "Red")?)?;
-    members.push(Text::new(alloc, "Green")?)?;
-    let mut definitions = Items::new(alloc);
-    definitions.push(definition(alloc, "option", Form::Union(constructors))?)?;
-    definitions.push(definition(alloc, "pair", Form::Struct(fields))?)?;
-    definitions.push(definition(alloc, "color", Form::Enum(members))?)?;
-    let bits = one_of(
-        alloc,
-        field(alloc, "bits", Typ::Bits(Num::constant(alloc, 8)))?,
-    )?;
-    definitions.push(definition(alloc, "flags", Form::Struct(bits))?)?;
-    Ok(Types { definitions })
-}
+/// `option`, a struct `pair` of the fields `f` and `g`, an enum `color` of `Red` and `Green`, and a struct `flags` of the field `bits`.
+const TABLE: &[(&str, Named)] = &[
+    (
+        "option",
+        Named::Union(&[("Some", Part::Variable), ("None", Part::Unit)]),
+    ),
+    (
+        "pair",
+        Named::Struct(&[("f", Part::Bool), ("g", Part::Bit)]),
+    ),
+    ("color", Named::Enum(&["Red", "Green"])),
+    ("flags", Named::Struct(&[("bits", Part::Bits(8))])),
+];
 
-fn field(alloc: Global, name: &str, typ: Typ) -> Result<Field, AllocError> {
-    let name = Text::new(alloc, name)?;
-    Ok(Field { name, typ })
-}
-
-fn definition(alloc: Global, name: &str, form: Form) -> Result<Definition, AllocError> {
-    let name = Text::new(alloc, name)?;
-    Ok(Definition {
-        name,
-        parameters: Items::new(alloc),
-        form,
-    })
-}
-
-fn pair_of<T: Drop>(alloc: Global, a: T, b: T) -> Result<Items<T>, AllocError> {
-    let mut items = Items::new(alloc);
-    items.push(a)?;
-    items.push(b)?;
-    Ok(items)
-}
-
-fn one_of<T: Drop>(alloc: Global, a: T) -> Result<Items<T>, AllocError> {
-    let mut items = Items::new(alloc);
-    items.push(a)?;
-    Ok(items)
-}
+/// Shapes, and their texts, where 'a is variable 0.
+const SHAPES: &[(Shaped, &str)] = &[
+    (Shaped::Bits, "bits"),
+    (Shaped::List(&Shaped::Int), "list(int)"),
+    (Shaped::Vector(&Shaped::Bits), "vector(bits)"),
+    (Shaped::Tuple(&Shaped::Int, &Shaped::Bits), "(int, bits)"),
+    (Shaped::Of(0, &Shaped::Int), "option(int)"),
+    (Shaped::Named(2), "color"),
+    (Shaped::Variable(0), "'a"),
+    (Shaped::Hole, "_"),
+];
 
 /// Whether a shape prints as this text, where 'a is variable 0.
 fn is_shape_text(
     alloc: Global,
     types: &Types,
-    shape: Shape,
+    shaped: &Shaped,
     text: &str,
 ) -> Result<bool, AllocError> {
-    let names = one_of(alloc, Text::new(alloc, "'a")?)?;
+    let names = texts(alloc, &["'a"])?;
+    let shape = shape(alloc, shaped)?;
     let mut out = Vec::new(alloc);
     push_shape(&mut out, types, names.as_slice(), &shape)?;
     Ok(out.as_slice() == text.as_bytes())
@@ -70,25 +50,16 @@ fn is_shape_text(
 #[test]
 fn shapes_print_as_the_manual_writes_types(rt: HostRuntime) -> Result<(), Fail> {
     let alloc = rt.alloc();
-    let types = table(alloc)?;
-    assert!(rt; is_shape_text(alloc, &types, Shape::Bits, "bits")?);
-    let list = Shape::List(Boxed::new(alloc, Shape::Int)?);
-    assert!(rt; is_shape_text(alloc, &types, list, "list(int)")?);
-    let vector = Shape::Vector(Boxed::new(alloc, Shape::Bits)?);
-    assert!(rt; is_shape_text(alloc, &types, vector, "vector(bits)")?);
-    let tuple = Shape::Tuple(pair_of(alloc, Shape::Int, Shape::Bits)?);
-    assert!(rt; is_shape_text(alloc, &types, tuple, "(int, bits)")?);
-    let option = Shape::Named(0, one_of(alloc, Shape::Int)?);
-    assert!(rt; is_shape_text(alloc, &types, option, "option(int)")?);
-    assert!(rt; is_shape_text(alloc, &types, Shape::Named(2, Items::new(alloc)), "color")?);
-    assert!(rt; is_shape_text(alloc, &types, Shape::Variable(0), "'a")?);
-    assert!(rt; is_shape_text(alloc, &types, Shape::Hole, "_")?);
+    let types = table(alloc, TABLE)?;
+    for (shaped, text) in SHAPES {
+        assert!(rt; is_shape_text(alloc, &types, shaped, text)?, "{text}");
+    }
     Ok(())
 }
 
 /// Whether a number prints as this text, where 'n and 'm are variables 0 and 1.
 fn is_number_text(alloc: Global, number: &Num, text: &str) -> Result<bool, AllocError> {
-    let names = pair_of(alloc, Text::new(alloc, "'n")?, Text::new(alloc, "'m")?)?;
+    let names = texts(alloc, &["'n", "'m"])?;
     let mut out = Vec::new(alloc);
     push_number(&mut out, names.as_slice(), number)?;
     Ok(out.as_slice() == text.as_bytes())
@@ -137,60 +108,65 @@ fn is_value_text(
     Ok(out.as_slice() == text.as_bytes())
 }
 
-/// Integers with their texts.
-const INTEGERS: [(i128, &str); 3] = [
-    (-5, "-5"),
-    (1 << 126, "85070591730234615865843651857942052864"),
-    (-(1 << 126), "-85070591730234615865843651857942052864"),
+/// Words, and their texts.
+const WORDS: &[(Written, &str)] = &[
+    (Bits(8, 3), "0x03"),
+    (Bits(12, 0x0af), "0x0af"),
+    (Bits(3, 5), "0b101"),
+    (Bits(0, 0), "0b"),
 ];
+
+/// Other values without parts, and their texts.
+const PLAIN: &[(Written, &str)] = &[
+    (Int(-5), "-5"),
+    (Int(1 << 126), "85070591730234615865843651857942052864"),
+    (Int(-(1 << 126)), "-85070591730234615865843651857942052864"),
+    (Bit(false), "bitzero"),
+    (Bit(true), "bitone"),
+    (Truth(true), "true"),
+    (Unit, "()"),
+    (Written::Member(2, 1), "Green"),
+];
+
+fn check(rt: &impl Abort, alloc: Global, rows: &[(Written, &str)]) -> Result<(), AllocError> {
+    let types = table(alloc, TABLE)?;
+    for (written, text) in rows {
+        let value = value(alloc, written)?;
+        assert!(rt; is_value_text(alloc, &types, value, text)?, "{text}");
+    }
+    Ok(())
+}
 
 #[test]
 fn words_print_as_in_the_report(rt: HostRuntime) -> Result<(), Fail> {
-    let alloc = rt.alloc();
-    let types = table(alloc)?;
-    assert!(rt; is_value_text(alloc, &types, Value::Bits(Word::new(8, 3)), "0x03")?);
-    assert!(rt; is_value_text(alloc, &types, Value::Bits(Word::new(12, 0x0af)), "0x0af")?);
-    assert!(rt; is_value_text(alloc, &types, Value::Bits(Word::new(3, 5)), "0b101")?);
-    assert!(rt; is_value_text(alloc, &types, Value::Bits(Word::zeros(0)), "0b")?);
+    check(&rt, rt.alloc(), WORDS)?;
     Ok(())
 }
 
 #[test]
 fn plain_values_print_as_in_the_report(rt: HostRuntime) -> Result<(), Fail> {
-    let alloc = rt.alloc();
-    let types = table(alloc)?;
-    for (integer, text) in &INTEGERS {
-        assert!(rt; is_value_text(alloc, &types, Value::Integer(*integer), text)?);
-    }
-    assert!(rt; is_value_text(alloc, &types, Value::Bit(false), "bitzero")?);
-    assert!(rt; is_value_text(alloc, &types, Value::Bit(true), "bitone")?);
-    assert!(rt; is_value_text(alloc, &types, Value::Truth(true), "true")?);
-    assert!(rt; is_value_text(alloc, &types, Value::Unit, "()")?);
-    assert!(rt; is_value_text(alloc, &types, Value::Member(2, 1), "Green")?);
+    check(&rt, rt.alloc(), PLAIN)?;
     Ok(())
 }
 
+/// Values of parts, and their texts.
+const PARTS: &[(Written, &str)] = &[
+    (Written::Tuple(&Int(1), &Truth(false)), "(1, false)"),
+    (Written::Vector(&Int(1), &Int(2)), "[1, 2]"),
+    (Written::Vector(&Bits(8, 1), &Bits(8, 2)), "[0x01, 0x02]"),
+    (Written::Struct(3, &Bits(8, 0xa8)), "{bits = 0xa8}"),
+];
+
 #[test]
 fn values_of_parts_print_as_in_the_report(rt: HostRuntime) -> Result<(), Fail> {
-    let alloc = rt.alloc();
-    let types = table(alloc)?;
-    let tuple = Value::Tuple(pair_of(alloc, Value::Integer(1), Value::Truth(false))?);
-    assert!(rt; is_value_text(alloc, &types, tuple, "(1, false)")?);
-    let vector = Value::Vector(pair_of(alloc, Value::Integer(1), Value::Integer(2))?);
-    assert!(rt; is_value_text(alloc, &types, vector, "[1, 2]")?);
-    let first = Value::Bits(Word::new(8, 1));
-    let second = Value::Bits(Word::new(8, 2));
-    let words = Value::Vector(pair_of(alloc, first, second)?);
-    assert!(rt; is_value_text(alloc, &types, words, "[0x01, 0x02]")?);
-    let flags = Value::Struct(3, one_of(alloc, Value::Bits(Word::new(8, 0xa8)))?);
-    assert!(rt; is_value_text(alloc, &types, flags, "{bits = 0xa8}")?);
+    check(&rt, rt.alloc(), PARTS)?;
     Ok(())
 }
 
 #[test]
 fn zeros_print_as_in_the_report(rt: HostRuntime) -> Result<(), Fail> {
     let alloc = rt.alloc();
-    let types = table(alloc)?;
+    let types = table(alloc, TABLE)?;
     let pair = Typ::Named(1, Items::new(alloc), Items::new(alloc));
     let zero = zero_of(alloc, &types, &pair)?.ok_or("a zero")?;
     assert!(rt; is_value_text(alloc, &types, zero, "{f = false, g = bitzero}")?);
@@ -203,7 +179,7 @@ fn zeros_print_as_in_the_report(rt: HostRuntime) -> Result<(), Fail> {
 #[test]
 fn names_and_operators_find_their_rows(rt: HostRuntime) -> Result<(), Fail> {
     let alloc = rt.alloc();
-    let types = table(alloc)?;
+    let types = table(alloc, TABLE)?;
     assert_eq!(rt; row_named("mul_wide_su"), Some(Row::MulWideSu));
     assert_eq!(rt; row_named("cons"), None);
     let members = row_members(alloc, &types, Row::Eq)?;

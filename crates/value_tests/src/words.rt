@@ -304,7 +304,8 @@ fn of_one(operation: One, a: Word, number: u128) -> Option<Word> {
 #[test]
 #[tactic(auto, using(sail_base::specs::laws::WordParts::word_widths))]
 fn operations(rt: HostRuntime) {
-    for (operation, width, a, b, to, want) in TWO {
+    for row in &TWO {
+        let (operation, width, a, b, to, want) = *row;
         assert!(rt; width <= 128 && to <= 128);
         let found = of_two(operation, Word::low(width, a), Word::low(width, b));
         assert!(rt;
@@ -312,7 +313,8 @@ fn operations(rt: HostRuntime) {
             "{width} bits: {a} and {b}"
         );
     }
-    for (operation, width, a, number, to, want) in ONE {
+    for row in &ONE {
+        let (operation, width, a, number, to, want) = *row;
         assert!(rt; width <= 128 && to <= 128);
         let found = of_one(operation, Word::low(width, a), number);
         assert!(rt;
@@ -325,7 +327,8 @@ fn operations(rt: HostRuntime) {
 #[test]
 #[tactic(auto, using(sail_base::specs::laws::WordParts::word_widths))]
 fn parts(rt: HostRuntime) {
-    for (width, a, low, b, want) in APPENDED {
+    for row in &APPENDED {
+        let (width, a, low, b, want) = *row;
         assert!(rt; width <= 128 && low <= 128 - width);
         let found = Word::low(width, a).append(Word::low(low, b));
         assert!(rt;
@@ -333,7 +336,8 @@ fn parts(rt: HostRuntime) {
             "{width} and {low} bits: {a} and {b}"
         );
     }
-    for (width, a, high, low, want) in SLICES {
+    for row in &SLICES {
+        let (width, a, high, low, want) = *row;
         assert!(rt; width <= 128 && high < width && low <= high);
         let word = Word::low(width, a);
         let found = word.slice(high, low);
@@ -347,7 +351,8 @@ fn parts(rt: HostRuntime) {
 
 #[test]
 fn readings(rt: HostRuntime) {
-    for (width, a, turned, zeros, top, number) in READ {
+    for row in &READ {
+        let (width, a, turned, zeros, top, number) = *row;
         assert!(rt; width <= 128);
         let word = Word::low(width, a);
         let reads = word.bits() == a && word.top() == top && word.signed() == number;
@@ -356,7 +361,8 @@ fn readings(rt: HostRuntime) {
         let returns = Word::of_int(width, number) == word;
         assert!(rt; reads && counts && turns && returns, "{width} bits: {a}");
     }
-    for (width, number, want) in LOWEST {
+    for row in &LOWEST {
+        let (width, number, want) = *row;
         assert!(rt; width <= 128);
         assert!(rt;
             Word::of_int(width, number) == Word::low(width, want),
@@ -367,7 +373,8 @@ fn readings(rt: HostRuntime) {
 
 #[test]
 fn sums_and_divisors(rt: HostRuntime) {
-    for (a, b, total, divisor) in SUMS {
+    for row in &SUMS {
+        let (a, b, total, divisor) = *row;
         assert!(rt; sum(a, b) == total && gcd(a, b) == divisor, "{a} and {b}");
     }
 }
