@@ -1,5 +1,5 @@
 -- The manners of each of the trees of expressions, and what is asked of one that is read in a mode.
-use Rattle.std.proofs.Common.{◌≡◌, true, List, [], ◌∷◌, refl, map}
+use Rattle.std.proofs.Common.{◌≡◌, true, List, [], ◌∷◌, refl}
 use Rattle.sail_syntax.specs.declared.expressions.Exp.{Exp, Exp-F}
 use Rattle.sail_syntax.specs.declared.expressions.Exp.TheOpen.{LExp-F, Stmt-F, Suffix-F, Case-F, FieldValue-F, Index-F, Range-F, Target-F}
 use Rattle.sail_syntax.specs.declared.expressions.Exp.TheFolds.{fold-LExp, fold-Stmt, fold-Suffix, fold-Case, fold-FieldValue, fold-Index, fold-Range}

@@ -1,5 +1,5 @@
 -- `if` and `assert`.
-use Rattle.std.proofs.Common.{◌≡◌, ℕ, List, [], ◌∷◌, ◌++◌, refl, Option, Some, None}
+use Rattle.std.proofs.Common.{ℕ, List, [], ◌∷◌, ◌++◌, refl, Option, Some, None}
 use Rattle.sail_base.specs.declared.place.Place.{Place}
 use Rattle.sail_types.specs.declared.shapes.Shape.{Shape}
 use Rattle.sail_types.specs.declared.shapes.Shape.TheVariants as V

@@ -1,5 +1,5 @@
 -- `f(a)` as a target beside others, and as the base of a part.
-use Rattle.std.proofs.Common.{arith, ◌≡◌, ◌⊎◌, inr, ℕ, zero, suc, Bool, true, false, List, [], ◌∷◌, ◌++◌, map, length, ap, sym, ◌∙◌, refl, subst, nat_eq}
+use Rattle.std.proofs.Common.{arith, ◌≡◌, inr, ℕ, zero, suc, Bool, true, false, List, [], ◌∷◌, ◌++◌, map, length, ap, sym, ◌∙◌, refl, subst, nat_eq}
 use Rattle.std.proofs.Common.{Option, Some, None, option_map, if◌then◌else◌}
 use Rattle.std.proofs.lemmas.Bool.{and_parts}
 use Rattle.sail_types.specs.Shapes.{at, each_fits, fits, put}

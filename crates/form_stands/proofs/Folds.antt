@@ -1,6 +1,6 @@
 -- The five ways in which expressions are folded, and how each of them goes over a form: what is found, the failures of names, twice what the grammar has,
 -- and the mappings by which patterns convert.
-use Rattle.std.proofs.Common.{◌≡◌, ◌⊎◌, ℕ, Bool, true, List, [], sym, subst}
+use Rattle.std.proofs.Common.{◌≡◌, ℕ, Bool, true, List, [], sym, subst}
 use Rattle.sail_base.specs.declared.place.Place.{Place}
 use Rattle.sail_types.specs.declared.shapes.Shape.{Shape}
 use Rattle.sail_syntax.specs.declared.expressions.Exp.{Exp, Exp-F, fold-Exp, roll-Exp}

@@ -1,5 +1,5 @@
 -- Literals, names of values, and what is asked of types.
-use Rattle.std.proofs.Common.{◌≡◌, ℕ, Bool, true, false, ◌||◌, List, [], ◌∷◌, ap, sym, ◌∙◌, refl, subst, slice_get, is_some, Option, Some, None}
+use Rattle.std.proofs.Common.{◌≡◌, ℕ, Bool, true, false, ◌||◌, List, [], ap, sym, ◌∙◌, refl, subst, slice_get, is_some, Option, Some, None}
 use Rattle.std.proofs.Common.{if◌then◌else◌}
 use Rattle.sail_base.specs.declared.kind.Kind.TheVariants as Sort
 use Rattle.sail_base.specs.declared.place.Place.{Place}

@@ -1,5 +1,5 @@
 -- Openings go on, one after the other, over values of the shapes of the lets before: each binds values of its shapes, or sets a register to one.
-use Rattle.std.proofs.Common.{◌≡◌, ℕ, zero, suc, List, [], ◌∷◌, ◌++◌, map, ap, sym, ◌∙◌, refl, subst, true, Some, slice_get, slice_set}
+use Rattle.std.proofs.Common.{◌≡◌, ℕ, zero, suc, List, [], ◌∷◌, ◌++◌, map, sym, refl, subst, true, Some, slice_get, slice_set}
 use Rattle.std.proofs.lemmas.Bool.{and_parts}
 use Rattle.sail_types.specs.Shapes.{fits, each_fits, put}
 use Rattle.sail_types.specs.declared.shapes.Shape.{Shape}

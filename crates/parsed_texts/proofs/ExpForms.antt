@@ -31,7 +31,7 @@ use Rattle.sail_grammar.specs.Targets.{all_there, arguments, both_there, some_of
 use Rattle.shape_joins.proofs.JoinsLeast.{none, some_same}
 use Rattle.shape_joins.proofs.Order.{two}
 use Rattle.shape_meanings.specs.Trees as Trees
-use Rattle.shape_meanings.specs.Trees.{group_written, is_part, pattern_written, written}
+use Rattle.shape_meanings.specs.Trees.{group_written, pattern_written, written}
 use Rattle.shape_meanings.specs.Whole.{all_of}
 use Rattle.shape_meanings.proofs.Folds.{OverTrees, written_Exp, written_LExp, written_case, written_field, written_index, written_lexp}
 use Rattle.shape_meanings.proofs.Folds.{written_range, written_stmt, written_suffix, written_target}

@@ -25,7 +25,7 @@ use Rattle.sail_grammar.specs.Leaves.{nowhere}
 use Rattle.shape_joins.proofs.JoinsLeast.{none, some_same}
 use Rattle.shape_joins.proofs.Order.{two}
 use Rattle.shape_meanings.specs.Trees as Trees
-use Rattle.shape_meanings.specs.Trees.{all_if, pattern_written}
+use Rattle.shape_meanings.specs.Trees.{pattern_written}
 use Rattle.shape_meanings.specs.Whole.{all_of}
 use Rattle.shape_meanings.proofs.Folds.{OverTrees, written_Case, written_Index, written_Range, written_Stmt, written_Suffix}
 use Rattle.shape_meanings.proofs.Folds.{written_case, written_field, written_index, written_lexp, written_range, written_stmt}

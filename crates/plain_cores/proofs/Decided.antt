@@ -1,6 +1,6 @@
 -- Cores that decide, by their kinds.
-use Rattle.std.proofs.Common.{◌≡◌, ℕ, suc, List, [], ◌∷◌, ◌++◌, map, length, ap, sym, ◌∙◌, refl, subst}
-use Rattle.std.proofs.Common.{Bool, true, false, ◌&&◌, ◌||◌, Option, None, slice_get, if◌then◌else◌}
+use Rattle.std.proofs.Common.{◌≡◌, ℕ, suc, List, [], ◌∷◌, map, length, ap, sym, refl, subst}
+use Rattle.std.proofs.Common.{Bool, true, false, ◌&&◌, ◌||◌, Option, None, slice_get}
 use Rattle.std.proofs.lemmas.Bool.{and_parts}
 use Rattle.sail_base.specs.declared.place.Place.{Place}
 use Rattle.sail_types.specs.Limits.{is_length}
@@ -14,7 +14,7 @@ use Rattle.sail_core.specs.declared.tree.Statement.{Statement}
 use Rattle.sail_core.specs.declared.tree.Statement.TheVariants as S
 use Rattle.sail_core.specs.Run as R
 use Rattle.sail_core.specs.Run.{Run, gives, held_in, if_so, in_turn, local, needs, returns}
-use Rattle.sail_core.specs.Run.{stops, within, ◌then◌, ◌or_else◌}
+use Rattle.sail_core.specs.Run.{stops, within, ◌then◌}
 use Rattle.sail_core.specs.Making.{World, made, plainly}
 use Rattle.sail_core.specs.Meaning as Means
 use Rattle.sail_core.specs.Meaning.{truly}

@@ -1,6 +1,6 @@
 -- Targets of assignments: what is found of them, and how it is read and written, ends neither with No nor by throwing.
-use Rattle.std.proofs.Common.{◌≡◌, ℕ, zero, suc, ℤ, List, [], ◌∷◌, ◌++◌, map, take, drop, sym, ◌∙◌, subst}
-use Rattle.std.proofs.Common.{Bool, ◌&&◌, Option, Some, None, if◌then◌else◌}
+use Rattle.std.proofs.Common.{ℕ, zero, suc, ℤ, List, [], ◌∷◌, ◌++◌, map, take, drop, sym, subst}
+use Rattle.std.proofs.Common.{Bool, ◌&&◌, Option, Some, None}
 use Rattle.sail_base.specs.declared.place.Place.{Place}
 use Rattle.sail_types.specs.declared.values.Value.{Value}
 use Rattle.sail_types.specs.declared.values.Value.TheVariants as Val
@@ -14,7 +14,7 @@ use Rattle.sail_core.specs.declared.targets.Way.{Way}
 use Rattle.sail_core.specs.declared.targets.Way.TheVariants as Y
 use Rattle.sail_core.specs.Run as R
 use Rattle.sail_core.specs.Run.{Ended, Now, Run, changed_in, held_in, in_turn, needs}
-use Rattle.sail_core.specs.Run.{◌then◌, ◌or_else◌}
+use Rattle.sail_core.specs.Run.{◌then◌}
 use Rattle.sail_core.specs.Making.{World, integer, made, plainly}
 use Rattle.sail_core.specs.Patterns.{components}
 use Rattle.sail_core.specs.Targets.{Spot, Spotted, Spotting, also, asked, assigned, read_register, reads, register_spot, renewed}

@@ -1,5 +1,5 @@
 -- Lists of expressions as targets.
-use Rattle.std.specs.Prelude.{Bool, true, ◌&&◌, List, [], ◌∷◌, map, Option, Some, None}
+use Rattle.std.specs.Prelude.{Bool, true, ◌&&◌, List, [], ◌∷◌, Option, Some, None}
 use Rattle.std.specs.Option.{is_some}
 use Rattle.sail_syntax.specs.declared.expressions.Exp.{Exp}
 use Rattle.sail_syntax.specs.declared.expressions.LExp.{LExp}

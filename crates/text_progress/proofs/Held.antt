@@ -1,10 +1,9 @@
 -- Numbers among others, and the edges of graphs of them, as tests.
-use Rattle.std.proofs.Common.{◌≡◌, ◌⊎◌, inl, inr, ℕ, zero, suc, ◌+◌, ◌*◌, ◌<◌, ◌≤◌, nat_eq, List, [], ◌∷◌, ◌++◌, length, map, filter, refl, sym, ap, ◌∙◌}
+use Rattle.std.proofs.Common.{◌≡◌, ◌⊎◌, inl, inr, ℕ, zero, suc, ◌+◌, ◌<◌, ◌≤◌, nat_eq, List, [], ◌∷◌, ◌++◌, length, map, filter, refl, sym, ap, ◌∙◌}
 use Rattle.std.proofs.Common.{subst, Bool, true, false, ◌&&◌, ◌||◌, cond, if◌then◌else◌, arith, Some, None, get_or, add-zero}
 use Rattle.std.proofs.lemmas.Bool.{and_parts}
 use Rattle.std.specs.Prelude.{Contains, slice_get}
-use Rattle.sail_syntax.specs.declared.words.Arrow.TheVariants as A
-use Rattle.sail_cycles.specs.Cycles.{Edge, edges, nodes_from}
+use Rattle.sail_cycles.specs.Cycles.{Edge, nodes_from}
 use Rattle.sail_cycles.specs.Cycles.{targets}
 use Rattle.mapping_ranks.specs.Ranks.{count}
 use Rattle.mapping_ranks.proofs.Reaching.{held}

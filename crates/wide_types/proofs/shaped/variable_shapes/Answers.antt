@@ -1,5 +1,4 @@
-use Rattle.std.proofs.Common.{◌≡◌, ◌∙◌, ◌+◌, ◌-◌, ◌++◌, ◌∷◌, [], List, Option, ap, sym, append_assoc, append-nil}
-use Rattle.sail_types.specs.declared.shapes.Shape.{Shape}
+use Rattle.std.proofs.Common.{◌≡◌, ◌∙◌, ◌+◌, ◌-◌, ◌++◌, ◌∷◌, [], ap, sym, append_assoc, append-nil}
 use Rattle.wide_types.specs.Widening.{shape_or_hole, variable_shapes}
 use Rattle.wide_types.proofs.FirstPlaces.{shapes_end, shapes_more}
 use Rattle.wide_types.proofs.shaped.variable_shapes.Goals as goal
