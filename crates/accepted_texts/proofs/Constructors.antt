@@ -122,7 +122,7 @@ module _ (name : List ℕ) (test : Role → Bool) where
 
 -- ---- no constructor of the table has the name
 
-none_before : (p : Field → Bool) (fs : List Field) → list_any p fs ≡ false → position_or_len p fs ≡ length fs
+pub none_before : (p : Field → Bool) (fs : List Field) → list_any p fs ≡ false → position_or_len p fs ≡ length fs
 none_before p [] h = refl
 none_before p (f ∷ fs) h =
     let k = or_parts (p f) (list_any p fs) h in
@@ -134,7 +134,7 @@ none_before p (f ∷ fs) h =
 not_less : (n : ℕ) → nat_lt n n ≡ false
 not_less n = grind (arith, nat_tests)
 
-nowhere : (p : Field → Bool) (fs : List Field) → list_any p fs ≡ false → position p fs ≡ None
+pub nowhere : (p : Field → Bool) (fs : List Field) → list_any p fs ≡ false → position p fs ≡ None
 nowhere p fs h =
     ap (λ n. cond (nat_lt n (length fs)) (Some (position_or_len p fs)) None) (none_before p fs h)
     ∙ ap (λ b. cond b (Some (position_or_len p fs)) None) (not_less (length fs))

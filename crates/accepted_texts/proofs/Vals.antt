@@ -26,7 +26,7 @@ use Rattle.accepted_texts.specs.Accepted.{ValsAreSigned}
 use Rattle.accepted_texts.proofs.Failures.{apart}
 use Rattle.accepted_texts.proofs.Types.{kind_whole, typ_whole}
 
-constraint_there : (n : Normal) → is_of K.Bool n ≡ true → Stands (constraint_of n)
+pub constraint_there : (n : Normal) → is_of K.Bool n ≡ true → Stands (constraint_of n)
 constraint_there (N.Number n) h = no h
 constraint_there (N.Constraint c) h = (c, refl)
 constraint_there (N.Typ t) h = no h

@@ -32,7 +32,7 @@ use Rattle.body_meanings.specs.Callees.{function_candidate}
 use Rattle.body_meanings.proofs.Entering.{crossed_agrees, entered_agrees, then_given, tick_agrees}
 
 -- what a node makes of a value that stands for itself
-then_made : (vs : List Value) (e : Ended Value Value) → goes_on e (λ v. made plainly 0 vs v) ≡ e
+pub then_made : (vs : List Value) (e : Ended Value Value) → goes_on e (λ v. made plainly 0 vs v) ≡ e
 then_made vs (R.Gives v now) = refl
 then_made vs (R.No now) = refl
 then_made vs (R.Returns v now) = refl

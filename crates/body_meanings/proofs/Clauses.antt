@@ -4,11 +4,9 @@ use Rattle.std.proofs.Common.{Option, Some, None, nat_eq, arith, if◌then◌els
 use Rattle.std.proofs.lemmas.Bool.{and_parts}
 use Rattle.std.proofs.lemmas.Cmp.{nat_eq_equiv}
 use Rattle.sail_base.specs.declared.place.Place.{Place}
-use Rattle.sail_types.specs.Shapes.{fits, each_fits, put}
 use Rattle.sail_types.specs.declared.shapes.Shape.{Shape}
 use Rattle.sail_types.specs.declared.shapes.Shape.TheOpen as S
 use Rattle.sail_types.specs.declared.shapes.Shape.TheVariants as V
-use Rattle.sail_types.specs.declared.table.Types.{Types}
 use Rattle.sail_types.specs.declared.values.Value.{Value, out-Value}
 use Rattle.sail_syntax.specs.declared.expressions.Exp.{Exp}
 use Rattle.sail_syntax.specs.declared.patterns.Pat.{Pat}
@@ -72,14 +70,10 @@ use Rattle.shape_meanings.proofs.PatternCounts.{EachCounts, more_count, pat_coun
 use Rattle.shape_meanings.proofs.PatternNames.{bound_names, bound_texts}
 use Rattle.shape_meanings.proofs.Ready.{Ready, with_names}
 use Rattle.shape_meanings.proofs.Expressions.{expressions_right}
+use Rattle.shape_meanings.proofs.CallAims.{fit_length}
+use Rattle.shape_meanings.proofs.Bases.{not_none}
 use Rattle.body_meanings.specs.Bodies.{ClausesAreNamed, MeasureIs}
 use Rattle.body_meanings.proofs.PlainPatterns.{plain_arguments}
-
-not_none : {A B : Type 0} {x : A} {xs : List A} → (x ∷ xs) ≡ [] → B
-not_none e = absurd (empty e)
-  where
-    empty : {A : Type 0} {x : A} {xs : List A} → (x ∷ xs) ≡ [] → ⊥
-    empty e = cc
 
 -- ---- what parameters do
 
@@ -198,13 +192,6 @@ ClauseRuns setting params answer arm body taken =
     (registers : List Shape) (c : Choice) (wc : Core.World Value) (ws : Source.World) → Describes setting registers wc ws
     → (vs : List Value) → FitAll setting.types c params vs → (now : Now Value) → Good (reach_of setting registers c []) now
     → Agree (reach_of setting registers c []) (Fits setting.types c answer) (arm_taken plainly wc arm (core_meaning wc body) vs now) (taken ws vs now)
-
-fit_length : (types : Types) (c : Choice) (ss : List Shape) (vs : List Value) → FitAll types c ss vs → length vs ≡ length ss
-fit_length types c [] [] all = refl
-fit_length types c [] (v ∷ vs) all = no all
-fit_length types c (s ∷ ss) [] all = no all
-fit_length types c (s ∷ ss) (v ∷ vs) all =
-    ap suc (fit_length types c ss vs (and_parts (fits types v (put c s)) (each_fits (map (fits types) vs) (map (put c) ss)) all).1)
 
 looked_length : (ps : List Looking) (setting : Setting) (ss : List Shape) → length (each_looked ps setting no_widths ss).patterns ≡ length ps
 looked_length [] setting ss = refl

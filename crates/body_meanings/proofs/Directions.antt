@@ -252,7 +252,7 @@ record BothNamed (names : Tables.Setting) (from to : Side) : Type 0 where
   uses : uses_failures names to.pattern ≡ []
   values : values_failures names (behind (binds names.known from.pattern) []) (names_of to.pattern) ≡ []
 
-side_uses : (names : Tables.Setting) (s : Side) → side_failures names s ≡ [] → uses_failures names s.pattern ≡ []
+pub side_uses : (names : Tables.Setting) (s : Side) → side_failures names s ≡ [] → uses_failures names s.pattern ≡ []
 side_uses names s u =
     let guards : List TableError = maybe (option_map expression_failures s.guard) names (behind (binds names.known s.pattern) []) in
     let found = both_empty (uses_failures names s.pattern) (clashes (binds names.known s.pattern)) (both_empty (pattern_failures names s.pattern) guards u).0 in

@@ -47,7 +47,7 @@ use Rattle.body_meanings.specs.Sides.{SidesAreRight}
 
 -- ---- names
 
-values_both : (known : Tables.Setting) (bound : Bound.Locals) (xs ys : List Name) → values_failures known bound (xs ++ ys) ≡ []
+pub values_both : (known : Tables.Setting) (bound : Bound.Locals) (xs ys : List Name) → values_failures known bound (xs ++ ys) ≡ []
     → (values_failures known bound xs ≡ []) × (values_failures known bound ys ≡ [])
 values_both known bound [] ys e = (refl, e)
 values_both known bound (x ∷ xs) ys e =
@@ -56,7 +56,7 @@ values_both known bound (x ∷ xs) ys e =
     (ap (λ es. es ++ values_failures known bound xs) h.0 ∙ k.0, k.1)
 
 -- what is named at the head of a pattern can be called
-called_too : (allowed : Allowed) (o : Option Global) → is_global_construction allowed o ≡ true → is_global_callee allowed o ≡ true
+pub called_too : (allowed : Allowed) (o : Option Global) → is_global_construction allowed o ≡ true → is_global_callee allowed o ≡ true
 called_too allowed (Some G.Constructor) h = refl
 called_too allowed (Some (G.Mapping n)) h = h
 called_too allowed (Some (G.Direction n)) h = h

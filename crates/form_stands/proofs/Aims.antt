@@ -40,6 +40,7 @@ use Rattle.shape_meanings.proofs.CallCounts.{local_counted}
 use Rattle.shape_meanings.proofs.Naming.{closed_is, register_closed}
 use Rattle.shape_meanings.proofs.Orders.{exact}
 use Rattle.shape_meanings.proofs.TargetCounts.{walked_counts}
+use Rattle.shape_meanings.proofs.Bases.{tuple_fails}
 use Rattle.shape_progress.specs.Rules.{IsUnreached}
 use Rattle.shape_progress.specs.TargetRules.{EachTargeted, GivesAs, GivesUnit, SuffixesLead, Takes, TargetHas, TargetKindHas}
 use Rattle.shape_progress.proofs.Runs.{goes_as}
@@ -48,7 +49,7 @@ use Rattle.shape_stands.specs.Stands.{AimShaped, AimStands, AimsStand, HasShape,
 use Rattle.shape_stands.proofs.Deeper.{target_kind_more, targets_more}
 use Rattle.shape_stands.proofs.Standing.{both_empty, target_has}
 use Rattle.shape_stands.proofs.Together.{together}
-use Rattle.form_stands.proofs.Bases.{BaseHas, BaseHolds, KnownThere, suffixes_lead, tuple_fails, ways_lead}
+use Rattle.form_stands.proofs.Bases.{BaseHas, BaseHolds, KnownThere, suffixes_lead, ways_lead}
 
 -- as a target of an assignment, as one in a tuple, and as a base of which parts are assigned
 abbrev pub TargetStands : Position → Locals → Aimed → Type 0

@@ -36,18 +36,13 @@ use Rattle.shape_meanings.proofs.Arguments.{args_sure}
 use Rattle.shape_meanings.proofs.Choosing.{is_taken}
 use Rattle.shape_meanings.proofs.Learning.{all_twice, learnt_all}
 use Rattle.shape_meanings.proofs.Orders.{all_itself, all_put_put, at_below, put_more, put_put, puts}
+use Rattle.shape_meanings.proofs.Bases.{not_none}
 use Rattle.shape_progress.specs.Rules.{KindHas}
 use Rattle.shape_progress.specs.TargetRules.{AllHave, GivesAs, Takes}
 use Rattle.shape_progress.proofs.Runs.{goes_as}
 use Rattle.shape_stands.specs.Inside.{CanBeCalled, Does, EachCalled, Inside, Position}
 use Rattle.shape_stands.specs.Stands.{AllStandAt, FoundShaped, HasShape, Shaped}
 use Rattle.shape_stands.proofs.Standing.{AllShaped, both_empty, filled, has_filled, more_shaped, settled_node}
-
-not_none : {A B : Type 0} {x : A} {xs : List A} → (x ∷ xs) ≡ [] → B
-not_none e = absurd (empty e)
-  where
-    empty : {A : Type 0} {x : A} {xs : List A} → (x ∷ xs) ≡ [] → ⊥
-    empty e = cc
 
 -- ---- arguments that are wanted as their parameters
 

@@ -1,5 +1,5 @@
 -- Bases of which parts are assigned: wherever they are read, their shapes leave nothing open, and so do those of their parts.
-use Rattle.std.proofs.Common.{◌≡◌, ◌⊎◌, ℕ, zero, suc, Bool, true, false, List, [], ◌∷◌, ◌++◌, append_assoc, length, map, ap, sym, ◌∙◌, refl}
+use Rattle.std.proofs.Common.{◌≡◌, ◌⊎◌, ℕ, Bool, true, false, List, [], ◌∷◌, ◌++◌, append_assoc, length, map, ap, sym, ◌∙◌, refl}
 use Rattle.std.proofs.Common.{subst, nat_eq, nat_lt, arith, Option, Some, None, if◌then◌else◌}
 use Rattle.std.proofs.lemmas.Bool.{and_parts}
 use Rattle.sail_base.specs.declared.place.Place.{Place}
@@ -32,6 +32,7 @@ use Rattle.shape_meanings.proofs.Matching.{leaf_below}
 use Rattle.shape_meanings.proofs.Openness.{is_tuple_form}
 use Rattle.shape_meanings.proofs.Orders.{belows, puts}
 use Rattle.shape_meanings.proofs.TargetCounts.{field_has, led_counted}
+use Rattle.shape_meanings.proofs.Bases.{at_place, not_none, not_open}
 use Rattle.shape_progress.specs.Rules.{IsUnreached}
 use Rattle.shape_progress.specs.TargetRules.{SuffixesLead, WayLeads}
 use Rattle.shape_stands.specs.Inside.{Inside, Position}
@@ -39,12 +40,6 @@ use Rattle.shape_stands.specs.Stands.{BaseStands, HasShape, SuffixesStand}
 use Rattle.shape_stands.proofs.Deeper.{way_more}
 use Rattle.shape_stands.proofs.Standing.{both_empty}
 use Rattle.form_stands.proofs.Suffixes.{suffix_leads}
-
-not_none : {A B : Type 0} {x : A} {xs : List A} → (x ∷ xs) ≡ [] → B
-not_none e = absurd (empty e)
-  where
-    empty : {A : Type 0} {x : A} {xs : List A} → (x ∷ xs) ≡ [] → ⊥
-    empty e = cc
 
 -- ---- what is said of a base
 
@@ -105,17 +100,6 @@ module _ where
   put_under : (s : Shape) → Under s
   put_under = ind-Shape Under (λ e y is. subst (λ d. Under (roll-Shape d)) is (rolled_under y))
 
-at_place : (n : ℕ) (ss : List Shape) (i : ℕ) → all_below n ss ≡ true → nat_lt i (length ss) ≡ true → below n (at ss i) ≡ true
-at_place n [] i all h = absurd (none_less i h)
-  where
-    none_less : (i : ℕ) → nat_lt i zero ≡ true → ⊥
-    none_less i h = grind (arith, h)
-at_place n (s ∷ ss) zero all h = (and_parts (below n s) (all_below n ss) all).0
-at_place n (s ∷ ss) (suc i) all h = at_place n ss i (and_parts (below n s) (all_below n ss) all).1 (one_less i (length ss) h)
-  where
-    one_less : (i k : ℕ) → nat_lt (suc i) (suc k) ≡ true → nat_lt i k ≡ true
-    one_less i k h = grind (arith, h)
-
 -- ---- parts of what leaves nothing open leave nothing open
 
 same_less : (i k m : ℕ) → nat_eq m k ≡ true → nat_lt i k ≡ true → nat_lt i m ≡ true
@@ -153,11 +137,6 @@ led_below setting whole (at_part place index) n s y led is b fine e = by_last in
     by_last None (S.Vector s) is h = subst (λ (l : Led). below n l.shape ≡ true) (some_same _ led is) h
     by_last (Some low) S.Bits is h = subst (λ (l : Led). below n l.shape ≡ true) (some_same _ led is) (leaf_below n S.Bits V.Bits V.rolls-Bits refl)
     by_last last y is h = none is
-
-not_open : (n : ℕ) (y : Shape-F Shape) → below_form n (map-Shape Shape Bool (below n) y) ≡ true → is_open_form y ≡ false
-not_open n S.Hole h = no h
-not_open n S.Never h = no h
-not_open n y h = refl
 
 no_fault : {A : Type 0} (place : Place) (b : Bool) → b ≡ false → (if b then [] else ill_shaped place ∷ []) ≡ [] → A
 no_fault place true h e = no (sym h)
@@ -232,24 +211,3 @@ ways_lead (x ∷ xs) here locals first base s stand leads e =
         (subst (λ ys. WayLeads here.setting.types P led.way ys s (λ ds u. (ds ≡ (more.parts ++ rest)) × (u ≡ led.shape)))
         (sym (append_assoc cores more.parts rest))
         (suffix_leads here locals s x led stand.0 is k.1 registers c w inside slots seen (more.parts ++ rest)))
-
--- ---- a tuple has no part
-
-no_part : (setting : Setting) (x : SuffixPart) (y : Shape-F Shape) → is_tuple_form y ≡ true → (led_form setting x y ≡ None) × (is_open_form y ≡ false)
-no_part setting (field_part name) (S.Tuple ss) h = (refl, refl)
-no_part setting (at_part place index) (S.Tuple ss) h = (by_last index.last, refl)
-  where
-    by_last : (last : Option Part) → led_index last (S.Tuple ss) ≡ None
-    by_last None = refl
-    by_last (Some low) = refl
-no_part setting x y h = no h
-
-pub tuple_fails : {A : Type 0} (setting : Setting) (locals : Locals) (first base : Place) (x : SuffixPart) (xs : List SuffixPart) (s : Shape)
-    → is_tuple_form (out-Shape s) ≡ true → (walked (x ∷ xs) setting locals first base s).faults ≡ [] → A
-tuple_fails setting locals first base x xs s h e =
-    let o : Option Led = led_form setting x (out-Shape s) in
-    let found = suffix_found x setting locals in
-    let k = both_empty (base_faults base s o ++ faults_of found) _ e in
-    let p = no_part setting x (out-Shape s) h in
-    no_fault base (is_open_form (out-Shape s)) p.1
-    (sym (ap (base_faults base s) p.0) ∙ (both_empty (base_faults base s o) (faults_of found) k.0).0)

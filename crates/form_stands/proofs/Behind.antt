@@ -31,16 +31,11 @@ use Rattle.shape_meanings.proofs.PatternCounts.{pat_counts}
 use Rattle.shape_meanings.proofs.PatternNames.{pattern_is}
 use Rattle.shape_meanings.proofs.Ready.{Ready, with_names}
 use Rattle.shape_meanings.proofs.TreeCounts.{declared_counted, exp_counts, pattern_counts, wanted_counted}
+use Rattle.shape_meanings.proofs.Bases.{not_none}
 use Rattle.shape_stands.specs.Inside.{Position, measuring}
 use Rattle.shape_stands.specs.Stands.{Converting, PatternStands}
 use Rattle.shape_stands.proofs.Standing.{both_empty}
 use Rattle.pattern_stands.proofs.Patterns.{patterns_stand}
-
-not_none : {A B : Type 0} {x : A} {xs : List A} → (x ∷ xs) ≡ [] → B
-not_none e = absurd (empty e)
-  where
-    empty : {A : Type 0} {x : A} {xs : List A} → (x ∷ xs) ≡ [] → ⊥
-    empty e = cc
 
 -- ---- mappings
 

@@ -27,18 +27,13 @@ use Rattle.shape_meanings.proofs.Learning.{at_holes, learnt_all}
 use Rattle.shape_meanings.proofs.Openness.{form_below, is_never_form, is_tuple_form}
 use Rattle.shape_meanings.proofs.Orders.{at_below, belows}
 use Rattle.shape_meanings.proofs.Values.{opened_at, out_put}
+use Rattle.shape_meanings.proofs.Bases.{not_none}
 use Rattle.shape_stands.specs.Inside.{Position}
 use Rattle.shape_stands.specs.Stands.{AllStandAt, BaseStands}
 use Rattle.shape_stands.proofs.Standing.{both_empty}
 use Rattle.form_stands.proofs.Arguments.{chosen_called}
 use Rattle.form_stands.proofs.Bases.{BaseHas}
 use Rattle.form_stands.proofs.CallTargets.{call_base_stands, called, one_fails}
-
-not_none : {A B : Type 0} {x : A} {xs : List A} → (x ∷ xs) ≡ [] → B
-not_none e = absurd (empty e)
-  where
-    empty : {A : Type 0} {x : A} {xs : List A} → (x ∷ xs) ≡ [] → ⊥
-    empty e = cc
 
 -- an answer that leaves nothing open has values, whatever its variables come to
 put_not_never : (n : ℕ) (answer : Shape) (e : ℕ → Shape) → below n answer ≡ true → ((i : ℕ) → fills V.Hole (e i) ≡ true)

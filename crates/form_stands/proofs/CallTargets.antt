@@ -33,7 +33,7 @@ use Rattle.shape_rules.specs.Targets.{unread, written_by}
 use Rattle.shape_meanings.specs.Keeping.{FitAll, Fits, Reach, reach_of}
 use Rattle.shape_meanings.specs.Naming.{AreCallees, IsCallee}
 use Rattle.shape_meanings.specs.Whole.{Choice, all_below, below}
-use Rattle.shape_meanings.proofs.Bases.{chained_known}
+use Rattle.shape_meanings.proofs.Bases.{chained_known, not_none}
 use Rattle.shape_meanings.proofs.CallAims.{Each, chosen_has}
 use Rattle.shape_meanings.proofs.Choosing.{is_taken, solved_fit}
 use Rattle.shape_meanings.proofs.Counting.{same_length}
@@ -47,12 +47,6 @@ use Rattle.shape_stands.specs.Inside.{CanBeCalled, Does, EachCalled, Inside, Mea
 use Rattle.shape_stands.specs.Stands.{AimShaped, AimStands, AllStandAt, BaseStands, HasShape, PartAimStands}
 use Rattle.shape_stands.proofs.Standing.{AllShaped, both_empty, target_has}
 use Rattle.form_stands.proofs.Arguments.{args_shaped, candidate_takes, chosen_called, firsts, solved_shaped}
-
-not_none : {A B : Type 0} {x : A} {xs : List A} → (x ∷ xs) ≡ [] → B
-not_none e = absurd (empty e)
-  where
-    empty : {A : Type 0} {x : A} {xs : List A} → (x ∷ xs) ≡ [] → ⊥
-    empty e = cc
 
 -- ---- one argument more
 

@@ -38,17 +38,12 @@ use Rattle.shape_meanings.specs.Naming.{AreKnown, MeantAs}
 use Rattle.shape_meanings.specs.Whole.{Choice, closed}
 use Rattle.shape_meanings.proofs.Mappings.{SideIs, side_facts}
 use Rattle.shape_meanings.proofs.Orders.{exact}
+use Rattle.shape_meanings.proofs.Bases.{not_none}
 use Rattle.shape_stands.specs.Inside.{EachCalled, GoesTo, Inside, MeantCalled, Position}
 use Rattle.shape_stands.specs.Stands.{AllStandAt, FoundShaped, IsShapedAt, Shaped, StandsAt}
 use Rattle.shape_stands.proofs.Standing.{both_empty, has_filled, settled_node}
 use Rattle.form_stands.proofs.Arguments.{one_shaped, several_shaped}
 use Rattle.form_stands.proofs.Groups.{tuple_stands, unit_stands}
-
-not_none : {A B : Type 0} {x : A} {xs : List A} → (x ∷ xs) ≡ [] → B
-not_none e = absurd (empty e)
-  where
-    empty : {A : Type 0} {x : A} {xs : List A} → (x ∷ xs) ≡ [] → ⊥
-    empty e = cc
 
 -- ---- arguments
 

@@ -1,5 +1,5 @@
 -- `&` and `|`: on truths, or by their members.
-use Rattle.std.proofs.Common.{◌≡◌, Bool, true, false, List, [], ◌∷◌, ◌++◌, ap, sym, ◌∙◌, refl, if◌then◌else◌}
+use Rattle.std.proofs.Common.{◌≡◌, Bool, true, false, [], ◌∷◌, ◌++◌, ap, sym, ◌∙◌, refl, if◌then◌else◌}
 use Rattle.sail_base.specs.declared.operators.Operator.{Operator}
 use Rattle.sail_base.specs.declared.operators.Operator.TheVariants as O
 use Rattle.sail_base.specs.declared.place.Place.{Place}
@@ -20,18 +20,13 @@ use Rattle.shape_rules.specs.Scopes.{Locals}
 use Rattle.shape_rules.specs.Targets.{Part}
 use Rattle.shape_rules.specs.Values.{infix_found, is_truth_form, is_variable_form, logical_found, undecided}
 use Rattle.shape_meanings.specs.Keeping.{Reach, reach_of}
+use Rattle.shape_meanings.proofs.Bases.{not_none}
 use Rattle.shape_progress.specs.Rules.{KindHas}
 use Rattle.shape_stands.specs.Inside.{Position}
 use Rattle.shape_stands.specs.Stands.{FoundShaped, HasShape, IsShapedAt, StandsAt}
 use Rattle.shape_stands.proofs.Standing.{both_empty, filled, settled_node}
 use Rattle.form_stands.proofs.Branches.{truth_shaped}
 use Rattle.form_stands.proofs.Calls.{members_shaped}
-
-not_none : {A B : Type 0} {x : A} {xs : List A} → (x ∷ xs) ≡ [] → B
-not_none e = absurd (empty e)
-  where
-    empty : {A : Type 0} {x : A} {xs : List A} → (x ∷ xs) ≡ [] → ⊥
-    empty e = cc
 
 -- a truth's shape, or one that nothing has, is a truth's, once filled
 form_fills : (y : Shape-F Shape) → is_truth_form y ≡ true → fills (roll-Shape y) (roll-Shape S.Bool) ≡ true

@@ -1,33 +1,32 @@
 -- Struct literals and `{ e with f = v, .. }`.
 use Rattle.std.proofs.Common.{◌≡◌, inl, inr, ℕ, suc, Bool, true, false, List, [], ◌∷◌, ◌++◌, map, length, ap, sym, ◌∙◌, refl, subst}
-use Rattle.std.proofs.Common.{bytes_eq, nat_eq, slice_get, if◌then◌else◌, arith, Option, Some, None}
+use Rattle.std.proofs.Common.{nat_eq, slice_get, if◌then◌else◌, arith, Option, Some, None}
 use Rattle.sail_base.specs.declared.place.Place.{Place}
 use Rattle.sail_syntax.specs.declared.name.Name.{Name}
 use Rattle.sail_types.specs.Named.{field_types, fields}
 use Rattle.sail_types.specs.Shapes.{at, put}
-use Rattle.sail_types.specs.declared.shapes.Shape.{Shape, Shape-F, out-Shape, roll-Shape}
+use Rattle.sail_types.specs.declared.shapes.Shape.{Shape, Shape-F, out-Shape}
 use Rattle.sail_types.specs.declared.shapes.Shape.TheOpen as S
 use Rattle.sail_types.specs.declared.shapes.Shape.TheVariants as V
-use Rattle.sail_types.specs.declared.shapes.Shape.TheViews.{out-roll-Shape, roll-out-Shape}
+use Rattle.sail_types.specs.declared.shapes.Shape.TheViews.{out-roll-Shape}
 use Rattle.sail_types.specs.declared.table.Field.{Field as TypeField}
 use Rattle.sail_core.specs.declared.tree.Core.{Core}
 use Rattle.sail_core.specs.declared.tree.Kind.TheVariants as K
-use Rattle.shape_joins.specs.Filling.{fill_all, fills}
+use Rattle.shape_joins.specs.Filling.{fill_all}
 use Rattle.shape_joins.specs.Learning.{holes}
-use Rattle.shape_joins.proofs.JoinsLeast.{none, some_same}
-use Rattle.shape_joins.proofs.Order.{opens, same_nat, two}
+use Rattle.shape_joins.proofs.JoinsLeast.{none}
 use Rattle.shape_rules.specs.declared.error.ShapeError.TheVariants as error
 use Rattle.shape_rules.specs.Calls.{Solved, counted, solved}
 use Rattle.shape_rules.specs.Findings.{Found, refused}
 use Rattle.shape_rules.specs.Scopes.{Locals}
-use Rattle.shape_rules.specs.Targets.{InStruct, Part, base_faults, field_named, one_further}
+use Rattle.shape_rules.specs.Targets.{InStruct, Part, base_faults, field_named}
 use Rattle.shape_rules.specs.Values.{FieldPart, Named, Parts, field_count, fields_named, named_place, parts_found, struct_at, struct_found, struct_named}
 use Rattle.shape_rules.specs.Values.{struct_place, struct_solved, values_of, variables_of_type, with_failed, with_found, with_named, with_of}
 use Rattle.shape_meanings.specs.Parts.{NamesApart, NotNamed}
 use Rattle.shape_meanings.proofs.Fields.{field_stands}
-use Rattle.shape_meanings.proofs.Settling.{same_name}
-use Rattle.shape_meanings.proofs.StructNames.{bytes_same}
-use Rattle.shape_meanings.proofs.Withs.{Placed, placed_are, placed_count}
+use Rattle.shape_meanings.proofs.Withs.{Placed, placed_are, placed_count, named_fills}
+use Rattle.shape_meanings.proofs.StructLiterals.{one_name, places_count}
+use Rattle.shape_meanings.proofs.Bases.{not_none}
 use Rattle.shape_progress.specs.Rules.{FieldsAre, NotAmong, Once}
 use Rattle.shape_stands.specs.Inside.{Position}
 use Rattle.shape_stands.specs.Stands.{AllStandAt, FieldsStand, FoundShaped, IsShapedAt, StandsAt}
@@ -35,41 +34,7 @@ use Rattle.shape_stands.proofs.Standing.{AllShaped, Ruled, both_empty, filled, s
 use Rattle.form_stands.proofs.Arguments.{all_firsts, solved_shaped}
 use Rattle.form_stands.proofs.Updates.{never_gives}
 
-not_none : {A B : Type 0} {x : A} {xs : List A} → (x ∷ xs) ≡ [] → B
-not_none e = absurd (empty e)
-  where
-    empty : {A : Type 0} {x : A} {xs : List A} → (x ∷ xs) ≡ [] → ⊥
-    empty e = cc
-
 -- ---- fields at their places
-
--- the field at a place has the name
-named_if : (b : Bool) (d : TypeField) (fl : List TypeField) (name : List ℕ) (o : Option InStruct) (f : InStruct) → bytes_eq d.name name ≡ b
-    → ((g : InStruct) → o ≡ Some g → (e : TypeField) × (slice_get fl g.place ≡ Some e) × (bytes_eq e.name name ≡ true))
-    → (if b then Some (record { place = 0; typ = d.typ }) else one_further o) ≡ Some f
-    → (e : TypeField) × (slice_get (d ∷ fl) f.place ≡ Some e) × (bytes_eq e.name name ≡ true)
-named_if true d fl name o f is later h =
-    (d, ap (λ (x : InStruct). slice_get (d ∷ fl) x.place) (sym (some_same (record { place = 0; typ = d.typ }) f h)), is)
-named_if false d fl name None f is later h = none h
-named_if false d fl name (Some g) f is later h =
-    let r = later g refl in
-    (r.0, ap (λ (x : InStruct). slice_get (d ∷ fl) x.place) (sym (some_same (record { place = suc g.place; typ = g.typ }) f h)) ∙ r.1, r.2)
-
-named_at : (fl : List TypeField) (name : List ℕ) (f : InStruct) → field_named name fl ≡ Some f
-    → (e : TypeField) × (slice_get fl f.place ≡ Some e) × (bytes_eq e.name name ≡ true)
-named_at [] name f h = none h
-named_at (d ∷ fl) name f h = named_if (bytes_eq d.name name) d fl name (field_named name fl) f refl (λ g is. named_at fl name g is) h
-
--- two fields at one place have one name
-one_name : (fl : List TypeField) (x y : List ℕ) (f g : InStruct) → field_named x fl ≡ Some f → field_named y fl ≡ Some g → f.place ≡ g.place
-    → bytes_eq x y ≡ true
-one_name fl x y f g hf hg same =
-    let a = named_at fl x f hf in
-    let b = named_at fl y g hg in
-    let e : a.0 ≡ b.0 = some_same a.0 b.0 (sym a.1 ∙ ap (slice_get fl) same ∙ b.1) in
-    let left : a.0.name ≡ x = same_name a.0.name x a.2 in
-    let right : b.0.name ≡ y = same_name b.0.name y b.2 in
-    ap (bytes_eq x) (sym right ∙ ap (λ (d : TypeField). d.name) (sym e) ∙ left) ∙ bytes_same x
 
 true_false : true ≡ false → ⊥
 true_false h = cc
@@ -110,14 +75,6 @@ fields_are fl us [] [] (s ∷ ss) placed = absurd placed
 fields_are fl us [] (i ∷ is) ss placed = absurd placed
 fields_are fl us (f ∷ fs) [] ss placed = absurd placed
 fields_are fl us (f ∷ fs) (i ∷ is) [] placed = absurd placed
-
-places_count : (known : Option (List TypeField)) (fs : List FieldPart) (is : List ℕ) (ss : List Shape) → Placed known fs is ss → length is ≡ length fs
-places_count known [] [] [] h = refl
-places_count known (f ∷ fs) (i ∷ is) (s ∷ ss) h = ap suc (places_count known fs is ss h.1)
-places_count known [] [] (s ∷ ss) h = absurd h
-places_count known [] (i ∷ is) ss h = absurd h
-places_count known (f ∷ fs) [] ss h = absurd h
-places_count known (f ∷ fs) (i ∷ is) [] h = absurd h
 
 types_count : (fl : List TypeField) → length (field_types fl) ≡ length fl
 types_count [] = refl
@@ -203,11 +160,6 @@ struct_shaped here locals place name fs i fl is known apart stand want =
         (placed_are fs (Some fl) named (sym (ap (fields_named fs) known) ∙ there)) stand) e
 
 -- ---- a struct with other values in some fields
-
-named_fills : (s : Shape) (i : ℕ) (ss ks : List Shape) → out-Shape s ≡ S.Named i ss → fill_all ss ks ≡ true → fills s (V.Named i ks) ≡ true
-named_fills s i ss ks is h =
-    ap (fills s) (sym (V.rolls-Named i ks)) ∙ ap (λ t. fills t (roll-Shape (S.Named i ks))) (sym (roll-out-Shape s) ∙ ap roll-Shape is)
-    ∙ opens (S.Named i ss) (S.Named i ks) ∙ two (nat_eq i i) (fill_all ss ks) (same_nat i) h
 
 -- a first field is one of a struct
 struct_there : (known : Option (List TypeField)) (f : FieldPart) (more : List FieldPart) (is : List ℕ) (ss : List Shape) → Placed known (f ∷ more) is ss

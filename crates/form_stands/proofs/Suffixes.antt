@@ -28,18 +28,13 @@ use Rattle.shape_meanings.specs.Keeping.{Reach, SeenAs, reach_of}
 use Rattle.shape_meanings.specs.Whole.{Choice}
 use Rattle.shape_meanings.proofs.Looping.{int_exact}
 use Rattle.shape_meanings.proofs.Suffixes.{open_fits}
+use Rattle.shape_meanings.proofs.Bases.{not_none}
 use Rattle.shape_progress.specs.Rules.{IsEmpty, SuffixesHave}
 use Rattle.shape_progress.specs.TargetRules.{WayLeads}
 use Rattle.shape_stands.specs.Inside.{Inside, Position}
 use Rattle.shape_stands.specs.Stands.{HasShape, IndexStands, IsShapedAt, MaybeStandsAt, Shaped, Stands, StandsAt, SuffixStands, SuffixesStand}
 use Rattle.shape_stands.proofs.Deeper.{way_more}
 use Rattle.shape_stands.proofs.Standing.{both_empty, has_wanted, settled_node}
-
-not_none : {A B : Type 0} {x : A} {xs : List A} → (x ∷ xs) ≡ [] → B
-not_none e = absurd (empty e)
-  where
-    empty : {A : Type 0} {x : A} {xs : List A} → (x ∷ xs) ≡ [] → ⊥
-    empty e = cc
 
 -- ---- integers
 

@@ -9,7 +9,6 @@ use Rattle.sail_types.specs.declared.values.Value.{Value}
 use Rattle.sail_core.specs.declared.tree.Core.{Core}
 use Rattle.sail_core.specs.Making.{World}
 use Rattle.shape_joins.specs.Filling.{fills}
-use Rattle.shape_joins.proofs.Order.{opens}
 use Rattle.shape_rules.specs.declared.locals.Local.{Local}
 use Rattle.shape_rules.specs.Findings.{Found, given_on}
 use Rattle.shape_rules.specs.Scopes.{Locals}
@@ -19,7 +18,7 @@ use Rattle.shape_meanings.specs.Keeping.{SeenAs, reach_of}
 use Rattle.shape_meanings.specs.Whole.{Choice}
 use Rattle.shape_meanings.proofs.Branches.{given_over}
 use Rattle.shape_meanings.proofs.Suffixes.{open_fits}
-use Rattle.shape_meanings.proofs.Updates.{bit_exact, bits_exact}
+use Rattle.shape_meanings.proofs.Updates.{bit_exact, bits_exact, vector_fills}
 use Rattle.shape_meanings.proofs.Walks.{no_part}
 use Rattle.shape_progress.specs.Rules.{NeverGives}
 use Rattle.shape_stands.specs.Inside.{Inside, Position}
@@ -28,11 +27,6 @@ use Rattle.shape_stands.proofs.Standing.{Ruled, both_empty, filled, has_wanted, 
 use Rattle.form_stands.proofs.Suffixes.{integer_shaped}
 
 -- ---- shapes
-
-vector_fills : (s t : Shape) → fills s t ≡ true → fills (V.Vector s) (V.Vector t) ≡ true
-vector_fills s t h =
-    ap (fills (V.Vector s)) (sym (V.rolls-Vector t)) ∙ ap (λ u. fills u (roll-Shape (S.Vector t))) (sym (V.rolls-Vector s))
-    ∙ opens (S.Vector s) (S.Vector t) ∙ h
 
 out_vector : (t : Shape) → out-Shape (V.Vector t) ≡ S.Vector t
 out_vector t = ap out-Shape (sym (V.rolls-Vector t)) ∙ out-roll-Shape (S.Vector t)

@@ -60,6 +60,7 @@ use Rattle.accepted_texts.proofs.Roles.{or_elim}
 use Rattle.accepted_texts.proofs.TableFormed.{FormFormed, all_so_far, scope_of}
 use Rattle.accepted_texts.proofs.Types.{kind_whole, typ_whole}
 use Rattle.accepted_texts.proofs.WellFormed.{formed, typ_shaped, types_shaped}
+use Rattle.accepted_texts.proofs.Vals.{constraint_there}
 use Rattle.known_texts.proofs.Tuples.{TuplesHaveParts}
 use Rattle.known_texts.proofs.Fine.{MeantFine, overload_fine, own_fine, rows_all}
 use Rattle.known_texts.proofs.Rows.{AllFine, ArePlain, rows_fine}
@@ -155,11 +156,6 @@ number_there : (n : Normal) → is_of K.Int n ≡ true → Stands (number_of n)
 number_there (N.Number n) h = (n, refl)
 number_there (N.Constraint c) h = no h
 number_there (N.Typ t) h = no h
-
-constraint_there : (n : Normal) → is_of K.Bool n ≡ true → Stands (constraint_of n)
-constraint_there (N.Number n) h = no h
-constraint_there (N.Constraint c) h = (c, refl)
-constraint_there (N.Typ t) h = no h
 
 number_whole : (typ : TyExp) (w : Within) → Refusals.AreKnown w.types → (reading_as K.Int typ w).failures ≡ [] → Stands (number_in w typ)
 number_whole typ w known h =

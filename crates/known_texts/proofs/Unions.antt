@@ -40,6 +40,7 @@ use Rattle.shape_models.specs.Models.{place_of_type}
 use Rattle.shape_meanings.proofs.StructNames.{bytes_same}
 use Rattle.accepted_texts.specs.Accepted.{NothingFails}
 use Rattle.accepted_texts.proofs.Failures.{apart}
+use Rattle.accepted_texts.proofs.Constructors.{nowhere}
 use Rattle.known_texts.proofs.Tables.{AreTaken, Grows, added, behind_grows, clashes_split, earlier_known, fields_names, first_taken, is_added, new_type}
 use Rattle.known_texts.proofs.Tables.{none_taken, row_there, step_taken, unclashed}
 
@@ -65,22 +66,8 @@ standing_skip test place (x ∷ xs) ys e =
 
 -- ---- positions
 
-none_before : (p : Field → Bool) (fs : List Field) → list_any p fs ≡ false → position_or_len p fs ≡ length fs
-none_before p [] h = refl
-none_before p (f ∷ fs) h =
-    let k = or_parts (p f) (list_any p fs) h in
-    ap (λ b. cond (not b) (1 + position_or_len p fs) 0) k.0 ∙ ap (λ n. 1 + n) (none_before p fs k.1) ∙ one_more (length fs)
-  where
-    one_more : (n : ℕ) → (1 + n) ≡ suc n
-    one_more n = omega arith
-
 not_less : (n : ℕ) → nat_lt n n ≡ false
 not_less n = grind (arith, nat_tests)
-
-nowhere : (p : Field → Bool) (fs : List Field) → list_any p fs ≡ false → position p fs ≡ None
-nowhere p fs h =
-    ap (λ n. cond (nat_lt n (length fs)) (Some (position_or_len p fs)) None) (none_before p fs h)
-    ∙ ap (λ b. cond b (Some (position_or_len p fs)) None) (not_less (length fs))
 
 behind_none : (p : Field → Bool) (before : List Field) (f : Field) (more : List Field) → list_any p before ≡ false → p f ≡ true
     → position_or_len p (before ++ f ∷ more) ≡ length before

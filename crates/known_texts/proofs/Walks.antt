@@ -34,6 +34,7 @@ use Rattle.shapes.specs.Tabled.{tabled_of}
 use Rattle.accepted_texts.specs.Accepted.{NothingFails}
 use Rattle.accepted_texts.proofs.Roles.{Covers, IsTaken, covers_left, covers_right, or_elim, or_left, or_right, taken_first}
 use Rattle.accepted_texts.proofs.Rows.{is_member_role}
+use Rattle.accepted_texts.proofs.Places.{agree}
 use Rattle.known_texts.proofs.Classes.{EachOf, both_of, found_of}
 use Rattle.known_texts.proofs.There.{EachHas}
 use Rattle.known_texts.proofs.Values as Valued
@@ -211,11 +212,6 @@ role_member (Whole is.Member) entered k h = refl
 role_member (Whole is.Let) entered k h = no h
 role_member (Whole is.Register) entered k h = no h
 role_member (Whole is.Measure) entered k h = no h
-
-agree : (b c : Bool) → (b ≡ true → c ≡ true) → (c ≡ true → b ≡ true) → b ≡ c
-agree true c f g = sym (f refl)
-agree false true f g = g refl
-agree false false f g = refl
 
 row_no : {A : Type 0} (b : Bool) → is_global_member (Some (if b then G.StateBuiltin else G.Builtin)) ≡ true → A
 row_no true h = no h

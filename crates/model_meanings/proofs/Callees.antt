@@ -11,10 +11,8 @@ use Rattle.sail_types.specs.declared.table.Types.{Types}
 use Rattle.sail_types.specs.declared.values.Value.{Value}
 use Rattle.sail_core.specs.declared.tree.Callee.TheVariants as C
 use Rattle.sail_core.specs.Numbers.{Givens}
-use Rattle.sail_core.specs.Run as R
-use Rattle.sail_core.specs.Run.{Now, Ended, goes_on}
+use Rattle.sail_core.specs.Run.{Now}
 use Rattle.sail_core.specs.Making as Making
-use Rattle.sail_core.specs.Making.{made, plainly}
 use Rattle.sail_core.specs.Program as Core
 use Rattle.shape_joins.proofs.JoinsLeast.{none, some_same}
 use Rattle.sail_meaning.specs.Calls as Source
@@ -35,15 +33,6 @@ use Rattle.model_meanings.proofs.Constructors.{constructed_fits}
 
 abbrev pub Measures : Type 0
 Measures = List (ℕ × ℕ)
-
--- what a node makes of a value that stands for itself
-pub then_made : (vs : List Value) (e : Ended Value Value) → goes_on e (λ v. made plainly 0 vs v) ≡ e
-then_made vs (R.Gives v now) = refl
-then_made vs (R.No now) = refl
-then_made vs (R.Returns v now) = refl
-then_made vs (R.Throws v now) = refl
-then_made vs (R.Stops cause now) = refl
-then_made vs R.Stuck = refl
 
 -- a call with parameters and a result of these shapes keeps shapes and does the same on both sides
 abbrev pub DoingKeeps : Setting → List Shape → Making.World Value → Apply → List Shape → Shape → Doing → Callee → Type 0

@@ -20,9 +20,10 @@ use Rattle.shape_meanings.specs.Keeping.{Fits}
 use Rattle.shape_meanings.specs.Worlds.{AnswerBelow, Describes, KeepsCall}
 use Rattle.body_meanings.proofs.Callees.{directions_keep_calls, functions_keep_calls}
 use Rattle.body_meanings.proofs.Entering.{tick_agrees}
+use Rattle.body_meanings.proofs.Callees.{then_made}
 use Rattle.model_meanings.specs.Callees.{CandidateStands, Model, core_of, core_world, source_world, standing_in}
 use Rattle.model_meanings.specs.Models.{ModelIs}
-use Rattle.model_meanings.proofs.Callees.{DirectionsKeep, DoingKeeps, FunctionsKeep, Measures, asked, candidate_stands, then_made}
+use Rattle.model_meanings.proofs.Callees.{DirectionsKeep, DoingKeeps, FunctionsKeep, Measures, asked, candidate_stands}
 use Rattle.model_meanings.proofs.Worlds.{all_described}
 
 module _ (setting : Setting) (registers : List Shape) (m : Model) (is : ModelIs setting registers m) where

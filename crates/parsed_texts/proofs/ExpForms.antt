@@ -55,7 +55,7 @@ FineIf (Some e) = FineExp e
 abbrev with_target : Exp → Exp × Option LExp
 with_target e = (e, target e)
 
-abbrev answered : OverTrees E.Exp-F → E.Exp-F (Exp × Option LExp) (LExp × Unit {0}) (Stmt × Unit {0}) (Suffix × Unit {0}) (Case × Unit {0})
+abbrev pub answered : OverTrees E.Exp-F → E.Exp-F (Exp × Option LExp) (LExp × Unit {0}) (Stmt × Unit {0}) (Suffix × Unit {0}) (Case × Unit {0})
     (FieldValue × Unit {0}) (Index × Unit {0}) (Range × Unit {0}) (Target × Unit {0})
 answered x = map-Exp Exp LExp Stmt Suffix Case FieldValue Index Range Target (Exp × Option LExp) (LExp × Unit {0}) (Stmt × Unit {0}) (Suffix × Unit {0})
     (Case × Unit {0}) (FieldValue × Unit {0}) (Index × Unit {0}) (Range × Unit {0}) (Target × Unit {0}) with_target (λ a. (a, tt)) (λ a. (a, tt))

@@ -17,7 +17,7 @@ abbrev FineParts : List Part → Type 0
 FineParts [] = Unit {0}
 FineParts (part ∷ rest) = FineDef part.0 × FineParts rest
 
-zip_fine : (text : List Def) (openings : List (Option ℕ)) → FineDefs text → FineParts (zip text openings)
+pub zip_fine : (text : List Def) (openings : List (Option ℕ)) → FineDefs text → FineParts (zip text openings)
 zip_fine [] openings f = tt
 zip_fine (d ∷ text) [] f = tt
 zip_fine (d ∷ text) (o ∷ openings) f = (f.0, zip_fine text openings f.1)
@@ -30,7 +30,7 @@ kept_part : (b : Bool) (part : Part) (kept : List Part) → FineDef part.0 → F
 kept_part true part kept h f = (h, f)
 kept_part false part kept h f = f
 
-belonging_fine : (number : ℕ) (all : List Part) → FineParts all → FineParts (filter (belongs_to number) all)
+pub belonging_fine : (number : ℕ) (all : List Part) → FineParts all → FineParts (filter (belongs_to number) all)
 belonging_fine number [] f = tt
 belonging_fine number (part ∷ rest) f =
     kept_part (belongs_to number part) part (filter (belongs_to number) rest) f.0 (belonging_fine number rest f.1)
@@ -60,7 +60,7 @@ clauses_fine [] f = refl
 clauses_fine (D.FunctionClause name clause ∷ own) f = two _ _ f.0.1 (clauses_fine own f.1)
 clauses_fine (d ∷ own) f = clauses_fine own f.1
 
-crossings_fine : (own : List Def) → FineDefs own → FineCrossings (filter_map mapping_clause_of own)
+pub crossings_fine : (own : List Def) → FineDefs own → FineCrossings (filter_map mapping_clause_of own)
 crossings_fine [] f = refl
 crossings_fine (D.MappingClause place name clause ∷ own) f = two _ _ f.0 (crossings_fine own f.1)
 crossings_fine (d ∷ own) f = crossings_fine own f.1
@@ -73,7 +73,7 @@ whole_fine d own h f = h
 
 -- ---- the gathered text
 
-each_whole : (all : List Part) → FineParts all → (number : ℕ) (text : List Def) → FineDefs text → FineDefs (whole_from all number text)
+pub each_whole : (all : List Part) → FineParts all → (number : ℕ) (text : List Def) → FineDefs text → FineDefs (whole_from all number text)
 each_whole all parts number [] f = tt
 each_whole all parts number (d ∷ text) f = (
   whole_fine d (parts_of all number) f.0 (defs_fine (filter (belongs_to number) all) (belonging_fine number all parts)),

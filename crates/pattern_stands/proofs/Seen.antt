@@ -1,5 +1,5 @@
 -- A shape to which values come where a pattern of a shape of its own stands: what both are together.
-use Rattle.std.proofs.Common.{◌≡◌, ◌⊎◌, inl, inr, ℕ, suc, List, [], ◌∷◌, map, length, replicate, ap, sym, ◌∙◌, refl, subst, true, Some, nat_eq}
+use Rattle.std.proofs.Common.{◌≡◌, ◌⊎◌, inl, inr, ℕ, List, [], map, length, replicate, ap, sym, ◌∙◌, refl, subst, true, Some, nat_eq}
 use Rattle.std.proofs.lemmas.Bool.{and_parts}
 use Rattle.sail_base.specs.declared.place.Place.{Place}
 use Rattle.sail_types.specs.Shapes.{at, put}
@@ -17,7 +17,7 @@ use Rattle.shape_rules.specs.Targets.{is_open_form}
 use Rattle.shape_meanings.specs.Whole.{below}
 use Rattle.shape_meanings.specs.Worlds.{variables_from}
 use Rattle.shape_meanings.proofs.Aims.{tuple_above}
-use Rattle.shape_meanings.proofs.Constructing.{UnionIs, named_puts, nevers_count, union_taught, variables_put}
+use Rattle.shape_meanings.proofs.Constructing.{UnionIs, named_puts, nevers_count, union_taught, variables_put, fill_count}
 use Rattle.shape_meanings.proofs.Opening.{joined_is, replicated}
 use Rattle.shape_meanings.proofs.Orders.{exact}
 
@@ -33,12 +33,6 @@ filled_as s t y x is e h = at_forms s t ∙ ap (λ z. fill_form (tests z) (out-S
 -- what fills a shape of a form fills the form
 form_filled : (s t : Shape) (x : Shape-F Shape) → roll-Shape x ≡ s → fills s t ≡ true → fill_form (tests x) (out-Shape t) ≡ true
 form_filled s t x e h = ap (λ y. fill_form (tests y) (out-Shape t)) (sym (out_of x s e)) ∙ sym (at_forms s t) ∙ h
-
-fill_count : (ss ts : List Shape) → fill_all ss ts ≡ true → length ts ≡ length ss
-fill_count [] [] h = refl
-fill_count [] (t ∷ ts) h = no h
-fill_count (s ∷ ss) [] h = no h
-fill_count (s ∷ ss) (t ∷ ts) h = ap suc (fill_count ss ts (and_parts (fills s t) (fill_all ss ts) h).1)
 
 -- ---- what both are
 

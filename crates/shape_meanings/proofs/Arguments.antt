@@ -141,7 +141,7 @@ GoesToFirst setting registers wc ws d place fs count goes =
     × ((vs : List Value) (now : Now Value) → length vs ≡ count → goes vs now ≡ (needs
     (first_fitting setting.types callees vs) then λ callee. d.apply place callee vs) now)
 
-fit_count : (types : Types) (c : Choice) (ss : List Shape) (vs : List Value) → FitAll types c ss vs → length vs ≡ length ss
+pub fit_count : (types : Types) (c : Choice) (ss : List Shape) (vs : List Value) → FitAll types c ss vs → length vs ≡ length ss
 fit_count types c [] [] h = refl
 fit_count types c [] (v ∷ vs) h = no h
 fit_count types c (s ∷ ss) [] h = no h

@@ -78,7 +78,7 @@ use Rattle.shape_meanings.proofs.CallAims.{AimsAs, call_meant, callee_aim, chose
 use Rattle.shape_meanings.proofs.TargetCounts.{field_has, led_counted, only_one, walked_counts}
 use Rattle.shape_meanings.proofs.CallCounts.{local_counted}
 
-not_none : {A B : Type 0} {x : A} {xs : List A} → (x ∷ xs) ≡ [] → B
+pub not_none : {A B : Type 0} {x : A} {xs : List A} → (x ∷ xs) ≡ [] → B
 not_none e = absurd (empty e)
   where
     empty : {A : Type 0} {x : A} {xs : List A} → (x ∷ xs) ≡ [] → ⊥
@@ -141,7 +141,7 @@ module _ where
   under : (s : Shape) → Under s
   under = ind-Shape Under (λ e y is. subst (λ d. Under (roll-Shape d)) is (rolled_under y))
 
-at_place : (n : ℕ) (ss : List Shape) (i : ℕ) → all_below n ss ≡ true → nat_lt i (length ss) ≡ true → below n (at ss i) ≡ true
+pub at_place : (n : ℕ) (ss : List Shape) (i : ℕ) → all_below n ss ≡ true → nat_lt i (length ss) ≡ true → below n (at ss i) ≡ true
 at_place n [] i all h = absurd (none_less i h)
   where
     none_less : (i : ℕ) → nat_lt i zero ≡ true → ⊥
@@ -187,7 +187,7 @@ led_below setting registers wc ws d (at_part place index) n s y led is b fine e 
     by_last (Some low) S.Bits is h = subst (λ (l : Led). below n l.shape ≡ true) (some_same _ led is) (bits_below n)
     by_last last y is h = none is
 
-not_open : (n : ℕ) (y : Shape-F Shape) → below_form n (map-Shape Shape Bool (below n) y) ≡ true → is_open_form y ≡ false
+pub not_open : (n : ℕ) (y : Shape-F Shape) → below_form n (map-Shape Shape Bool (below n) y) ≡ true → is_open_form y ≡ false
 not_open n S.Hole h = no h
 not_open n S.Never h = no h
 not_open n y h = refl
@@ -236,7 +236,7 @@ BaseHolds setting locals b m =
 abbrev part_meant : Written.Target → List Suffix → Written.Target
 part_meant mb ms w = mb w then λ spot. ways_of ms w then λ ways. gives (part_spot spot ways)
 
-no_part : (setting : Setting) (x : SuffixPart) (y : Shape-F Shape) → is_tuple_form y ≡ true → (led_form setting x y ≡ None) × (is_open_form y ≡ false)
+pub no_part : (setting : Setting) (x : SuffixPart) (y : Shape-F Shape) → is_tuple_form y ≡ true → (led_form setting x y ≡ None) × (is_open_form y ≡ false)
 no_part setting (field_part name) (S.Tuple ss) h = (refl, refl)
 no_part setting (at_part place index) (S.Tuple ss) h = (by_last index.last, refl)
   where
@@ -245,7 +245,7 @@ no_part setting (at_part place index) (S.Tuple ss) h = (by_last index.last, refl
     by_last (Some low) = refl
 no_part setting x y h = no h
 
-tuple_fails : {A : Type 0} (setting : Setting) (locals : Locals) (first base : Place) (x : SuffixPart) (xs : List SuffixPart) (s : Shape)
+pub tuple_fails : {A : Type 0} (setting : Setting) (locals : Locals) (first base : Place) (x : SuffixPart) (xs : List SuffixPart) (s : Shape)
     → is_tuple_form (out-Shape s) ≡ true → (walked (x ∷ xs) setting locals first base s).faults ≡ [] → A
 tuple_fails setting locals first base x xs s h e =
     let o : Option Led = led_form setting x (out-Shape s) in

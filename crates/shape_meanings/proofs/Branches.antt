@@ -78,7 +78,7 @@ truly types c v h =
     (sym (ap (λ u. fits types u (put c V.Bool)) (sym (roll-out-Value v)) ∙ fits_form types (out-Value v) (put c V.Bool)
     ∙ ap (form_fits types (map-Value Value Asked (fits types) (out-Value v))) (bool_form c)) ∙ h)
 
-chosen_agrees : (reach : Reach) (Q : Value → Type 0) (b : Bool) (ac am bc bm : Run Value Value) (now : Now Value)
+pub chosen_agrees : (reach : Reach) (Q : Value → Type 0) (b : Bool) (ac am bc bm : Run Value Value) (now : Now Value)
     → Agree reach Q (ac now) (am now) → Agree reach Q (bc now) (bm now) → Agree reach Q (if_so ac bc b now) (if_so am bm b now)
 chosen_agrees reach Q true ac am bc bm now a b = a
 chosen_agrees reach Q false ac am bc bm now a b = b

@@ -412,7 +412,7 @@ stays_so (constructor u k ss) vs many = stays (constructor u k ss) vs refl many
 stays_so (builtin row ss) vs many = stays (builtin row ss) vs refl many
 stays_so cons vs many = stays cons vs refl many
 
-fit_length : (types : Types) (c : Choice) (ss : List Shape) (vs : List Value) → FitAll types c ss vs → length vs ≡ length ss
+pub fit_length : (types : Types) (c : Choice) (ss : List Shape) (vs : List Value) → FitAll types c ss vs → length vs ≡ length ss
 fit_length types c [] [] all = refl
 fit_length types c [] (v ∷ vs) all = no all
 fit_length types c (s ∷ ss) [] all = no all

@@ -188,7 +188,7 @@ call_counts : (setting : Setting) (place : Place) (want : Shape) (f : Candidate)
 call_counts setting place want f known cores a k h =
     settled_counted setting.types place want (put (at known) f.answer) _ h (put_at_counted setting.types known f.answer k a)
 
-if_counted : (types : Types) (b : Bool) (found : Found) (e : ShapeError) → counted types found.shape ≡ true
+pub if_counted : (types : Types) (b : Bool) (found : Found) (e : ShapeError) → counted types found.shape ≡ true
     → counted types (if b then found else refused e).shape ≡ true
 if_counted types true found e h = h
 if_counted types false found e h = never_counted types

@@ -98,7 +98,7 @@ cut_by_same bs ws =
     ∙ cut_same (map (Steps.solved (length bs - Steps.known_sum ws)) ws) bs
 
 -- a first part, and those behind it
-cut_more : (types : Types) (c : Choice) (cs : List Bool) (n : ℕ) (vs : List Value) (o : Option (List Value))
+pub cut_more : (types : Types) (c : Choice) (cs : List Bool) (n : ℕ) (vs : List Value) (o : Option (List Value))
     → ((us : List Value) → o ≡ Some us → FitAll types c (replicate n V.Bits) us) → option_map (λ us. Val.Bits cs ∷ us) o ≡ Some vs
     → FitAll types c (V.Bits ∷ replicate n V.Bits) vs
 cut_more types c cs n vs None others e = none e
@@ -107,7 +107,7 @@ cut_more types c cs n vs (Some us) others e =
     (two (fits types (Val.Bits cs) (put c V.Bits)) (each_fits (map (fits types) us) (map (put c) (replicate n V.Bits)))
     (form_has types c (W.Bits cs) S.Bits (Val.Bits cs) V.Bits (Val.rolls-Bits cs) V.rolls-Bits refl) (others us refl))
 
-cut_if : (types : Types) (c : Choice) (b : Bool) (cs : List Bool) (n : ℕ) (vs : List Value) (o : Option (List Value))
+pub cut_if : (types : Types) (c : Choice) (b : Bool) (cs : List Bool) (n : ℕ) (vs : List Value) (o : Option (List Value))
     → ((us : List Value) → o ≡ Some us → FitAll types c (replicate n V.Bits) us)
     → (if b then option_map (λ us. Val.Bits cs ∷ us) o else None) ≡ Some vs → FitAll types c (V.Bits ∷ replicate n V.Bits) vs
 cut_if types c true cs n vs o others e = cut_more types c cs n vs o others e
@@ -122,7 +122,7 @@ cut_fits types c (n ∷ ns) bs vs e =
     (λ us is. cut_fits types c ns (take (length bs - n) bs) us is) e
 
 -- a first width, and those behind it
-count_more : (n : ℕ) (ns : List (Option ℕ)) (o : Option (Option ℕ)) (p : Option (List (Option ℕ)))
+pub count_more : (n : ℕ) (ns : List (Option ℕ)) (o : Option (Option ℕ)) (p : Option (List (Option ℕ)))
     → ((ms : List (Option ℕ)) → p ≡ Some ms → length ms ≡ n) → more_widths o p ≡ Some ns → length ns ≡ suc n
 count_more n ns None p others e = none e
 count_more n ns (Some w) None others e = none e

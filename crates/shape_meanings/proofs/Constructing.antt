@@ -105,7 +105,7 @@ nevers_lower (suc n) (s ∷ ss) many (suc i) = nevers_lower n ss (one_less (leng
     one_less : (n k : ℕ) → suc n ≡ suc k → n ≡ k
     one_less n k h = grind (arith, h)
 
-fill_count : (ss ts : List Shape) → fill_all ss ts ≡ true → length ts ≡ length ss
+pub fill_count : (ss ts : List Shape) → fill_all ss ts ≡ true → length ts ≡ length ss
 fill_count [] [] h = refl
 fill_count [] (t ∷ ts) h = no h
 fill_count (s ∷ ss) [] h = no h

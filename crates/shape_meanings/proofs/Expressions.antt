@@ -12,6 +12,7 @@ use Rattle.sail_types.specs.declared.shapes.Shape.TheOpen as S
 use Rattle.sail_types.specs.declared.shapes.Shape.TheViews.{out-roll-Shape}
 use Rattle.sail_types.specs.declared.shapes.Shape.TheVariants as V
 use Rattle.sail_types.specs.declared.values.Value.{out-Value}
+use Rattle.sail_types.specs.Sums.{and_then}
 use Rattle.sail_syntax.specs.declared.name.Name.{Name}
 use Rattle.sail_syntax.specs.declared.types.TyExp.{TyExp}
 use Rattle.sail_syntax.specs.declared.patterns.Pat.{Pat}
@@ -37,10 +38,9 @@ use Rattle.sail_meaning.specs.Loops as Turns
 use Rattle.sail_meaning.specs.World.{integer}
 use Rattle.sail_meaning.specs.Expressions.{Field, Span, fields_of, infix_of, leave, name_of, names_of, struct_made, values_of}
 use Rattle.sail_meaning.specs.Targets.{Target, name_spot, part_spot, spots_of, tuple_spot, ways_of}
+use Rattle.sail_meaning.specs.Named.{struct_with}
 use Rattle.sail_core.specs.Run.{gives, needs, ◌then◌}
 use Rattle.shape_joins.proofs.Order.{no}
-use Rattle.sail_types.specs.Sums.{and_then}
-use Rattle.sail_meaning.specs.Named.{struct_with}
 use Rattle.sail_names.specs.Known as Tables
 use Rattle.sail_names.specs.Known.{in_measure, is_assigned, is_callee}
 use Rattle.sail_names.specs.Locals as Bound
@@ -65,7 +65,7 @@ use Rattle.shape_meanings.specs.Counted.{LocalsCounted, counted}
 use Rattle.shape_meanings.specs.Sound.{ElaborationIsSound, Right}
 use Rattle.shape_meanings.proofs.Aims.{as_part, tuple_aim}
 use Rattle.shape_meanings.proofs.Assigns.{assign_right}
-use Rattle.shape_meanings.proofs.Bases.{BaseHolds, as_aim, as_tuple_part, call_aims, call_base, chained_known, name_base, part_holds}
+use Rattle.shape_meanings.proofs.Bases.{BaseHolds, as_aim, as_tuple_part, call_aims, call_base, chained_known, name_base, part_holds, not_none}
 use Rattle.shape_meanings.proofs.Binds.{pat_binds}
 use Rattle.shape_meanings.proofs.Blocks.{block_right, unit_block_right, define_is, evaluate_is}
 use Rattle.shape_meanings.proofs.Branches.{if_right}
@@ -109,12 +109,6 @@ use Rattle.shape_meanings.proofs.Updates.{update_right}
 use Rattle.shape_meanings.proofs.Vectors.{vector_right}
 use Rattle.shape_meanings.proofs.Walks.{part_right}
 use Rattle.shape_meanings.proofs.Withs.{with_right}
-
-not_none : {A B : Type 0} {x : A} {xs : List A} → (x ∷ xs) ≡ [] → B
-not_none e = absurd (empty e)
-  where
-    empty : {A : Type 0} {x : A} {xs : List A} → (x ∷ xs) ≡ [] → ⊥
-    empty e = cc
 
 -- ---- parts in a list
 
@@ -718,7 +712,7 @@ OfRange x = RangeHolds (found_range x) (meant_range x) (failed_range x) (written
 abbrev OfTarget : TargetTree → Type 0
 OfTarget x = FurtherHolds (found_target x) (meant_target x) (failed_target x) (written_target x)
 
-holds : (e : Exp) → OfExp e
+pub holds : (e : Exp) → OfExp e
 holds = ind-Exp OfExp OfLExp OfStmt OfSuffix OfCase OfFieldValue OfIndex OfRange OfTarget
     (λ e y is. subst (λ d. OfExp (roll-Exp d)) is (rolled_Exp (first_Exp y) (again y)))
     (λ e y is. subst (λ d. OfLExp (roll-LExp d)) is (rolled_LExp (first_LExp y) (lexp_again y)))

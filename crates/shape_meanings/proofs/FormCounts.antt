@@ -1,5 +1,5 @@
 -- What is found of each form has a shape whose named types have the arguments that they should have, where its parts have such shapes.
-use Rattle.std.proofs.Common.{◌≡◌, ℕ, List, [], ◌∷◌, length, ap, ◌∙◌, refl, subst, Bool, true, false, Option, Some, None, nat_eq, if◌then◌else◌}
+use Rattle.std.proofs.Common.{◌≡◌, ℕ, List, [], ◌∷◌, length, ap, ◌∙◌, refl, subst, Bool, true, Option, Some, None, nat_eq}
 use Rattle.sail_base.specs.declared.place.Place.{Place}
 use Rattle.sail_types.specs.Named.{fields}
 use Rattle.sail_types.specs.Shapes.{shape}
@@ -8,6 +8,8 @@ use Rattle.sail_types.specs.declared.shapes.Shape.TheOpen as S
 use Rattle.sail_types.specs.declared.shapes.Shape.TheVariants as V
 use Rattle.sail_types.specs.declared.table.Field.{Field as TypeField}
 use Rattle.sail_types.specs.declared.table.Types.{Types}
+use Rattle.sail_types.specs.declared.numbers.Num.{Num}
+use Rattle.sail_types.specs.declared.numbers.Con.{Con}
 use Rattle.sail_syntax.specs.declared.name.Name.{Name}
 use Rattle.sail_syntax.specs.declared.types.TyExp.{TyExp}
 use Rattle.sail_syntax.specs.declared.words.Choosing.{Choosing}
@@ -18,14 +20,11 @@ use Rattle.sail_syntax.specs.declared.words.Looping.{Looping}
 use Rattle.sail_syntax.specs.declared.words.Looping.TheVariants.{While, Repeat}
 use Rattle.sail_syntax.specs.declared.words.Asking.{Asking}
 use Rattle.sail_syntax.specs.declared.words.Asking.TheVariants.{Sizeof, Constraint}
-use Rattle.sail_types.specs.declared.numbers.Num.{Num}
-use Rattle.sail_types.specs.declared.numbers.Con.{Con}
 use Rattle.shape_joins.specs.Learning.{holes}
 use Rattle.shape_joins.proofs.Order.{two, same_nat}
 use Rattle.shape_joins.proofs.JoinsLeast.{some_same, none}
-use Rattle.shape_rules.specs.declared.error.ShapeError.{ShapeError}
 use Rattle.shape_rules.specs.declared.error.ShapeError.TheVariants as error
-use Rattle.shape_rules.specs.Findings.{Found, refused, given_on}
+use Rattle.shape_rules.specs.Findings.{Found, given_on}
 use Rattle.shape_rules.specs.Scopes.{Setting, Locals, under, thrown_as, thrown_shape}
 use Rattle.shape_rules.specs.Written.{shape_in, number_in, constraint_in}
 use Rattle.shape_rules.specs.Calls.{Solved, solved}
@@ -41,7 +40,7 @@ use Rattle.shape_rules.specs.Statements.{RangePart, foreach_found, loop_found, o
 use Rattle.shape_meanings.specs.Counted.{type_count, counted, all_counted, FieldsCounted, LocalsCounted, Counts}
 use Rattle.shape_meanings.proofs.Counting.{never_counted, unit_counted, bool_counted, int_counted, bit_counted, bits_counted, vector_counted}
 use Rattle.shape_meanings.proofs.Counting.{named_counted, named_parts, counted_out, given_counted, settled_counted, holes_counted, holes_many}
-use Rattle.shape_meanings.proofs.CallCounts.{ElCounts, ElsCount, solved_counts}
+use Rattle.shape_meanings.proofs.CallCounts.{ElCounts, ElsCount, solved_counts, if_counted}
 use Rattle.shape_meanings.proofs.TargetCounts.{AimCounted, field_in_counted, walked_counts}
 
 -- ---- what leaves its place, and what doesn't hang on its parts
@@ -133,11 +132,6 @@ named_counts types (f ∷ fs) known named h e =
     by_options (Some g) (Some more) one others e =
         subst (λ (n : Named). all_counted types n.shapes ≡ true) (some_same _ named e)
         (two (counted types (shape g.typ)) (all_counted types more.shapes) (one g refl) (others more refl))
-
-if_counted : (types : Types) (b : Bool) (found : Found) (e : ShapeError) → counted types found.shape ≡ true
-    → counted types (if b then found else refused e).shape ≡ true
-if_counted types true found e h = h
-if_counted types false found e h = never_counted types
 
 pub struct_counts : (setting : Setting) (locals : Locals) (place : Place) (name : Option Name) (fs : List FieldPart) → Counts setting
     → ElsCount setting locals (values_of fs) → ElCounts setting locals (struct_found place name fs)

@@ -53,7 +53,7 @@ same_items : (x : Value) (vs : List Value) → items plainly x vs ≡ vs
 same_items x [] = refl
 same_items x (v ∷ vs) = ap (λ us. v ∷ us) (same_items x vs)
 
-all_fit : (types : Types) (c : Choice) (s : Shape) (vs : List Value) (n : ℕ) → length vs ≡ n → AllFit types c s vs → FitAll types c (replicate n s) vs
+pub all_fit : (types : Types) (c : Choice) (s : Shape) (vs : List Value) (n : ℕ) → length vs ≡ n → AllFit types c s vs → FitAll types c (replicate n s) vs
 all_fit types c s [] zero many h = refl
 all_fit types c s [] (suc n) many h = absurd (zero_not n many)
   where
@@ -222,7 +222,7 @@ is_list types c place subject v e fit =
     ∙ sym (at_forms (V.List V.Never) j.0) ∙ j.2)
     (sym (at_forms subject j.0) ∙ j.3) (λ hollow. open_fits types c subject v hollow fit)
 
-form_list : (types : Types) (x : Value-F Value) (s : Shape) → form_fits types (map-Value Value Asked (fits types) x) (S.List s) ≡ true
+pub form_list : (types : Types) (x : Value-F Value) (s : Shape) → form_fits types (map-Value Value Asked (fits types) x) (S.List s) ≡ true
     → (vs : List Value) × (x ≡ W.List vs) × (list_all (λ (f : Asked). f s) (map (fits types) vs) ≡ true)
 form_list types (W.List vs) s h = (vs, refl, h)
 form_list types x s h = no h

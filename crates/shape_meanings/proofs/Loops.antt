@@ -1,5 +1,5 @@
 -- Loops.
-use Rattle.std.proofs.Common.{◌≡◌, ℕ, zero, suc, ℤ, List, [], ◌∷◌, ◌∙◌, refl, Bool, true, false, Some}
+use Rattle.std.proofs.Common.{◌≡◌, ℕ, zero, suc, ℤ, List, [], ◌∷◌, ◌∙◌, refl, true, Some}
 use Rattle.sail_types.specs.Shapes.{fits, form_fits, Asked}
 use Rattle.sail_types.specs.declared.shapes.Shape.{Shape}
 use Rattle.sail_types.specs.declared.shapes.Shape.TheOpen as S
@@ -23,6 +23,7 @@ use Rattle.shape_meanings.specs.Whole.{Choice}
 use Rattle.shape_meanings.specs.Keeping.{Fits, Reach, Good, Keeps, Agree}
 use Rattle.shape_meanings.proofs.Runs.{then_agree, within_agrees, inside}
 use Rattle.shape_meanings.proofs.Matching.{leaf_out, form_given}
+use Rattle.shape_meanings.proofs.Branches.{chosen_agrees as if_turns}
 
 -- ---- ticks, integers
 
@@ -57,11 +58,6 @@ span_same Way.Down i to = refl
 next_same : (way : Direction) (i by : ℤ) → Means.next_of (counting way) i by ≡ Turns.next_number way i by
 next_same Way.Up i by = refl
 next_same Way.Down i by = refl
-
-if_turns : (reach : Reach) (Q : Value → Type 0) (b : Bool) (ac am bc bm : Run Value Value) (now : Now Value)
-    → Agree reach Q (ac now) (am now) → Agree reach Q (bc now) (bm now) → Agree reach Q (if_so ac bc b now) (if_so am bm b now)
-if_turns reach Q true ac am bc bm now a b = a
-if_turns reach Q false ac am bc bm now a b = b
 
 pub turns_agree : (reach : Reach) (t : Shape) (before : Now Value) (turns : ℕ) (name : List ℕ) (way : Direction) (i to by : ℤ) (kc km : Run Value Value)
     → ((z : ℤ) → Fits reach.types reach.choice V.Int (Val.Integer z)) → Fits reach.types reach.choice V.Unit Val.Unit

@@ -41,6 +41,7 @@ use Rattle.shape_meanings.proofs.Settling.{both_empty}
 use Rattle.shape_meanings.proofs.Matching.{rolled_pattern, form_given}
 use Rattle.shape_meanings.proofs.Patterns.{parts_agree, seen_fits}
 use Rattle.shape_meanings.proofs.Aims.{tuple_above, same_components}
+use Rattle.shape_meanings.proofs.Arguments.{fit_count}
 
 -- ---- counts
 
@@ -68,13 +69,6 @@ pieces_count setting widths [] [] are = refl
 pieces_count setting widths (p ∷ ps) (m ∷ ms) are = ap suc (pieces_count setting widths ps ms are.1)
 pieces_count setting widths [] (m ∷ ms) are = absurd are
 pieces_count setting widths (p ∷ ps) [] are = absurd are
-
-pub fit_count : (types : Types) (c : Choice) (ss : List Shape) (vs : List Value) → FitAll types c ss vs → length vs ≡ length ss
-fit_count types c [] [] h = refl
-fit_count types c [] (v ∷ vs) h = no h
-fit_count types c (s ∷ ss) [] h = no h
-fit_count types c (s ∷ ss) (v ∷ vs) h =
-    ap suc (fit_count types c ss vs (and_parts (fits types v (put c s)) (each_fits (map (fits types) vs) (map (put c) ss)) h).1)
 
 -- ---- a head that opens a value into parts
 

@@ -102,7 +102,7 @@ suits_behind types c [] slots (b ∷ bs) bound h k = absurd h
 suits_behind types c (l ∷ ls) slots [] bound h k = absurd h
 suits_behind types c (l ∷ ls) slots (b ∷ bs) bound h k = (h.0, h.1, suits_behind types c ls slots bs bound h.2 k)
 
-suits_left : (types : Types) (c : Choice) (new slots : List Local) (found bound : List (R.Local Value)) → Suits types c new found
+pub suits_left : (types : Types) (c : Choice) (new slots : List Local) (found bound : List (R.Local Value)) → Suits types c new found
     → Suits types c (new ++ slots) bound → Suits types c slots (drop (length found) bound)
 suits_left types c [] slots [] bound h k = k
 suits_left types c [] slots (b ∷ bs) bound h k = absurd h

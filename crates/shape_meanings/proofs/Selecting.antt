@@ -98,7 +98,7 @@ selected_right setting locals place is_and a b ma mb want no_truth no_variable f
           (q.0 ∙ sym source, subst (Keeps reach (Fits setting.types c _)) (sym source) q.1);
     }
 
-not_none : {A B : Type 0} {x : A} → (x ∷ []) ≡ [] → B
+pub not_none : {A B : Type 0} {x : A} → (x ∷ []) ≡ [] → B
 not_none e = absurd (empty e)
   where
     empty : {A : Type 0} {x : A} → (x ∷ []) ≡ [] → ⊥

@@ -49,13 +49,14 @@ use Rattle.shape_meanings.specs.Sound.{Right}
 use Rattle.shape_meanings.proofs.Orders.{put_args}
 use Rattle.shape_meanings.proofs.Runs.{then_agree}
 use Rattle.shape_meanings.proofs.Settling.{RunsAs, settled_right, behind_right, both_empty, unrolled, form_has, same_name}
-use Rattle.shape_meanings.proofs.Arguments.{RunAll}
+use Rattle.shape_meanings.proofs.Arguments.{RunAll, fit_count}
 use Rattle.shape_meanings.proofs.Solved.{solved_right}
 use Rattle.shape_meanings.proofs.Fields.{field_stands, under_at}
 use Rattle.shape_meanings.proofs.Withs.{Placed, placed_are, placed_count, field_values, zipped, fields_turn, fields_right}
 use Rattle.shape_meanings.proofs.Suffixes.{then_then}
 use Rattle.shape_meanings.proofs.Structs.{In, NotIn, AllApart, AllIn, AtPlaces, inside, struct_fits}
 use Rattle.shape_meanings.proofs.StructNames.{same_struct, bytes_same}
+use Rattle.shape_meanings.proofs.Selecting.{not_none}
 
 -- ---- all places of so many
 
@@ -87,7 +88,7 @@ there k (suc n) h = there_by k n (nat_eq k n) refl h (λ l. there k n l)
 -- ---- places of names that are apart
 
 -- the field at a place has the name
-named_if : (b : Bool) (d : TypeField) (fl : List TypeField) (name : List ℕ) (o : Option InStruct) (f : InStruct) → bytes_eq d.name name ≡ b
+pub named_if : (b : Bool) (d : TypeField) (fl : List TypeField) (name : List ℕ) (o : Option InStruct) (f : InStruct) → bytes_eq d.name name ≡ b
     → ((g : InStruct) → o ≡ Some g → (e : TypeField) × (slice_get fl g.place ≡ Some e) × (bytes_eq e.name name ≡ true))
     → (if b then Some (record { place = 0; typ = d.typ }) else one_further o) ≡ Some f
     → (e : TypeField) × (slice_get (d ∷ fl) f.place ≡ Some e) × (bytes_eq e.name name ≡ true)
@@ -98,13 +99,13 @@ named_if false d fl name (Some g) f is later h =
     let r = later g refl in
     (r.0, ap (λ (x : InStruct). slice_get (d ∷ fl) x.place) (sym (some_same (record { place = suc g.place; typ = g.typ }) f h)) ∙ r.1, r.2)
 
-named_at : (fl : List TypeField) (name : List ℕ) (f : InStruct) → field_named name fl ≡ Some f
+pub named_at : (fl : List TypeField) (name : List ℕ) (f : InStruct) → field_named name fl ≡ Some f
     → (e : TypeField) × (slice_get fl f.place ≡ Some e) × (bytes_eq e.name name ≡ true)
 named_at [] name f h = none h
 named_at (d ∷ fl) name f h = named_if (bytes_eq d.name name) d fl name (field_named name fl) f refl (λ g is. named_at fl name g is) h
 
 -- two fields at one place have one name
-one_name : (fl : List TypeField) (x y : List ℕ) (f g : InStruct) → field_named x fl ≡ Some f → field_named y fl ≡ Some g → f.place ≡ g.place
+pub one_name : (fl : List TypeField) (x y : List ℕ) (f g : InStruct) → field_named x fl ≡ Some f → field_named y fl ≡ Some g → f.place ≡ g.place
     → bytes_eq x y ≡ true
 one_name fl x y f g hf hg same =
     let a = named_at fl x f hf in
@@ -183,7 +184,7 @@ at_places types c fl ks (f ∷ fs) [] ss vs placed h = absurd placed
 at_places types c fl ks (f ∷ fs) (i ∷ is) [] vs placed h = absurd placed
 at_places types c fl ks (f ∷ fs) (i ∷ is) (s ∷ ss) [] placed h = no h
 
-places_count : (known : Option (List TypeField)) (fs : List FieldPart) (is : List ℕ) (ss : List Shape) → Placed known fs is ss → length is ≡ length fs
+pub places_count : (known : Option (List TypeField)) (fs : List FieldPart) (is : List ℕ) (ss : List Shape) → Placed known fs is ss → length is ≡ length fs
 places_count known [] [] [] h = refl
 places_count known (f ∷ fs) (i ∷ is) (s ∷ ss) h = ap suc (places_count known fs is ss h.1)
 places_count known [] [] (s ∷ ss) h = absurd h
@@ -251,13 +252,6 @@ zipped_values (m ∷ ms) (v ∷ vs) many = ap (λ us. v ∷ us) (zipped_values m
     one_less : (n k : ℕ) → suc n ≡ suc k → n ≡ k
     one_less n k h = grind (arith, h)
 
-fit_count : (types : Types) (c : Choice) (ss : List Shape) (vs : List Value) → FitAll types c ss vs → length vs ≡ length ss
-fit_count types c [] [] h = refl
-fit_count types c [] (v ∷ vs) h = no h
-fit_count types c (s ∷ ss) [] h = no h
-fit_count types c (s ∷ ss) (v ∷ vs) h =
-    ap suc (fit_count types c ss vs (and_parts (fits types v (put c s)) (each_fits (map (fits types) vs) (map (put c) ss)) h).1)
-
 fields_count : (setting : Setting) (locals : Locals) (fs : List FieldPart) (ms : List Field) → FieldsAre setting locals fs ms
     → length (values_of fs) ≡ length ms
 fields_count setting locals [] [] are = refl
@@ -310,12 +304,6 @@ struct_runs setting locals place name i ks fl fs ms named cores placed_at known 
       ap (λ (x : Run Value Value). x now) (unrolled wc place 0 (K.Struct i named.places) cores) ∙ q.0 ∙ sym turned,
       subst (Keeps reach Q) (sym turned) q.1,
     )
-
-not_none : {A B : Type 0} {x : A} → (x ∷ []) ≡ [] → B
-not_none e = absurd (empty e)
-  where
-    empty : {A : Type 0} {x : A} → (x ∷ []) ≡ [] → ⊥
-    empty e = cc
 
 -- the struct's fields, of which there are as many as are written
 struct_counted : (setting : Setting) (locals : Locals) (want : Shape) (place : Place) (name : Option Name) (fs : List FieldPart) (ms : List Field) (i : ℕ)

@@ -24,6 +24,7 @@ use Rattle.shape_rules.specs.Values as Rules
 use Rattle.shape_meanings.specs.Worlds.{IsStruct}
 use Rattle.shape_meanings.specs.Parts.{FieldsAre}
 use Rattle.shape_meanings.proofs.Settling.{same_name}
+use Rattle.shape_meanings.proofs.Opening.{turned}
 
 -- ---- places of definitions that pass a test
 
@@ -103,12 +104,6 @@ names_count setting locals [] [] are = refl
 names_count setting locals (f ∷ fs) (m ∷ ms) are = ap suc (names_count setting locals fs ms are.2)
 names_count setting locals [] (m ∷ ms) are = absurd are
 names_count setting locals (f ∷ fs) [] are = absurd are
-
-turned : (n k : ℕ) → nat_eq n k ≡ nat_eq k n
-turned zero zero = refl
-turned zero (suc k) = grind arith
-turned (suc n) zero = grind arith
-turned (suc n) (suc k) = grind (arith, turned n k)
 
 -- a struct has just these fields, in both
 both_ways : (a b : Bool) → (true && (a && b)) ≡ ((b && a) && true)

@@ -134,7 +134,7 @@ update_runs setting locals place last s whole a ends value ma mi mv is ra there 
 
 -- ---- the shapes
 
-vector_fills : (s t : Shape) → fills s t ≡ true → fills (V.Vector s) (V.Vector t) ≡ true
+pub vector_fills : (s t : Shape) → fills s t ≡ true → fills (V.Vector s) (V.Vector t) ≡ true
 vector_fills s t h =
     ap (fills (V.Vector s)) (sym (V.rolls-Vector t)) ∙ ap (λ u. fills u (roll-Shape (S.Vector t))) (sym (V.rolls-Vector s)) ∙ opens (S.Vector s)
     (S.Vector t) ∙ h

@@ -209,7 +209,7 @@ with_runs setting locals place i ks known fs ms is ss a cores ma there are place
 
 -- ---- over its base
 
-named_fills : (s : Shape) (i : ℕ) (ss ks : List Shape) → out-Shape s ≡ S.Named i ss → fill_all ss ks ≡ true → fills s (V.Named i ks) ≡ true
+pub named_fills : (s : Shape) (i : ℕ) (ss ks : List Shape) → out-Shape s ≡ S.Named i ss → fill_all ss ks ≡ true → fills s (V.Named i ks) ≡ true
 named_fills s i ss ks is h =
     ap (fills s) (sym (V.rolls-Named i ks)) ∙ ap (λ t. fills t (roll-Shape (S.Named i ks))) (sym (roll-out-Shape s) ∙ ap roll-Shape is)
     ∙ opens (S.Named i ss) (S.Named i ks) ∙ two (nat_eq i i) (fill_all ss ks) (same_nat i) h

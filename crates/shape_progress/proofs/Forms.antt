@@ -1,6 +1,5 @@
 -- Values of a shape have its form, and values of a form have its shape.
-use Rattle.std.proofs.Common.{◌≡◌, ℤ, List, map, ap, sym, ◌∙◌, refl, Bool, true, false, not, ◌||◌}
-use Rattle.std.specs.List.{list_all}
+use Rattle.std.proofs.Common.{◌≡◌, ℤ, List, ap, sym, ◌∙◌, refl, Bool, true, false, not, ◌||◌}
 use Rattle.sail_types.specs.Shapes.{fits, form_fits, put, Asked}
 use Rattle.sail_types.specs.declared.shapes.Shape.{Shape, Shape-F, out-Shape}
 use Rattle.sail_types.specs.declared.shapes.Shape.TheOpen as S
@@ -18,6 +17,7 @@ use Rattle.shape_meanings.proofs.Groups.{AllFit}
 use Rattle.shape_meanings.proofs.Matching.{form_given, leaf_out}
 use Rattle.shape_meanings.proofs.Settling.{form_has}
 use Rattle.shape_meanings.proofs.Values.{opened_at, out_put}
+use Rattle.shape_meanings.proofs.Items.{form_list}
 
 form_integer : (types : Types) (x : Value-F Value) → form_fits types (map-Value Value Asked (fits types) x) S.Int ≡ true → (z : ℤ) × (x ≡ W.Integer z)
 form_integer types (W.Integer z) h = (z, refl)
@@ -60,11 +60,6 @@ pub is_vector : (types : Types) (c : Choice) (s t : Shape) (v : Value) → out-S
     → (vs : List Value) × (out-Value v ≡ W.Vector vs)
 is_vector types c s t v is h =
     form_vector types (out-Value v) (put c t) (form_given types c s (S.Vector (put c t)) v (put_out c s (S.Vector t) is) h)
-
-form_list : (types : Types) (x : Value-F Value) (s : Shape) → form_fits types (map-Value Value Asked (fits types) x) (S.List s) ≡ true
-    → (vs : List Value) × (x ≡ W.List vs) × (list_all (λ (f : Asked). f s) (map (fits types) vs) ≡ true)
-form_list types (W.List vs) s h = (vs, refl, h)
-form_list types x s h = no h
 
 pub is_list : (types : Types) (c : Choice) (t : Shape) (v : Value) → Fits types c (V.List t) v
     → (vs : List Value) × (out-Value v ≡ W.List vs) × AllFit types c t vs

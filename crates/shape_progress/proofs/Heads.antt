@@ -38,11 +38,13 @@ use Rattle.shape_meanings.specs.Keeping.{Fits, FitAll, Reach}
 use Rattle.shape_meanings.proofs.Aims.{same_components}
 use Rattle.shape_meanings.proofs.Groups.{AllFit}
 use Rattle.shape_meanings.proofs.Matching.{form_given}
-use Rattle.shape_meanings.proofs.Opening.{same_count, fit_count, form_tuple}
+use Rattle.shape_meanings.proofs.Opening.{same_count, form_tuple}
+use Rattle.shape_meanings.proofs.Arguments.{fit_count}
 use Rattle.shape_meanings.proofs.Orders.{put_args}
 use Rattle.shape_meanings.proofs.Settling.{form_has}
 use Rattle.shape_meanings.proofs.Values.{opened_at, out_put}
 use Rattle.shape_meanings.proofs.Vectors.{reversed_fit}
+use Rattle.shape_meanings.proofs.Items.{all_fit}
 use Rattle.shape_progress.specs.Conditions.{is_there, widths_given, literal_met, head_met}
 use Rattle.shape_progress.specs.Going.{GoesOn}
 use Rattle.shape_progress.specs.PatternRules.{IsEnum, IsUnion, IsOf, PayloadOpens, HeadOpens}
@@ -142,24 +144,6 @@ tuple_sees types c nu k v ss x h = no h
 same_items : (x : Value) (vs : List Value) → items plainly x vs ≡ vs
 same_items x [] = refl
 same_items x (v ∷ vs) = ap (λ us. v ∷ us) (same_items x vs)
-
--- so many values of one shape
-all_fit : (types : Types) (c : Choice) (s : Shape) (vs : List Value) (n : ℕ) → length vs ≡ n → AllFit types c s vs → FitAll types c (replicate n s) vs
-all_fit types c s [] zero many h = refl
-all_fit types c s [] (suc n) many h = absurd (zero_not n many)
-  where
-    zero_not : (n : ℕ) → zero ≡ suc n → ⊥
-    zero_not n h = grind (arith, h)
-all_fit types c s (v ∷ vs) zero many h = absurd (not_zero (length vs) many)
-  where
-    not_zero : (n : ℕ) → suc n ≡ zero → ⊥
-    not_zero n h = grind (arith, h)
-all_fit types c s (v ∷ vs) (suc n) many h =
-    let k = and_parts (fits types v (put c s)) (list_all (λ (f : Asked). f (put c s)) (map (fits types) vs)) h in
-    two (fits types v (put c s)) (each_fits (map (fits types) vs) (map (put c) (replicate n s))) k.0 (all_fit types c s vs n (one_less (length vs) n many) k.1)
-  where
-    one_less : (n k : ℕ) → suc n ≡ suc k → n ≡ k
-    one_less n k h = grind (arith, h)
 
 items_fit : (types : Types) (c : Choice) (t : Shape) (x : Value) (us : List Value) (ss : List Shape) → ss ≡ replicate (length ss) t → length us ≡ length ss
     → AllFit types c t us → FitAll types c ss (items plainly x us)

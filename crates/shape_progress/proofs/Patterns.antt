@@ -16,7 +16,8 @@ use Rattle.shape_joins.proofs.Order.{no}
 use Rattle.shape_rules.specs.declared.locals.Local.{Local}
 use Rattle.shape_rules.specs.Scopes.{constant}
 use Rattle.shape_meanings.specs.Keeping.{Fits, FitAll, Suits, Reach}
-use Rattle.shape_meanings.proofs.Opening.{fit_count, mapped_count}
+use Rattle.shape_meanings.proofs.Opening.{mapped_count}
+use Rattle.shape_meanings.proofs.Arguments.{fit_count}
 use Rattle.shape_meanings.proofs.Runs.{suits_behind}
 use Rattle.shape_meanings.proofs.Values.{widens}
 use Rattle.shape_progress.specs.Conditions.{head_met}

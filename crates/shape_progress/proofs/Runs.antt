@@ -9,7 +9,7 @@ use Rattle.sail_core.specs.Making.{World}
 use Rattle.shape_rules.specs.declared.locals.Local.{Local}
 use Rattle.shape_meanings.specs.Whole.{Choice}
 use Rattle.shape_meanings.specs.Keeping.{Suits, Reach}
-use Rattle.shape_meanings.proofs.Runs.{suits_behind}
+use Rattle.shape_meanings.proofs.Runs.{suits_behind, suits_left}
 use Rattle.shape_progress.specs.Checks.{where_met}
 use Rattle.shape_progress.specs.Going.{Ready, Goes, GoesOn, under}
 
@@ -88,14 +88,6 @@ pub tick_goes : (reach : Reach) (w : World Value) → GoesOn reach w (λ (t : Un
 tick_goes reach w now ready = tick_at_goes reach w now.ticks now ready
 
 -- ---- further names in scope
-
-suits_left : (types : Types) (c : Choice) (new slots : List Local) (found bound : List (R.Local Value)) → Suits types c new found
-    → Suits types c (new ++ slots) bound → Suits types c slots (drop (length found) bound)
-suits_left types c [] slots [] bound h k = k
-suits_left types c [] slots (b ∷ bs) bound h k = absurd h
-suits_left types c (l ∷ ls) slots [] bound h k = absurd h
-suits_left types c (l ∷ ls) slots (b ∷ bs) [] h k = absurd k
-suits_left types c (l ∷ ls) slots (b ∷ bs) (d ∷ ds) h k = suits_left types c ls slots bs ds h.2 k.2
 
 -- what a piece leaves, without the names that were added
 abbrev left_by : List (R.Local Value) → Now Value → Now Value

@@ -25,7 +25,7 @@ use Rattle.shape_meanings.proofs.Matching.{form_given}
 use Rattle.shape_meanings.proofs.Opening.{mapped_count}
 use Rattle.shape_meanings.proofs.Orders.{put_args}
 use Rattle.shape_meanings.proofs.Settling.{form_has}
-use Rattle.shape_meanings.proofs.Structs.{In, NotIn, AllApart, AllIn, AtPlaces, struct_fits}
+use Rattle.shape_meanings.proofs.Structs.{In, NotIn, AllApart, AllIn, AtPlaces, struct_fits, inside}
 use Rattle.shape_meanings.proofs.Values.{opened_at}
 use Rattle.shape_progress.specs.Rules.{FieldsAre, NotAmong, Once}
 use Rattle.shape_progress.proofs.Forms.{put_out}
@@ -170,17 +170,6 @@ at_places types c us fs (k ∷ ks) (q ∷ ss) (v ∷ vs) stand h =
       ),
       at_places types c us fs ks ss vs stand.1 both.1,
     )
-
-inside : (us : List Shape) (i : ℕ) (t : Shape) → slice_get us i ≡ Some t → nat_lt i (length us) ≡ true
-inside [] i t e = none e
-inside (u ∷ us) zero t e = first_is (length us)
-  where
-    first_is : (n : ℕ) → nat_lt 0 (suc n) ≡ true
-    first_is n = grind arith
-inside (u ∷ us) (suc i) t e = more_is i (length us) (inside us i t e)
-  where
-    more_is : (i n : ℕ) → nat_lt i n ≡ true → nat_lt (suc i) (suc n) ≡ true
-    more_is i n h = grind (arith, h)
 
 -- a literal of each field once
 pub struct_leads : (types : Types) (c : Choice) (s : Shape) (i : ℕ) (us : List Shape) (fs : List Field) (ks : List ℕ) (ss : List Shape) (vs : List Value)

@@ -26,7 +26,7 @@ use Rattle.shape_meanings.specs.Whole.{Choice}
 use Rattle.shape_meanings.specs.Keeping.{Fits, FitAll}
 use Rattle.shape_meanings.proofs.Fields.{under_at}
 use Rattle.shape_meanings.proofs.Matching.{form_given}
-use Rattle.shape_meanings.proofs.Opening.{fit_count}
+use Rattle.shape_meanings.proofs.Arguments.{fit_count}
 use Rattle.shape_meanings.proofs.Orders.{put_args}
 use Rattle.shape_meanings.proofs.Settling.{form_has}
 use Rattle.shape_meanings.proofs.Values.{opened_at}

@@ -75,7 +75,7 @@ same_variables i (suc n) = ap (λ ss. V.Variable i ∷ ss) (same_variables (suc 
 variable_below : (n i : ℕ) → nat_lt i n ≡ true → below n (V.Variable i) ≡ true
 variable_below n i h = ap (below n) (sym (V.rolls-Variable i)) ∙ fold-roll-Shape Bool (below_form n) (S.Variable i) ∙ h
 
-variables_below : (i n k : ℕ) → (i + n) ≡ k → all_below k (Shapes.variables_from i n) ≡ true
+pub variables_below : (i n k : ℕ) → (i + n) ≡ k → all_below k (Shapes.variables_from i n) ≡ true
 variables_below i zero k is = refl
 variables_below i (suc n) k is =
     two (below k (V.Variable i)) (all_below k (Shapes.variables_from (suc i) n)) (variable_below k i (less i n k is))
@@ -87,7 +87,7 @@ variables_below i (suc n) k is =
     moved : (i n k : ℕ) → (i + suc n) ≡ k → (suc i + n) ≡ k
     moved i n k is = omega (arith, is)
 
-union_below : (u n : ℕ) → below n (V.Named u (Shapes.variables_from 0 n)) ≡ true
+pub union_below : (u n : ℕ) → below n (V.Named u (Shapes.variables_from 0 n)) ≡ true
 union_below u n =
     ap (below n) (sym (V.rolls-Named u (Shapes.variables_from 0 n)))
     ∙ fold-roll-Shape Bool (below_form n) (S.Named u (Shapes.variables_from 0 n)) ∙ variables_below 0 n n (nothing_and n)

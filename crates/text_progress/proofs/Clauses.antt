@@ -45,6 +45,7 @@ use Rattle.shape_meanings.proofs.Orders.{exact}
 use Rattle.shape_meanings.proofs.PatternCounts.{EachCounts, more_count, pat_counts}
 use Rattle.shape_meanings.proofs.PatternNames.{bound_names, bound_texts}
 use Rattle.shape_meanings.proofs.Ready.{Ready, with_names}
+use Rattle.shape_meanings.proofs.Bases.{not_none}
 use Rattle.shape_progress.specs.Going as Going
 use Rattle.shape_progress.specs.PatternRules.{ArmBinds}
 use Rattle.shape_progress.specs.Rules.{ArmsHave}
@@ -56,12 +57,7 @@ use Rattle.pattern_stands.proofs.Binding.{parts_bind}
 use Rattle.pattern_stands.proofs.Forms.{unit_stands}
 use Rattle.pattern_stands.proofs.Patterns.{patterns_stand}
 use Rattle.form_stands.proofs.Expressions.{expressions_stand}
-
-not_none : {A B : Type 0} {x : A} {xs : List A} → (x ∷ xs) ≡ [] → B
-not_none e = absurd (empty e)
-  where
-    empty : {A : Type 0} {x : A} {xs : List A} → (x ∷ xs) ≡ [] → ⊥
-    empty e = cc
+use Rattle.body_meanings.proofs.Clauses.{nothing_ready}
 
 -- ---- parameters
 
@@ -130,12 +126,6 @@ ClauseStands here params answer arm body =
     → (n : ℕ) × (new : List Local) × ArmBinds n (reach_of here.setting registers c []) w params new arm
     × HasShape w (Going.under (reach_of here.setting registers c []) new) answer body
 
-nothing_ready : (setting : Setting) (names : Tables.Setting) → AreKnown setting names → Ready setting names [] []
-nothing_ready setting names known = record {
-  known = known;
-  are = λ name. tt;
-  settled = λ name l is var. none_some is;
-  counted = tt;
 }
   where
     none_some : {A B : Type 0} {x : A} → None ≡ Some x → B

@@ -55,6 +55,7 @@ use Rattle.shape_meanings.proofs.PatternNames.{bound_names, bound_texts}
 use Rattle.shape_meanings.proofs.Ready.{Ready, with_names}
 use Rattle.body_meanings.specs.Directions.{CrossingsAreNamed, both_ways_written, guard_written}
 use Rattle.body_meanings.proofs.Clauses.{nothing_ready}
+use Rattle.body_meanings.proofs.Directions.{side_uses}
 use Rattle.shape_progress.specs.Going as Going
 use Rattle.shape_progress.specs.PatternRules.{ArmBinds}
 use Rattle.shape_progress.specs.Rules.{ArmsHave}
@@ -234,12 +235,6 @@ clauses_stand here place takes given ks are registers c w inside sides g v argum
 -- no function is around a mapping
 alone : (setting : Setting) → setting.answer ≡ None → setting ≡ answering None setting
 alone setting none = λ i. record setting { answer = none i }
-
-side_uses : (names : Tables.Setting) (s : Side) → side_failures names s ≡ [] → uses_failures names s.pattern ≡ []
-side_uses names s u =
-    let guards : List TableError = maybe (option_map expression_failures s.guard) names (behind (binds names.known s.pattern) []) in
-    let found = both_empty (uses_failures names s.pattern) (clashes (binds names.known s.pattern)) (both_empty (pattern_failures names s.pattern) guards u).0 in
-    found.0
 
 -- each guard is as the grammar has it, and each pattern converts by mappings by which it can
 abbrev pub ClausesConvert : Position → List MappingClause → Type 0

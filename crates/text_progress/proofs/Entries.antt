@@ -36,7 +36,7 @@ use Rattle.shape_models.specs.Models.{Tabled, counts_with, def_entries, entries,
 use Rattle.shape_models.specs.Models.{params_variables, place_in_table, setting_of, type_variables, within_variables}
 use Rattle.shape_clauses.specs.Functions.{function_in, functions_if, functions_of}
 use Rattle.shape_clauses.specs.Mappings.{backwards_clauses, direction_core, directions_if, directions_of, forwards_clauses}
-use Rattle.shape_meanings.specs.Whole.{all_below, below, below_form, closed}
+use Rattle.shape_meanings.specs.Whole.{below, below_form, closed}
 use Rattle.shape_meanings.specs.Worlds.{variables_from}
 use Rattle.shape_progress.specs.PatternRules.{IsEnum, IsUnion}
 use Rattle.shapes.specs.Failures.{own_in}
@@ -45,6 +45,7 @@ use Rattle.text_models.specs.Definitions.{ConstructorsAre, UnionIs}
 use Rattle.text_models.specs.Known.{DefinitionKnown, DefinitionsKnown, EachKnown, FunctionKnown, MappingKnown}
 use Rattle.text_models.specs.Values.{RegistersTyped}
 use Rattle.text_models.proofs.Builtins.{one_more, there_behind}
+use Rattle.text_models.proofs.Definitions.{union_below}
 use Rattle.text_progress.specs.Entries.{CandidateIn, DirectionIn, MaybeIn, MeantIn, Parts}
 
 -- ---- lists
@@ -90,26 +91,6 @@ same_variables i (suc n) = ap (λ ss. V.Variable i ∷ ss) (same_variables (suc 
 
 variable_below : (n i : ℕ) → nat_lt i n ≡ true → below n (V.Variable i) ≡ true
 variable_below n i h = ap (below n) (sym (V.rolls-Variable i)) ∙ fold-roll-Shape Bool (below_form n) (S.Variable i) ∙ h
-
-variables_below : (i n k : ℕ) → (i + n) ≡ k → all_below k (Shapes.variables_from i n) ≡ true
-variables_below i zero k is = refl
-variables_below i (suc n) k is =
-    two (below k (V.Variable i)) (all_below k (Shapes.variables_from (suc i) n)) (variable_below k i (less i n k is))
-    (variables_below (suc i) n k (moved i n k is))
-  where
-    less : (i n k : ℕ) → (i + suc n) ≡ k → nat_lt i k ≡ true
-    less i n k is = grind (arith, is)
-
-    moved : (i n k : ℕ) → (i + suc n) ≡ k → (suc i + n) ≡ k
-    moved i n k is = omega (arith, is)
-
-union_below : (u n : ℕ) → below n (V.Named u (Shapes.variables_from 0 n)) ≡ true
-union_below u n =
-    ap (below n) (sym (V.rolls-Named u (Shapes.variables_from 0 n)))
-    ∙ fold-roll-Shape Bool (below_form n) (S.Named u (Shapes.variables_from 0 n)) ∙ variables_below 0 n n (nothing_and n)
-  where
-    nothing_and : (n : ℕ) → (0 + n) ≡ n
-    nothing_and n = omega arith
 
 -- ---- a type that has constructors is a union, and one that has members an enum
 

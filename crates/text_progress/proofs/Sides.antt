@@ -1,5 +1,5 @@
 -- A side of a mapping's clause that is read as an expression stands by the rules of shapes: by induction on it.
-use Rattle.std.proofs.Common.{◌≡◌, ◌-ℤ◌, pos, Bool, true, ◌&&◌, List, [], ◌∷◌, ◌++◌, map, ap, sym, ◌∙◌, refl, subst, Option, Some}
+use Rattle.std.proofs.Common.{◌≡◌, ◌-ℤ◌, pos, Bool, true, ◌&&◌, List, [], ◌∷◌, ◌++◌, map, sym, refl, subst}
 use Rattle.std.proofs.lemmas.Bool.{and_parts}
 use Rattle.sail_base.specs.declared.kind.Kind.TheVariants as Sort
 use Rattle.sail_base.specs.declared.operators.Operator.TheVariants as O
@@ -17,11 +17,8 @@ use Rattle.sail_syntax.specs.declared.patterns.Pat.TheFolds.{fold-Joined, fold-r
 use Rattle.shape_joins.proofs.Order.{no}
 use Rattle.sail_meaning.specs.World as Source
 use Rattle.sail_meaning.specs.Calls.{side_value}
-use Rattle.sail_names.specs.declared.around.Allowed.{Allowed}
-use Rattle.sail_names.specs.declared.names.Global.{Global}
-use Rattle.sail_names.specs.declared.names.Global.TheVariants as G
 use Rattle.sail_names.specs.Known as Tables
-use Rattle.sail_names.specs.Known.{is_construction, is_global_callee, is_global_construction, is_value}
+use Rattle.sail_names.specs.Known.{is_construction, is_value}
 use Rattle.sail_names.specs.Locals as Bound
 use Rattle.sail_names.specs.Clauses.{values_failures}
 use Rattle.sail_names.specs.Patterns.{joined, type_failures, unless, uses_failures, uses_form, uses_joined, uses_of_joined}
@@ -35,30 +32,13 @@ use Rattle.shape_meanings.specs.Parts.{IsRight}
 use Rattle.shape_meanings.proofs.Settling.{both_empty}
 use Rattle.shape_meanings.proofs.Naming.{unless_true}
 use Rattle.shape_meanings.proofs.Operators.{infix_right}
-use Rattle.body_meanings.proofs.Sides.{sides_right}
+use Rattle.body_meanings.proofs.Sides.{sides_right, values_both, called_too}
 use Rattle.shape_stands.specs.Inside.{Position}
 use Rattle.shape_stands.specs.Stands.{AllStandAt, IsShapedAt, StandsAt}
 use Rattle.form_stands.proofs.Calls.{call_shaped, infix_shaped}
 use Rattle.form_stands.proofs.Groups.{empty_tuple_shaped, list_shaped, tuple_shaped, vector_shaped}
 use Rattle.form_stands.proofs.Leaves.{constant_shaped, name_shaped}
 use Rattle.text_progress.proofs.Clauses.{typed_stands}
-
--- ---- names
-
-values_both : (known : Tables.Setting) (bound : Bound.Locals) (xs ys : List Name) → values_failures known bound (xs ++ ys) ≡ []
-    → (values_failures known bound xs ≡ []) × (values_failures known bound ys ≡ [])
-values_both known bound [] ys e = (refl, e)
-values_both known bound (x ∷ xs) ys e =
-    let h = both_empty (unless (is_value known bound x.text) x) (values_failures known bound (xs ++ ys)) e in
-    let k = values_both known bound xs ys h.1 in
-    (ap (λ es. es ++ values_failures known bound xs) h.0 ∙ k.0, k.1)
-
--- what is named at the head of a pattern can be called
-called_too : (allowed : Allowed) (o : Option Global) → is_global_construction allowed o ≡ true → is_global_callee allowed o ≡ true
-called_too allowed (Some G.Constructor) h = refl
-called_too allowed (Some (G.Mapping n)) h = h
-called_too allowed (Some (G.Direction n)) h = h
-called_too allowed o h = no h
 
 -- ---- what is said of a side: it is right for something, and it is shaped
 

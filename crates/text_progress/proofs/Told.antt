@@ -47,6 +47,7 @@ use Rattle.shape_joins.proofs.Order.{no, two}
 use Rattle.shape_rules.specs.Calls.{parameters_of}
 use Rattle.shape_rules.specs.Written.{tells_number, typ_in, untold, written_faults}
 use Rattle.shape_meanings.proofs.StructNames.{bytes_same}
+use Rattle.shape_meanings.proofs.Bases.{not_none}
 use Rattle.shape_models.specs.Models.{Tabled, is_type_variable, params_variables, within_variables}
 use Rattle.shape_declarations.specs.Failures.{typ_faults, types_faults}
 use Rattle.shape_declarations.specs.Signatures.{number_parameter, number_parameters}
@@ -56,12 +57,6 @@ use Rattle.text_progress.proofs.KindedTypes.{all_kinded, made, none_below, same_
 use Rattle.text_progress.proofs.TextsGiven.{ScopeGiven, behind_kind}
 
 -- ---- two lists of which nothing is left
-
-not_none : {A B : Type 0} {x : A} {xs : List A} → (x ∷ xs) ≡ [] → B
-not_none e = absurd (empty e)
-  where
-    empty : {A : Type 0} {x : A} {xs : List A} → (x ∷ xs) ≡ [] → ⊥
-    empty e = cc
 
 pub both_none : {A : Type 0} (xs ys : List A) → xs ++ ys ≡ [] → (xs ≡ []) × (ys ≡ [])
 both_none [] ys e = (refl, e)
