@@ -19,7 +19,7 @@ use Rattle.sail_core.specs.declared.model.OpeningKind.TheVariants as O
 use Rattle.sail_core.specs.declared.model.CoreModel.{CoreModel}
 use Rattle.sail_core.specs.Run as R
 use Rattle.sail_core.specs.Run.{Run, Ended, gives, stuck, stops, needs, returned, ◌then◌}
-use Rattle.sail_core.specs.Numbers.{Givens, Awaited, givens_of, as_awaited}
+use Rattle.sail_core.specs.Numbers.{Givens, Awaited, givens_of, as_awaited, place_of}
 use Rattle.sail_core.specs.Making.{Making, plainly}
 use Rattle.sail_core.specs.Program.{plain, Measures, Setting, Calls, Ways, asking, crossed, gone, as_given, direction_at, ways, nearest, below, measured}
 use Rattle.sail_core.specs.Program.{answered, framed, entering, entered, calls, event_of, world_of}
@@ -171,12 +171,13 @@ module _ (k : Checks) (fs : List Function) (ds : List Direction) (hart : ℕ) (l
 
   entering_alike : (i : ℕ) (f : Function) (awaited : Awaited) (vs : List Value) (piece : Making Item → Givens → List Item → Run Item Value)
       (plain_piece : Making Value → Givens → List Value → Run Value Value)
-      → ((nu : Givens) (xs : List Item) → Alike (Is same) (piece (checked k.types (k.function i nu)) nu xs) (plain_piece plainly nu (vals xs)))
+      → ((nu : Givens) (xs : List Item)
+      → Alike (Is same) (piece (checked k.types (k.function i (place_of awaited) nu)) nu xs) (plain_piece plainly nu (vals xs)))
       → Alike (Is same) (entering s i f awaited vs piece) (entering t i f None vs plain_piece)
   entering_alike i f awaited vs piece plain_piece h =
       then_is _ (needs_same (givens_of (length f.variables) f.parameters vs)) (λ nu. guarded_alike (as_awaited awaited nu)
-      (entered_with (k.enters i nu vs) vs _ (λ ws. framed (plain_piece plainly nu ws)) (λ xs. framed_alike (noting_alike k.types (k.function i nu) f.entry
-      (V.Tuple vs) (h nu xs)))))
+      (entered_with (k.enters i (place_of awaited) nu vs) vs _ (λ ws. framed (plain_piece plainly nu ws)) (λ xs. framed_alike
+      (noting_alike k.types (k.function i (place_of awaited) nu) f.entry (V.Tuple vs) (h nu xs)))))
 
   -- the body of a function, in both readings
   abbrev body : Calls Item → Measures → Place → Function → Making Item → Givens → List Item → Run Item Value
@@ -192,8 +193,8 @@ module _ (k : Checks) (fs : List Function) (ds : List Direction) (hart : ℕ) (l
   entered_alike c d h active p i awaited vs None = stuck_alike _
   entered_alike c d h active p i awaited vs (Some f) =
       then_is _ tick_alike (λ u. entering_alike i f awaited vs (body c active p f) (plain_body d active p f) (λ nu xs.
-      then_is _ (measured_alike (k.function i nu) (world c d active nu xs) (worlds c d h active nu xs) p f.cycle f.measure active)
-      (λ then_active. answered_alike (k.function i nu) (world c d then_active nu xs) (worlds c d h then_active nu xs) f)))
+      then_is _ (measured_alike (k.function i (place_of awaited) nu) (world c d active nu xs) (worlds c d h active nu xs) p f.cycle f.measure active)
+      (λ then_active. answered_alike (k.function i (place_of awaited) nu) (world c d then_active nu xs) (worlds c d h then_active nu xs) f)))
 
   calls_alike : (depth : ℕ) → CallsAlike (calls s depth) (calls t depth)
   calls_alike zero = record { call = λ active p i awaited vs. stops_alike WorkLimit; enter = λ active i v. stops_alike WorkLimit }
@@ -208,8 +209,8 @@ module _ (k : Checks) (fs : List Function) (ds : List Direction) (hart : ℕ) (l
   event_alike depth i awaited vs None = stuck_alike _
   event_alike depth i awaited vs (Some f) =
       entering_alike i f awaited vs (λ z nu xs. answered z (world_of s (calls s depth) [] nu xs) f) (λ z nu xs. answered z
-      (world_of t (calls t depth) [] nu xs) f) (λ nu xs. answered_alike (k.function i nu) (world (calls s depth) (calls t depth) [] nu xs) (worlds
-      (calls s depth) (calls t depth) (calls_alike depth) [] nu xs) f)
+      (world_of t (calls t depth) [] nu xs) f) (λ nu xs. answered_alike (k.function i (place_of awaited) nu) (world (calls s depth)
+      (calls t depth) [] nu xs) (worlds (calls s depth) (calls t depth) (calls_alike depth) [] nu xs) f)
 
 -- ---- openings
 

@@ -18,8 +18,7 @@ use Rattle.sail_core.specs.declared.targets.TargetKind.TheVariants as K
 use Rattle.sail_core.specs.declared.targets.Target.{Target, roll-Target, fold-roll-Target, map-Target, ind-Target}
 use Rattle.sail_core.specs.Run.{Run, gives, needs, ◌then◌}
 use Rattle.sail_core.specs.Values.{Into, int_typ, field_way, item_way, slice_way, through, replaced, parts_in, payload_of, integer_in}
-use Rattle.sail_types.specs.Places.{Given}
-use Rattle.sail_core.specs.Numbers.{Awaited}
+use Rattle.sail_core.specs.Numbers.{Awaited, Instance}
 use Rattle.sail_core.specs.Making.{plainly, made, nothing, integer}
 use Rattle.sail_core.specs.Patterns.{components}
 use Rattle.sail_core.specs.Targets.{payload_in, called, Spot, Spotted, Spotting, variable_read, variable_spot, register_read, register_spot, asked, call_spot}
@@ -61,10 +60,10 @@ module _ (types : Types) (cases : Cases) where
   payload_alike p (W.Union zero (suc zero) v) = stops_alike (MatchFailure p)
   payload_alike p v = stuck_alike _
 
-  awaited_alike : (o : Option (List (Option Given))) (c : Awaited → Run Item Item) (d : Run Value Value)
-      → ((awaited : Awaited) → Alike (Is value_in) (c awaited) d) → Alike (Is value_in) ((needs o then λ numbers. gives (Some numbers)) then c) d
+  awaited_alike : (o : Option Instance) (c : Awaited → Run Item Item) (d : Run Value Value)
+      → ((awaited : Awaited) → Alike (Is value_in) (c awaited) d) → Alike (Is value_in) ((needs o then λ x. gives (Some x)) then c) d
   awaited_alike None c d h = stuck_alike _
-  awaited_alike (Some numbers) c d h = record { at = λ noted now. (h (Some numbers)).at noted now }
+  awaited_alike (Some x) c d h = record { at = λ noted now. (h (Some x)).at noted now }
 
   calls_alike : (k : ℕ) (xs : List Item) (c : Awaited → Run Item Item) (d : Run Value Value) → ((awaited : Awaited) → Alike (Is value_in) (c awaited) d)
       → Alike (Is value_in) ((checked types cases).calls k xs then c) d

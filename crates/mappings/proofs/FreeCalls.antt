@@ -13,7 +13,7 @@ use Rattle.sail_core.specs.declared.tree.Core.{Core, fold-roll-Core}
 use Rattle.sail_core.specs.declared.model.Function.{Function}
 use Rattle.sail_core.specs.declared.model.Direction.{Direction}
 use Rattle.sail_core.specs.Run.{Run, gives, stuck, stops, needs, if_so, apart, tick, ◌then◌, ◌or_else◌}
-use Rattle.sail_core.specs.Numbers.{Givens, Awaited, givens_of, as_awaited}
+use Rattle.sail_core.specs.Numbers.{Givens, Awaited, givens_of, as_awaited, place_of}
 use Rattle.sail_core.specs.Making.{Making, World, made, natural}
 use Rattle.sail_core.specs.Patterns.{Matcher}
 use Rattle.sail_core.specs.Meaning.{optional, kind_meaning, meaning}
@@ -157,11 +157,12 @@ module _ {X : Type 0} (s : Setting X) (keeps : KeepsParts s.sizing)
       ∙ answer_free z (world_of s c active nu xs) (ways_then c active) (options_free z reads c active nu xs) f h
 
   entering_free : (i : ℕ) (f : Function) (awaited : Awaited) (vs : List Value) (p q : Making X → Givens → List X → Run X Value)
-      → ((nu : Givens) (xs : List X) → p (s.sizing.function i nu) nu xs ≡ q (s.sizing.function i nu) nu xs)
+      → ((nu : Givens) (xs : List X) → p (s.sizing.function i (place_of awaited) nu) nu xs ≡ q (s.sizing.function i (place_of awaited) nu) nu xs)
       → entering (free_setting s) i (free_function f) awaited vs p ≡ entering s i f awaited vs q
   entering_free i f awaited vs p q h = λ j.
       needs (givens_of (length f.variables) f.parameters vs) then λ nu. if_so
-      (needs (s.sizing.enters i nu vs) then λ xs. framed ((s.sizing.function i nu).note f.entry (V.Tuple vs) then λ t. h nu xs j))
+      (needs (s.sizing.enters i (place_of awaited) nu vs)
+      then λ xs. framed ((s.sizing.function i (place_of awaited) nu).note f.entry (V.Tuple vs) then λ t. h nu xs j))
       stuck
       (as_awaited awaited nu)
 
@@ -176,8 +177,8 @@ module _ {X : Type 0} (s : Setting X) (keeps : KeepsParts s.sizing)
       (λ z nu xs. measured z (world_of (free_setting s) (free_calls c) active nu xs) place f.cycle (option_map free_core f.measure) active
       then λ a. answered z (world_of (free_setting s) (free_calls c) a nu xs) (free_function f))
       (λ z nu xs. measured z (world_of s c active nu xs) place f.cycle f.measure active then λ a. answered z (world_of s c a nu xs) f)
-      (λ nu xs k. measured_free (s.sizing.function i nu) (keeps.functions i nu) c place f b.0 active nu xs k
-      then λ a. answered_free (s.sizing.function i nu) (keeps.functions i nu) c f b.1 a nu xs k) j
+      (λ nu xs k. measured_free (s.sizing.function i (place_of awaited) nu) (keeps.functions i (place_of awaited) nu) c place f b.0 active nu xs k
+      then λ a. answered_free (s.sizing.function i (place_of awaited) nu) (keeps.functions i (place_of awaited) nu) c f b.1 a nu xs k) j
 
   -- ---- calls
 
@@ -204,7 +205,7 @@ module _ {X : Type 0} (s : Setting X) (keeps : KeepsParts s.sizing)
       (core_in G.Resolved f.body) h in
       entering_free i f awaited vs (λ z nu xs. answered z (world_of (free_setting s) (free_calls c) [] nu xs) (free_function f))
       (λ z nu xs. answered z (world_of s c [] nu xs) f)
-      (λ nu xs. answered_free (s.sizing.function i nu) (keeps.functions i nu) c f b.1 [] nu xs)
+      (λ nu xs. answered_free (s.sizing.function i (place_of awaited) nu) (keeps.functions i (place_of awaited) nu) c f b.1 [] nu xs)
 
   pub event_free : (depth : ℕ) (i : ℕ) (awaited : Awaited) (vs : List Value)
       → event_of (free_setting s) (calls (free_setting s) depth) i awaited vs (slice_get (map free_function s.functions) i)

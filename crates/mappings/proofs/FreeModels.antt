@@ -100,7 +100,7 @@ plain_opens : OpensOptions plainly plainly
 plain_opens = record { shows = λ t v. refl; part = λ t v. refl }
 
 pub plain_keeps : KeepsParts plain
-plain_keeps = record { functions = λ i nu d. plain_opens; directions = λ e d. plain_opens; back = λ d before after. refl }
+plain_keeps = record { functions = λ i place nu d. plain_opens; directions = λ e d. plain_opens; back = λ d before after. refl }
 
 pub meaning_kept : (m : CoreModel) → model_in G.Resolved m ≡ true → model_meaning (without_mappings m) ≡ model_meaning m
 meaning_kept m h =

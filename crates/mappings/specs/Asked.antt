@@ -24,7 +24,7 @@ pub record OpensOptions {X : Type 0} (z y : Making X) : Type 0 where
 
 -- functions and directions open the options that directions give, and going back in a direction changes nothing but what is opened
 pub record KeepsParts {X : Type 0} (sizing : Sizing X) : Type 0 where
-  pub functions : (i : ℕ) (nu : Givens) (d : ℕ) → OpensOptions (sizing.function i nu) (sizing.direction d)
+  pub functions : (i place : ℕ) (nu : Givens) (d : ℕ) → OpensOptions (sizing.function i place nu) (sizing.direction d)
   pub directions : (e d : ℕ) → OpensOptions (sizing.direction e) (sizing.direction d)
   pub back : (d : ℕ) (before after : Now X)
       → (sizing.direction d).back before after ≡ record after { opened = ((sizing.direction d).back before after).opened }

@@ -16,7 +16,7 @@ use Rattle.sail_core.specs.declared.model.OpeningKind.{OpeningKind}
 use Rattle.sail_core.specs.declared.model.OpeningKind.TheVariants as O
 use Rattle.sail_core.specs.declared.model.CoreModel.{CoreModel}
 use Rattle.sail_core.specs.Run.{Run, gives, stuck, stops, needs, if_so, apart, tick, ◌then◌, ◌or_else◌}
-use Rattle.sail_core.specs.Numbers.{Givens, Awaited, givens_of, as_awaited}
+use Rattle.sail_core.specs.Numbers.{Givens, Awaited, givens_of, as_awaited, place_of}
 use Rattle.sail_core.specs.Making.{Making, World, made, natural}
 use Rattle.sail_core.specs.Program.{Sizing, Measures, Setting, Calls, plain, asking, gone, as_given, direction_at, ways, world_of}
 use Rattle.sail_core.specs.Program.{nearest, below, measured, answered, framed, entering, entered, deeper, calls, event_of}
@@ -88,11 +88,12 @@ module _ {X : Type 0} (s : Setting X) where
       (z.val x) then λ y. gives (z.val y))
 
   entering_flat : (i : ℕ) (f : Function) (awaited : Awaited) (vs : List Value) (p q : Making X → Givens → List X → Run X Value)
-      → ((nu : Givens) (xs : List X) → p (s.sizing.function i nu) nu xs ≡ q (s.sizing.function i nu) nu xs)
+      → ((nu : Givens) (xs : List X) → p (s.sizing.function i (place_of awaited) nu) nu xs ≡ q (s.sizing.function i (place_of awaited) nu) nu xs)
       → entering (flat_setting s) i (flat_function f) awaited vs p ≡ entering s i f awaited vs q
   entering_flat i f awaited vs p q h = λ j.
       needs (givens_of (length f.variables) f.parameters vs) then λ nu. if_so
-      (needs (s.sizing.enters i nu vs) then λ xs. framed ((s.sizing.function i nu).note f.entry (V.Tuple vs) then λ t. h nu xs j))
+      (needs (s.sizing.enters i (place_of awaited) nu vs)
+      then λ xs. framed ((s.sizing.function i (place_of awaited) nu).note f.entry (V.Tuple vs) then λ t. h nu xs j))
       stuck
       (as_awaited awaited nu)
 
@@ -103,7 +104,8 @@ module _ {X : Type 0} (s : Setting X) where
       (λ z nu xs. measured z (world_of (flat_setting s) c active nu xs) place f.cycle (option_map flat_core f.measure) active
       then λ a. answered z (world_of (flat_setting s) c a nu xs) (flat_function f))
       (λ z nu xs. measured z (world_of s c active nu xs) place f.cycle f.measure active then λ a. answered z (world_of s c a nu xs) f)
-      (λ nu xs k. measured_flat (s.sizing.function i nu) c place f active nu xs k then λ a. answered_flat (s.sizing.function i nu) c f a nu xs k) j
+      (λ nu xs k. measured_flat (s.sizing.function i (place_of awaited) nu) c place f active nu xs k
+      then λ a. answered_flat (s.sizing.function i (place_of awaited) nu) c f a nu xs k) j
 
   -- ---- calls
 
@@ -127,7 +129,7 @@ module _ {X : Type 0} (s : Setting X) where
   event_at c i awaited vs (Some f) =
       entering_flat i f awaited vs (λ z nu xs. answered z (world_of (flat_setting s) c [] nu xs) (flat_function f))
       (λ z nu xs. answered z (world_of s c [] nu xs) f)
-      (λ nu xs. answered_flat (s.sizing.function i nu) c f [] nu xs)
+      (λ nu xs. answered_flat (s.sizing.function i (place_of awaited) nu) c f [] nu xs)
 
   pub event_flat : (depth : ℕ) (i : ℕ) (awaited : Awaited) (vs : List Value)
       → event_of (flat_setting s) (calls (flat_setting s) depth) i awaited vs (slice_get (map flat_function s.functions) i)

@@ -34,7 +34,7 @@ pub record Making (X : Type 0) : Type 0 where
   -- what the node of this number makes of its operands: this value; and the numbers of opened variables that the value gives there
   pub make : ℕ → List X → Value → Run X X
   pub note : ℕ → Value → Run X (Unit {0})
-  -- the numbers for which the node of this number calls a function
+  -- the instance of a function that the node of this number calls
   pub calls : ℕ → List X → Run X Awaited
   -- a piece behind which nothing is opened that it opened; and a moment at which only that is opened which was at an earlier one
   pub inside : Run X X → Run X X
@@ -63,7 +63,7 @@ pub record World (X : Type 0) : Type 0 where
   pub arguments : List X
   -- the values of the names that top-level lets bound
   pub lets : List Value
-  -- a call of a function at a place, for these numbers; and a direction of a mapping that a call enters, of which its tick is no
+  -- a call of a function at a place, of this instance; and a direction of a mapping that a call enters, of which its tick is no
   -- part: it says No where no clause fits
   pub call : Place → ℕ → Awaited → List Value → Run X Value
   pub enter : ℕ → Value → Run X Value

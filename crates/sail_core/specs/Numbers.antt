@@ -80,9 +80,18 @@ known_truth nu = fold-Con (Option Bool) (known_form nu)
 
 -- ---- a function under the numbers of an instance
 
--- the numbers for which a function is called, where the reading says which
+-- the instance that a call awaits: its place in the list of a reading, and its numbers
+pub record Instance : Type 0 where
+  pub place : ℕ
+  pub numbers : List (Option Given)
+
+-- none where the reading doesn't say which
 abbrev pub Awaited : Type 0
-Awaited = Option (List (Option Given))
+Awaited = Option Instance
+
+abbrev pub place_of : Awaited → ℕ
+place_of None = 0
+place_of (Some x) = x.place
 
 abbrev pub same_given : Given → Given → Bool
 same_given (an_int x) (an_int y) = int_eq x y
@@ -101,4 +110,4 @@ all_agree xs ys = false
 -- whether the numbers are those that were awaited
 abbrev pub as_awaited : Awaited → Givens → Bool
 as_awaited None nu = true
-as_awaited (Some xs) nu = all_agree xs nu
+as_awaited (Some x) nu = all_agree x.numbers nu

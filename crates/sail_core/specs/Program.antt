@@ -8,15 +8,15 @@ use Rattle.sail_core.specs.declared.tree.Core.{Core}
 use Rattle.sail_core.specs.declared.model.Function.{Function}
 use Rattle.sail_core.specs.declared.model.Direction.{Direction}
 use Rattle.sail_core.specs.Run.{Run, gives, stuck, stops, needs, if_so, apart, returned, tick, ◌then◌, ◌or_else◌}
-use Rattle.sail_core.specs.Numbers.{Givens, Awaited, givens_of, as_awaited}
+use Rattle.sail_core.specs.Numbers.{Givens, Awaited, givens_of, as_awaited, place_of}
 use Rattle.sail_core.specs.Making.{Making, World, plainly, made, natural}
 use Rattle.sail_core.specs.Meaning.{meaning}
 
--- how each definition is read: a function for these numbers, where it may be called so, with its arguments as they come in; a
--- direction of a mapping, likewise; and what is worked out once
+-- how each definition is read: the instance of a function at this place of the reading's list, for these numbers, where it may be
+-- called so, with its arguments as they come in; a direction of a mapping, likewise; and what is worked out once
 pub record Sizing (X : Type 0) : Type 0 where
-  pub function : ℕ → Givens → Making X
-  pub enters : ℕ → Givens → List Value → Option (List X)
+  pub function : ℕ → ℕ → Givens → Making X
+  pub enters : ℕ → ℕ → Givens → List Value → Option (List X)
   pub direction : ℕ → Making X
   pub takes : ℕ → Value → Option X
   pub opening : ℕ → Making X
@@ -24,8 +24,8 @@ pub record Sizing (X : Type 0) : Type 0 where
 -- each value stands for itself everywhere
 abbrev pub plain : Sizing Value
 plain = record {
-  function = λ i nu. plainly;
-  enters = λ i nu vs. Some vs;
+  function = λ i place nu. plainly;
+  enters = λ i place nu vs. Some vs;
   direction = λ d. plainly;
   takes = λ d v. Some v;
   opening = λ i. plainly;
@@ -120,8 +120,9 @@ framed body now = returned (apart body now)
 abbrev pub entering : {X : Type 0} → Setting X → ℕ → Function → Awaited → List Value → (Making X → Givens → List X → Run X Value) → Run X Value
 entering s i f awaited vs piece =
     needs (givens_of (length f.variables) f.parameters vs) then λ nu. if_so
-    (needs (s.sizing.enters i nu vs)
-    then λ xs. framed ((s.sizing.function i nu).note f.entry (V.Tuple vs) then λ t. piece (s.sizing.function i nu) nu xs))
+    (needs (s.sizing.enters i (place_of awaited) nu vs)
+    then λ xs. framed ((s.sizing.function i (place_of awaited) nu).note f.entry (V.Tuple vs)
+    then λ t. piece (s.sizing.function i (place_of awaited) nu) nu xs))
     stuck
     (as_awaited awaited nu)
 
