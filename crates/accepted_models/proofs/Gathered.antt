@@ -44,7 +44,3 @@ whole_fine (D.ScatteredUnion place name variables) own h f = refl
 whole_fine (D.ScatteredFunction place name) own h f = clauses_fine own f
 whole_fine (D.ScatteredMapping place name) own h f = crossings_fine own f
 whole_fine d own h f = h
-
--- ---- the gathered text
-
-)

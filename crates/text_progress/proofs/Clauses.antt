@@ -126,14 +126,6 @@ ClauseStands here params answer arm body =
     → (n : ℕ) × (new : List Local) × ArmBinds n (reach_of here.setting registers c []) w params new arm
     × HasShape w (Going.under (reach_of here.setting registers c []) new) answer body
 
-}
-  where
-    none_some : {A B : Type 0} {x : A} → None ≡ Some x → B
-    none_some e = absurd (empty e)
-      where
-        empty : {A : Type 0} {x : A} → None ≡ Some x → ⊥
-        empty e = cc
-
 clause_stands : (here : Position) → AreKnown here.setting here.names → (place : Place) (params : List Shape)
     → all_counted here.setting.types params ≡ true → (ps : List Pat) → parameters_failures here.names ps ≡ [] → AllConverting here ps
     → (at_body : Place) (el : Elaborate) (answer : Shape) (n : ℕ) → below n answer ≡ true
