@@ -42,7 +42,8 @@ use Rattle.shape_rules.specs.Patterns.{Looked, Widths, look}
 use Rattle.shape_rules.specs.Sides.{gives, read_side, width_given}
 use Rattle.shape_rules.specs.Statements.{guard_faults, guarded_core}
 use Rattle.shape_clauses.specs.Clauses.{Claused, clauses_arms, clauses_bodies, clauses_core, clauses_faults}
-use Rattle.shape_clauses.specs.Mappings.{backwards_clauses, both_faults, direction_core, direction_looked, forwards_clauses, guard_part}
+use Rattle.shape_clauses.specs.Mappings.{backwards_clauses, backwards_core, behind_forwards, both_faults, direction_looked, forwards_clauses, forwards_core}
+use Rattle.shape_clauses.specs.Mappings.{guard_part}
 use Rattle.shape_meanings.specs.Whole.{Choice, below}
 use Rattle.shape_meanings.specs.Trees.{pattern_written, side_written}
 use Rattle.shape_meanings.specs.Counted.{counted}
@@ -302,17 +303,17 @@ way_crosses setting names known from to d n whole counts (c ∷ cs) named e =
 abbrev way_of : (MappingClause → Side) → (MappingClause → Side) → Typ → Typ → List MappingClause → Direction
 way_of from to takes given cs = record { takes = takes; gives = given; clauses = map (λ c. crossing (from c) (to c)) cs }
 
-way_right : (setting : Setting) (names : Tables.Setting) (place : Place) (from to : MappingClause → Side) (takes given : Typ) (cs : List MappingClause) (n : ℕ)
-    → setting.answer ≡ None → AreKnown setting names → below n (shape given) ≡ true → counted setting.types (shape takes) ≡ true
+way_right : (setting : Setting) (names : Tables.Setting) (place : Place) (from to : MappingClause → Side) (takes given : Typ) (cs : List MappingClause)
+    (n next : ℕ) → setting.answer ≡ None → AreKnown setting names → below n (shape given) ≡ true → counted setting.types (shape takes) ≡ true
     → AllNamed names from to cs
     → clauses_faults (way_claused (answering None setting) setting from to (way_of from to takes given cs) cs) ≡ []
-    → DirectionIs setting (numbered (clauses_core place (way_claused (answering None setting) setting from to (way_of from to takes given cs) cs)) 0).it
+    → DirectionIs setting (numbered (clauses_core place (way_claused (answering None setting) setting from to (way_of from to takes given cs) cs)) next).it
     (way_of from to takes given cs)
-way_right setting names place from to takes given cs n none known whole counts named =
+way_right setting names place from to takes given cs n next none known whole counts named =
     let d : Direction = way_of from to takes given cs in
     subst (λ (s : Setting). clauses_faults (way_claused s setting from to d cs) ≡ []
-    → BodyIs s (shape takes ∷ []) (shape given) (numbered (clauses_core place (way_claused s setting from to d cs)) 0).it (crossed d)) (alone setting none)
-    (λ e. numbered_crosses setting place d (way_claused setting setting from to d cs) 0
+    → BodyIs s (shape takes ∷ []) (shape given) (numbered (clauses_core place (way_claused s setting from to d cs)) next).it (crossed d)) (alone setting none)
+    (λ e. numbered_crosses setting place d (way_claused setting setting from to d cs) next
     (crosses setting place d (way_claused setting setting from to d cs) (way_crosses setting names known from to d n whole counts cs named e)))
 
 all_ahead : (names : Tables.Setting) (cs : List MappingClause) → CrossingsAreNamed names cs → AllNamed names (λ c. c.left) (λ c. c.right) cs
@@ -328,10 +329,11 @@ pub directions_right : (setting : Setting) (names : Tables.Setting) (place : Pla
     → counted setting.types (shape m.left) ≡ true → counted setting.types (shape m.right) ≡ true
     → below n (shape m.left) ≡ true → below n (shape m.right) ≡ true
     → CrossingsAreNamed names cs → both_faults setting m cs ≡ []
-    → DirectionIs setting (direction_core place m.name m.left m.right (forwards_clauses setting m cs)).body (forwards m cs)
-    × DirectionIs setting (direction_core place m.name m.right m.left (backwards_clauses setting m cs)).body (backwards m cs)
+    → DirectionIs setting (forwards_core setting place m cs).body (forwards m cs)
+    × DirectionIs setting (backwards_core setting place m cs).body (backwards m cs)
 directions_right setting names place m cs n none known left right left_whole right_whole named e =
     let h = both_empty (clauses_faults (forwards_clauses setting m cs)) (clauses_faults (backwards_clauses setting m cs)) e in (
-      way_right setting names place (λ c. c.left) (λ c. c.right) m.left m.right cs n none known right_whole left (all_ahead names cs named) h.0,
-      way_right setting names place (λ c. c.right) (λ c. c.left) m.right m.left cs n none known left_whole right (all_back names cs named) h.1,
+      way_right setting names place (λ c. c.left) (λ c. c.right) m.left m.right cs n 0 none known right_whole left (all_ahead names cs named) h.0,
+      way_right setting names place (λ c. c.right) (λ c. c.left) m.right m.left cs n (behind_forwards setting place m cs) none known left_whole right
+          (all_back names cs named) h.1,
     )

@@ -10,7 +10,7 @@ use Rattle.sail_names.specs.Known as Tables
 use Rattle.sail_names.specs.Clauses.{mapping_clause_failures}
 use Rattle.shape_rules.specs.declared.callees.Mapping.{Mapping}
 use Rattle.shape_rules.specs.Scopes.{Setting}
-use Rattle.shape_clauses.specs.Mappings.{backwards_clauses, both_faults, direction_core, forwards_clauses}
+use Rattle.shape_clauses.specs.Mappings.{backwards_core, both_faults, forwards_core}
 use Rattle.shape_meanings.specs.Whole.{below}
 use Rattle.shape_meanings.specs.Trees.{written, pattern_written, side_written}
 use Rattle.shape_meanings.specs.Counted.{counted}
@@ -52,5 +52,5 @@ DirectionsAreRight =
     → counted setting.types (shape m.left) ≡ true → counted setting.types (shape m.right) ≡ true
     → below n (shape m.left) ≡ true → below n (shape m.right) ≡ true
     → CrossingsAreNamed names cs → both_faults setting m cs ≡ []
-    → DirectionIs setting (direction_core place m.name m.left m.right (forwards_clauses setting m cs)).body (forwards m cs)
-    × DirectionIs setting (direction_core place m.name m.right m.left (backwards_clauses setting m cs)).body (backwards m cs)
+    → DirectionIs setting (forwards_core setting place m cs).body (forwards m cs)
+    × DirectionIs setting (backwards_core setting place m cs).body (backwards m cs)

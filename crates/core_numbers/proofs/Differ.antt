@@ -125,3 +125,11 @@ core_runs = ind-Core CoreRuns (λ c y is. subst (λ d. CoreRuns (roll-Core d)) i
 pub numbers_differ : (c : Core) (n : ℕ) → AllDiffer (numbers (numbered c n).it)
 unfolding CoreRuns
 numbers_differ c n = differ (numbers (numbered c n).it) n (numbered c n).next (core_runs c n)
+
+-- and so do those of two trees of which one is numbered behind the other
+pub both_differ : (c d : Core) (n : ℕ) → AllDiffer (numbers (numbered c n).it ++ numbers (numbered d (numbered c n).next).it)
+unfolding CoreRuns
+both_differ c d n =
+    differ (numbers (numbered c n).it ++ numbers (numbered d (numbered c n).next).it) n (numbered d (numbered c n).next).next
+    (runs_behind (numbers (numbered c n).it) (numbers (numbered d (numbered c n).next).it) n (numbered c n).next (numbered d (numbered c n).next).next
+    (core_runs c n) (core_runs d (numbered c n).next))

@@ -2,5 +2,6 @@
 pub mod Clauses
 pub mod Functions
 pub mod Mappings
+pub mod Laws
 -- what the contracts of private functions say
 pub mod Parts

@@ -26,7 +26,7 @@ use Rattle.shape_rules.specs.Expressions.{part}
 use Rattle.shape_rules.specs.Sides.{read_side, gives, width_given}
 use Rattle.shape_models.specs.Models.{Tabled, within_variables, mapping_of}
 use Rattle.shape_declarations.specs.Failures.{sides_faults}
-use Rattle.shape_clauses.specs.Clauses.{Claused, clauses_arms, clauses_bodies, core_of, clauses_faults}
+use Rattle.shape_clauses.specs.Clauses.{Claused, clauses_arms, clauses_bodies, clauses_core, core_of, clauses_faults}
 
 -- ---- clauses
 
@@ -83,22 +83,32 @@ mapping_faults tabled setting d = []
 
 -- ---- the cores of both directions
 
-abbrev pub direction_at : Place → List ℕ → Typ → Typ → List Arm → List Core → Direction
-direction_at place name from to arms bodies = record {
+-- the next number is that of its first node
+abbrev pub direction_at : Place → List ℕ → Typ → Typ → List Arm → List Core → ℕ → Direction
+direction_at place name from to arms bodies next = record {
   place = place;
   name = name;
   parameter = from;
   result = to;
-  body = (numbered (core_of place arms bodies) 0).it;
+  body = (numbered (core_of place arms bodies) next).it;
 }
 
-abbrev pub direction_core : Place → List ℕ → Typ → Typ → List Claused → Direction
-direction_core place name from to cs = direction_at place name from to (clauses_arms cs) (clauses_bodies cs)
+abbrev pub direction_core : Place → List ℕ → Typ → Typ → List Claused → ℕ → Direction
+direction_core place name from to cs next = direction_at place name from to (clauses_arms cs) (clauses_bodies cs) next
+
+-- a mapping is one definition: the forwards direction is numbered first, then the backwards one
+abbrev pub forwards_core : Setting → Place → Mapping → List MappingClause → Direction
+forwards_core setting place m cs = direction_core place m.name m.left m.right (forwards_clauses setting m cs) 0
+
+abbrev pub behind_forwards : Setting → Place → Mapping → List MappingClause → ℕ
+behind_forwards setting place m cs = (numbered (clauses_core place (forwards_clauses setting m cs)) 0).next
+
+abbrev pub backwards_core : Setting → Place → Mapping → List MappingClause → Direction
+backwards_core setting place m cs =
+    direction_core place m.name m.right m.left (backwards_clauses setting m cs) (behind_forwards setting place m cs)
 
 abbrev pub both_directions : Setting → Place → Mapping → List MappingClause → List Direction
-both_directions setting place m cs =
-    direction_core place m.name m.left m.right (forwards_clauses setting m cs)
-    ∷ direction_core place m.name m.right m.left (backwards_clauses setting m cs) ∷ []
+both_directions setting place m cs = forwards_core setting place m cs ∷ backwards_core setting place m cs ∷ []
 
 abbrev pub directions_if : Setting → Place → List ℕ → List MappingClause → Option Signature → List Direction
 directions_if setting place name cs None = []

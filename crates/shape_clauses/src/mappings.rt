@@ -1,10 +1,12 @@
 //! Mappings, in both directions.
 ghost use Rattle.std.specs.Prelude.{◌≡◌, [], map, ◌++◌, IfOk, OnOk};
+ghost use Rattle.core_numbers.specs.Numbers.{numbered};
 ghost use Rattle.shape_rules.specs.Around.{setting_of};
 ghost use Rattle.shape_rules.specs.Findings.{first_failure};
 ghost use Rattle.shape_rules.specs.Written.{joined};
 ghost use Rattle.shape_models.specs.Models.{mapping_of, within_variables};
 ghost use Rattle.shape_models.specs.Sources.{tabled_by, IsSound};
+ghost use Rattle.shape_clauses.specs.Clauses.{core_of};
 ghost use Rattle.shape_clauses.specs.Mappings.{both_faults, directions_faults, mapping_faults};
 ghost use Rattle.shape_clauses.specs.Mappings.{direction_at, both_directions, directions_if, directions_of};
 
@@ -37,7 +39,7 @@ fn mapping(alloc: Global, name: &Text, signature: &Signature) -> Result<Mapping,
     })
 }
 
-/// A direction of a mapping, from one type to another.
+/// A direction of a mapping, from one type to another, numbered from the next number on; what comes next then stands behind it.
 fn direction(
     alloc: Global,
     place: Place,
@@ -45,14 +47,15 @@ fn direction(
     from: &Typ,
     to: &Typ,
     clauses: Clauses,
+    next: &mut u32,
 ) -> Result<Direction, AllocError>
-    ensures { IfOk result (λ made. made ≡ direction_at place name.now from.now to.now clauses.arms clauses.bodies) }
+    ensures made { IfOk result (λ made. made ≡ direction_at place name.now from.now to.now clauses.arms clauses.bodies next.old) }
+    ensures next { OnOk result (next.new ≡ (numbered (core_of place clauses.arms clauses.bodies) next.old).next) }
 {
     let name = name.clone()?;
     let parameter = copy_typ(alloc, from)?;
     let result = copy_typ(alloc, to)?;
-    let mut next = 0;
-    let body = number_nodes(alloc, clauses.into_core(place), &mut next)?;
+    let body = number_nodes(alloc, clauses.into_core(place), next)?;
     Ok(Direction {
         place,
         name,
@@ -84,10 +87,13 @@ fn push_directions(
         right,
         ..
     } = mapping;
+    let mut next = 0;
     let forwards = forwards_clauses(alloc, around, mapping, clauses, first)?;
-    directions.push(direction(alloc, place, name, left, right, forwards)?)?;
+    let forwards = direction(alloc, place, name, left, right, forwards, &mut next)?;
+    directions.push(forwards)?;
     let backwards = backwards_clauses(alloc, around, mapping, clauses, first)?;
-    directions.push(direction(alloc, place, name, right, left, backwards)?)
+    let backwards = direction(alloc, place, name, right, left, backwards, &mut next)?;
+    directions.push(backwards)
 }
 
 /// Likewise where a mapping may have a signature.

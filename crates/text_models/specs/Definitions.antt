@@ -17,7 +17,7 @@ use Rattle.shape_rules.specs.Calls.{param_shapes}
 use Rattle.shape_rules.specs.Scopes.{Setting}
 use Rattle.shape_models.specs.Models.{Tabled, mapping_of, params_variables, place_in_table, type_variables}
 use Rattle.shape_clauses.specs.Functions.{function_in}
-use Rattle.shape_clauses.specs.Mappings.{backwards_clauses, direction_core, forwards_clauses}
+use Rattle.shape_clauses.specs.Mappings.{backwards_core, forwards_core}
 use Rattle.shape_meanings.specs.Whole.{all_below, below, closed}
 use Rattle.shape_meanings.specs.Worlds.{is_payload}
 use Rattle.shape_meanings.specs.Models.{DirectionIs}
@@ -52,10 +52,8 @@ pub record MappingOf (types : Types) (setting : Setting) (place : Place) (name :
   pub no_backwards : constructor_named types (name ++ codes "_backwards") ≡ None
   pub left : closed (shape s.from) ≡ true
   pub right : closed (shape s.to) ≡ true
-  pub ahead : DirectionIs setting (direction_core place name s.from s.to (forwards_clauses setting (mapping_of name 0 s) cs)).body
-      (forwards (mapping_of name 0 s) cs)
-  pub back : DirectionIs setting (direction_core place name s.to s.from (backwards_clauses setting (mapping_of name 0 s) cs)).body
-      (backwards (mapping_of name 0 s) cs)
+  pub ahead : DirectionIs setting (forwards_core setting place (mapping_of name 0 s) cs).body (forwards (mapping_of name 0 s) cs)
+  pub back : DirectionIs setting (backwards_core setting place (mapping_of name 0 s) cs).body (backwards (mapping_of name 0 s) cs)
 
 -- a definition: the tables give each function and mapping a signature
 abbrev pub DefinitionIs : Tabled → List Def → (List Variable → Setting) → (List ℕ → Option ℕ) → Def → Type 0

@@ -46,8 +46,8 @@ use Rattle.shape_models.specs.Models.{Own, Tabled, exception_in, mapping_of, ove
 use Rattle.shape_declarations.specs.Failures.{sides_faults, types_faults}
 use Rattle.shape_clauses.specs.Clauses.{clauses_core}
 use Rattle.shape_clauses.specs.Functions.{called_faults}
-use Rattle.shape_clauses.specs.Mappings.{backwards_clauses, both_faults, direction_core, directions_faults, directions_if, directions_of, forwards_clauses}
-use Rattle.shape_clauses.specs.Mappings.{mapping_faults}
+use Rattle.shape_clauses.specs.Mappings.{backwards_clauses, backwards_core, behind_forwards, both_faults, directions_faults, directions_if, directions_of}
+use Rattle.shape_clauses.specs.Mappings.{forwards_clauses, forwards_core, mapping_faults}
 use Rattle.shape_meanings.specs.Keeping.{Fits, Reach, reach_of}
 use Rattle.shape_meanings.specs.Naming.{AreKnown}
 use Rattle.shape_meanings.specs.Whole.{Choice, all_below, all_of}
@@ -221,11 +221,11 @@ module _ (text : List Def) (cycle : List ℕ → Option ℕ) (clear : NothingFai
           slots = [];
         }) (sym (same_thrown (exception_in (tabled_of text))))
 
-        one : (i : ℕ) (takes gives : Typ) (core : Core) → DirectionStands here takes gives core → WaysBelow text rank (rank i) ranked.converts
+        one : (i : ℕ) (takes gives : Typ) (core : Core) (next : ℕ) → DirectionStands here takes gives core → WaysBelow text rank (rank i) ranked.converts
             → ((nu : Givens) → typ_given nu gives ≡ true) → (w : World Value) → Around common m rank (rank i) w → (c : Choice) (v : Value)
             → w.arguments ≡ v ∷ [] → Fits common.types c (shape takes) v
-            → (n : ℕ) × IsShaped n w (reach_in common None c []) (shape gives) (numbered core 0).it
-        one i takes gives core stands ways gives_given w around c v arguments fit =
+            → (n : ℕ) × IsShaped n w (reach_in common None c []) (shape gives) (numbered core next).it
+        one i takes gives core next stands ways gives_given w around c v arguments fit =
             let inside : Inside here common.registers c w =
             body_inside text cycle known typed rank (rank i) c w around [] None (names_at at name) ranked.converts are whole
             (given (names_at at name) (record { known = refl; within = same_within }) ranked.converts w)
@@ -235,16 +235,17 @@ module _ (text : List Def) (cycle : List ℕ → Option ℕ) (clear : NothingFai
             (sides_are_given text clear kept is_written w.numbers (reads w.numbers) None (names_at at name) ranked.converts) (gives_given w.numbers) v
             arguments fit in (
               it.0,
-              shaped_numbered it.0 w (reach_in common None c []) (shape gives) core 0
+              shaped_numbered it.0 w (reach_in common None c []) (shape gives) core next
                   (subst (λ (r : Reach). IsShaped it.0 w r (shape gives) core) (same_reach c) it.1),
             )
 
-        both : Body (2 * k) (direction_core place name s.from s.to (forwards_clauses setting (mapping_of name 0 s) cs))
-            × Body (suc (2 * k)) (direction_core place name s.to s.from (backwards_clauses setting (mapping_of name 0 s) cs))
+        both : Body (2 * k) (forwards_core setting place (mapping_of name 0 s) cs)
+            × Body (suc (2 * k)) (backwards_core setting place (mapping_of name 0 s) cs)
         both = (
-          one (2 * k) s.from s.to (clauses_core place (forwards_clauses setting (mapping_of name 0 s) cs)) stand.0 ranked.ahead
+          one (2 * k) s.from s.to (clauses_core place (forwards_clauses setting (mapping_of name 0 s) cs)) 0 stand.0 ranked.ahead
               (λ nu. (mapping_typed text clear kept is_written nu (reads nu) name s signed plain).1),
-          one (suc (2 * k)) s.to s.from (clauses_core place (backwards_clauses setting (mapping_of name 0 s) cs)) stand.1 ranked.back
+          one (suc (2 * k)) s.to s.from (clauses_core place (backwards_clauses setting (mapping_of name 0 s) cs))
+              (behind_forwards setting place (mapping_of name 0 s) cs) stand.1 ranked.back
               (λ nu. (mapping_typed text clear kept is_written nu (reads nu) name s signed plain).0),
         )
 

@@ -35,7 +35,7 @@ use Rattle.shape_models.specs.Models as Shapes
 use Rattle.shape_models.specs.Models.{Tabled, counts_with, def_entries, entries, entries_from, function_candidate, mapping_of, meant_in, no_counts}
 use Rattle.shape_models.specs.Models.{params_variables, place_in_table, setting_of, type_variables, within_variables}
 use Rattle.shape_clauses.specs.Functions.{function_in, functions_if, functions_of}
-use Rattle.shape_clauses.specs.Mappings.{backwards_clauses, direction_core, directions_if, directions_of, forwards_clauses}
+use Rattle.shape_clauses.specs.Mappings.{backwards_core, directions_if, directions_of, forwards_core}
 use Rattle.shape_meanings.specs.Whole.{below, below_form, closed}
 use Rattle.shape_meanings.specs.Worlds.{variables_from}
 use Rattle.shape_progress.specs.PatternRules.{IsEnum, IsUnion}
@@ -239,10 +239,10 @@ module _ (tabled : Tabled) (cycle : List ℕ → Option ℕ) (text : List Def) (
   )
     where
       ahead_core : CoreDirection
-      ahead_core = direction_core place name s.from s.to (forwards_clauses setting (mapping_of name 0 s) cs)
+      ahead_core = forwards_core setting place (mapping_of name 0 s) cs
 
       back_core : CoreDirection
-      back_core = direction_core place name s.to s.from (backwards_clauses setting (mapping_of name 0 s) cs)
+      back_core = backwards_core setting place (mapping_of name 0 s) cs
 
       ahead : DirectionIn core (2 * n) (shape s.from) (shape s.to)
       ahead = record {
@@ -317,8 +317,7 @@ module _ (tabled : Tabled) (cycle : List ℕ → Option ℕ) (text : List Def) (
       → length (db ++ directions_for d) ≡ (2 * (counts_with counts d).mappings)
   directions_counted (D.Mapping place name sides cs) counts db h is =
       ap (λ o. length (db ++ directions_if setting place name.text cs o)) is.1
-      ∙ two_more db (direction_core place name.text is.0.from is.0.to (forwards_clauses setting (mapping_of name.text 0 is.0) cs))
-      (direction_core place name.text is.0.to is.0.from (backwards_clauses setting (mapping_of name.text 0 is.0) cs))
+      ∙ two_more db (forwards_core setting place (mapping_of name.text 0 is.0) cs) (backwards_core setting place (mapping_of name.text 0 is.0) cs)
       ∙ next_pair (length db) counts.mappings h
   directions_counted d counts db h is = none_more db ∙ h
 
