@@ -20,7 +20,13 @@ use shape_values::{
 use shape_walks::Head;
 use std::alloc::{AllocError, Global};
 
-/// The shape and the core of an expression.
+/// The shape and the core of an expression, where a shape is wanted (`Never`, where none is); notes its failures. The names in scope are
+/// the same behind it as before it (Sail language manual, "Expressions").
+///
+/// A failure is a form of another shape than is wanted, or that has none (M14), a mapping whose sides may share values (M13), a wrong
+/// count of arguments or fields (M15), operands that no member of an operator or an overload takes (M16), a variable in a written type
+/// that gets no number (M17), and a second part of unknown width in a pattern (M18). The one error is want of memory, of which a number
+/// past those of 128 bits is taken to want too much.
 pub fn elaborate(
     alloc: Global,
     expression: &Exp,

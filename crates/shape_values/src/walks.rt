@@ -48,7 +48,8 @@ pub(crate) fn push_one<
     take_noted(alloc, walk, made, apart, first)
 }
 
-/// Parts more of a walk.
+/// Parts more of a walk: each is elaborated where the walk wants its shape, and its failures are noted in order. The one error is want
+/// of memory.
 #[tactic(auto, using(shape_rules::proofs::Firsts::first_failure_append))]
 pub fn push_all<
     F: Fn(Global, &Exp, &Around<'_>, &mut Locals, &Shape, &mut First) -> Result<Made, AllocError>,
@@ -73,7 +74,8 @@ pub fn push_all<
     Ok(walk)
 }
 
-/// A form over two lists of expressions, one behind the other.
+/// A form over two lists of expressions, one behind the other; with none the head alone, and where their count is wrong a failure of
+/// that (M15). The one error is want of memory.
 #[tactic(auto, using(shape_walks::proofs::Listed::listed_is, shape_walks::proofs::Listed::listed_refused, shape_walks::proofs::Listed::listed_bare, shape_rules::proofs::Firsts::first_failure_append))]
 pub fn listed<
     F: Fn(Global, &Exp, &Around<'_>, &mut Locals, &Shape, &mut First) -> Result<Made, AllocError>,
