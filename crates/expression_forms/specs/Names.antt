@@ -43,11 +43,14 @@ named_opened place name r = bind (sized_by place r) (λ t. opened_for (M.Named n
 abbrev pub named_read : Place → ℕ → List ℕ → Reading → Walk Indices
 named_read place k name r = bind (node_made k [] (Makes.ByType r)) (λ t. named_opened place name r)
 
--- a name in scope
-abbrev pub held_walk : Place → ℕ → List ℕ → Option Held → Walk Indices
-held_walk place k name None = wrong_value place
-held_walk place k name (Some (H.Value i)) = node_ended k (i ∷ []) i
-held_walk place k name (Some (H.Var r)) = named_read place k name r
+-- a name in scope: of a `let`, and of a `var`
+abbrev pub local_walk : Place → ℕ → Option Held → Walk Indices
+local_walk place k (Some (H.Value i)) = node_ended k (i ∷ []) i
+local_walk place k held = wrong_value place
+
+abbrev pub variable_walk : Place → ℕ → List ℕ → Option Held → Walk Indices
+variable_walk place k name (Some (H.Var r)) = named_read place k name r
+variable_walk place k name held = wrong_value place
 
 -- the type of a top-level `let` where it is read: a number of a type that is found names the `let`'s own variables, unless it is constant,
 -- and is any number elsewhere; a type that is written names none

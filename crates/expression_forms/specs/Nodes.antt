@@ -7,19 +7,24 @@ use Rattle.value_indices.specs.declared.indices.Indices.TheOpen.{Reading-F}
 use Rattle.value_indices.specs.declared.indices.Reading.{Reading, out-Reading}
 use Rattle.value_indices.specs.declared.notes.Made.{Made}
 use Rattle.value_indices.specs.declared.notes.Made.TheVariants as Makes
-use Rattle.call_arguments.specs.Aims.{wanted}
 use Rattle.call_arguments.specs.declared.aims.Aim.{Aim}
+use Rattle.call_arguments.specs.declared.aims.Aim.TheVariants as Aims
 use Rattle.call_notes.specs.Noted.{node_given, node_made, numbers_noted}
 
 -- ---- the end of a branch or a body, and what is bound, matched, thrown or returned
 
--- a value of the type that is wanted, and else what it is
+-- the type that the expression owes itself: what stands behind it knows the type alone
+abbrev pub owed_type : Aim → Option Reading
+owed_type (Aims.Due r) = Some r
+owed_type aim = None
+
+-- a value of that type, and else what it is
 abbrev pub made_for : Option Reading → Indices → Made
 made_for None i = Makes.ByIndices i
 made_for (Some r) i = Makes.ByType r
 
 abbrev pub cast_ended : ℕ → Aim → Indices → Walk Indices
-cast_ended k aim i = bind (node_made k (i ∷ []) (made_for (wanted aim) i)) (λ t. give i)
+cast_ended k aim i = bind (node_made k (i ∷ []) (made_for (owed_type aim) i)) (λ t. give i)
 
 -- with the numbers that it gives
 abbrev pub cast_given : ℕ → Aim → Indices → Walk Indices

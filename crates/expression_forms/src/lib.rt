@@ -17,7 +17,7 @@ mod truths;
 mod ways;
 
 pub use meeting::{first_way, like_first, met_ways, thrown};
-pub use names::{literal_indices, read_held, read_register, read_top_level};
+pub use names::{literal_indices, read_local, read_register, read_top_level, read_variable};
 pub use nodes::{cast_ended, cast_given};
 pub use pending::{Left, Wrote};
 pub use scopes::{Scope, look_up};

@@ -92,9 +92,32 @@ fn value_read(
     node_ended(alloc, walking, number, std::slice::from_ref(value), read)
 }
 
-/// A name in scope, by what it is, as the node of a number reads it. It fails where memory is wanting, and where variables are too many.
+/// The name of a `let` in scope, as the node of a number reads it; what no `let` has bound owes what is false. It fails where memory is
+/// wanting.
 #[tactic(auto, using(value_indices::proofs::Walks::walks))]
-pub fn read_held(
+pub fn read_local(
+    alloc: Global,
+    walking: &mut Walking,
+    place: Place,
+    number: u32,
+    held: Option<&Held>,
+) -> Result<Indices, AllocError>
+    ensures value { IfOk result (λ made. made
+        ≡ walk.got (names.local_walk place number (option_copied held.entry)) (walk.seen walking.old)) }
+    ensures walked { OnOk result (walk.seen walking.new
+        ≡ walk.run (names.local_walk place number (option_copied held.entry)) (walk.seen walking.old)) }
+{
+    match held {
+        None => wrong_value(alloc, walking, place),
+        Some(Held::Value(value)) => value_read(alloc, walking, number, value),
+        Some(Held::Var(_)) => wrong_value(alloc, walking, place),
+    }
+}
+
+/// The name of a `var` in scope, as the node of a number reads it; what no `var` has declared owes what is false. It fails where memory is
+/// wanting, and where variables are too many.
+#[tactic(auto, using(value_indices::proofs::Walks::walks))]
+pub fn read_variable(
     alloc: Global,
     walking: &mut Walking,
     place: Place,
@@ -103,13 +126,13 @@ pub fn read_held(
     held: Option<&Held>,
 ) -> Result<Indices, AllocError>
     ensures value { IfOk result (λ made. made
-        ≡ walk.got (names.held_walk place number name.now (option_copied held.entry)) (walk.seen walking.old)) }
+        ≡ walk.got (names.variable_walk place number name.now (option_copied held.entry)) (walk.seen walking.old)) }
     ensures walked { OnOk result (walk.seen walking.new
-        ≡ walk.run (names.held_walk place number name.now (option_copied held.entry)) (walk.seen walking.old)) }
+        ≡ walk.run (names.variable_walk place number name.now (option_copied held.entry)) (walk.seen walking.old)) }
 {
     match held {
         None => wrong_value(alloc, walking, place),
-        Some(Held::Value(value)) => value_read(alloc, walking, number, value),
+        Some(Held::Value(_)) => wrong_value(alloc, walking, place),
         Some(Held::Var(reading)) => named_read(alloc, walking, place, number, name, reading),
     }
 }

@@ -10,19 +10,29 @@ use call_notes::{Aim, made_by_type, made_by_value, node_given, note_numbers};
 use std::alloc::{AllocError, Global};
 use value_indices::{Indices, Reading, Walking};
 
-/// Notes that the node of a number makes a value of the type that is wanted, and else of these indices. It fails where memory is wanting.
+/// The type that an expression owes itself; none where nothing is wanted, or where the form around it owes that.
+fn owed_type(aim: &Aim) -> Option<&Reading>
+    ensures { option_copied result ≡ nodes.owed_type aim.now }
+{
+    match aim {
+        Aim::Due(reading) => Some(reading),
+        _ => None,
+    }
+}
+
+/// Notes that the node of a number makes a value of the type that is owed there, and else of these indices. It fails where memory is wanting.
 fn made_for(
     alloc: Global,
     walking: &mut Walking,
     number: u32,
-    wanted: Option<&Reading>,
+    owed: Option<&Reading>,
     value: &Indices,
 ) -> Result<(), AllocError>
     ensures { OnOk result (walk.seen walking.new ≡ walk.run (noted.node_made number (value.now ∷ [])
-        (nodes.made_for (option_copied wanted.entry) value.now)) (walk.seen walking.old)) }
+        (nodes.made_for (option_copied owed.entry) value.now)) (walk.seen walking.old)) }
 {
     let operands = std::slice::from_ref(value);
-    match wanted {
+    match owed {
         None => made_by_value(alloc, walking, number, operands, value),
         Some(reading) => made_by_type(alloc, walking, number, operands, reading),
     }
@@ -40,7 +50,7 @@ pub fn cast_ended(
     ensures value { IfOk result (λ made. made ≡ walk.got (nodes.cast_ended number aim.now value) (walk.seen walking.old)) }
     ensures walked { OnOk result (walk.seen walking.new ≡ walk.run (nodes.cast_ended number aim.now value) (walk.seen walking.old)) }
 {
-    made_for(alloc, walking, number, aim.wanted(), &value)?;
+    made_for(alloc, walking, number, owed_type(aim), &value)?;
     Ok(value)
 }
 

@@ -20,7 +20,7 @@ use Rattle.call_notes.specs.Calls.{part_owed}
 use Rattle.call_notes.specs.Noted.{node_ended, node_given}
 use Rattle.call_arguments.specs.declared.aims.Aim.{Aim}
 use Rattle.call_arguments.specs.declared.aims.Aim.TheVariants as Aims
-use Rattle.expression_forms.specs.Names.{held_walk, literal_indices, register_walk, top_level_walk}
+use Rattle.expression_forms.specs.Names.{literal_indices, local_walk, register_walk, top_level_walk, variable_walk}
 use Rattle.expression_forms.specs.Nodes.{cast_ended}
 use Rattle.expression_forms.specs.Sizes.{constraint_walk, size_walk}
 use Rattle.expression_steps.specs.Calls.{call_walk}
@@ -93,8 +93,8 @@ inward place k kind parts around scope aim = wrong_value place
 -- a kind that has no parts
 abbrev pub leaf_form : Place → ℕ → Kind → Around → Scope → Walk Indices
 leaf_form place k (K.Constant literal) around scope = give (literal_indices literal)
-leaf_form place k (K.Local name) around scope = held_walk place k name (held_in name scope)
-leaf_form place k (K.Variable name) around scope = held_walk place k name (held_in name scope)
+leaf_form place k (K.Local name) around scope = local_walk place k (held_in name scope)
+leaf_form place k (K.Variable name) around scope = variable_walk place k name (held_in name scope)
 leaf_form place k (K.TopLevel i) around scope = top_level_walk around.types place k (slice_get around.lets i)
 leaf_form place k (K.Register r) around scope = register_walk place k (slice_get around.registers r)
 leaf_form place k (K.SizeOf t numbers) around scope = size_walk place t numbers around

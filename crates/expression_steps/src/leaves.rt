@@ -9,7 +9,8 @@ ghost use Rattle.expression_steps.specs.Expressions as spec;
 
 use call_notes::wrong_value;
 use expression_forms::{
-    Scope, constraint, literal_indices, look_up, read_held, read_register, read_top_level, size,
+    Scope, constraint, literal_indices, look_up, read_local, read_register, read_top_level,
+    read_variable, size,
 };
 use pattern_leaves::Around;
 use sail_base::{Place, Text};
@@ -17,9 +18,9 @@ use sail_core::{Core, Kind};
 use std::alloc::{AllocError, Global};
 use value_indices::{Indices, Walking};
 
-/// A name, by what it is in scope, as the node of a number reads it. It fails where memory is wanting, and where variables are too many.
+/// The name of a `let`, as the node of a number reads it. It fails where memory is wanting.
 #[tactic(auto, using(value_indices::proofs::Walks::walks))]
-fn read_named(
+fn local(
     alloc: Global,
     walking: &mut Walking,
     scope: &Scope<'_>,
@@ -28,11 +29,35 @@ fn read_named(
     name: &Text,
 ) -> Result<Indices, AllocError>
     ensures value { IfOk result (λ made. made
-        ≡ walk.got (names.held_walk place number name.now (held_in name.now (scope_of scope.now))) (walk.seen walking.old)) }
+        ≡ walk.got (names.local_walk place number (held_in name.now (scope_of scope.now))) (walk.seen walking.old)) }
     ensures walked { OnOk result (walk.seen walking.new
-        ≡ walk.run (names.held_walk place number name.now (held_in name.now (scope_of scope.now))) (walk.seen walking.old)) }
+        ≡ walk.run (names.local_walk place number (held_in name.now (scope_of scope.now))) (walk.seen walking.old)) }
 {
-    read_held(
+    read_local(
+        alloc,
+        walking,
+        place,
+        number,
+        look_up(name.as_str(), scope),
+    )
+}
+
+/// The name of a `var`, as the node of a number reads it. It fails where memory is wanting, and where variables are too many.
+#[tactic(auto, using(value_indices::proofs::Walks::walks))]
+fn variable(
+    alloc: Global,
+    walking: &mut Walking,
+    scope: &Scope<'_>,
+    place: Place,
+    number: u32,
+    name: &Text,
+) -> Result<Indices, AllocError>
+    ensures value { IfOk result (λ made. made
+        ≡ walk.got (names.variable_walk place number name.now (held_in name.now (scope_of scope.now))) (walk.seen walking.old)) }
+    ensures walked { OnOk result (walk.seen walking.new
+        ≡ walk.run (names.variable_walk place number name.now (held_in name.now (scope_of scope.now))) (walk.seen walking.old)) }
+{
+    read_variable(
         alloc,
         walking,
         place,
@@ -64,8 +89,8 @@ pub(crate) fn leaf(
     }
     match kind {
         Kind::Constant(literal) => Ok(literal_indices(alloc, literal)),
-        Kind::Local(name) => read_named(alloc, walking, scope, place, number, name),
-        Kind::Variable(name) => read_named(alloc, walking, scope, place, number, name),
+        Kind::Local(name) => local(alloc, walking, scope, place, number, name),
+        Kind::Variable(name) => variable(alloc, walking, scope, place, number, name),
         Kind::TopLevel(index) => {
             read_top_level(
                 alloc,
