@@ -25,11 +25,11 @@ use Rattle.value_laws.proofs.Values.{questions, inner, form_asked, belongs_out, 
 
 -- ---- how many values a value has in it, with itself
 
-abbrev total : List ℕ → ℕ
+abbrev pub total : List ℕ → ℕ
 total [] = 0
 total (n ∷ ns) = n + total ns
 
-abbrev form_size : Value-F ℕ → ℕ
+abbrev pub form_size : Value-F ℕ → ℕ
 form_size (W.Vector ns) = suc (total ns)
 form_size (W.List ns) = suc (total ns)
 form_size (W.Tuple ns) = suc (total ns)
@@ -40,10 +40,10 @@ form_size v = 1
 abbrev pub size : Value → ℕ
 size = fold-Value ℕ form_size
 
-abbrev sizes : Value-F Value → Value-F ℕ
+abbrev pub sizes : Value-F Value → Value-F ℕ
 sizes w = map-Value Value ℕ size w
 
-size_is : (v : Value) → size v ≡ form_size (sizes (out-Value v))
+pub size_is : (v : Value) → size v ≡ form_size (sizes (out-Value v))
 size_is v = ap size (sym (roll-out-Value v)) ∙ fold-roll-Value ℕ form_size (out-Value v)
 
 module _ (types : Types) where
@@ -195,7 +195,7 @@ module _ (types : Types) where
     inner_told : (w : Value-F Value) (rs qs : Closeds) → form_size (sizes w) ≤ suc d → Same d rs qs → Here w rs qs → (t : Typ) → Such w rs qs t
     inner_told w rs qs le h here = ind-Typ (Such w rs qs) (λ e y is. subst (λ d. Such w rs qs (roll-Typ d)) is (typ_told w rs qs le h here y))
 
-  some_size : (x : Value-F ℕ) → form_size x ≤ 0 → ⊥
+  pub some_size : (x : Value-F ℕ) → form_size x ≤ 0 → ⊥
   some_size (W.Vector ns) le = let l : suc (total ns) ≤ 0 = le in omega arith
   some_size (W.List ns) le = let l : suc (total ns) ≤ 0 = le in omega arith
   some_size (W.Tuple ns) le = let l : suc (total ns) ≤ 0 = le in omega arith

@@ -73,7 +73,7 @@ small_count : (n : ℕ) → n ≤ 4096 → is_small (pos n) ≡ true
 unfolding largest
 small_count n le = le-leb n (2 ^ 126) (omega arith)
 
-truth_same : (b c : Bool) → beq b c ≡ true → c ≡ b
+pub truth_same : (b c : Bool) → beq b c ≡ true → c ≡ b
 truth_same true true h = refl
 truth_same true false h = no h
 truth_same false true h = no h
@@ -139,10 +139,10 @@ module _ (types : Types) (past : Positive) (own : List Closed) where
 
   -- ---- parts of types, with what their variables stand for
 
-  abbrev assignment_of : Closed → Assignment
+  abbrev pub assignment_of : Closed → Assignment
   assignment_of (reading t mu rs) = mu
 
-  abbrev readings_of : Closed → Closeds
+  abbrev pub readings_of : Closed → Closeds
   readings_of (reading t mu rs) = rs
 
   abbrev list_of : Closeds → List Closed
@@ -153,10 +153,10 @@ module _ (types : Types) (past : Positive) (own : List Closed) where
   list_back [] = refl
   list_back (c ∷ cs) = ap (λ ds. c ∷ ds) (list_back cs)
 
-  same_lists : (cs ds : List Closed) → closeds cs ≡ closeds ds → cs ≡ ds
+  pub same_lists : (cs ds : List Closed) → closeds cs ≡ closeds ds → cs ≡ ds
   same_lists cs ds e = sym (list_back cs) ∙ ap list_of e ∙ list_back ds
 
-  abbrev typ_of : Closed → Typ
+  abbrev pub typ_of : Closed → Typ
   typ_of (reading t mu rs) = t
 
   abbrev first_or : Closed → List Closed → Closed
@@ -168,7 +168,7 @@ module _ (types : Types) (past : Positive) (own : List Closed) where
   behind_first (d ∷ ds) = ds
 
   -- of lists that are the same the first and the rest are
-  cons_same : (c d : Closed) (cs ds : List Closed) → (c ∷ cs) ≡ (d ∷ ds) → (c ≡ d) × (cs ≡ ds)
+  pub cons_same : (c d : Closed) (cs ds : List Closed) → (c ∷ cs) ≡ (d ∷ ds) → (c ≡ d) × (cs ≡ ds)
   cons_same c d cs ds e = (ap (first_or c) e, ap behind_first e)
 
   abbrev args_in : Typ-F Typ → List Index
@@ -178,14 +178,14 @@ module _ (types : Types) (past : Positive) (own : List Closed) where
   args_back : (u : ℕ) (is : List Index) (ts : List Typ) → args_in (out-Typ (U.Named u is ts)) ≡ is
   args_back u is ts = ap args_in (ap out-Typ (sym (U.rolls-Named u is ts)) ∙ out-roll-Typ (T.Named u is ts))
 
-  args_same : (u : ℕ) (is js : List Index) (ts us : List Typ) → U.Named u is ts ≡ U.Named u js us → is ≡ js
+  pub args_same : (u : ℕ) (is js : List Index) (ts us : List Typ) → U.Named u is ts ≡ U.Named u js us → is ≡ js
   args_same u is js ts us e = sym (args_back u is ts) ∙ ap (λ t. args_in (out-Typ t)) e ∙ args_back u js us
 
   -- what a type of the walk is hangs on fixed variables alone
-  abbrev Steady : {n : ℕ} → Point n → Reading → Type 0
+  abbrev pub Steady : {n : ℕ} → Point n → Reading → Type 0
   Steady f r = Always f (λ g. closed types (there g) own r ≡ closed types (there f.integers) own r)
 
-  steady_later : {n m : ℕ} (f : Point n) (g : Point m) (r : Reading) → Later f g → Steady f r → Steady g r
+  pub steady_later : {n m : ℕ} (f : Point n) (g : Point m) (r : Reading) → Later f g → Steady f r → Steady g r
   steady_later f g r a s k b = s k (agree_on a b) ∙ sym (s g.integers (agree_on a (same g)))
 
   -- a type of the walk, where the value in hand belongs to it
@@ -193,16 +193,33 @@ module _ (types : Types) (past : Positive) (own : List Closed) where
   ReadingGoes r = (tells : Bool) (name : Naming) (n : ℕ) (f : Point n) (facts : List Fact) (v : Value) → Steady f r
       → Always f (λ g. is_of types (there g) own r v ≡ true) → Opens v n f facts (opening r tells name)
 
+  -- the type of one of these Type variables, and of one behind them
+  found_in : (cs ds : List Closed) (i : ℕ) (c : Closed) → slice_get cs i ≡ Some c → slice_get (types_or_own cs ds) i ≡ Some c
+  found_in [] ds i c e = none e
+  found_in (d ∷ cs) [] i c e = e
+  found_in (d ∷ cs) (k ∷ ds) zero c e = e
+  found_in (d ∷ cs) (k ∷ ds) (suc i) c e = found_in cs ds i c e
+
+  free_in : (cs ds : List Closed) (i : ℕ) → slice_get cs i ≡ None → slice_get (types_or_own cs ds) i ≡ slice_get ds i
+  free_in [] ds i e = refl
+  free_in (d ∷ cs) [] i e = e
+  free_in (d ∷ cs) (k ∷ ds) zero e = none (sym e)
+  free_in (d ∷ cs) (k ∷ ds) (suc i) e = free_in cs ds i e
+
+  type_at : (g : Integers) (rs : List Reading) (i : ℕ) (r : Reading) → slice_get rs i ≡ Some r
+      → slice_get (map (closed types (there g) own) rs) i ≡ Some (closed types (there g) own r)
+  type_at g rs i r e = slice_get-map (closed types (there g) own) rs i ∙ ap (option_map (closed types (there g) own)) e
+
   -- ---- types, under what the variables of the type stand for
 
   module _ (rs : List Reading) where
-    abbrev stood : Integers → Closeds
-    stood g = closeds (types_or_own types (there g) own (map (closed types (there g) own) rs))
+    abbrev pub stood : Integers → Closeds
+    stood g = closeds (types_or_own (map (closed types (there g) own) rs) own)
 
-    closed_of : (g : Integers) (t : Typ) (is : List Index) → closed types (there g) own (R.Of t is rs) ≡ reading t (under_these past g is) (stood g)
+    pub closed_of : (g : Integers) (t : Typ) (is : List Index) → closed types (there g) own (R.Of t is rs) ≡ reading t (under_these past g is) (stood g)
     closed_of g t is = closed_is types (there g) own (R.Of t is rs) (W.Of t is rs) (R.rolls-Of t is rs)
 
-    closeds_of : (g : Integers) (is : List Index) (ts : List Typ)
+    pub closeds_of : (g : Integers) (is : List Index) (ts : List Typ)
         → closeds (map (closed types (there g) own) (map (λ t. R.Of t is rs) ts)) ≡ read_each (under_these past g is) (stood g) ts
     closeds_of g is [] = refl
     closeds_of g is (t ∷ ts) = λ j. more_readings (closed_of g t is j) (closeds_of g is ts j)
@@ -214,18 +231,6 @@ module _ (types : Types) (past : Positive) (own : List Closed) where
     stand_later : {n m : ℕ} (f : Point n) (g : Point m) → Later f g → Stand f → Stand g
     stand_later f g a s i r e = steady_later f g r a (s i r e)
 
-    stood_by : (g k : Integers) (cs ds : List Closed) → cs ≡ ds → types_or_own types (there g) own cs ≡ types_or_own types (there k) own ds
-    stood_by g k [] [] e = refl
-    stood_by g k [] (d ∷ ds) e = absurd (never e)
-      where
-        never : {A : Type 0} {x : A} {xs : List A} → [] ≡ (x ∷ xs) → ⊥
-        never h = cc
-    stood_by g k (c ∷ cs) [] e = absurd (never e)
-      where
-        never : {A : Type 0} {x : A} {xs : List A} → (x ∷ xs) ≡ [] → ⊥
-        never h = cc
-    stood_by g k (c ∷ cs) (d ∷ ds) e = e
-
     all_steady : (g k : Integers) (qs : List Reading)
         → ((i : ℕ) (r : Reading) → slice_get qs i ≡ Some r → closed types (there g) own r ≡ closed types (there k) own r)
         → map (closed types (there g) own) qs ≡ map (closed types (there k) own) qs
@@ -234,8 +239,7 @@ module _ (types : Types) (past : Positive) (own : List Closed) where
 
     stood_steady : {n : ℕ} (f : Point n) → Stand f → (g : Integers) → Agree f g → stood g ≡ stood f.integers
     stood_steady f stand g a =
-        ap closeds (stood_by g f.integers (map (closed types (there g) own) rs) (map (closed types (there f.integers) own) rs)
-        (all_steady g f.integers rs (λ i r e. stand i r e g a)))
+        ap (λ cs. closeds (types_or_own cs own)) (all_steady g f.integers rs (λ i r e. stand i r e g a))
 
     -- so is a type under them
     of_steady : {n : ℕ} (f : Point n) (is : List Index) (t : Typ) → Still past f is → Stand f → Steady f (R.Of t is rs)
@@ -408,23 +412,19 @@ module _ (types : Types) (past : Positive) (own : List Closed) where
 
     -- ---- a Type variable: what it stands for, or one of the function at work
 
-    found_answer : (g : Integers) (qs : List Reading) (i : ℕ) (r : Reading) (v : Value) → slice_get qs i ≡ Some r
-        → answer types v (closeds (types_or_own types (there g) own (map (closed types (there g) own) qs))) i ≡ is_of types (there g) own r v
-    found_answer g [] i r v e = none e
-    found_answer g (q ∷ qs) i r v e =
-        answer_is types v (there g) (map (closed types (there g) own) (q ∷ qs)) i
-        ∙ ap (λ o. belongs types v (or_no_value (there g) o))
-        (slice_get-map (closed types (there g) own) (q ∷ qs) i ∙ ap (option_map (closed types (there g) own)) e)
+    pub found_answer : (g : Integers) (i : ℕ) (r : Reading) (v : Value) → slice_get rs i ≡ Some r
+        → answer types v (stood g) i ≡ is_of types (there g) own r v
+    found_answer g i r v e =
+        answer_is types v (there g) (types_or_own (map (closed types (there g) own) rs) own) i
+        ∙ ap (λ o. belongs types v (or_no_value (there g) o)) (found_in (map (closed types (there g) own) rs) own i (closed types (there g) own r) (type_at g rs i r e))
 
-    free_answer : (g : Integers) (qs : List Reading) (i : ℕ) (v : Value) → slice_get qs i ≡ None
-        → answer types v (closeds (types_or_own types (there g) own (map (closed types (there g) own) qs))) i ≡ true
-        → belongs types v (or_no_value (there g) (slice_get own i)) ≡ true
-    free_answer g [] i v e h = sym (answer_is types v (there g) own i) ∙ h
-    free_answer g (q ∷ qs) i v e h =
-        no (sym (answer_is types v (there g) (map (closed types (there g) own) (q ∷ qs)) i
+    pub free_answer : (g : Integers) (i : ℕ) (v : Value) → slice_get rs i ≡ None
+        → answer types v (stood g) i ≡ belongs types v (or_no_value (there g) (slice_get own i))
+    free_answer g i v e =
+        answer_is types v (there g) (types_or_own (map (closed types (there g) own) rs) own) i
         ∙ ap (λ o. belongs types v (or_no_value (there g) o))
-        (slice_get-map (closed types (there g) own) (q ∷ qs) i ∙ ap (option_map (closed types (there g) own)) e)
-        ∙ nothing_belongs types v (there g)) ∙ h)
+        (free_in (map (closed types (there g) own) rs) own i
+        (slice_get-map (closed types (there g) own) rs i ∙ ap (option_map (closed types (there g) own)) e))
 
     variable_goes : {n : ℕ} {f : Point n} {facts : List Fact} → ((i : ℕ) (r : Reading) → slice_get rs i ≡ Some r → ReadingGoes r) → Stand f
         → (i : ℕ) (tells : Bool) (name : Naming) (v : Value) (o : Option Reading) → slice_get rs i ≡ o
@@ -432,10 +432,10 @@ module _ (types : Types) (past : Positive) (own : List Closed) where
         → Opens v n f facts (variable_opened i (option_map (λ r. (r, opening r)) o) tells name)
     unfolding ReadingGoes
     variable_goes {n} {f} {facts} go stand i tells name v (Some r) e h =
-        go i r e tells name n f facts v (stand i r e) (λ g a. sym (found_answer g rs i r v e) ∙ h g a)
+        go i r e tells name n f facts v (stand i r e) (λ g a. sym (found_answer g i r v e) ∙ h g a)
     variable_goes {n} {f} go stand i tells name v None e h = (
       meant_by (W.Variable i),
-      sym (ap (λ (m : Meant). m.holds v) (variable_same types past own f.integers zeros i)) ∙ free_answer f.integers rs i v e (h f.integers (same f)),
+      sym (ap (λ (m : Meant). m.holds v) (variable_same types past own f.integers zeros i)) ∙ sym (free_answer f.integers i v e) ∙ h f.integers (same f),
       gives (I.Variable i) (λ g a.
           meant_is types (there g) own (I.Variable i) (W.Variable i) (I.rolls-Variable i) ∙ variable_same types past own g zeros i),
     )
@@ -580,7 +580,7 @@ module _ (types : Types) (past : Positive) (own : List Closed) where
       each_in mu (closeds cs) 0 cs vs (λ i w. subst (λ n. answer types w (closeds cs) n ≡ answer types w (closeds cs) i) (omega arith) refl)
       (ap (each_belongs (asks types vs) mu (closeds cs)) (sym (fronts (inner types (V.Tuple vs) (closeds cs)) (type_variables 0 cs))) ∙ h)
 
-  item_same : (g : Integers) (q : Closed) (x : Value) → belongs types x (reading (U.Variable 0) (nowhere (there g)) (closeds (q ∷ []))) ≡ belongs types x q
+  pub item_same : (g : Integers) (q : Closed) (x : Value) → belongs types x (reading (U.Variable 0) (nowhere (there g)) (closeds (q ∷ []))) ≡ belongs types x q
   item_same g q x = variable_belongs types x 0 (nowhere (there g)) (closeds (q ∷ [])) ∙ sym (belongs_out types x q)
 
   -- ---- widened types
@@ -717,7 +717,7 @@ module _ (types : Types) (past : Positive) (own : List Closed) where
   wide_tuple_known {n} {f} ys name v w e steady h = no (h f.integers (same f))
 
   -- the type of the items of a list or vector
-  item_steady : (g k : Integers) (r : Reading) → closeds (closed types (there g) own r ∷ []) ≡ closeds (closed types (there k) own r ∷ [])
+  pub item_steady : (g k : Integers) (r : Reading) → closeds (closed types (there g) own r ∷ []) ≡ closeds (closed types (there k) own r ∷ [])
       → closed types (there g) own r ≡ closed types (there k) own r
   item_steady g k r e =
       (cons_same (closed types (there g) own r) (closed types (there k) own r) [] []
@@ -831,11 +831,15 @@ module _ (types : Types) (past : Positive) (own : List Closed) where
       ∙ ap (λ cs. slice_get cs i) e
       ∙ slice_get-map (closed types (there k) own) rs i ∙ ap (option_map (closed types (there k) own)) found)
 
-  stood_same : (g k : Integers) (rs : List Reading) (i : ℕ) (r : Reading) → stood rs g ≡ stood rs k → slice_get rs i ≡ Some r
+  pub stood_same : (g k : Integers) (rs : List Reading) (i : ℕ) (r : Reading) → stood rs g ≡ stood rs k → slice_get rs i ≡ Some r
       → closed types (there g) own r ≡ closed types (there k) own r
-  stood_same g k [] i r e found = none found
-  stood_same g k (q ∷ qs) i r e found =
-      each_same g k (q ∷ qs) i r (same_lists (map (closed types (there g) own) (q ∷ qs)) (map (closed types (there k) own) (q ∷ qs)) e) found
+  stood_same g k rs i r e found =
+      let cs : List Closed = map (closed types (there g) own) rs in
+      let ds : List Closed = map (closed types (there k) own) rs in
+      some_same (closed types (there g) own r) (closed types (there k) own r)
+      (sym (found_in cs own i (closed types (there g) own r) (type_at g rs i r found))
+      ∙ ap (λ all. slice_get all i) (same_lists (types_or_own cs own) (types_or_own ds own) e)
+      ∙ found_in ds own i (closed types (there k) own r) (type_at k rs i r found))
 
   abbrev readings_in : List Known → List Reading
   readings_in ys = map (λ (y : Known). y.0) ys

@@ -79,6 +79,12 @@ tuple_of mu rs = plain mu (T.Tuple (type_variables 0 rs)) rs
 abbrev pub named_of : Assignment → ℕ → List Index → List Closed → Closed
 named_of mu u is rs = plain mu (T.Named u (map (index_there mu) is) (type_variables 0 rs)) rs
 
+-- the types of the first Type variables; those behind them are the function's at work
+abbrev pub types_or_own : List Closed → List Closed → List Closed
+types_or_own [] own = own
+types_or_own (r ∷ rs) [] = r ∷ rs
+types_or_own (r ∷ rs) (c ∷ own) = r ∷ types_or_own rs own
+
 -- ---- what indices mean: which values have them, and the type that they widen to
 
 pub record Meant : Type 0 where
@@ -137,13 +143,8 @@ module _ (types : Types) (mu : Assignment) (own : List Closed) where
   abbrev pub meant_form : Indices-F Meant Closed → Meant
   meant_form i = record { holds = indices_hold i; wide = wide_of i }
 
-  -- a type without Type variables of its own names those of the function
-  abbrev pub types_or_own : List Closed → List Closed
-  types_or_own [] = own
-  types_or_own (r ∷ rs) = r ∷ rs
-
   abbrev pub closed_form : Reading-F Meant Closed → Closed
-  closed_form (W.Of t is rs) = reading t (assigned mu is) (closeds (types_or_own rs))
+  closed_form (W.Of t is rs) = reading t (assigned mu is) (closeds (types_or_own rs own))
   closed_form (W.Widened m) = m.wide
   closed_form (W.Parts rs) = tuple_of mu rs
   closed_form W.Hole = no_value mu
