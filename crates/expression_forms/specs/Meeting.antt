@@ -1,10 +1,9 @@
 -- Where ways meet: what a later way owes of the first, and the value of all (Sail language manual, "Conditionals", "Pattern matching",
 -- "Exceptions").
-use Rattle.std.specs.Prelude.{Bool, None, Option, Some, if◌then◌else◌, true, ℕ, [], ◌&&◌, ◌||◌}
+use Rattle.std.specs.Prelude.{Bool, None, Option, Some, if◌then◌else◌, ℕ, [], ◌&&◌, ◌||◌}
 use Rattle.sail_base.specs.declared.place.Place.{Place}
 use Rattle.sail_types.specs.Zero.{deepest}
 use Rattle.sail_types.specs.declared.shapes.Shape.{Shape}
-use Rattle.sail_types.specs.declared.shapes.Shape.TheVariants as V
 use Rattle.sail_types.specs.declared.table.Types.{Types}
 use Rattle.value_indices.specs.Steps.{Walk, bind, give}
 use Rattle.value_indices.specs.declared.indices.Indices.{Indices}
@@ -12,10 +11,10 @@ use Rattle.value_indices.specs.declared.indices.Indices.TheVariants as I
 use Rattle.value_indices.specs.declared.indices.Reading.TheVariants as R
 use Rattle.value_fits.specs.Fitting.{fits, never, owe_fit, says}
 use Rattle.value_fits.specs.declared.fitted.Fitted.{Fitted}
-use Rattle.wide_types.specs.Widening.{agrees_within, met}
+use Rattle.wide_types.specs.Widening.{agrees_within, met, value_spelled}
 use Rattle.pattern_leaves.specs.Settings.{Around}
 use Rattle.call_notes.specs.Ends.{is_never, never_value, sized}
-use Rattle.expression_forms.specs.Inside.{goes_by_numbers, value_allowed}
+use Rattle.expression_forms.specs.Inside.{is_value_told, is_value_whole}
 
 -- the body of a `let` that never ends gives no value, though the `let` counts as one that ends
 abbrev pub gives_none : Bool → Indices → Bool
@@ -27,20 +26,16 @@ first_way never_ends i = if gives_none never_ends i then None else Some i
 
 -- that a value is of the type of the first way as it stands; a hole in it is filled by types with one number for all items alone
 abbrev pub as_first : Types → Bool → Indices → Indices → ℕ → Fitted
-as_first types holes first i n = if value_allowed true first holes then fits types i (R.Widened first) n else never n
+as_first types holes first i n = if holes || is_value_whole first then fits types i (R.Widened first) n else never n
 
--- the first way as it is kept, its other numbers counted from here on, behind all that a later way names
-abbrev pub kept_first : Types → ℕ → Indices → ℕ → Indices
-kept_first types m first n = (met types m V.Hole first [] n).value
+-- that a value has the numbers that are kept of the first way, where these say all of every item of both, and else that it is of its type
+abbrev pub agrees_spelled : Types → ℕ → Indices → Indices → Indices → Indices → ℕ → Fitted
+agrees_spelled types m first i spelled other n =
+    if is_value_told spelled && is_value_told other then says (agrees_within deepest m spelled other) n
+    else as_first types (is_value_told other) first i n
 
--- that it has the numbers that are kept of the first
-abbrev pub same_numbers : Types → ℕ → Indices → Indices → ℕ → Fitted
-same_numbers types m first i n = says (agrees_within deepest n (kept_first types m first n) i) n
-
--- where these say all of every item, and else that it is of the first's type
 abbrev pub agrees : Types → ℕ → Indices → Indices → ℕ → Fitted
-agrees types m first i n =
-    if goes_by_numbers first && goes_by_numbers i then same_numbers types m first i n else as_first types (goes_by_numbers i) first i n
+agrees types m first i n = agrees_spelled types m first i (value_spelled first) (value_spelled i) n
 
 abbrev pub agrees_unless : Bool → Types → ℕ → Indices → Indices → ℕ → Fitted
 agrees_unless none types m first i n = if none then says [] n else agrees types m first i n

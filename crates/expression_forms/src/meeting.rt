@@ -5,7 +5,7 @@ ghost use Rattle.pattern_leaves.specs.Settings.{around_of};
 ghost use Rattle.value_indices.specs.Walking as walk;
 ghost use Rattle.expression_forms.specs.Meeting as meeting;
 
-use crate::inside::{goes_by_numbers, is_value_allowed};
+use crate::inside::{is_value_told, is_value_whole};
 use call_notes::{is_never, note_value};
 use pattern_leaves::Around;
 use sail_base::{Items, Place};
@@ -13,7 +13,7 @@ use sail_types::{Shape, Types, deepest};
 use std::alloc::{AllocError, Global};
 use value_fits::{Fitted, Wanted, fits, owe_fit};
 use value_indices::{Indices, Walking};
-use wide_types::{agrees_within, met};
+use wide_types::{agrees_within, met, spell_value};
 
 /// Whether a way gives no value.
 fn gives_none(never_ends: bool, value: &Indices) -> bool
@@ -45,7 +45,7 @@ fn as_first(
 ) -> Result<Fitted, AllocError>
     ensures { IfOk result (λ made. made ≡ meeting.as_first types.now holes first.now value.now next) }
 {
-    if is_value_allowed(true, holes, first) {
+    if holes || is_value_whole(first) {
         let wanted = Wanted::Widened(first);
         fits(alloc, types, value, &wanted, next)
     } else {
@@ -53,40 +53,31 @@ fn as_first(
     }
 }
 
-/// The first way as it is kept, its other numbers counted from this one on. It fails where memory is wanting, and where variables are too
-/// many.
-fn kept_first(
-    alloc: Global,
-    types: &Types,
-    before: u32,
-    first: &Indices,
-    next: u32,
-) -> Result<Indices, AllocError>
-    ensures { IfOk result (λ made. made ≡ meeting.kept_first types.now before first.now next) }
-{
-    let mut walked = Walking::new(alloc, next);
-    met(alloc, &mut walked, types, before, &Shape::Hole, first)
-}
-
-/// What has to be true for a later way to have the numbers that are kept of the first. It fails where memory is wanting, and where
-/// variables are too many.
-fn same_numbers(
+/// What has to be true for a later way to agree with the first, both of which are spelled out too: by their numbers, or as a whole. It
+/// fails where memory is wanting, and where variables are too many.
+fn agrees_spelled(
     alloc: Global,
     types: &Types,
     before: u32,
     first: &Indices,
     value: &Indices,
+    spelled: &Indices,
+    other: &Indices,
     next: u32,
 ) -> Result<Fitted, AllocError>
-    ensures { IfOk result (λ made. made ≡ meeting.same_numbers types.now before first.now value.now next) }
+    ensures { IfOk result (λ made. made
+        ≡ meeting.agrees_spelled types.now before first.now value.now spelled.now other.now next) }
 {
-    let kept = kept_first(alloc, types, before, first, next)?;
-    let conditions = agrees_within(alloc, deepest(), next, &kept, value)?;
-    Ok(Fitted::says(alloc, conditions, next))
+    let told = is_value_told(other);
+    if is_value_told(spelled) && told {
+        let conditions = agrees_within(alloc, deepest(), before, spelled, other)?;
+        Ok(Fitted::says(alloc, conditions, next))
+    } else {
+        as_first(alloc, types, told, first, value, next)
+    }
 }
 
-/// What has to be true for a later way to agree with the first: by the numbers that are kept of it, or as a whole. It fails where memory is
-/// wanting, and where variables are too many.
+/// What has to be true for a later way to agree with the first. It fails where memory is wanting, and where variables are too many.
 fn agrees(
     alloc: Global,
     types: &Types,
@@ -97,12 +88,9 @@ fn agrees(
 ) -> Result<Fitted, AllocError>
     ensures { IfOk result (λ made. made ≡ meeting.agrees types.now before first.now value.now next) }
 {
-    let by_numbers = goes_by_numbers(value);
-    if goes_by_numbers(first) && by_numbers {
-        same_numbers(alloc, types, before, first, value, next)
-    } else {
-        as_first(alloc, types, by_numbers, first, value, next)
-    }
+    let spelled = spell_value(alloc, first)?;
+    let other = spell_value(alloc, value)?;
+    agrees_spelled(alloc, types, before, first, value, &spelled, &other, next)
 }
 
 /// The same, unless there is nothing to agree. It fails where memory is wanting, and where variables are too many.

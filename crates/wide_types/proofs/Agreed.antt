@@ -1,11 +1,11 @@
 -- What is owed of each two at the same place, one after the other, and what is left where one list ends.
-use Rattle.std.proofs.Common.{◌≡◌, ℕ, zero, suc, ◌-◌, ◌<◌, ◌≤◌, List, [], ◌∷◌, ◌++◌, length, drop, refl, sym, ap, ◌∙◌, append_assoc, append-nil, arith}
+use Rattle.std.proofs.Common.{◌≡◌, true, false, ℕ, zero, suc, ◌-◌, ◌<◌, ◌≤◌, List, [], ◌∷◌, ◌++◌, length, drop, refl, sym, ap, ◌∙◌, append_assoc, append-nil, arith}
 use Rattle.std.proofs.lemmas.List.{drop_all}
 use Rattle.sail_types.specs.declared.numbers.Index.{Index}
 use Rattle.value_indices.specs.declared.indices.Indices.{Indices, out-Indices}
 use Rattle.value_indices.specs.declared.indices.Reading.{Reading}
 use Rattle.value_indices.specs.Steps.{Conditions}
-use Rattle.wide_types.specs.Widening.{Agree, agrees_within, each_agrees, each_type_agrees, form_agrees, same_indices}
+use Rattle.wide_types.specs.Widening.{Agree, agrees_within, alike, differs, each_agrees, each_type_agrees, form_agrees, if_alike, same_indices}
 
 -- conditions behind others
 pub owed_more : (before now found more all : Conditions) → now ≡ before ++ found → all ≡ found ++ more → now ++ more ≡ before ++ all
@@ -53,9 +53,17 @@ other_types_end agree m rs qs i cs h =
 
 -- ---- one level of types further in
 
-pub agrees_more : (depth m : ℕ) (i j : Indices) → 0 < depth
+pub agrees_more : (depth m : ℕ) (i j : Indices) → 0 < depth → alike (out-Indices i) (out-Indices j) ≡ true
     → agrees_within depth m i j ≡ form_agrees (agrees_within (depth - 1) m) m (out-Indices i) (out-Indices j)
-agrees_more zero m i j h = absurd (omega arith)
-agrees_more (suc depth) m i j h =
+agrees_more zero m i j h same = absurd (omega arith)
+agrees_more (suc depth) m i j h same =
     let one : depth ≡ suc depth - 1 = omega arith in
-    ap (λ (n : ℕ). form_agrees (agrees_within n m) m (out-Indices i) (out-Indices j)) one
+    ap (λ b. if_alike b (form_agrees (agrees_within depth m) m (out-Indices i) (out-Indices j))) same
+    ∙ ap (λ (n : ℕ). form_agrees (agrees_within n m) m (out-Indices i) (out-Indices j)) one
+
+-- what isn't of one form
+pub agrees_never : (depth m : ℕ) (i j : Indices) → alike (out-Indices i) (out-Indices j) ≡ false → agrees_within depth m i j ≡ differs
+agrees_never zero m i j other = refl
+agrees_never (suc depth) m i j other = ap (λ b. if_alike b (form_agrees (agrees_within depth m) m (out-Indices i) (out-Indices j))) other
+
+pub ruleset depths = (agrees_more, agrees_never)

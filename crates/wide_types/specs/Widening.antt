@@ -6,7 +6,8 @@ use Rattle.std.specs.List.{list_all}
 use Rattle.sail_base.specs.declared.kind.Kind.{Kind}
 use Rattle.sail_base.specs.declared.kind.Kind.TheVariants as K
 use Rattle.sail_types.specs.Places.{first, only}
-use Rattle.sail_types.specs.Sums.{variable}
+use Rattle.sail_types.specs.Readings.{read_indices}
+use Rattle.sail_types.specs.Sums.{read, variable}
 use Rattle.sail_types.specs.declared.numbers.Atom.TheOpen as A
 use Rattle.sail_types.specs.declared.numbers.Atom.TheOpen.{Atom-F, Num-F, Term-F}
 use Rattle.sail_types.specs.declared.numbers.Atom.{Atom}
@@ -69,6 +70,56 @@ widened i = R.Widened (wide_value i)
 
 abbrev pub widened_type : Reading → Reading
 widened_type = fold-Reading Indices Reading wide_indices wide_reading
+
+-- ---- a type spelled out and widened: each width, each length and each argument in it stands by itself. A type that binds a variable is left as
+-- it is, and so is one with a number that can't be said
+
+abbrev pub bits_spelled : Reading → Option Num → Reading
+bits_spelled left None = left
+bits_spelled left (Some t) = R.Widened (I.Bits t)
+
+abbrev pub vector_spelled : Reading → Reading → Option Num → Reading
+vector_spelled left item None = left
+vector_spelled left item (Some n) = R.Widened (I.Vector n item)
+
+abbrev pub named_spelled : Reading → ℕ → List Reading → Option (List Index) → Reading
+named_spelled left u rs None = left
+named_spelled left u rs (Some is) = R.Widened (I.Named u is rs)
+
+abbrev pub variable_spelled : ℕ → Option Reading → Reading
+variable_spelled i None = R.Widened (I.Variable i)
+variable_spelled i (Some r) = r
+
+-- of each form, with its parts and how they are spelled
+abbrev pub form_spelled : List Index → List Reading → Typ-F (Typ × Reading) → Reading
+form_spelled is rs T.Unit = R.Widened I.Unit
+form_spelled is rs T.Bool = R.Widened (I.Truth (C.Truth true))
+form_spelled is rs (T.Truth c) = R.Widened (I.Truth (C.Truth true))
+form_spelled is rs T.Bit = R.Widened I.Bit
+form_spelled is rs (T.Bits t) = bits_spelled (R.Of (Y.Bits t) is rs) (read is t)
+form_spelled is rs (T.Int t) = R.Widened (I.Integer zero_num)
+form_spelled is rs (T.Range t u) = R.Widened (I.Integer zero_num)
+form_spelled is rs T.String = R.Widened I.String
+form_spelled is rs (T.List t) = R.Widened (I.List t.1)
+form_spelled is rs (T.Vector n t) = vector_spelled (R.Of (Y.Vector n t.0) is rs) t.1 (read is n)
+form_spelled is rs (T.Tuple ts) = R.Parts (map (λ t. t.1) ts)
+form_spelled is rs (T.Named u js ts) = named_spelled (R.Of (Y.Named u js (map (λ t. t.0) ts)) is rs) u (map (λ t. t.1) ts) (read_indices is js)
+form_spelled is rs (T.Variable i) = variable_spelled i (slice_get rs i)
+form_spelled is rs (T.Exists name c t) = R.Of (Y.Exists name c t.0) is rs
+
+unfoldable pub typ_spelled : List Index → List Reading → Typ → Reading
+typ_spelled is rs = para-Typ Reading (form_spelled is rs)
+
+abbrev pub reading_spelled : Reading-F Indices Reading → Reading
+reading_spelled (W.Of t is rs) = typ_spelled is rs t
+reading_spelled r = roll-Reading r
+
+-- the types in a value, and a type
+abbrev pub value_spelled : Indices → Indices
+value_spelled = fold-Indices Indices Reading wide_indices reading_spelled
+
+abbrev pub type_spelled : Reading → Reading
+type_spelled = fold-Reading Indices Reading wide_indices reading_spelled
 
 -- ---- numbers over the variables before one
 
@@ -259,9 +310,10 @@ kept_value types m = fold-Indices KeepIndices (Keep Reading) (kept_indices m) (k
 unfoldable pub kept_type : Types → ℕ → Reading → Keep Reading
 kept_type types m = fold-Reading KeepIndices (Keep Reading) (kept_indices m) (kept_reading types m)
 
--- the widened type of a first way of this shape, opened; numbers that only name variables before m are kept
+-- the widened type of a first way of this shape, opened; numbers that only name variables before m are kept. It is spelled out, so that each
+-- number that isn't kept is a fresh one by itself
 abbrev pub met : Types → ℕ → Shape → Indices → Walk Indices
-met types m s i = kept_value types m i true s
+met types m s i = kept_value types m (value_spelled i) true s
 
 -- the widened type itself
 abbrev pub filled : Types → ℕ → Shape → Indices → Walk Reading
@@ -278,10 +330,14 @@ implies c d = C.Any (C.Not c ∷ d ∷ [])
 abbrev pub same_truth : ℕ → Con → Con → Conditions
 same_truth m c d = if is_con_below m c then Some (implies d c) ∷ Some (implies c d) ∷ [] else []
 
+-- what differs in its form doesn't agree
+abbrev pub differs : Conditions
+differs = Some (C.Truth false) ∷ []
+
 abbrev pub same_index : ℕ → Index → Index → Conditions
 same_index m (N.Number t) (N.Number u) = same_num m t u
 same_index m (N.Truth c) (N.Truth d) = same_truth m c d
-same_index m i j = []
+same_index m i j = differs
 
 abbrev pub same_indices : ℕ → List Index → List Index → Conditions
 same_indices m (i ∷ is) (j ∷ js) = same_index m i j ++ same_indices m is js
@@ -313,7 +369,28 @@ form_agrees agree m (W.Tuple is) (W.Tuple js) = each_agrees agree is js
 form_agrees agree m (W.Named u is rs) (W.Named v js qs) = same_indices m is js ++ each_type_agrees agree m rs qs
 form_agrees agree m i j = []
 
+-- whether two values are of one form; of what never ends there is none
+abbrev pub alike : Indices-F Indices Reading → Indices-F Indices Reading → Bool
+alike W.Never j = true
+alike i W.Never = true
+alike W.Unit W.Unit = true
+alike (W.Truth c) (W.Truth d) = true
+alike W.Bit W.Bit = true
+alike (W.Bits t) (W.Bits u) = true
+alike (W.Integer t) (W.Integer u) = true
+alike W.String W.String = true
+alike (W.List r) (W.List q) = true
+alike (W.Vector n r) (W.Vector k q) = true
+alike (W.Tuple is) (W.Tuple js) = nat_eq (length is) (length js)
+alike (W.Named u is rs) (W.Named v js qs) = (nat_eq u v && nat_eq (length is) (length js)) && nat_eq (length rs) (length qs)
+alike (W.Variable i) (W.Variable j) = nat_eq i j
+alike i j = false
+
+abbrev pub if_alike : Bool → Conditions → Conditions
+if_alike true cs = cs
+if_alike false cs = differs
+
 -- through types inside types to this depth
 abbrev pub agrees_within : ℕ → ℕ → Agree
-agrees_within zero m i j = Some (C.Truth false) ∷ []
-agrees_within (suc depth) m i j = form_agrees (agrees_within depth m) m (out-Indices i) (out-Indices j)
+agrees_within zero m i j = differs
+agrees_within (suc depth) m i j = if_alike (alike (out-Indices i) (out-Indices j)) (form_agrees (agrees_within depth m) m (out-Indices i) (out-Indices j))

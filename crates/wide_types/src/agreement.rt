@@ -82,7 +82,7 @@ fn push_same_index(
         (Index::Truth(first), Index::Truth(other)) => push_same_truth(
             alloc, before, first, other, conditions,
         ),
-        _ => Ok(()),
+        _ => conditions.push(Some(Con::Truth(false))),
     }
 }
 
@@ -106,8 +106,32 @@ fn push_same_indices(
     Ok(())
 }
 
-/// What another way owes of a value, through types inside types to this depth.
-#[tactic(auto, using(crate::proofs::Agreed::agrees_more))]
+/// Whether two values are of one form; of what never ends there is none.
+fn is_alike(first: &Indices, other: &Indices) -> bool
+    ensures { result ≡ wide.alike (out-Indices first.now) (out-Indices other.now) }
+{
+    match (first, other) {
+        (Indices::Never, _) => true,
+        (_, Indices::Never) => true,
+        (Indices::Unit, Indices::Unit) => true,
+        (Indices::Truth(_), Indices::Truth(_)) => true,
+        (Indices::Bit, Indices::Bit) => true,
+        (Indices::Bits(_), Indices::Bits(_)) => true,
+        (Indices::Integer(_), Indices::Integer(_)) => true,
+        (Indices::String, Indices::String) => true,
+        (Indices::List(_), Indices::List(_)) => true,
+        (Indices::Vector(_, _), Indices::Vector(_, _)) => true,
+        (Indices::Tuple(parts), Indices::Tuple(found)) => parts.len() == found.len(),
+        (Indices::Named(place, numbers, types), Indices::Named(other, others, found)) => {
+            *place == *other && numbers.len() == others.len() && types.len() == found.len()
+        }
+        (Indices::Variable(position), Indices::Variable(other)) => *position == *other,
+        _ => false,
+    }
+}
+
+/// What another way owes of a value, through types inside types to this depth: what is false, where they aren't of one form.
+#[tactic(auto, using(crate::proofs::Agreed::depths))]
 #[cycle(agree)]
 fn push_agreement(
     alloc: Global,
@@ -119,7 +143,7 @@ fn push_agreement(
 ) -> Result<(), AllocError>
     ensures { OnOk result (conditions.new ≡ conditions.old ++ wide.agrees_within depth before first.now other.now) }
 {
-    if depth == 0 {
+    if depth == 0 || !is_alike(first, other) {
         return conditions.push(Some(Con::Truth(false)));
     }
     push_form_agreement(alloc, depth - 1, before, first, other, conditions)

@@ -5,6 +5,7 @@ ghost use Rattle.wide_types.specs.Widening as wide;
 
 use crate::below::{is_below, is_con_below};
 use crate::shaped::variable_shapes;
+use crate::spelled::spell_value;
 use crate::wide::wide_typ;
 use crate::widest::widest_of;
 use sail_base::{Boxed, Items};
@@ -344,8 +345,8 @@ fn kept_argument(
     }
 }
 
-/// The widened type of a first way of this shape, opened; numbers that only name variables before that one are kept, and others are
-/// fresh. It fails where memory is wanting, and where variables are too many.
+/// The widened type of a first way of this shape, opened; numbers that only name variables before that one are kept, and each other is
+/// a fresh one by itself. It fails where memory is wanting, and where variables are too many.
 pub fn met(
     alloc: Global,
     walked: &mut Walking,
@@ -357,7 +358,8 @@ pub fn met(
     ensures value { IfOk result (λ made. made ≡ walk.got (wide.met types.now before shape.now indices.now) (walk.seen walked.old)) }
     ensures walked { OnOk result (walk.seen walked.new ≡ walk.run (wide.met types.now before shape.now indices.now) (walk.seen walked.old)) }
 {
-    kept_value(alloc, walked, types, before, indices, true, shape)
+    let spelled = spell_value(alloc, indices)?;
+    kept_value(alloc, walked, types, before, &spelled, true, shape)
 }
 
 /// The widened type of a first value of this shape; numbers that only name variables before that one are kept, and others are fresh.
