@@ -4,6 +4,7 @@ use Rattle.sail_base.specs.declared.place.Place.{Place}
 use Rattle.sail_types.specs.declared.numbers.Index.{Index}
 use Rattle.sail_types.specs.declared.rows.Row.{Row}
 use Rattle.sail_types.specs.declared.table.Parameter.{Parameter}
+use Rattle.sail_types.specs.declared.table.Types.{Types}
 use Rattle.sail_types.specs.declared.types.Typ.{Typ}
 use Rattle.sail_core.specs.declared.model.Direction.{Direction}
 use Rattle.sail_core.specs.declared.model.Function.{Function}
@@ -95,13 +96,13 @@ abbrev pub parameter_types : Option Function → List Typ
 parameter_types None = []
 parameter_types (Some f) = f.parameters
 
-abbrev pub row_called : Place → ℕ → Row → List Indices → Walk Indices
-row_called place k row is = bind (noted_call place k is (D.Row row) [] []) (λ t. bind (row_call place row is) (node_ended k is))
+abbrev pub row_called : Types → Place → ℕ → Row → List Indices → Walk Indices
+row_called types place k row is = bind (noted_call place k is (D.Row row) [] []) (λ t. bind (row_call types place row is) (node_ended k is))
 
 -- on arguments that have been walked
 abbrev pub called : Around → Place → ℕ → Callee → List Bool → List Indices → Walk Indices
 called around place k (D.Function f) bs is = function_call around place k f (slice_get around.functions f) bs is
-called around place k (D.Row row) bs is = row_called place k row is
+called around place k (D.Row row) bs is = row_called around.types place k row is
 called around place k (D.Converts d) bs is = direction_call around place k d (slice_get around.directions d) bs is
 called around place k (D.Applies d) bs is = direction_call around place k d (slice_get around.directions d) bs is
 called around place k (D.Constructor u c) bs is = wrong_value place

@@ -1,4 +1,5 @@
 pub mod Ends
 pub mod Noted
+pub mod Taken
 pub mod Rows
 pub mod Calls

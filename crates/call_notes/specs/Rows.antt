@@ -10,6 +10,7 @@ use Rattle.sail_types.specs.declared.numbers.Num.{Num}
 use Rattle.sail_types.specs.declared.rows.Row.{Row}
 use Rattle.sail_types.specs.declared.shapes.Shape.{Shape}
 use Rattle.sail_types.specs.declared.shapes.Shape.TheVariants as V
+use Rattle.sail_types.specs.declared.table.Types.{Types}
 use Rattle.row_types.specs.RowTypes.{row_type}
 use Rattle.row_types.specs.declared.kinds.Outcome.{Outcome}
 use Rattle.row_types.specs.declared.kinds.Outcome.TheVariants as O
@@ -26,7 +27,8 @@ use Rattle.value_indices.specs.declared.indices.Naming.TheVariants as M
 use Rattle.value_indices.specs.declared.indices.Reading.{Reading}
 use Rattle.value_indices.specs.declared.indices.Reading.TheVariants as R
 use Rattle.wide_types.specs.Widening.{is_below, is_con_below, widened}
-use Rattle.call_notes.specs.Ends.{any_never, never_value, sized}
+use Rattle.call_notes.specs.Ends.{any_never, never_value, sized, wrong_value}
+use Rattle.call_notes.specs.Taken.{takes}
 use Rattle.call_notes.specs.declared.numbers.Numbers.{Numbers}
 
 -- ---- what the variables of a row stand for: the numbers of the arguments, that of the result, and the product
@@ -145,8 +147,12 @@ row_under place row is args =
     bind (owe place (owed_by row.product (numbers_under row.product is zero_num) row.conditions)) (λ t.
     outcome place row.product is args (numbers_under row.product is zero_num) row.outcome)
 
--- a call of a builtin at a place
-abbrev pub row_call : Place → Row → List Indices → Walk Indices
-row_call place row args =
+-- on arguments that the builtin takes
+abbrev pub taken_call : Place → Row → List Indices → Walk Indices
+taken_call place row args = row_under place (row_type row (first_shape args)) (three_indices (map argument_index args)) args
+
+-- a call of a builtin at a place; on other arguments it owes what is false
+abbrev pub row_call : Types → Place → Row → List Indices → Walk Indices
+row_call types place row args =
     if any_never args then never_value
-    else row_under place (row_type row (first_shape args)) (three_indices (map argument_index args)) args
+    else (if takes types row args then taken_call place row args else wrong_value place)

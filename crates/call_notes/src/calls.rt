@@ -286,13 +286,14 @@ fn direction_call(
 fn row_called(
     alloc: Global,
     walking: &mut Walking,
+    types: &Types,
     place: Place,
     number: u32,
     row: Row,
     arguments: &[Indices],
 ) -> Result<Indices, AllocError>
-    ensures value { IfOk result (λ made. made ≡ walk.got (calls.row_called place number row arguments.now) (walk.seen walking.old)) }
-    ensures walked { OnOk result (walk.seen walking.new ≡ walk.run (calls.row_called place number row arguments.now) (walk.seen walking.old)) }
+    ensures value { IfOk result (λ made. made ≡ walk.got (calls.row_called types.now place number row arguments.now) (walk.seen walking.old)) }
+    ensures walked { OnOk result (walk.seen walking.new ≡ walk.run (calls.row_called types.now place number row arguments.now) (walk.seen walking.old)) }
 {
     let callee = Callee::Row(row);
     let indices = Items::new(alloc);
@@ -300,7 +301,7 @@ fn row_called(
     note_call(
         alloc, walking, place, number, arguments, callee, indices, readings,
     )?;
-    let value = row_call(alloc, walking, place, row, arguments)?;
+    let value = row_call(alloc, walking, types, place, row, arguments)?;
     node_ended(alloc, walking, number, arguments, value)
 }
 
@@ -326,7 +327,7 @@ pub fn called(
         Callee::Function(function) => function_call(
             alloc, walking, around, place, number, function, nested, arguments,
         ),
-        Callee::Row(row) => row_called(alloc, walking, place, number, row, arguments),
+        Callee::Row(row) => row_called(alloc, walking, around.types, place, number, row, arguments),
         Callee::Constructor(_, _) => wrong_value(alloc, walking, place),
         Callee::Converts(direction) => direction_call(
             alloc, walking, around, place, number, direction, nested, arguments,

@@ -1,7 +1,7 @@
 //! What calls owe and make known, on arguments that have been walked.
 //!
-//! `specs/Ends` has the ends of values, `specs/Noted` what is noted at a node that makes one, `specs/Rows` calls of builtins, `specs/Calls`
-//! calls. What the arguments owe is in `call_arguments`, whose calls stand here too.
+//! `specs/Ends` has the ends of values, `specs/Noted` what is noted at a node that makes one, `specs/Taken` what builtins take,
+//! `specs/Rows` calls of builtins, `specs/Calls` calls. What the arguments owe is in `call_arguments`, whose calls stand here too.
 #![tactic(auto)]
 
 mod calls;
@@ -10,6 +10,7 @@ mod made;
 mod noted;
 mod numbers;
 mod rows;
+mod taken;
 
 pub use call_arguments::{
     Aim, Seen, argument_aim, call_conditions, is_closed, is_numberless, item_type, part_aim,

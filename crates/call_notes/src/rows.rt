@@ -3,11 +3,12 @@ ghost use Rattle.std.specs.Prelude.{◌≡◌, IfOk, OnOk};
 ghost use Rattle.value_indices.specs.Walking as walk;
 ghost use Rattle.call_notes.specs.Rows as rows;
 
-use crate::ends::{any_never, note_value};
+use crate::ends::{any_never, note_value, wrong_value};
 use crate::numbers::{Numbers, numbers_under, owed_by, three_indices};
+use crate::taken::takes;
 use row_types::{Outcome, Product, RowType, row_type};
 use sail_base::{Boxed, Place};
-use sail_types::{Con, Index, Num, Row, Shape, copy_num};
+use sail_types::{Con, Index, Num, Row, Shape, Types, copy_num};
 use std::alloc::{AllocError, Global};
 use value_indices::{
     Indices, Naming, Reading, Walking, any_truth, bits_of, bound_above, bound_below, copy_reading,
@@ -183,23 +184,45 @@ fn row_under(
     outcome(alloc, walking, place, row, indices, arguments, &numbers)
 }
 
-/// What a call of a builtin at a place owes and gives, on arguments that have been walked. It fails where memory is wanting, and where
-/// variables are too many.
+/// What a call of a builtin at a place owes and gives, on arguments that it takes. It fails where memory is wanting, and where variables are
+/// too many.
 #[tactic(auto, using(value_indices::proofs::Walks::walks))]
-pub fn row_call(
+fn taken_call(
     alloc: Global,
     walking: &mut Walking,
     place: Place,
     row: Row,
     arguments: &[Indices],
 ) -> Result<Indices, AllocError>
-    ensures value { IfOk result (λ made. made ≡ walk.got (rows.row_call place row arguments.now) (walk.seen walking.old)) }
-    ensures walked { OnOk result (walk.seen walking.new ≡ walk.run (rows.row_call place row arguments.now) (walk.seen walking.old)) }
+    ensures value { IfOk result (λ made. made ≡ walk.got (rows.taken_call place row arguments.now) (walk.seen walking.old)) }
+    ensures walked { OnOk result (walk.seen walking.new ≡ walk.run (rows.taken_call place row arguments.now) (walk.seen walking.old)) }
+{
+    let typed = row_type(alloc, row, &first_shape(arguments))?;
+    let indices = three_indices(alloc, arguments)?;
+    row_under(alloc, walking, place, &typed, indices.as_slice(), arguments)
+}
+
+/// What a call of a builtin at a place owes and gives, on arguments that have been walked; of a form that it doesn't take it owes what is
+/// false. It fails where memory is wanting, and where variables are too many.
+#[tactic(auto, using(value_indices::proofs::Walks::walks))]
+pub fn row_call(
+    alloc: Global,
+    walking: &mut Walking,
+    types: &Types,
+    place: Place,
+    row: Row,
+    arguments: &[Indices],
+) -> Result<Indices, AllocError>
+    ensures value { IfOk result (λ made. made
+        ≡ walk.got (rows.row_call types.now place row arguments.now) (walk.seen walking.old)) }
+    ensures walked { OnOk result (walk.seen walking.new
+        ≡ walk.run (rows.row_call types.now place row arguments.now) (walk.seen walking.old)) }
 {
     if any_never(arguments) {
         return Ok(Indices::Never);
     }
-    let typed = row_type(alloc, row, &first_shape(arguments))?;
-    let indices = three_indices(alloc, arguments)?;
-    row_under(alloc, walking, place, &typed, indices.as_slice(), arguments)
+    if takes(alloc, types, row, arguments)? {
+        return taken_call(alloc, walking, place, row, arguments);
+    }
+    wrong_value(alloc, walking, place)
 }
