@@ -30,6 +30,12 @@ enum Right {
     SomeRanges(Line, Line),
 }
 
+fn one_of<T: Drop>(alloc: Global, a: T) -> Result<Items<T>, AllocError> {
+    let mut items = Items::new(alloc);
+    items.push(a)?;
+    Ok(items)
+}
+
 fn number(alloc: Global, line: &Line) -> Result<Num, AllocError> {
     let mut terms = Items::new(alloc);
     if line.0 != 0 {
