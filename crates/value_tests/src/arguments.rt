@@ -2,92 +2,28 @@ use crate::named::texts;
 use sail_base::{Boxed, Items, Text};
 use sail_types::{Atom, Comparison, Con, Index, Num, Term, Typ, power, push_number};
 use std::alloc::{AllocError, Global};
-use std::process::Abort;
 use std::test::Fail;
 use type_arguments::*;
 
-/// A number: a variable this many times, the variable, and a constant.
-type Line = (i128, u32, i128);
-
-/// The right side of a named type with the parameters 'n (variable 0), 'p (a Bool, variable 1) and 'a.
-enum Right {
-    Number(Line),
-    /// 2 to the power of a number.
-    Power(Line),
-    Bits(Line),
-    Range(Line, Line),
-    /// `'a`
-    Variable,
-    /// `list('a)`
-    List,
-    /// `bool('p)`
-    Truth,
-    /// `{'k, 'k < 'n. bits(N)}`
-    SomeBits(Line),
-    /// `{'k, 'k < 'n. 'a}`
-    SomeVariable,
-    /// `{'k, 'k < 'n. list(range(M, N))}`
-    SomeRanges(Line, Line),
+/// The number that is a variable this many times, with a constant.
+fn line(
+    alloc: Global,
+    coefficient: i128,
+    variable: u32,
+    constant: i128,
+) -> Result<Num, AllocError> {
+    let mut terms = Items::new(alloc);
+    terms.push(Term {
+        coefficient,
+        atom: Atom::Variable(variable),
+    })?;
+    Ok(Num { terms, constant })
 }
 
 fn one_of<T: Drop>(alloc: Global, a: T) -> Result<Items<T>, AllocError> {
     let mut items = Items::new(alloc);
     items.push(a)?;
     Ok(items)
-}
-
-fn number(alloc: Global, line: &Line) -> Result<Num, AllocError> {
-    let mut terms = Items::new(alloc);
-    if line.0 != 0 {
-        terms.push(Term {
-            coefficient: line.0,
-            atom: Atom::Variable(line.1),
-        })?;
-    }
-    Ok(Num {
-        terms,
-        constant: line.2,
-    })
-}
-
-fn range(alloc: Global, low: &Line, high: &Line) -> Result<Typ, AllocError> {
-    let low = number(alloc, low)?;
-    Ok(Typ::Range(low, number(alloc, high)?))
-}
-
-/// `{'k, 'k < 'n. T}`
-fn below(alloc: Global, part: Typ) -> Result<Typ, AllocError> {
-    let part = Boxed::new(alloc, part)?;
-    let name = Text::new(alloc, "'k")?;
-    let left = number(alloc, &(1, 0, 0))?;
-    let right = number(alloc, &(1, 1, 0))?;
-    Ok(Typ::Exists(name, Con::Compare(Comparison::Less, left, right), part))
-}
-
-fn list(alloc: Global, item: Typ) -> Result<Typ, AllocError> {
-    Ok(Typ::List(Boxed::new(alloc, item)?))
-}
-
-fn typ(alloc: Global, right: &Right) -> Result<Typ, AllocError> {
-    match right {
-        Right::Bits(line) => Ok(Typ::Bits(number(alloc, line)?)),
-        Right::Range(low, high) => range(alloc, low, high),
-        Right::Variable => Ok(Typ::Variable(0)),
-        Right::List => list(alloc, Typ::Variable(0)),
-        Right::Truth => Ok(Typ::Truth(Con::Holds(1))),
-        Right::SomeBits(line) => below(alloc, Typ::Bits(number(alloc, line)?)),
-        Right::SomeVariable => below(alloc, Typ::Variable(0)),
-        Right::SomeRanges(low, high) => below(alloc, list(alloc, range(alloc, low, high)?)?),
-        Right::Number(_) | Right::Power(_) => Ok(Typ::Unit),
-    }
-}
-
-fn normal(alloc: Global, right: &Right) -> Result<Normal, AllocError> {
-    Ok(match right {
-        Right::Number(line) => Normal::Number(number(alloc, line)?),
-        Right::Power(line) => Normal::Number(power(alloc, number(alloc, line)?)?),
-        _ => Normal::Typ(typ(alloc, right)?),
-    })
 }
 
 /// Puts a type behind a text: its variables by their numbers, and no more forms than the tests have.
@@ -130,14 +66,25 @@ fn push_normal(out: &mut Vec<u8>, names: &[Text], normal: &Normal) -> Result<(),
     }
 }
 
-/// A copy of a right side, applied to a number, `true` and `range(0, 'm)`, where 'm is variable 0 of the place where it is applied:
-/// as text, `none` where it can't be said.
-fn applied_text(alloc: Global, at: &Line, right: &Right) -> Result<Vec<u8>, AllocError> {
+/// `{'k, 'k < 'n. T}`
+fn below(alloc: Global, part: Typ) -> Result<Typ, AllocError> {
+    let name = Text::new(alloc, "'k")?;
+    let less = Con::Compare(
+        Comparison::Less,
+        line(alloc, 1, 0, 0)?,
+        line(alloc, 1, 1, 0)?,
+    );
+    Ok(Typ::Exists(name, less, Boxed::new(alloc, part)?))
+}
+
+/// The right side of a named type with the parameters 'n, 'p (a Bool) and 'a, applied to a number, `true` and `range(0, 'm)`, where 'm
+/// is variable 0 of the place where it is applied: as text, `none` where it can't be said.
+fn applied_text(alloc: Global, number: Num, right: Normal) -> Result<Vec<u8>, AllocError> {
     let names = texts(alloc, &["'0", "'1"])?;
-    let types = one_of(alloc, range(alloc, &(0, 0, 0), &(1, 0, 0))?)?;
-    let mut indices = one_of(alloc, Index::Number(number(alloc, at)?))?;
+    let zero = Num::constant(alloc, 0);
+    let types = one_of(alloc, Typ::Range(zero, line(alloc, 1, 0, 0)?))?;
+    let mut indices = one_of(alloc, Index::Number(number))?;
     indices.push(Index::Truth(Con::Truth(true)))?;
-    let right = copy_normal(alloc, &normal(alloc, right)?)?;
     let mut out = Vec::new(alloc);
     match applied(alloc, indices.as_slice(), types.as_slice(), &right)? {
         None => out.extend_from_slice(b"none")?,
@@ -146,82 +93,74 @@ fn applied_text(alloc: Global, at: &Line, right: &Right) -> Result<Vec<u8>, Allo
     Ok(out)
 }
 
-/// A right side, the number that it is applied to, and the text of what is made.
-type Row = (Right, Line, &'static str);
-
-/// Variable 0 and 1 more.
-const NEXT: Line = (1, 0, 1);
-
-const NUMBERS: &[Row] = &[
-    (Right::Number((8, 0, 0)), NEXT, "8 * '0 + 8"),
-    (Right::Power((1, 0, 0)), NEXT, "2 ^ ('0 + 1)"),
-    (Right::Power((1, 0, 0)), (0, 0, 200), "2 ^ (200)"),
-    (Right::Number((1 << 126, 0, 1 << 126)), NEXT, "none"),
-];
-
-const TYPES: &[Row] = &[
-    (Right::Bits((1, 0, -1)), NEXT, "bits('0)"),
-    (Right::Variable, NEXT, "range(0, '0)"),
-    (Right::List, NEXT, "list(range(0, '0))"),
-    (Right::Truth, NEXT, "bool(true)"),
-];
-
-const BINDERS: &[Row] = &[
-    (
-        Right::SomeBits((3, 1, 0)),
-        NEXT,
-        "{('0 < '1 + 1). bits(3 * '1 + 3)}",
-    ),
-    (Right::SomeVariable, (0, 0, 9), "{('0 < 9). range(0, '1)}"),
-];
-
-fn check(rt: &impl Abort, alloc: Global, rows: &[Row]) -> Result<(), AllocError> {
-    for (right, at, text) in rows {
-        let made = applied_text(alloc, at, right)?;
-        assert!(rt; made.as_slice() == text.as_bytes(), "{text}");
-    }
-    Ok(())
+/// Whether the right side of a named type is this text where it is applied to variable 0 and 1 more.
+fn is_made(alloc: Global, right: Normal, text: &str) -> Result<bool, AllocError> {
+    let made = applied_text(alloc, line(alloc, 1, 0, 1)?, right)?;
+    Ok(made.as_slice() == text.as_bytes())
 }
 
 #[test]
 fn named_numbers_are_applied(rt: HostRuntime) -> Result<(), Fail> {
-    check(&rt, rt.alloc(), NUMBERS)?;
+    let alloc = rt.alloc();
+    let eight = line(alloc, 8, 0, 0)?;
+    assert!(rt; is_made(alloc, Normal::Number(eight), "8 * '0 + 8")?);
+    let raised = power(alloc, line(alloc, 1, 0, 0)?)?;
+    assert!(rt; is_made(alloc, Normal::Number(raised), "2 ^ ('0 + 1)")?);
+    let again = copy_normal(alloc, &Normal::Number(power(alloc, line(alloc, 1, 0, 0)?)?))?;
+    let made = applied_text(alloc, Num::constant(alloc, 200), again)?;
+    assert!(rt; made.as_slice() == "2 ^ (200)".as_bytes());
+    let large = line(alloc, 1 << 126, 0, 1 << 126)?;
+    assert!(rt; is_made(alloc, Normal::Number(large), "none")?);
     Ok(())
 }
 
 #[test]
 fn named_types_are_applied(rt: HostRuntime) -> Result<(), Fail> {
-    check(&rt, rt.alloc(), TYPES)?;
+    let alloc = rt.alloc();
+    let width = Typ::Bits(line(alloc, 1, 0, -1)?);
+    assert!(rt; is_made(alloc, Normal::Typ(width), "bits('0)")?);
+    assert!(rt; is_made(alloc, Normal::Typ(Typ::Variable(0)), "range(0, '0)")?);
+    let list = Typ::List(Boxed::new(alloc, Typ::Variable(0))?);
+    assert!(rt; is_made(alloc, Normal::Typ(list), "list(range(0, '0))")?);
+    let truth = Typ::Truth(Con::Holds(1));
+    assert!(rt; is_made(alloc, Normal::Typ(truth), "bool(true)")?);
     Ok(())
 }
 
 #[test]
 fn named_types_with_binders_are_applied(rt: HostRuntime) -> Result<(), Fail> {
-    check(&rt, rt.alloc(), BINDERS)?;
+    let alloc = rt.alloc();
+    let inner = below(alloc, Typ::Bits(line(alloc, 3, 1, 0)?))?;
+    assert!(rt;
+        is_made(
+            alloc,
+            Normal::Typ(inner),
+            "{('0 < '1 + 1). bits(3 * '1 + 3)}"
+        )?
+    );
+    let own = below(alloc, Typ::Variable(0))?;
+    let made = applied_text(alloc, Num::constant(alloc, 9), Normal::Typ(own))?;
+    assert!(rt; made.as_slice() == "{('0 < 9). range(0, '1)}".as_bytes());
     Ok(())
 }
 
-/// Types, and whether they have no values.
-const VOID: &[(Right, bool)] = &[
-    (Right::Range((0, 0, 2), (0, 0, 2)), false),
-    (Right::Range((1, 0, 0), (0, 0, -1)), false),
-    (Right::Bits((0, 0, 0)), false),
-    (Right::Bits((0, 0, -1)), true),
-    (Right::Bits((1, 0, -1)), false),
-    (Right::SomeRanges((0, 0, 3), (0, 0, 2)), true),
-];
-
 /// Whether a copy of a type has no values.
-fn is_void(alloc: Global, right: &Right) -> Result<bool, AllocError> {
-    let typ = typ(alloc, right)?;
+fn is_void(alloc: Global, typ: Typ) -> Result<bool, AllocError> {
     Ok(is_void_normal(&Normal::Typ(copy_typ(alloc, &typ)?)))
 }
 
 #[test]
 fn empty_ranges_and_negative_widths_are_found(rt: HostRuntime) -> Result<(), Fail> {
     let alloc = rt.alloc();
-    for (right, wanted) in VOID {
-        assert!(rt; is_void(alloc, right)? == *wanted);
-    }
+    let one = Typ::Range(Num::constant(alloc, 2), Num::constant(alloc, 2));
+    assert!(rt; !is_void(alloc, one)?);
+    let unknown = Typ::Range(line(alloc, 1, 0, 0)?, Num::constant(alloc, -1));
+    assert!(rt; !is_void(alloc, unknown)?);
+    assert!(rt; !is_void(alloc, Typ::Bits(Num::constant(alloc, 0)))?);
+    assert!(rt; is_void(alloc, Typ::Bits(Num::constant(alloc, -1)))?);
+    assert!(rt; !is_void(alloc, Typ::Bits(line(alloc, 1, 0, -1)?))?);
+    let empty = Typ::Range(Num::constant(alloc, 3), Num::constant(alloc, 2));
+    let inside = below(alloc, Typ::List(Boxed::new(alloc, empty)?))?;
+    assert!(rt; is_void(alloc, inside)?);
     Ok(())
 }

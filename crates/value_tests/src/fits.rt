@@ -1,11 +1,10 @@
 use crate::named::{Named, Part, table};
 use crate::written::Written::{Bit, Int, Truth, Unit};
-use crate::written::{Shaped, Written, shape, value};
+use crate::written::values;
 use sail_base::{Boxed, Items, Text};
 use sail_fits::{same_type, value_fits};
-use sail_types::{Con, Index, Num, Typ};
+use sail_types::{Con, Index, Num, Shape, Typ, Types, Value};
 use std::alloc::{AllocError, Global};
-use std::process::Abort;
 use std::test::Fail;
 
 const OPTION: u32 = 0;
@@ -40,98 +39,112 @@ fn one_of<T: Drop>(alloc: Global, a: T) -> Result<Items<T>, AllocError> {
     Ok(items)
 }
 
-/// A value, a shape, and whether the value fits it.
-type Row = (Written, Shaped, bool);
+fn pair_of<T: Drop>(alloc: Global, a: T, b: T) -> Result<Items<T>, AllocError> {
+    let mut items = one_of(alloc, a)?;
+    items.push(b)?;
+    Ok(items)
+}
 
-const LISTS: &[Row] = &[
-    (Written::EmptyList, Shaped::List(&Shaped::Int), true),
-    (Written::EmptyList, Shaped::List(&Shaped::Hole), true),
-    (Written::EmptyList, Shaped::Vector(&Shaped::Int), false),
-    (Written::List(&Int(1)), Shaped::List(&Shaped::Bool), false),
-];
+/// `Some(value)`
+fn some(alloc: Global, value: Value) -> Result<Value, AllocError> {
+    Ok(Value::Union(OPTION, 0, Boxed::new(alloc, value)?))
+}
 
-const OPTIONS: &[Row] = &[
-    (
-        Written::Some(&Truth(true)),
-        Shaped::Of(OPTION, &Shaped::Bool),
-        true,
-    ),
-    (
-        Written::Some(&Truth(true)),
-        Shaped::Of(OPTION, &Shaped::Int),
-        false,
-    ),
-    (Written::Some(&Unit), Shaped::Named(COLOR), false),
-    (
-        Written::Struct(WRAPPED, &Written::Some(&Truth(true))),
-        Shaped::Of(WRAPPED, &Shaped::Bool),
-        true,
-    ),
-];
+/// `option(item)`
+fn option(alloc: Global, item: Shape) -> Result<Shape, AllocError> {
+    Ok(Shape::Named(OPTION, one_of(alloc, item)?))
+}
 
-const PARTS: &[Row] = &[
-    (
-        Written::Pair(PAIR, &Truth(true), &Bit(true)),
-        Shaped::Named(PAIR),
-        true,
-    ),
-    (
-        Written::Pair(PAIR, &Bit(true), &Truth(true)),
-        Shaped::Named(PAIR),
-        false,
-    ),
-    (
-        Written::Struct(PAIR, &Truth(true)),
-        Shaped::Named(PAIR),
-        false,
-    ),
-    (
-        Written::Tuple(&Int(1), &Unit),
-        Shaped::Tuple(&Shaped::Int, &Shaped::Unit),
-        true,
-    ),
-];
+fn list(alloc: Global, item: Shape) -> Result<Shape, AllocError> {
+    Ok(Shape::List(Boxed::new(alloc, item)?))
+}
 
-const PLAIN: &[Row] = &[
-    (Written::Member(COLOR, 1), Shaped::Named(COLOR), true),
-    (Written::Member(COLOR, 2), Shaped::Named(COLOR), false),
-    (Written::Member(COLOR, 0), Shaped::Named(SHADE), false),
-    (Int(-1), Shaped::Variable(0), true),
-    (Unit, Shaped::Hole, false),
-    (Unit, Shaped::Never, false),
-];
+/// Whether a value fits a shape.
+fn fits(types: &Types, value: Value, shape: Shape) -> bool {
+    value_fits(types, &value, &shape)
+}
 
-fn check(rt: &impl Abort, alloc: Global, rows: &[Row]) -> Result<(), AllocError> {
-    let types = table(alloc, TABLE)?;
-    for (written, shaped, wanted) in rows {
-        let value = value(alloc, written)?;
-        let shape = shape(alloc, shaped)?;
-        assert!(rt; value_fits(&types, &value, &shape) == *wanted);
-    }
-    Ok(())
+/// The shape of a named type without arguments.
+fn of(alloc: Global, place: u32) -> Shape {
+    Shape::Named(place, Items::new(alloc))
 }
 
 #[test]
 fn lists_fit_their_shapes(rt: HostRuntime) -> Result<(), Fail> {
-    check(&rt, rt.alloc(), LISTS)?;
+    let alloc = rt.alloc();
+    let types = table(alloc, TABLE)?;
+    assert!(rt;
+        fits(
+            &types,
+            Value::List(Items::new(alloc)),
+            list(alloc, Shape::Int)?
+        )
+    );
+    assert!(rt;
+        fits(
+            &types,
+            Value::List(Items::new(alloc)),
+            list(alloc, Shape::Hole)?
+        )
+    );
+    let vector = Shape::Vector(Boxed::new(alloc, Shape::Int)?);
+    assert!(rt; !fits(&types, Value::List(Items::new(alloc)), vector));
+    let integers = Value::List(values(alloc, &[Int(1)])?);
+    assert!(rt; !fits(&types, integers, list(alloc, Shape::Bool)?));
     Ok(())
 }
 
 #[test]
 fn options_fit_their_shapes(rt: HostRuntime) -> Result<(), Fail> {
-    check(&rt, rt.alloc(), OPTIONS)?;
+    let alloc = rt.alloc();
+    let types = table(alloc, TABLE)?;
+    assert!(rt;
+        fits(
+            &types,
+            some(alloc, Value::Truth(true))?,
+            option(alloc, Shape::Bool)?
+        )
+    );
+    assert!(rt;
+        !fits(
+            &types,
+            some(alloc, Value::Truth(true))?,
+            option(alloc, Shape::Int)?
+        )
+    );
+    assert!(rt; !fits(&types, some(alloc, Value::Unit)?, of(alloc, COLOR)));
+    let wrapped = Value::Struct(WRAPPED, one_of(alloc, some(alloc, Value::Truth(true))?)?);
+    let shape = Shape::Named(WRAPPED, one_of(alloc, Shape::Bool)?);
+    assert!(rt; fits(&types, wrapped, shape));
     Ok(())
 }
 
 #[test]
 fn structs_and_tuples_fit_their_shapes(rt: HostRuntime) -> Result<(), Fail> {
-    check(&rt, rt.alloc(), PARTS)?;
+    let alloc = rt.alloc();
+    let types = table(alloc, TABLE)?;
+    let pair = Value::Struct(PAIR, values(alloc, &[Truth(true), Bit(true)])?);
+    assert!(rt; fits(&types, pair, of(alloc, PAIR)));
+    let crossed = Value::Struct(PAIR, values(alloc, &[Bit(true), Truth(true)])?);
+    assert!(rt; !fits(&types, crossed, of(alloc, PAIR)));
+    let short = Value::Struct(PAIR, values(alloc, &[Truth(true)])?);
+    assert!(rt; !fits(&types, short, of(alloc, PAIR)));
+    let two = Value::Tuple(values(alloc, &[Int(1), Unit])?);
+    let shape = Shape::Tuple(pair_of(alloc, Shape::Int, Shape::Unit)?);
+    assert!(rt; fits(&types, two, shape));
     Ok(())
 }
 
 #[test]
 fn members_and_plain_values_fit_their_shapes(rt: HostRuntime) -> Result<(), Fail> {
-    check(&rt, rt.alloc(), PLAIN)?;
+    let alloc = rt.alloc();
+    let types = table(alloc, TABLE)?;
+    assert!(rt; fits(&types, Value::Member(COLOR, 1), of(alloc, COLOR)));
+    assert!(rt; !fits(&types, Value::Member(COLOR, 2), of(alloc, COLOR)));
+    assert!(rt; !fits(&types, Value::Member(COLOR, 0), of(alloc, SHADE)));
+    assert!(rt; fits(&types, Value::Integer(-1), Shape::Variable(0)));
+    assert!(rt; !fits(&types, Value::Unit, Shape::Hole));
+    assert!(rt; !fits(&types, Value::Unit, Shape::Never));
     Ok(())
 }
 

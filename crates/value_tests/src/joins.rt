@@ -1,140 +1,117 @@
-use crate::written::Shaped::{
-    Bits, Bool, Hole, Int, List, Named, Never, Of, Tuple, Unit, Variable,
-};
-use crate::written::{Shaped, shape, shapes};
-use sail_types::{same_shape, same_shapes};
+use sail_base::{Boxed, Items};
+use sail_types::{Shape, same_shape, same_shapes};
 use shape_joins::{holes, join_shapes, learn_shapes, overlap, put_shape};
 use std::alloc::{AllocError, Global};
 use std::test::Fail;
 
-/// The union `option`.
-const OPTION: u32 = 0;
+fn list(alloc: Global, item: Shape) -> Result<Shape, AllocError> {
+    Ok(Shape::List(Boxed::new(alloc, item)?))
+}
 
-/// Two shapes, and what they are together; an empty list takes the wanted shape, and `None()` the payload that stands beside it.
-const JOINS: &[(Shaped, Shaped, Shaped)] = &[
-    (List(&Hole), List(&Int), List(&Int)),
-    (
-        Tuple(&Bool, &Of(OPTION, &Hole)),
-        Tuple(&Never, &Of(OPTION, &Bits)),
-        Tuple(&Bool, &Of(OPTION, &Bits)),
-    ),
-    (Hole, Never, Hole),
-    (Unit, Never, Unit),
-];
+fn one(alloc: Global, a: Shape) -> Result<Items<Shape>, AllocError> {
+    let mut items = Items::new(alloc);
+    items.push(a)?;
+    Ok(items)
+}
 
-/// Whether two shapes are this one together.
-fn is_join(alloc: Global, a: &Shaped, b: &Shaped, wanted: &Shaped) -> Result<bool, AllocError> {
-    let a = shape(alloc, a)?;
-    let b = shape(alloc, b)?;
-    let wanted = shape(alloc, wanted)?;
-    match join_shapes(alloc, &a, &b)? {
-        Some(found) => Ok(same_shape(&found, &wanted)),
-        None => Ok(false),
+fn two(alloc: Global, a: Shape, b: Shape) -> Result<Items<Shape>, AllocError> {
+    let mut items = one(alloc, a)?;
+    items.push(b)?;
+    Ok(items)
+}
+
+/// `option(S)`
+fn option(alloc: Global, item: Shape) -> Result<Shape, AllocError> {
+    Ok(Shape::Named(0, one(alloc, item)?))
+}
+
+/// Whether two shapes are this one together, or none.
+fn is_join(alloc: Global, a: Shape, b: Shape, wanted: Option<Shape>) -> Result<bool, AllocError> {
+    match (join_shapes(alloc, &a, &b)?, wanted) {
+        (Some(found), Some(wanted)) => Ok(same_shape(&found, &wanted)),
+        (found, wanted) => Ok(found.is_none() && wanted.is_none()),
     }
 }
 
+/// An empty list takes the wanted shape, and `None()` the payload that stands beside it.
 #[test]
 fn open_shapes_take_what_is_wanted(rt: HostRuntime) -> Result<(), Fail> {
     let alloc = rt.alloc();
-    for (a, b, wanted) in JOINS {
-        assert!(rt; is_join(alloc, a, b, wanted)?);
-    }
+    let open = list(alloc, Shape::Hole)?;
+    let wanted = list(alloc, Shape::Int)?;
+    assert!(rt; is_join(alloc, open, list(alloc, Shape::Int)?, Some(wanted))?);
+    let open = Shape::Tuple(two(alloc, Shape::Bool, option(alloc, Shape::Hole)?)?);
+    let beside = Shape::Tuple(two(alloc, Shape::Never, option(alloc, Shape::Bits)?)?);
+    let wanted = Shape::Tuple(two(alloc, Shape::Bool, option(alloc, Shape::Bits)?)?);
+    assert!(rt; is_join(alloc, open, beside, Some(wanted))?);
+    assert!(rt; is_join(alloc, Shape::Hole, Shape::Never, Some(Shape::Hole))?);
+    assert!(rt; is_join(alloc, Shape::Unit, Shape::Never, Some(Shape::Unit))?);
     Ok(())
-}
-
-/// Two shapes that are none together.
-const OTHERS: &[(Shaped, Shaped)] = &[(Int, Bits), (List(&Int), List(&Bool)), (Named(0), Named(1))];
-
-/// Whether two shapes are none together.
-fn is_none(alloc: Global, a: &Shaped, b: &Shaped) -> Result<bool, AllocError> {
-    let a = shape(alloc, a)?;
-    let b = shape(alloc, b)?;
-    Ok(join_shapes(alloc, &a, &b)?.is_none())
 }
 
 #[test]
 fn other_shapes_are_none_together(rt: HostRuntime) -> Result<(), Fail> {
     let alloc = rt.alloc();
-    for (a, b) in OTHERS {
-        assert!(rt; is_none(alloc, a, b)?);
-    }
+    assert!(rt; is_join(alloc, Shape::Int, Shape::Bits, None)?);
+    let integers = list(alloc, Shape::Int)?;
+    assert!(rt; is_join(alloc, integers, list(alloc, Shape::Bool)?, None)?);
+    let first = Shape::Named(0, Items::new(alloc));
+    let second = Shape::Named(1, Items::new(alloc));
+    assert!(rt; is_join(alloc, first, second, None)?);
     Ok(())
 }
 
-/// The parameters of `pick : ('a, option('a)) -> 'a`.
-const PARAMETERS: &[Shaped] = &[Variable(0), Of(OPTION, &Variable(0))];
-
-/// What stands for 'a in a call of `pick`: `int` of `pick(3, None())`.
 #[test]
 fn variables_stand_for_what_arguments_tell(rt: HostRuntime) -> Result<(), Fail> {
     let alloc = rt.alloc();
-    let parameters = shapes(alloc, PARAMETERS)?;
-    let arguments = shapes(alloc, &[Int, Of(OPTION, &Hole)])?;
+    // `pick : ('a, option('a)) -> 'a`: of `pick(3, None())` 'a is int, and `pick(3, Some(true))` is none
+    let parameters = two(
+        alloc,
+        Shape::Variable(0),
+        option(alloc, Shape::Variable(0))?,
+    )?;
+    let none = two(alloc, Shape::Int, option(alloc, Shape::Hole)?)?;
     let mut known = holes(alloc, 1)?;
-    assert!(rt;
-        learn_shapes(
-            alloc,
-            parameters.as_slice(),
-            arguments.as_slice(),
-            &mut known
-        )?
-    );
-    let wanted = shapes(alloc, &[Int])?;
-    assert!(rt; same_shapes(known.as_slice(), wanted.as_slice()));
-    let payload = shape(alloc, &Of(OPTION, &Variable(0)))?;
+    assert!(rt; learn_shapes(alloc, parameters.as_slice(), none.as_slice(), &mut known)?);
+    assert!(rt; same_shapes(known.as_slice(), &[Shape::Int]));
+    let payload = option(alloc, Shape::Variable(0))?;
     let put = put_shape(alloc, &payload, known.as_slice())?;
-    assert!(rt; same_shape(&put, &shape(alloc, &Of(OPTION, &Int))?));
-    Ok(())
-}
-
-/// `pick(3, Some(true))`
-#[test]
-fn arguments_that_tell_two_shapes_have_none(rt: HostRuntime) -> Result<(), Fail> {
-    let alloc = rt.alloc();
-    let parameters = shapes(alloc, PARAMETERS)?;
-    let arguments = shapes(alloc, &[Int, Of(OPTION, &Bool)])?;
+    assert!(rt; same_shape(&put, &option(alloc, Shape::Int)?));
+    let other = two(alloc, Shape::Int, option(alloc, Shape::Bool)?)?;
     let mut known = holes(alloc, 1)?;
-    assert!(rt;
-        !learn_shapes(
-            alloc,
-            parameters.as_slice(),
-            arguments.as_slice(),
-            &mut known
-        )?
-    );
+    assert!(rt; !learn_shapes(alloc, parameters.as_slice(), other.as_slice(), &mut known)?);
     Ok(())
 }
-
-/// The parameters of two members, and whether the members clash.
-const MEMBERS: &[(&[Shaped], &[Shaped], bool)] = &[
-    // `list(int) -> int` and `list(bool) -> int` share the empty list
-    (&[List(&Int)], &[List(&Bool)], true),
-    (&[Variable(0)], &[Int], true),
-    (
-        &[Variable(0), Variable(0)],
-        &[Variable(0), Variable(1)],
-        true,
-    ),
-    // `int -> int` twice, and `'a -> int` beside `'b -> int`, are equal
-    (&[Int], &[Int], false),
-    (&[Variable(0)], &[Variable(1)], false),
-    // other counts and other heads never clash
-    (&[Int], &[Int, Int], false),
-    (&[Int], &[Bits], false),
-];
 
 /// Whether members of these parameters clash.
-fn clash(alloc: Global, a: &[Shaped], b: &[Shaped]) -> Result<bool, AllocError> {
-    let a = shapes(alloc, a)?;
-    let b = shapes(alloc, b)?;
+fn clash(alloc: Global, a: Items<Shape>, b: Items<Shape>) -> Result<bool, AllocError> {
     overlap(alloc, a.as_slice(), b.as_slice())
 }
 
+/// `list(int) -> int` and `list(bool) -> int` share the empty list.
 #[test]
 fn members_that_may_share_values_clash(rt: HostRuntime) -> Result<(), Fail> {
     let alloc = rt.alloc();
-    for (a, b, wanted) in MEMBERS {
-        assert!(rt; clash(alloc, a, b)? == *wanted);
-    }
+    let integers = one(alloc, list(alloc, Shape::Int)?)?;
+    let truths = one(alloc, list(alloc, Shape::Bool)?)?;
+    assert!(rt; clash(alloc, integers, truths)?);
+    let any = one(alloc, Shape::Variable(0))?;
+    assert!(rt; clash(alloc, any, one(alloc, Shape::Int)?)?);
+    let same = two(alloc, Shape::Variable(0), Shape::Variable(0))?;
+    let other = two(alloc, Shape::Variable(0), Shape::Variable(1))?;
+    assert!(rt; clash(alloc, same, other)?);
+    Ok(())
+}
+
+/// `int -> int` twice, and `'a -> int` beside `'b -> int`, are equal; other counts and other heads never clash.
+#[test]
+fn equal_members_and_others_dont_clash(rt: HostRuntime) -> Result<(), Fail> {
+    let alloc = rt.alloc();
+    assert!(rt; !clash(alloc, one(alloc, Shape::Int)?, one(alloc, Shape::Int)?)?);
+    let first = one(alloc, Shape::Variable(0))?;
+    assert!(rt; !clash(alloc, first, one(alloc, Shape::Variable(1))?)?);
+    let single = one(alloc, Shape::Int)?;
+    assert!(rt; !clash(alloc, single, two(alloc, Shape::Int, Shape::Int)?)?);
+    assert!(rt; !clash(alloc, one(alloc, Shape::Int)?, one(alloc, Shape::Bits)?)?);
     Ok(())
 }

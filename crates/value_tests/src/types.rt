@@ -1,7 +1,7 @@
 use crate::named::{Named, Part, table, texts};
 use crate::written::Written::{Bit, Bits, Int, Truth, Unit};
-use crate::written::{Shaped, Written, shape, value};
-use sail_base::Items;
+use crate::written::{Written, value, values};
+use sail_base::{Boxed, Items};
 use sail_types::*;
 use std::alloc::{AllocError, Global};
 use std::process::Abort;
@@ -21,27 +21,27 @@ const TABLE: &[(&str, Named)] = &[
     ("flags", Named::Struct(&[("bits", Part::Bits(8))])),
 ];
 
-/// Shapes, and their texts, where 'a is variable 0.
-const SHAPES: &[(Shaped, &str)] = &[
-    (Shaped::Bits, "bits"),
-    (Shaped::List(&Shaped::Int), "list(int)"),
-    (Shaped::Vector(&Shaped::Bits), "vector(bits)"),
-    (Shaped::Tuple(&Shaped::Int, &Shaped::Bits), "(int, bits)"),
-    (Shaped::Of(0, &Shaped::Int), "option(int)"),
-    (Shaped::Named(2), "color"),
-    (Shaped::Variable(0), "'a"),
-    (Shaped::Hole, "_"),
-];
+fn pair_of<T: Drop>(alloc: Global, a: T, b: T) -> Result<Items<T>, AllocError> {
+    let mut items = Items::new(alloc);
+    items.push(a)?;
+    items.push(b)?;
+    Ok(items)
+}
+
+fn one_of<T: Drop>(alloc: Global, a: T) -> Result<Items<T>, AllocError> {
+    let mut items = Items::new(alloc);
+    items.push(a)?;
+    Ok(items)
+}
 
 /// Whether a shape prints as this text, where 'a is variable 0.
 fn is_shape_text(
     alloc: Global,
     types: &Types,
-    shaped: &Shaped,
+    shape: Shape,
     text: &str,
 ) -> Result<bool, AllocError> {
     let names = texts(alloc, &["'a"])?;
-    let shape = shape(alloc, shaped)?;
     let mut out = Vec::new(alloc);
     push_shape(&mut out, types, names.as_slice(), &shape)?;
     Ok(out.as_slice() == text.as_bytes())
@@ -51,9 +51,18 @@ fn is_shape_text(
 fn shapes_print_as_the_manual_writes_types(rt: HostRuntime) -> Result<(), Fail> {
     let alloc = rt.alloc();
     let types = table(alloc, TABLE)?;
-    for (shaped, text) in SHAPES {
-        assert!(rt; is_shape_text(alloc, &types, shaped, text)?, "{text}");
-    }
+    assert!(rt; is_shape_text(alloc, &types, Shape::Bits, "bits")?);
+    let list = Shape::List(Boxed::new(alloc, Shape::Int)?);
+    assert!(rt; is_shape_text(alloc, &types, list, "list(int)")?);
+    let vector = Shape::Vector(Boxed::new(alloc, Shape::Bits)?);
+    assert!(rt; is_shape_text(alloc, &types, vector, "vector(bits)")?);
+    let tuple = Shape::Tuple(pair_of(alloc, Shape::Int, Shape::Bits)?);
+    assert!(rt; is_shape_text(alloc, &types, tuple, "(int, bits)")?);
+    let option = Shape::Named(0, one_of(alloc, Shape::Int)?);
+    assert!(rt; is_shape_text(alloc, &types, option, "option(int)")?);
+    assert!(rt; is_shape_text(alloc, &types, Shape::Named(2, Items::new(alloc)), "color")?);
+    assert!(rt; is_shape_text(alloc, &types, Shape::Variable(0), "'a")?);
+    assert!(rt; is_shape_text(alloc, &types, Shape::Hole, "_")?);
     Ok(())
 }
 
@@ -149,17 +158,18 @@ fn plain_values_print_as_in_the_report(rt: HostRuntime) -> Result<(), Fail> {
     Ok(())
 }
 
-/// Values of parts, and their texts.
-const PARTS: &[(Written, &str)] = &[
-    (Written::Tuple(&Int(1), &Truth(false)), "(1, false)"),
-    (Written::Vector(&Int(1), &Int(2)), "[1, 2]"),
-    (Written::Vector(&Bits(8, 1), &Bits(8, 2)), "[0x01, 0x02]"),
-    (Written::Struct(3, &Bits(8, 0xa8)), "{bits = 0xa8}"),
-];
-
 #[test]
 fn values_of_parts_print_as_in_the_report(rt: HostRuntime) -> Result<(), Fail> {
-    check(&rt, rt.alloc(), PARTS)?;
+    let alloc = rt.alloc();
+    let types = table(alloc, TABLE)?;
+    let tuple = Value::Tuple(values(alloc, &[Int(1), Truth(false)])?);
+    assert!(rt; is_value_text(alloc, &types, tuple, "(1, false)")?);
+    let vector = Value::Vector(values(alloc, &[Int(1), Int(2)])?);
+    assert!(rt; is_value_text(alloc, &types, vector, "[1, 2]")?);
+    let words = Value::Vector(values(alloc, &[Bits(8, 1), Bits(8, 2)])?);
+    assert!(rt; is_value_text(alloc, &types, words, "[0x01, 0x02]")?);
+    let flags = Value::Struct(3, values(alloc, &[Bits(8, 0xa8)])?);
+    assert!(rt; is_value_text(alloc, &types, flags, "{bits = 0xa8}")?);
     Ok(())
 }
 
