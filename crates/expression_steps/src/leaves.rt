@@ -33,13 +33,7 @@ fn local(
     ensures walked { OnOk result (walk.seen walking.new
         ≡ walk.run (names.local_walk place number (held_in name.now (scope_of scope.now))) (walk.seen walking.old)) }
 {
-    read_local(
-        alloc,
-        walking,
-        place,
-        number,
-        look_up(name.as_str(), scope),
-    )
+    read_local(alloc, walking, place, number, look_up(name.as_str(), scope))
 }
 
 /// The name of a `var`, as the node of a number reads it. It fails where memory is wanting, and where variables are too many.
