@@ -15,6 +15,22 @@ pub definitions_row : {t : Tree} → Made Fine (rule N.Definitions) t → Fine N
 definitions_row (left (both (row d) (row more))) = (d, more)
 definitions_row (right empty) = tt
 
+pub definition_row : {t : Tree} → Made Fine (rule N.Definition) t → Fine N.Definition t
+definition_row (left (row d)) = d
+definition_row (right (left (row d))) = d
+definition_row (right (right (left (row d)))) = d
+definition_row (right (right (right (left (row d))))) = d
+definition_row (right (right (right (right (left (row d)))))) = d
+definition_row (right (right (right (right (right (left (row d))))))) = d
+definition_row (right (right (right (right (right (right (left (row d)))))))) = d
+definition_row (right (right (right (right (right (right (right (left (row d))))))))) = d
+definition_row (right (right (right (right (right (right (right (right (left (row d)))))))))) = d
+definition_row (right (right (right (right (right (right (right (right (right (left (row d))))))))))) = d
+definition_row (right (right (right (right (right (right (right (right (right (right (left (row d)))))))))))) = d
+definition_row (right (right (right (right (right (right (right (right (right (right (right (left (row d))))))))))))) = d
+definition_row (right (right (right (right (right (right (right (right (right (right (right (right (left (row d)))))))))))))) = d
+definition_row (right (right (right (right (right (right (right (right (right (right (right (right (right (row d)))))))))))))) = d
+
 -- ---- definitions
 
 pub order_row : {t : Tree} → Made Fine (rule N.OrderDefinition) t → Fine N.OrderDefinition t
@@ -71,6 +87,11 @@ register_row (both (word {s = first} w) (both (word {s = called} n) (both (word 
 
 pub overload_row : {t : Tree} → Made Fine (rule N.OverloadDefinition) t → Fine N.OverloadDefinition t
 overload_row (both (word w) (both what (both (word e) (both (word o) (both (row ns) (word c)))))) = refl
+
+pub scattered_row : {t : Tree} → Made Fine (rule N.ScatteredDefinition) t → Fine N.ScatteredDefinition t
+scattered_row (both (word w) (left (both (word u) (both (word n) (row ps))))) = refl
+scattered_row (both (word w) (right (left (both (word f) (word n))))) = refl
+scattered_row (both (word w) (right (right (both (word m) (word n))))) = refl
 
 pub end_row : {t : Tree} → Made Fine (rule N.EndDefinition) t → Fine N.EndDefinition t
 end_row (both (word w) (word n)) = refl

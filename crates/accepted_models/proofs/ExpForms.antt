@@ -12,7 +12,7 @@ use Rattle.sail_syntax.specs.declared.words.Leaving.{Leaving}
 use Rattle.sail_syntax.specs.declared.words.Looping.{Looping}
 use Rattle.sail_syntax.specs.declared.types.TyExp.{TyExp}
 use Rattle.sail_syntax.specs.declared.patterns.Pat.{Pat}
-use Rattle.sail_syntax.specs.declared.expressions.Exp.{Exp, Exp-F, para-roll-Exp, roll-Exp}
+use Rattle.sail_syntax.specs.declared.expressions.Exp.{Exp, Exp-F, map-Exp, para-roll-Exp, roll-Exp}
 use Rattle.sail_syntax.specs.declared.expressions.Exp.TheFolds.{fold-roll-Exp, fold-roll-LExp}
 use Rattle.sail_syntax.specs.declared.expressions.Exp.TheOpen as E
 use Rattle.sail_syntax.specs.declared.expressions.Exp.TheVariants as V
@@ -37,7 +37,6 @@ use Rattle.shape_stands.specs.Manner as M
 use Rattle.shape_stands.specs.Manner.{Manner, both, every, fields_form, leaf, manner}
 use Rattle.accepted_models.proofs.Manners.{Suits, manner_Exp, manner_LExp, manner_case, manner_field, manner_index, manner_lexp, manner_range, manner_stmt}
 use Rattle.accepted_models.proofs.Manners.{manner_suffix, manner_target, suits_both, suits_fields, suits_full, suits_leaf}
-use Rattle.parsed_texts.proofs.ExpForms.{answered}
 
 -- an expression that is read in a mode, and what is assigned to, where it can be
 pub record FineExp (mode : Mode) (e : Exp) : Type 0 where
@@ -57,6 +56,12 @@ FineIf mode (Some e) = FineExp mode e
 -- a form with its parts and what they are as what is assigned to
 abbrev with_target : Exp → Exp × Option LExp
 with_target e = (e, target e)
+
+abbrev answered : OverTrees E.Exp-F → E.Exp-F (Exp × Option LExp) (LExp × Unit {0}) (Stmt × Unit {0}) (Suffix × Unit {0}) (Case × Unit {0})
+    (FieldValue × Unit {0}) (Index × Unit {0}) (Range × Unit {0}) (Target × Unit {0})
+answered x = map-Exp Exp LExp Stmt Suffix Case FieldValue Index Range Target (Exp × Option LExp) (LExp × Unit {0}) (Stmt × Unit {0}) (Suffix × Unit {0})
+    (Case × Unit {0}) (FieldValue × Unit {0}) (Index × Unit {0}) (Range × Unit {0}) (Target × Unit {0}) with_target (λ a. (a, tt)) (λ a. (a, tt))
+    (λ a. (a, tt)) (λ a. (a, tt)) (λ a. (a, tt)) (λ a. (a, tt)) (λ a. (a, tt)) (λ a. (a, tt)) x
 
 abbrev AllFull : List LExp → Type 0
 AllFull ls = (every (map manner_lexp ls)).is_full ≡ true

@@ -42,6 +42,14 @@ if_row m (both (word w) (both (row a) (both (word h) (both (row b) o)))) = if_fi
 pub match_row : (m : Mode) {t : Tree} → Made Fine (rule (N.Match m)) t → Fine (N.Match m) t
 match_row m (both (word w) (both (row a) (row cs))) = match_fine m _ _ _ a.exp cs
 
+pub control_row : (m : Mode) {t : Tree} → Made Fine (rule (N.Control m)) t → Fine (N.Control m) t
+control_row Full (left (row a)) = a
+control_row Full (right (left (row a))) = a
+control_row Full (right (right (left (row a)))) = a
+control_row Full (right (right (right (left (row a))))) = a
+control_row Full (right (right (right (right (row a))))) = a
+control_row Limited made = elim made [ ]
+
 pub try_row : {t : Tree} → Made Fine (rule N.Try) t → Fine N.Try t
 try_row (both (word w) (both (row a) (both (word k) (row cs)))) = try_fine _ _ _ a.exp cs
 

@@ -1,5 +1,5 @@
 -- What is found of each expression stands: by induction on the expression.
-use Rattle.std.proofs.Common.{◌≡◌, inl, inr, Bool, true, false, ◌&&◌, List, [], ◌∷◌, ◌++◌, map, ap, sym, ◌∙◌, refl, Option, Some, None}
+use Rattle.std.proofs.Common.{◌≡◌, inl, inr, Bool, true, false, ◌&&◌, List, [], ◌∷◌, ◌++◌, map, ap, sym, ◌∙◌, refl, subst, Option, Some, None}
 use Rattle.std.proofs.lemmas.Bool.{and_parts}
 use Rattle.sail_base.specs.declared.kind.Kind.TheVariants as Sort
 use Rattle.sail_base.specs.declared.operators.Operator.{Operator}
@@ -16,17 +16,18 @@ use Rattle.sail_syntax.specs.declared.words.Brackets.TheVariants as B
 use Rattle.sail_syntax.specs.declared.words.Choosing.TheVariants.{Match, Try}
 use Rattle.sail_syntax.specs.declared.words.Leaving.TheVariants as Leave
 use Rattle.sail_syntax.specs.declared.words.Looping.TheVariants.{While, Repeat}
-use Rattle.sail_syntax.specs.declared.expressions.Exp.{Exp, Exp-F}
+use Rattle.sail_syntax.specs.declared.expressions.Exp.{Exp, Exp-F, roll-Exp}
 use Rattle.sail_syntax.specs.declared.expressions.Exp.TheOpen as E
 use Rattle.sail_syntax.specs.declared.expressions.Exp.TheOpen.{FieldValue-F, LExp-F, Stmt-F, Suffix-F, Target-F}
-use Rattle.sail_syntax.specs.declared.expressions.Stmt.{Stmt}
-use Rattle.sail_syntax.specs.declared.expressions.Suffix.{Suffix as SuffixTree}
-use Rattle.sail_syntax.specs.declared.expressions.Case.{Case as CaseTree}
-use Rattle.sail_syntax.specs.declared.expressions.Index.{Index}
-use Rattle.sail_syntax.specs.declared.expressions.Range.{Range}
-use Rattle.sail_syntax.specs.declared.expressions.LExp.{LExp}
-use Rattle.sail_syntax.specs.declared.expressions.FieldValue.{FieldValue}
-use Rattle.sail_syntax.specs.declared.expressions.Target.{Target as TargetTree}
+use Rattle.sail_syntax.specs.declared.expressions.Exp.TheFolds.{ind-Exp}
+use Rattle.sail_syntax.specs.declared.expressions.Stmt.{Stmt, roll-Stmt}
+use Rattle.sail_syntax.specs.declared.expressions.Suffix.{Suffix as SuffixTree, roll-Suffix}
+use Rattle.sail_syntax.specs.declared.expressions.Case.{Case as CaseTree, roll-Case}
+use Rattle.sail_syntax.specs.declared.expressions.Index.{Index, roll-Index}
+use Rattle.sail_syntax.specs.declared.expressions.Range.{Range, roll-Range}
+use Rattle.sail_syntax.specs.declared.expressions.LExp.{LExp, roll-LExp}
+use Rattle.sail_syntax.specs.declared.expressions.FieldValue.{FieldValue, roll-FieldValue}
+use Rattle.sail_syntax.specs.declared.expressions.Target.{Target as TargetTree, roll-Target}
 use Rattle.sail_cycles.specs.Callees.{pattern_callees}
 use Rattle.sail_names.specs.Known.{in_measure, is_assigned, is_callee, is_register_seen}
 use Rattle.sail_names.specs.Locals as Bound
@@ -43,9 +44,9 @@ use Rattle.shape_meanings.specs.Counted.{counted}
 use Rattle.shape_meanings.specs.Parts.{NamesApart}
 use Rattle.shape_meanings.specs.Trees.{is_part, pattern_written}
 use Rattle.shape_meanings.specs.Whole.{all_of}
-use Rattle.shape_meanings.proofs.Bases.{chained_known, not_none}
+use Rattle.shape_meanings.proofs.Bases.{chained_known}
 use Rattle.shape_meanings.proofs.Counting.{int_counted, never_counted}
-use Rattle.shape_meanings.proofs.Expressions.{expressions_right, holds}
+use Rattle.shape_meanings.proofs.Expressions.{expressions_right}
 use Rattle.shape_meanings.proofs.Folds.{failed_case, failed_exp, failed_field, failed_index, failed_lexp, failed_range, failed_stmt, failed_suffix}
 use Rattle.shape_meanings.proofs.Folds.{failed_target, found_case, found_exp, found_field, found_index, found_lexp, found_range, found_stmt, found_suffix}
 use Rattle.shape_meanings.proofs.Folds.{found_target, written_case, written_exp, written_field, written_index, written_lexp, written_range, written_stmt}
@@ -80,7 +81,8 @@ use Rattle.form_stands.proofs.Folds.{SuchFieldValue, SuchIndex, SuchLExp, SuchRa
 use Rattle.form_stands.proofs.Folds.{ExpStands, StmtStands, SuffixTreeStands, CaseTreeStands, IndexTreeStands, RangeTreeStands, LExpStands, FurtherTreeStands}
 use Rattle.form_stands.proofs.Folds.{FieldStands, first_Case, first_Exp, first_FieldValue, first_Index, first_LExp, first_Range, first_Stmt, first_Suffix}
 use Rattle.form_stands.proofs.Folds.{first_Target, in_case, in_exp, in_field, in_index, in_lexp, in_range, in_stmt, in_suffix, in_target}
-use Rattle.form_stands.proofs.Folds.{manner_case, manner_exp, manner_field, manner_index, manner_lexp, manner_range, manner_stmt, manner_suffix, manner_target}
+use Rattle.form_stands.proofs.Folds.{rolled_Case, rolled_Exp, rolled_FieldValue, rolled_Index, rolled_LExp, rolled_Range, rolled_Stmt, rolled_Suffix}
+use Rattle.form_stands.proofs.Folds.{rolled_Target, manner_case, manner_exp, manner_field, manner_index, manner_lexp, manner_range, manner_stmt, manner_suffix, manner_target}
 use Rattle.form_stands.proofs.Groups.{empty_tuple_shaped, list_shaped, tuple_shaped, vector_shaped}
 use Rattle.form_stands.proofs.Leaves.{constant_shaped, constraint_shaped, name_shaped, sizeof_shaped}
 use Rattle.form_stands.proofs.Leaving.{exit_shaped, return_shaped, throw_shaped}
@@ -90,6 +92,12 @@ use Rattle.form_stands.proofs.Loops.{foreach_shaped, repeat_shaped, while_shaped
 use Rattle.form_stands.proofs.Structs.{struct_shaped, with_shaped}
 use Rattle.form_stands.proofs.Suffixes.{part_shaped}
 use Rattle.form_stands.proofs.Updates.{update_shaped}
+
+not_none : {A B : Type 0} {x : A} {xs : List A} → (x ∷ xs) ≡ [] → B
+not_none e = absurd (empty e)
+  where
+    empty : {A : Type 0} {x : A} {xs : List A} → (x ∷ xs) ≡ [] → ⊥
+    empty e = cc
 
 -- ---- what the grammar has
 
@@ -714,6 +722,18 @@ OfRange x = RangeTreeStands (found_range x) (failed_range x) (written_range x) (
 
 abbrev OfTarget : TargetTree → Type 0
 OfTarget x = FurtherTreeStands (found_target x) (failed_target x) (written_target x) (manner_target x) (in_target x)
+
+holds : (e : Exp) → OfExp e
+holds = ind-Exp OfExp OfLExp OfStmt OfSuffix OfCase OfFieldValue OfIndex OfRange OfTarget
+    (λ e y is. subst (λ d. OfExp (roll-Exp d)) is (rolled_Exp (first_Exp y) (again y)))
+    (λ e y is. subst (λ d. OfLExp (roll-LExp d)) is (rolled_LExp (first_LExp y) (lexp_again y)))
+    (λ e y is. subst (λ d. OfStmt (roll-Stmt d)) is (rolled_Stmt (first_Stmt y) (stmt_again y)))
+    (λ e y is. subst (λ d. OfSuffix (roll-Suffix d)) is (rolled_Suffix (first_Suffix y) (suffix_again y)))
+    (λ e y is. subst (λ d. OfCase (roll-Case d)) is (rolled_Case (first_Case y) (case_by y.pattern y.guard y.body)))
+    (λ e y is. subst (λ d. OfFieldValue (roll-FieldValue d)) is (rolled_FieldValue (first_FieldValue y) (field_again y)))
+    (λ e y is. subst (λ d. OfIndex (roll-Index d)) is (rolled_Index (first_Index y) (index_by y.first y.last)))
+    (λ e y is. subst (λ d. OfRange (roll-Range d)) is (rolled_Range (first_Range y) (range_by y.from y.to y.by y.direction)))
+    (λ e y is. subst (λ d. OfTarget (roll-Target d)) is (rolled_Target (first_Target y) (further_again y)))
 
 pub expressions_stand : ExpressionsStand
 expressions_stand e b here known locals bound are settled fine quiet u converts =

@@ -209,6 +209,11 @@ OverManners F = F Mannered Mannered Mannered Mannered Mannered Mannered Mannered
 abbrev pub OverNumbers : (Type 0 → Type 0 → Type 0 → Type 0 → Type 0 → Type 0 → Type 0 → Type 0 → Type 0 → Type 0) → Type 0
 OverNumbers F = F (List ℕ) (List ℕ) (List ℕ) (List ℕ) (List ℕ) (List ℕ) (List ℕ) (List ℕ) (List ℕ)
 
+abbrev pub first_Exp : OverSuch Exp-F → OverTrees Exp-F
+first_Exp = map-Exp SuchExp SuchLExp SuchStmt SuchSuffix SuchCase SuchFieldValue SuchIndex SuchRange SuchTarget
+    Exp LExp Stmt SuffixTree CaseTree FieldValue Index Range TargetTree
+    (λ p. p.0) (λ p. p.0) (λ p. p.0) (λ p. p.0) (λ p. p.0) (λ p. p.0) (λ p. p.0) (λ p. p.0) (λ p. p.0)
+
 abbrev pub in_Exp : Tables.Known → OverTrees Exp-F → OverNumbers Exp-F
 in_Exp known = map-Exp Exp LExp Stmt SuffixTree CaseTree FieldValue Index Range TargetTree
     (List ℕ) (List ℕ) (List ℕ) (List ℕ) (List ℕ) (List ℕ) (List ℕ) (List ℕ) (List ℕ)
@@ -253,6 +258,11 @@ rolled_Exp d h =
     (subst (λ k. ExpStands (Rules.exp_form (found_Exp d)) (Uses.expression_form (failed_Exp d)) (Trees.expression_form (written_Exp d))
     (Manner.expression_form (manner_Exp d)) k)
     (sym (numbers_Exp d)) h))))
+
+abbrev pub first_LExp : OverSuch LExp-F → OverTrees LExp-F
+first_LExp = map-LExp SuchExp SuchLExp SuchStmt SuchSuffix SuchCase SuchFieldValue SuchIndex SuchRange SuchTarget
+    Exp LExp Stmt SuffixTree CaseTree FieldValue Index Range TargetTree
+    (λ p. p.0) (λ p. p.0) (λ p. p.0) (λ p. p.0) (λ p. p.0) (λ p. p.0) (λ p. p.0) (λ p. p.0) (λ p. p.0)
 
 abbrev pub in_LExp : Tables.Known → OverTrees LExp-F → OverNumbers LExp-F
 in_LExp known = map-LExp Exp LExp Stmt SuffixTree CaseTree FieldValue Index Range TargetTree
@@ -300,6 +310,11 @@ rolled_LExp d h =
     (manner_LExp d)) k)
     (sym (numbers_LExp d)) h))))
 
+abbrev pub first_Stmt : OverSuch Stmt-F → OverTrees Stmt-F
+first_Stmt = map-Stmt SuchExp SuchLExp SuchStmt SuchSuffix SuchCase SuchFieldValue SuchIndex SuchRange SuchTarget
+    Exp LExp Stmt SuffixTree CaseTree FieldValue Index Range TargetTree
+    (λ p. p.0) (λ p. p.0) (λ p. p.0) (λ p. p.0) (λ p. p.0) (λ p. p.0) (λ p. p.0) (λ p. p.0) (λ p. p.0)
+
 abbrev pub in_Stmt : Tables.Known → OverTrees Stmt-F → OverNumbers Stmt-F
 in_Stmt known = map-Stmt Exp LExp Stmt SuffixTree CaseTree FieldValue Index Range TargetTree
     (List ℕ) (List ℕ) (List ℕ) (List ℕ) (List ℕ) (List ℕ) (List ℕ) (List ℕ) (List ℕ)
@@ -345,6 +360,11 @@ rolled_Stmt d h =
     (subst (λ k. StmtStands (Rules.statement_form (found_Stmt d)) (Uses.statement_form (failed_Stmt d)) (Trees.statement_form (written_Stmt d))
     (Manner.statement_form (manner_Stmt d)) k)
     (sym (numbers_Stmt d)) h))))
+
+abbrev pub first_Suffix : OverSuch Suffix-F → OverTrees Suffix-F
+first_Suffix = map-Suffix SuchExp SuchLExp SuchStmt SuchSuffix SuchCase SuchFieldValue SuchIndex SuchRange SuchTarget
+    Exp LExp Stmt SuffixTree CaseTree FieldValue Index Range TargetTree
+    (λ p. p.0) (λ p. p.0) (λ p. p.0) (λ p. p.0) (λ p. p.0) (λ p. p.0) (λ p. p.0) (λ p. p.0) (λ p. p.0)
 
 abbrev pub in_Suffix : Tables.Known → OverTrees Suffix-F → OverNumbers Suffix-F
 in_Suffix known = map-Suffix Exp LExp Stmt SuffixTree CaseTree FieldValue Index Range TargetTree
@@ -395,6 +415,11 @@ rolled_Suffix d h =
     (Manner.suffix_form (manner_Suffix d)) k)
     (sym (numbers_Suffix d)) h))))
 
+abbrev pub first_Case : OverSuch Case-F → OverTrees Case-F
+first_Case = map-Case SuchExp SuchLExp SuchStmt SuchSuffix SuchCase SuchFieldValue SuchIndex SuchRange SuchTarget
+    Exp LExp Stmt SuffixTree CaseTree FieldValue Index Range TargetTree
+    (λ p. p.0) (λ p. p.0) (λ p. p.0) (λ p. p.0) (λ p. p.0) (λ p. p.0) (λ p. p.0) (λ p. p.0) (λ p. p.0)
+
 abbrev pub in_Case : Tables.Known → OverTrees Case-F → OverNumbers Case-F
 in_Case known = map-Case Exp LExp Stmt SuffixTree CaseTree FieldValue Index Range TargetTree
     (List ℕ) (List ℕ) (List ℕ) (List ℕ) (List ℕ) (List ℕ) (List ℕ) (List ℕ) (List ℕ)
@@ -439,6 +464,11 @@ rolled_Case d h =
     (subst (λ k. CaseTreeStands (Rules.case_form (found_Case d)) (Uses.case_form (failed_Case d)) (Trees.case_form (written_Case d)) (Manner.case_form
     (manner_Case d)) k)
     (sym (numbers_Case d)) h))))
+
+abbrev pub first_FieldValue : OverSuch FieldValue-F → OverTrees FieldValue-F
+first_FieldValue = map-FieldValue SuchExp SuchLExp SuchStmt SuchSuffix SuchCase SuchFieldValue SuchIndex SuchRange SuchTarget
+    Exp LExp Stmt SuffixTree CaseTree FieldValue Index Range TargetTree
+    (λ p. p.0) (λ p. p.0) (λ p. p.0) (λ p. p.0) (λ p. p.0) (λ p. p.0) (λ p. p.0) (λ p. p.0) (λ p. p.0)
 
 abbrev pub in_FieldValue : Tables.Known → OverTrees FieldValue-F → OverNumbers FieldValue-F
 in_FieldValue known = map-FieldValue Exp LExp Stmt SuffixTree CaseTree FieldValue Index Range TargetTree
@@ -490,6 +520,11 @@ rolled_FieldValue d h =
     (Manner.field_form (manner_FieldValue d)) k)
     (sym (numbers_FieldValue d)) h))))
 
+abbrev pub first_Index : OverSuch Index-F → OverTrees Index-F
+first_Index = map-Index SuchExp SuchLExp SuchStmt SuchSuffix SuchCase SuchFieldValue SuchIndex SuchRange SuchTarget
+    Exp LExp Stmt SuffixTree CaseTree FieldValue Index Range TargetTree
+    (λ p. p.0) (λ p. p.0) (λ p. p.0) (λ p. p.0) (λ p. p.0) (λ p. p.0) (λ p. p.0) (λ p. p.0) (λ p. p.0)
+
 abbrev pub in_Index : Tables.Known → OverTrees Index-F → OverNumbers Index-F
 in_Index known = map-Index Exp LExp Stmt SuffixTree CaseTree FieldValue Index Range TargetTree
     (List ℕ) (List ℕ) (List ℕ) (List ℕ) (List ℕ) (List ℕ) (List ℕ) (List ℕ) (List ℕ)
@@ -538,6 +573,11 @@ rolled_Index d h =
     (manner_Index d)) k)
     (sym (numbers_Index d)) h))))
 
+abbrev pub first_Range : OverSuch Range-F → OverTrees Range-F
+first_Range = map-Range SuchExp SuchLExp SuchStmt SuchSuffix SuchCase SuchFieldValue SuchIndex SuchRange SuchTarget
+    Exp LExp Stmt SuffixTree CaseTree FieldValue Index Range TargetTree
+    (λ p. p.0) (λ p. p.0) (λ p. p.0) (λ p. p.0) (λ p. p.0) (λ p. p.0) (λ p. p.0) (λ p. p.0) (λ p. p.0)
+
 abbrev pub in_Range : Tables.Known → OverTrees Range-F → OverNumbers Range-F
 in_Range known = map-Range Exp LExp Stmt SuffixTree CaseTree FieldValue Index Range TargetTree
     (List ℕ) (List ℕ) (List ℕ) (List ℕ) (List ℕ) (List ℕ) (List ℕ) (List ℕ) (List ℕ)
@@ -585,6 +625,11 @@ rolled_Range d h =
     (subst (λ k. RangeTreeStands (Rules.range_form (found_Range d)) (Uses.range_form (failed_Range d)) (Trees.range_form (written_Range d)) (Manner.range_form
     (manner_Range d)) k)
     (sym (numbers_Range d)) h))))
+
+abbrev pub first_Target : OverSuch Target-F → OverTrees Target-F
+first_Target = map-Target SuchExp SuchLExp SuchStmt SuchSuffix SuchCase SuchFieldValue SuchIndex SuchRange SuchTarget
+    Exp LExp Stmt SuffixTree CaseTree FieldValue Index Range TargetTree
+    (λ p. p.0) (λ p. p.0) (λ p. p.0) (λ p. p.0) (λ p. p.0) (λ p. p.0) (λ p. p.0) (λ p. p.0) (λ p. p.0)
 
 abbrev pub in_Target : Tables.Known → OverTrees Target-F → OverNumbers Target-F
 in_Target known = map-Target Exp LExp Stmt SuffixTree CaseTree FieldValue Index Range TargetTree

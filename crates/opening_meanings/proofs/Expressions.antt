@@ -1,19 +1,20 @@
 -- A plain expression calls nothing of the model, where the tables find no failure of its names: by induction on the expression.
-use Rattle.std.proofs.Common.{◌≡◌, List, [], ◌∷◌, ◌++◌, map, Option, Some, None, refl}
+use Rattle.std.proofs.Common.{◌≡◌, List, [], ◌∷◌, ◌++◌, map, Option, Some, None, refl, subst}
 use Rattle.sail_base.specs.declared.kind.Kind.TheVariants as Sort
 use Rattle.sail_syntax.specs.declared.patterns.Pat.{Pat}
 use Rattle.sail_syntax.specs.declared.words.Looping.TheVariants.{While, Repeat}
-use Rattle.sail_syntax.specs.declared.expressions.Exp.{Exp, Exp-F}
+use Rattle.sail_syntax.specs.declared.expressions.Exp.{Exp, Exp-F, roll-Exp}
 use Rattle.sail_syntax.specs.declared.expressions.Exp.TheOpen as E
 use Rattle.sail_syntax.specs.declared.expressions.Exp.TheOpen.{FieldValue-F, LExp-F, Stmt-F, Suffix-F, Target-F}
-use Rattle.sail_syntax.specs.declared.expressions.LExp.{LExp}
-use Rattle.sail_syntax.specs.declared.expressions.Stmt.{Stmt}
-use Rattle.sail_syntax.specs.declared.expressions.Suffix.{Suffix as SuffixTree}
-use Rattle.sail_syntax.specs.declared.expressions.Case.{Case as CaseTree}
-use Rattle.sail_syntax.specs.declared.expressions.FieldValue.{FieldValue}
-use Rattle.sail_syntax.specs.declared.expressions.Index.{Index}
-use Rattle.sail_syntax.specs.declared.expressions.Range.{Range}
-use Rattle.sail_syntax.specs.declared.expressions.Target.{Target as TargetTree}
+use Rattle.sail_syntax.specs.declared.expressions.Exp.TheFolds.{ind-Exp}
+use Rattle.sail_syntax.specs.declared.expressions.LExp.{LExp, roll-LExp}
+use Rattle.sail_syntax.specs.declared.expressions.Stmt.{Stmt, roll-Stmt}
+use Rattle.sail_syntax.specs.declared.expressions.Suffix.{Suffix as SuffixTree, roll-Suffix}
+use Rattle.sail_syntax.specs.declared.expressions.Case.{Case as CaseTree, roll-Case}
+use Rattle.sail_syntax.specs.declared.expressions.FieldValue.{FieldValue, roll-FieldValue}
+use Rattle.sail_syntax.specs.declared.expressions.Index.{Index, roll-Index}
+use Rattle.sail_syntax.specs.declared.expressions.Range.{Range, roll-Range}
+use Rattle.sail_syntax.specs.declared.expressions.Target.{Target as TargetTree, roll-Target}
 use Rattle.sail_names.specs.Known as Tables
 use Rattle.sail_names.specs.Known.{in_measure, is_callee}
 use Rattle.sail_names.specs.Locals as Bound
@@ -31,8 +32,6 @@ use Rattle.shape_meanings.proofs.Folds.{failed_exp, failed_lexp, failed_stmt, fa
 use Rattle.shape_meanings.proofs.Folds.{failed_target}
 use Rattle.shape_meanings.proofs.Naming.{unless_true}
 use Rattle.shape_meanings.proofs.Settling.{both_empty}
-use Rattle.shape_meanings.proofs.Expressions.{holds as exp_same}
-use Rattle.shape_meanings.proofs.Bases.{not_none}
 use Rattle.opening_meanings.specs.Names.{PlainExpressionsCallNothing, PlainPatternsCallNothing}
 use Rattle.opening_meanings.proofs.Forms.{FurtherSameAll, SameCases, SameLook, SameStatements, assign_same, block_same, bound_same, choose_same}
 use Rattle.opening_meanings.proofs.Forms.{declaring_same, foreach_same, infix_same, leave_same, let_same, name_aim_same, name_same, of_type_same, part_aim_same}
@@ -44,7 +43,14 @@ use Rattle.opening_meanings.proofs.Trees.{SuchExp, SuchLExp, SuchStmt, SuchSuffi
 use Rattle.opening_meanings.proofs.Trees.{ExpForm, LExpForm, StmtForm, SuffixForm, CaseForm, FieldValueForm, IndexForm, RangeForm, TargetForm}
 use Rattle.opening_meanings.proofs.Trees.{ExpSame, LExpSame, StmtSame, SuffixSame, CaseSame, FieldSame, IndexSame, RangeSame, FurtherSame}
 use Rattle.opening_meanings.proofs.Trees.{first_Exp, first_LExp, first_Stmt, first_Suffix, first_Case, first_FieldValue, first_Index, first_Range}
-use Rattle.opening_meanings.proofs.Trees.{first_Target}
+use Rattle.opening_meanings.proofs.Trees.{first_Target, rolled_Exp, rolled_LExp, rolled_Stmt, rolled_Suffix, rolled_Case, rolled_FieldValue, rolled_Index}
+use Rattle.opening_meanings.proofs.Trees.{rolled_Range, rolled_Target}
+
+not_none : {A B : Type 0} {x : A} {xs : List A} → (x ∷ xs) ≡ [] → B
+not_none e = absurd (empty e)
+  where
+    empty : {A : Type 0} {x : A} {xs : List A} → (x ∷ xs) ≡ [] → ⊥
+    empty e = cc
 
 -- ---- parts in a list
 
@@ -322,6 +328,18 @@ OfRange x = RangeSame (found_range x) (failed_range x)
 
 abbrev OfTarget : TargetTree → Type 0
 OfTarget x = FurtherSame (found_target x) (failed_target x)
+
+exp_same : (e : Exp) → OfExp e
+exp_same = ind-Exp OfExp OfLExp OfStmt OfSuffix OfCase OfFieldValue OfIndex OfRange OfTarget
+    (λ e y is. subst (λ d. OfExp (roll-Exp d)) is (rolled_Exp (first_Exp y) (again y)))
+    (λ e y is. subst (λ d. OfLExp (roll-LExp d)) is (rolled_LExp (first_LExp y) (lexp_again y)))
+    (λ e y is. subst (λ d. OfStmt (roll-Stmt d)) is (rolled_Stmt (first_Stmt y) (stmt_again y)))
+    (λ e y is. subst (λ d. OfSuffix (roll-Suffix d)) is (rolled_Suffix (first_Suffix y) (suffix_again y)))
+    (λ e y is. subst (λ d. OfCase (roll-Case d)) is (rolled_Case (first_Case y) (case_by y.pattern y.guard y.body)))
+    (λ e y is. subst (λ d. OfFieldValue (roll-FieldValue d)) is (rolled_FieldValue (first_FieldValue y) (field_again y)))
+    (λ e y is. subst (λ d. OfIndex (roll-Index d)) is (rolled_Index (first_Index y) (index_by y.first y.last)))
+    (λ e y is. subst (λ d. OfRange (roll-Range d)) is (rolled_Range (first_Range y) (range_by y.from y.to y.by y.direction)))
+    (λ e y is. subst (λ d. OfTarget (roll-Target d)) is (rolled_Target (first_Target y) (further_again y)))
 
 pub expressions_call_nothing : PlainExpressionsCallNothing
 expressions_call_nothing e setting names known plain bound u locals want =

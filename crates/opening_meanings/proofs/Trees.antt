@@ -4,6 +4,8 @@ use Rattle.sail_syntax.specs.declared.expressions.Exp.{Exp, Exp-F, roll-Exp}
 use Rattle.sail_syntax.specs.declared.expressions.Exp.TheOpen.{LExp-F, Stmt-F, Suffix-F, Case-F, FieldValue-F, Index-F, Range-F, Target-F}
 use Rattle.sail_syntax.specs.declared.expressions.Exp.TheFolds.{fold-roll-Exp, fold-roll-LExp, fold-roll-Stmt, fold-roll-Suffix, fold-roll-Case}
 use Rattle.sail_syntax.specs.declared.expressions.Exp.TheFolds.{fold-roll-FieldValue, fold-roll-Index, fold-roll-Range, fold-roll-Target}
+use Rattle.sail_syntax.specs.declared.expressions.Exp.TheFolds.{map-Exp, map-LExp, map-Stmt, map-Suffix, map-Case, map-FieldValue, map-Index, map-Range}
+use Rattle.sail_syntax.specs.declared.expressions.Exp.TheFolds.{map-Target}
 use Rattle.sail_syntax.specs.declared.expressions.LExp.{LExp, roll-LExp}
 use Rattle.sail_syntax.specs.declared.expressions.Stmt.{Stmt, roll-Stmt}
 use Rattle.sail_syntax.specs.declared.expressions.Suffix.{Suffix as SuffixTree, roll-Suffix}
@@ -107,6 +109,11 @@ SuchTarget = (x : TargetTree) × FurtherSame (found_target x) (failed_target x)
 abbrev pub OverSuch : (Type 0 → Type 0 → Type 0 → Type 0 → Type 0 → Type 0 → Type 0 → Type 0 → Type 0 → Type 0) → Type 0
 OverSuch F = F SuchExp SuchLExp SuchStmt SuchSuffix SuchCase SuchFieldValue SuchIndex SuchRange SuchTarget
 
+abbrev pub first_Exp : OverSuch Exp-F → OverTrees Exp-F
+first_Exp = map-Exp SuchExp SuchLExp SuchStmt SuchSuffix SuchCase SuchFieldValue SuchIndex SuchRange SuchTarget
+    Exp LExp Stmt SuffixTree CaseTree FieldValue Index Range TargetTree
+    (λ p. p.0) (λ p. p.0) (λ p. p.0) (λ p. p.0) (λ p. p.0) (λ p. p.0) (λ p. p.0) (λ p. p.0) (λ p. p.0)
+
 abbrev pub ExpForm : OverTrees Exp-F → Type 0
 ExpForm d = ExpSame (Rules.exp_form (found_Exp d)) (Uses.expression_form (failed_Exp d))
 
@@ -120,6 +127,11 @@ rolled_Exp d h =
     (sym (fold-roll-Exp Failures Failures Uses.Statement Failures Failures Uses.Field Failures Failures Failures
     Uses.expression_form Uses.target_form Uses.statement_form Uses.suffix_form Uses.case_form Uses.field_form Uses.index_form Uses.range_form
     Uses.further_form d)) h)
+
+abbrev pub first_LExp : OverSuch LExp-F → OverTrees LExp-F
+first_LExp = map-LExp SuchExp SuchLExp SuchStmt SuchSuffix SuchCase SuchFieldValue SuchIndex SuchRange SuchTarget
+    Exp LExp Stmt SuffixTree CaseTree FieldValue Index Range TargetTree
+    (λ p. p.0) (λ p. p.0) (λ p. p.0) (λ p. p.0) (λ p. p.0) (λ p. p.0) (λ p. p.0) (λ p. p.0) (λ p. p.0)
 
 abbrev pub LExpForm : OverTrees LExp-F → Type 0
 LExpForm d = LExpSame (Rules.target_form (found_LExp d)) (Uses.target_form (failed_LExp d))
@@ -135,6 +147,11 @@ rolled_LExp d h =
     Uses.expression_form Uses.target_form Uses.statement_form Uses.suffix_form Uses.case_form Uses.field_form Uses.index_form Uses.range_form
     Uses.further_form d)) h)
 
+abbrev pub first_Stmt : OverSuch Stmt-F → OverTrees Stmt-F
+first_Stmt = map-Stmt SuchExp SuchLExp SuchStmt SuchSuffix SuchCase SuchFieldValue SuchIndex SuchRange SuchTarget
+    Exp LExp Stmt SuffixTree CaseTree FieldValue Index Range TargetTree
+    (λ p. p.0) (λ p. p.0) (λ p. p.0) (λ p. p.0) (λ p. p.0) (λ p. p.0) (λ p. p.0) (λ p. p.0) (λ p. p.0)
+
 abbrev pub StmtForm : OverTrees Stmt-F → Type 0
 StmtForm d = StmtSame (Rules.statement_form (found_Stmt d)) (Uses.statement_form (failed_Stmt d))
 
@@ -148,6 +165,11 @@ rolled_Stmt d h =
     (sym (fold-roll-Stmt Failures Failures Uses.Statement Failures Failures Uses.Field Failures Failures Failures
     Uses.expression_form Uses.target_form Uses.statement_form Uses.suffix_form Uses.case_form Uses.field_form Uses.index_form Uses.range_form
     Uses.further_form d)) h)
+
+abbrev pub first_Suffix : OverSuch Suffix-F → OverTrees Suffix-F
+first_Suffix = map-Suffix SuchExp SuchLExp SuchStmt SuchSuffix SuchCase SuchFieldValue SuchIndex SuchRange SuchTarget
+    Exp LExp Stmt SuffixTree CaseTree FieldValue Index Range TargetTree
+    (λ p. p.0) (λ p. p.0) (λ p. p.0) (λ p. p.0) (λ p. p.0) (λ p. p.0) (λ p. p.0) (λ p. p.0) (λ p. p.0)
 
 abbrev pub SuffixForm : OverTrees Suffix-F → Type 0
 SuffixForm d = SuffixSame (Rules.suffix_form (found_Suffix d)) (Uses.suffix_form (failed_Suffix d))
@@ -163,6 +185,11 @@ rolled_Suffix d h =
     Uses.expression_form Uses.target_form Uses.statement_form Uses.suffix_form Uses.case_form Uses.field_form Uses.index_form Uses.range_form
     Uses.further_form d)) h)
 
+abbrev pub first_Case : OverSuch Case-F → OverTrees Case-F
+first_Case = map-Case SuchExp SuchLExp SuchStmt SuchSuffix SuchCase SuchFieldValue SuchIndex SuchRange SuchTarget
+    Exp LExp Stmt SuffixTree CaseTree FieldValue Index Range TargetTree
+    (λ p. p.0) (λ p. p.0) (λ p. p.0) (λ p. p.0) (λ p. p.0) (λ p. p.0) (λ p. p.0) (λ p. p.0) (λ p. p.0)
+
 abbrev pub CaseForm : OverTrees Case-F → Type 0
 CaseForm d = CaseSame (Rules.case_form (found_Case d)) (Uses.case_form (failed_Case d))
 
@@ -176,6 +203,11 @@ rolled_Case d h =
     (sym (fold-roll-Case Failures Failures Uses.Statement Failures Failures Uses.Field Failures Failures Failures
     Uses.expression_form Uses.target_form Uses.statement_form Uses.suffix_form Uses.case_form Uses.field_form Uses.index_form Uses.range_form
     Uses.further_form d)) h)
+
+abbrev pub first_FieldValue : OverSuch FieldValue-F → OverTrees FieldValue-F
+first_FieldValue = map-FieldValue SuchExp SuchLExp SuchStmt SuchSuffix SuchCase SuchFieldValue SuchIndex SuchRange SuchTarget
+    Exp LExp Stmt SuffixTree CaseTree FieldValue Index Range TargetTree
+    (λ p. p.0) (λ p. p.0) (λ p. p.0) (λ p. p.0) (λ p. p.0) (λ p. p.0) (λ p. p.0) (λ p. p.0) (λ p. p.0)
 
 abbrev pub FieldValueForm : OverTrees FieldValue-F → Type 0
 FieldValueForm d = FieldSame (Rules.field_form (found_FieldValue d)) (Uses.field_form (failed_FieldValue d))
@@ -191,6 +223,11 @@ rolled_FieldValue d h =
     Uses.expression_form Uses.target_form Uses.statement_form Uses.suffix_form Uses.case_form Uses.field_form Uses.index_form Uses.range_form
     Uses.further_form d)) h)
 
+abbrev pub first_Index : OverSuch Index-F → OverTrees Index-F
+first_Index = map-Index SuchExp SuchLExp SuchStmt SuchSuffix SuchCase SuchFieldValue SuchIndex SuchRange SuchTarget
+    Exp LExp Stmt SuffixTree CaseTree FieldValue Index Range TargetTree
+    (λ p. p.0) (λ p. p.0) (λ p. p.0) (λ p. p.0) (λ p. p.0) (λ p. p.0) (λ p. p.0) (λ p. p.0) (λ p. p.0)
+
 abbrev pub IndexForm : OverTrees Index-F → Type 0
 IndexForm d = IndexSame (Rules.index_form (found_Index d)) (Uses.index_form (failed_Index d))
 
@@ -205,6 +242,11 @@ rolled_Index d h =
     Uses.expression_form Uses.target_form Uses.statement_form Uses.suffix_form Uses.case_form Uses.field_form Uses.index_form Uses.range_form
     Uses.further_form d)) h)
 
+abbrev pub first_Range : OverSuch Range-F → OverTrees Range-F
+first_Range = map-Range SuchExp SuchLExp SuchStmt SuchSuffix SuchCase SuchFieldValue SuchIndex SuchRange SuchTarget
+    Exp LExp Stmt SuffixTree CaseTree FieldValue Index Range TargetTree
+    (λ p. p.0) (λ p. p.0) (λ p. p.0) (λ p. p.0) (λ p. p.0) (λ p. p.0) (λ p. p.0) (λ p. p.0) (λ p. p.0)
+
 abbrev pub RangeForm : OverTrees Range-F → Type 0
 RangeForm d = RangeSame (Rules.range_form (found_Range d)) (Uses.range_form (failed_Range d))
 
@@ -218,6 +260,11 @@ rolled_Range d h =
     (sym (fold-roll-Range Failures Failures Uses.Statement Failures Failures Uses.Field Failures Failures Failures
     Uses.expression_form Uses.target_form Uses.statement_form Uses.suffix_form Uses.case_form Uses.field_form Uses.index_form Uses.range_form
     Uses.further_form d)) h)
+
+abbrev pub first_Target : OverSuch Target-F → OverTrees Target-F
+first_Target = map-Target SuchExp SuchLExp SuchStmt SuchSuffix SuchCase SuchFieldValue SuchIndex SuchRange SuchTarget
+    Exp LExp Stmt SuffixTree CaseTree FieldValue Index Range TargetTree
+    (λ p. p.0) (λ p. p.0) (λ p. p.0) (λ p. p.0) (λ p. p.0) (λ p. p.0) (λ p. p.0) (λ p. p.0) (λ p. p.0)
 
 abbrev pub TargetForm : OverTrees Target-F → Type 0
 TargetForm d = FurtherSame (Rules.further_form (found_Target d)) (Uses.further_form (failed_Target d))

@@ -21,7 +21,7 @@ use Rattle.shape_rules.specs.Expressions as Rules
 use Rattle.shape_rules.specs.Statements.{CasePart, FurtherPart, RangePart, StatementPart}
 use Rattle.shape_rules.specs.Targets.{IndexPart, Part, SuffixPart, TargetPart, elaborations}
 use Rattle.shape_rules.specs.Values.{FieldPart}
-use Rattle.shape_meanings.proofs.Folds.{OverTrees, first_Exp, first_Suffix, first_Case, first_FieldValue, first_Index}
+use Rattle.shape_meanings.proofs.Folds.{OverTrees}
 use Rattle.shape_meanings.proofs.Folds.{found_Case, found_Exp, found_FieldValue, found_Index, found_Suffix}
 use Rattle.shape_meanings.proofs.Folds.{found_case, found_exp, found_field, found_index, found_suffix}
 use Rattle.shape_stands.specs.Manner as Manner
@@ -159,6 +159,11 @@ OverSuch F = F SuchExp SuchLExp SuchStmt SuchSuffix SuchCase SuchFieldValue Such
 abbrev OverManners : (Type 0 → Type 0 → Type 0 → Type 0 → Type 0 → Type 0 → Type 0 → Type 0 → Type 0 → Type 0) → Type 0
 OverManners F = F Mannered Mannered Mannered Mannered Mannered Mannered Mannered Mannered Mannered
 
+abbrev first_Exp : OverSuch Exp-F → OverTrees Exp-F
+first_Exp = map-Exp SuchExp SuchLExp SuchStmt SuchSuffix SuchCase SuchFieldValue SuchIndex SuchRange SuchTarget
+    Exp LExp Stmt SuffixTree CaseTree FieldValue Index Range TargetTree
+    (λ p. p.0) (λ p. p.0) (λ p. p.0) (λ p. p.0) (λ p. p.0) (λ p. p.0) (λ p. p.0) (λ p. p.0) (λ p. p.0)
+
 abbrev manner_Exp : OverTrees Exp-F → OverManners Exp-F
 manner_Exp = map-Exp Exp LExp Stmt SuffixTree CaseTree FieldValue Index Range TargetTree
     Mannered Mannered Mannered Mannered Mannered Mannered Mannered Mannered Mannered
@@ -174,6 +179,11 @@ rolled_Exp d h =
     (sym (fold-roll-Exp Mannered Mannered Mannered Mannered Mannered Mannered Mannered Mannered Mannered
     Manner.expression_form Manner.target_form Manner.statement_form Manner.suffix_form Manner.case_form Manner.field_form Manner.index_form
     Manner.range_form Manner.further_form d)) h)
+
+abbrev first_Suffix : OverSuch Suffix-F → OverTrees Suffix-F
+first_Suffix = map-Suffix SuchExp SuchLExp SuchStmt SuchSuffix SuchCase SuchFieldValue SuchIndex SuchRange SuchTarget
+    Exp LExp Stmt SuffixTree CaseTree FieldValue Index Range TargetTree
+    (λ p. p.0) (λ p. p.0) (λ p. p.0) (λ p. p.0) (λ p. p.0) (λ p. p.0) (λ p. p.0) (λ p. p.0) (λ p. p.0)
 
 abbrev manner_Suffix : OverTrees Suffix-F → OverManners Suffix-F
 manner_Suffix = map-Suffix Exp LExp Stmt SuffixTree CaseTree FieldValue Index Range TargetTree
@@ -191,6 +201,11 @@ rolled_Suffix d h =
     Manner.expression_form Manner.target_form Manner.statement_form Manner.suffix_form Manner.case_form Manner.field_form Manner.index_form
     Manner.range_form Manner.further_form d)) h)
 
+abbrev first_Case : OverSuch Case-F → OverTrees Case-F
+first_Case = map-Case SuchExp SuchLExp SuchStmt SuchSuffix SuchCase SuchFieldValue SuchIndex SuchRange SuchTarget
+    Exp LExp Stmt SuffixTree CaseTree FieldValue Index Range TargetTree
+    (λ p. p.0) (λ p. p.0) (λ p. p.0) (λ p. p.0) (λ p. p.0) (λ p. p.0) (λ p. p.0) (λ p. p.0) (λ p. p.0)
+
 abbrev manner_Case : OverTrees Case-F → OverManners Case-F
 manner_Case = map-Case Exp LExp Stmt SuffixTree CaseTree FieldValue Index Range TargetTree
     Mannered Mannered Mannered Mannered Mannered Mannered Mannered Mannered Mannered
@@ -206,6 +221,11 @@ rolled_Case d h =
     (sym (fold-roll-Case Mannered Mannered Mannered Mannered Mannered Mannered Mannered Mannered Mannered
     Manner.expression_form Manner.target_form Manner.statement_form Manner.suffix_form Manner.case_form Manner.field_form Manner.index_form
     Manner.range_form Manner.further_form d)) h)
+
+abbrev first_FieldValue : OverSuch FieldValue-F → OverTrees FieldValue-F
+first_FieldValue = map-FieldValue SuchExp SuchLExp SuchStmt SuchSuffix SuchCase SuchFieldValue SuchIndex SuchRange SuchTarget
+    Exp LExp Stmt SuffixTree CaseTree FieldValue Index Range TargetTree
+    (λ p. p.0) (λ p. p.0) (λ p. p.0) (λ p. p.0) (λ p. p.0) (λ p. p.0) (λ p. p.0) (λ p. p.0) (λ p. p.0)
 
 abbrev manner_FieldValue : OverTrees FieldValue-F → OverManners FieldValue-F
 manner_FieldValue = map-FieldValue Exp LExp Stmt SuffixTree CaseTree FieldValue Index Range TargetTree
@@ -223,6 +243,11 @@ rolled_FieldValue d h =
     (sym (fold-roll-FieldValue Mannered Mannered Mannered Mannered Mannered Mannered Mannered Mannered Mannered
     Manner.expression_form Manner.target_form Manner.statement_form Manner.suffix_form Manner.case_form Manner.field_form Manner.index_form
     Manner.range_form Manner.further_form d)) h)
+
+abbrev first_Index : OverSuch Index-F → OverTrees Index-F
+first_Index = map-Index SuchExp SuchLExp SuchStmt SuchSuffix SuchCase SuchFieldValue SuchIndex SuchRange SuchTarget
+    Exp LExp Stmt SuffixTree CaseTree FieldValue Index Range TargetTree
+    (λ p. p.0) (λ p. p.0) (λ p. p.0) (λ p. p.0) (λ p. p.0) (λ p. p.0) (λ p. p.0) (λ p. p.0) (λ p. p.0)
 
 abbrev manner_Index : OverTrees Index-F → OverManners Index-F
 manner_Index = map-Index Exp LExp Stmt SuffixTree CaseTree FieldValue Index Range TargetTree

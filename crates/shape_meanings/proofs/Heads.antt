@@ -49,7 +49,7 @@ use Rattle.shape_meanings.proofs.Settling.{both_empty}
 use Rattle.shape_meanings.proofs.Matching.{form_given}
 use Rattle.shape_meanings.proofs.Tested.{unit_pattern_right}
 use Rattle.shape_meanings.proofs.Opening.{opens_means, opened_agree, pieces_count, patterns_count, mapped_count, same_count, all_or_stuck, form_tuple}
-use Rattle.shape_meanings.proofs.Opening.{fit_count}
+use Rattle.shape_meanings.proofs.Arguments.{fit_count}
 use Rattle.shape_meanings.proofs.Aims.{same_components}
 use Rattle.shape_meanings.proofs.Constructing.{union_taught, is_union, named_puts, shape_of_tuple, tuple_puts, variables_put, nevers_count}
 

@@ -10,7 +10,7 @@ use Rattle.sail_syntax.specs.declared.expressions.Exp.{Exp, Exp-F, roll-Exp}
 use Rattle.sail_syntax.specs.declared.expressions.Exp.TheOpen as E
 use Rattle.sail_syntax.specs.declared.expressions.Exp.TheOpen.{Case-F, FieldValue-F, LExp-F, Stmt-F}
 use Rattle.sail_syntax.specs.declared.expressions.Exp.TheFolds.{ind-Exp, fold-roll-Exp, fold-roll-Stmt, fold-roll-Case, fold-roll-LExp}
-use Rattle.sail_syntax.specs.declared.expressions.Exp.TheFolds.{fold-roll-FieldValue}
+use Rattle.sail_syntax.specs.declared.expressions.Exp.TheFolds.{fold-roll-FieldValue, map-Exp, map-LExp, map-Stmt, map-Case, map-FieldValue}
 use Rattle.sail_syntax.specs.declared.expressions.Stmt.{Stmt, roll-Stmt}
 use Rattle.sail_syntax.specs.declared.expressions.Suffix.{Suffix as SuffixTree}
 use Rattle.sail_syntax.specs.declared.expressions.Case.{Case as CaseTree, roll-Case}
@@ -48,7 +48,7 @@ use Rattle.shape_meanings.proofs.FormCounts.{choose_counts, foreach_counts, if_c
 use Rattle.shape_meanings.proofs.FormCounts.{struct_counts}
 use Rattle.shape_meanings.proofs.FormCounts.{typed_counts, unit_block_counts, update_counts, with_counts}
 use Rattle.shape_meanings.proofs.Counting.{settled_counted}
-use Rattle.shape_meanings.proofs.Folds.{found_exp, found_lexp, found_stmt, found_suffix, found_case, found_field, found_index, found_range, first_Exp, first_LExp, first_Stmt, first_Case, first_FieldValue}
+use Rattle.shape_meanings.proofs.Folds.{found_exp, found_lexp, found_stmt, found_suffix, found_case, found_field, found_index, found_range}
 use Rattle.shape_meanings.proofs.Folds.{found_target}
 use Rattle.shape_meanings.proofs.Folds.{failed_exp, failed_lexp, failed_stmt, failed_suffix, failed_case, failed_field, failed_index, failed_target}
 use Rattle.shape_meanings.proofs.Folds.{OverTrees, found_Exp, found_LExp, found_Stmt, found_Case, found_FieldValue}
@@ -129,6 +129,31 @@ SuchTarget = (x : TargetTree) × Unit {0}
 
 abbrev OverSuch : (Type 0 → Type 0 → Type 0 → Type 0 → Type 0 → Type 0 → Type 0 → Type 0 → Type 0 → Type 0) → Type 0
 OverSuch F = F SuchExp SuchLExp SuchStmt SuchSuffix SuchCase SuchFieldValue SuchIndex SuchRange SuchTarget
+
+abbrev first_Exp : OverSuch Exp-F → OverTrees Exp-F
+first_Exp = map-Exp SuchExp SuchLExp SuchStmt SuchSuffix SuchCase SuchFieldValue SuchIndex SuchRange SuchTarget
+    Exp LExp Stmt SuffixTree CaseTree FieldValue Index Range TargetTree
+    (λ p. p.0) (λ p. p.0) (λ p. p.0) (λ p. p.0) (λ p. p.0) (λ p. p.0) (λ p. p.0) (λ p. p.0) (λ p. p.0)
+
+abbrev first_LExp : OverSuch LExp-F → OverTrees LExp-F
+first_LExp = map-LExp SuchExp SuchLExp SuchStmt SuchSuffix SuchCase SuchFieldValue SuchIndex SuchRange SuchTarget
+    Exp LExp Stmt SuffixTree CaseTree FieldValue Index Range TargetTree
+    (λ p. p.0) (λ p. p.0) (λ p. p.0) (λ p. p.0) (λ p. p.0) (λ p. p.0) (λ p. p.0) (λ p. p.0) (λ p. p.0)
+
+abbrev first_Stmt : OverSuch Stmt-F → OverTrees Stmt-F
+first_Stmt = map-Stmt SuchExp SuchLExp SuchStmt SuchSuffix SuchCase SuchFieldValue SuchIndex SuchRange SuchTarget
+    Exp LExp Stmt SuffixTree CaseTree FieldValue Index Range TargetTree
+    (λ p. p.0) (λ p. p.0) (λ p. p.0) (λ p. p.0) (λ p. p.0) (λ p. p.0) (λ p. p.0) (λ p. p.0) (λ p. p.0)
+
+abbrev first_Case : OverSuch Case-F → OverTrees Case-F
+first_Case = map-Case SuchExp SuchLExp SuchStmt SuchSuffix SuchCase SuchFieldValue SuchIndex SuchRange SuchTarget
+    Exp LExp Stmt SuffixTree CaseTree FieldValue Index Range TargetTree
+    (λ p. p.0) (λ p. p.0) (λ p. p.0) (λ p. p.0) (λ p. p.0) (λ p. p.0) (λ p. p.0) (λ p. p.0) (λ p. p.0)
+
+abbrev first_FieldValue : OverSuch FieldValue-F → OverTrees FieldValue-F
+first_FieldValue = map-FieldValue SuchExp SuchLExp SuchStmt SuchSuffix SuchCase SuchFieldValue SuchIndex SuchRange SuchTarget
+    Exp LExp Stmt SuffixTree CaseTree FieldValue Index Range TargetTree
+    (λ p. p.0) (λ p. p.0) (λ p. p.0) (λ p. p.0) (λ p. p.0) (λ p. p.0) (λ p. p.0) (λ p. p.0) (λ p. p.0)
 
 -- ---- parts in a list
 
