@@ -126,7 +126,7 @@ module _ (types : Types) (fit : Fit) (counts : FitCounts fit) where
   widened_counts (W.Vector l q) (W.Vector k r) n = also_counts (says _ n) (item_fits fit r q) n (le_self n) (item_counts r q)
   widened_counts (W.Tuple js) (W.Tuple is) n = pairs_count (widened_part fit) (λ i j. counts i (R.Widened j)) is js n
   widened_counts (W.Named u js qs) (W.Named v is rs) n = named_counts u v is rs js qs n
-  widened_counts (W.Variable j) (W.Variable i) n = same_counts j i n
+  widened_counts (W.Variable j) (W.Variable i) n = same_counts i j n
   widened_counts x y n = le_self n
 
   parts_count : (rs : List Reading) (y : Indices-F Indices Reading) → Counts (tuple_fits fit rs y)

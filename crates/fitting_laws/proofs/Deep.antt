@@ -135,13 +135,13 @@ module _ (types : Types) (past : Positive) (own : List Closed) where
     wide_tuple_suffices js is w n f whole s h = no (h f.integers (same f)).0
 
     wide_variable_suffices : (j i : ℕ) (v : Value) (n : ℕ) (f : Point n) → HadForm types past own f (W.Variable i) v
-        → Suffices past n f (same_variable j i n) (WideFits (W.Variable j) v)
-    wide_variable_suffices j i v n f h = by (nat_eq j i) refl
+        → Suffices past n f (same_variable i j n) (WideFits (W.Variable j) v)
+    wide_variable_suffices j i v n f h = by (nat_eq i j) refl
       where
-        by : (b : Bool) → nat_eq j i ≡ b → Suffices past n f (if b then says [] n else never n) (WideFits (W.Variable j) v)
+        by : (b : Bool) → nat_eq i j ≡ b → Suffices past n f (if b then says [] n else never n) (WideFits (W.Variable j) v)
         by false e = never_suffices n f (WideFits (W.Variable j) v)
         by true e =
-            says_so [] (λ g a said. ap (λ m. belongs types v (or_no_value (there g) (slice_get own m))) ((Decides-eqb j i).0 e) ∙ (h g a).0)
+            says_so [] (λ g a said. ap (λ m. belongs types v (or_no_value (there g) (slice_get own m))) (sym ((Decides-eqb i j).0 e)) ∙ (h g a).0)
 
     widened_suffices : (x y : Indices-F Indices Reading) (v : Value) (n : ℕ) (f : Point n) → Whole x → WideStays f x → HadForm types past own f y v
         → Suffices past n f (widened_fits types fit x y n) (WideFits x v)
@@ -259,19 +259,19 @@ module _ (types : Types) (past : Positive) (own : List Closed) where
         → has_hole r ≡ false → Had types past own f i v → Stays types past own f r
         → Suffices past n f (reading_fits types fit i x n) (ReadingFits r x i v)
     reading_suffices (W.Of t is rs) r e i v n f full h s =
-        let type_is = λ g. closed_is types (there g) own r (W.Of t is rs) e in
+        let type_is = λ (g : Integers). closed_is types (there g) own r (W.Of t is rs) e in
         let under : StaysUnder types past own f is rs =
         λ g a. let p = sym (type_is g) ∙ s g a ∙ type_is f.integers in (ap assignment_part p, ap readings_part p) in
         suffice_as (typ_suffices types past own fit go counts is rs (sym (hole_is r (W.Of t is rs) e) ∙ full) (out-Typ t) t (roll-out-Typ t) i v n f under h)
         (λ g a q. (ap (belongs types v) (type_is g) ∙ q.0, q.1))
     reading_suffices (W.Widened j) r e i v n f full h s =
-        let type_is = λ g. closed_is types (there g) own r (W.Widened j) e ∙ wide_is types past own g j in
+        let type_is = λ (g : Integers). closed_is types (there g) own r (W.Widened j) e ∙ wide_is types past own g j in
         let whole = sym (value_hole_is j (out-Indices j) (roll-out-Indices j)) ∙ sym (hole_is r (W.Widened j) e) ∙ full in
         suffice_as (widened_suffices (out-Indices j) (out-Indices i) v n f whole (λ g a. sym (type_is g) ∙ s g a ∙ type_is f.integers)
         (had_form types past own f i v h))
         (λ g a q. (ap (belongs types v) (type_is g) ∙ q, tt))
     reading_suffices (W.Parts rs) r e i v n f full h s =
-        let type_is = λ g. closed_is types (there g) own r (W.Parts rs) e in
+        let type_is = λ (g : Integers). closed_is types (there g) own r (W.Parts rs) e in
         suffice_as (parts_suffice rs (out-Indices i) v n f (sym (hole_is r (W.Parts rs) e) ∙ full)
         (λ g a. same_lists types past own (types_of types past own g rs) (types_of types past own f.integers rs)
         (ap readings_part (sym (type_is g) ∙ s g a ∙ type_is f.integers)))

@@ -48,14 +48,14 @@ use Rattle.value_laws.specs.Known.{Point, Agree, Later}
 use Rattle.value_laws.proofs.Alike.{asks}
 use Rattle.value_laws.proofs.Arguments.{under_these, assigned_as}
 use Rattle.value_laws.proofs.Basics.{fronts, no, two}
-use Rattle.value_laws.proofs.Numbers.{beyond_past, none, number_read, truth_read}
+use Rattle.value_laws.proofs.Numbers.{beyond_past, number_read, truth_read}
 use Rattle.value_laws.proofs.Opening.{stood, stood_same, closed_of, closeds_of, cons_same, found_answer, free_answer, opening_sound}
 use Rattle.value_laws.proofs.Steps.{same, agree_on, later_on}
 use Rattle.value_laws.proofs.Values.{questions, inner, form_asked, belongs_out, belongs_form, inner_is, answer, meanings}
 use Rattle.fitting_laws.specs.Fitting.{Said, Suffices}
 use Rattle.fitting_laws.proofs.Counted.{FitCounts, item_counts}
 use Rattle.fitting_laws.proofs.Counting.{le_on, opened_grows}
-use Rattle.fitting_laws.proofs.Holes.{Full, each_full, first_full, full_at, of_full}
+use Rattle.fitting_laws.proofs.Holes.{Full, each_full, first_full, full_at, none, of_full}
 use Rattle.fitting_laws.proofs.Joining.{also_suffice, known_then, never_suffices, premise_ends, premise_suffices, says_so, suffice_as}
 use Rattle.fitting_laws.proofs.Joining.{true_both}
 use Rattle.fitting_laws.proofs.Leaves.{bit_into, bits_into, bool_into, bound_said, con_said, indices_said, integer_into, list_into, named_into}
@@ -144,9 +144,8 @@ module _ (types : Types) (past : Positive) (own : List Closed) where
     item_suffices n f value wanted full value_stays wanted_stays =
         let made = opened value [] n in
         let le : n ≤ (fit made.value wanted made.next).next = item_counts types fit counts value wanted n in
-        suffice_as
-        (premise_suffices {past} {n} {f} {λ x. is_of types (there f.integers) own value x ≡ true} {λ x. is_of types (there f.integers) own wanted x ≡ true}
-        made.facts (fit made.value wanted made.next) le (λ x h.
+        let each : Suffices past n f (item_fits fit value wanted n) (λ g. Within f.integers value wanted) =
+        premise_suffices made.facts (fit made.value wanted made.next) le (λ x h.
         let o = opening_sound types past own value false M.Unnamed n f [] x value_stays h in
         let known = o.2.goes in
         let s = go made.value wanted made.next known.point x full
@@ -162,9 +161,8 @@ module _ (types : Types) (past : Positive) (own : List Closed) where
           suffices = λ p l said.
               ap (belongs types x) (sym (wanted_stays p.integers (agree_on (later_on known.later s.later) (agree_on l (same p)))))
               ∙ (s.suffices p l said p.integers (same p)).0;
-        }))
-        (λ g a h x b.
-        ap (belongs types x) (wanted_stays g a) ∙ h x (ap (belongs types x) (sym (value_stays g a)) ∙ b))
+        }) in
+        suffice_as each (λ g a h x b. ap (belongs types x) (wanted_stays g a) ∙ h x (ap (belongs types x) (sym (value_stays g a)) ∙ b))
 
     -- the wanted type's, in the value's: nothing is said of it
     other_way : (n : ℕ) (f : Point n) (value wanted : Reading) → Suffices past n f (item_fits fit wanted value n) (λ g. Unit {0})
@@ -290,30 +288,30 @@ module _ (types : Types) (past : Positive) (own : List Closed) where
 
     -- ---- several, one behind the other
 
-    module _ {B : Type 0} (as : B → Reading) where
+    module _ {B : Type 0} (typed : B → Reading) where
       abbrev pub Wanted : {n : ℕ} → Point n → List B → Type 0
       Wanted f [] = Unit {0}
-      Wanted f (b ∷ bs) = ((has_hole (as b) ≡ false) × Stays types past own f (as b)) × Wanted f bs
+      Wanted f (b ∷ bs) = ((has_hole (typed b) ≡ false) × Stays types past own f (typed b)) × Wanted f bs
 
       wanted_later : {n m : ℕ} (f : Point n) (g : Point m) (bs : List B) → Later f g → Wanted f bs → Wanted g bs
       wanted_later f g [] a h = tt
-      wanted_later f g (b ∷ bs) a h = ((h.0.0, stays_later types past own f g (as b) a h.0.1), wanted_later f g bs a h.1)
+      wanted_later f g (b ∷ bs) a h = ((h.0.0, stays_later types past own f g (typed b) a h.0.1), wanted_later f g bs a h.1)
 
       abbrev pub EachFits : Integers → List Indices → List B → List Value → Type 0
       EachFits g [] [] [] = Unit {0}
-      EachFits g (i ∷ is) (b ∷ bs) (v ∷ vs) = Fits (as b) i v g × EachFits g is bs vs
+      EachFits g (i ∷ is) (b ∷ bs) (v ∷ vs) = Fits (typed b) i v g × EachFits g is bs vs
       EachFits g is bs vs = ⊥
 
       pub pairs_suffice : (is : List Indices) (bs : List B) (vs : List Value) (n : ℕ) (f : Point n) → EachHad types past own f is vs → Wanted f bs
-          → Suffices past n f (each_pair (λ i b. fit i (as b)) is bs n) (λ g. EachFits g is bs vs)
+          → Suffices past n f (each_pair (λ i b. fit i (typed b)) is bs n) (λ g. EachFits g is bs vs)
       pairs_suffice [] [] [] n f had wanted = says_so [] (λ g a said. tt)
       pairs_suffice [] (b ∷ bs) [] n f had wanted = never_suffices n f (λ g. EachFits g [] (b ∷ bs) [])
       pairs_suffice [] bs (v ∷ vs) n f had wanted = absurd had
       pairs_suffice (i ∷ is) bs [] n f had wanted = absurd had
       pairs_suffice (i ∷ is) [] (v ∷ vs) n f had wanted = never_suffices n f (λ g. EachFits g (i ∷ is) [] (v ∷ vs))
       pairs_suffice (i ∷ is) (b ∷ bs) (v ∷ vs) n f had wanted =
-          also_suffice (each_pair (λ j c. fit j (as c)) is bs) (go i (as b) n f v wanted.0.0 had.0 wanted.0.1)
-          (λ g l. pairs_suffice is bs vs (fit i (as b) n).next g (each_later types past own f g is vs l had.1) (wanted_later f g bs l wanted.1))
+          also_suffice (each_pair (λ j c. fit j (typed c)) is bs) (go i (typed b) n f v wanted.0.0 had.0 wanted.0.1)
+          (λ g l. pairs_suffice is bs vs (fit i (typed b) n).next g (each_later types past own f g is vs l had.1) (wanted_later f g bs l wanted.1))
 
     -- ---- types, under what their variables stand for
 

@@ -1,5 +1,5 @@
 -- Types without holes.
-use Rattle.std.proofs.Common.{◌≡◌, ℕ, zero, suc, Bool, false, List, [], ◌∷◌, map, slice_get, Some, refl, sym, ap, ◌∙◌, subst}
+use Rattle.std.proofs.Common.{◌≡◌, ℕ, zero, suc, Bool, false, List, [], ◌∷◌, map, slice_get, None, Some, refl, sym, ap, ◌∙◌, subst}
 use Rattle.std.specs.List.{list_any}
 use Rattle.std.proofs.lemmas.Bool.{or_from, or_parts}
 use Rattle.sail_types.proofs.SumNumbers.{some_same}
@@ -13,7 +13,9 @@ use Rattle.value_indices.specs.declared.indices.Reading.{Reading, roll-Reading}
 use Rattle.value_indices.specs.declared.indices.Reading.TheVariants as R
 use Rattle.value_fits.specs.Fitting.{each_under}
 use Rattle.call_arguments.specs.Holes.{has_hole, type_holed, value_has_hole, value_holed}
-use Rattle.value_laws.proofs.Numbers.{none}
+
+pub none : {A B : Type 0} {x : A} → None ≡ Some x → B
+none h = absurd (cc)
 
 -- none of them has a hole
 abbrev pub Full : List Reading → Type 0

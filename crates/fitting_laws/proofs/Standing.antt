@@ -35,11 +35,12 @@ use Rattle.value_laws.specs.Belonging.{types_or_own, type_variables}
 use Rattle.value_laws.specs.Known.{Point, Agree, Later}
 use Rattle.value_laws.proofs.Alike.{asks}
 use Rattle.value_laws.proofs.Arguments.{AreAs, under_these, assigned_as, assigned_there, nil}
-use Rattle.value_laws.proofs.Numbers.{none, mapped, truth_is, beyond_past, beyond_read, index_number, index_read, index_truth}
+use Rattle.value_laws.proofs.Numbers.{mapped, truth_is, beyond_past, beyond_read, index_number, index_read, index_truth}
 use Rattle.value_laws.proofs.Opening.{Steady, steady_later, stood, stood_same, closed_of, closeds_of, cons_same, same_lists, args_same, truth_same}
 use Rattle.value_laws.proofs.Opening.{item_steady}
 use Rattle.value_laws.proofs.Steps.{same, agree_on}
 use Rattle.value_laws.proofs.Values.{questions, inner, answer, meanings, meant_is, has_form}
+use Rattle.fitting_laws.proofs.Holes.{none}
 use Rattle.fitting_laws.proofs.Places.{given_there, index_placed, first_same, bits_placed, integer_placed, truth_placed, vector_placed}
 
 -- ---- the form of what was made
