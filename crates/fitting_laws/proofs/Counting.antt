@@ -1,6 +1,6 @@
 -- Opening a type counts its variables on: none from before is taken again.
 use Rattle.std.proofs.Common.{◌≡◌, ℕ, zero, suc, ◌≤◌, Bool, true, false, List, [], ◌∷◌, map, slice_get, Option, Some, None, if◌then◌else◌}
-use Rattle.std.proofs.Common.{refl, sym, ap, ◌∙◌, subst, arith}
+use Rattle.std.proofs.Common.{sym, ap, ◌∙◌, subst, arith}
 use Rattle.sail_types.specs.Readings.{read_con, read_index}
 use Rattle.sail_types.specs.Sums.{is_constant, read, variable}
 use Rattle.sail_types.specs.declared.numbers.Con.{Con}

@@ -4,14 +4,12 @@ use Rattle.std.proofs.Common.{refl, sym, ap, ◌∙◌, subst, arith}
 use Rattle.std.specs.List.{list_any}
 use Rattle.std.proofs.lemmas.Bool.Decides.{Decides-eqb}
 use Rattle.sail_types.proofs.Substituted.{number_constant}
-use Rattle.sail_types.specs.Belongs.{Reading as Closed, Readings as Closeds, reading, no_readings, assigned, each_belongs, belongs}
+use Rattle.sail_types.specs.Belongs.{Reading as Closed, Readings as Closeds, reading, no_readings, each_belongs, belongs}
 use Rattle.sail_types.specs.Numbers.{Assignment, Positive, number}
 use Rattle.sail_types.specs.Sums.{constant}
 use Rattle.sail_types.specs.Zero.{deepest}
-use Rattle.sail_types.specs.declared.numbers.Index.{Index}
-use Rattle.sail_types.specs.declared.numbers.Num.{Num}
 use Rattle.sail_types.specs.declared.table.Types.{Types}
-use Rattle.sail_types.specs.declared.types.Typ.{Typ, out-Typ}
+use Rattle.sail_types.specs.declared.types.Typ.{out-Typ}
 use Rattle.sail_types.specs.declared.types.Typ.TheOpen as T
 use Rattle.sail_types.specs.declared.types.Typ.TheViews.{roll-out-Typ}
 use Rattle.sail_types.specs.declared.types.Typ.TheVariants as U
@@ -19,7 +17,7 @@ use Rattle.sail_types.specs.declared.values.Value.{Value, Value-F, out-Value}
 use Rattle.sail_types.specs.declared.values.Value.TheOpen as V
 use Rattle.row_types.specs.Formulas.{least, most}
 use Rattle.value_indices.specs.declared.indices.Indices.{Indices, out-Indices}
-use Rattle.value_indices.specs.declared.indices.Indices.TheFolds.{map-Indices, map-Reading}
+use Rattle.value_indices.specs.declared.indices.Indices.TheFolds.{map-Indices}
 use Rattle.value_indices.specs.declared.indices.Indices.TheOpen as W
 use Rattle.value_indices.specs.declared.indices.Indices.TheOpen.{Indices-F, Reading-F}
 use Rattle.value_indices.specs.declared.indices.Indices.TheViews.{roll-out-Indices, roll-out-Reading}
@@ -29,7 +27,7 @@ use Rattle.value_indices.specs.Opening.{least_num, largest_num}
 use Rattle.value_fits.specs.Fitting.{Fit, says, never, each_pair, number_fits, in_range, item_fits, same_variable, widened_part, widened_fits}
 use Rattle.value_fits.specs.Fitting.{tuple_fits, reading_fits, value_fits, fits_within}
 use Rattle.call_arguments.specs.Holes.{has_hole, value_has_hole, value_holed}
-use Rattle.value_laws.specs.Belonging.{Integers, standing, nowhere, closeds, or_no_value, type_variables, number_there, index_there, Meant, wides, form_holds}
+use Rattle.value_laws.specs.Belonging.{Integers, standing, nowhere, closeds, or_no_value, type_variables, number_there, index_there, Meant, form_holds}
 use Rattle.value_laws.specs.Belonging.{meant, is_of}
 use Rattle.value_laws.specs.Known.{Point, Agree}
 use Rattle.value_laws.proofs.Alike.{asks, variables_same}

@@ -1,34 +1,28 @@
 -- Where what `fits` asks is true, a value that has the indices belongs to the type: form by form.
-use Rattle.std.proofs.Common.{◌≡◌, ℕ, zero, suc, ◌≤◌, ◌<◌, nat_eq, nat_lt, int_le, pos, Bool, true, false, ◌&&◌, List, [], ◌∷◌, map, length, slice_get}
+use Rattle.std.proofs.Common.{◌≡◌, ℕ, zero, suc, ◌≤◌, ◌<◌, nat_eq, nat_lt, int_le, Bool, true, false, List, [], ◌∷◌, map, length, slice_get}
 use Rattle.std.proofs.Common.{Option, Some, None, option_map, if◌then◌else◌, refl, sym, ap, ◌∙◌, subst, arith}
-use Rattle.std.specs.List.{list_any}
 use Rattle.std.proofs.lemmas.Bool.{and_parts, ltb-true}
 use Rattle.std.proofs.lemmas.Bool.Decides.{Decides-eqb}
-use Rattle.sail_types.proofs.SumNumbers.{some_same}
-use Rattle.sail_types.proofs.Substituted.{number_constant}
-use Rattle.sail_types.specs.Belongs.{Reading as Closed, Readings as Closeds, reading, no_readings, assigned, under, read_each, each_belongs, fields_belong}
+use Rattle.sail_types.specs.Belongs.{Reading as Closed, Readings as Closeds, reading, assigned, under, each_belongs, fields_belong}
 use Rattle.sail_types.specs.Belongs.{given_belongs, payload_belongs, belongs}
 use Rattle.sail_types.specs.Named.{fields, field_types, members, payload, in_form, form_fields, form_members, form_constructors, constructors, typ_of}
 use Rattle.sail_types.specs.Numbers.{Assignment, Positive, number, true_in}
-use Rattle.sail_types.specs.Places.{Given, an_int}
+use Rattle.sail_types.specs.Places.{an_int}
 use Rattle.sail_types.specs.Places as Of
 use Rattle.sail_types.specs.Readings.{read_con, read_indices}
-use Rattle.sail_types.specs.Sums.{constant, read}
+use Rattle.sail_types.specs.Sums.{read}
 use Rattle.sail_types.specs.declared.numbers.Con.{Con}
 use Rattle.sail_types.specs.declared.numbers.Index.{Index}
 use Rattle.sail_types.specs.declared.numbers.Index.TheVariants as N
-use Rattle.sail_types.specs.declared.numbers.Num.{Num}
 use Rattle.sail_types.specs.declared.table.Definition.{Definition}
 use Rattle.sail_types.specs.declared.table.Field.{Field}
 use Rattle.sail_types.specs.declared.table.Form.{Form}
 use Rattle.sail_types.specs.declared.table.Form.TheVariants as K
 use Rattle.sail_types.specs.declared.table.Types.{Types}
-use Rattle.sail_types.specs.declared.types.Typ.{Typ, Typ-F, out-Typ, roll-Typ}
+use Rattle.sail_types.specs.declared.types.Typ.{Typ, Typ-F, roll-Typ}
 use Rattle.sail_types.specs.declared.types.Typ.TheFolds.{map-Typ}
 use Rattle.sail_types.specs.declared.types.Typ.TheOpen as T
-use Rattle.sail_types.specs.declared.types.Typ.TheViews.{roll-out-Typ}
-use Rattle.sail_types.specs.declared.types.Typ.TheVariants as U
-use Rattle.sail_types.specs.declared.values.Value.{Value, Value-F, out-Value, roll-Value}
+use Rattle.sail_types.specs.declared.values.Value.{Value, Value-F, out-Value}
 use Rattle.sail_types.specs.declared.values.Value.TheOpen as V
 use Rattle.value_indices.specs.declared.indices.Indices.{Indices, out-Indices}
 use Rattle.value_indices.specs.declared.indices.Indices.TheOpen as W
@@ -37,13 +31,12 @@ use Rattle.value_indices.specs.declared.indices.Naming.TheVariants as M
 use Rattle.value_indices.specs.declared.indices.Reading.{Reading, out-Reading}
 use Rattle.value_indices.specs.declared.indices.Reading.TheVariants as R
 use Rattle.value_indices.specs.Opening.{opened}
-use Rattle.value_fits.specs.declared.fitted.Fitted.{Fitted}
 use Rattle.value_fits.specs.Fitting.{Fit, says, also, never, each_pair, number_fits, truth_fits, in_range, item_fits, argument_fits, arguments_fit}
-use Rattle.value_fits.specs.Fitting.{indices_fit, field_fits, fields_fit, types_of_fields, named_fits, same_named, bound_fits, same_variable, own_variable}
+use Rattle.value_fits.specs.Fitting.{indices_fit, field_fits, fields_fit, types_of_fields, named_fits, same_named, bound_fits, own_variable}
 use Rattle.value_fits.specs.Fitting.{variable_fits, each_under, typed_fits, form_fits, named_form, typ_fits}
 use Rattle.value_fits.specs.Fitting as In
 use Rattle.call_arguments.specs.Holes.{has_hole}
-use Rattle.value_laws.specs.Belonging.{Integers, standing, closeds, or_no_value, Meant, types_or_own, form_holds, indices_hold, meant, closed, is_of}
+use Rattle.value_laws.specs.Belonging.{Integers, standing, closeds, or_no_value, Meant, types_or_own, form_holds, meant, closed, is_of}
 use Rattle.value_laws.specs.Known.{Point, Agree, Later}
 use Rattle.value_laws.proofs.Alike.{asks}
 use Rattle.value_laws.proofs.Arguments.{under_these, assigned_as}
@@ -51,10 +44,9 @@ use Rattle.value_laws.proofs.Basics.{fronts, no, two}
 use Rattle.value_laws.proofs.Numbers.{beyond_past, number_read, truth_read}
 use Rattle.value_laws.proofs.Opening.{stood, stood_same, closed_of, closeds_of, cons_same, found_answer, free_answer, opening_sound}
 use Rattle.value_laws.proofs.Steps.{same, agree_on, later_on}
-use Rattle.value_laws.proofs.Values.{questions, inner, form_asked, belongs_out, belongs_form, inner_is, answer, meanings}
-use Rattle.fitting_laws.specs.Fitting.{Said, Suffices}
+use Rattle.value_laws.proofs.Values.{inner, form_asked, belongs_out, belongs_form, inner_is, answer}
+use Rattle.fitting_laws.specs.Fitting.{Suffices}
 use Rattle.fitting_laws.proofs.Counted.{FitCounts, item_counts}
-use Rattle.fitting_laws.proofs.Counting.{le_on, opened_grows}
 use Rattle.fitting_laws.proofs.Holes.{Full, each_full, first_full, full_at, none, of_full}
 use Rattle.fitting_laws.proofs.Joining.{also_suffice, known_then, never_suffices, premise_ends, premise_suffices, says_so, suffice_as}
 use Rattle.fitting_laws.proofs.Joining.{true_both}

@@ -1,15 +1,14 @@
 -- Values that have indices, and types that hang on fixed variables alone.
-use Rattle.std.proofs.Common.{◌≡◌, ℕ, zero, suc, ℤ, pos, Bool, true, false, ◌&&◌, List, [], ◌∷◌, map, slice_get, Option, Some, None, option_map}
+use Rattle.std.proofs.Common.{◌≡◌, ℕ, zero, suc, ℤ, pos, true, false, List, [], ◌∷◌, map, Option, Some, None, option_map}
 use Rattle.std.proofs.Common.{refl, sym, ap, ◌∙◌, subst}
 use Rattle.std.proofs.lemmas.Bool.{and_parts}
-use Rattle.value_laws.proofs.Basics.{fronts, no, two}
-use Rattle.sail_types.specs.Belongs.{Reading as Closed, Readings as Closeds, reading, assigned, under, number_under, read_each, Asked, each_belongs, belongs}
-use Rattle.sail_types.specs.Numbers.{Assignment, Positive, number, true_in}
-use Rattle.sail_types.specs.Places.{Given, an_int, a_bool, first, form_is, is_variable, only}
+use Rattle.value_laws.proofs.Basics.{fronts, no}
+use Rattle.sail_types.specs.Belongs.{Reading as Closed, Readings as Closeds, reading, assigned, under, number_under, read_each, Asked, belongs}
+use Rattle.sail_types.specs.Numbers.{Assignment, Positive, number}
+use Rattle.sail_types.specs.Places.{Given, an_int}
 use Rattle.sail_types.specs.Places as Of
 use Rattle.sail_types.specs.Readings.{more, read_index, read_indices}
-use Rattle.sail_types.specs.Sums.{constant, read, substituted}
-use Rattle.sail_types.specs.declared.numbers.Con.{Con, out-Con}
+use Rattle.sail_types.specs.Sums.{read, substituted}
 use Rattle.sail_types.specs.declared.numbers.Index.{Index}
 use Rattle.sail_types.specs.declared.numbers.Index.TheVariants as N
 use Rattle.sail_types.specs.declared.numbers.Num.{Num}
@@ -24,7 +23,7 @@ use Rattle.sail_types.specs.declared.values.Value.TheViews.{roll-out-Value}
 use Rattle.sail_types.proofs.SumNumbers.{some_same}
 use Rattle.value_indices.specs.declared.indices.Indices.{Indices, out-Indices}
 use Rattle.value_indices.specs.declared.indices.Indices.TheOpen as W
-use Rattle.value_indices.specs.declared.indices.Indices.TheOpen.{Indices-F, Reading-F}
+use Rattle.value_indices.specs.declared.indices.Indices.TheOpen.{Indices-F}
 use Rattle.value_indices.specs.declared.indices.Indices.TheViews.{out-roll-Reading, roll-out-Indices}
 use Rattle.value_indices.specs.declared.indices.Reading.{Reading, out-Reading}
 use Rattle.value_indices.specs.declared.indices.Reading.TheVariants as R
@@ -33,13 +32,12 @@ use Rattle.value_fits.specs.Fitting as In
 use Rattle.value_laws.specs.Belonging.{Integers, standing, closeds, index_there, Meant, wides, each_holds, form_holds, indices_hold, wide_of, meant, closed, has}
 use Rattle.value_laws.specs.Belonging.{types_or_own, type_variables}
 use Rattle.value_laws.specs.Known.{Point, Agree, Later}
-use Rattle.value_laws.proofs.Alike.{asks}
 use Rattle.value_laws.proofs.Arguments.{AreAs, under_these, assigned_as, assigned_there, nil}
 use Rattle.value_laws.proofs.Numbers.{mapped, truth_is, beyond_past, beyond_read, index_number, index_read, index_truth}
-use Rattle.value_laws.proofs.Opening.{Steady, steady_later, stood, stood_same, closed_of, closeds_of, cons_same, same_lists, args_same, truth_same}
+use Rattle.value_laws.proofs.Opening.{Steady, steady_later, stood, closed_of, closeds_of, cons_same, same_lists, args_same}
 use Rattle.value_laws.proofs.Opening.{item_steady}
 use Rattle.value_laws.proofs.Steps.{same, agree_on}
-use Rattle.value_laws.proofs.Values.{questions, inner, answer, meanings, meant_is, has_form}
+use Rattle.value_laws.proofs.Values.{questions, meanings, meant_is, has_form}
 use Rattle.fitting_laws.proofs.Holes.{none}
 use Rattle.fitting_laws.proofs.Places.{given_there, index_placed, first_same, bits_placed, integer_placed, truth_placed, vector_placed}
 
