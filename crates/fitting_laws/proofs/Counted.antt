@@ -58,7 +58,8 @@ module _ (types : Types) (fit : Fit) (counts : FitCounts fit) where
   field_counts value wanted n = le_on (opened_grows value [] n) (counts (opened value [] n).value wanted (opened value [] n).next)
 
   argument_counts : (value wanted : Reading) → Counts (argument_fits fit value wanted)
-  argument_counts value wanted n = also_counts (item_fits fit value wanted n) (item_fits fit wanted value) n (item_counts value wanted n) (item_counts wanted value)
+  argument_counts value wanted n =
+      also_counts (item_fits fit value wanted n) (item_fits fit wanted value) n (item_counts value wanted n) (item_counts wanted value)
 
   fields_count : (ts : List Typ) (is : List Index) (rs : List Reading) (js : List Index) (qs : List Reading) → Counts (fields_fit fit ts is rs js qs)
   fields_count [] is rs js qs n = le_self n

@@ -38,7 +38,8 @@ use Rattle.value_laws.proofs.Steps.{same}
 use Rattle.value_laws.proofs.Values.{inner, form_asked, belongs_out, belongs_form, answer, variable_belongs, closed_is}
 use Rattle.fitting_laws.specs.Fitting.{FittingSuffices, Suffices}
 use Rattle.fitting_laws.proofs.Counted.{FitCounts, fits_count}
-use Rattle.fitting_laws.proofs.Forms.{EachFits, FitGoes, Fits, ReadPlaced, Wanted, item_suffices, named_suffices, pairs_suffice, type_of, types_of, typ_suffices}
+use Rattle.fitting_laws.proofs.Forms.{EachFits, FitGoes, Fits, ReadPlaced, Wanted, item_suffices, named_suffices, pairs_suffice, type_of, types_of}
+use Rattle.fitting_laws.proofs.Forms.{typ_suffices}
 use Rattle.fitting_laws.proofs.Holes.{Full, first_full, first_whole, hole_is, value_hole_is, widened_full}
 use Rattle.fitting_laws.proofs.Joining.{also_suffice, never_suffices, says_so, suffice_as}
 use Rattle.fitting_laws.proofs.Leaves.{bit_into, bits_into, bool_into, equal_said, list_into, named_into, string_into, unit_into, vector_into, wide_into}
@@ -171,7 +172,8 @@ module _ (types : Types) (past : Positive) (own : List Closed) where
         belongs_form types v T.String U.String (nowhere (there g)) no_readings U.rolls-String
         ∙ string_into types own (there g) (nowhere (there g)) no_readings (out-Value v) (h g a).0)
     widened_suffices (W.List q) (W.List r) v n f whole s h =
-        suffice_as (item_suffices types past own fit go counts n f r q whole (list_stays types past own f r (λ g a. (h g a).1)) (list_stays types past own f q s))
+        suffice_as
+        (item_suffices types past own fit go counts n f r q whole (list_stays types past own f r (λ g a. (h g a).1)) (list_stays types past own f q s))
         (λ g a k.
         let c = type_of types past own g q in
         belongs_form types v (T.List (U.Variable 0)) (U.List (U.Variable 0)) (nowhere (there g)) (closeds (c ∷ [])) (U.rolls-List (U.Variable 0))
@@ -195,7 +197,8 @@ module _ (types : Types) (past : Positive) (own : List Closed) where
         belongs_form types v (T.Tuple (type_variables 0 cs)) (U.Tuple (type_variables 0 cs)) (nowhere (there g)) (closeds cs)
         (U.rolls-Tuple (type_variables 0 cs)) ∙ q)
     widened_suffices (W.Named u js qs) (W.Named k is rs) v n f whole s h =
-        suffice_as (named_suffices types past own fit go counts u k (out-Value v) is rs js qs n f whole (named_stays types past own f k is rs (λ g a. (h g a).1))
+        suffice_as
+        (named_suffices types past own fit go counts u k (out-Value v) is rs js qs n f whole (named_stays types past own f k is rs (λ g a. (h g a).1))
         (named_stays types past own f u js qs s) (λ g a. (h g a).0))
         (λ g a q.
         let cs = types_of types past own g qs in

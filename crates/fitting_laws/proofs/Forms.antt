@@ -217,7 +217,8 @@ module _ (types : Types) (past : Positive) (own : List Closed) where
         × (each_belongs (asks types vs) (assigned (there g) is) (closeds (types_of g rs)) ts ≡ true) =
         λ g a. and_parts (belongs types v (reading u (assigned (there g) is) (closeds (types_of g rs)))) _ (h g a) in
         suffice_as (also_suffice (fields_fit fit ts is rs js qs)
-        (field_suffices n f (R.Of u is rs) (R.Of u js qs) v (of_full u js qs full) (of_stays types past own f is rs u (arguments_under types past own f is rs s))
+        (field_suffices n f (R.Of u is rs) (R.Of u js qs) v (of_full u js qs full)
+        (of_stays types past own f is rs u (arguments_under types past own f is rs s))
         (of_stays types past own f js qs u (arguments_under types past own f js qs t))
         (ap (belongs types v) (closed_of types past own rs f.integers u is)
         ∙ belongs_within types v u (assigned (there f.integers) is) (closeds (types_of f.integers rs)) (stand f.integers rs)
@@ -242,11 +243,10 @@ module _ (types : Types) (past : Positive) (own : List Closed) where
         let found : fields types i ≡ Some fs = ap (fields types) ((Decides-eqb i k).0 q.0 ∙ sym p) ∙ e in
         no_less m (ap (λ (ms : List (List ℕ)). nat_lt m (length ms)) (sym (struct_alone types i fs found).0) ∙ q.1)
     struct_suffices u k (Some fs) e p (V.Union i m x) is rs js qs n f full s t h =
-        let q = and_parts (nat_eq i k) (payload_belongs (belongs types x) (assigned (there f.integers) is) (closeds (types_of f.integers rs)) (payload types i m))
-        (h f.integers (same f)) in
+        let of : Option Typ → Bool = payload_belongs (belongs types x) (assigned (there f.integers) is) (closeds (types_of f.integers rs)) in
+        let q = and_parts (nat_eq i k) (of (payload types i m)) (h f.integers (same f)) in
         let found : fields types i ≡ Some fs = ap (fields types) ((Decides-eqb i k).0 q.0 ∙ sym p) ∙ e in
-        no (ap (λ (cs : List Field). payload_belongs (belongs types x) (assigned (there f.integers) is) (closeds (types_of f.integers rs)) (typ_of (slice_get cs m)))
-        (sym (struct_alone types i fs found).1) ∙ q.1)
+        no (ap (λ (cs : List Field). of (typ_of (slice_get cs m))) (sym (struct_alone types i fs found).1) ∙ q.1)
     struct_suffices u k (Some fs) e p w is rs js qs n f full s t h = no (h f.integers (same f))
 
     -- ---- named types

@@ -64,7 +64,8 @@ pub among_same : (mu : Assignment) (ts : List Typ) (is : List Indices) (vs : Lis
     → option_map (given_there mu) (In.among (map In.placed ts) j is) ≡ Of.among (map Of.placed ts) j vs
 among_same mu [] [] [] h j = refl
 among_same mu (t ∷ ts) (i ∷ is) (v ∷ vs) h j =
-    first_same mu (In.placed t j i) (In.among (map In.placed ts) j is) (Of.placed t j v) (Of.among (map Of.placed ts) j vs) (h.0 j) (among_same mu ts is vs h.1 j)
+    first_same mu (In.placed t j i) (In.among (map In.placed ts) j is) (Of.placed t j v) (Of.among (map Of.placed ts) j vs) (h.0 j)
+    (among_same mu ts is vs h.1 j)
 among_same mu [] [] (v ∷ vs) h j = absurd h
 among_same mu [] (i ∷ is) vs h j = absurd h
 among_same mu (t ∷ ts) [] vs h j = absurd h

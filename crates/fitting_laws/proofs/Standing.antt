@@ -29,7 +29,8 @@ use Rattle.value_indices.specs.declared.indices.Reading.{Reading, out-Reading}
 use Rattle.value_indices.specs.declared.indices.Reading.TheVariants as R
 use Rattle.value_fits.specs.Fitting.{each_under}
 use Rattle.value_fits.specs.Fitting as In
-use Rattle.value_laws.specs.Belonging.{Integers, standing, closeds, index_there, Meant, wides, each_holds, form_holds, indices_hold, wide_of, meant, closed, has}
+use Rattle.value_laws.specs.Belonging.{Integers, standing, closeds, index_there, Meant, wides, each_holds, form_holds, indices_hold, wide_of, meant}
+use Rattle.value_laws.specs.Belonging.{closed, has}
 use Rattle.value_laws.specs.Belonging.{types_or_own, type_variables}
 use Rattle.value_laws.specs.Known.{Point, Agree, Later}
 use Rattle.value_laws.proofs.Arguments.{AreAs, under_these, assigned_as, assigned_there, nil}
