@@ -40,31 +40,31 @@ Grows walk = (facts : List Fact) (n : ℕ) → n ≤ (walk facts n).next
 
 -- ---- steps
 
-give_grows : {A : Type 0} (x : A) → Grows (give x)
+pub give_grows : {A : Type 0} (x : A) → Grows (give x)
 unfolding give
 give_grows x facts n = le_self n
 
-bind_grows : {A B : Type 0} (w : Walk A) (k : A → Walk B) → Grows w → ((x : A) → Grows (k x)) → Grows (bind w k)
+pub bind_grows : {A B : Type 0} (w : Walk A) (k : A → Walk B) → Grows w → ((x : A) → Grows (k x)) → Grows (bind w k)
 unfolding bind
 bind_grows w k h more facts n = le_on (h facts n) (more (w facts n).value (w facts n).facts (w facts n).next)
 
-assume_grows : (c : Con) → Grows (assume c)
+pub assume_grows : (c : Con) → Grows (assume c)
 unfolding assume
 assume_grows c facts n = le_self n
 
-assume_if_grows : (o : Option Con) → Grows (assume_if o)
+pub assume_if_grows : (o : Option Con) → Grows (assume_if o)
 assume_if_grows None = give_grows tt
 assume_if_grows (Some c) = assume_grows c
 
-fresh_grows : Grows fresh
+pub fresh_grows : Grows fresh
 unfolding fresh
 fresh_grows facts n = omega arith
 
-fresh_named_grows : (name : List ℕ) → Grows (fresh_named name)
+pub fresh_named_grows : (name : List ℕ) → Grows (fresh_named name)
 unfolding fresh_named
 fresh_named_grows name facts n = omega arith
 
-each_grows : {A B : Type 0} (f : A → Walk B) → ((x : A) → Grows (f x)) → (xs : List A) → Grows (each f xs)
+pub each_grows : {A B : Type 0} (f : A → Walk B) → ((x : A) → Grows (f x)) → (xs : List A) → Grows (each f xs)
 each_grows f h [] = give_grows []
 each_grows f h (x ∷ xs) = bind_grows (f x) _ (h x) (λ y. bind_grows (each f xs) _ (each_grows f h xs) (λ ys. give_grows (y ∷ ys)))
 
@@ -355,6 +355,10 @@ each_reading_grows : (r : Reading) → ReadingGrows r
 each_reading_grows = ind-Reading WideGrows ReadingGrows (λ e y same_form. subst (λ d. WideGrows (roll-Indices d)) same_form (wide_step y))
     (λ e y same_form. subst (λ d. ReadingGrows (roll-Reading d)) same_form (reading_step y))
 
+pub opening_grows : (r : Reading) (tells : Bool) (name : Naming) → Grows (opening r tells name)
+unfolding ReadingGrows
+opening_grows r tells name = each_reading_grows r tells name
+
 pub opened_grows : (r : Reading) → Grows (opened r)
-unfolding opened ReadingGrows
-opened_grows r = each_reading_grows r false M.Unnamed
+unfolding opened
+opened_grows r = opening_grows r false M.Unnamed

@@ -113,7 +113,7 @@ module _ (types : Types) (past : Positive) (own : List Closed) where
   EachWithin g (r ∷ rs) (q ∷ qs) = Within g r q × EachWithin g rs qs
   EachWithin g rs qs = ⊥
 
-  each_answer : (g : Integers) (rs qs : List Reading) → EachWithin g rs qs → AllWithin types (closeds (types_of g rs)) (closeds (types_of g qs))
+  pub each_answer : (g : Integers) (rs qs : List Reading) → EachWithin g rs qs → AllWithin types (closeds (types_of g rs)) (closeds (types_of g qs))
   each_answer g [] [] h i w b = b
   each_answer g [] (q ∷ qs) h i w b = absurd h
   each_answer g (r ∷ rs) [] h i w b = absurd h
@@ -121,7 +121,7 @@ module _ (types : Types) (past : Positive) (own : List Closed) where
   each_answer g (r ∷ rs) (q ∷ qs) h (suc i) w b = each_answer g rs qs h.1 i w b
 
   -- the Type variables behind these
-  own_answer : (cs ds : List Closed) → AllWithin types (closeds cs) (closeds (types_or_own cs ds))
+  pub own_answer : (cs ds : List Closed) → AllWithin types (closeds cs) (closeds (types_or_own cs ds))
   own_answer [] ds i w b = no b
   own_answer (c ∷ cs) [] i w b = b
   own_answer (c ∷ cs) (d ∷ ds) zero w b = b
