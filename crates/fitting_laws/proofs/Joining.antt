@@ -1,6 +1,6 @@
 -- Conditions one behind another, and such as stand under a premise.
 use Rattle.std.proofs.Common.{◌≡◌, ℕ, ◌≤◌, ◌<◌, Bool, true, false, List, [], ◌∷◌, ◌++◌, map, Option, Some, None, option_map}
-use Rattle.std.proofs.Common.{if◌then◌else◌, refl, sym, ap, ◌∙◌, subst, arith}
+use Rattle.std.proofs.Common.{if◌then◌else◌, unwrap_or, refl, sym, ap, ◌∙◌, subst, arith}
 use Rattle.std.specs.Prelude.{not}
 use Rattle.std.specs.List.{list_all, list_any}
 use Rattle.sail_types.specs.Numbers.{Assignment, Positive, true_in, form_true}
@@ -11,7 +11,7 @@ use Rattle.sail_types.specs.declared.numbers.Con.TheVariants as C
 use Rattle.sail_types.specs.declared.values.Value.{Value}
 use Rattle.value_indices.specs.declared.notes.Fact.{Fact}
 use Rattle.value_indices.specs.declared.notes.Fact.TheVariants as Y
-use Rattle.value_indices.specs.Steps.{conditions, Conditions, Went}
+use Rattle.value_indices.specs.Steps.{conditions, conjunction, Conditions, Went}
 use Rattle.value_fits.specs.declared.fitted.Fitted.{Fitted}
 use Rattle.value_fits.specs.Fitting.{fitted, says, joined, also, never, implies, if_all, under_premise}
 use Rattle.value_laws.specs.Belonging.{Integers, standing}
@@ -39,7 +39,7 @@ true_both mu [] gs h k = k
 true_both mu (Y.Holds c ∷ fs) gs h k = (h.0, true_both mu fs gs h.1 k)
 true_both mu (Y.IsGiven v ∷ fs) gs h k = true_both mu fs gs h k
 
-given_both : (fs gs : List Fact) → given_in fs ≡ [] → given_in gs ≡ [] → given_in (fs ++ gs) ≡ []
+pub given_both : (fs gs : List Fact) → given_in fs ≡ [] → given_in gs ≡ [] → given_in (fs ++ gs) ≡ []
 given_both [] gs h k = k
 given_both (Y.Holds c ∷ fs) gs h k = given_both fs gs h k
 given_both (Y.IsGiven v ∷ fs) gs h k = absurd (cc)
@@ -106,7 +106,7 @@ module _ {past : Positive} where
 
 -- ---- under a premise
 
-true_all : (mu : Assignment) (cs : List Con) → true_in mu (C.All cs) ≡ list_all (λ b. b) (map (true_in mu) cs)
+pub true_all : (mu : Assignment) (cs : List Con) → true_in mu (C.All cs) ≡ list_all (λ b. b) (map (true_in mu) cs)
 true_all mu cs = ap (true_in mu) (sym (C.rolls-All cs)) ∙ fold-roll-Con Bool (form_true mu) (F.All cs)
 
 true_any : (mu : Assignment) (cs : List Con) → true_in mu (C.Any cs) ≡ list_any (λ b. b) (map (true_in mu) cs)
@@ -119,7 +119,7 @@ all_true : (mu : Assignment) (cs : List Con) → AllTrue mu cs → list_all (λ 
 all_true mu [] h = refl
 all_true mu (c ∷ cs) h = two (true_in mu c) (list_all (λ b. b) (map (true_in mu) cs)) h.0 (all_true mu cs h.1)
 
-each_true : (mu : Assignment) (cs : List Con) → list_all (λ b. b) (map (true_in mu) cs) ≡ true → AllTrue mu cs
+pub each_true : (mu : Assignment) (cs : List Con) → list_all (λ b. b) (map (true_in mu) cs) ≡ true → AllTrue mu cs
 each_true mu [] h = tt
 each_true mu (c ∷ cs) h = let k = and_parts (true_in mu c) (list_all (λ b. b) (map (true_in mu) cs)) h in (k.0, each_true mu cs k.1)
 
@@ -131,6 +131,14 @@ said_all mu (Some c ∷ cs) ds e h =
     let k = mapped (λ ys. c ∷ ys) (together cs) ds e in
     let all : AllTrue mu (c ∷ k.0) = subst (AllTrue mu) (sym k.2) h in
     (all.0, said_all mu cs k.0 k.1 all.1)
+
+-- what is owed as one condition
+pub conjunction_said : (mu : Assignment) (cs : Conditions) → true_in mu (conjunction cs) ≡ true → Said mu cs
+conjunction_said mu cs h = by (together cs) refl h
+  where
+    by : (o : Option (List Con)) → together cs ≡ o → true_in mu (unwrap_or (option_map C.All o) (C.Truth false)) ≡ true → Said mu cs
+    by None e k = no (sym (truth_is mu false) ∙ k)
+    by (Some ds) e k = said_all mu cs ds e (each_true mu ds (sym (true_all mu ds) ∙ k))
 
 either : (x y : Bool) → list_any (λ b. b) (not x ∷ y ∷ []) ≡ true → x ≡ true → y ≡ true
 either true true h e = refl
