@@ -51,11 +51,11 @@ same_counts i j n = by (nat_eq i j)
 
 module _ (types : Types) (fit : Fit) (counts : FitCounts fit) where
   pub item_counts : (value wanted : Reading) → Counts (item_fits fit value wanted)
-  item_counts value wanted n = le_on (opened_grows value [] n) (counts (opened value [] n).value wanted (opened value [] n).next)
+  item_counts value wanted n = le_on ((opened_grows value).onward [] n) (counts (opened value [] n).value wanted (opened value [] n).next)
 
   field_counts : (value wanted : Reading) → Counts (field_fits fit value wanted)
   unfolding joined
-  field_counts value wanted n = le_on (opened_grows value [] n) (counts (opened value [] n).value wanted (opened value [] n).next)
+  field_counts value wanted n = le_on ((opened_grows value).onward [] n) (counts (opened value [] n).value wanted (opened value [] n).next)
 
   argument_counts : (value wanted : Reading) → Counts (argument_fits fit value wanted)
   argument_counts value wanted n =

@@ -1,6 +1,6 @@
 -- Opening a type counts its variables on: none from before is taken again.
-use Rattle.std.proofs.Common.{◌≡◌, ℕ, zero, suc, ◌≤◌, Bool, true, false, List, [], ◌∷◌, map, slice_get, Option, Some, None, if◌then◌else◌}
-use Rattle.std.proofs.Common.{sym, ap, ◌∙◌, subst, arith}
+use Rattle.std.proofs.Common.{◌≡◌, ℕ, zero, suc, ◌≤◌, Bool, true, false, List, [], ◌∷◌, ◌++◌, map, slice_get, Option, Some, None, if◌then◌else◌}
+use Rattle.std.proofs.Common.{append_assoc, append-nil, refl, sym, ap, ◌∙◌, subst, arith}
 use Rattle.sail_types.specs.Readings.{read_con, read_index}
 use Rattle.sail_types.specs.Sums.{is_constant, read, variable}
 use Rattle.sail_types.specs.declared.numbers.Con.{Con}
@@ -21,6 +21,7 @@ use Rattle.value_indices.specs.declared.indices.Naming.TheVariants as M
 use Rattle.value_indices.specs.declared.indices.Naming.TheOpen as G
 use Rattle.value_indices.specs.declared.indices.Reading.{Reading, roll-Reading}
 use Rattle.value_indices.specs.declared.notes.Fact.{Fact}
+use Rattle.value_indices.specs.declared.notes.Fact.TheVariants as Y
 use Rattle.value_indices.specs.Steps.{Walk, bind, give, assume, assume_if, fresh, fresh_named, each}
 use Rattle.value_indices.specs.Opening.{between, fresh_integer, number_or_fresh, truth_or_fresh, index_or_fresh, read_or_fresh, each_read}
 use Rattle.value_indices.specs.Opening.{named_form, fresh_for, namings_of, bound_below, bound_above, integer_between, any_integer, any_truth}
@@ -35,34 +36,49 @@ le_self n = omega arith
 pub le_on : {a b c : ℕ} → a ≤ b → b ≤ c → a ≤ c
 le_on h k = omega (arith, h, k)
 
-abbrev pub Grows : {A : Type 0} → Walk A → Type 0
-Grows walk = (facts : List Fact) (n : ℕ) → n ≤ (walk facts n).next
+-- none is counted back, and what was in force stays so
+pub record Grows {A : Type 0} (walk : Walk A) : Type 0 where
+  pub onward : (facts : List Fact) (n : ℕ) → n ≤ (walk facts n).next
+  -- what comes into force
+  pub more : List Fact → ℕ → List Fact
+  pub extends : (facts : List Fact) (n : ℕ) → (walk facts n).facts ≡ facts ++ more facts n
 
 -- ---- steps
 
 pub give_grows : {A : Type 0} (x : A) → Grows (give x)
 unfolding give
-give_grows x facts n = le_self n
+give_grows x = record { onward = λ facts n. le_self n; more = λ facts n. []; extends = λ facts n. sym (append-nil facts) }
 
 pub bind_grows : {A B : Type 0} (w : Walk A) (k : A → Walk B) → Grows w → ((x : A) → Grows (k x)) → Grows (bind w k)
 unfolding bind
-bind_grows w k h more facts n = le_on (h facts n) (more (w facts n).value (w facts n).facts (w facts n).next)
+bind_grows w k first then_more = record {
+  onward = λ facts n. le_on (first.onward facts n) ((then_more (w facts n).value).onward (w facts n).facts (w facts n).next);
+  more = λ facts n. first.more facts n ++ (then_more (w facts n).value).more (w facts n).facts (w facts n).next;
+  extends = λ facts n.
+      let behind = (then_more (w facts n).value).more (w facts n).facts (w facts n).next in
+      (then_more (w facts n).value).extends (w facts n).facts (w facts n).next
+      ∙ ap (λ fs. fs ++ behind) (first.extends facts n)
+      ∙ append_assoc facts (first.more facts n) behind;
+}
 
 pub assume_grows : (c : Con) → Grows (assume c)
 unfolding assume
-assume_grows c facts n = le_self n
+assume_grows c = record { onward = λ facts n. le_self n; more = λ facts n. Y.Holds c ∷ []; extends = λ facts n. refl }
 
 pub assume_if_grows : (o : Option Con) → Grows (assume_if o)
 assume_if_grows None = give_grows tt
 assume_if_grows (Some c) = assume_grows c
 
+le_next : (n : ℕ) → n ≤ suc n
+le_next n = omega arith
+
 pub fresh_grows : Grows fresh
 unfolding fresh
-fresh_grows facts n = omega arith
+fresh_grows = record { onward = λ facts n. le_next n; more = λ facts n. []; extends = λ facts n. sym (append-nil facts) }
 
 pub fresh_named_grows : (name : List ℕ) → Grows (fresh_named name)
 unfolding fresh_named
-fresh_named_grows name facts n = omega arith
+fresh_named_grows name = record { onward = λ facts n. le_next n; more = λ facts n. []; extends = λ facts n. sym (append-nil facts) }
 
 pub each_grows : {A B : Type 0} (f : A → Walk B) → ((x : A) → Grows (f x)) → (xs : List A) → Grows (each f xs)
 each_grows f h [] = give_grows []
