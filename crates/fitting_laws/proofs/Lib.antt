@@ -1,0 +1,10 @@
+pub mod Joining
+pub mod Within
+pub mod Leaves
+pub mod Places
+pub mod Counting
+pub mod Counted
+pub mod Holes
+pub mod Standing
+pub mod Forms
+pub mod Deep
