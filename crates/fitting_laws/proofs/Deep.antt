@@ -295,7 +295,7 @@ module _ (types : Types) (past : Positive) (own : List Closed) where
 
   -- ---- types inside types
 
-  fits_go : (depth : ℕ) → FitGoes types past own (fits_within types depth)
+  pub fits_go : (depth : ℕ) → FitGoes types past own (fits_within types depth)
   fits_go zero i r n f v full h s = never_suffices n f (Fits types past own r i v)
   fits_go (suc depth) i r n f v full h s =
       value_suffices (fits_within types depth) (fits_go depth) (fits_count types depth) (out-Indices i) i r v n f full (had_form types past own f i v h) h s
