@@ -1,0 +1,11 @@
+pub mod Below
+pub mod Larger
+pub mod Wider
+pub mod Inside
+pub mod Forms
+pub mod Spelled
+pub mod Widened
+pub mod Kept
+pub mod Shown
+pub mod Agreeing
+pub mod Full
