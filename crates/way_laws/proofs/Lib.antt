@@ -1,0 +1,5 @@
+pub mod Conditions
+pub mod Parts
+pub mod Items
+pub mod Slices
+pub mod Fields
