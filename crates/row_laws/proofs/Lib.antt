@@ -1,0 +1,13 @@
+pub mod Members
+pub mod Forms
+pub mod Standing
+pub mod Goals
+pub mod Room
+pub mod Free
+pub mod Results
+pub mod Fresh
+pub mod Ends
+pub mod Taken
+pub mod Steady
+pub mod Filled
+pub mod Whole
