@@ -3,6 +3,7 @@ use Rattle.std.proofs.Common.{◌≡◌, ◌∙◌, ◌<◌, ◌≤◌, ◌+◌,
 use Rattle.std.specs.Prelude.{IfOk, Result, Ok, Err}
 use Rattle.sail_base.specs.declared.place.Place.{Place}
 use Rattle.sail_core.specs.declared.targets.Caller.{Caller}
+use Rattle.sail_core.specs.declared.targets.Way.{Way}
 use Rattle.value_indices.specs.Steps.{give}
 use Rattle.value_indices.specs.declared.indices.Indices.{Indices, out-Indices, roll-Indices}
 use Rattle.value_indices.specs.declared.indices.Indices.TheOpen as W
@@ -12,12 +13,13 @@ use Rattle.value_indices.specs.declared.indices.Indices.TheViews.{roll-out-Indic
 use Rattle.value_indices.specs.declared.indices.Reading.{Reading}
 use Rattle.pattern_leaves.specs.Settings.{Around}
 use Rattle.pattern_leaves.proofs.Walked.{consed}
-use Rattle.expression_forms.specs.Spots.{Spot, Wrote, call_spot, each_read, named_spot, spot_form, spot_of, tuple_spot}
-use Rattle.expression_forms.specs.Spots.{tuple_write, wrong_spot, wrong_write, wrote_of}
+use Rattle.expression_forms.specs.Spots.{Spot, Wrote, call_spot, each_read, named_spot, reached_spot, spot_form, spot_of}
+use Rattle.expression_forms.specs.Spots.{tuple_spot, tuple_write, wrong_spot, wrong_write, wrote_of}
 use Rattle.expression_forms.specs.declared.pending.Wrote as written
 use Rattle.expression_forms.specs.declared.spots.Spot as code
 use Rattle.expression_forms.specs.declared.spots.Spot.TheOpen as S
 use Rattle.expression_forms.specs.declared.spots.Spot.TheVariants as V
+use Rattle.expression_forms.specs.declared.ways.Reached.{Reached}
 use Rattle.expression_forms.proofs.Rests.{all_behind, rest_is}
 
 pub wrong_is : (around : Around) (s : code.Spot) (place : Place) → s ≡ V.Wrong place → spot_of around s ≡ wrong_spot place
@@ -27,6 +29,12 @@ pub named_is : (around : Around) (s : code.Spot) (place : Place) (k : ℕ) (name
     → spot_of around s ≡ named_spot around place k name r
 named_is around s place k name r is =
     ap (spot_of around) (is ∙ sym (V.rolls-Named place k name r)) ∙ code.fold-roll-Spot Spot (spot_form around) (S.Named place k name r)
+
+pub part_is : (around : Around) (s : code.Spot) (place : Place) (k : ℕ) (way : Way) (base : code.Spot) (held : Indices) (x : Reached)
+    → s ≡ V.Part place k way base held x → spot_of around s ≡ reached_spot around place k way (spot_of around base) held x
+part_is around s place k way base held x is =
+    ap (spot_of around) (is ∙ sym (V.rolls-Part place k way base held x))
+    ∙ code.fold-roll-Spot Spot (spot_form around) (S.Part place k way base held x)
 
 pub call_is : (around : Around) (s : code.Spot) (place : Place) (k : ℕ) (reader : Option Caller) (writer : Caller) (bs cs : List Bool)
     (is js : List Indices) → s ≡ V.Call place k reader writer bs is → cs ≡ bs → js ≡ is
