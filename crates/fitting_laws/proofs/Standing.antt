@@ -260,10 +260,10 @@ module _ (types : Types) (past : Positive) (own : List Closed) where
 
   -- ---- the number that the indices of a value give to a variable hangs on fixed variables alone
 
-  abbrev given_at : Integers → Option Index → Option Given
+  abbrev pub given_at : Integers → Option Index → Option Given
   given_at g o = option_map (given_there (at g)) o
 
-  abbrev GivenStays : {n : ℕ} → Point n → Option Index → Type 0
+  abbrev pub GivenStays : {n : ℕ} → Point n → Option Index → Type 0
   GivenStays f o = Always f (λ g. given_at g o ≡ given_at f.integers o)
 
   PlacedStays : Typ → Type 0
@@ -324,6 +324,19 @@ module _ (types : Types) (past : Positive) (own : List Closed) where
 
   placed_stays : (t : Typ) → PlacedStays t
   placed_stays = ind-Typ PlacedStays (λ e y same_form. subst (λ d. PlacedStays (roll-Typ d)) same_form (placed_step y))
+
+  -- so do those of several values
+  pub among_given_stays : {n : ℕ} (f : Point n) (ts : List Typ) (j : ℕ) (is : List Indices) (vs : List Value) → EachHad f is vs
+      → GivenStays f (In.among (map In.placed ts) j is)
+  unfolding PlacedStays
+  among_given_stays f [] j is vs h g a = refl
+  among_given_stays f (t ∷ ts) j [] vs h g a = refl
+  among_given_stays f (t ∷ ts) j (i ∷ is) [] h g a = absurd h
+  among_given_stays {n} f (t ∷ ts) j (i ∷ is) (v ∷ vs) h g a =
+      first_same (at g) (In.placed t j i) (In.among (map In.placed ts) j is) (given_at f.integers (In.placed t j i))
+      (given_at f.integers (In.among (map In.placed ts) j is)) (placed_stays t j i v n f h.0 g a) (among_given_stays f ts j is vs h.1 g a)
+      ∙ sym (first_same (at f.integers) (In.placed t j i) (In.among (map In.placed ts) j is) (given_at f.integers (In.placed t j i))
+      (given_at f.integers (In.among (map In.placed ts) j is)) refl refl)
 
   -- the number that is given
   abbrev number_of : Option Given → ℤ
