@@ -7,14 +7,13 @@ use Rattle.sail_core.specs.declared.written.Written.{Written}
 use Rattle.value_indices.specs.Steps.{Walk, bind, give}
 use Rattle.value_indices.specs.Walking.{Written as Noted, got, run}
 use Rattle.value_indices.specs.declared.indices.Indices.{Indices}
-use Rattle.value_indices.specs.declared.indices.Indices.TheVariants as I
 use Rattle.value_indices.specs.declared.indices.Reading.{Reading, out-Reading}
 use Rattle.value_indices.proofs.Walks.{got_bind, got_give, run_bind, run_give}
 use Rattle.pattern_leaves.specs.Settings.{Around, Scope}
 use Rattle.call_arguments.specs.declared.aims.Aim.{Aim}
 use Rattle.call_arguments.specs.declared.aims.Aim.TheVariants as Aims
 use Rattle.call_notes.specs.Ends.{wrong_value}
-use Rattle.expression_steps.specs.Expressions.{cast_walk, free_giving, leaf_walk, left_walk, made_plain, option_indices, return_walk, thrown_aim}
+use Rattle.expression_steps.specs.Expressions.{assert_walk, cast_walk, free_giving, leaf_walk, left_walk, made_plain, option_indices, return_walk, thrown_aim, throw_walk}
 use Rattle.expression_steps.specs.Making.{answer_aims, answer_count, answer_made, cast_aim, cast_made, made_walk, one_made, one_or_none}
 use Rattle.expression_steps.specs.Parts.{Part, each_walk, one}
 use Rattle.expression_steps.specs.Values.{tuple_aims, tuple_of, wanted_item}
@@ -124,12 +123,12 @@ module _ (around : Around) (scope : Scope) (w : Noted) where
         (no_value around place k (K.Cast written)) parts (cast_got place k written aim)
     kind_got K.Return parts = answer_got place (ends K.Return) (no_value around place k K.Return) around.answer parts (λ a i. refl)
     kind_got K.Throw parts =
-        one_got place (thrown_aim around.exception ∷ []) (ends K.Throw) (λ a. left_walk a around scope (thrown_aim around.exception))
+        one_got place (thrown_aim around.exception ∷ []) (ends K.Throw) (λ a. throw_walk place a around scope around.exception)
         (no_value around place k K.Throw) parts (λ a. refl)
     kind_got K.Exit parts =
         one_got place [] (ends K.Exit) (λ a. left_walk a around scope Aims.Free) (no_value around place k K.Exit) parts (λ a. refl)
     kind_got (K.Assert text) parts =
-        one_got place [] (ends (K.Assert text)) (λ a. free_giving a around scope I.Unit) (no_value around place k (K.Assert text)) parts (λ a. refl)
+        one_got place [] (ends (K.Assert text)) (λ a. assert_walk a around scope) (no_value around place k (K.Assert text)) parts (λ a. refl)
     kind_got (K.Optional t) parts =
         one_got place [] (ends (K.Optional t)) (λ a. free_giving a around scope (option_indices t)) (no_value around place k (K.Optional t)) parts (λ a. refl)
     kind_got kind parts = none_each_got (λ is. leaf_walk place k kind parts around scope) w
@@ -145,12 +144,12 @@ module _ (around : Around) (scope : Scope) (w : Noted) where
         (no_value around place k (K.Cast written)) parts (cast_run place k written aim)
     kind_run K.Return parts = answer_run place (ends K.Return) (no_value around place k K.Return) around.answer parts (λ a i. refl)
     kind_run K.Throw parts =
-        one_run place (thrown_aim around.exception ∷ []) (ends K.Throw) (λ a. left_walk a around scope (thrown_aim around.exception))
+        one_run place (thrown_aim around.exception ∷ []) (ends K.Throw) (λ a. throw_walk place a around scope around.exception)
         (no_value around place k K.Throw) parts (λ a. refl)
     kind_run K.Exit parts =
         one_run place [] (ends K.Exit) (λ a. left_walk a around scope Aims.Free) (no_value around place k K.Exit) parts (λ a. refl)
     kind_run (K.Assert text) parts =
-        one_run place [] (ends (K.Assert text)) (λ a. free_giving a around scope I.Unit) (no_value around place k (K.Assert text)) parts (λ a. refl)
+        one_run place [] (ends (K.Assert text)) (λ a. assert_walk a around scope) (no_value around place k (K.Assert text)) parts (λ a. refl)
     kind_run (K.Optional t) parts =
         one_run place [] (ends (K.Optional t)) (λ a. free_giving a around scope (option_indices t)) (no_value around place k (K.Optional t)) parts (λ a. refl)
     kind_run kind parts = none_each_run (λ is. leaf_walk place k kind parts around scope) w

@@ -23,6 +23,7 @@ use Rattle.call_arguments.specs.declared.aims.Aim.TheVariants as Aims
 use Rattle.expression_forms.specs.Names.{literal_indices, local_walk, register_walk, top_level_walk, variable_walk}
 use Rattle.expression_forms.specs.Nodes.{cast_ended}
 use Rattle.expression_forms.specs.Sizes.{constraint_walk, size_walk}
+use Rattle.expression_forms.specs.Truths.{truth_of}
 use Rattle.expression_steps.specs.Calls.{call_walk}
 use Rattle.expression_steps.specs.Parts.{Part, four, led, none, one, three, two}
 use Rattle.expression_steps.specs.Statements.{and_walk, assert_state, block_walk, foreach_walk, guarded, if_forms, if_state, last_never_ends}
@@ -56,11 +57,29 @@ abbrev pub return_walk : Place → Part → Around → Scope → Option Reading 
 return_walk place a around scope None = wrong_value place
 return_walk place a around scope (Some r) = bind (a.walk around scope (aimed Aims.Given r)) (return_owed around place a.is_nested r)
 
+-- what is thrown is of the union `exception`
+abbrev pub thrown_type : ℕ → Reading
+thrown_type u = R.Widened (I.Named u [] [])
+
 abbrev pub thrown_aim : Option ℕ → Aim
 thrown_aim None = Aims.Free
-thrown_aim (Some u) = Aims.Given (R.Widened (I.Named u [] []))
+thrown_aim (Some u) = Aims.Given (thrown_type u)
+
+abbrev pub thrown_owed : Around → Place → Bool → Option ℕ → Indices → Walk Indices
+thrown_owed around place is_nested None i = wrong_value place
+thrown_owed around place is_nested (Some u) i = return_owed around place is_nested (thrown_type u) i
+
+abbrev pub throw_walk : Place → Part → Around → Scope → Option ℕ → Walk Indices
+throw_walk place a around scope exception =
+    bind (a.walk around scope (thrown_aim exception)) (thrown_owed around place a.is_nested exception)
 
 -- ---- conditions that are asserted, and options
+
+abbrev pub asserted : Place → Indices → Walk Indices
+asserted place i = bind (truth_of place i) (λ c. give I.Unit)
+
+abbrev pub assert_walk : Part → Around → Scope → Walk Indices
+assert_walk a around scope = bind (a.walk around scope Aims.Free) (asserted a.place)
 
 -- of which nothing is wanted, and which gives this
 abbrev pub free_giving : Part → Around → Scope → Indices → Walk Indices
@@ -112,9 +131,9 @@ made_plain place k K.Tuple parts around scope aim = tuple_walk k parts around sc
 made_plain place k (K.Cons shape) parts around scope aim = two place (λ a b. cons_walk k shape a b around scope aim) parts
 made_plain place k (K.Struct u fields) parts around scope aim = struct_walk k u fields parts around scope
 made_plain place k K.Return parts around scope aim = one place (λ a. return_walk place a around scope around.answer) parts
-made_plain place k K.Throw parts around scope aim = one place (λ a. left_walk a around scope (thrown_aim around.exception)) parts
+made_plain place k K.Throw parts around scope aim = one place (λ a. throw_walk place a around scope around.exception) parts
 made_plain place k K.Exit parts around scope aim = one place (λ a. left_walk a around scope Aims.Free) parts
-made_plain place k (K.Assert text) parts around scope aim = one place (λ a. free_giving a around scope I.Unit) parts
+made_plain place k (K.Assert text) parts around scope aim = one place (λ a. assert_walk a around scope) parts
 made_plain place k (K.Optional t) parts around scope aim = one place (λ a. free_giving a around scope (option_indices t)) parts
 made_plain place k kind parts around scope aim = leaf_walk place k kind parts around scope
 

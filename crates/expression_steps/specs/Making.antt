@@ -7,7 +7,6 @@ use Rattle.sail_core.specs.declared.tree.Kind.TheVariants as K
 use Rattle.sail_core.specs.declared.written.Written.{Written}
 use Rattle.value_indices.specs.Steps.{Walk, bind, give}
 use Rattle.value_indices.specs.declared.indices.Indices.{Indices}
-use Rattle.value_indices.specs.declared.indices.Indices.TheVariants as I
 use Rattle.value_indices.specs.declared.indices.Reading.{Reading, out-Reading}
 use Rattle.pattern_leaves.specs.Settings.{Around, Scope, written_in}
 use Rattle.call_arguments.specs.Aims.{aimed}
@@ -15,7 +14,7 @@ use Rattle.call_arguments.specs.declared.aims.Aim.{Aim}
 use Rattle.call_arguments.specs.declared.aims.Aim.TheVariants as Aims
 use Rattle.call_notes.specs.Ends.{never_value, wrong_value}
 use Rattle.expression_steps.specs.Calls.{call_aims, call_count, call_made}
-use Rattle.expression_steps.specs.Expressions.{leaf_walk, option_indices, return_owed, thrown_aim, written_ended}
+use Rattle.expression_steps.specs.Expressions.{asserted, leaf_walk, option_indices, return_owed, thrown_aim, thrown_owed, written_ended}
 use Rattle.expression_steps.specs.Parts.{Part, each_walk}
 use Rattle.expression_steps.specs.Values.{cons_aims, cons_ended, struct_aims, struct_count, struct_made, tuple_aims, tuple_of, two_or_none, wanted_item}
 
@@ -58,9 +57,9 @@ answer_made around place (Some r) a i = return_owed around place a.is_nested r i
 abbrev pub part_made : Around → Place → ℕ → Kind → Part → Indices → Walk Indices
 part_made around place k (K.Cast written) a i = cast_made around place k written a i
 part_made around place k K.Return a i = answer_made around place around.answer a i
-part_made around place k K.Throw a i = never_value
+part_made around place k K.Throw a i = thrown_owed around place a.is_nested around.exception i
 part_made around place k K.Exit a i = never_value
-part_made around place k (K.Assert text) a i = give I.Unit
+part_made around place k (K.Assert text) a i = asserted a.place i
 part_made around place k (K.Optional t) a i = give (option_indices t)
 part_made around place k kind a i = wrong_value place
 

@@ -166,16 +166,21 @@ pub fn natural_aim(alloc: Global) -> Aim
     Aim::Due(Reading::Of(natural, Items::new(alloc), Items::new(alloc)))
 }
 
+/// The type of what is thrown: the union `exception`, by its place in the table. It fails where memory is wanting.
+pub(crate) fn thrown_type(alloc: Global, union: u32) -> Result<Reading, AllocError>
+    ensures { IfOk result (λ made. made ≡ spec.thrown_type union) }
+{
+    let value = Indices::Named(union, Items::new(alloc), Items::new(alloc));
+    Ok(Reading::Widened(Boxed::new(alloc, value)?))
+}
+
 /// What is wanted of what is thrown: a value of the union `exception`, by its place in the table. It fails where memory is wanting.
 pub(crate) fn thrown_aim(alloc: Global, exception: Option<u32>) -> Result<Aim, AllocError>
     ensures { IfOk result (λ made. made ≡ spec.thrown_aim exception) }
 {
     match exception {
         None => Ok(Aim::Free),
-        Some(union) => {
-            let value = Indices::Named(union, Items::new(alloc), Items::new(alloc));
-            Ok(Aim::Given(Reading::Widened(Boxed::new(alloc, value)?)))
-        }
+        Some(union) => Ok(Aim::Given(thrown_type(alloc, union)?)),
     }
 }
 

@@ -8,11 +8,13 @@ ghost use Rattle.expression_steps.specs.Coded as coded;
 ghost use Rattle.expression_steps.specs.Expressions as spec;
 ghost use Rattle.expression_steps.specs.Expressions.{part};
 ghost use Rattle.expression_steps.specs.Making as making;
+ghost use Rattle.expression_steps.specs.Parts.{Part};
 
-use crate::aims::{copy_aim, one_aim, option_indices};
+use crate::aims::{copy_aim, one_aim, option_indices, thrown_type};
 use crate::ends::owe_cast;
-use crate::knowing::is_nested;
+use crate::knowing::{is_nested, place_of};
 use call_notes::{Aim, node_ended, part_owed, wrong_value};
+use expression_forms::truth_of;
 use pattern_leaves::{Around, written_in};
 use sail_base::{Items, Place};
 use sail_core::{Core, Kind, Written};
@@ -177,6 +179,56 @@ fn answer_made(
     }
 }
 
+/// `throw e`: it never ends normally, and what is thrown is of the model's exception. It fails where memory is wanting, and where variables
+/// are too many.
+#[tactic(auto, using(value_indices::proofs::Walks::walks))]
+fn thrown_made(
+    alloc: Global,
+    walking: &mut Walking,
+    around: &Around<'_>,
+    place: Place,
+    core: &Core,
+    value: &Indices,
+) -> Result<Indices, AllocError>
+    ensures value { IfOk result (λ made. made ≡ walk.got (spec.thrown_owed (around_of around.now) place (Part.is_nested (part core.now))
+        (settings.Around.exception (around_of around.now)) value.now) (walk.seen walking.old)) }
+    ensures walked { OnOk result (walk.seen walking.new ≡ walk.run (spec.thrown_owed (around_of around.now) place (Part.is_nested
+        (part core.now)) (settings.Around.exception (around_of around.now)) value.now) (walk.seen walking.old)) }
+{
+    match around.exception {
+        None => wrong_value(alloc, walking, place),
+        Some(union) => {
+            let thrown = thrown_type(alloc, union)?;
+            let wanted = Wanted::lent(&thrown);
+            part_owed(
+                alloc,
+                walking,
+                around,
+                is_nested(core),
+                place,
+                value,
+                &wanted,
+            )?;
+            Ok(Indices::Never)
+        }
+    }
+}
+
+/// A condition that is asserted: what is no truth owes what is false. It fails where memory is wanting.
+#[tactic(auto, using(value_indices::proofs::Walks::walks))]
+fn asserted(
+    alloc: Global,
+    walking: &mut Walking,
+    place: Place,
+    value: &Indices,
+) -> Result<Indices, AllocError>
+    ensures value { IfOk result (λ made. made ≡ walk.got (spec.asserted place value.now) (walk.seen walking.old)) }
+    ensures walked { OnOk result (walk.seen walking.new ≡ walk.run (spec.asserted place value.now) (walk.seen walking.old)) }
+{
+    truth_of(alloc, walking, place, value)?;
+    Ok(Indices::Unit)
+}
+
 /// What a kind of one part makes of its value. It fails where memory is wanting, and where variables are too many.
 #[tactic(auto, using(value_indices::proofs::Walks::walks))]
 fn part_made(
@@ -199,9 +251,9 @@ fn part_made(
             alloc, walking, around, place, number, written, core, value,
         ),
         Kind::Return => answer_made(alloc, walking, around, place, core, value),
-        Kind::Throw => Ok(Indices::Never),
+        Kind::Throw => thrown_made(alloc, walking, around, place, core, value),
         Kind::Exit => Ok(Indices::Never),
-        Kind::Assert(_) => Ok(Indices::Unit),
+        Kind::Assert(_) => asserted(alloc, walking, place_of(core), value),
         Kind::Optional(typ) => option_indices(alloc, typ),
         _ => wrong_value(alloc, walking, place),
     }
