@@ -1,0 +1,441 @@
+-- Concatenations in patterns: the parts of the value have the widths that the walk gives them.
+use Rattle.std.proofs.Common.{◌≡◌, ℕ, zero, suc, ◌+◌, ◌-◌, ◌≤◌, ◌^◌, min, nat_eq, ℤ, pos, negsuc, ◌+ℤ◌, ◌-ℤ◌, int_le, Bool, true, false, ◌&&◌, List, [], ◌∷◌}
+use Rattle.std.proofs.Common.{map, length, take, drop, Option, Some, None, option_map, if◌then◌else◌, refl, sym, ap, ◌∙◌, subst, arith, length-take}
+use Rattle.std.proofs.Common.{length-drop}
+use Rattle.std.specs.List.{list_all}
+use Rattle.std.specs.Ordering.{int_eq}
+use Rattle.std.proofs.lemmas.Bool.{and_parts, leb-true, le-leb}
+use Rattle.std.proofs.lemmas.Bool.Decides.{Decides-eqb, Decides-int_eq}
+use Rattle.std.proofs.lemmas.Int.{ints}
+use Rattle.std.proofs.lemmas.List.{length-map}
+use Rattle.sail_base.specs.declared.place.Place.{Place}
+use Rattle.sail_types.specs.Belongs.{Reading as Closed, assigned}
+use Rattle.sail_types.specs.Limits.{largest, is_small, is_width}
+use Rattle.sail_types.specs.Numbers.{Assignment, Positive, number}
+use Rattle.sail_types.specs.Sums.{and_then, constant, difference, read, sum, zero_num}
+use Rattle.sail_types.proofs.SumNumbers.{some_same, then_parts, sum_number_is, difference_number}
+use Rattle.sail_types.proofs.Substituted.{number_constant}
+use Rattle.sail_types.specs.declared.table.Types.{Types}
+use Rattle.sail_types.specs.declared.numbers.Num.{Num}
+use Rattle.sail_types.specs.declared.values.Value.{Value, Value-F, out-Value}
+use Rattle.sail_types.specs.declared.values.Value.TheOpen as V
+use Rattle.sail_types.specs.declared.values.Value.TheVariants as VV
+use Rattle.sail_types.specs.declared.values.Value.TheViews.{out-roll-Value}
+use Rattle.size_values.specs.declared.sized.Sized.{Sized}
+use Rattle.sail_core.specs.Run.{Local, ◌then◌}
+use Rattle.sail_core.specs.Numbers.{Givens, known}
+use Rattle.sail_core.specs.Making.{Making, World}
+use Rattle.sail_core.specs.Values.{bits_typ, natural_of}
+use Rattle.sail_core.specs.declared.patterns.Head.TheVariants as H
+use Rattle.sail_core.specs.Patterns.{parts_or_wrong, widths_of, known_sum, solved, cut, cut_by, opened, so_many, as_run, Matcher, parts_match as run_parts}
+use Rattle.value_indices.specs.declared.indices.Indices.TheOpen as W
+use Rattle.value_indices.specs.declared.indices.Indices.TheVariants as I
+use Rattle.value_indices.specs.declared.notes.Fact.{Fact}
+use Rattle.value_indices.specs.Steps.{each, owe_under}
+use Rattle.checked_meaning.specs.Items.{Item, item, fixed_typ}
+use Rattle.checked_meaning.specs.Checked.{Cases}
+use Rattle.pattern_leaves.specs.declared.names.Bound.{Bound}
+use Rattle.pattern_leaves.specs.Settings.{Around}
+use Rattle.pattern_leaves.specs.Widths.{known_widths, sum_of, sum_from, first_sum, all_known, cut_condition, bits_part, cut_width, cut_owed}
+use Rattle.pattern_notes.specs.declared.matching.Matching.{Matching}
+use Rattle.pattern_notes.specs.Patterns.{Look, cut_parts, cut_met}
+use Rattle.value_laws.specs.Belonging.{Integers, standing, form_holds}
+use Rattle.value_laws.specs.Known.{Point, Agree, Later, Goes}
+use Rattle.value_laws.proofs.Basics.{no, two}
+use Rattle.value_laws.proofs.Steps.{same, agree_on, gives, goes_then}
+use Rattle.value_laws.proofs.Numbers.{at_most_is, number_read}
+use Rattle.value_laws.proofs.Values.{meant_is}
+use Rattle.value_laws.proofs.Meanings.{bits_same}
+use Rattle.value_laws.proofs.Knowing.{form_meant, number_goes}
+use Rattle.pattern_laws.specs.Beside.{AllMet, Stands, Ends, Behind, Beside}
+use Rattle.fitting_laws.specs.Fitting.{Said}
+use Rattle.pattern_laws.specs.Typing.{Typing, Bears}
+use Rattle.pattern_laws.specs.Standing.{Standing, is_there, is_known, widths_stand, at_widths}
+use Rattle.pattern_laws.proofs.Conditions.{equal_numbers, goals_said}
+use Rattle.pattern_laws.proofs.Steps.{walks, knowing, after_beside, owed_quiet, met_after}
+use Rattle.pattern_laws.proofs.KnownNumbers.{known_number}
+use Rattle.pattern_laws.proofs.Literals.{pos_same}
+use Rattle.pattern_laws.proofs.Values.{bits_had, wide_as}
+use Rattle.pattern_laws.proofs.Points.{Kept, Is, EachIs, EachSuits, all_bear, names_on}
+use Rattle.pattern_laws.proofs.Parts.{reads, Grounds, grounds_on, Names, AllWell, EachStands, parts_beside, seen_parts}
+use Rattle.pattern_laws.proofs.Heads.{as_many_stand}
+
+-- ---- the widths of a run
+
+abbrev rests : List (Option ℕ) → ℕ
+rests [] = 0
+rests (None ∷ ns) = suc (rests ns)
+rests (Some n ∷ ns) = rests ns
+
+abbrev all : List ℕ → ℕ
+all [] = 0
+all (n ∷ ns) = n + all ns
+
+abbrev allowed : Bool → ℕ
+allowed true = 1
+allowed false = 0
+
+abbrev EachKnown : Givens → List (Option Num) → List (Option ℕ) → Type 0
+EachKnown nu [] [] = Unit {0}
+EachKnown nu (None ∷ ws) (None ∷ ns) = EachKnown nu ws ns
+EachKnown nu (Some t ∷ ws) (Some n ∷ ns) = (known nu t ≡ Some (pos n)) × EachKnown nu ws ns
+EachKnown nu ws ns = ⊥
+
+natural_known : (o : Option ℤ) → is_there (and_then o natural_of) ≡ true → (n : ℕ) × (o ≡ Some (pos n))
+natural_known None h = no h
+natural_known (Some (pos n)) h = (n, refl)
+natural_known (Some (negsuc n)) h = no h
+
+widths_known : (nu : Givens) (may : Bool) (ws : List (Option Num)) → widths_stand nu may ws ≡ true
+    → (ns : List (Option ℕ)) × (widths_of nu ws ≡ Some ns) × EachKnown nu ws ns × (rests ns ≤ allowed may)
+widths_known nu may [] h = ([], refl, tt, omega arith)
+widths_known nu may (Some t ∷ ws) h =
+    let both = and_parts (is_known nu t) (widths_stand nu may ws) h in
+    let n = natural_known (known nu t) both.0 in
+    let more = widths_known nu may ws both.1 in (
+      Some n.0 ∷ more.0,
+      (λ j. and_then (option_map Some (and_then (n.1 j) natural_of)) (λ m. option_map (λ ns. m ∷ ns) (more.1 j))),
+      (n.1, more.2),
+      more.3,
+    )
+widths_known nu true (None ∷ ws) h =
+    let more = widths_known nu false ws h in
+    let l : rests more.0 ≤ 0 = more.3 in
+    (None ∷ more.0, ap (λ o. and_then (Some None) (λ m. option_map (λ ns. m ∷ ns) o)) more.1, more.2, omega (arith, l))
+widths_known nu false (None ∷ ws) h = no h
+
+known_long : (nu : Givens) (ws : List (Option Num)) (ns : List (Option ℕ)) → EachKnown nu ws ns → length ns ≡ length ws
+known_long nu [] [] h = refl
+known_long nu [] (n ∷ ns) h = absurd h
+known_long nu (None ∷ ws) [] h = absurd h
+known_long nu (None ∷ ws) (None ∷ ns) h = ap suc (known_long nu ws ns h)
+known_long nu (None ∷ ws) (Some n ∷ ns) h = absurd h
+known_long nu (Some t ∷ ws) [] h = absurd h
+known_long nu (Some t ∷ ws) (None ∷ ns) h = absurd h
+known_long nu (Some t ∷ ws) (Some n ∷ ns) h = ap suc (known_long nu ws ns h.1)
+
+none_left : (rest : ℕ) (ns : List (Option ℕ)) → rests ns ≤ 0 → all (map (solved rest) ns) ≡ known_sum ns
+none_left rest [] h = refl
+none_left rest (None ∷ ns) h = let l : suc (rests ns) ≤ 0 = h in absurd (omega (arith, l))
+none_left rest (Some n ∷ ns) h = ap (λ m. n + m) (none_left rest ns h)
+
+one_left : (rest : ℕ) (ns : List (Option ℕ)) → rests ns ≡ 1 → all (map (solved rest) ns) ≡ known_sum ns + rest
+one_left rest [] h = absurd (cc)
+one_left rest (None ∷ ns) h =
+    let l : suc (rests ns) ≡ 1 = h in
+    let e : all (map (solved rest) ns) ≡ known_sum ns = none_left rest ns (omega (arith, l)) in omega (arith, e)
+one_left rest (Some n ∷ ns) h = let e : all (map (solved rest) ns) ≡ known_sum ns + rest = one_left rest ns h in omega (arith, e)
+
+-- all of the word is used up
+abbrev Fits : ℕ → List (Option ℕ) → Type 0
+Fits width ns = (known_sum ns ≤ width) × (rests ns ≡ 0 → known_sum ns ≡ width)
+
+used_up : (width : ℕ) (ns : List (Option ℕ)) → rests ns ≤ 1 → Fits width ns → all (map (solved (width - known_sum ns)) ns) ≡ width
+used_up width ns few fits = by (rests ns) refl
+  where
+    by : (k : ℕ) → rests ns ≡ k → all (map (solved (width - known_sum ns)) ns) ≡ width
+    by zero e = none_left (width - known_sum ns) ns (omega (arith, e)) ∙ fits.1 e
+    by (suc zero) e =
+        let l : known_sum ns ≤ width = fits.0 in
+        let s : all (map (solved (width - known_sum ns)) ns) ≡ known_sum ns + (width - known_sum ns) = one_left (width - known_sum ns) ns e in
+        omega (arith, l, s)
+    by (suc (suc k)) e = let l : rests ns ≤ 1 = few in absurd (omega (arith, l, e))
+
+-- at bits of each width
+width_by : (p : Sized → Bool) (types : Types) (m n : ℕ) (b : Bool) → nat_eq n (suc m) ≡ b → n ≤ suc m → p (fixed_typ types (bits_typ (suc m))) ≡ true
+    → (n ≤ m → p (fixed_typ types (bits_typ n)) ≡ true) → p (fixed_typ types (bits_typ n)) ≡ true
+width_by p types m n true e l h k = subst (λ i. p (fixed_typ types (bits_typ i)) ≡ true) (sym ((Decides-eqb n (suc m)).0 e)) h
+width_by p types m n false e l h k = let differs : n ≡ suc m → ⊥ = λ s. no (sym e ∙ (Decides-eqb n (suc m)).1 s) in k (omega (arith, l, differs))
+
+at_width : (p : Sized → Bool) (types : Types) (m n : ℕ) → n ≤ m → at_widths types m p ≡ true → p (fixed_typ types (bits_typ n)) ≡ true
+at_width p types zero n l h = subst (λ k. p (fixed_typ types (bits_typ k)) ≡ true) (none_below n l) h
+  where
+    none_below : (n : ℕ) → n ≤ 0 → 0 ≡ n
+    none_below n l = omega arith
+at_width p types (suc m) n l h =
+    let both = and_parts (p (fixed_typ types (bits_typ (suc m)))) (at_widths types m p) h in
+    width_by p types m n (nat_eq n (suc m)) refl l both.0 (λ k. at_width p types m n k both.1)
+
+small_width : (n : ℕ) → n ≤ 128 → is_small (pos n) ≡ true
+unfolding largest
+small_width n l = le-leb n (2 ^ 126) (omega (arith, l))
+
+module _ (around : Around) (past : Positive) (own : List Closed) (y : Typing around.types past own) (q : Ends) (cases : Cases) (w : World Item) where
+  abbrev Found : Behind (List Bound) (List (Local Item))
+  Found = Names around past own y q cases w
+
+  abbrev Good : {n : ℕ} → Point n → Type 0
+  Good f = Grounds around past own y q cases w f
+
+  abbrev z : Making Item
+  z = reads around past own y q cases w
+
+  abbrev there : Integers → Assignment
+  there g = standing past g
+
+  abbrev typ : ℕ → Sized
+  typ n = fixed_typ around.types (bits_typ n)
+
+  -- bits of a width, and what they mean
+  abbrev bits_kept : ℕ → Kept around.types past own y
+  bits_kept n = (form_meant around.types past own (W.Bits (constant (pos n))), typ n)
+
+  abbrev zeros : Integers
+  zeros i = pos 0
+
+  bits_hold : (n : ℕ) (b : List Bool) → length b ≡ n → n ≤ 128 → (bits_kept n).0.holds (VV.Bits b) ≡ true
+  bits_hold n b e l =
+      ap (form_holds around.types (there zeros) own (W.Bits (constant (pos n)))) (ap out-Value (sym (VV.rolls-Bits b)) ∙ out-roll-Value (V.Bits b))
+      ∙ two (int_eq (pos (length b)) (number (there zeros) (constant (pos n)))) (is_width (length b))
+      ((Decides-int_eq (pos (length b)) (number (there zeros) (constant (pos n)))).1 (ap pos e ∙ sym (number_constant (there zeros) (pos n))))
+      (subst (λ m. is_width m ≡ true) (sym e) (le-leb n 128 l))
+
+  bits_mean : (n : ℕ) (u : Num) (g : Integers) → number (there g) u ≡ pos n → Is around.types past own y (bits_kept n) g (I.Bits u)
+  bits_mean n u g h = (
+    meant_is around.types (there g) own (I.Bits u) (W.Bits u) (I.rolls-Bits u)
+        ∙ bits_same around.types past own g zeros u (constant (pos n)) (h ∙ sym (number_constant (there zeros) (pos n))),
+    y.kept.cut g u n h,
+  )
+
+  -- ---- the walk's parts
+
+  abbrev Gives : {n : ℕ} → Point n → Option Num → ℕ → Type 0
+  Gives f o k = (k ≤ 128) × ((u : Num) → o ≡ Some u → (g : Integers) → Agree f g → number (there g) u ≡ pos k)
+
+  part_goes : {n : ℕ} {f : Point n} {facts : List Fact} (o : Option Num) (k : ℕ) → Gives f o k
+      → Goes past n f facts (bits_part o) (λ g i. Is around.types past own y (bits_kept k) g i)
+  part_goes o k h =
+      goes_then (number_goes around.types past own o (pos k) (small_width k h.0) h.1) (λ m g fs u l e. gives (I.Bits u) (λ i c. bits_mean k u i (e i c)))
+
+  -- what a part's width is said to be
+  abbrev said : Option Num → Option (Option Num) → Option Num
+  said rest None = rest
+  said rest (Some o) = o
+
+  abbrev EachGives : {n : ℕ} → Point n → Option Num → List (Option (Option Num)) → List ℕ → Type 0
+  EachGives f rest [] [] = Unit {0}
+  EachGives f rest (o ∷ os) (k ∷ ks) = Gives f (said rest o) k × EachGives f rest os ks
+  EachGives f rest os ks = ⊥
+
+  gives_on : {n m : ℕ} {f : Point n} {g : Point m} (rest : Option Num) (os : List (Option (Option Num))) (ks : List ℕ) → Later f g → EachGives f rest os ks
+      → EachGives g rest os ks
+  gives_on rest [] [] l h = tt
+  gives_on rest [] (k ∷ ks) l h = absurd h
+  gives_on rest (o ∷ os) [] l h = absurd h
+  gives_on rest (o ∷ os) (k ∷ ks) l h = ((h.0.0, λ u e g a. h.0.1 u e g (agree_on l a)), gives_on rest os ks l h.1)
+
+  width_goes : {n : ℕ} {f : Point n} {facts : List Fact} (rest : Option Num) (o : Option (Option Num)) (k : ℕ) → Gives f (said rest o) k
+      → Goes past n f facts (cut_width rest o) (λ g i. Is around.types past own y (bits_kept k) g i)
+  width_goes rest None k h = part_goes rest k h
+  width_goes rest (Some o) k h = part_goes o k h
+
+  widths_go : (rest : Option Num) (os : List (Option (Option Num))) (ks : List ℕ) {n : ℕ} {f : Point n} {facts : List Fact} → EachGives f rest os ks
+      → Goes past n f facts (each (cut_width rest) os) (λ g is. EachIs around.types past own y (map bits_kept ks) g is)
+  widths_go rest [] [] h = gives [] (λ g a. tt)
+  widths_go rest [] (k ∷ ks) h = absurd h
+  widths_go rest (o ∷ os) [] h = absurd h
+  widths_go rest (o ∷ os) (k ∷ ks) h =
+      goes_then (width_goes rest o k h.0) (λ m g fs i l e. goes_then (widths_go rest os ks (gives_on rest os ks l h.1)) (λ m2 g2 fs2 is l2 e2.
+      gives (i ∷ is) (λ j c. (e j (agree_on l2 c), e2 j c))))
+
+  -- ---- the run's parts
+
+  -- parts of these widths
+  abbrev EachBits : List ℕ → List Item → Type 0
+  EachBits [] [] = Unit {0}
+  EachBits (n ∷ ns) (x ∷ xs) = ((b : List Bool) × (x ≡ item (typ n) (VV.Bits b)) × (length b ≡ n)) × EachBits ns xs
+  EachBits ns xs = ⊥
+
+  cut_gives : (ns : List ℕ) (bs : List Bool) → all ns ≡ length bs → (xs : List Item) × (cut z ns bs ≡ Some xs) × EachBits ns xs
+  cut_gives [] [] e = ([], refl, tt)
+  cut_gives [] (b ∷ bs) e = absurd (cc)
+  cut_gives (n ∷ ns) bs e =
+      let l : n + all ns ≡ length bs = e in
+      let front : List Bool = drop (length bs - n) bs in
+      let back : List Bool = take (length bs - n) bs in
+      let short : min (length bs - n) (length bs) ≡ length bs - n = omega (arith, l) in
+      let long : length back ≡ length bs - n = length-take (length bs - n) bs ∙ short in
+      let more = cut_gives ns back (omega (arith, l, long)) in
+      let wide : length front ≡ length bs - (length bs - n) = length-drop (length bs - n) bs in
+      let x = item (typ n) (VV.Bits front) in (
+        x ∷ more.0,
+        (λ j. if le-leb n (length bs) (omega (arith, l)) j then option_map (λ xs. x ∷ xs) (more.1 j) else None),
+        ((front, refl, omega (arith, l, wide)), more.2),
+      )
+
+  bits_suit : (ns : List ℕ) (xs : List Item) → all ns ≤ 128 → EachBits ns xs → EachSuits around.types past own y (map bits_kept ns) xs
+  bits_suit [] [] l h = tt
+  bits_suit [] (x ∷ xs) l h = absurd h
+  bits_suit (n ∷ ns) [] l h = absurd h
+  bits_suit (n ∷ ns) (x ∷ xs) l h =
+      let le : n + all ns ≤ 128 = l in (
+        (subst (λ (i : Item). (bits_kept n).0.holds i.val ≡ true) (sym h.0.1) (bits_hold n h.0.0 h.0.2 (omega (arith, le))), ap (λ (i : Item). i.typ) h.0.1),
+        bits_suit ns xs (omega (arith, le)) h.1,
+      )
+
+  bits_stand : (ns : List ℕ) (xs : List Item) (ss : List Standing) → all ns ≤ 128 → EachBits ns xs → length ss ≡ length ns
+      → list_all (at_widths around.types 128) ss ≡ true → EachStands around past own y q cases w ss xs
+  bits_stand [] [] [] l h e t = tt
+  bits_stand [] [] (s ∷ ss) l h e t = absurd (cc)
+  bits_stand [] (x ∷ xs) ss l h e t = absurd h
+  bits_stand (n ∷ ns) [] ss l h e t = absurd h
+  bits_stand (n ∷ ns) (x ∷ xs) [] l h e t = absurd (cc)
+  bits_stand (n ∷ ns) (x ∷ xs) (s ∷ ss) l h e t =
+      let le : n + all ns ≤ 128 = l in
+      let both = and_parts (at_widths around.types 128 s) (list_all (at_widths around.types 128) ss) t in (
+        subst (λ (i : Item). s i.typ ≡ true) (sym h.0.1) (at_width s around.types 128 n (omega (arith, le)) both.0),
+        bits_stand ns xs ss (omega (arith, le)) h.1 (suc_same e) both.1,
+      )
+    where
+      suc_same : {i j : ℕ} → suc i ≡ suc j → i ≡ j
+      suc_same k = cc
+
+  bits_long : (ns : List ℕ) (xs : List Item) → EachBits ns xs → length xs ≡ length ns
+  bits_long [] [] h = refl
+  bits_long [] (x ∷ xs) h = absurd h
+  bits_long (n ∷ ns) [] h = absurd h
+  bits_long (n ∷ ns) (x ∷ xs) h = ap suc (bits_long ns xs h.1)
+
+  -- ---- sums of widths
+
+  module _ {n : ℕ} (f : Point n) (s : Good f) where
+    widths_read : (t u : Num) (k : ℕ) → known w.numbers t ≡ Some (pos k) → read around.numbers t ≡ Some u → (g : Integers) → Agree f g
+        → number (there g) u ≡ pos k
+    widths_read t u k e r g a = number_read past g around.numbers t u r ∙ known_number w.numbers (assigned (there g) around.numbers) (s.says g a) t (pos k) e
+
+    sums_from : (total : Option Num) (ws : List (Option Num)) (ns : List (Option ℕ)) → EachKnown w.numbers ws ns → (u : Num)
+        → sum_from total (known_widths around ws) ≡ Some u → (g : Integers) → Agree f g → (k : ℕ)
+        → ((v : Num) → total ≡ Some v → number (there g) v ≡ pos k) → number (there g) u ≡ pos (k + known_sum ns)
+    sums_from total [] [] h u e g a k t = t u e ∙ ap pos (omega arith)
+    sums_from total [] (m ∷ ns) h u e g a k t = absurd h
+    sums_from total (None ∷ ws) [] h u e g a k t = absurd h
+    sums_from total (None ∷ ws) (None ∷ ns) h u e g a k t = sums_from total ws ns h u e g a k t
+    sums_from total (None ∷ ws) (Some m ∷ ns) h u e g a k t = absurd h
+    sums_from total (Some v ∷ ws) [] h u e g a k t = absurd h
+    sums_from total (Some v ∷ ws) (None ∷ ns) h u e g a k t = absurd h
+    sums_from total (Some v ∷ ws) (Some m ∷ ns) h u e g a k t =
+        sums_from (sum_of total (read around.numbers v)) ws ns h.1 u e g a (k + m) (λ c d.
+        let first = then_parts total (λ x. and_then (read around.numbers v) (sum x)) c d in
+        let second = then_parts (read around.numbers v) (sum first.0) c first.2 in
+        sum_number_is (there g) first.0 second.0 c second.2
+        ∙ (λ j. t first.0 first.1 j +ℤ widths_read v second.0 m h.0 second.1 g a j))
+        ∙ ap pos (omega arith)
+
+    first_sums : (ws : List (Option Num)) (ns : List (Option ℕ)) → EachKnown w.numbers ws ns → (u : Num)
+        → first_sum (known_widths around ws) ≡ Some u → (g : Integers) → Agree f g → number (there g) u ≡ pos (known_sum ns)
+    first_sums [] [] h u e g a = ap (number (there g)) (sym (some_same zero_num u e)) ∙ number_constant (there g) (pos 0)
+    first_sums [] (m ∷ ns) h u e g a = absurd h
+    first_sums (None ∷ ws) [] h u e g a = absurd h
+    first_sums (None ∷ ws) (None ∷ ns) h u e g a = first_sums ws ns h u e g a
+    first_sums (None ∷ ws) (Some m ∷ ns) h u e g a = absurd h
+    first_sums (Some v ∷ ws) [] h u e g a = absurd h
+    first_sums (Some v ∷ ws) (None ∷ ns) h u e g a = absurd h
+    first_sums (Some v ∷ ws) (Some m ∷ ns) h u e g a =
+        sums_from (read around.numbers v) ws ns h.1 u e g a m (λ c d. widths_read v c m h.0 d g a)
+
+    -- what each part of the walk is said to be
+    each_said : (rest : Option Num) (ws : List (Option Num)) (ns : List (Option ℕ)) (left : ℕ) → EachKnown w.numbers ws ns → all (map (solved left) ns) ≤ 128
+        → ((u : Num) → rest ≡ Some u → (g : Integers) → Agree f g → number (there g) u ≡ pos left)
+        → EachGives f rest (known_widths around ws) (map (solved left) ns)
+    each_said rest [] [] left h l t = tt
+    each_said rest [] (m ∷ ns) left h l t = absurd h
+    each_said rest (None ∷ ws) [] left h l t = absurd h
+    each_said rest (None ∷ ws) (None ∷ ns) left h l t =
+        let le : left + all (map (solved left) ns) ≤ 128 = l in ((omega (arith, le), t), each_said rest ws ns left h (omega (arith, le)) t)
+    each_said rest (None ∷ ws) (Some m ∷ ns) left h l t = absurd h
+    each_said rest (Some v ∷ ws) [] left h l t = absurd h
+    each_said rest (Some v ∷ ws) (None ∷ ns) left h l t = absurd h
+    each_said rest (Some v ∷ ws) (Some m ∷ ns) left h l t =
+        let le : m + all (map (solved left) ns) ≤ 128 = l in
+        ((omega (arith, le), λ u e g a. widths_read v u m h.0 e g a), each_said rest ws ns left h.1 (omega (arith, le)) t)
+
+    known_all : (ws : List (Option Num)) (ns : List (Option ℕ)) → EachKnown w.numbers ws ns → rests ns ≡ 0 → all_known (known_widths around ws) ≡ true
+    known_all [] [] h e = refl
+    known_all [] (m ∷ ns) h e = absurd h
+    known_all (None ∷ ws) [] h e = absurd h
+    known_all (None ∷ ws) (None ∷ ns) h e = absurd (cc)
+    known_all (None ∷ ws) (Some m ∷ ns) h e = absurd h
+    known_all (Some v ∷ ws) [] h e = absurd h
+    known_all (Some v ∷ ws) (None ∷ ns) h e = absurd h
+    known_all (Some v ∷ ws) (Some m ∷ ns) h e = known_all ws ns h.1 e
+
+    -- what is owed tells that the parts fit
+    fits_by : (t : Num) (total : Option Num) (b : Bool) (width sum_is : ℕ) → number (there f.integers) t ≡ pos width
+        → ((u : Num) → total ≡ Some u → number (there f.integers) u ≡ pos sum_is) → Said (there f.integers) (cut_condition t total b)
+        → (sum_is ≤ width) × (b ≡ true → sum_is ≡ width)
+    fits_by t None true width sum_is e h d = absurd d
+    fits_by t None false width sum_is e h d = absurd d
+    fits_by t (Some u) true width sum_is e h d =
+        let l : sum_is ≡ width = pos_same (sym (h u refl) ∙ equal_numbers (there f.integers) u t d.0 ∙ e) in (omega (arith, l), λ b. l)
+    fits_by t (Some u) false width sum_is e h d =
+        (at_most_pos sum_is width ((λ j. int_le (sym (h u refl) j) (sym e j)) ∙ sym (at_most_is (there f.integers) u t) ∙ d.0), λ b. no b)
+      where
+        at_most_pos : (a b : ℕ) → int_le (pos a) (pos b) ≡ true → a ≤ b
+        at_most_pos a b h = leb-true a b h
+
+  -- ---- a word and its parts
+
+  cut_fits : {n : ℕ} {f : Point n} {facts : List Fact} (s : Good f) (place : Place) (how : Matching) (looks : List Look) (ws : List (Option Num))
+      (ns : List (Option ℕ)) → EachKnown w.numbers ws ns → (t : Num) (width : ℕ) → number (there f.integers) t ≡ pos width
+      → AllMet q past (cut_met place looks around how (known_widths around ws) t facts n).notes → Stands past f facts → Fits width ns
+  unfolding owe_under
+  cut_fits {n} {f} {facts} s place how looks ws ns h t width e met stands =
+      let os = known_widths around ws in
+      let rest = and_then (first_sum os) (difference t) in
+      let owed = (met_after q past n facts (cut_parts place looks around how os rest) (cut_owed place os t) met).1 in
+      let told = goals_said q past facts place (cut_condition t (first_sum os) (all_known os)) owed f.integers (stands.there f.integers (same f)) in
+      let fit = fits_by f s t (first_sum os) (all_known os) width (known_sum ns) e (λ u k. first_sums f s ws ns h u k f.integers (same f)) told in
+      (fit.0, λ none. fit.1 (known_all f s ws ns h none))
+
+  rest_is : {n : ℕ} {f : Point n} (s : Good f) (ws : List (Option Num)) (ns : List (Option ℕ)) → EachKnown w.numbers ws ns → (t : Num) (width : ℕ)
+      → ((g : Integers) → Agree f g → number (there g) t ≡ pos width) → known_sum ns ≤ width → (u : Num)
+      → and_then (first_sum (known_widths around ws)) (difference t) ≡ Some u → (g : Integers) → Agree f g → number (there g) u ≡ pos (width - known_sum ns)
+  rest_is {f = f} s ws ns h t width e l u k g a =
+      let p = then_parts (first_sum (known_widths around ws)) (difference t) u k in
+      difference_number (there g) t p.0 u p.2 ∙ (λ j. e g a j -ℤ first_sums f s ws ns h p.0 p.1 g a j) ∙ less width (known_sum ns) l
+    where
+      less : (a b : ℕ) → b ≤ a → pos a -ℤ pos b ≡ pos (a - b)
+      less a b l = omega (arith, ints, l)
+
+  pub cut_beside : {n : ℕ} {f : Point n} {facts : List Fact} (place : Place) (how : Matching) (looks : List Look) (ms : List (Matcher Item))
+      (ss : List Standing) → AllWell around past own y q cases w looks ms ss → (ws : List (Option Num)) (t : Num) (x : Item)
+      → Bears around.types past own y f (I.Bits t) x → Good f
+      → ((nat_eq (length ws) (length ss) && widths_stand w.numbers true ws) && list_all (at_widths around.types 128) ss) ≡ true
+      → (v : Value-F Value) → out-Value x.val ≡ v
+      → Beside q past n f facts (cut_met place looks around how (known_widths around ws) t)
+      (as_run (so_many (length ms) (opened z w.numbers (H.Cut ws) (length ms) x v)) then run_parts ms) Found
+  cut_beside {n} {f} {facts} place how looks ms ss fine ws t x b s d (V.Bits bs) e =
+      let one = and_parts (nat_eq (length ws) (length ss) && widths_stand w.numbers true ws) (list_all (at_widths around.types 128) ss) d in
+      let both = and_parts (nat_eq (length ws) (length ss)) (widths_stand w.numbers true ws) one.0 in
+      let found = widths_known w.numbers true ws both.1 in
+      let ns = found.0 in
+      let held : (g : Integers) → Agree f g → form_holds around.types (there g) own (W.Bits t) (V.Bits bs) ≡ true =
+      λ g a. ap (form_holds around.types (there g) own (W.Bits t)) (sym e) ∙ bits_had around.types past own g t x.val (b.has_it g a) in
+      let wide : (g : Integers) → Agree f g → number (there g) t ≡ pos (length bs) = λ g a. wide_as around.types past own g t bs (held g a) in
+      let few : length bs ≤ 128 =
+      leb-true (length bs) 128 (and_parts (int_eq (pos (length bs)) (number (there f.integers) t)) (is_width (length bs)) (held f.integers (same f))).1 in
+      knowing (cut_fits s place how looks ws ns found.2 t (length bs) (wide f.integers (same f))) (λ fit.
+      let left = length bs - known_sum ns in
+      let widths = map (solved left) ns in
+      let up : all widths ≡ length bs = used_up (length bs) ns found.3 fit in
+      let parts = cut_gives widths bs up in
+      let enough : all widths ≤ 128 = omega (arith, up, few) in
+      let many : length widths ≡ length ss =
+      length-map ns (solved left) ∙ known_long w.numbers ws ns found.2 ∙ (Decides-eqb (length ws) (length ss)).0 both.0 in
+      let rest = and_then (first_sum (known_widths around ws)) (difference t) in
+      subst (λ o. Beside q past n f facts (cut_met place looks around how (known_widths around ws) t)
+      (as_run (so_many (length ms) (parts_or_wrong o)) then run_parts ms) Found)
+      (sym (ap (λ o. and_then o (cut_by z bs)) found.1 ∙ parts.1))
+      (seen_parts around past own y q cases w ms parts.0
+      (bits_long widths parts.0 parts.2 ∙ many ∙ as_many_stand around past own y q cases w looks ms ss fine)
+      (after_beside (cut_owed place (known_widths around ws) t)
+      (walks (widths_go rest (known_widths around ws) widths
+      (each_said f s rest ws ns left found.2 enough (rest_is s ws ns found.2 t (length bs) wide fit.0)))
+      (λ m g fs is l is_so. parts_beside around past own y q cases w place how looks ms ss fine is parts.0
+      (all_bear around.types past own y is (map bits_kept widths) parts.0 (bits_suit widths parts.0 enough parts.2) is_so)
+      (grounds_on around past own y q cases w l s) (bits_stand widths parts.0 ss enough parts.2 (sym many) one.1)))
+      (λ m k p g bs ls l h. names_on around.types past own y bs ls l h)
+      (λ m g fs l stands. owed_quiet facts place _ stands))))
+  cut_beside {f = f} place how looks ms ss fine ws t x b s d v e =
+      no (ap (form_holds around.types (there f.integers) own (W.Bits t)) (sym e)
+      ∙ bits_had around.types past own f.integers t x.val (b.has_it f.integers (same f)))

@@ -1,0 +1,15 @@
+pub mod Conditions
+pub mod KnownNumbers
+pub mod Steps
+pub mod Values
+pub mod Steady
+pub mod Points
+pub mod Growing
+pub mod Parts
+pub mod Tables
+pub mod Literals
+pub mod Heads
+pub mod Unions
+pub mod Cuts
+pub mod Annotated
+pub mod Patterns

@@ -1,0 +1,5 @@
+pub mod Beside
+pub mod Typing
+pub mod Standing
+pub mod Grounds
+pub mod Laws

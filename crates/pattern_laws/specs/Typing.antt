@@ -1,0 +1,97 @@
+-- What a value of some indices is at a point, and what the types are that values carry in the checked meaning.
+use Rattle.std.specs.Prelude.{◌≡◌, ℕ, suc, pos, true, List, [], ◌∷◌, length, Option, Some, None}
+use Rattle.sail_types.specs.Belongs.{Reading as Closed}
+use Rattle.sail_types.specs.Named.{payload as payload_type}
+use Rattle.sail_types.specs.Numbers.{Positive, number}
+use Rattle.sail_types.specs.declared.numbers.Index.{Index}
+use Rattle.sail_types.specs.declared.numbers.Num.{Num}
+use Rattle.sail_types.specs.declared.table.Types.{Types}
+use Rattle.sail_types.specs.declared.types.Typ.{Typ, out-Typ}
+use Rattle.sail_types.specs.declared.types.Typ.TheOpen as T
+use Rattle.sail_types.specs.declared.values.Value.{Value}
+use Rattle.size_values.specs.declared.sized.Sized.{Sized, Sized-F, out-Sized}
+use Rattle.size_values.specs.declared.sized.Sized.TheOpen as Z
+use Rattle.sail_core.specs.Run.{Local}
+use Rattle.sail_core.specs.Making.{component, payload, one_item}
+use Rattle.sail_core.specs.Values.{bits_typ}
+use Rattle.value_indices.specs.declared.indices.Indices.{Indices}
+use Rattle.value_indices.specs.declared.indices.Indices.TheVariants as I
+use Rattle.value_indices.specs.declared.indices.Naming.{Naming}
+use Rattle.value_indices.specs.declared.indices.Reading.{Reading}
+use Rattle.value_indices.specs.declared.indices.Reading.TheVariants as R
+use Rattle.value_indices.specs.declared.notes.Fact.{Fact}
+use Rattle.value_indices.specs.Opening.{opened_for}
+use Rattle.checked_meaning.specs.Items.{Item, fixed_typ, part_typ}
+use Rattle.pattern_leaves.specs.Payloads.{payload_readings}
+use Rattle.pattern_leaves.specs.declared.names.Bound.{Bound}
+use Rattle.pattern_leaves.specs.declared.names.Held.{Held}
+use Rattle.pattern_leaves.specs.declared.names.Held.TheVariants as H
+use Rattle.value_laws.specs.Belonging.{Integers, standing, meant, has}
+use Rattle.value_laws.specs.Known.{Point, Agree}
+
+-- the parts of a tuple's type, where it is one
+abbrev pub tuple_size : Sized-F Sized → Option ℕ
+tuple_size (Z.Tuple ss) = Some (length ss)
+tuple_size s = None
+
+-- the place of a named type in the table
+abbrev pub named_place : Sized-F Sized → Option ℕ
+named_place (Z.Named u zs ss) = Some u
+named_place s = None
+
+-- the parts of a tuple from this one on, and parts of these types
+abbrev pub EachFits : Types → (Indices → Sized → Type 0) → Sized → ℕ → List Indices → Type 0
+EachFits types fits s k [] = Unit {0}
+EachFits types fits s k (i ∷ is) = fits i (part_typ types (component k) s) × EachFits types fits s (suc k) is
+
+abbrev pub EachReads : Types → (Reading → Sized → Type 0) → Sized → ℕ → List Reading → Type 0
+EachReads types reads s k [] = Unit {0}
+EachReads types reads s k (r ∷ rs) = reads r (part_typ types (component k) s) × EachReads types reads s (suc k) rs
+
+-- which types values carry, of indices and of types of the walk: parts keep it
+pub record IsKept (types : Types) (past : Positive) (own : List Closed) (fits : Integers → Indices → Sized → Type 0)
+    (reads : Integers → Reading → Sized → Type 0) : Type 0 where
+  -- a value of a type, opened
+  pub opens : (g : Integers) (r : Reading) (s : Sized) (naming : Naming) (facts : List Fact) (n : ℕ) (v : Value)
+      → has types (standing past g) own (opened_for naming r facts n).value v ≡ true → reads g r s → fits g (opened_for naming r facts n).value s
+  -- the parts of a tuple, items, payloads, and parts of payloads
+  pub size : (g : Integers) (is : List Indices) (s : Sized) → fits g (I.Tuple is) s → tuple_size (out-Sized s) ≡ Some (length is)
+  pub parts : (g : Integers) (is : List Indices) (s : Sized) → fits g (I.Tuple is) s → EachFits types (fits g) s 0 is
+  pub list_item : (g : Integers) (r : Reading) (s : Sized) → fits g (I.List r) s → reads g r (part_typ types one_item s)
+  pub vector_item : (g : Integers) (t : Num) (r : Reading) (s : Sized) → fits g (I.Vector t r) s → reads g r (part_typ types one_item s)
+  pub named : (g : Integers) (u : ℕ) (is : List Index) (rs : List Reading) (s : Sized) → fits g (I.Named u is rs) s → named_place (out-Sized s) ≡ Some u
+  pub of_union : (g : Integers) (u c : ℕ) (is : List Index) (rs : List Reading) (s : Sized) (t : Typ) → payload_type types u c ≡ Some t
+      → fits g (I.Named u is rs) s → reads g (R.Of t is rs) (part_typ types (payload u c) s)
+  pub of_tuple : (g : Integers) (t : Typ) (ts : List Typ) (is : List Index) (rs : List Reading) (s : Sized) → out-Typ t ≡ T.Tuple ts
+      → reads g (R.Of t is rs) s → EachReads types (reads g) s 0 (payload_readings ts is rs)
+  -- a part of bits
+  pub cut : (g : Integers) (t : Num) (k : ℕ) → number (standing past g) t ≡ pos k → fits g (I.Bits t) (fixed_typ types (bits_typ k))
+
+pub record Typing (types : Types) (past : Positive) (own : List Closed) : Type 1 where
+  pub fits : Integers → Indices → Sized → Type 0
+  pub reads : Integers → Reading → Sized → Type 0
+  pub kept : IsKept types past own fits reads
+
+module _ (types : Types) (past : Positive) (own : List Closed) (y : Typing types past own) where
+  -- a value has these indices, of which it is known what they widen to, whatever variables stand for that aren't fixed
+  pub record Bears {n : ℕ} (f : Point n) (i : Indices) (x : Item) : Type 0 where
+    pub wide : Closed
+    pub has_it : (g : Integers) → Agree f g → has types (standing past g) own i x.val ≡ true
+    pub is_wide : (g : Integers) → Agree f g → (meant types (standing past g) own i).wide ≡ wide
+    pub typed : (g : Integers) → Agree f g → y.fits g i x.typ
+
+  -- several, in order
+  abbrev pub AllBear : {n : ℕ} → Point n → List Indices → List Item → Type 0
+  AllBear f [] [] = Unit {0}
+  AllBear f (i ∷ is) (x ∷ xs) = Bears f i x × AllBear f is xs
+  AllBear f is xs = ⊥
+
+  -- a name that a pattern binds
+  abbrev pub HeldBears : {n : ℕ} → Point n → Held → Item → Type 0
+  HeldBears f (H.Value i) x = Bears f i x
+  HeldBears f (H.Var r) x = ⊥
+
+  abbrev pub NamesBear : (n : ℕ) → Point n → List Bound → List (Local Item) → Type 0
+  NamesBear n f [] [] = Unit {0}
+  NamesBear n f (b ∷ bs) (l ∷ ls) = (l.name ≡ b.name) × HeldBears f b.held l.held × NamesBear n f bs ls
+  NamesBear n f bs ls = ⊥
