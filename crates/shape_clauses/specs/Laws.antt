@@ -1,5 +1,5 @@
 -- What the numbers of a mapping's nodes are for: each tells one node of both directions.
-use Rattle.std.specs.Prelude.{◌++◌}
+use Rattle.std.specs.Prelude.{◌++◌, List}
 use Rattle.sail_base.specs.declared.place.Place.{Place}
 use Rattle.sail_syntax.specs.declared.definitions.MappingClause.{MappingClause}
 use Rattle.sail_core.specs.Nodes.{AllDiffer, numbers}
