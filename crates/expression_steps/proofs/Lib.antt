@@ -15,3 +15,4 @@ pub mod Counted
 pub mod BranchEnds
 pub mod LeafKinds
 pub mod Fillings
+pub mod Constructed
