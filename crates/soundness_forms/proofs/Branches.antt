@@ -1,0 +1,124 @@
+-- `if`, beside its run.
+use Rattle.std.proofs.Common.{◌≡◌, ℕ, Bool, true, false, not, ◌&&◌, List, [], ◌∷◌, Option, Some, None, refl, sym, ap, ◌∙◌}
+use Rattle.sail_base.specs.declared.place.Place.{Place}
+use Rattle.sail_types.specs.Numbers.{Assignment, form_true, true_in}
+use Rattle.sail_types.specs.declared.numbers.Con.{Con, fold-roll-Con}
+use Rattle.sail_types.specs.declared.numbers.Con.TheOpen as F
+use Rattle.sail_types.specs.declared.numbers.Con.TheVariants as C
+use Rattle.sail_types.specs.declared.shapes.Shape.{Shape}
+use Rattle.sail_core.specs.Making.{World, truth}
+use Rattle.sail_core.specs.Meaning.{kind_meaning}
+use Rattle.sail_core.specs.Run.{Run, if_so, ◌then◌}
+use Rattle.sail_core.specs.declared.tree.Kind.TheVariants as K
+use Rattle.value_indices.specs.declared.notes.Fact.{Fact}
+use Rattle.value_indices.specs.Steps.{assume, give}
+use Rattle.pattern_leaves.specs.Settings.{Scope}
+use Rattle.call_arguments.specs.Aims.{branch_aim}
+use Rattle.call_arguments.specs.declared.aims.Aim.{Aim}
+use Rattle.call_arguments.specs.declared.aims.Aim.TheVariants as Aims
+use Rattle.expression_forms.specs.Truths.{truth_of}
+use Rattle.expression_steps.specs.Expressions.{kind_walk}
+use Rattle.expression_steps.specs.Parts.{Part, truth_walk, under}
+use Rattle.expression_steps.specs.Statements.{either_met, if_under, if_ways, value_met, way_of}
+use Rattle.checked_meaning.specs.Checked.{checked}
+use Rattle.checked_meaning.specs.Items.{Item}
+use Rattle.value_laws.specs.Belonging.{standing}
+use Rattle.value_laws.specs.Known.{Point}
+use Rattle.value_laws.proofs.Steps.{agree_on}
+use Rattle.soundness_steps.specs.Works.{Scene, here}
+use Rattle.soundness_steps.specs.Steps.{Beside, Grows}
+use Rattle.soundness_steps.specs.Values.{AimSteady, Comes, IsTrue}
+use Rattle.soundness_steps.proofs.Steps.{assumes, binds, given_back, means, regrouped, walks_then}
+use Rattle.soundness_forms.specs.Forms.{Fine}
+use Rattle.soundness_forms.specs.Joins.{FreeJoining}
+use Rattle.soundness_forms.specs.Worlds.{Surrounds}
+use Rattle.soundness_forms.proofs.Basics.{aim_on, then_walks}
+use Rattle.soundness_forms.proofs.Casts.{comes_is, no_guard}
+use Rattle.soundness_forms.proofs.Growth.{grows_assume, grows_bind}
+use Rattle.soundness_forms.proofs.Joins.{behind_others, joined, joining}
+use Rattle.soundness_forms.proofs.Tests.{TruthIs, truths}
+use Rattle.soundness_forms.proofs.Worlds.{surrounds_on}
+
+pub not_is : (nu : Assignment) (c : Con) → true_in nu (C.Not c) ≡ not (true_in nu c)
+not_is nu c = ap (true_in nu) (sym (C.rolls-Not c)) ∙ fold-roll-Con Bool (form_true nu) (F.Not c)
+
+module _ (q : Scene) (w : World Item) (scope : Scope) where
+  -- ---- conditions
+
+  pub truth_runs : (p : Part) (r : Run Item Item) → Fine q w false false p r → {n : ℕ} {f : Point n} {facts : List Fact} → Surrounds q w f scope
+      → Beside q n f facts (truth_walk p (here q) scope) (r then truth (checked q.set.around.types q.cases)) (λ m g o b. TruthIs q g o b)
+  truth_runs p r h {n} {f} {facts} there =
+      binds (truth_of p.place) (truth (checked q.set.around.types q.cases)) (h.walks q.names q.may_fall no_guard n f facts scope Aims.Free there tt)
+      (λ m g fs i x l c. truths q p.place i x (comes_is p.is_nested p.never_ends Aims.Free i x c))
+
+  -- a part under a condition that is true
+  pub under_runs : (p : Part) (r : Run Item Item) (cast : Bool) → Fine q w cast false p r → (c : Con) (aim : Aim) {n : ℕ} {f : Point n} {facts : List Fact}
+      → Surrounds q w f scope → AimSteady q.set q.work f aim → IsTrue q.set q.work f c
+      → Beside q n f facts (under c p (here q) scope aim) r (λ m g i x. Comes q.set q.work g cast p.is_nested p.never_ends aim i x)
+  under_runs p r cast h c aim there st is = walks_then (λ t. p.walk (here q) scope aim) (assumes c is) (λ m g fs t l e.
+      h.walks q.names q.may_fall no_guard m g fs scope aim (surrounds_on q w scope l there) (aim_on q.set q.work aim l st))
+
+  pub under_grows : (p : Part) (r : Run Item Item) (cast : Bool) → Fine q w cast false p r → (c : Con) (aim : Aim) → Grows (under c p (here q) scope aim)
+  under_grows p r cast h c aim = grows_bind (assume c) (λ t. p.walk (here q) scope aim) (grows_assume c) (λ t. h.grows (here q) scope aim)
+
+pub branch_steady : (q : Scene) {n : ℕ} (f : Point n) (aim : Aim) → AimSteady q.set q.work f aim → AimSteady q.set q.work f (branch_aim aim)
+branch_steady q f Aims.Free st = st
+branch_steady q f (Aims.Given r) st = st
+branch_steady q f (Aims.PartOf r) st = st
+branch_steady q f (Aims.Due r) st = st
+
+and_first : (a b : Bool) → a ≡ false → (a && b) ≡ false
+and_first a b e = ap (λ c. c && b) e
+
+and_second : (a b : Bool) → b ≡ false → (a && b) ≡ false
+and_second true b e = e
+and_second false b e = refl
+
+module _ (free : FreeJoining) (q : Scene) (w : World Item) (scope : Scope) (place : Place) (shape : Shape) (a b : Part) (ra rb : Run Item Item)
+    (ha : Fine q w true false a ra) (hb : Fine q w true false b rb) where
+  branches : {n : ℕ} {f : Point n} {facts : List Fact} (aim : Aim) (c : Con) (t : Bool) → Surrounds q w f scope → AimSteady q.set q.work f aim
+      → TruthIs q f (Some c) t
+      → Beside q n f facts (if_under place shape a b (here q) scope aim c)
+      (if_so ((checked q.set.around.types q.cases).inside ra) ((checked q.set.around.types q.cases).inside rb) t)
+      (λ m g i x. Comes q.set q.work g false true (a.never_ends && b.never_ends) aim i x)
+  branches {n} {f} aim c true there st is =
+      let k = joining free q n aim in
+      joined q aim k place shape (if_ways a b (here q) scope aim c) ((checked q.set.around.types q.cases).inside ra) (a.never_ends && b.never_ends) st
+      (means (λ m g o x l e. (e.0, and_first a.never_ends b.never_ends e.1))
+      (behind_others q n aim k a.is_nested [] (way_of a (here q) scope aim c) (way_of b (here q) scope aim (C.Not c) ∷ []) ra None tt
+      (under_grows q w scope b rb true hb (C.Not c) (branch_aim aim), tt) (λ j g l.
+      under_runs q w scope a ra true ha c (branch_aim aim) (surrounds_on q w scope l there) (aim_on q.set q.work (branch_aim aim) l (branch_steady q f aim st))
+      (λ h d. is h (agree_on l d)))))
+  branches {n} {f} aim c false there st is =
+      let k = joining free q n aim in
+      joined q aim k place shape (if_ways a b (here q) scope aim c) ((checked q.set.around.types q.cases).inside rb) (a.never_ends && b.never_ends) st
+      (means (λ m g o x l e. (e.0, and_second a.never_ends b.never_ends e.1))
+      (behind_others q n aim k b.is_nested (way_of a (here q) scope aim c ∷ []) (way_of b (here q) scope aim (C.Not c)) [] rb None
+      (under_grows q w scope a ra true ha c (branch_aim aim), tt) tt (λ j g l.
+      under_runs q w scope b rb true hb (C.Not c) (branch_aim aim) (surrounds_on q w scope l there)
+      (aim_on q.set q.work (branch_aim aim) l (branch_steady q f aim st)) (λ h d. not_is (standing q.set.past h) c ∙ ap not (is h (agree_on l d))))))
+
+  either_runs : {n : ℕ} {f : Point n} {facts : List Fact} (aim : Aim) (o : Option Con) (t : Bool) → Surrounds q w f scope → AimSteady q.set q.work f aim
+      → TruthIs q f o t
+      → Beside q n f facts (either_met place shape a b (here q) scope aim o)
+      (if_so ((checked q.set.around.types q.cases).inside ra) ((checked q.set.around.types q.cases).inside rb) t)
+      (λ m g e x. Comes q.set q.work g false true (a.never_ends && b.never_ends) aim (value_met e) x)
+  either_runs aim None t there st is = absurd is
+  either_runs aim (Some c) t there st is = then_walks (λ i. give (Some (c, i))) (branches aim c t there st is) (λ m g fs i x l e.
+      given_back (Some (c, i)) e)
+
+  pub if_fine : {n : ℕ} {f : Point n} {facts : List Fact} (k : ℕ) (aim : Aim) (c : Part) (rc : Run Item Item) → Fine q w false false c rc
+      → Surrounds q w f scope → AimSteady q.set q.work f aim
+      → Beside q n f facts (kind_walk place k (K.If shape) (c ∷ a ∷ b ∷ []) (here q) scope aim)
+      (kind_meaning (checked q.set.around.types q.cases) w place k (K.If shape) (rc ∷ ra ∷ rb ∷ []))
+      (λ m g i x. Comes q.set q.work g false true (a.never_ends && b.never_ends) aim i x)
+  if_fine k aim c rc hc there st =
+      then_walks (λ i. give i)
+      (then_walks (λ e. give (value_met e))
+      (regrouped rc (truth (checked q.set.around.types q.cases))
+      (if_so ((checked q.set.around.types q.cases).inside ra) ((checked q.set.around.types q.cases).inside rb))
+      (binds (either_met place shape a b (here q) scope aim)
+      (if_so ((checked q.set.around.types q.cases).inside ra) ((checked q.set.around.types q.cases).inside rb)) (truth_runs q w scope c rc hc there)
+      (λ m g fs o t l is. either_runs aim o t (surrounds_on q w scope l there) (aim_on q.set q.work aim l st) is)))
+      (λ m g fs e x l d. given_back (value_met e) d))
+      (λ m g fs i x l d. given_back i d)

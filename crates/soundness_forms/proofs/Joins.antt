@@ -1,0 +1,167 @@
+-- Where ways meet: one of them runs, and its value is opened behind all of them.
+use Rattle.std.proofs.Common.{◌≡◌, ℕ, Bool, true, false, List, [], ◌∷◌, ◌++◌, Option, None}
+use Rattle.std.specs.Prelude.{is_none}
+use Rattle.sail_base.specs.declared.place.Place.{Place}
+use Rattle.sail_types.specs.declared.shapes.Shape.{Shape}
+use Rattle.sail_core.specs.Run.{Run}
+use Rattle.value_indices.specs.declared.indices.Indices.{Indices}
+use Rattle.value_indices.specs.declared.indices.Naming.TheVariants as M
+use Rattle.value_indices.specs.declared.indices.Reading.{Reading}
+use Rattle.value_indices.specs.declared.notes.Fact.{Fact}
+use Rattle.value_indices.specs.declared.notes.Made.TheVariants as Makes
+use Rattle.value_indices.specs.Opening.{opened, opening}
+use Rattle.value_indices.specs.Steps.{Walk, bind, give, scoped, size_note}
+use Rattle.call_arguments.specs.Aims.{branch_aim, wanted}
+use Rattle.call_arguments.specs.declared.aims.Aim.{Aim}
+use Rattle.call_arguments.specs.declared.aims.Aim.TheVariants as Aims
+use Rattle.call_notes.specs.Ends.{opened_at}
+use Rattle.expression_steps.specs.Statements.{Way, each_way, first_behind, meeting, meeting_from, met_value, one_way, way_behind}
+use Rattle.checked_meaning.specs.Items.{Item}
+use Rattle.checked_meaning.specs.Checked.{checked}
+use Rattle.value_laws.specs.Known.{Point, Later}
+use Rattle.value_laws.proofs.Steps.{agree_on, later_on, no_later}
+use Rattle.soundness_steps.specs.Works.{Scene, here}
+use Rattle.soundness_steps.specs.Steps.{Beside, Grows, Walks}
+use Rattle.soundness_steps.specs.Values.{AimSteady, Belongs, Comes, Is, IsMadeAs, IsMet, IsWanted}
+use Rattle.soundness_steps.proofs.Steps.{given_back, grown, grown_later, met_behind, next_is, notes}
+use Rattle.soundness_steps.proofs.Steps.{scopes, stands_on, walks_mean, walks_on, walks_over, well_on}
+use Rattle.soundness_forms.specs.Joins.{AllGrow, FreeJoining, Joining}
+use Rattle.soundness_forms.proofs.Basics.{aim_on, opens, then_walks, wanted_on}
+use Rattle.soundness_forms.proofs.Growth.{grows_bind, grows_give}
+
+-- a scope that isn't run, and what is given behind it
+pub runs_over : {q : Scene} {n : ℕ} {f : Point n} {facts : List Fact} {A B C D : Type 0} (k : B → Walk C) (h : A → B) {d : Run Item D}
+    {Then : (m : ℕ) → Point m → C → D → Type 0} (w : Walk A) → Grows w → ((m : ℕ) (g : Point m) (b : B) → Later f g → Beside q m g facts (k b) d Then)
+    → Beside q n f facts (bind (bind (scoped w) (λ a. give (h a))) k) d Then
+unfolding bind scoped give
+runs_over {q} {n} {f} {facts} k h w gr next = record {
+  run = λ now stands met ok.
+      let l = grown_later f (gr.onward facts n) in
+      well_on l ((next (w facts n).next (grown f (gr.onward facts n)) (h (w facts n).value) l).run now (stands_on l stands)
+      (met_behind q ((w facts n).notes ++ []) _ met) ok);
+}
+
+-- ---- of which a type is wanted
+
+module _ (q : Scene) (m : ℕ) where
+  -- of no way anything is owed
+  behind_grows : (w : Way) (first : Option Indices) → Grows w.walk → Grows (way_behind (here q) false m w first)
+  behind_grows w first h = grows_bind w.walk (λ i. bind (give tt) (λ t. give i)) h (λ i. grows_bind (give tt) (λ t. give i) (grows_give tt) (λ t. grows_give i))
+
+  ways_over : (ws : List Way) → AllGrow ws → {n : ℕ} {f : Point n} {facts : List Fact} (first : Option Indices)
+      → Walks q n f facts (each_way (here q) false m ws first) (λ j g o. Unit {0})
+  ways_over [] h first = given_back first tt
+  ways_over (w ∷ ws) h first = walks_on (each_way (here q) false m ws) {Holds = λ j g o. Unit {0}}
+      (walks_on (λ i. give (first_behind false w.never_ends first i)) (walks_over (way_behind (here q) false m w first) (behind_grows w first h.0))
+      (λ j g fs i l e.
+      given_back (first_behind false w.never_ends first i) tt)) (λ j g fs o l e. ways_over ws h.1 o)
+
+  -- of the type that is wanted, as which it was made
+  abbrev pub CameTo : Reading → (j : ℕ) → Point j → Option Indices → Item → Type 0
+  CameTo r j g o x = Belongs q.set q.work g r x.val × IsMadeAs q.set q.work g (Makes.ByType r) x.val x.typ
+
+  way_runs : (nested : Bool) (r : Reading) (w : Way) (c : Run Item Item) {n : ℕ} {f : Point n} {facts : List Fact} (first : Option Indices)
+      → Beside q n f facts w.walk c (λ j g i x. Comes q.set q.work g true nested w.never_ends (Aims.Due r) i x)
+      → Beside q n f facts (one_way (here q) false m w first) ((checked q.set.around.types q.cases).inside c)
+      (λ j g o x. CameTo r j g o x × (w.never_ends ≡ false))
+  way_runs nested r w c first h =
+      then_walks (λ i. give (first_behind false w.never_ends first i))
+      (scopes (then_walks (λ i. bind (give tt) (λ t. give i)) {Then = λ j g i x. CameTo r j g None x × (w.never_ends ≡ false)} h (λ j g fs i x l e.
+      walks_on (λ t. give i) {Holds = λ k p t. CameTo r k p None x × (w.never_ends ≡ false)} (given_back tt ((e.met, e.typ), e.ends)) (λ k p gs t l2 d.
+      given_back i d))))
+      (λ j g fs i x l e. given_back (first_behind false w.never_ends first i) e)
+
+  keeps_on : (r : Reading) {j : ℕ} {g : Point j} {fs : List Fact} {v : Walk (Option Indices)} (never_ends : Bool) (o : Option Indices) (x : Item)
+      → CameTo r j g o x × (never_ends ≡ false) → Walks q j g fs v (λ i p a. Unit {0})
+      → Walks q j g fs v (λ i p a. CameTo r i p a x × (never_ends ≡ false))
+  keeps_on r never_ends o x e b = record {
+    go = λ noted stands met.
+        let d = b.go noted stands met in
+        record {
+          point = d.point;
+          later = d.later;
+          stands = d.stands;
+          holds = (((λ k a. e.0.0 k (agree_on d.later a)), (λ k a. e.0.1 k (agree_on d.later a))), e.1);
+        };
+  }
+
+  wanted_taken : (r : Reading) (nested : Bool) (w : Way) (after : List Way) (c : Run Item Item) (first : Option Indices) (n : ℕ) (f : Point n)
+      (facts : List Fact)
+      → AllGrow after → Beside q n f facts w.walk c (λ j g i x. Comes q.set q.work g true nested w.never_ends (Aims.Due r) i x)
+      → Beside q n f facts (each_way (here q) false m (w ∷ after) first) ((checked q.set.around.types q.cases).inside c)
+      (λ j g o x. CameTo r j g o x × (w.never_ends ≡ false))
+  wanted_taken r nested w after c first n f facts k h = then_walks (each_way (here q) false m after) (way_runs nested r w c first h) (λ j g fs o x l e.
+      keeps_on r w.never_ends o x e (ways_over after k o))
+
+  wanted_opened : (r : Reading) (place : Place) (o : Option Indices) (x : Item) (n : ℕ) (f : Point n) (facts : List Fact) → IsWanted q.set q.work f r
+      → CameTo r n f o x
+      → Walks q n f facts (opened_at place r) (λ j g i. Is q.set q.work g i x × Belongs q.set q.work g r x.val)
+  unfolding opened
+  wanted_opened r place o x n f facts st h = walks_on (λ u. opening r false M.Unnamed) (notes (λ fs. size_note fs place (Makes.ByType r))) (λ j p gs u b a.
+      record {
+        go = λ noted stands met.
+            let d = (opens {q = q} r false M.Unnamed x.val (wanted_on q.set q.work r b st).0 (λ k y. h.0 k (agree_on b y))).go noted stands met in
+            record {
+              point = d.point;
+              later = d.later;
+              stands = d.stands;
+              holds = (
+                record { has = d.holds.0; typ = d.holds.1 x.typ (λ k y. h.1 k (agree_on b y)) },
+                λ k y. h.0 k (agree_on b (agree_on d.later y)),
+              );
+            };
+      })
+
+-- ---- of either kind
+
+pub joining : FreeJoining → (q : Scene) (m : ℕ) (aim : Aim) → Joining q m aim
+joining free q m Aims.Free = free q m
+joining free q m (Aims.Given r) = record {
+  grows = behind_grows q m;
+  Met = CameTo q m r;
+  taken = λ falls. wanted_taken (record q { may_fall = falls }) m r;
+  opened = λ place shape o x n f facts st h. wanted_opened q m r place o x n f facts st h;
+}
+joining free q m (Aims.PartOf r) = record {
+  grows = behind_grows q m;
+  Met = CameTo q m r;
+  taken = λ falls. wanted_taken (record q { may_fall = falls }) m r;
+  opened = λ place shape o x n f facts st h. walks_mean (λ j g i y. (y.0, tt)) (wanted_opened q m r place o x n f facts st h);
+}
+joining free q m (Aims.Due r) = record {
+  grows = behind_grows q m;
+  Met = CameTo q m r;
+  taken = λ falls. wanted_taken (record q { may_fall = falls }) m r;
+  opened = λ place shape o x n f facts st h. wanted_opened q m r place o x n f facts st h;
+}
+
+-- what ways come to, once they are joined
+pub came : (q : Scene) {n : ℕ} {f : Point n} (aim : Aim) (never_ends : Bool) (i : Indices) (x : Item) → Is q.set q.work f i x
+    → IsMet q.set q.work f aim true x.val → never_ends ≡ false → Comes q.set q.work f false true never_ends aim i x
+came q Aims.Free never_ends i x h b e = record { has = h.has; typ = h.typ; met = b; ends = e }
+came q (Aims.Given r) never_ends i x h b e = record { has = h.has; typ = h.typ; met = b; ends = e }
+came q (Aims.PartOf r) never_ends i x h b e = record { has = h.has; typ = h.typ; met = b; ends = e }
+came q (Aims.Due r) never_ends i x h b e = record { has = h.has; typ = h.typ; met = b; ends = e }
+
+pub joined : (q : Scene) {n : ℕ} {f : Point n} {facts : List Fact} (aim : Aim) (k : Joining q n aim) (place : Place) (shape : Shape) (ws : List Way)
+    (c : Run Item Item)
+    (never_ends : Bool) → AimSteady q.set q.work f aim
+    → Beside q n f facts (each_way (here q) (is_none (wanted aim)) n ws None) c (λ j g o x. k.Met j g o x × (never_ends ≡ false))
+    → Beside q n f facts (meeting (here q) place shape (wanted aim) ws) c (λ m g i x. Comes q.set q.work g false true never_ends aim i x)
+joined q {n} aim k place shape ws c never_ends st h =
+    next_is (meeting_from (here q) place shape (wanted aim) ws)
+    (then_walks (met_value (here q) place shape (wanted aim) n) h (λ m g fs o x l e.
+    walks_mean (λ j p i d. came q aim never_ends i x d.0 d.1 e.1) (k.opened place shape o x m g fs (aim_on q.set q.work aim l st) e.0)))
+
+-- the way that runs, behind others that don't
+pub behind_others : (q : Scene) (m : ℕ) (aim : Aim) (k : Joining q m aim) (nested : Bool) (before : List Way) (w : Way) (after : List Way) (c : Run Item Item)
+    {n : ℕ} {f : Point n} {facts : List Fact} (first : Option Indices)
+    → AllGrow before → AllGrow after
+    → ((j : ℕ) (g : Point j) → Later f g → Beside q j g facts w.walk c (λ i p d x. Comes q.set q.work p true nested w.never_ends (branch_aim aim) d x))
+    → Beside q n f facts (each_way (here q) (is_none (wanted aim)) m (before ++ w ∷ after) first) ((checked q.set.around.types q.cases).inside c)
+    (λ j g o x. k.Met j g o x × (w.never_ends ≡ false))
+behind_others q m aim k nested [] w after c {n} {f} {facts} first h a run = k.taken q.may_fall nested w after c first n f facts a (run n f (no_later f))
+behind_others q m aim k nested (v ∷ before) w after c first h a run =
+    runs_over (each_way (here q) (is_none (wanted aim)) m (before ++ w ∷ after)) (λ i. first_behind (is_none (wanted aim)) v.never_ends first i)
+    (way_behind (here q) (is_none (wanted aim)) m v first) (k.grows v first h.0) (λ j g o l.
+    behind_others q m aim k nested before w after c o h.1 a (λ i p l2. run i p (later_on l l2)))

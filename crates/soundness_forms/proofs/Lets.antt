@@ -1,0 +1,52 @@
+-- Names that are bound: `let` and `var`.
+use Rattle.std.proofs.Common.{ℕ, true, List, [], ◌∷◌, ◌++◌}
+use Rattle.sail_base.specs.declared.place.Place.{Place}
+use Rattle.model_state.specs.declared.cause.Cause.TheVariants.{MatchFailure}
+use Rattle.sail_core.specs.Making.{World}
+use Rattle.sail_core.specs.Meaning.{arm_taken, let_in, or_then}
+use Rattle.sail_core.specs.Run.{Run, stops, within, ◌then◌}
+use Rattle.sail_core.specs.declared.patterns.Arm.{Arm}
+use Rattle.value_indices.specs.declared.indices.Indices.{Indices}
+use Rattle.value_indices.specs.declared.notes.Fact.{Fact}
+use Rattle.value_indices.specs.Steps.{Walk, bind}
+use Rattle.pattern_leaves.specs.Settings.{Scope}
+use Rattle.pattern_leaves.specs.declared.names.Bound.{Bound}
+use Rattle.pattern_notes.specs.Patterns.{looks, one_match}
+use Rattle.pattern_notes.specs.declared.matching.Matching.{Matching}
+use Rattle.checked_meaning.specs.Checked.{checked}
+use Rattle.checked_meaning.specs.Items.{Item}
+use Rattle.value_laws.specs.Known.{Point, Later}
+use Rattle.soundness_steps.specs.Works.{Kept, Scene, here}
+use Rattle.soundness_steps.specs.Steps.{Beside, well_stopped}
+use Rattle.soundness_steps.specs.Values.{Is}
+use Rattle.soundness_steps.proofs.Scenes.{falling, naming, or_well, under_names}
+use Rattle.soundness_steps.proofs.Steps.{binds}
+use Rattle.soundness_forms.specs.Patterns.{LetsMatch}
+use Rattle.soundness_forms.specs.Worlds.{Surrounds}
+use Rattle.soundness_forms.proofs.Worlds.{surrounds_falling, surrounds_more, surrounds_on}
+
+-- where a piece says No the run stops
+pub stopping : {q : Scene} {n : ℕ} {f : Point n} {facts : List Fact} {A : Type 0} {w : Walk A} (place : Place) (c : Run Item Item)
+    {Holds : (m : ℕ) → Point m → A → Item → Type 0} → Beside (falling q) n f facts w c Holds
+    → Beside q n f facts w (or_then (checked q.set.around.types q.cases) c (stops (MatchFailure place))) Holds
+stopping {q} place c b = record {
+  run = λ now stands met ok.
+      or_well (λ after. stops (MatchFailure place) (record after { opened = now.opened }))
+      (b.run now stands met (record { state = ok.state; names = ok.names }))
+      (λ after ok2. well_stopped (MatchFailure place) (record after { opened = now.opened }));
+}
+
+module _ (q : Scene) (w : World Item) (matches : LetsMatch (falling q) w) (scope : Scope) (place : Place) (arm : Arm) (how : Matching) (i : Indices)
+    (x : Item) where
+  -- names that a pattern binds, and a walk under them
+  pub let_runs : {A : Type 0} {n : ℕ} {f : Point n} {facts : List Fact} (k : List Bound → Walk A) (r : Run Item Item)
+      {Holds : (m : ℕ) → Point m → A → Item → Type 0} → Surrounds q w f scope → Is q.set q.work f i x
+      → ((m : ℕ) (g : Point m) (fs : List Fact) (found : List Bound) (ks : List Kept) → Later f g → Surrounds (naming ks (falling q)) w g (found ++ scope)
+      → Beside (naming ks (falling q)) m g fs (k found) r Holds)
+      → Beside q n f facts (bind (one_match place (looks arm) (here q) how i) k) (let_in (checked q.set.around.types q.cases) w place arm x r) Holds
+  let_runs k r {Holds} there is next =
+      stopping place (arm_taken (checked q.set.around.types q.cases) w arm r (x ∷ []))
+      (binds k (λ found. within found r) (matches _ _ _ scope place arm how i x (surrounds_falling q w _ scope true there) is) (λ m g fs found ls l b.
+      under_names b.names ls b.kept
+      (next m g fs found b.names l
+      (surrounds_more (falling q) w g scope found b.names b.in_scope (surrounds_falling q w g scope true (surrounds_on q w scope l there))))))

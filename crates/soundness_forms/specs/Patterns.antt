@@ -1,0 +1,41 @@
+-- What is taken of patterns: what a pattern binds beside its run are names of the walk's indices.
+use Rattle.std.specs.Prelude.{ℕ, List, [], ◌∷◌}
+use Rattle.sail_base.specs.declared.place.Place.{Place}
+use Rattle.sail_core.specs.Making.{World}
+use Rattle.sail_core.specs.Patterns.{arm_meaning}
+use Rattle.sail_core.specs.Run.{Local}
+use Rattle.sail_core.specs.declared.patterns.Arm.{Arm}
+use Rattle.value_indices.specs.declared.indices.Indices.{Indices}
+use Rattle.value_indices.specs.declared.notes.Fact.{Fact}
+use Rattle.pattern_leaves.specs.Settings.{Scope}
+use Rattle.pattern_leaves.specs.declared.names.Bound.{Bound}
+use Rattle.pattern_notes.specs.Patterns.{arm_match, looks, one_match}
+use Rattle.pattern_notes.specs.declared.matching.Matching.{Matching}
+use Rattle.checked_meaning.specs.Checked.{checked}
+use Rattle.checked_meaning.specs.Items.{Item}
+use Rattle.value_laws.specs.Known.{Point}
+use Rattle.soundness_steps.specs.Works.{Kept, Scene, Setting, Work, here}
+use Rattle.soundness_steps.specs.States.{AllKept}
+use Rattle.soundness_steps.specs.Steps.{Beside}
+use Rattle.soundness_steps.specs.Values.{AllAre, InScope, Is}
+use Rattle.soundness_forms.specs.Worlds.{Surrounds}
+
+-- names that are bound, as the run keeps them
+pub record Binds (set : Setting) (work : Work) {n : ℕ} (f : Point n) (found : List Bound) (locals : List (Local Item)) : Type 0 where
+  pub names : List Kept
+  pub in_scope : InScope set work f found names
+  pub kept : AllKept set.around.types names locals
+
+-- the patterns of an arm over as many values; a pattern may say No
+abbrev pub ArmsMatch : Scene → World Item → Type 0
+ArmsMatch q w = (n : ℕ) (f : Point n) (facts : List Fact) (scope : Scope) (place : Place) (arm : Arm) (how : Matching) (is : List Indices) (xs : List Item)
+    → Surrounds q w f scope → AllAre q.set q.work f is xs
+    → Beside q n f facts (arm_match place arm (here q) how is) (arm_meaning (checked q.set.around.types q.cases) w arm xs)
+    (λ m g found locals. Binds q.set q.work g found locals)
+
+-- the one pattern of a `let`
+abbrev pub LetsMatch : Scene → World Item → Type 0
+LetsMatch q w = (n : ℕ) (f : Point n) (facts : List Fact) (scope : Scope) (place : Place) (arm : Arm) (how : Matching) (i : Indices) (x : Item)
+    → Surrounds q w f scope → Is q.set q.work f i x
+    → Beside q n f facts (one_match place (looks arm) (here q) how i) (arm_meaning (checked q.set.around.types q.cases) w arm (x ∷ []))
+    (λ m g found locals. Binds q.set q.work g found locals)
