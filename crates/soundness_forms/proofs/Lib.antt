@@ -22,3 +22,5 @@ pub mod LeavingKinds
 pub mod Throwing
 pub mod JoinGrowth
 pub mod Matching
+pub mod Guards
+pub mod Registers

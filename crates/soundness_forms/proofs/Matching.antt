@@ -1,10 +1,12 @@
 -- `match`, as a kind of node.
-use Rattle.std.proofs.Common.{◌≡◌, nat_eq, Bool, true, false, ◌&&◌, List, [], ◌∷◌, ◌++◌, length, refl, subst}
+use Rattle.std.proofs.Common.{◌≡◌, nat_eq, Bool, true, false, ◌&&◌, List, [], ◌∷◌, ◌++◌, length, arith, refl, subst}
 use Rattle.std.proofs.lemmas.Bool.{and_parts}
+use Rattle.std.proofs.lemmas.Bool.Decides.{Decides-eqb}
 use Rattle.std.specs.List.{list_all}
 use Rattle.sail_base.specs.declared.place.Place.{Place}
 use Rattle.sail_types.specs.declared.shapes.Shape.{Shape}
 use Rattle.sail_core.specs.Making.{World}
+use Rattle.sail_core.specs.Meaning.{kind_meaning}
 use Rattle.sail_core.specs.Run.{Run}
 use Rattle.sail_core.specs.declared.patterns.Arm.{Arm}
 use Rattle.sail_core.specs.declared.tree.Kind.TheVariants as K
@@ -18,11 +20,10 @@ use Rattle.expression_steps.specs.Expressions.{node_end}
 use Rattle.expression_steps.specs.Parts.{Part}
 use Rattle.expression_steps.specs.Statements.{case_ways, match_under, match_walk}
 use Rattle.checked_meaning.specs.Items.{Item}
-use Rattle.value_laws.proofs.Basics.{no}
 use Rattle.soundness_steps.specs.Works.{Kept, Scene}
 use Rattle.soundness_steps.specs.Steps.{Grows}
 use Rattle.soundness_forms.specs.EachKind.{KindFine, PartsFine, node}
-use Rattle.soundness_forms.specs.Forms.{Fine, at}
+use Rattle.soundness_forms.specs.Forms.{Fine, at, z}
 use Rattle.soundness_forms.specs.Joins.{AllGrow, FreeJoining}
 use Rattle.soundness_forms.specs.Patterns.{ArmsMatch}
 use Rattle.soundness_forms.specs.Standing.{Standing, is_body, is_bound}
@@ -34,14 +35,14 @@ use Rattle.soundness_forms.proofs.PlainKinds.{fine_at, fine_by, wrong_inward}
 
 -- each arm has a body, which ends in a cast
 bodies_fine : (q : Scene) (w : World Item) (arms : List Arm) (ss : List Standing) (ps : List Part) (rs : List (Run Item Item)) → PartsFine q w ss ps rs
-    → nat_eq (length arms) (length ss) ≡ true → list_all is_body ss ≡ true → Bodies q w arms ps rs
+    → length arms ≡ length ss → list_all is_body ss ≡ true → Bodies q w arms ps rs
 bodies_fine q w [] [] [] [] h e right = tt
 bodies_fine q w (arm ∷ arms) (s ∷ ss) (p ∷ ps) (r ∷ rs) h e right =
     let both = and_parts (is_body s) (list_all is_body ss) right in
     let one = and_parts s.right s.cast both.0 in
-    ((s.guard, subst (λ b. Fine q w b s.guard p r) one.1 (h.0 one.0)), bodies_fine q w arms ss ps rs h.1 e both.1)
-bodies_fine q w [] (s ∷ ss) ps rs h e right = no e
-bodies_fine q w (arm ∷ arms) [] ps rs h e right = no e
+    ((s.guard, subst (λ b. Fine q w b s.guard p r) one.1 (h.0 one.0)), bodies_fine q w arms ss ps rs h.1 (omega (arith, e)) both.1)
+bodies_fine q w [] (s ∷ ss) ps rs h e right = absurd (omega (arith, e))
+bodies_fine q w (arm ∷ arms) [] ps rs h e right = absurd (omega (arith, e))
 bodies_fine q w [] [] [] (r ∷ rs) h e right = absurd h
 bodies_fine q w [] [] (p ∷ ps) rs h e right = absurd h
 bodies_fine q w (arm ∷ arms) (s ∷ ss) [] rs h e right = absurd h
@@ -82,8 +83,8 @@ module _ (grows : AllArmsGrow) (q : Scene) (w : World Item) where
       let first = and_parts (is_bound s) (nat_eq (length arms) (length ss) && list_all is_body ss) right in
       let last = and_parts (nat_eq (length arms) (length ss)) (list_all is_body ss) first.1 in
       let head = bound_fine q w s p r first.0 h.0 in
-      let bodies = bodies_fine q w arms ss ps rs h.1 last.0 last.1 in
-      fine_by q w false false (node q w place k (K.Match arms shape) (p ∷ ps)) _ (λ around scope. refl)
+      let bodies = bodies_fine q w arms ss ps rs h.1 ((Decides-eqb (length arms) (length ss)).0 last.0) last.1 in
+      fine_by q w false false (node q w place k (K.Match arms shape) (p ∷ ps)) (kind_meaning (z q w) w place k (K.Match arms shape) (r ∷ rs)) (λ around scope. refl)
       (λ names falls g n f facts scope aim there st. match_fine free (at q w names falls) w (patterns names)
       (λ at_place arm i. grows _ at_place arm i) scope place shape
       k aim arms p r ps rs s.cast (fine_at q w names falls head) (bodies_at q w names falls arms ps rs bodies) there st)

@@ -174,7 +174,7 @@ module _ (fit : FitsSuffice) (q : Scene) (w : World Item) (scope : Scope) (place
 no_truth : {A : Type 0} (place : Place) → Grows (bind (wrong place) (λ t. give {A = Option A} None))
 no_truth place = grows_bind (wrong place) (λ t. give None) (grows_owe place (Some (C.Truth false) ∷ [])) (λ t. grows_give None)
 
-truth_grows : (place : Place) (i : Indices) (x : Indices-F Indices Reading) → Grows (truth_form place x)
+pub truth_grows : (place : Place) (i : Indices) (x : Indices-F Indices Reading) → Grows (truth_form place x)
 truth_grows place i (W.Truth c) = grows_give (Some c)
 truth_grows place i W.Never = grows_give None
 truth_grows place i W.Unit = no_truth place
