@@ -84,7 +84,8 @@ module _ (grows : AllArmsGrow) (q : Scene) (w : World Item) where
       let last = and_parts (nat_eq (length arms) (length ss)) (list_all is_body ss) first.1 in
       let head = bound_fine q w s p r first.0 h.0 in
       let bodies = bodies_fine q w arms ss ps rs h.1 ((Decides-eqb (length arms) (length ss)).0 last.0) last.1 in
-      fine_by q w false false (node q w place k (K.Match arms shape) (p ∷ ps)) (kind_meaning (z q w) w place k (K.Match arms shape) (r ∷ rs)) (λ around scope. refl)
+      fine_by q w false false (node q w place k (K.Match arms shape) (p ∷ ps)) (kind_meaning (z q w) w place k (K.Match arms shape) (r ∷ rs))
+      (λ around scope. refl)
       (λ names falls g n f facts scope aim there st. match_fine free (at q w names falls) w (patterns names)
       (λ at_place arm i. grows _ at_place arm i) scope place shape
       k aim arms p r ps rs s.cast (fine_at q w names falls head) (bodies_at q w names falls arms ps rs bodies) there st)
