@@ -8,6 +8,7 @@ use Rattle.sail_core.specs.Making.{World, truth}
 use Rattle.sail_core.specs.Meaning.{kind_meaning}
 use Rattle.sail_core.specs.Run.{Run, falls, if_so, ◌then◌}
 use Rattle.sail_core.specs.declared.patterns.Arm.{Arm}
+use Rattle.sail_core.specs.declared.tree.Callee.TheVariants as C
 use Rattle.sail_core.specs.declared.tree.Kind.TheVariants as K
 use Rattle.value_indices.specs.declared.indices.Indices.{out-Indices}
 use Rattle.value_indices.specs.declared.notes.Fact.{Fact}
@@ -112,7 +113,7 @@ module _ (q : Scene) (w : World Item) where
   when_kind place k (s ∷ t ∷ u ∷ ss) (p ∷ p2 ∷ []) (r ∷ r2 ∷ rs) h right = absurd h.1.1
   when_kind place k (s ∷ t ∷ u ∷ ss) (p ∷ p2 ∷ p3 ∷ ps) (r ∷ r2 ∷ []) h right = absurd h.1.1
 
-  -- the clauses of a function are no expression, and options are of later trees
+  -- the clauses of a function are no expression, and options and what is applied to one are of later trees
   pub clauses_kind : (arms : List Arm) → KindFine q w (K.Clauses arms)
   clauses_kind arms place k ss [] rs h right =
       wrong_fine q w false false false place k (node q w place k (K.Clauses arms) []) _ (λ around scope. refl) (λ around scope aim. refl)
@@ -121,3 +122,6 @@ module _ (q : Scene) (w : World Item) where
 
   pub optional_kind : (t : Typ) → KindFine q w (K.Optional t)
   optional_kind t place k ss ps rs h right = no right
+
+  pub applies_kind : (d : ℕ) → KindFine q w (K.Call (C.Applies d))
+  applies_kind d place k ss ps rs h right = no right

@@ -7,6 +7,7 @@ use Rattle.sail_types.specs.Named.{members}
 use Rattle.sail_types.specs.declared.table.Types.{Types}
 use Rattle.sail_core.specs.declared.patterns.Literal.{Literal}
 use Rattle.sail_core.specs.declared.patterns.Literal.TheVariants as L
+use Rattle.sail_core.specs.declared.tree.Callee.TheVariants as C
 use Rattle.sail_core.specs.declared.tree.Core.{Core, Core-F, fold-Core}
 use Rattle.sail_core.specs.declared.tree.Kind.{Kind}
 use Rattle.sail_core.specs.declared.tree.Kind.TheVariants as K
@@ -66,6 +67,7 @@ kind_right types K.Return ps = list_all is_bound ps
 kind_right types K.Throw ps = list_all is_bound ps
 kind_right types K.Exit ps = list_all is_bound ps
 kind_right types (K.Optional t) ps = false
+kind_right types (K.Call (C.Applies d)) ps = false
 kind_right types kind ps = list_all is_value ps
 
 abbrev pub node_standing : Types → Core-F Standing → Standing
