@@ -31,7 +31,7 @@ use Rattle.soundness_steps.proofs.Scenes.{falling, or_well, under_names}
 use Rattle.soundness_steps.proofs.Steps.{binds, given_back, means}
 use Rattle.soundness_forms.specs.Forms.{Fine}
 use Rattle.soundness_forms.specs.Joins.{AllGrow, FreeJoining, Joining}
-use Rattle.soundness_forms.specs.Patterns.{ArmsMatch}
+use Rattle.soundness_forms.specs.Patterns.{AllMatch, ArmMatches}
 use Rattle.soundness_forms.specs.Worlds.{Surrounds}
 use Rattle.soundness_forms.proofs.Basics.{aim_on, is_on, then_walks}
 use Rattle.soundness_forms.proofs.Branches.{branch_steady}
@@ -51,8 +51,7 @@ module _ (q : Scene) (w : World Item) where
   abbrev pub ArmsGrow : Type 0
   ArmsGrow = (place : Place) (arm : Arm) (i : Indices) → Grows (arm_match place arm (here q) (record { in_case = true; is_owed = false }) (i ∷ []))
 
-module _ (q : Scene) (w : World Item) (matches : ArmsMatch (falling q) w) (grows : ArmsGrow q w) (scope : Scope) (place : Place) (i : Indices) (x : Item)
-    (aim : Aim) where
+module _ (q : Scene) (w : World Item) (grows : ArmsGrow q w) (scope : Scope) (place : Place) (i : Indices) (x : Item) (aim : Aim) where
   case_grows : (arm : Arm) (p : Part) (r : Run Item Item) (cast guard : Bool) → Fine q w cast guard p r → Grows (case_walk place arm p (here q) scope aim i)
   case_grows arm p r cast guard h =
       grows_bind (arm_match place arm (here q) (record { in_case = true; is_owed = false }) (i ∷ []))
@@ -67,13 +66,13 @@ module _ (q : Scene) (w : World Item) (matches : ArmsMatch (falling q) w) (grows
   cases_grow (arm ∷ arms) (p ∷ ps) [] h = absurd h
 
   -- one case, which may say No
-  case_runs : (arm : Arm) (p : Part) (r : Run Item Item) (guard : Bool) → Fine q w true guard p r → {n : ℕ} {f : Point n} {facts : List Fact}
+  case_runs : (arm : Arm) (p : Part) (r : Run Item Item) (guard : Bool) → ArmMatches (falling q) w arm → Fine q w true guard p r → {n : ℕ} {f : Point n} {facts : List Fact}
       → Surrounds q w f scope → AimSteady q.set q.work f aim → Is q.set q.work f i x
       → Beside (falling q) n f facts (case_walk place arm p (here q) scope aim i) (arm_taken (checked q.set.around.types q.cases) w arm r (x ∷ []))
       (λ j g d y. Comes q.set q.work g true p.is_nested p.never_ends (branch_aim aim) d y)
-  case_runs arm p r guard h {n} {f} {facts} there st is =
+  case_runs arm p r guard matches h {n} {f} {facts} there st is =
       binds (λ found. p.walk (here q) (found ++ scope) (branch_aim aim)) (λ found. within found r)
-      (matches n f facts scope place arm (record { in_case = true; is_owed = false }) (i ∷ []) (x ∷ []) (surrounds_falling q w f scope true there) (is, tt))
+      (matches n f facts scope place (record { in_case = true; is_owed = false }) (i ∷ []) (x ∷ []) (surrounds_falling q w f scope true there) (is, tt))
       (λ m g fs found ls l b.
       under_names b.names ls b.kept
       (h.walks (b.names ++ q.names) true (λ e. refl) m g fs (found ++ scope) (branch_aim aim)
@@ -87,21 +86,21 @@ module _ (q : Scene) (w : World Item) (matches : ArmsMatch (falling q) w) (grows
 
   -- the first case that is taken
   pub cases_run : (m : ℕ) (k : Joining q m aim) (none : Run Item Item) → NoneEnds none
-      → (arms : List Arm) (ps : List Part) (rs : List (Run Item Item)) → Bodies q w arms ps rs
+      → (arms : List Arm) (ps : List Part) (rs : List (Run Item Item)) → AllMatch (falling q) w arms → Bodies q w arms ps rs
       → {n : ℕ} {f : Point n} {facts : List Fact} (first : Option Indices) → Surrounds q w f scope → AimSteady q.set q.work f aim → Is q.set q.work f i x
       → Beside q n f facts (each_way (here q) (is_none (wanted aim)) m (case_ways place arms ps (here q) scope aim i) first)
       (first_of (checked q.set.around.types q.cases) w arms rs none (x ∷ [])) (λ j g o y. k.Met j g o y × (false ≡ false))
-  cases_run m k none ends [] [] [] h {n} {f} {facts} first there st is =
+  cases_run m k none ends [] [] [] ms h {n} {f} {facts} first there st is =
       record { run = λ now stands met ok. ends now ok n f _ _ _ }
-  cases_run m k none ends (arm ∷ arms) (p ∷ ps) (r ∷ rs) h {n} {f} {facts} first there st is =
+  cases_run m k none ends (arm ∷ arms) (p ∷ ps) (r ∷ rs) ms h {n} {f} {facts} first there st is =
       let z = checked q.set.around.types q.cases in
       let one = k.taken true p.is_nested (case_way place arm p (here q) scope aim i) (case_ways place arms ps (here q) scope aim i)
-      (arm_taken z w arm r (x ∷ [])) first n f facts (cases_grow arms ps rs h.1) (case_runs arm p r h.0.0 h.0.1 there st is) in
+      (arm_taken z w arm r (x ∷ [])) first n f facts (cases_grow arms ps rs h.1) (case_runs arm p r h.0.0 ms.0 h.0.1 there st is) in
       let more = runs_over {q = q} (each_way (here q) (is_none (wanted aim)) m (case_ways place arms ps (here q) scope aim i))
       (λ d. first_behind (is_none (wanted aim)) p.never_ends first d)
       (way_behind (here q) (is_none (wanted aim)) m (case_way place arm p (here q) scope aim i) first)
       (k.grows (case_way place arm p (here q) scope aim i) first (case_grows arm p r true h.0.0 h.0.1))
-      (λ j g o l. cases_run m k none ends arms ps rs h.1 o (surrounds_on q w scope l there) (aim_on q.set q.work aim l st) (is_on l is)) in
+      (λ j g o l. cases_run m k none ends arms ps rs ms.1 h.1 o (surrounds_on q w scope l there) (aim_on q.set q.work aim l st) (is_on l is)) in
       record {
         run = λ now stands met ok.
             or_well (λ after. first_of z w arms rs none (x ∷ []) (record after { opened = now.opened }))
@@ -109,28 +108,27 @@ module _ (q : Scene) (w : World Item) (matches : ArmsMatch (falling q) w) (grows
             { state = ok.state; names = ok.names }))
             (λ after ok2. more.run (record after { opened = now.opened }) stands met (record { state = ok2.state; names = ok2.names }));
       }
-  cases_run m k none ends [] [] (r ∷ rs) h first there st is = absurd h
-  cases_run m k none ends [] (p ∷ ps) rs h first there st is = absurd h
-  cases_run m k none ends (arm ∷ arms) [] rs h first there st is = absurd h
-  cases_run m k none ends (arm ∷ arms) (p ∷ ps) [] h first there st is = absurd h
+  cases_run m k none ends [] [] (r ∷ rs) ms h first there st is = absurd h
+  cases_run m k none ends [] (p ∷ ps) rs ms h first there st is = absurd h
+  cases_run m k none ends (arm ∷ arms) [] rs ms h first there st is = absurd h
+  cases_run m k none ends (arm ∷ arms) (p ∷ ps) [] ms h first there st is = absurd h
 
 -- ---- `match`
 
-module _ (free : FreeJoining) (q : Scene) (w : World Item) (matches : ArmsMatch (falling q) w) (grows : ArmsGrow q w) (scope : Scope) (place : Place)
-    (shape : Shape) where
+module _ (free : FreeJoining) (q : Scene) (w : World Item) (grows : ArmsGrow q w) (scope : Scope) (place : Place) (shape : Shape) where
   pub match_fine : {n : ℕ} {f : Point n} {facts : List Fact} (k : ℕ) (aim : Aim) (arms : List Arm) (a : Part) (ra : Run Item Item) (ps : List Part)
-      (rs : List (Run Item Item)) (cast : Bool) → Fine q w cast false a ra → Bodies q w arms ps rs → Surrounds q w f scope → AimSteady q.set q.work f aim
+      (rs : List (Run Item Item)) (cast : Bool) → Fine q w cast false a ra → AllMatch (falling q) w arms → Bodies q w arms ps rs → Surrounds q w f scope → AimSteady q.set q.work f aim
       → Beside q n f facts (kind_walk place k (K.Match arms shape) (a ∷ ps) (here q) scope aim)
       (kind_meaning (checked q.set.around.types q.cases) w place k (K.Match arms shape) (ra ∷ rs))
       (λ m g i x. Comes q.set q.work g false true false aim i x)
-  match_fine {n} {f} {facts} k aim arms a ra ps rs cast ha hs there st =
+  match_fine {n} {f} {facts} k aim arms a ra ps rs cast ha ms hs there st =
       then_walks (λ i. give i)
       (binds (match_under place shape arms ps (here q) scope aim)
       (λ x. first_of (checked q.set.around.types q.cases) w arms rs (stops (MatchFailure place)) (x ∷ []))
       (ha.walks q.names q.may_fall no_guard n f facts scope Aims.Free there tt)
       (λ m g fs i x l c. joined q aim (joining free q m aim) place shape (case_ways place arms ps (here q) scope aim i)
       (first_of (checked q.set.around.types q.cases) w arms rs (stops (MatchFailure place)) (x ∷ [])) false (aim_on q.set q.work aim l st)
-      (cases_run q w matches grows scope place i x aim m (joining free q m aim) (stops (MatchFailure place)) (λ now ok j h d es holds.
-      well_stopped (MatchFailure place) now) arms ps rs hs None (surrounds_on q w scope l there) (aim_on q.set q.work aim l st)
+      (cases_run q w grows scope place i x aim m (joining free q m aim) (stops (MatchFailure place)) (λ now ok j h d es holds.
+      well_stopped (MatchFailure place) now) arms ps rs ms hs None (surrounds_on q w scope l there) (aim_on q.set q.work aim l st)
       (free_is cast a.is_nested a.never_ends i x c))))
       (λ m g fs i x l d. given_back i d)

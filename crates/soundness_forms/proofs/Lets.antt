@@ -21,7 +21,7 @@ use Rattle.soundness_steps.specs.Steps.{Beside, well_stopped}
 use Rattle.soundness_steps.specs.Values.{Is}
 use Rattle.soundness_steps.proofs.Scenes.{falling, naming, or_well, under_names}
 use Rattle.soundness_steps.proofs.Steps.{binds}
-use Rattle.soundness_forms.specs.Patterns.{LetsMatch}
+use Rattle.soundness_forms.specs.Patterns.{LetMatches}
 use Rattle.soundness_forms.specs.Worlds.{Surrounds}
 use Rattle.soundness_forms.proofs.Worlds.{surrounds_falling, surrounds_more, surrounds_on}
 
@@ -36,7 +36,7 @@ stopping {q} place c b = record {
       (λ after ok2. well_stopped (MatchFailure place) (record after { opened = now.opened }));
 }
 
-module _ (q : Scene) (w : World Item) (matches : LetsMatch (falling q) w) (scope : Scope) (place : Place) (arm : Arm) (how : Matching) (i : Indices)
+module _ (q : Scene) (w : World Item) (arm : Arm) (matches : LetMatches (falling q) w arm) (scope : Scope) (place : Place) (how : Matching) (i : Indices)
     (x : Item) where
   -- names that a pattern binds, and a walk under them
   pub let_runs : {A : Type 0} {n : ℕ} {f : Point n} {facts : List Fact} (k : List Bound → Walk A) (r : Run Item Item)
@@ -46,7 +46,7 @@ module _ (q : Scene) (w : World Item) (matches : LetsMatch (falling q) w) (scope
       → Beside q n f facts (bind (one_match place (looks arm) (here q) how i) k) (let_in (checked q.set.around.types q.cases) w place arm x r) Holds
   let_runs k r {Holds} there is next =
       stopping place (arm_taken (checked q.set.around.types q.cases) w arm r (x ∷ []))
-      (binds k (λ found. within found r) (matches _ _ _ scope place arm how i x (surrounds_falling q w _ scope true there) is) (λ m g fs found ls l b.
+      (binds k (λ found. within found r) (matches _ _ _ scope place how i x (surrounds_falling q w _ scope true there) is) (λ m g fs found ls l b.
       under_names b.names ls b.kept
       (next m g fs found b.names l
       (surrounds_more (falling q) w g scope found b.names b.in_scope (surrounds_falling q w g scope true (surrounds_on q w scope l there))))))

@@ -25,7 +25,7 @@ use Rattle.soundness_steps.specs.Steps.{Grows}
 use Rattle.soundness_forms.specs.EachKind.{KindFine, PartsFine, node}
 use Rattle.soundness_forms.specs.Forms.{Fine, at, z}
 use Rattle.soundness_forms.specs.Joins.{AllGrow, FreeJoining}
-use Rattle.soundness_forms.specs.Patterns.{ArmsMatch}
+use Rattle.soundness_forms.specs.Patterns.{AllMatch}
 use Rattle.soundness_forms.specs.Standing.{Standing, is_body, is_bound}
 use Rattle.soundness_forms.proofs.Cases.{Bodies, match_fine}
 use Rattle.soundness_forms.proofs.Growth.{grows_bind, grows_end}
@@ -34,7 +34,7 @@ use Rattle.soundness_forms.proofs.LeavingKinds.{bound_fine}
 use Rattle.soundness_forms.proofs.PlainKinds.{fine_at, fine_by, wrong_inward}
 
 -- each arm has a body, which ends in a cast
-bodies_fine : (q : Scene) (w : World Item) (arms : List Arm) (ss : List Standing) (ps : List Part) (rs : List (Run Item Item)) → PartsFine q w ss ps rs
+pub bodies_fine : (q : Scene) (w : World Item) (arms : List Arm) (ss : List Standing) (ps : List Part) (rs : List (Run Item Item)) → PartsFine q w ss ps rs
     → length arms ≡ length ss → list_all is_body ss ≡ true → Bodies q w arms ps rs
 bodies_fine q w [] [] [] [] h e right = tt
 bodies_fine q w (arm ∷ arms) (s ∷ ss) (p ∷ ps) (r ∷ rs) h e right =
@@ -48,7 +48,7 @@ bodies_fine q w [] [] (p ∷ ps) rs h e right = absurd h
 bodies_fine q w (arm ∷ arms) (s ∷ ss) [] rs h e right = absurd h
 bodies_fine q w (arm ∷ arms) (s ∷ ss) (p ∷ ps) [] h e right = absurd h
 
-bodies_at : (q : Scene) (w : World Item) (names : List Kept) (falls : Bool) (arms : List Arm) (ps : List Part) (rs : List (Run Item Item))
+pub bodies_at : (q : Scene) (w : World Item) (names : List Kept) (falls : Bool) (arms : List Arm) (ps : List Part) (rs : List (Run Item Item))
     → Bodies q w arms ps rs
     → Bodies (at q w names falls) w arms ps rs
 bodies_at q w names falls [] [] [] h = tt
@@ -64,7 +64,7 @@ AllArmsGrow = (around : Around) (place : Place) (arm : Arm) (i : Indices)
     → Grows (arm_match place arm around (record { in_case = true; is_owed = false }) (i ∷ []))
 
 module _ (grows : AllArmsGrow) (q : Scene) (w : World Item) where
-  cases_grow : (around : Around) (scope : Scope) (place : Place) (i : Indices) (aim : Aim) (arms : List Arm) (ps : List Part) (rs : List (Run Item Item))
+  pub cases_grow : (around : Around) (scope : Scope) (place : Place) (i : Indices) (aim : Aim) (arms : List Arm) (ps : List Part) (rs : List (Run Item Item))
       → Bodies q w arms ps rs → AllGrow (case_ways place arms ps around scope aim i)
   cases_grow around scope place i aim [] [] [] h = tt
   cases_grow around scope place i aim (arm ∷ arms) (p ∷ ps) (r ∷ rs) h = (
@@ -77,25 +77,25 @@ module _ (grows : AllArmsGrow) (q : Scene) (w : World Item) where
   cases_grow around scope place i aim (arm ∷ arms) [] rs h = absurd h
   cases_grow around scope place i aim (arm ∷ arms) (p ∷ ps) [] h = absurd h
 
-  pub match_kind : FreeJoining → MetGrows → AgreementCounts → ((names : List Kept) → ArmsMatch (at q w names true) w) → (arms : List Arm) (shape : Shape)
+  pub match_kind : FreeJoining → MetGrows → AgreementCounts → (arms : List Arm) (shape : Shape) → ((names : List Kept) → AllMatch (at q w names true) w arms)
       → KindFine q w (K.Match arms shape)
-  match_kind free met agree patterns arms shape place k (s ∷ ss) (p ∷ ps) (r ∷ rs) h right =
+  match_kind free met agree arms shape patterns place k (s ∷ ss) (p ∷ ps) (r ∷ rs) h right =
       let first = and_parts (is_bound s) (nat_eq (length arms) (length ss) && list_all is_body ss) right in
       let last = and_parts (nat_eq (length arms) (length ss)) (list_all is_body ss) first.1 in
       let head = bound_fine q w s p r first.0 h.0 in
       let bodies = bodies_fine q w arms ss ps rs h.1 ((Decides-eqb (length arms) (length ss)).0 last.0) last.1 in
       fine_by q w false false (node q w place k (K.Match arms shape) (p ∷ ps)) (kind_meaning (z q w) w place k (K.Match arms shape) (r ∷ rs))
       (λ around scope. refl)
-      (λ names falls g n f facts scope aim there st. match_fine free (at q w names falls) w (patterns names)
+      (λ names falls g n f facts scope aim there st. match_fine free (at q w names falls) w
       (λ at_place arm i. grows _ at_place arm i) scope place shape
-      k aim arms p r ps rs s.cast (fine_at q w names falls head) (bodies_at q w names falls arms ps rs bodies) there st)
+      k aim arms p r ps rs s.cast (fine_at q w names falls head) (patterns names) (bodies_at q w names falls arms ps rs bodies) there st)
       (λ around scope aim. grows_bind (match_walk place shape arms p ps around scope aim) (node_end k false)
       (grows_bind (p.walk around scope Aims.Free) (match_under place shape arms ps around scope aim) (head.grows around scope Aims.Free) (λ i.
       meeting_grows met agree around place shape (wanted aim) (case_ways place arms ps around scope aim i)
       (cases_grow around scope place i aim arms ps rs bodies))) (grows_end k false))
-  match_kind free met agree patterns arms shape place k [] [] [] h right =
+  match_kind free met agree arms shape patterns place k [] [] [] h right =
       wrong_inward q w false false false place k (node q w place k (K.Match arms shape) []) _ (λ around scope. refl) (λ around scope aim. refl)
-  match_kind free met agree patterns arms shape place k [] [] (r ∷ rs) h right = absurd h
-  match_kind free met agree patterns arms shape place k [] (p ∷ ps) rs h right = absurd h
-  match_kind free met agree patterns arms shape place k (s ∷ ss) [] rs h right = absurd h
-  match_kind free met agree patterns arms shape place k (s ∷ ss) (p ∷ ps) [] h right = absurd h
+  match_kind free met agree arms shape patterns place k [] [] (r ∷ rs) h right = absurd h
+  match_kind free met agree arms shape patterns place k [] (p ∷ ps) rs h right = absurd h
+  match_kind free met agree arms shape patterns place k (s ∷ ss) [] rs h right = absurd h
+  match_kind free met agree arms shape patterns place k (s ∷ ss) (p ∷ ps) [] h right = absurd h

@@ -57,14 +57,14 @@ truth_sized : (types : Types) (own : List Sized) (g : Integers) (c : Con) → si
 truth_sized types own g c = ap (sized types own g) (sym (I.rolls-Truth c))
     ∙ fold-roll-Indices Sized Sized (indices_sized types own (known g)) (form_reading_sized types own (known g)) (W.Truth c)
 
-integer_sized : (types : Types) (own : List Sized) (g : Integers) (t : Num) → sized types own g (I.Integer t) ≡ S.Int
+pub integer_sized : (types : Types) (own : List Sized) (g : Integers) (t : Num) → sized types own g (I.Integer t) ≡ S.Int
 integer_sized types own g t = ap (sized types own g) (sym (I.rolls-Integer t))
     ∙ fold-roll-Indices Sized Sized (indices_sized types own (known g)) (form_reading_sized types own (known g)) (W.Integer t)
 
 bool_fixed : (types : Types) → fixed_typ types U.Bool ≡ S.Bool
 bool_fixed types = ap (fixed_typ types) (sym U.rolls-Bool) ∙ ap (λ h. h []) (fold-roll-Typ UnderConstants (form_sized types []) T.Bool)
 
-int_fixed : (types : Types) → fixed_typ types int_typ ≡ S.Int
+pub int_fixed : (types : Types) → fixed_typ types int_typ ≡ S.Int
 int_fixed types = ap (fixed_typ types) (sym (U.rolls-Range (constant least) (constant most)))
     ∙ ap (λ h. h []) (fold-roll-Typ UnderConstants (form_sized types []) (T.Range (constant least) (constant most)))
 
@@ -72,7 +72,7 @@ bool_same : sized_eq S.Bool S.Bool ≡ true
 bool_same = ap (λ s. sized_eq s S.Bool) (sym S.rolls-Bool) ∙ ap (λ h. h S.Bool) (fold-roll-Sized Like eq_step Z.Bool)
     ∙ ap (form_eq Z.Bool) (ap out-Sized (sym S.rolls-Bool) ∙ out-roll-Sized Z.Bool)
 
-int_same : sized_eq S.Int S.Int ≡ true
+pub int_same : sized_eq S.Int S.Int ≡ true
 int_same = ap (λ s. sized_eq s S.Int) (sym S.rolls-Int) ∙ ap (λ h. h S.Int) (fold-roll-Sized Like eq_step Z.Int)
     ∙ ap (form_eq Z.Int) (ap out-Sized (sym S.rolls-Int) ∙ out-roll-Sized Z.Int)
 

@@ -26,16 +26,21 @@ pub record Binds (set : Setting) (work : Work) {n : ℕ} (f : Point n) (found : 
   pub in_scope : InScope set work f found names
   pub kept : AllKept set.around.types names locals
 
--- the patterns of an arm over as many values; a pattern may say No
-abbrev pub ArmsMatch : Scene → World Item → Type 0
-ArmsMatch q w = (n : ℕ) (f : Point n) (facts : List Fact) (scope : Scope) (place : Place) (arm : Arm) (how : Matching) (is : List Indices) (xs : List Item)
+-- the patterns of this arm over as many values; a pattern may say No
+abbrev pub ArmMatches : Scene → World Item → Arm → Type 0
+ArmMatches q w arm = (n : ℕ) (f : Point n) (facts : List Fact) (scope : Scope) (place : Place) (how : Matching) (is : List Indices) (xs : List Item)
     → Surrounds q w f scope → AllAre q.set q.work f is xs
     → Beside q n f facts (arm_match place arm (here q) how is) (arm_meaning (checked q.set.around.types q.cases) w arm xs)
     (λ m g found locals. Binds q.set q.work g found locals)
 
+-- each arm
+abbrev pub AllMatch : Scene → World Item → List Arm → Type 0
+AllMatch q w [] = Unit {0}
+AllMatch q w (arm ∷ arms) = ArmMatches q w arm × AllMatch q w arms
+
 -- the one pattern of a `let`
-abbrev pub LetsMatch : Scene → World Item → Type 0
-LetsMatch q w = (n : ℕ) (f : Point n) (facts : List Fact) (scope : Scope) (place : Place) (arm : Arm) (how : Matching) (i : Indices) (x : Item)
+abbrev pub LetMatches : Scene → World Item → Arm → Type 0
+LetMatches q w arm = (n : ℕ) (f : Point n) (facts : List Fact) (scope : Scope) (place : Place) (how : Matching) (i : Indices) (x : Item)
     → Surrounds q w f scope → Is q.set q.work f i x
     → Beside q n f facts (one_match place (looks arm) (here q) how i) (arm_meaning (checked q.set.around.types q.cases) w arm (x ∷ []))
     (λ m g found locals. Binds q.set q.work g found locals)

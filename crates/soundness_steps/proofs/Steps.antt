@@ -365,7 +365,7 @@ walks_over {q} {n} {f} {facts} w gr = record {
 }
 
 -- a scope that is run: behind it what was in force before is in force, under the numbers that were noted before
-inside_well : {q : Scene} {n : ℕ} {f : Point n} {m : ℕ} {fs gs : List Fact} {B : Type 0} {Holds : Point m → B → Type 0} {e : Ended Item B}
+pub inside_well : {q : Scene} {n : ℕ} {f : Point n} {m : ℕ} {fs gs : List Fact} {B : Type 0} {Holds : Point m → B → Type 0} {e : Ended Item B}
     → (noted : Noted) → Stands q.set q.work noted f gs → EndsWell q f m fs Holds e
     → EndsWell q f m gs Holds (R.leaving (λ after. record after { opened = noted }) e)
 inside_well noted stands (well_given x now r h) = well_given x (record now { opened = noted })
