@@ -73,8 +73,9 @@ fn given(
     Ok(made)
 }
 
-/// The instance of a function that is called where these numbers are taken. It fails where memory is wanting.
-fn instance_of(
+/// The instance of a function that is called where these numbers are taken, of those that are given to its Int and Bool variables, and of these
+/// types. It fails where memory is wanting.
+pub fn instance_of(
     alloc: Global,
     inside: &Inside<'_>,
     picked: &[Picked],

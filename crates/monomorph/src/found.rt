@@ -50,7 +50,7 @@ impl Found {
 }
 
 /// The same instance once more. It fails where memory is wanting.
-fn copy_instance(alloc: Global, instance: &Instance) -> Result<Instance, AllocError>
+pub fn copy_instance(alloc: Global, instance: &Instance) -> Result<Instance, AllocError>
     ensures { IfOk result (λ copy. copy ≡ instance.now) }
 {
     let numbers = Items::from_slice(alloc, instance.numbers.as_slice())?;
@@ -73,7 +73,7 @@ pub fn copy_found(alloc: Global, found: &Found) -> Result<Found, AllocError>
 }
 
 /// Whether two instances are the same.
-fn same_instance(first: &Instance, second: &Instance) -> bool
+pub fn same_instance(first: &Instance, second: &Instance) -> bool
     ensures { result ≡ spec.instance_eq first.now second.now }
 {
     if first.function != second.function {

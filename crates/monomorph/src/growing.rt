@@ -148,7 +148,7 @@ fn put_entry(alloc: Global, found: &mut Items<Found>, function: u32) -> Result<(
 }
 
 /// The instances of a model that is read, or the first refusal. It fails where memory is wanting.
-fn listed(
+pub fn listed(
     alloc: Global,
     model: &Model<'_>,
 ) -> Result<Result<Items<Instance>, MonoError>, AllocError>

@@ -14,6 +14,9 @@ mod lasts;
 mod refusals;
 mod registers;
 
+pub use calls::instance_of;
 pub use error::MonoError;
-pub use found::Instance;
-pub use growing::instances;
+pub use found::{Instance, copy_instance, same_instance};
+pub use growing::{instances, listed};
+pub use inside::Inside;
+pub use lasts::Model;

@@ -1,0 +1,6 @@
+pub mod Within
+pub mod Combinations
+pub mod Cases
+pub mod Bodies
+pub mod Trees
+pub mod Laws

@@ -1,0 +1,78 @@
+//! Models with constant sizes.
+use monomorph::Instance;
+use sail_base::Items;
+use size_values::{Picked, Sized};
+use value_indices::Indices;
+
+/// What a node takes and gives where these numbers are the present ones. Every width is from 0 to 128, every length from 0 to 4,096.
+#[derive(Drop)]
+pub struct Case {
+    /// The numbers, of variables that are split and noted there.
+    pub picked: Items<Picked>,
+    /// The types of its operands.
+    pub takes: Items<Sized>,
+    /// The type of its value.
+    pub gives: Sized,
+}
+
+/// Where a call leads where these numbers are the present ones.
+#[derive(Drop)]
+pub struct Lead {
+    /// The numbers, of variables that are split and noted there.
+    pub picked: Items<Picked>,
+    /// The types of the arguments.
+    pub takes: Items<Sized>,
+    /// The place of the instance that is called among all instances.
+    pub instance: usize,
+}
+
+/// What is constant at a node.
+pub enum NodeSizes {
+    /// The node of this number makes a value: its cases, one for each combination that counts there. All ask for the same variables.
+    Makes(u32, Items<Case>),
+    /// The node of this number calls a function: where each combination that counts there leads.
+    Calls(u32, Items<Lead>),
+    /// The value of the node of this number gives numbers to the variables that stand alone in these indices.
+    Gives(u32, Indices),
+}
+
+impl Drop for NodeSizes {
+    fn drop(self) {
+        match self {
+            NodeSizes::Makes(_, _) => {}
+            NodeSizes::Calls(_, _) => {}
+            NodeSizes::Gives(_, _) => {}
+        }
+    }
+}
+
+/// The types of a function's parameters and of its result.
+#[derive(Drop)]
+pub struct Signature {
+    /// The types of its parameters.
+    pub parameters: Items<Sized>,
+    /// The type of its result.
+    pub result: Sized,
+}
+
+/// A function for the numbers and types of an instance. Its trees are those of the core, whose nodes go by their numbers.
+#[derive(Drop)]
+pub struct SizedInstance {
+    /// The instance.
+    pub instance: Instance,
+    /// The types of its parameters and of its result, where all their sizes are constants.
+    pub signature: Option<Signature>,
+    /// What is constant at the nodes of its measure, where it has one, and of its body.
+    pub bodies: Items<Items<NodeSizes>>,
+}
+
+/// A model with constant sizes.
+#[derive(Drop)]
+pub struct SizedCore {
+    /// The instances, in order of finding.
+    pub instances: Items<SizedInstance>,
+    /// What is constant at the nodes of each mapping, of both its directions.
+    pub mappings: Items<Items<NodeSizes>>,
+    /// What is constant at the nodes of each top-level `let` and initial value.
+    pub openings: Items<Items<NodeSizes>>,
+}
