@@ -1,0 +1,5 @@
+pub mod Fits
+pub mod Noting
+pub mod Present
+pub mod Sized
+pub mod Laws
