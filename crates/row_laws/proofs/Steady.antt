@@ -21,13 +21,13 @@ use Rattle.wide_types.specs.Widening.{wide_indices, wide_reading, wide_typ, wide
 
 -- ---- parts of closed types
 
-abbrev typ_of : Closed → Typ
+abbrev pub typ_of : Closed → Typ
 typ_of (reading t mu rs) = t
 
-abbrev assignment_of : Closed → Assignment
+abbrev pub assignment_of : Closed → Assignment
 assignment_of (reading t mu rs) = mu
 
-abbrev readings_of : Closed → Closeds
+abbrev pub readings_of : Closed → Closeds
 readings_of (reading t mu rs) = rs
 
 abbrev list_of : Closeds → List Closed
@@ -38,7 +38,7 @@ list_back : (cs : List Closed) → list_of (closeds cs) ≡ cs
 list_back [] = refl
 list_back (c ∷ cs) = ap (λ ds. c ∷ ds) (list_back cs)
 
-same_lists : (cs ds : List Closed) → closeds cs ≡ closeds ds → cs ≡ ds
+pub same_lists : (cs ds : List Closed) → closeds cs ≡ closeds ds → cs ≡ ds
 same_lists cs ds e = sym (list_back cs) ∙ ap list_of e ∙ list_back ds
 
 abbrev first_or : Closed → List Closed → Closed
@@ -49,10 +49,10 @@ abbrev behind_first : List Closed → List Closed
 behind_first [] = []
 behind_first (d ∷ ds) = ds
 
-first_same : (c d : Closed) (cs ds : List Closed) → (c ∷ cs) ≡ (d ∷ ds) → c ≡ d
+pub first_same : (c d : Closed) (cs ds : List Closed) → (c ∷ cs) ≡ (d ∷ ds) → c ≡ d
 first_same c d cs ds e = ap (first_or c) e
 
-rest_same : (c d : Closed) (cs ds : List Closed) → (c ∷ cs) ≡ (d ∷ ds) → cs ≡ ds
+pub rest_same : (c d : Closed) (cs ds : List Closed) → (c ∷ cs) ≡ (d ∷ ds) → cs ≡ ds
 rest_same c d cs ds e = ap behind_first e
 
 abbrev args_in : Typ-F Typ → List Index
@@ -62,7 +62,7 @@ args_in x = []
 args_back : (u : ℕ) (is : List Index) (ts : List Typ) → args_in (out-Typ (U.Named u is ts)) ≡ is
 args_back u is ts = ap args_in (ap out-Typ (sym (U.rolls-Named u is ts)) ∙ out-roll-Typ (T.Named u is ts))
 
-args_same : (u : ℕ) (is js : List Index) (ts us : List Typ) → U.Named u is ts ≡ U.Named u js us → is ≡ js
+pub args_same : (u : ℕ) (is js : List Index) (ts us : List Typ) → U.Named u is ts ≡ U.Named u js us → is ≡ js
 args_same u is js ts us e = sym (args_back u is ts) ∙ ap (λ t. args_in (out-Typ t)) e ∙ args_back u js us
 
 module _ (types : Types) (past : Positive) (own : List Closed) (g k : Integers) where

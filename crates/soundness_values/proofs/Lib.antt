@@ -1,0 +1,15 @@
+pub mod Made
+pub mod Rows
+pub mod RowCalls
+pub mod Seen
+pub mod Tuples
+pub mod Knowing
+pub mod Items
+pub mod Lists
+pub mod Cons
+pub mod Filled
+pub mod RowGrowth
+pub mod MadeKinds
+pub mod Mappings
+pub mod Placings
+pub mod Functions

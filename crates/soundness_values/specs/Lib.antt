@@ -1,0 +1,6 @@
+pub mod Widening
+pub mod Filling
+pub mod Likeness
+pub mod Mappings
+pub mod Calls
+pub mod Laws
