@@ -1,0 +1,9 @@
+pub mod Own
+pub mod Opens
+pub mod Natural
+pub mod Bare
+pub mod Clauses
+pub mod Functions
+pub mod Directions
+pub mod Calls
+pub mod Events

@@ -1,0 +1,5 @@
+pub mod Premises
+pub mod Laws
+pub mod Directions
+pub mod Calls
+pub mod Events
