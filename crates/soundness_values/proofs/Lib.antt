@@ -7,6 +7,7 @@ pub mod Knowing
 pub mod Items
 pub mod Lists
 pub mod Cons
+pub mod Taken
 pub mod Filled
 pub mod RowGrowth
 pub mod MadeKinds

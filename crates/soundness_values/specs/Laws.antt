@@ -16,9 +16,7 @@ use Rattle.soundness_forms.specs.EachKind.{KindFine, node}
 use Rattle.soundness_forms.specs.Forms.{AllFine, Fine, FitsSuffice, z}
 use Rattle.soundness_values.specs.Calls.{CountStands}
 use Rattle.soundness_values.specs.Filling.{FillingSuffices, LiteralFine}
-use Rattle.soundness_values.specs.Likeness.{LikenessSuffices}
 use Rattle.soundness_values.specs.Mappings.{MappingsClosed}
-use Rattle.soundness_values.specs.Widening.{WideningSuffices}
 
 -- tuples
 abbrev pub TuplesAreFine : Type 0
@@ -26,12 +24,12 @@ TuplesAreFine = FitsSuffice → (q : Scene) (w : World Item) → KindFine q w K.
 
 -- lists, vectors and `a :: b`, of items whose type leaves nothing open
 abbrev pub ListsAreFine : Type 0
-ListsAreFine = FitsSuffice → FillingSuffices → LikenessSuffices → (q : Scene) (w : World Item) (shape : Shape)
+ListsAreFine = FitsSuffice → FillingSuffices → (q : Scene) (w : World Item) (shape : Shape)
     → LiteralFine q w shape (K.List shape) × LiteralFine q w shape (K.Vector shape) × LiteralFine q w shape (K.Cons shape)
 
 -- calls of builtins, of mappings, and of functions on as many arguments as they have parameters
 abbrev pub BuiltinsAreFine : Type 0
-BuiltinsAreFine = FitsSuffice → WideningSuffices → (q : Scene) (w : World Item) (row : Row) → KindFine q w (K.Call (D.Row row))
+BuiltinsAreFine = FitsSuffice → (q : Scene) (w : World Item) (row : Row) → KindFine q w (K.Call (D.Row row))
 
 abbrev pub MappingsAreFine : Type 0
 MappingsAreFine = FitsSuffice → (q : Scene) (w : World Item) → MappingsClosed q.set → (d : ℕ) → KindFine q w (K.Call (D.Converts d))

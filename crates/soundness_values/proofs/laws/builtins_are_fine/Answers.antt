@@ -1,5 +1,6 @@
 use Rattle.soundness_values.proofs.MadeKinds.{row_kind}
+use Rattle.soundness_values.proofs.Taken.{widening}
 use Rattle.soundness_values.proofs.laws.builtins_are_fine.Goals as goal
 
 pub returns : goal.returns
-returns c = λ fit wide q w row. row_kind fit q w wide row
+returns c = λ fit q w row. row_kind fit q w widening row
