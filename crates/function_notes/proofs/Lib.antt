@@ -3,3 +3,4 @@ pub mod Stripped
 pub mod Walked
 pub mod Chained
 pub mod Bodies
+pub mod Lasts
