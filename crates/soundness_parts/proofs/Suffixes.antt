@@ -1,0 +1,79 @@
+-- Suffixes beside their runs: an index takes out a bit or an item.
+use Rattle.std.proofs.Common.{◌≡◌, ℕ, ℤ, List, [], ◌∷◌, if◌then◌else◌, sym, ap, ◌∙◌, subst}
+use Rattle.sail_base.specs.declared.place.Place.{Place}
+use Rattle.sail_types.specs.Numbers.{number}
+use Rattle.sail_types.specs.declared.numbers.Num.{Num}
+use Rattle.sail_core.specs.Meaning.{taken}
+use Rattle.sail_core.specs.Run.{Run}
+use Rattle.sail_core.specs.Values.{item_way}
+use Rattle.value_indices.specs.declared.indices.Indices.{Indices, out-Indices, roll-Indices}
+use Rattle.value_indices.specs.declared.indices.Indices.TheOpen as W
+use Rattle.value_indices.specs.declared.indices.Indices.TheOpen.{Indices-F}
+use Rattle.value_indices.specs.declared.indices.Indices.TheVariants as I
+use Rattle.value_indices.specs.declared.indices.Indices.TheViews.{roll-out-Indices}
+use Rattle.value_indices.specs.declared.indices.Reading.{Reading}
+use Rattle.value_indices.specs.declared.indices.Reading.TheVariants as R
+use Rattle.value_indices.specs.declared.notes.Fact.{Fact}
+use Rattle.call_notes.specs.Ends.{never_value, wrong_value}
+use Rattle.expression_forms.specs.Ways.{if_never_value, inside_length, into_item, taken_out}
+use Rattle.checked_meaning.specs.Items.{Item}
+use Rattle.value_laws.specs.Belonging.{Integers, standing}
+use Rattle.value_laws.specs.Known.{Point, Agree}
+use Rattle.value_laws.proofs.Opening.{item_steady, readings_of}
+use Rattle.value_laws.proofs.Steps.{same}
+use Rattle.value_laws.proofs.Values.{meant_is}
+use Rattle.way_laws.specs.Laws.{HasPart}
+use Rattle.way_laws.proofs.Items.{bit_there, item_there}
+use Rattle.way_laws.proofs.Parts.{bit_type}
+use Rattle.soundness_steps.specs.Works.{Scene}
+use Rattle.soundness_steps.specs.Steps.{Beside}
+use Rattle.soundness_steps.specs.Values.{Is, IsSteady}
+use Rattle.soundness_forms.proofs.Basics.{has_there, wrongs}
+use Rattle.soundness_forms.proofs.Parts.{not_never}
+use Rattle.soundness_parts.proofs.Taken.{taken_fine, z}
+
+module _ (q : Scene) {n : ℕ} {f : Point n} where
+  -- ---- types of parts are one and the same
+
+  pub bit_steady : IsSteady q.set q.work f (R.Widened I.Bit)
+  bit_steady g a =
+      bit_type q.set.around.types (standing q.set.past g) q.work.types
+      ∙ sym (bit_type q.set.around.types (standing q.set.past f.integers) q.work.types)
+
+  pub items_steady : (i : Indices) (x : Item) (m : Num) (r : Reading) → roll-Indices (W.Vector m r) ≡ i → Is q.set q.work f i x → IsSteady q.set q.work f r
+  items_steady i x m r is h g a =
+      item_steady q.set.around.types q.set.past q.work.types g f.integers r (
+      ap (λ k. readings_of q.set.around.types q.set.past q.work.types k.wide) (
+      sym (meant_is q.set.around.types (standing q.set.past g) q.work.types i (W.Vector m r) is)
+      ∙ (h.has.steady g a
+      ∙ (sym (h.has.steady f.integers (same f))
+      ∙ meant_is q.set.around.types (standing q.set.past f.integers) q.work.types i (W.Vector m r) is))))
+
+module _ {q : Scene} {n : ℕ} {f : Point n} {facts : List Fact} (place : Place) (k : ℕ) (i : Indices) (x : Item) (h : Is q.set q.work f i x) where
+  -- of a value that has no such part what is false is owed
+  pub unreached : (c : Run Item Item) → Beside q n f facts (if_never_value place i) c (λ m g j y. Is q.set q.work g j y)
+  unreached c =
+      subst (λ b. Beside q n f facts (if b then never_value else wrong_value place) c (λ m g j y. Is q.set q.work g j y))
+      (sym (not_never q.set q.work i x.val h.has)) (wrongs place c)
+
+  -- ---- an index
+
+  module _ (t : Num) (y : Item) (index : ℤ) (is_index : Is q.set q.work f (I.Integer t) y)
+      (counts : (g : Integers) → Agree f g → number (standing q.set.past g) t ≡ index) where
+    item_by : (w : Indices-F Indices Reading) → roll-Indices w ≡ i
+        → Beside q n f facts (taken_out place k i (into_item t w)) (taken (z q) k (item_way index) x (y ∷ [])) (λ m g j u. Is q.set q.work g j u)
+    item_by (W.Bits m) is =
+        taken_fine place k i x (record { conditions = inside_length t m; numbers = t ∷ []; typ = R.Widened I.Bit }) (item_way index) (y ∷ []) h
+        (is_index.typ, tt) (λ g a met.
+        subst (λ c. HasPart q.set.around.types (standing q.set.past g) q.work.types i x.val (R.Widened I.Bit) (item_way c)) (counts g a)
+        (bit_there q.set.around.types (standing q.set.past g) q.work.types i x.val t m is (has_there h.has g a) met)) (bit_steady q)
+    item_by (W.Vector m r) is =
+        taken_fine place k i x (record { conditions = inside_length t m; numbers = t ∷ []; typ = r }) (item_way index) (y ∷ []) h
+        (is_index.typ, tt) (λ g a met.
+        subst (λ c. HasPart q.set.around.types (standing q.set.past g) q.work.types i x.val r (item_way c)) (counts g a)
+        (item_there q.set.around.types (standing q.set.past g) q.work.types i x.val t m r is (has_there h.has g a) met)) (items_steady q i x m r is h)
+    item_by w is = unreached (taken (z q) k (item_way index) x (y ∷ []))
+
+    pub item_fine : Beside q n f facts (taken_out place k i (into_item t (out-Indices i))) (taken (z q) k (item_way index) x (y ∷ []))
+        (λ m g j u. Is q.set q.work g j u)
+    item_fine = item_by (out-Indices i) (roll-out-Indices i)

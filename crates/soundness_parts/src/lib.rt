@@ -1,0 +1,6 @@
+//! Parts of values and their walks: laws alone, each function's contract is one, and it does nothing.
+#![tactic(auto)]
+
+mod laws;
+
+pub use laws::parts_are_fine;
