@@ -1,27 +1,61 @@
--- Each expression is fine where each kind of node is.
-use Rattle.std.proofs.Common.{◌≡◌, true, List, [], ◌∷◌, map, sym, ap, ◌∙◌, subst}
+-- An expression is fine where each of its nodes is.
+use Rattle.std.proofs.Common.{◌≡◌, Bool, true, false, List, [], ◌∷◌, ◌++◌, map, refl, sym, ap, ◌∙◌, subst}
 use Rattle.sail_types.specs.declared.table.Types.{Types}
 use Rattle.sail_core.specs.Making.{World}
 use Rattle.sail_core.specs.Meaning.{kind_meaning, meaning}
 use Rattle.sail_core.specs.Run.{Run}
-use Rattle.sail_core.specs.declared.tree.Core.{Core, Core-F, fold-roll-Core, ind-Core, map-Core, roll-Core}
-use Rattle.sail_core.specs.declared.tree.Kind.{Kind}
+use Rattle.sail_core.specs.declared.tree.Core.{Core, Core-F, fold-roll-Core, ind-Core, map-Core, para-roll-Core, roll-Core}
 use Rattle.expression_steps.specs.Expressions.{core_part, part}
 use Rattle.expression_steps.specs.Parts.{Part}
 use Rattle.checked_meaning.specs.Items.{Item}
 use Rattle.soundness_steps.specs.Works.{Scene}
 use Rattle.soundness_forms.specs.Forms.{Fine, z}
 use Rattle.soundness_forms.specs.Standing.{Standing, node_standing, standing}
-use Rattle.soundness_forms.specs.EachKind.{KindFine, PartsFine}
-use Rattle.sail_soundness.specs.Whole.{ExpressionsAreFine}
+use Rattle.soundness_forms.specs.EachKind.{PartsFine}
+use Rattle.sail_soundness.specs.Whole.{EachFollows, NodeFine, OthersFine, is_proved, joined, nodes, nodes_over}
+use Rattle.sail_soundness.proofs.Nodes.{proved}
+
+-- ---- nodes
+
+firsts : (cs : List Core) → map (λ (p : Core × List (Core-F Core)). p.0) (map (λ c. (c, nodes c)) cs) ≡ cs
+firsts [] = refl
+firsts (c ∷ cs) = ap (λ ds. c ∷ ds) (firsts cs)
+
+nexts : (cs : List Core) → joined (map (λ (p : Core × List (Core-F Core)). p.1) (map (λ c. (c, nodes c)) cs)) ≡ joined (map nodes cs)
+nexts [] = refl
+nexts (c ∷ cs) = ap (λ ns. nodes c ++ ns) (nexts cs)
+
+nodes_are : (d : Core-F Core) → nodes (roll-Core d) ≡ d ∷ joined (map nodes d.parts)
+nodes_are d =
+    para-roll-Core (List (Core-F Core)) nodes_over d
+    ∙ ap (λ ps. record { place = d.place; number = d.number; kind = d.kind; parts = ps }
+    ∷ joined (map (λ (p : Core × List (Core-F Core)). p.1) (map (λ c. (c, nodes c)) d.parts))) (firsts d.parts)
+    ∙ ap (λ ns. d ∷ ns) (nexts d.parts)
 
 module _ (q : Scene) (w : World Item) where
   abbrev types : Types
   types = q.set.around.types
 
-  -- an expression with its part, its run and how it stands
+  front : (ns ms : List (Core-F Core)) → OthersFine q w (ns ++ ms) → OthersFine q w ns
+  front [] ms h = tt
+  front (c ∷ ns) ms h = (h.0, front ns ms h.1)
+
+  behind : (ns ms : List (Core-F Core)) → OthersFine q w (ns ++ ms) → OthersFine q w ms
+  behind [] ms h = h
+  behind (c ∷ ns) ms h = behind ns ms h.1
+
+  each : (d : Core-F Core) → (is_proved d.kind ≡ false → NodeFine q w d) → NodeFine q w d
+  each d left = by_kind (is_proved d.kind) refl
+    where
+      by_kind : (b : Bool) → is_proved d.kind ≡ b → NodeFine q w d
+      by_kind true e = proved q w d.kind e d.place d.number (map (standing types) d.parts) (map part d.parts) (map (meaning (z q w) w) d.parts)
+      by_kind false e = left e
+
+  -- ---- an expression with its part, its run and how it stands
+
   abbrev Such : Core → Type 0
-  Such c = (standing types c).right ≡ true → Fine q w (standing types c).cast (standing types c).guard (part c) (meaning (z q w) w c)
+  Such c = OthersFine q w (nodes c) → (standing types c).right ≡ true
+      → Fine q w (standing types c).cast (standing types c).guard (part c) (meaning (z q w) w c)
 
   abbrev SuchCore : Type 0
   SuchCore = (c : Core) × Such c
@@ -29,24 +63,28 @@ module _ (q : Scene) (w : World Item) where
   abbrev bare : List SuchCore → List Core
   bare ys = map (λ y. y.0) ys
 
-  parts_fine : (ys : List SuchCore) → PartsFine q w (map (standing types) (bare ys)) (map part (bare ys)) (map (meaning (z q w) w) (bare ys))
-  parts_fine [] = tt
-  parts_fine (y ∷ ys) = (y.1, parts_fine ys)
+  parts_fine : (ys : List SuchCore) → OthersFine q w (joined (map nodes (bare ys)))
+      → PartsFine q w (map (standing types) (bare ys)) (map part (bare ys)) (map (meaning (z q w) w) (bare ys))
+  parts_fine [] h = tt
+  parts_fine (y ∷ ys) h =
+      (y.1 (front (nodes y.0) (joined (map nodes (bare ys))) h), parts_fine ys (behind (nodes y.0) (joined (map nodes (bare ys))) h))
 
-  node_fine : ((kind : Kind) → KindFine q w kind) → (y : Core-F SuchCore) → Such (roll-Core (map-Core SuchCore Core (λ p. p.0) y))
-  node_fine kinds y =
+  node_fine : (y : Core-F SuchCore) → Such (roll-Core (map-Core SuchCore Core (λ p. p.0) y))
+  node_fine y others right =
       let d : Core-F Core = map-Core SuchCore Core (λ p. p.0) y in
       let s = fold-roll-Core Standing (node_standing types) d in
       let p = fold-roll-Core Part core_part d in
       let r = fold-roll-Core (Run Item Item) (λ c. kind_meaning (z q w) w c.place c.number c.kind c.parts) d in
-      λ right.
+      let here = subst (OthersFine q w) (nodes_are d) others in
       subst (λ m. Fine q w (standing types (roll-Core d)).cast (standing types (roll-Core d)).guard (part (roll-Core d)) m) (sym r)
       (subst (λ a. Fine q w (standing types (roll-Core d)).cast (standing types (roll-Core d)).guard a
       (kind_meaning (z q w) w d.place d.number d.kind (map (meaning (z q w) w) d.parts))) (sym p)
-      (subst (λ t. Fine q w t.cast t.guard (core_part (map-Core Core Part part d)) (kind_meaning (z q w) w d.place d.number d.kind (map (meaning (z q w) w) d.parts)))
-      (sym s)
-      (kinds y.kind y.place y.number (map (standing types) (bare y.parts)) (map part (bare y.parts)) (map (meaning (z q w) w) (bare y.parts)) (parts_fine y.parts)
-      (sym (ap (λ t. t.right) s) ∙ right))))
+      (subst (λ t. Fine q w t.cast t.guard (core_part (map-Core Core Part part d))
+      (kind_meaning (z q w) w d.place d.number d.kind (map (meaning (z q w) w) d.parts))) (sym s)
+      (each d here.0 (parts_fine y.parts here.1) (sym (ap (λ t. t.right) s) ∙ right))))
 
-  pub whole : ((kind : Kind) → KindFine q w kind) → ExpressionsAreFine q w
-  whole kinds = ind-Core Such (λ c y e. subst (λ d. Such (roll-Core d)) e (node_fine kinds y))
+  fine : (c : Core) → Such c
+  fine = ind-Core Such (λ c y e. subst (λ d. Such (roll-Core d)) e (node_fine y))
+
+pub whole : EachFollows
+whole q w c right others = fine q w c others right

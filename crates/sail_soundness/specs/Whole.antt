@@ -1,27 +1,35 @@
--- Each expression of a core ends well beside its walk, where each kind of node does.
-use Rattle.std.specs.Prelude.{◌≡◌, Bool, true, false}
+-- Each expression of a core ends well beside its walk, where each of its nodes does.
+use Rattle.std.specs.Prelude.{◌≡◌, Bool, true, false, List, [], ◌∷◌, ◌++◌, map}
 use Rattle.sail_core.specs.Making.{World}
-use Rattle.sail_core.specs.Meaning.{meaning}
+use Rattle.sail_core.specs.Meaning.{kind_meaning, meaning}
 use Rattle.sail_core.specs.declared.tree.Callee.TheVariants as C
-use Rattle.sail_core.specs.declared.tree.Core.{Core}
+use Rattle.sail_core.specs.declared.tree.Core.{Core, Core-F, para-Core}
 use Rattle.sail_core.specs.declared.tree.Kind.{Kind}
 use Rattle.sail_core.specs.declared.tree.Kind.TheVariants as K
 use Rattle.expression_steps.specs.Expressions.{part}
 use Rattle.checked_meaning.specs.Items.{Item}
 use Rattle.soundness_steps.specs.Works.{Scene}
-use Rattle.soundness_forms.specs.EachKind.{KindFine}
-use Rattle.soundness_forms.specs.Forms.{Fine, FitsSuffice, z}
-use Rattle.soundness_forms.specs.Standing.{standing}
+use Rattle.soundness_forms.specs.EachKind.{PartsFine, node}
+use Rattle.soundness_forms.specs.Forms.{Fine, z}
+use Rattle.soundness_forms.specs.Standing.{is_cast, is_guard, kind_right, standing}
 
--- kinds of nodes that are fine: literals and names in scope, casts, guards and what leaves; and those that stand in no resolved core
+-- kinds of nodes that are fine: literals, names in scope and of top-level lets, calls of builtins, `&` and `|`, casts, tuples, `var`, guards,
+-- `foreach` and what leaves; and those that stand in no expression of a resolved core
 abbrev pub is_proved : Kind → Bool
 is_proved (K.Constant literal) = true
 is_proved (K.Local name) = true
 is_proved (K.Variable name) = true
-is_proved (K.Cast written) = true
+is_proved (K.TopLevel i) = true
+is_proved (K.Call (C.Row row)) = true
 is_proved (K.Call (C.Applies d)) = true
+is_proved K.And = true
+is_proved K.Or = true
+is_proved (K.Cast written) = true
+is_proved K.Tuple = true
+is_proved (K.Var name written) = true
 is_proved (K.Clauses arms) = true
 is_proved K.When = true
+is_proved (K.Foreach name way) = true
 is_proved K.Return = true
 is_proved K.Throw = true
 is_proved K.Exit = true
@@ -29,11 +37,32 @@ is_proved (K.Assert text) = true
 is_proved (K.Optional t) = true
 is_proved kind = false
 
--- expressions in which casts, guards and literals stand as the resolver puts them
-abbrev pub ExpressionsAreFine : Scene → World Item → Type 0
-ExpressionsAreFine q w = (c : Core) → (standing q.set.around.types c).right ≡ true
-    → Fine q w (standing q.set.around.types c).cast (standing q.set.around.types c).guard (part c) (meaning (z q w) w c)
+-- ---- nodes of an expression, each with its parts
 
--- they are fine, where the other kinds are
+abbrev pub joined : List (List (Core-F Core)) → List (Core-F Core)
+joined [] = []
+joined (ns ∷ more) = ns ++ joined more
+
+abbrev pub nodes_over : Core-F (Core × List (Core-F Core)) → List (Core-F Core)
+nodes_over c = record { place = c.place; number = c.number; kind = c.kind; parts = map (λ p. p.0) c.parts } ∷ joined (map (λ p. p.1) c.parts)
+
+abbrev pub nodes : Core → List (Core-F Core)
+nodes = para-Core (List (Core-F Core)) nodes_over
+
+module _ (q : Scene) (w : World Item) where
+  -- a node is fine where its own parts are, as they stand
+  abbrev pub NodeFine : Core-F Core → Type 0
+  NodeFine c = PartsFine q w (map (standing q.set.around.types) c.parts) (map part c.parts) (map (meaning (z q w) w) c.parts)
+      → kind_right q.set.around.types c.kind (map (standing q.set.around.types) c.parts) ≡ true
+      → Fine q w (is_cast c.kind) (is_guard c.kind) (node q w c.place c.number c.kind (map part c.parts))
+      (kind_meaning (z q w) w c.place c.number c.kind (map (meaning (z q w) w) c.parts))
+
+  -- nodes of the other kinds are
+  abbrev pub OthersFine : List (Core-F Core) → Type 0
+  OthersFine [] = Unit {0}
+  OthersFine (c ∷ cs) = (is_proved c.kind ≡ false → NodeFine c) × OthersFine cs
+
+-- an expression in which casts, guards and literals stand as the resolver puts them is fine, where those of its nodes are that aren't of a proved kind
 abbrev pub EachFollows : Type 0
-EachFollows = FitsSuffice → (q : Scene) (w : World Item) → ((kind : Kind) → is_proved kind ≡ false → KindFine q w kind) → ExpressionsAreFine q w
+EachFollows = (q : Scene) (w : World Item) (c : Core) → (standing q.set.around.types c).right ≡ true → OthersFine q w (nodes c)
+    → Fine q w (standing q.set.around.types c).cast (standing q.set.around.types c).guard (part c) (meaning (z q w) w c)

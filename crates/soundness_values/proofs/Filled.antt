@@ -254,7 +254,7 @@ module _ (types : Types) where
     value_grows = ind-Indices ValueGrows TypeGrows (λ e y is. subst (λ d. ValueGrows (roll-Indices d)) is (value_step y))
         (λ e y is. subst (λ d. TypeGrows (roll-Reading d)) is (type_step y))
 
-    filled_value : (s : Shape) (i : Indices) → Grows (filled types m s i)
+    pub filled_value : (s : Shape) (i : Indices) → Grows (filled types m s i)
     unfolding ValueGrows
     filled_value s i = grows_bind (kept_value types m i false s) _ (value_grows i false s) (λ j. grows_give (R.Widened j))
 
