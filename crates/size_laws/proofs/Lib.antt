@@ -1,0 +1,5 @@
+pub mod Forms
+pub mod Arguments
+pub mod Wide
+pub mod Opening
+pub mod Parts

@@ -1,0 +1,14 @@
+//! The type of a value, all of whose sizes are constants, where the value is opened and where a part of it is taken.
+ghost use Rattle.size_laws.specs.Laws.{OpeningKeepsSizes, PartsKeepSizes};
+
+/// A value of a type, each of whose sizes can be said under what its variables stand for, and is one integer both ways, is opened to indices
+/// of the same type under constants.
+pub fn opening_keeps_sizes()
+    ensures { OpeningKeepsSizes }
+{}
+
+/// The type under constants of a part is that of its indices, or of its type: of a tuple's component, of an item, and of a union's payload whose
+/// sizes hang on what is noted of the union's arguments.
+pub fn parts_keep_sizes()
+    ensures { PartsKeepSizes }
+{}
