@@ -270,6 +270,26 @@ val f : forall 'n, 0 <= 'n & 'n <= 3. (int('n), bits('n)) -> range(0, 7)
 function f(n, x) = unsigned(x)
 # true
 # 1 M20 1:2:20 #1 = 8, 2 ^ ('n) = 9
+% check M // where ways meet, two places that had one number inside a type are two fresh ones
+struct s('n) = { x : int('n) }
+val k : unit -> {'n, 0 <= 'n & 'n <= 3. int('n)}
+function k() = 2
+val two : forall 'n. int('n) -> list((s('n), s('n)))
+function two(n) = [| (struct s { x = n }, struct s { x = n }) |]
+val g : bool -> bit
+function g(c) = { let l = if c then two(k()) else [| (struct s { x = 0 }, struct s { x = 1 }) |]; match l { (a, b) :: _ => 0b1[b.x - a.x], _ => bitzero } }
+# true
+# 1 M20 1:7:132 #2 = -85070591730234615865843651857942052865, #1 = 0
+% check M // so nothing is owed of them there
+struct s('n) = { x : int('n) }
+val k : unit -> {'n, 0 <= 'n & 'n <= 3. int('n)}
+function k() = 2
+val two : forall 'n. int('n) -> list((s('n), s('n)))
+function two(n) = [| (struct s { x = n }, struct s { x = n }) |]
+val g : bool -> bool
+function g(c) = { let l = if c then two(k()) else [| (struct s { x = 0 }, struct s { x = 1 }) |]; match l { (a, b) :: _ => b.x <= a.x, _ => false } }
+# true
+# 0 accepted 5 functions 8 obligations
 "#;
 
 /// Variables as they are told, and numbers at their limits.
