@@ -148,7 +148,7 @@ module _ (past : Positive) (h g : Integers) where
   truths_same (p ∷ ps) k a zero = one_truth p.kind k (a k (omega arith) (omega arith))
   truths_same (p ∷ ps) k a (suc i) = truths_same ps (suc k) (same_behind k (length ps) h g a) i
 
-  own_assigned : (ps : List Parameter) → SameFrom 0 (length ps) h g
+  pub own_assigned : (ps : List Parameter) → SameFrom 0 (length ps) h g
       → assigned (standing past g) (own_variables 0 ps) ≡ assigned (standing past h) (own_variables 0 ps)
   own_assigned ps a = λ j. record {
     int = λ i. numbers_same ps 0 a i j;

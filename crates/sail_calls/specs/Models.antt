@@ -1,0 +1,74 @@
+-- Calls and events of a model, where the nodes of its bodies are fine and patterns match beside their walks.
+use Rattle.std.specs.Prelude.{◌≡◌, ◌<◌, ℕ, true, List, [], length, slice_get, Some}
+use Rattle.sail_types.specs.declared.values.Value.{Value}
+use Rattle.sail_core.specs.Making.{World}
+use Rattle.sail_core.specs.Numbers.{Givens}
+use Rattle.sail_core.specs.declared.model.Direction.{Direction}
+use Rattle.sail_core.specs.declared.model.Function.{Function}
+use Rattle.sail_core.specs.declared.patterns.Arm.{Arm}
+use Rattle.sail_core.specs.declared.tree.Core.{Core, out-Core}
+use Rattle.sail_core.specs.declared.tree.Kind.TheVariants as K
+use Rattle.size_values.specs.declared.sized.Sized.{Sized}
+use Rattle.checked_meaning.specs.Checked.{Checks}
+use Rattle.checked_meaning.specs.Items.{Item}
+use Rattle.value_laws.specs.Belonging.{Integers}
+use Rattle.soundness_steps.specs.Works.{Scene, Setting, Work, nobody}
+use Rattle.soundness_steps.specs.Noted.{OpensAs}
+use Rattle.soundness_steps.specs.Covers.{AreMet}
+use Rattle.soundness_steps.specs.Calls.{IsOf}
+use Rattle.soundness_forms.specs.Patterns.{AllMatch}
+use Rattle.soundness_forms.specs.Worlds.{LetsAre}
+use Rattle.soundness_calls.specs.Premises.{Covered}
+use Rattle.soundness_calls.specs.Laws.{scene_of}
+use Rattle.soundness_calls.specs.Directions.{Side, bare_type, bodies_of, is_ahead, is_back, lower, mapping_of, scene_across}
+use Rattle.soundness_calls.specs.Calls.{CoveredModel}
+use Rattle.soundness_arms.specs.Bodies.{BodiesStand, Clauses}
+use Rattle.soundness_arms.specs.Laws.{clause_scene}
+
+-- ---- a function under an instance
+
+pub record FunctionStands (set : Setting) (k : Checks) (x : Work) (f : Function) : Type 0 where
+  pub covered : Covered set k x f
+  pub body : (h : Integers) (nu : Givens) (w : World Item)
+      → Clauses (scene_of set x f h (k.function x.function x.instance.place nu)) w f.is_declared f.body
+  pub measure : (h : Integers) (nu : Givens) (w : World Item) (core : Core) → f.measure ≡ Some core
+      → Clauses (scene_of set x f h (k.function x.function x.instance.place nu)) w true core
+
+-- ---- a direction: both directions of its mapping, and the patterns of its own
+
+pub record Ways (q : Scene) (m n : Direction) : Type 0 where
+  pub arms : List Arm
+  pub backs : List Arm
+  pub ahead : (out-Core m.body).kind ≡ K.Clauses arms
+  pub back : (out-Core n.body).kind ≡ K.Clauses backs
+  pub ahead_bodies : (w : World Item) → BodiesStand q w true (bodies_of m)
+  pub back_bodies : (w : World Item) → BodiesStand q w true (bodies_of n)
+
+abbrev pub WaysOf : Scene → Side → Direction → Type 0
+WaysOf q (is_ahead n) m = Ways q m n
+WaysOf q (is_back n) m = Ways q n m
+
+abbrev pub own_arms : (q : Scene) (side : Side) (m : Direction) → WaysOf q side m → List Arm
+own_arms q (is_ahead n) m ways = ways.arms
+own_arms q (is_back n) m ways = ways.backs
+
+pub record DirectionStands (set : Setting) (rank : ℕ → ℕ) (k : Checks) (d : ℕ) (m : Direction) : Type 0 where
+  pub side : Side
+  pub met : AreMet set nobody (lower rank (rank d)) (k.direction d) (mapping_of set side m [] 0).notes
+  pub takes : (v : Value) → IsOf set m.parameter v → (s : Sized) × (k.takes d v ≡ Some s)
+      × ((g : Integers) → OpensAs set.around.types set.past nobody g (bare_type m.parameter) v s)
+  pub ways : WaysOf (scene_across set k rank d) side m
+  pub matches : (w : World Item) → AllMatch (clause_scene (scene_across set k rank d) w) w (own_arms (scene_across set k rank d) side m ways)
+
+-- ---- a model
+
+pub record ModelStands (set : Setting) (k : Checks) (rank : ℕ → ℕ) (lets : List Value) : Type 0 where
+  pub lets_are : (x : Work) → LetsAre set x set.around.lets lets
+  pub functions : (x : Work) (f : Function) → set.covered x ≡ true → slice_get set.around.functions x.function ≡ Some f → FunctionStands set k x f
+  pub directions : (d : ℕ) (m : Direction) → slice_get set.around.directions d ≡ Some m → DirectionStands set rank k d m
+  pub ranks : (d : ℕ) (m : Direction) → slice_get set.around.directions d ≡ Some m → rank d < length set.around.directions
+
+-- all that calls ask of it
+abbrev pub CallsFollow : Type 0
+CallsFollow = (set : Setting) (k : Checks) (rank : ℕ → ℕ) (lets : List Value) → ModelStands set k rank lets
+    → CoveredModel set k rank lets

@@ -1,0 +1,35 @@
+-- Clauses whose bodies stand right, from nodes that are fine.
+use Rattle.std.specs.Prelude.{◌≡◌, Bool, true, List, [], ◌∷◌, map}
+use Rattle.sail_core.specs.Making.{World}
+use Rattle.sail_core.specs.declared.model.Function.{Function}
+use Rattle.sail_core.specs.declared.patterns.Arm.{Arm}
+use Rattle.sail_core.specs.declared.tree.Core.{Core, out-Core}
+use Rattle.sail_core.specs.declared.tree.Kind.TheVariants as K
+use Rattle.value_indices.specs.declared.indices.Reading.{Reading}
+use Rattle.function_notes.specs.Functions.{arm_of, body_of}
+use Rattle.checked_meaning.specs.Items.{Item}
+use Rattle.soundness_steps.specs.Works.{Scene}
+use Rattle.soundness_forms.specs.Patterns.{AllMatch}
+use Rattle.soundness_forms.specs.Standing.{standing}
+use Rattle.soundness_calls.specs.Premises.{CoreHolds}
+use Rattle.sail_soundness.specs.Whole.{OthersFine, nodes}
+use Rattle.soundness_arms.specs.Laws.{clause_scene}
+
+-- each comes to the result and stands as the resolver puts it, and its nodes that aren't of a proved kind are fine
+abbrev pub BodiesStand : Scene → World Item → Bool → List Core → Type 0
+BodiesStand q w declared [] = Unit {0}
+BodiesStand q w declared (c ∷ cs) =
+    ((standing q.set.around.types (body_of declared c)).cast ≡ true) × ((standing q.set.around.types (body_of declared c)).right ≡ true)
+    × OthersFine q w (nodes (body_of declared c)) × BodiesStand q w declared cs
+
+pub record Clauses (q : Scene) (w : World Item) (declared : Bool) (core : Core) : Type 0 where
+  pub first : Arm
+  pub others : List Arm
+  pub kind : (out-Core core).kind ≡ K.Clauses (first ∷ others)
+  pub bodies : BodiesStand q w declared (out-Core core).parts
+  pub matches : AllMatch (clause_scene q w) w (map (arm_of declared) (first ∷ others))
+
+-- so what calls take of a function's clauses holds
+abbrev pub ClausesFollow : Type 0
+ClausesFollow = (q : Scene) (w : World Item) (f : Function) (r : Reading) (declared : Bool) (core : Core)
+    → Clauses q w declared core → CoreHolds (clause_scene q w) w f r declared core
