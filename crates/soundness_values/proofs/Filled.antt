@@ -114,7 +114,7 @@ indices_grow m is = grows_each (kept_index m) (index_grows m) is
 
 -- ---- the widest type of a shape
 
-parameter_grows : (p : Parameter) (kind : Kind) → Grows (fresh_index p kind)
+pub parameter_grows : (p : Parameter) (kind : Kind) → Grows (fresh_index p kind)
 parameter_grows p K.Int = grows_bind fresh (λ v. give (N.Number (variable v) ∷ [])) grows_fresh (λ v. grows_give (N.Number (variable v) ∷ []))
 parameter_grows p K.Bool = grows_bind fresh (λ v. give (N.Truth (C.Holds v) ∷ [])) grows_fresh (λ v. grows_give (N.Truth (C.Holds v) ∷ []))
 parameter_grows p K.Type = grows_give []

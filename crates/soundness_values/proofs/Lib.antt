@@ -14,3 +14,14 @@ pub mod MadeKinds
 pub mod Mappings
 pub mod Placings
 pub mod Functions
+pub mod Narrow
+pub mod Unions
+pub mod Structs
+pub mod Numbered
+pub mod Numberless
+pub mod Named
+pub mod NamedWalks
+pub mod Dues
+pub mod StructNodes
+pub mod ConstructorNodes
+pub mod NamedKinds

@@ -8,6 +8,7 @@ use Rattle.sail_types.specs.Before.{beyond_of}
 use Rattle.sail_types.specs.Belongs.{assigned, belongs, no_readings, reading}
 use Rattle.sail_types.specs.Sums.{read}
 use Rattle.sail_types.specs.Zero.{deepest}
+use Rattle.sail_types.specs.declared.numbers.Index.{Index}
 use Rattle.sail_types.specs.declared.numbers.Num.{Num}
 use Rattle.sail_types.specs.declared.types.Typ.{Typ}
 use Rattle.sail_types.specs.declared.values.Value.{Value}
@@ -94,6 +95,13 @@ module _ (set : Setting) (work : Work) where
   beyonds_are g None = refl
   beyonds_are g (Some t) = refl
 
+  pub beyonds_same : (g h : Integers) (is js : List Index) → SameBelow 0 (assigned (standing set.past g) is) (assigned (standing set.past h) js)
+  beyonds_same g h is js = record {
+    ints = λ i l. absurd (omega (arith, l));
+    bools = λ i l. absurd (omega (arith, l));
+    beyonds = λ t u. beyonds_are g (read is t) ∙ sym (beyonds_are h (read js u));
+  }
+
   nothing_below : (g : Integers) → SameBelow 0 (assigned (standing set.past g) []) (nothing_stands set.past)
   nothing_below g = record {
     ints = λ i l. absurd (omega (arith, l));
@@ -112,7 +120,7 @@ module _ (set : Setting) (work : Work) where
 
 -- ---- what is wanted of an argument
 
-no_hole_form : (t : Typ) → is_hole_form (out-Reading (Q.Of t [] [])) ≡ false
+pub no_hole_form : (t : Typ) → is_hole_form (out-Reading (Q.Of t [] [])) ≡ false
 no_hole_form t = ap is_hole_form (ap out-Reading (sym (Q.rolls-Of t [] [])) ∙ out-roll-Reading (W.Of t [] []))
 
 pub given_aim : (t : Typ) → is_closed t ≡ true → argument_aim t ≡ Aims.Given (Q.Of t [] [])

@@ -17,8 +17,10 @@ use Rattle.value_indices.specs.declared.indices.Reading.TheVariants as R
 use Rattle.value_indices.specs.declared.indices.Indices.TheViews.{roll-out-Indices, roll-out-Reading}
 use Rattle.value_laws.specs.Belonging.{Integers, Meant, standing, closeds, meant, closed, closed_form, types_or_own, wide_of, wides}
 use Rattle.value_laws.specs.Known.{Point, Agree}
+use Rattle.value_laws.proofs.Arguments.{assigned_there}
 use Rattle.value_laws.proofs.Values.{meanings, meant_is, closing, closed_is}
 use Rattle.call_arguments.specs.Aims.{Seen, a_type, a_widened, a_tuple, nothing, aimed, each_under, each_widened, is_hole, item_type, of_wanted, part_types}
+use Rattle.call_arguments.specs.Aims.{type_arguments}
 use Rattle.call_arguments.specs.Aims.{seen, seen_form, seen_typ, seen_variable, seen_within, wanted}
 use Rattle.call_arguments.specs.Holes.{has_hole, type_holed, value_has_hole, value_holed}
 use Rattle.call_arguments.specs.declared.aims.Aim.{Aim}
@@ -288,3 +290,44 @@ module _ (set : Setting) (work : Work) {n : ℕ} (f : Point n) where
   pub item_steady : (aim : Aim) → AimSteady set work f aim
       → (of_wanted R.Hole item_type (wanted aim) ≡ R.Hole) ⊎ IsWanted set work f (of_wanted R.Hole item_type (wanted aim))
   item_steady aim h = item_of (wanted aim) (type_wanted aim h)
+
+  -- ---- the Type arguments of a named type
+
+  abbrev pub KnownWanted : Option (List Reading) → Type 0
+  KnownWanted None = Unit {0}
+  KnownWanted (Some rs) = AllWanted rs
+
+  typ_known : (y : Typ-F Typ) (is : List Index) (rs : List Reading) → Args is rs → KnownWanted (type_arguments (a_type y is rs))
+  typ_known (T.Named u arguments ts) is rs h = each_under_wanted is rs h ts
+  typ_known y is rs h = tt
+
+  widened_known : (x : Indices-F Indices Reading) → Widens x → KnownWanted (type_arguments (a_widened x))
+  widened_known (W.Named u is rs) h =
+      all_wanted rs (λ g a. same_lists (map (closed_at g) rs) (map (closed_at f.integers) rs) (ap readings_of (h.0 g a))) h.1
+  widened_known x h = tt
+
+  seen_known : (s : Seen) → SeenIs s → KnownWanted (type_arguments s)
+  seen_known (a_type y is rs) h = typ_known y is rs h
+  seen_known (a_widened x) h = widened_known x h
+  seen_known (a_tuple rs) h = tt
+  seen_known nothing h = tt
+
+  known_of : (o : Option Reading) → IsType o → KnownWanted (of_wanted None type_arguments o)
+  known_of None h = tt
+  known_of (Some r) h = seen_known (seen r) (seen_is r h)
+
+  pub known_steady : (aim : Aim) → AimSteady set work f aim → KnownWanted (of_wanted None type_arguments (wanted aim))
+  known_steady aim h = known_of (wanted aim) (type_wanted aim h)
+
+  -- types under them
+  pub known_stay : (rs : List Reading) → AllWanted rs → (g : Integers) → Agree f g → map (closed_at g) rs ≡ map (closed_at f.integers) rs
+  known_stay [] h g a = refl
+  known_stay (r ∷ rs) h g a = λ j. h.0.0 g a j ∷ known_stay rs h.1 g a j
+
+  none_holed : (rs : List Reading) → AllWanted rs → list_any (λ b. b) (map has_hole rs) ≡ false
+  none_holed [] h = refl
+  none_holed (r ∷ rs) h = λ j. h.0.1 j || none_holed rs h.1 j
+
+  pub known_part : (rs : List Reading) → AllWanted rs → (t : Typ) → IsWanted set work f (R.Of t [] rs)
+  known_part rs h t =
+      under_wanted [] rs ((λ g a. sym (assigned_there set.past g []) ∙ assigned_there set.past f.integers []), known_stay rs h, none_holed rs h) t

@@ -1,5 +1,5 @@
 -- What is taken of widened types, and of types of items, is so.
-use Rattle.std.proofs.Common.{◌≡◌, ℕ, List, ap, ◌∙◌, sym}
+use Rattle.std.proofs.Common.{ℕ, List, ap, ◌∙◌}
 use Rattle.sail_types.specs.Belongs.{belongs}
 use Rattle.sail_types.specs.Zero.{deepest}
 use Rattle.value_indices.specs.Steps.{Walk}
@@ -25,7 +25,7 @@ widening types past own g i v h =
     ap (belongs types v) (widened_is types past own g (wide_value i)) ∙ value_widens types past own g i v (is_wide types past own g i v h)
 
 -- a walk ends at a later point
-walks_later : {q : Scene} {n : ℕ} {f : Point n} {facts : List Fact} {A : Type 0} {w : Walk A} {Holds : (m : ℕ) → Point m → A → Type 0}
+pub walks_later : {q : Scene} {n : ℕ} {f : Point n} {facts : List Fact} {A : Type 0} {w : Walk A} {Holds : (m : ℕ) → Point m → A → Type 0}
     → Walks q n f facts w Holds → Walks q n f facts w (λ m g a. Later f g × Holds m g a)
 walks_later b = record {
   go = λ noted stands met.

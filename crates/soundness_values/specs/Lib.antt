@@ -3,4 +3,6 @@ pub mod Filling
 pub mod Likeness
 pub mod Mappings
 pub mod Calls
+pub mod Narrow
+pub mod Named
 pub mod Laws

@@ -1,5 +1,13 @@
 //! Laws of values made of parts, and of calls: each function's contract is one, and it does nothing.
-ghost use Rattle.soundness_values.specs.Laws.{BuiltinsAreFine, FunctionsAreFine, ListsAreFine, MappingsAreFine, TuplesAreFine};
+ghost use Rattle.soundness_values.specs.Laws.{
+  BuiltinsAreFine,
+  ConstructorsAreFine,
+  FunctionsAreFine,
+  ListsAreFine,
+  MappingsAreFine,
+  StructsAreFine,
+  TuplesAreFine,
+};
 
 /// A tuple ends well beside its walk, where its parts do.
 pub fn tuples_are_fine()
@@ -24,4 +32,14 @@ pub fn mappings_are_fine()
 /// So does a call of a function.
 pub fn functions_are_fine()
     ensures { FunctionsAreFine }
+{}
+
+/// So does a struct whose fields are each given once.
+pub fn structs_are_fine()
+    ensures { StructsAreFine }
+{}
+
+/// So does a constructor on an argument for each part of its payload.
+pub fn constructors_are_fine()
+    ensures { ConstructorsAreFine }
 {}
