@@ -5,3 +5,7 @@ pub mod Steps
 pub mod Slices
 pub mod SliceSteps
 pub mod Suffixed
+pub mod Updates
+pub mod Updated
+pub mod PartGrowth
+pub mod PartKinds

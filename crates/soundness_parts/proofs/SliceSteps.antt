@@ -20,18 +20,17 @@ use Rattle.value_indices.specs.Steps.{Walk, bind, give}
 use Rattle.pattern_leaves.specs.Settings.{Scope}
 use Rattle.call_arguments.specs.declared.aims.Aim.TheVariants as Aims
 use Rattle.call_notes.specs.Ends.{integer_number, number_form}
-use Rattle.expression_forms.specs.Ways.{into_slice, with_width}
+use Rattle.expression_forms.specs.Ways.{into_slice}
 use Rattle.expression_forms.specs.declared.ways.Ends.{Ends}
 use Rattle.expression_forms.specs.declared.ways.Reached.{Reached}
 use Rattle.expression_steps.specs.Parts.{Part, number_before, number_walk, numbers_behind, numbers_walk}
-use Rattle.expression_steps.specs.Values.{Passed, Taken, no_way, passed, read_taken, slice_reached, taken, then_on, way_taken, way_walk}
+use Rattle.expression_steps.specs.Values.{Passed, Taken, no_way, passed, reached_by, read_taken, slice_reached, taken, then_on, way_taken, way_walk}
 use Rattle.checked_meaning.specs.Items.{Item}
 use Rattle.value_laws.specs.Known.{Point, Later}
-use Rattle.value_laws.proofs.Steps.{agree_on}
 use Rattle.soundness_steps.specs.Works.{Scene, here}
 use Rattle.soundness_steps.specs.Steps.{Beside, Walks}
 use Rattle.soundness_steps.specs.Values.{Is}
-use Rattle.soundness_steps.proofs.Steps.{binds, given_back, rests, runs_as, walks_mean, walks_on}
+use Rattle.soundness_steps.proofs.Steps.{binds, given_back, rests, runs_as, walks_on}
 use Rattle.soundness_forms.specs.Forms.{Fine}
 use Rattle.soundness_forms.specs.Worlds.{Surrounds}
 use Rattle.soundness_forms.proofs.Basics.{is_on, then_walks, wrong_alone}
@@ -44,13 +43,18 @@ use Rattle.soundness_parts.proofs.Taken.{z}
 
 -- ---- runs one behind the other
 
-thens : {A B C : Type 0} (e : Ended Item A) (k : A → Run Item B) (l : B → Run Item C) → goes_on (goes_on e k) l ≡ goes_on e (λ x. k x then l)
+pub thens : {A B C : Type 0} (e : Ended Item A) (k : A → Run Item B) (l : B → Run Item C) → goes_on (goes_on e k) l ≡ goes_on e (λ x. k x then l)
 thens (Runs.Gives x now) k l = refl
 thens (Runs.No now) k l = refl
 thens (Runs.Returns v now) k l = refl
 thens (Runs.Throws v now) k l = refl
 thens (Runs.Stops cause now) k l = refl
 thens Runs.Stuck k l = refl
+
+-- what each result goes on with
+pub under : {A B C : Type 0} (e : Ended Item A) (k : A → Run Item B) (l : A → Run Item C) (g : B → Run Item C)
+    → ((x : A) (now : Now Item) → goes_on (k x now) g ≡ l x now) → goes_on (goes_on e k) g ≡ goes_on e l
+under e k l g h = thens e k g ∙ (λ j. goes_on e (λ x now. h x now j))
 
 -- ---- two values
 
@@ -111,7 +115,7 @@ module _ (q : Scene) (w : World Item) (scope : Scope) where
       tested_by p.place i y (comes_is p.is_nested p.never_ends Aims.Free i y c) (out-Indices i) refl)
 
   -- one index alone
-  one_test : (p : Part) (a : Run Item Item) → Fine q w false false p a → {n : ℕ} {f : Point n} {facts : List Fact} → Surrounds q w f scope
+  pub one_test : (p : Part) (a : Run Item Item) → Fine q w false false p a → {n : ℕ} {f : Point n} {facts : List Fact} → Surrounds q w f scope
       → Beside q n f facts (numbers_walk (p ∷ []) (here q) scope) (a then gives) (λ m g o y. OneTested q g o y)
   one_test p a fine there = then_walks (numbers_behind (give (Some []))) (number_tests p a fine there) (λ m g fs o y l h. by m g fs o y h)
     where
@@ -127,8 +131,14 @@ module _ (q : Scene) (w : World Item) (scope : Scope) where
 
   -- two
   module _ (p r : Part) (a b : Run Item Item) (first : Fine q w false false p a) (second : Fine q w false false r b) where
-    abbrev pairs : Run Item (Item × Item)
+    abbrev pub pairs : Run Item (Item × Item)
     pairs = (a then gives) then λ y. (b then gives) then λ u. gives (couple y u)
+
+    -- one value behind the other
+    pub pairs_then : {A : Type 0} (g : Item × Item → Run Item A) (now : Now Item) → (pairs then g) now ≡ (a then λ y. b then λ u. g (couple y u)) now
+    pairs_then g now =
+        ap (λ e. goes_on e g) (thens (a now) gives (λ y. (b then gives) then λ u. gives (couple y u)))
+        ∙ under (a now) _ _ g (λ y n1. ap (λ e. goes_on e g) (thens (b n1) gives (λ u. gives (couple y u))) ∙ under (b n1) _ _ g (λ u n2. refl))
 
     behind_one : {n : ℕ} {f : Point n} {facts : List Fact} → Surrounds q w f scope → (t : Num) (y : Item) → Tests q f t y
         → Beside q n f facts (bind (numbers_walk (r ∷ []) (here q) scope) (number_before t)) (b then gives) (λ m g o u. TwoTested q g o y u)
@@ -141,7 +151,7 @@ module _ (q : Scene) (w : World Item) (scope : Scope) where
         by m g fs (Some []) u l k = absurd k
         by m g fs (Some (s ∷ v ∷ ss)) u l k = absurd k
 
-    two_tests : {n : ℕ} {f : Point n} {facts : List Fact} → Surrounds q w f scope
+    pub two_tests : {n : ℕ} {f : Point n} {facts : List Fact} → Surrounds q w f scope
         → Beside q n f facts (numbers_walk (p ∷ r ∷ []) (here q) scope) pairs (λ m g o x. TwoTested q g o x.0 x.1)
     two_tests {n} {f} there =
         binds (numbers_behind (numbers_walk (r ∷ []) (here q) scope)) (λ y. (b then gives) then λ u. gives (couple y u)) (number_tests p a first there)
@@ -162,40 +172,46 @@ module _ (q : Scene) (w : World Item) (scope : Scope) (place : Place) (k : ℕ) 
   abbrev reads : Item → Item → Run Item Item
   reads y u = integer (z q) y then λ hi. integer (z q) u then λ lo. taken_run (z q) k (slice_way hi lo) x (y ∷ u ∷ [])
 
-  -- the part that is reached, and the parts of the expression behind its indexes
-  record Reaches {n : ℕ} (f : Point n) (ps : List Part) (o : Option Taken) (y u : Item) : Type 0 where
+  -- the slice that is reached
+  pub record Ranges {n : ℕ} (f : Point n) (o : Option Reached) (y u : Item) : Type 0 where
     pub high : Num
     pub low : Num
     pub width : Num
     pub is_high : Tests q f high y
     pub is_low : Tests q f low u
     pub wide : IsWide q f width (width_of is_high.integer_there is_low.integer_there)
-    pub same : o ≡ taken (into_slice high low width (out-Indices i)) ps
+    pub same : o ≡ into_slice high low width (out-Indices i)
+
+  -- with the parts of the expression behind its indexes
+  abbrev Reaches : {n : ℕ} → Point n → List Part → Option Taken → Item → Item → Type 0
+  Reaches g ps o y u = (r : Option Reached) × (o ≡ taken r ps) × Ranges g r y u
 
   abbrev PassedIs : {n : ℕ} → Point n → List Part → Option Passed → Item → Type 0
   PassedIs g ps o u = (j : Indices) × (o ≡ passed ps j) × Is q.set q.work g j u
 
-  module _ {n : ℕ} {f : Point n} (ps : List Part) (t s : Num) (y u : Item) (ht : Tests q f t y) (hs : Tests q f s u) where
-    reached_behind : {m : ℕ} {g : Point m} {gs : List Fact} (o : Option Ends) → Later f g
+  module _ {n : ℕ} {f : Point n} (t s : Num) (y u : Item) (ht : Tests q f t y) (hs : Tests q f s u) where
+    range_behind : {m : ℕ} {g : Point m} {gs : List Fact} (o : Option Ends) → Later f g
         → EndsAre q t s ht.integer_there hs.integer_there ht.counts.same hs.counts.same g o
-        → Walks q m g gs (slice_reached i o) (λ j d r. Reaches d ps (taken r ps) y u)
-    reached_behind None l e = absurd e
-    reached_behind (Some e) l (h, b, c) = given_back (into_slice e.high e.low e.width (out-Indices i)) (record {
+        → Walks q m g gs (slice_reached i o) (λ j d r. Ranges d r y u)
+    range_behind None l e = absurd e
+    range_behind (Some e) l (h, b, c) = given_back (into_slice e.high e.low e.width (out-Indices i)) (record {
       high = t;
       low = s;
       width = e.width;
       is_high = tests_on l ht;
       is_low = tests_on l hs;
       wide = c;
-      same = λ j. taken (into_slice (h j) (b j) e.width (out-Indices i)) ps;
+      same = λ j. into_slice (h j) (b j) e.width (out-Indices i);
     })
+
+    pub range_walks : {fs : List Fact} → Walks q n f fs (reached_by (here q) i Y.Slice (t ∷ s ∷ [])) (λ m d r. Ranges d r y u)
+    range_walks = walks_on (slice_reached i)
+        (width_walks q t s ht.integer_there hs.integer_there ht.counts.same hs.counts.same) (λ m d gs o l e. range_behind o l e)
 
   reached_walks : {n : ℕ} {g : Point n} {fs : List Fact} (ps : List Part) (o : Option (List Num)) (y u : Item) → TwoTested q g o y u
       → Walks q n g fs (way_taken (here q) i Y.Slice ps o) (λ m d r. Reaches d ps r y u)
   reached_walks ps (Some (t ∷ s ∷ [])) y u h =
-      walks_on (λ r. give (taken r ps)) (walks_on (slice_reached i)
-      (width_walks q t s h.0.integer_there h.1.integer_there h.0.counts.same h.1.counts.same) (λ m d gs o l e.
-      reached_behind ps t s y u h.0 h.1 o l e)) (λ m d gs r l e. given_back (taken r ps) e)
+      walks_on (λ r. give (taken r ps)) (range_walks t s y u h.0 h.1) (λ m d gs r l e. given_back (taken r ps) (r, refl, e))
   reached_walks ps None y u h = absurd h
   reached_walks ps (Some []) y u h = absurd h
   reached_walks ps (Some (t ∷ [])) y u h = absurd h
@@ -204,13 +220,14 @@ module _ (q : Scene) (w : World Item) (scope : Scope) (place : Place) (k : ℕ) 
   takes : {n : ℕ} {g : Point n} {fs : List Fact} (ps : List Part) (o : Option Taken) (y u : Item) → Is q.set q.work g i x → Reaches g ps o y u
       → Beside q n g fs (read_taken false place k i o) (reads y u) (λ m d r v. PassedIs d ps r v)
   takes {n} {g} {fs} ps o y u h t =
-      let hi = t.is_high.integer_there in
-      let lo = t.is_low.integer_there in
+      let e = t.2 in
+      let hi = e.is_high.integer_there in
+      let lo = e.is_low.integer_there in
       let d : ℤ → ℤ → Run Item Item = λ a b. taken_run (z q) k (slice_way a b) x (y ∷ u ∷ []) in
-      subst (λ s. Beside q n g fs (read_taken false place k i s) (reads y u) (λ m d r v. PassedIs d ps r v)) (sym t.same)
-      (runs_as (λ now. ap (λ e. goes_on e (d hi)) (t.is_low.test now) ∙ ap (λ e. goes_on e (λ a. integer (z q) u then d a)) (t.is_high.test now))
+      subst (λ s. Beside q n g fs (read_taken false place k i s) (reads y u) (λ m d r v. PassedIs d ps r v)) (sym (t.1 ∙ ap (λ r. taken r ps) e.same))
+      (runs_as (λ now. ap (λ e. goes_on e (d hi)) (e.is_low.test now) ∙ ap (λ e. goes_on e (λ a. integer (z q) u then d a)) (e.is_high.test now))
       (then_walks (λ j. give (passed ps j))
-      (slice_fine q place k i x h t.high t.low t.width y u hi lo t.is_high.counts t.is_low.counts t.wide) (λ m d gs j v l is.
+      (slice_fine q place k i x h e.high e.low e.width y u hi lo e.is_high.counts e.is_low.counts e.wide) (λ m d gs j v l is.
       given_back (passed ps j) (j, refl, is))))
 
   module _ (p r : Part) (ps : List Part) (a b : Run Item Item) (first : Fine q w false false p a) (second : Fine q w false false r b) (runs : Item → Run Item Item) where
@@ -230,15 +247,9 @@ module _ (q : Scene) (w : World Item) (scope : Scope) (place : Place) (k : ℕ) 
 
     in_turn : (now : Now Item) → ((pairs q w scope p r a b first second then both) then runs) now ≡ sliced now
     in_turn now =
-        let rest : Item → Run Item (Item × Item) = λ y. (b then gives) then λ u. gives (couple y u) in
-        ap (λ e. goes_on (goes_on e both) runs) (thens (a now) gives rest)
-        ∙ ap (λ e. goes_on e runs) (thens (a now) rest both)
-        ∙ thens (a now) (λ y. rest y then both) runs
-        ∙ (λ j. goes_on (a now) (λ y now2. (
-        ap (λ e. goes_on (goes_on e both) runs) (thens (b now2) gives (λ u. gives (couple y u)))
-        ∙ ap (λ e. goes_on e runs) (thens (b now2) (λ u. gives (couple y u)) both)
-        ∙ thens (b now2) (λ u. both (couple y u)) runs
-        ∙ (λ h. goes_on (b now2) (λ u now3. reads_then y u now3 h))) j))
+        thens (pairs q w scope p r a b first second now) both runs
+        ∙ (pairs_then q w scope p r a b first second (λ v. both v then runs) now
+        ∙ (λ j. goes_on (a now) (λ y n1. goes_on (b n1) (λ u n2. reads_then y u n2 j))))
 
     -- a slice, and what stands behind its part
     pub slice_step : {n : ℕ} {f : Point n} {facts : List Fact} {A : Type 0} → Surrounds q w f scope → Is q.set q.work f i x

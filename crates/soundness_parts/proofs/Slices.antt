@@ -4,7 +4,7 @@ use Rattle.std.proofs.lemmas.Bool.Decides.{nat_tests}
 use Rattle.std.proofs.lemmas.Int.{ints}
 use Rattle.std.specs.Prelude.{int_lt, nat_le, ◌^◌}
 use Rattle.sail_base.specs.declared.place.Place.{Place}
-use Rattle.sail_types.specs.Limits.{is_small, is_width, largest}
+use Rattle.sail_types.specs.Limits.{is_small, largest}
 use Rattle.sail_types.specs.Numbers.{number}
 use Rattle.sail_types.specs.Sums.{constant, difference, sum}
 use Rattle.sail_types.specs.declared.numbers.Num.{Num}
@@ -12,7 +12,6 @@ use Rattle.sail_types.specs.declared.types.Typ.TheVariants as U
 use Rattle.sail_types.proofs.Substituted.{number_constant}
 use Rattle.sail_types.proofs.SumNumbers.{difference_number, sum_number_is, then_parts}
 use Rattle.sail_core.specs.Meaning.{taken}
-use Rattle.sail_core.specs.Run.{Run}
 use Rattle.sail_core.specs.Values.{slice_way}
 use Rattle.value_indices.specs.declared.indices.Indices.{Indices, out-Indices, roll-Indices}
 use Rattle.value_indices.specs.declared.indices.Indices.TheOpen as W
@@ -26,12 +25,13 @@ use Rattle.value_indices.specs.Opening.{number_or_fresh}
 use Rattle.value_indices.specs.Steps.{give}
 use Rattle.expression_forms.specs.Ways.{ends, inside_slice, into_slice, slice_width, taken_out, with_width}
 use Rattle.expression_forms.specs.declared.ways.Ends.{Ends}
+use Rattle.expression_forms.specs.declared.ways.Reached.{Reached}
 use Rattle.checked_meaning.specs.Items.{Item}
-use Rattle.value_laws.specs.Belonging.{Integers, number_there, plain, standing}
+use Rattle.value_laws.specs.Belonging.{Integers, plain, standing}
 use Rattle.value_laws.specs.Known.{Point, Agree}
 use Rattle.value_laws.proofs.Knowing.{number_goes}
 use Rattle.value_laws.proofs.Numbers.{at_most_true}
-use Rattle.value_laws.proofs.Steps.{agree_on, same}
+use Rattle.value_laws.proofs.Steps.{same}
 use Rattle.way_laws.specs.Laws.{AreTrue, HasPart}
 use Rattle.way_laws.proofs.Conditions.{natural_inside, slice_inside}
 use Rattle.way_laws.proofs.Parts.{bits_in, bits_type}
@@ -43,7 +43,7 @@ use Rattle.soundness_steps.proofs.Steps.{given_back, known_walk, walks_mean, wal
 use Rattle.soundness_forms.proofs.Basics.{has_there}
 use Rattle.soundness_parts.proofs.Indexes.{Counts}
 use Rattle.soundness_parts.proofs.Suffixes.{unreached}
-use Rattle.soundness_parts.proofs.Taken.{taken_fine, z}
+use Rattle.soundness_parts.proofs.Taken.{HasThere, taken_fine, z}
 
 -- ---- the width is one integer, and where that is within the limit it is the one that the ends give
 
@@ -117,7 +117,7 @@ is_at_most a b h = grind (arith, nat_tests)
 
 module _ (q : Scene) {n : ℕ} {f : Point n} (place : Place) (k : ℕ) (i : Indices) (x : Item) (h : Is q.set q.work f i x)
     (high low width : Num) (y u : Item) (hi lo : ℤ) (is_high : Counts q f high y hi) (is_low : Counts q f low u lo) (wide : IsWide q f width (width_of hi lo)) where
-  slice_steady : IsSteady q.set q.work f (R.Widened (I.Bits width))
+  pub slice_steady : IsSteady q.set q.work f (R.Widened (I.Bits width))
   slice_steady g a =
       bits_type q.set.around.types (standing q.set.past g) q.work.types width
       ∙ ((λ j. plain (standing q.set.past g) (U.Bits (constant ((wide.same g a ∙ sym (wide.same f.integers (same f))) j))) [])
@@ -136,17 +136,24 @@ module _ (q : Scene) {n : ℕ} {f : Point n} (place : Place) (k : ℕ) (i : Indi
       ap is_small (λ j. width_of ((sym (is_high.same g a) ∙ above.1) j) ((sym (is_low.same g a) ∙ under.1) j))
       ∙ small_width above.0 under.0 (length held.0) under.2 above.2 (is_at_most (length held.0) 128 held.3)
 
-  slice_by : {facts : List Fact} (w : Indices-F Indices Reading) → roll-Indices w ≡ i
-      → Beside q n f facts (taken_out place k i (into_slice high low width w)) (taken (z q) k (slice_way hi lo) x (y ∷ u ∷ [])) (λ m g j v. Is q.set q.work g j v)
-  slice_by (W.Bits m) is =
-      taken_fine place k i x (record { conditions = inside_slice high low m; numbers = high ∷ low ∷ []; typ = R.Widened (I.Bits width) }) (slice_way hi lo)
-      (y ∷ u ∷ []) h (is_high.is_integer.typ, (is_low.is_integer.typ, tt)) (λ g a met.
+  -- the part, of the type that the walk says
+  abbrev pub slice_reached : Num → Reached
+  slice_reached m = record { conditions = inside_slice high low m; numbers = high ∷ low ∷ []; typ = R.Widened (I.Bits width) }
+
+  pub slice_part : (m : Num) → roll-Indices (W.Bits m) ≡ i → HasThere q f i x.val (slice_reached m) (slice_way hi lo)
+  slice_part m is = λ g a met.
       let mu = standing q.set.past g in
       let wide_there : number mu width ≡ (number mu high -ℤ number mu low) +ℤ pos 1 =
       wide.same g a ∙ (wide.right (right_width m is g a met) ∙ (λ j. width_of (sym (is_high.same g a) j) (sym (is_low.same g a) j))) in
       subst (λ c. HasPart q.set.around.types mu q.work.types i x.val (R.Widened (I.Bits width)) (slice_way c lo)) (is_high.same g a)
       (subst (λ c. HasPart q.set.around.types mu q.work.types i x.val (R.Widened (I.Bits width)) (slice_way (number mu high) c)) (is_low.same g a)
-      (slice_there q.set.around.types mu q.work.types i x.val high low width m wide_there is (has_there h.has g a) met))) slice_steady
+      (slice_there q.set.around.types mu q.work.types i x.val high low width m wide_there is (has_there h.has g a) met))
+
+  slice_by : {facts : List Fact} (w : Indices-F Indices Reading) → roll-Indices w ≡ i
+      → Beside q n f facts (taken_out place k i (into_slice high low width w)) (taken (z q) k (slice_way hi lo) x (y ∷ u ∷ [])) (λ m g j v. Is q.set q.work g j v)
+  slice_by (W.Bits m) is =
+      taken_fine place k i x (slice_reached m) (slice_way hi lo) (y ∷ u ∷ []) h (is_high.is_integer.typ, (is_low.is_integer.typ, tt)) (slice_part m is)
+      slice_steady
   slice_by w is = unreached place k i x h (taken (z q) k (slice_way hi lo) x (y ∷ u ∷ []))
 
   pub slice_fine : {facts : List Fact} → Beside q n f facts (taken_out place k i (into_slice high low width (out-Indices i))) (taken (z q) k (slice_way hi lo) x (y ∷ u ∷ []))

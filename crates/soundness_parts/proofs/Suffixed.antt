@@ -1,12 +1,12 @@
 -- All suffixes behind a value, and the node that they are of.
-use Rattle.std.proofs.Common.{◌≡◌, ℕ, suc, true, false, ◌&&◌, List, [], ◌∷◌, if◌then◌else◌, length, take, drop, nat_lt, Option, Some, None, refl, sym, ap, subst, arith}
+use Rattle.std.proofs.Common.{◌≡◌, ℕ, true, false, List, [], ◌∷◌, if◌then◌else◌, length, take, drop, nat_lt, Option, Some, refl, sym, ap, subst, arith}
 use Rattle.std.specs.List.{list_all}
 use Rattle.std.proofs.lemmas.Bool.{and_parts}
 use Rattle.std.proofs.lemmas.Bool.Decides.{nat_tests}
 use Rattle.sail_base.specs.declared.place.Place.{Place}
 use Rattle.sail_core.specs.Making.{World}
 use Rattle.sail_core.specs.Meaning.{kind_meaning, suffix_then, suffixes_of, taken as taken_run}
-use Rattle.sail_core.specs.Run.{Run, gives, stuck, ◌then◌}
+use Rattle.sail_core.specs.Run.{Run, ◌then◌}
 use Rattle.sail_core.specs.Values.{field_way}
 use Rattle.sail_core.specs.declared.targets.Suffix.{Suffix}
 use Rattle.sail_core.specs.declared.targets.Way.{Way}
@@ -19,7 +19,7 @@ use Rattle.pattern_leaves.specs.Settings.{Scope}
 use Rattle.call_arguments.specs.declared.aims.Aim.{Aim}
 use Rattle.call_arguments.specs.declared.aims.Aim.TheVariants as Aims
 use Rattle.call_notes.specs.Ends.{settled}
-use Rattle.expression_forms.specs.Ways.{into_field, taken_out}
+use Rattle.expression_forms.specs.Ways.{into_field}
 use Rattle.expression_forms.specs.declared.ways.Reached.{Reached as Reach}
 use Rattle.expression_steps.specs.Expressions.{kind_walk, node_end}
 use Rattle.expression_steps.specs.Parts.{Part, numbers_walk}

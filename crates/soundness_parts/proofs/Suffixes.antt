@@ -16,6 +16,7 @@ use Rattle.value_indices.specs.declared.indices.Reading.TheVariants as R
 use Rattle.value_indices.specs.declared.notes.Fact.{Fact}
 use Rattle.call_notes.specs.Ends.{never_value, wrong_value}
 use Rattle.expression_forms.specs.Ways.{if_never_value, inside_length, into_item, taken_out}
+use Rattle.expression_forms.specs.declared.ways.Reached.{Reached}
 use Rattle.checked_meaning.specs.Items.{Item}
 use Rattle.value_laws.specs.Belonging.{Integers, standing}
 use Rattle.value_laws.specs.Known.{Point, Agree}
@@ -30,7 +31,15 @@ use Rattle.soundness_steps.specs.Steps.{Beside}
 use Rattle.soundness_steps.specs.Values.{Is, IsSteady}
 use Rattle.soundness_forms.proofs.Basics.{has_there, wrongs}
 use Rattle.soundness_forms.proofs.Parts.{not_never}
-use Rattle.soundness_parts.proofs.Taken.{taken_fine, z}
+use Rattle.soundness_parts.proofs.Taken.{HasThere, taken_fine, z}
+
+-- a bit, and an item
+
+abbrev pub bit_reached : Num → Num → Reached
+bit_reached t m = record { conditions = inside_length t m; numbers = t ∷ []; typ = R.Widened I.Bit }
+
+abbrev pub item_reached : Num → Num → Reading → Reached
+item_reached t m r = record { conditions = inside_length t m; numbers = t ∷ []; typ = r }
 
 module _ (q : Scene) {n : ℕ} {f : Point n} where
   -- ---- types of parts are one and the same
@@ -49,6 +58,20 @@ module _ (q : Scene) {n : ℕ} {f : Point n} where
       ∙ (sym (h.has.steady f.integers (same f))
       ∙ meant_is q.set.around.types (standing q.set.past f.integers) q.work.types i (W.Vector m r) is))))
 
+-- ---- the bit, the item, of the type that the walk says
+
+module _ (q : Scene) {n : ℕ} {f : Point n} (i : Indices) (x : Item) (h : Is q.set q.work f i x) (t : Num) (index : ℤ)
+    (counts : (g : Integers) → Agree f g → number (standing q.set.past g) t ≡ index) where
+  pub bit_part : (m : Num) → roll-Indices (W.Bits m) ≡ i → HasThere q f i x.val (bit_reached t m) (item_way index)
+  bit_part m is = λ g a met.
+      subst (λ c. HasPart q.set.around.types (standing q.set.past g) q.work.types i x.val (R.Widened I.Bit) (item_way c)) (counts g a)
+      (bit_there q.set.around.types (standing q.set.past g) q.work.types i x.val t m is (has_there h.has g a) met)
+
+  pub item_part : (m : Num) (r : Reading) → roll-Indices (W.Vector m r) ≡ i → HasThere q f i x.val (item_reached t m r) (item_way index)
+  item_part m r is = λ g a met.
+      subst (λ c. HasPart q.set.around.types (standing q.set.past g) q.work.types i x.val r (item_way c)) (counts g a)
+      (item_there q.set.around.types (standing q.set.past g) q.work.types i x.val t m r is (has_there h.has g a) met)
+
 module _ {q : Scene} {n : ℕ} {f : Point n} {facts : List Fact} (place : Place) (k : ℕ) (i : Indices) (x : Item) (h : Is q.set q.work f i x) where
   -- of a value that has no such part what is false is owed
   pub unreached : (c : Run Item Item) → Beside q n f facts (if_never_value place i) c (λ m g j y. Is q.set q.work g j y)
@@ -63,15 +86,9 @@ module _ {q : Scene} {n : ℕ} {f : Point n} {facts : List Fact} (place : Place)
     item_by : (w : Indices-F Indices Reading) → roll-Indices w ≡ i
         → Beside q n f facts (taken_out place k i (into_item t w)) (taken (z q) k (item_way index) x (y ∷ [])) (λ m g j u. Is q.set q.work g j u)
     item_by (W.Bits m) is =
-        taken_fine place k i x (record { conditions = inside_length t m; numbers = t ∷ []; typ = R.Widened I.Bit }) (item_way index) (y ∷ []) h
-        (is_index.typ, tt) (λ g a met.
-        subst (λ c. HasPart q.set.around.types (standing q.set.past g) q.work.types i x.val (R.Widened I.Bit) (item_way c)) (counts g a)
-        (bit_there q.set.around.types (standing q.set.past g) q.work.types i x.val t m is (has_there h.has g a) met)) (bit_steady q)
+        taken_fine place k i x (bit_reached t m) (item_way index) (y ∷ []) h (is_index.typ, tt) (bit_part q i x h t index counts m is) (bit_steady q)
     item_by (W.Vector m r) is =
-        taken_fine place k i x (record { conditions = inside_length t m; numbers = t ∷ []; typ = r }) (item_way index) (y ∷ []) h
-        (is_index.typ, tt) (λ g a met.
-        subst (λ c. HasPart q.set.around.types (standing q.set.past g) q.work.types i x.val r (item_way c)) (counts g a)
-        (item_there q.set.around.types (standing q.set.past g) q.work.types i x.val t m r is (has_there h.has g a) met)) (items_steady q i x m r is h)
+        taken_fine place k i x (item_reached t m r) (item_way index) (y ∷ []) h (is_index.typ, tt) (item_part q i x h t index counts m r is) (items_steady q i x m r is h)
     item_by w is = unreached (taken (z q) k (item_way index) x (y ∷ []))
 
     pub item_fine : Beside q n f facts (taken_out place k i (into_item t (out-Indices i))) (taken (z q) k (item_way index) x (y ∷ []))

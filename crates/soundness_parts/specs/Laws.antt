@@ -18,9 +18,10 @@ use Rattle.value_laws.specs.Known.{Point}
 use Rattle.soundness_steps.specs.Works.{Scene, here}
 use Rattle.soundness_steps.specs.Steps.{Beside}
 use Rattle.soundness_steps.specs.Values.{AimSteady, Comes}
+use Rattle.soundness_forms.specs.EachKind.{KindFine}
 use Rattle.soundness_forms.specs.Forms.{AllFine, Fine, FitsSuffice}
 use Rattle.soundness_forms.specs.Worlds.{Surrounds}
-use Rattle.soundness_parts.specs.Suffixes.{FieldsFine, NotMore}
+use Rattle.soundness_parts.specs.Suffixes.{FieldsFine, ItemsFull, NotMore}
 
 -- where the fields that its suffixes name are there, and no indexes are left behind them
 abbrev pub PartsAreFine : Type 0
@@ -29,3 +30,7 @@ PartsAreFine = FitsSuffice → (q : Scene) (w : World Item) → FieldsFine q →
     (facts : List Fact) (scope : Scope) (aim : Aim) → Surrounds q w f scope → AimSteady q.set q.work f aim
     → Beside q n f facts (kind_walk place k (K.Part ss) (p ∷ ps) (here q) scope aim)
     (kind_meaning (checked q.set.around.types q.cases) w place k (K.Part ss) (r ∷ rs)) (λ m g i x. Comes q.set q.work g false false false aim i x)
+
+-- a value with another slice of bits, and a value with another bit or item, where the items of a vector are of a type without a hole
+abbrev pub UpdatesAreFine : Type 0
+UpdatesAreFine = (q : Scene) (w : World Item) → KindFine q w K.WithSlice × (ItemsFull q → KindFine q w K.WithItem)
