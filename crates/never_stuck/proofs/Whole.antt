@@ -1,8 +1,10 @@
 -- Obligations give the goals, what instances are read for all other notes; calls and events follow.
-use Rattle.std.proofs.Common.{◌≡◌, refl, sym, subst, ℕ, Bool, List, [], ◌∷◌, ◌++◌, None, Some}
+use Rattle.std.proofs.Common.{◌≡◌, refl, sym, subst, ap, ℕ, Bool, List, [], ◌∷◌, ◌++◌, None, Some}
 use Rattle.std.specs.Prelude.{slice_get}
 use Rattle.sail_types.specs.Numbers.{Positive}
-use Rattle.sail_core.specs.Start.{lets_of}
+use Rattle.sail_types.specs.declared.table.Types.{Types}
+use Rattle.sail_types.specs.declared.values.Value.{Value}
+use Rattle.sail_core.specs.Start.{lets_in, lets_of}
 use Rattle.sail_core.specs.declared.model.CoreModel.{CoreModel}
 use Rattle.sail_core.specs.declared.model.Direction.{Direction}
 use Rattle.sail_core.specs.declared.model.Function.{Function}
@@ -16,11 +18,15 @@ use Rattle.met_notes.specs.Met.{WalksAreMet, pairs}
 use Rattle.met_notes.proofs.Whole.{notes_met}
 use Rattle.soundness_steps.specs.Works.{Setting, Work, nobody}
 use Rattle.soundness_steps.specs.Covers.{AreMet}
+use Rattle.soundness_forms.specs.Worlds.{LetsAre}
 use Rattle.soundness_calls.specs.Calls.{CoveredModel}
 use Rattle.soundness_calls.specs.Directions.{Side, is_ahead, is_back, lower, mapping_of}
 use Rattle.soundness_calls.specs.Events.{IsOfModel, checks_of}
 use Rattle.soundness_calls.specs.Premises.{all_reached}
 use Rattle.soundness_calls.proofs.Events.{events_sound}
+use Rattle.soundness_openings.specs.Initials.{pure_around, pure_setting}
+use Rattle.soundness_openings.specs.Whole.{OpenedRight}
+use Rattle.soundness_openings.proofs.Whole.{openings_sound}
 use Rattle.sail_calls.specs.Models as S
 use Rattle.sail_calls.proofs.Whole.{calls_from}
 use Rattle.never_stuck.proofs.Own.{constraint_stands}
@@ -94,9 +100,36 @@ module _ (m : CoreModel) (walks : WalksAreMet m (around_of m)) (past : Positive)
         matches = s.matches;
       }
 
+  -- ---- top-level lets
+
+  -- in a setting of these types
+  abbrev of_types : Types → Setting
+  of_types types = record { around = record (pure_around m []) { types = types }; past = past; hart = hart; covered = covered }
+
+  in_setting : (names : List TopLevel) (vs : List Value) → LetsAre (of_types (around_of m).types) nobody names vs → LetsAre set nobody names vs
+  in_setting [] [] a = tt
+  in_setting (l ∷ ls) (v ∷ vs) a = (a.0, in_setting ls vs a.1)
+  in_setting [] (v ∷ vs) a = absurd a
+  in_setting (l ∷ ls) [] a = absurd a
+
+  pure_lets : (names : List TopLevel) (vs : List Value) → LetsAre (pure_setting m past []) nobody names vs → LetsAre (of_types m.types) nobody names vs
+  pure_lets [] [] a = tt
+  pure_lets (l ∷ ls) (v ∷ vs) a = (a.0, pure_lets ls vs a.1)
+  pure_lets [] (v ∷ vs) a = absurd a
+  pure_lets (l ∷ ls) [] a = absurd a
+
+  lets_stand : (rank : ℕ → ℕ) → Stands set m k rank → (x : Work) → LetsAre set x set.around.lets (lets_of (checking (checks_of m k)) m)
+  lets_stand rank s x =
+      let names : List TopLevel = (around_of m).lets in
+      let right : LetsAre (pure_setting m past []) nobody names s.end.0 =
+      subst (OpenedRight m past names) s.end.2 (openings_sound m past (checks_of m k) refl s.openings) in
+      let typed : LetsAre (of_types (around_of m).types) nobody names s.end.0 =
+      subst (λ types. LetsAre (of_types types) nobody names s.end.0) (sym (types_kept m [] m.openings)) (pure_lets names s.end.0 right) in
+      subst (LetsAre set x names) (sym (ap lets_in s.end.2)) (s.anywhere x s.end.0 (in_setting names s.end.0 typed))
+
   all_covered : (rank : ℕ → ℕ) → Stands set m k rank → CoveredModel set k rank (lets_of (checking (checks_of m k)) m)
   all_covered rank s = calls_from set k rank (lets_of (checking (checks_of m k)) m) (record {
-    lets_are = s.lets_are;
+    lets_are = lets_stand rank s;
     functions = λ x f is at. function_stands x f at (s.functions x f is at);
     directions = λ d n at. direction_stands rank d n (s.directions d n at);
     ranks = s.ranks;

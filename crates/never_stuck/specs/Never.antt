@@ -6,7 +6,7 @@ use Rattle.sail_types.specs.declared.values.Value.TheVariants as V
 use Rattle.model_state.specs.RunState.{RunState}
 use Rattle.sail_core.specs.Making.{World}
 use Rattle.sail_core.specs.Numbers.{Givens, all_agree}
-use Rattle.sail_core.specs.Start.{lets_of, reset_ran, step_ran}
+use Rattle.sail_core.specs.Start.{nowhere, opened, openings_of, reset_ran, step_ran}
 use Rattle.sail_core.specs.declared.model.CoreModel.{CoreModel}
 use Rattle.sail_core.specs.declared.model.Direction.{Direction}
 use Rattle.sail_core.specs.declared.model.Function.{Function}
@@ -36,6 +36,7 @@ use Rattle.soundness_calls.specs.Events.{EndsRight, EventEnters, checks_of, rese
 use Rattle.soundness_arms.specs.Bodies.{Clauses}
 use Rattle.soundness_arms.specs.Laws.{clause_scene}
 use Rattle.sail_calls.specs.Models.{WaysOf, own_arms}
+use Rattle.soundness_openings.specs.Whole.{OpeningsStand}
 use Rattle.never_stuck.specs.Own.{is_own}
 
 -- a model at work: an integer that powers past the largest are taken for, a hart, and the instances that are covered
@@ -79,8 +80,15 @@ pub record DirectionStands (set : Setting) (rank : ℕ → ℕ) (k : Checks) (d 
 
 -- ---- all of a model
 
+-- openings end: no pattern of a top-level let fails to match
+abbrev pub AllEnd : CoreModel → Checks → Type 0
+AllEnd m k = (vs : List Value) × (state : RunState) × (openings_of (checking (checks_of m k)) m (nowhere m.types) ≡ opened vs state)
+
 pub record Stands (set : Setting) (m : CoreModel) (k : Checks) (rank : ℕ → ℕ) : Type 0 where
-  pub lets_are : (x : Work) → LetsAre set x set.around.lets (lets_of (checking (checks_of m k)) m)
+  -- top-level lets and initial values, each behind those before it; all end, and the names of lets hang on no Type variable of a function
+  pub openings : OpeningsStand m set.past (checks_of m k) 0 [] m.openings
+  pub end : AllEnd m k
+  pub anywhere : (x : Work) (vs : List Value) → LetsAre set nobody set.around.lets vs → LetsAre set x set.around.lets vs
   pub functions : (x : Work) (f : Function) → set.covered x ≡ true → slice_get set.around.functions x.function ≡ Some f → FunctionStands set k x f
   pub directions : (d : ℕ) (n : Direction) → slice_get set.around.directions d ≡ Some n → DirectionStands set rank k d n
   pub ranks : (d : ℕ) (n : Direction) → slice_get set.around.directions d ≡ Some n → rank d < length set.around.directions

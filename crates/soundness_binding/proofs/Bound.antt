@@ -97,7 +97,8 @@ given_is : (set : Setting) (work : Work) {n : ℕ} (f : Point n) (cast nested ne
 given_is set work f true nested never_ends r i x h = record { has = h.has; typ = h.typ }
 given_is set work f false nested never_ends r i x h = record { has = h.has; typ = h.typ }
 
-bound_is : (set : Setting) (work : Work) {n : ℕ} (f : Point n) (around : Around) (o : Option Written) (cast nested never_ends : Bool) (i : Indices) (x : Item)
+pub bound_is : (set : Setting) (work : Work) {n : ℕ} (f : Point n) (around : Around) (o : Option Written) (cast nested never_ends : Bool)
+    (i : Indices) (x : Item)
     → Comes set work f cast nested never_ends (written_aim around o) i x → Is set work f i x
 bound_is set work f around None cast nested never_ends i x h = free_is cast nested never_ends i x h
 bound_is set work f around (Some w) cast nested never_ends i x h = by (is_hole (written_in around w)) h
@@ -110,7 +111,7 @@ module _ (q : Scene) (w : World Item) where
   abbrev z : Making Item
   z = checked q.set.around.types q.cases
 
-  bound_steady : {n : ℕ} {f : Point n} {names : List Kept} {falls : Bool} {scope : Scope} (o : Option Written) → Surrounds (at q w names falls) w f scope
+  pub bound_steady : {n : ℕ} {f : Point n} {names : List Kept} {falls : Bool} {scope : Scope} (o : Option Written) → Surrounds (at q w names falls) w f scope
       → AimSteady q.set q.work f (written_aim (here q) o)
   bound_steady None there = tt
   bound_steady {f = f} {names} {falls} (Some t) there =

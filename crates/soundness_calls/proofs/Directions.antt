@@ -75,13 +75,13 @@ bare_closed set g t =
 bare_steady : (set : Setting) {n : ℕ} (p : Point n) (t : Typ) → IsSteady set nobody p (bare_type t)
 bare_steady set p t g a = bare_closed set g t ∙ sym (bare_closed set p.integers t)
 
-bare_wanted : (set : Setting) {n : ℕ} (p : Point n) (t : Typ) → IsWanted set nobody p (bare_type t)
+pub bare_wanted : (set : Setting) {n : ℕ} (p : Point n) (t : Typ) → IsWanted set nobody p (bare_type t)
 bare_wanted set p t = (
   bare_steady set p t,
   ap has_hole (sym (Q.rolls-Of t [] [])) ∙ fold-roll-Reading Bool Bool value_holed type_holed (W.Of t [] []),
 )
 
-bare_aim : (t : Typ) → aimed Aims.Due (bare_type t) ≡ Aims.Due (bare_type t)
+pub bare_aim : (t : Typ) → aimed Aims.Due (bare_type t) ≡ Aims.Due (bare_type t)
 bare_aim t = ap (λ b. if b then Aims.Free else Aims.Due (bare_type t))
     (ap is_hole (sym (Q.rolls-Of t [] [])) ∙ ap is_hole_form (out-roll-Reading (W.Of t [] [])))
 
@@ -273,7 +273,7 @@ across_ends t before e alone none (well_thrown v now b s) =
     call_throws v (record now { locals = before.locals; opened = before.opened }) b (record { state = s.state; locals = refl; opened = refl })
 across_ends t before e alone none (well_stopped cause now) = call_stops cause (record now { locals = before.locals; opened = before.opened })
 
-start_point : Point 0
+pub start_point : Point 0
 start_point = record { fixed = λ i. false; integers = λ i. pos 0; before = λ i e. absurd (true≢false (sym e)) }
 
 module _ (set : Setting) (k : Checks) (rank : ℕ → ℕ) (lets : List Value) (lets_are : LetsAre set nobody set.around.lets lets) (d : ℕ) (m : Direction)

@@ -1,0 +1,3 @@
+pub mod Initials
+pub mod Lets
+pub mod Whole

@@ -1,0 +1,21 @@
+//! Laws of openings: each function's contract is one, and it does nothing.
+#![tactic(auto)]
+
+ghost use Rattle.soundness_openings.specs.Initials.{InitialsAreSound};
+ghost use Rattle.soundness_openings.specs.Lets.{LetsEndWell};
+ghost use Rattle.soundness_openings.specs.Whole.{OpeningsAreSound};
+
+/// An initial value of a register belongs to the register's type, or its run stops.
+pub fn initials_are_sound()
+    ensures { InitialsAreSound }
+{}
+
+/// The names of a top-level let have the indices that the walk over it finds, or its run stops.
+pub fn lets_end_well()
+    ensures { LetsEndWell }
+{}
+
+/// Openings one after the other are never stuck, and the names of top-level lets have such values as the walk tells of them.
+pub fn openings_are_sound()
+    ensures { OpeningsAreSound }
+{}
