@@ -1,0 +1,5 @@
+pub mod Foreseen
+pub mod Changed
+pub mod Named
+pub mod Assigned
+pub mod Assignments
