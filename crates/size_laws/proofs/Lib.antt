@@ -1,3 +1,5 @@
+pub mod Numbers
+pub mod Said
 pub mod Forms
 pub mod Arguments
 pub mod Wide

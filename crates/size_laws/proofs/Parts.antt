@@ -25,7 +25,7 @@ use Rattle.size_laws.specs.Settled.{constants, stood}
 use Rattle.size_laws.proofs.Forms.{of_is, reading_is, value_is}
 
 -- the form of a sized type that is made of one
-out_is : (s : Sized) (z : Sized-F Sized) → roll-Sized z ≡ s → out-Sized s ≡ z
+pub out_is : (s : Sized) (z : Sized-F Sized) → roll-Sized z ≡ s → out-Sized s ≡ z
 out_is s z e = ap out-Sized (sym e) ∙ out-roll-Sized z
 
 module _ (types : Types) (own : List Sized) (of : ℕ → Constant) where
@@ -36,7 +36,7 @@ module _ (types : Types) (own : List Sized) (of : ℕ → Constant) where
   typed = reading_sized types own of
 
   -- a component, an item and a payload of such a type
-  component_of : (ss : List Sized) (k : ℕ) (s : Sized) → slice_get ss k ≡ Some s → part_typ types (component k) (S.Tuple ss) ≡ s
+  pub component_of : (ss : List Sized) (k : ℕ) (s : Sized) → slice_get ss k ≡ Some s → part_typ types (component k) (S.Tuple ss) ≡ s
   component_of ss k s e = ap (component_typ k) (out_is (S.Tuple ss) (Z.Tuple ss) (S.rolls-Tuple ss)) ∙ ap or_never e
 
   item_of_list : (s : Sized) → part_typ types one_item (S.List s) ≡ s

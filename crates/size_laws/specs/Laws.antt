@@ -1,6 +1,7 @@
 -- Opening a value keeps its type, all of whose sizes are constants.
-use Rattle.std.specs.Prelude.{◌≡◌, ℕ, Bool, List, map, slice_get, Some}
+use Rattle.std.specs.Prelude.{◌≡◌, ℕ, ℤ, Bool, List, map, slice_get, Some}
 use Rattle.sail_types.specs.Named.{payload as payload_type}
+use Rattle.sail_types.specs.Sums.{read}
 use Rattle.sail_types.specs.declared.numbers.Index.{Index}
 use Rattle.sail_types.specs.declared.numbers.Num.{Num}
 use Rattle.sail_types.specs.declared.table.Types.{Types}
@@ -15,9 +16,11 @@ use Rattle.value_indices.specs.declared.notes.Fact.{Fact}
 use Rattle.value_indices.specs.Opening.{opening}
 use Rattle.size_values.specs.declared.constants.Constant.{Constant}
 use Rattle.size_values.specs.declared.sized.Sized.{Sized}
+use Rattle.size_values.specs.Numbers.{argument_of}
 use Rattle.size_values.specs.Sized.{named_numbers, reading_sized, typ_sized, value_sized}
 use Rattle.checked_meaning.specs.Items.{constant_of, part_typ}
-use Rattle.size_laws.specs.Settled.{Settled, of_reading, constants, stood}
+use Rattle.size_laws.specs.Known.{AllKnown, IsWithin, all_numbers}
+use Rattle.size_laws.specs.Settled.{Says, Settled, of_reading, constants, stood}
 
 -- a value of a type is opened to indices of the same sized type
 abbrev pub OpeningKeepsSizes : Type 0
@@ -41,3 +44,9 @@ pub record PartsKept (types : Types) (own : List Sized) (of : ℕ → Constant) 
 
 abbrev pub PartsKeepSizes : Type 0
 PartsKeepSizes = (types : Types) (own : List Sized) (of : ℕ → Constant) → PartsKept types own of
+
+-- where what the variables of a type stand for is known, and a size is within the limits as it is said and under these constants, it is one integer
+abbrev pub SizesAreSaid : Type 0
+SizesAreSaid = (types : Types) (own : List Sized) (f : ℕ → ℤ) (is : List Index) (t u : Num) → AllKnown (all_numbers f) is → read is t ≡ Some u
+    → IsWithin (all_numbers f) u → IsWithin (argument_of (constants types own (all_numbers f) is)) t
+    → Says types own (all_numbers f) is (constants types own (all_numbers f) is) t

@@ -1,5 +1,5 @@
 //! The type of a value, all of whose sizes are constants, where the value is opened and where a part of it is taken.
-ghost use Rattle.size_laws.specs.Laws.{OpeningKeepsSizes, PartsKeepSizes};
+ghost use Rattle.size_laws.specs.Laws.{OpeningKeepsSizes, PartsKeepSizes, SizesAreSaid};
 
 /// A value of a type, each of whose sizes can be said under what its variables stand for, and is one integer both ways, is opened to indices
 /// of the same type under constants.
@@ -11,4 +11,10 @@ pub fn opening_keeps_sizes()
 /// sizes hang on what is noted of the union's arguments.
 pub fn parts_keep_sizes()
     ensures { PartsKeepSizes }
+{}
+
+/// Where what the variables of a type stand for is known, a size is one integer as it is said and under these constants, when it is within the
+/// limits of sizes both ways.
+pub fn sizes_are_said()
+    ensures { SizesAreSaid }
 {}

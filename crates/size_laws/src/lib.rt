@@ -3,4 +3,4 @@
 
 mod laws;
 
-pub use laws::{opening_keeps_sizes, parts_keep_sizes};
+pub use laws::{opening_keeps_sizes, parts_keep_sizes, sizes_are_said};
