@@ -16,6 +16,7 @@ use Rattle.sail_types.specs.Sums.{and_then, constant, difference, read, sum, zer
 use Rattle.sail_types.proofs.SumNumbers.{some_same, then_parts, sum_number_is, difference_number}
 use Rattle.sail_types.proofs.Substituted.{number_constant}
 use Rattle.sail_types.specs.declared.table.Types.{Types}
+use Rattle.sail_types.specs.declared.numbers.Con.TheVariants as C
 use Rattle.sail_types.specs.declared.numbers.Num.{Num}
 use Rattle.sail_types.specs.declared.values.Value.{Value, Value-F, out-Value}
 use Rattle.sail_types.specs.declared.values.Value.TheOpen as V
@@ -31,19 +32,21 @@ use Rattle.sail_core.specs.Patterns.{parts_or_wrong, widths_of, known_sum, solve
 use Rattle.value_indices.specs.declared.indices.Indices.TheOpen as W
 use Rattle.value_indices.specs.declared.indices.Indices.TheVariants as I
 use Rattle.value_indices.specs.declared.notes.Fact.{Fact}
-use Rattle.value_indices.specs.Steps.{each, owe_under}
+use Rattle.value_indices.specs.declared.notes.Made.TheVariants as Makes
+use Rattle.value_indices.specs.Steps.{each, owe_under, size_note}
 use Rattle.checked_meaning.specs.Items.{Item, item, fixed_typ}
 use Rattle.checked_meaning.specs.Checked.{Cases}
 use Rattle.pattern_leaves.specs.declared.names.Bound.{Bound}
 use Rattle.pattern_leaves.specs.Settings.{Around}
-use Rattle.pattern_leaves.specs.Widths.{known_widths, sum_of, sum_from, first_sum, all_known, cut_condition, bits_part, cut_width, cut_owed}
+use Rattle.pattern_leaves.specs.Widths.{known_widths, sum_of, sum_from, first_sum, all_known, one_rest, cut_condition, cut_conditions, bits_part, cut_width}
+use Rattle.pattern_leaves.specs.Widths.{cut_owed}
 use Rattle.pattern_notes.specs.declared.matching.Matching.{Matching}
 use Rattle.pattern_notes.specs.Patterns.{Look, cut_parts, cut_met}
 use Rattle.value_laws.specs.Belonging.{Integers, standing, form_holds}
 use Rattle.value_laws.specs.Known.{Point, Agree, Later, Goes}
 use Rattle.value_laws.proofs.Basics.{no, two}
 use Rattle.value_laws.proofs.Steps.{same, agree_on, gives, goes_then}
-use Rattle.value_laws.proofs.Numbers.{at_most_is, number_read}
+use Rattle.value_laws.proofs.Numbers.{at_most_is, number_read, truth_is}
 use Rattle.value_laws.proofs.Values.{meant_is}
 use Rattle.value_laws.proofs.Meanings.{bits_same}
 use Rattle.value_laws.proofs.Knowing.{form_meant, number_goes}
@@ -56,7 +59,7 @@ use Rattle.pattern_laws.proofs.Steps.{walks, knowing, after_beside, owed_quiet, 
 use Rattle.pattern_laws.proofs.KnownNumbers.{known_number}
 use Rattle.pattern_laws.proofs.Literals.{pos_same}
 use Rattle.pattern_laws.proofs.Values.{bits_had, wide_as}
-use Rattle.pattern_laws.proofs.Points.{Kept, Is, EachIs, EachSuits, all_bear, names_on}
+use Rattle.pattern_laws.proofs.Points.{Kept, Is, EachIs, EachSuits, all_bear, names_on, note_goes}
 use Rattle.pattern_laws.proofs.Parts.{reads, Grounds, grounds_on, Names, AllWell, EachStands, parts_beside, seen_parts}
 use Rattle.pattern_laws.proofs.Heads.{as_many_stand}
 
@@ -86,23 +89,20 @@ natural_known None h = no h
 natural_known (Some (pos n)) h = (n, refl)
 natural_known (Some (negsuc n)) h = no h
 
-widths_known : (nu : Givens) (may : Bool) (ws : List (Option Num)) → widths_stand nu may ws ≡ true
-    → (ns : List (Option ℕ)) × (widths_of nu ws ≡ Some ns) × EachKnown nu ws ns × (rests ns ≤ allowed may)
-widths_known nu may [] h = ([], refl, tt, omega arith)
-widths_known nu may (Some t ∷ ws) h =
-    let both = and_parts (is_known nu t) (widths_stand nu may ws) h in
+widths_known : (nu : Givens) (ws : List (Option Num)) → widths_stand nu ws ≡ true
+    → (ns : List (Option ℕ)) × (widths_of nu ws ≡ Some ns) × EachKnown nu ws ns
+widths_known nu [] h = ([], refl, tt)
+widths_known nu (Some t ∷ ws) h =
+    let both = and_parts (is_known nu t) (widths_stand nu ws) h in
     let n = natural_known (known nu t) both.0 in
-    let more = widths_known nu may ws both.1 in (
+    let more = widths_known nu ws both.1 in (
       Some n.0 ∷ more.0,
       (λ j. and_then (option_map Some (and_then (n.1 j) natural_of)) (λ m. option_map (λ ns. m ∷ ns) (more.1 j))),
       (n.1, more.2),
-      more.3,
     )
-widths_known nu true (None ∷ ws) h =
-    let more = widths_known nu false ws h in
-    let l : rests more.0 ≤ 0 = more.3 in
-    (None ∷ more.0, ap (λ o. and_then (Some None) (λ m. option_map (λ ns. m ∷ ns) o)) more.1, more.2, omega (arith, l))
-widths_known nu false (None ∷ ws) h = no h
+widths_known nu (None ∷ ws) h =
+    let more = widths_known nu ws h in
+    (None ∷ more.0, ap (λ o. and_then (Some None) (λ m. option_map (λ ns. m ∷ ns) o)) more.1, more.2)
 
 known_long : (nu : Givens) (ws : List (Option Num)) (ns : List (Option ℕ)) → EachKnown nu ws ns → length ns ≡ length ws
 known_long nu [] [] h = refl
@@ -126,12 +126,12 @@ one_left rest (None ∷ ns) h =
     let e : all (map (solved rest) ns) ≡ known_sum ns = none_left rest ns (omega (arith, l)) in omega (arith, e)
 one_left rest (Some n ∷ ns) h = let e : all (map (solved rest) ns) ≡ known_sum ns + rest = one_left rest ns h in omega (arith, e)
 
--- all of the word is used up
+-- all of the word is used up, and one part at most has the rest
 abbrev Fits : ℕ → List (Option ℕ) → Type 0
-Fits width ns = (known_sum ns ≤ width) × (rests ns ≡ 0 → known_sum ns ≡ width)
+Fits width ns = (known_sum ns ≤ width) × (rests ns ≡ 0 → known_sum ns ≡ width) × (rests ns ≤ 1)
 
-used_up : (width : ℕ) (ns : List (Option ℕ)) → rests ns ≤ 1 → Fits width ns → all (map (solved (width - known_sum ns)) ns) ≡ width
-used_up width ns few fits = by (rests ns) refl
+used_up : (width : ℕ) (ns : List (Option ℕ)) → Fits width ns → all (map (solved (width - known_sum ns)) ns) ≡ width
+used_up width ns fits = by (rests ns) refl
   where
     by : (k : ℕ) → rests ns ≡ k → all (map (solved (width - known_sum ns)) ns) ≡ width
     by zero e = none_left (width - known_sum ns) ns (omega (arith, e)) ∙ fits.1 e
@@ -139,7 +139,7 @@ used_up width ns few fits = by (rests ns) refl
         let l : known_sum ns ≤ width = fits.0 in
         let s : all (map (solved (width - known_sum ns)) ns) ≡ known_sum ns + (width - known_sum ns) = one_left (width - known_sum ns) ns e in
         omega (arith, l, s)
-    by (suc (suc k)) e = let l : rests ns ≤ 1 = few in absurd (omega (arith, l, e))
+    by (suc (suc k)) e = let l : rests ns ≤ 1 = fits.2 in absurd (omega (arith, l, e))
 
 -- at bits of each width
 width_by : (p : Sized → Bool) (types : Types) (m n : ℕ) (b : Bool) → nat_eq n (suc m) ≡ b → n ≤ suc m → p (fixed_typ types (bits_typ (suc m))) ≡ true
@@ -202,10 +202,12 @@ module _ (around : Around) (past : Positive) (own : List Closed) (y : Typing aro
   abbrev Gives : {n : ℕ} → Point n → Option Num → ℕ → Type 0
   Gives f o k = (k ≤ 128) × ((u : Num) → o ≡ Some u → (g : Integers) → Agree f g → number (there g) u ≡ pos k)
 
-  part_goes : {n : ℕ} {f : Point n} {facts : List Fact} (o : Option Num) (k : ℕ) → Gives f o k
-      → Goes past n f facts (bits_part o) (λ g i. Is around.types past own y (bits_kept k) g i)
-  part_goes o k h =
-      goes_then (number_goes around.types past own o (pos k) (small_width k h.0) h.1) (λ m g fs u l e. gives (I.Bits u) (λ i c. bits_mean k u i (e i c)))
+  part_goes : {n : ℕ} {f : Point n} {facts : List Fact} (place : Place) (o : Option Num) (k : ℕ) → Gives f o k
+      → Goes past n f facts (bits_part place o) (λ g i. Is around.types past own y (bits_kept k) g i)
+  part_goes place o k h =
+      goes_then (number_goes around.types past own o (pos k) (small_width k h.0) h.1) (λ m g fs u l e.
+      goes_then (note_goes (λ here. size_note here place (Makes.ByIndices (I.Bits u)))) (λ m2 g2 fs2 t l2 e2.
+      gives (I.Bits u) (λ i c. bits_mean k u i (e i (agree_on l2 c)))))
 
   -- what a part's width is said to be
   abbrev said : Option Num → Option (Option Num) → Option Num
@@ -224,18 +226,18 @@ module _ (around : Around) (past : Positive) (own : List Closed) (y : Typing aro
   gives_on rest (o ∷ os) [] l h = absurd h
   gives_on rest (o ∷ os) (k ∷ ks) l h = ((h.0.0, λ u e g a. h.0.1 u e g (agree_on l a)), gives_on rest os ks l h.1)
 
-  width_goes : {n : ℕ} {f : Point n} {facts : List Fact} (rest : Option Num) (o : Option (Option Num)) (k : ℕ) → Gives f (said rest o) k
-      → Goes past n f facts (cut_width rest o) (λ g i. Is around.types past own y (bits_kept k) g i)
-  width_goes rest None k h = part_goes rest k h
-  width_goes rest (Some o) k h = part_goes o k h
+  width_goes : {n : ℕ} {f : Point n} {facts : List Fact} (place : Place) (rest : Option Num) (o : Option (Option Num)) (k : ℕ) → Gives f (said rest o) k
+      → Goes past n f facts (cut_width place rest o) (λ g i. Is around.types past own y (bits_kept k) g i)
+  width_goes place rest None k h = part_goes place rest k h
+  width_goes place rest (Some o) k h = part_goes place o k h
 
-  widths_go : (rest : Option Num) (os : List (Option (Option Num))) (ks : List ℕ) {n : ℕ} {f : Point n} {facts : List Fact} → EachGives f rest os ks
-      → Goes past n f facts (each (cut_width rest) os) (λ g is. EachIs around.types past own y (map bits_kept ks) g is)
-  widths_go rest [] [] h = gives [] (λ g a. tt)
-  widths_go rest [] (k ∷ ks) h = absurd h
-  widths_go rest (o ∷ os) [] h = absurd h
-  widths_go rest (o ∷ os) (k ∷ ks) h =
-      goes_then (width_goes rest o k h.0) (λ m g fs i l e. goes_then (widths_go rest os ks (gives_on rest os ks l h.1)) (λ m2 g2 fs2 is l2 e2.
+  widths_go : (place : Place) (rest : Option Num) (os : List (Option (Option Num))) (ks : List ℕ) {n : ℕ} {f : Point n} {facts : List Fact}
+      → EachGives f rest os ks → Goes past n f facts (each (cut_width place rest) os) (λ g is. EachIs around.types past own y (map bits_kept ks) g is)
+  widths_go place rest [] [] h = gives [] (λ g a. tt)
+  widths_go place rest [] (k ∷ ks) h = absurd h
+  widths_go place rest (o ∷ os) [] h = absurd h
+  widths_go place rest (o ∷ os) (k ∷ ks) h =
+      goes_then (width_goes place rest o k h.0) (λ m g fs i l e. goes_then (widths_go place rest os ks (gives_on rest os ks l h.1)) (λ m2 g2 fs2 is l2 e2.
       gives (i ∷ is) (λ j c. (e j (agree_on l2 c), e2 j c))))
 
   -- ---- the run's parts
@@ -373,6 +375,24 @@ module _ (around : Around) (past : Positive) (own : List Closed) (y : Typing aro
         at_most_pos : (a b : ℕ) → int_le (pos a) (pos b) ≡ true → a ≤ b
         at_most_pos a b h = leb-true a b h
 
+    few_rests : (may : Bool) (ws : List (Option Num)) (ns : List (Option ℕ)) → EachKnown w.numbers ws ns → one_rest may (known_widths around ws) ≡ true
+        → rests ns ≤ allowed may
+    few_rests may [] [] h e = omega arith
+    few_rests may [] (m ∷ ns) h e = absurd h
+    few_rests may (None ∷ ws) [] h e = absurd h
+    few_rests true (None ∷ ws) (None ∷ ns) h e = let l : rests ns ≤ 0 = few_rests false ws ns h e in omega (arith, l)
+    few_rests false (None ∷ ws) (None ∷ ns) h e = no e
+    few_rests may (None ∷ ws) (Some m ∷ ns) h e = absurd h
+    few_rests may (Some v ∷ ws) [] h e = absurd h
+    few_rests may (Some v ∷ ws) (None ∷ ns) h e = absurd h
+    few_rests may (Some v ∷ ws) (Some m ∷ ns) h e = few_rests may ws ns h.1 e
+
+    -- more than one rest owes what is false
+    conditions_by : (t : Num) (total : Option Num) (c b : Bool) → Said (there f.integers) (if c then cut_condition t total b else Some (C.Truth false) ∷ [])
+        → (c ≡ true) × Said (there f.integers) (cut_condition t total b)
+    conditions_by t total true b d = (refl, d)
+    conditions_by t total false b d = no (sym (truth_is (there f.integers) false) ∙ d.0)
+
   -- ---- a word and its parts
 
   cut_fits : {n : ℕ} {f : Point n} {facts : List Fact} (s : Good f) (place : Place) (how : Matching) (looks : List Look) (ws : List (Option Num))
@@ -383,9 +403,10 @@ module _ (around : Around) (past : Positive) (own : List Closed) (y : Typing aro
       let os = known_widths around ws in
       let rest = and_then (first_sum os) (difference t) in
       let owed = (met_after q past n facts (cut_parts place looks around how os rest) (cut_owed place os t) met).1 in
-      let told = goals_said q past facts place (cut_condition t (first_sum os) (all_known os)) owed f.integers (stands.there f.integers (same f)) in
-      let fit = fits_by f s t (first_sum os) (all_known os) width (known_sum ns) e (λ u k. first_sums f s ws ns h u k f.integers (same f)) told in
-      (fit.0, λ none. fit.1 (known_all f s ws ns h none))
+      let told = conditions_by f s t (first_sum os) (one_rest true os) (all_known os)
+      (goals_said q past facts place (cut_conditions t (first_sum os) os) owed f.integers (stands.there f.integers (same f))) in
+      let fit = fits_by f s t (first_sum os) (all_known os) width (known_sum ns) e (λ u k. first_sums f s ws ns h u k f.integers (same f)) told.1 in
+      (fit.0, (λ none. fit.1 (known_all f s ws ns h none)), few_rests f s true ws ns h told.0)
 
   rest_is : {n : ℕ} {f : Point n} (s : Good f) (ws : List (Option Num)) (ns : List (Option ℕ)) → EachKnown w.numbers ws ns → (t : Num) (width : ℕ)
       → ((g : Integers) → Agree f g → number (there g) t ≡ pos width) → known_sum ns ≤ width → (u : Num)
@@ -400,14 +421,14 @@ module _ (around : Around) (past : Positive) (own : List Closed) (y : Typing aro
   pub cut_beside : {n : ℕ} {f : Point n} {facts : List Fact} (place : Place) (how : Matching) (looks : List Look) (ms : List (Matcher Item))
       (ss : List Standing) → AllWell around past own y q cases w looks ms ss → (ws : List (Option Num)) (t : Num) (x : Item)
       → Bears around.types past own y f (I.Bits t) x → Good f
-      → ((nat_eq (length ws) (length ss) && widths_stand w.numbers true ws) && list_all (at_widths around.types 128) ss) ≡ true
+      → ((nat_eq (length ws) (length ss) && widths_stand w.numbers ws) && list_all (at_widths around.types 128) ss) ≡ true
       → (v : Value-F Value) → out-Value x.val ≡ v
       → Beside q past n f facts (cut_met place looks around how (known_widths around ws) t)
       (as_run (so_many (length ms) (opened z w.numbers (H.Cut ws) (length ms) x v)) then run_parts ms) Found
   cut_beside {n} {f} {facts} place how looks ms ss fine ws t x b s d (V.Bits bs) e =
-      let one = and_parts (nat_eq (length ws) (length ss) && widths_stand w.numbers true ws) (list_all (at_widths around.types 128) ss) d in
-      let both = and_parts (nat_eq (length ws) (length ss)) (widths_stand w.numbers true ws) one.0 in
-      let found = widths_known w.numbers true ws both.1 in
+      let one = and_parts (nat_eq (length ws) (length ss) && widths_stand w.numbers ws) (list_all (at_widths around.types 128) ss) d in
+      let both = and_parts (nat_eq (length ws) (length ss)) (widths_stand w.numbers ws) one.0 in
+      let found = widths_known w.numbers ws both.1 in
       let ns = found.0 in
       let held : (g : Integers) → Agree f g → form_holds around.types (there g) own (W.Bits t) (V.Bits bs) ≡ true =
       λ g a. ap (form_holds around.types (there g) own (W.Bits t)) (sym e) ∙ bits_had around.types past own g t x.val (b.has_it g a) in
@@ -417,7 +438,7 @@ module _ (around : Around) (past : Positive) (own : List Closed) (y : Typing aro
       knowing (cut_fits s place how looks ws ns found.2 t (length bs) (wide f.integers (same f))) (λ fit.
       let left = length bs - known_sum ns in
       let widths = map (solved left) ns in
-      let up : all widths ≡ length bs = used_up (length bs) ns found.3 fit in
+      let up : all widths ≡ length bs = used_up (length bs) ns fit in
       let parts = cut_gives widths bs up in
       let enough : all widths ≤ 128 = omega (arith, up, few) in
       let many : length widths ≡ length ss =
@@ -429,7 +450,7 @@ module _ (around : Around) (past : Positive) (own : List Closed) (y : Typing aro
       (seen_parts around past own y q cases w ms parts.0
       (bits_long widths parts.0 parts.2 ∙ many ∙ as_many_stand around past own y q cases w looks ms ss fine)
       (after_beside (cut_owed place (known_widths around ws) t)
-      (walks (widths_go rest (known_widths around ws) widths
+      (walks (widths_go place rest (known_widths around ws) widths
       (each_said f s rest ws ns left found.2 enough (rest_is s ws ns found.2 t (length bs) wide fit.0)))
       (λ m g fs is l is_so. parts_beside around past own y q cases w place how looks ms ss fine is parts.0
       (all_bear around.types past own y is (map bits_kept widths) parts.0 (bits_suit widths parts.0 enough parts.2) is_so)

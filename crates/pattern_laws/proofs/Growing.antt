@@ -1,7 +1,8 @@
 -- The walk over a pattern counts its variables on, and what was in force stays so, whatever it is matched with.
-use Rattle.std.proofs.Common.{ℕ, ℤ, Bool, true, false, List, [], ◌∷◌, map, Option, Some, None, slice_get, refl, sym, subst, append-nil}
+use Rattle.std.proofs.Common.{ℕ, nat_eq, ℤ, Bool, true, false, List, [], ◌∷◌, length, map, Option, Some, None, slice_get, refl, sym, subst, append-nil}
 use Rattle.sail_base.specs.declared.place.Place.{Place}
 use Rattle.sail_types.specs.Zero.{deepest}
+use Rattle.sail_types.specs.Named.{payload}
 use Rattle.sail_types.specs.declared.numbers.Num.{Num}
 use Rattle.sail_types.specs.declared.table.Types.{Types}
 use Rattle.sail_core.specs.declared.model.Direction.{Direction}
@@ -29,9 +30,11 @@ use Rattle.value_fits.specs.Fitting.{fits, owe_fit_under, owe_made_under}
 use Rattle.pattern_leaves.specs.declared.names.Bound.{Bound}
 use Rattle.pattern_leaves.specs.Settings.{Around, exponents_owed, written_in}
 use Rattle.pattern_leaves.specs.Literals.{no_names, wrong_pattern, integer_met, is_of, met_where, with_integer, with_bits, literal_met}
+use Rattle.pattern_leaves.specs.Payloads.{payload_types, payload_readings}
 use Rattle.pattern_leaves.specs.Widths.{bits_part, cut_width}
 use Rattle.pattern_notes.specs.declared.matching.Matching.{Matching}
 use Rattle.pattern_notes.specs.Patterns.{Look, inside, also, parts_match, taken_out, all_taken, item_met, items_met, cons_met, after_inner, head_met}
+use Rattle.pattern_notes.specs.Patterns.{constructor_met, union_met}
 use Rattle.pattern_notes.specs.Patterns.{each_met_never, opens_met, annotation_owed, written_owed, typed_met, direction_met, result_of, option_of, form_match}
 use Rattle.pattern_notes.specs.Patterns.{look, look_form, looks, arm_match, one_match}
 use Rattle.fitting_laws.proofs.Counted.{fits_count}
@@ -115,12 +118,12 @@ literal_grows place in_case l (W.Integer t) = with_integer_grows place in_case t
 literal_grows place in_case l (W.Bits t) = with_bits_grows place t l
 literal_grows place in_case l i = where_grows place (is_of l i)
 
-part_grows : (o : Option Num) → Grows (bits_part o)
-part_grows o = bind_grows _ _ (number_grows o) (λ n. give_grows _)
+part_grows : (place : Place) (o : Option Num) → Grows (bits_part place o)
+part_grows place o = bind_grows _ _ (number_grows o) (λ n. bind_grows _ _ (note_grows _) (λ t. give_grows _))
 
-width_grows : (rest : Option Num) (o : Option (Option Num)) → Grows (cut_width rest o)
-width_grows rest None = part_grows rest
-width_grows rest (Some o) = part_grows o
+width_grows : (place : Place) (rest : Option Num) (o : Option (Option Num)) → Grows (cut_width place rest o)
+width_grows place rest None = part_grows place rest
+width_grows place rest (Some o) = part_grows place o
 
 exponents_grows : (around : Around) (ns : List WrittenNumber) → Grows (exponents_owed around ns)
 exponents_grows around [] = give_grows tt
@@ -166,12 +169,18 @@ module _ (around : Around) where
   never_grows how [] c = none_grows
   never_grows how (p ∷ ps) c = also_grows _ _ (c.0 (inside how) I.Never) (never_grows how ps c.1)
 
+  union_grows : (place : Place) (same_union : Bool) (walk : Walk (List Bound)) → Grows walk → Grows (union_met place same_union walk)
+  union_grows place true walk c = c
+  union_grows place false walk c = wrong_grows place
+
   head_grows : (place : Place) (head : Head) (how : Matching) (ps : List Look) → AllGrow ps → (i : Indices-F Indices Reading)
       → Grows (head_met place head ps around how i)
   head_grows place (H.Is l) how ps c i = literal_grows place how.in_case l i
   head_grows place H.Tuple how ps c (W.Tuple is) = parts_grows place how ps c is
   head_grows place H.Tuple how ps c i = wrong_grows place
-  head_grows place (H.Constructor u k) how ps c (W.Named v is rs) = bind_grows _ _ (all_grows place _) (λ js. parts_grows place how ps c js)
+  head_grows place (H.Constructor u k) how ps c (W.Named v is rs) =
+      union_grows place (nat_eq u v) (constructor_met place ps around how (payload_readings (payload_types (length ps) (payload around.types u k)) is rs))
+      (bind_grows _ _ (all_grows place _) (λ js. parts_grows place how ps c js))
   head_grows place (H.Constructor u k) how ps c i = wrong_grows place
   head_grows place H.Vector how ps c (W.Vector n r) = after_grows _ _ (items_grows place how ps c r) (λ e. under_grows e place _)
   head_grows place H.Vector how ps c i = wrong_grows place
@@ -180,7 +189,7 @@ module _ (around : Around) where
   head_grows place H.Cons how ps c (W.List r) = cons_grows place how ps c r
   head_grows place H.Cons how ps c i = wrong_grows place
   head_grows place (H.Cut ws) how ps c (W.Bits w) =
-      after_grows _ _ (bind_grows _ _ (each_grows _ (width_grows _) _) (λ js. parts_grows place how ps c js)) (λ e. under_grows e place _)
+      after_grows _ _ (bind_grows _ _ (each_grows _ (width_grows place _) _) (λ js. parts_grows place how ps c js)) (λ e. under_grows e place _)
   head_grows place (H.Cut ws) how ps c i = wrong_grows place
 
   opens_grows : (place : Place) (head : Head) (how : Matching) (ps : List Look) → AllGrow ps → (i : Indices-F Indices Reading)

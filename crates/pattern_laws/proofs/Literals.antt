@@ -18,7 +18,6 @@ use Rattle.sail_types.specs.declared.numbers.Num.{Num}
 use Rattle.sail_types.specs.declared.table.Types.{Types}
 use Rattle.sail_types.specs.declared.values.Value.{Value, Value-F, out-Value}
 use Rattle.sail_types.specs.declared.values.Value.TheOpen as V
-use Rattle.size_values.specs.declared.sized.Sized.{out-Sized}
 use Rattle.sail_core.specs.declared.patterns.Literal.{Literal}
 use Rattle.sail_core.specs.declared.patterns.Literal.TheVariants as L
 use Rattle.sail_core.specs.Run.{Local, Run, gives, ◌then◌}
@@ -40,8 +39,8 @@ use Rattle.value_laws.proofs.Basics.{no}
 use Rattle.value_laws.proofs.Alike.{asks}
 use Rattle.value_laws.proofs.Steps.{same, assumes}
 use Rattle.pattern_laws.specs.Beside.{AllMet, Stands, Ends, Behind, Beside}
-use Rattle.pattern_laws.specs.Typing.{Typing, Bears, NamesBear, named_place}
-use Rattle.pattern_laws.specs.Standing.{is_member, literal_stands}
+use Rattle.pattern_laws.specs.Typing.{Typing, Bears, NamesBear}
+use Rattle.pattern_laws.specs.Standing.{literal_stands}
 use Rattle.pattern_laws.proofs.Conditions.{equal_numbers, numbers_equal, goals_said}
 use Rattle.pattern_laws.proofs.Steps.{walks, rests, owes, knowing, falling, wrongs}
 use Rattle.pattern_laws.proofs.Tables.{enum_alone}
@@ -141,35 +140,37 @@ module _ (types : Types) (past : Positive) (own : List Closed) (y : Typing types
 
     -- ---- members, of the value's own enum
 
-    member_lit : (e k u : ℕ) (is : List Index) (rs : List Closed) (v : Value-F Value) → (nat_eq u e && nat_lt k (length (members types e))) ≡ true
+    member_lit : (e k u : ℕ) (is : List Index) (rs : List Closed) (v : Value-F Value) → u ≡ e → nat_lt k (length (members types e)) ≡ true
         → form_holds types (standing past f.integers) own (W.Named u is rs) v ≡ true
         → Beside q past n f facts no_names (looking (literal_seen (L.Member e k) v)) Names
-    member_lit e k u is rs (V.Member j m) s h =
-        let own_enum : u ≡ e = (Decides-eqb u e).0 (and_parts (nat_eq u e) _ s).0 in
+    member_lit e k u is rs (V.Member j m) own_enum s h =
         let same_enum : j ≡ u = (Decides-eqb j u).0 (and_parts (nat_eq j u) _ h).0 in
         subst (λ c. Beside q past n f facts no_names (looking (if c then tested (nat_eq k m) else Wrong)) Names)
         (sym ((Decides-eqb e j).1 (sym (same_enum ∙ own_enum)))) (tests (nat_eq k m) (λ i. nothing))
-    member_lit e k u is rs (V.Struct j vs) s h =
-        let parts = and_parts (nat_eq u e) (nat_lt k (length (members types e))) s in
+    member_lit e k u is rs (V.Struct j vs) own_enum s h =
         let both = and_parts (nat_eq j u) (fields_belong (asks types vs) (assigned (standing past f.integers) is) (closeds rs) (fields types j)) h in
-        let place_same : j ≡ e = (Decides-eqb j u).0 both.0 ∙ (Decides-eqb u e).0 parts.0 in
+        let place_same : j ≡ e = (Decides-eqb j u).0 both.0 ∙ own_enum in
         no (sym (ap (fields_belong (asks types vs) (assigned (standing past f.integers) is) (closeds rs))
-        (ap (fields types) place_same ∙ (enum_alone types e k parts.1).0)) ∙ both.1)
-    member_lit e k u is rs (V.Union j c v) s h =
-        let parts = and_parts (nat_eq u e) (nat_lt k (length (members types e))) s in
+        (ap (fields types) place_same ∙ (enum_alone types e k s).0)) ∙ both.1)
+    member_lit e k u is rs (V.Union j c v) own_enum s h =
         let both = and_parts (nat_eq j u) (payload_belongs (belongs types v) (assigned (standing past f.integers) is) (closeds rs) (payload types j c)) h in
-        let place_same : j ≡ e = (Decides-eqb j u).0 both.0 ∙ (Decides-eqb u e).0 parts.0 in
+        let place_same : j ≡ e = (Decides-eqb j u).0 both.0 ∙ own_enum in
         no (sym (ap (payload_belongs (belongs types v) (assigned (standing past f.integers) is) (closeds rs))
-        (ap (λ i. payload types i c) place_same ∙ (enum_alone types e k parts.1).1 c)) ∙ both.1)
-    member_lit e k u is rs v s h = no h
+        (ap (λ i. payload types i c) place_same ∙ (enum_alone types e k s).1 c)) ∙ both.1)
+    member_lit e k u is rs v own_enum s h = no h
 
-    named_lit : (l : Literal) (u : ℕ) (is : List Index) (rs : List Reading) (x : Item) → literal_stands types l x.typ ≡ true
-        → named_place (out-Sized x.typ) ≡ Some u
+    member_by : (e k u : ℕ) (is : List Index) (rs : List Closed) (v : Value-F Value) (same_enum : Bool) → nat_eq e u ≡ same_enum
+        → nat_lt k (length (members types e)) ≡ true → form_holds types (standing past f.integers) own (W.Named u is rs) v ≡ true
+        → Beside q past n f facts (met_where place same_enum) (looking (literal_seen (L.Member e k) v)) Names
+    member_by e k u is rs v true d s h = member_lit e k u is rs v (sym ((Decides-eqb e u).0 d)) s h
+    member_by e k u is rs v false d s h = wrongs place
+
+    named_lit : (l : Literal) (u : ℕ) (is : List Index) (rs : List Reading) (x : Item) → literal_stands types l ≡ true
         → form_holds types (standing past f.integers) own (W.Named u is (map (closed types (standing past f.integers) own) rs)) (out-Value x.val) ≡ true
         → Beside q past n f facts (met_where place (is_of l (W.Named u is rs))) (looking (literal_seen l (out-Value x.val))) Names
-    named_lit (L.Member e k) u is rs x s p h =
-        member_lit e k u is (map (closed types (standing past f.integers) own) rs) (out-Value x.val) (ap (is_member types e k) (sym p) ∙ s) h
-    named_lit l u is rs x s p h = wrongs place
+    named_lit (L.Member e k) u is rs x s h =
+        member_by e k u is (map (closed types (standing past f.integers) own) rs) (out-Value x.val) (nat_eq e u) refl s h
+    named_lit l u is rs x s h = wrongs place
 
   -- ---- a literal, of a value of these indices
 
@@ -199,7 +200,7 @@ module _ (types : Types) (past : Positive) (own : List Closed) (y : Typing types
   not_there place false e = wrongs place
 
   pub literal_beside : {n : ℕ} {f : Point n} {facts : List Fact} (place : Place) (in_case : Bool) (l : Literal) (i : Indices) (x : Indices-F Indices Reading)
-      → roll-Indices x ≡ i → (v : Item) → Bears types past own y f i v → literal_stands types l v.typ ≡ true → Matched f facts place in_case l x v
+      → roll-Indices x ≡ i → (v : Item) → Bears types past own y f i v → literal_stands types l ≡ true → Matched f facts place in_case l x v
   literal_beside {f = f} place in_case l i W.Never e v b s =
       let h = subst (λ j. has types (standing past f.integers) own j v.val ≡ true) (sym e ∙ I.rolls-Never) (b.has_it f.integers (same f)) in
       absurd (never_had types past own f.integers v.val h)
@@ -226,7 +227,6 @@ module _ (types : Types) (past : Positive) (own : List Closed) (y : Typing types
   literal_beside place in_case l i (W.Tuple is) e v b s = not_there place (is_of l (W.Tuple is)) (not_tuple l is)
   literal_beside {f = f} place in_case l i (W.Named u is rs) e v b s =
       named_lit place in_case l u is rs v s
-      (y.kept.named f.integers u is rs v.typ (subst (λ j. y.fits f.integers j v.typ) (sym e ∙ I.rolls-Named u is rs) (b.typed f.integers (same f))))
       (named_had types past own f.integers u is rs v.val
       (subst (λ j. has types (standing past f.integers) own j v.val ≡ true) (sym e ∙ I.rolls-Named u is rs) (b.has_it f.integers (same f))))
   literal_beside place in_case l i (W.Variable k) e v b s = not_there place (is_of l (W.Variable k)) (not_variable l k)

@@ -27,7 +27,7 @@ use Rattle.value_laws.proofs.Steps.{same, agree_on, no_later, goes_on}
 use Rattle.value_laws.proofs.Opening.{opening_sound}
 use Rattle.pattern_laws.specs.Typing.{Typing, Bears, AllBear, HeldBears, NamesBear}
 
-note_goes : {past : Positive} {n : ℕ} {f : Point n} {facts : List Fact} (make : List Fact → Note) → Goes past n f facts (note make) (λ g t. Unit {0})
+pub note_goes : {past : Positive} {n : ℕ} {f : Point n} {facts : List Fact} (make : List Fact → Note) → Goes past n f facts (note make) (λ g t. Unit {0})
 unfolding note
 note_goes {f} make = record { goes = record { point = f; later = no_later f; true_there = λ g a t. t; holds = λ g a. tt; given = refl } }
 

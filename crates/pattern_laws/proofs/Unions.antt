@@ -14,8 +14,7 @@ use Rattle.sail_types.specs.declared.types.Typ.TheOpen as T
 use Rattle.sail_types.specs.declared.types.Typ.TheViews.{roll-out-Typ}
 use Rattle.sail_types.specs.declared.values.Value.{Value, Value-F, out-Value}
 use Rattle.sail_types.specs.declared.values.Value.TheOpen as V
-use Rattle.size_values.specs.declared.sized.Sized.{out-Sized}
-use Rattle.sail_core.specs.Run.{Local, ◌then◌}
+use Rattle.sail_core.specs.Run.{Local, Run, ◌then◌}
 use Rattle.sail_core.specs.Making.{Making, World, payload}
 use Rattle.sail_core.specs.Values.{parts_in, form_parts}
 use Rattle.sail_core.specs.declared.patterns.Head.TheVariants as H
@@ -33,7 +32,7 @@ use Rattle.pattern_leaves.specs.declared.names.Bound.{Bound}
 use Rattle.pattern_leaves.specs.Settings.{Around}
 use Rattle.pattern_leaves.specs.Payloads.{part_types, payload_types, payload_readings}
 use Rattle.pattern_notes.specs.declared.matching.Matching.{Matching}
-use Rattle.pattern_notes.specs.Patterns.{Look, named_readings, taken_out, all_taken, constructor_met}
+use Rattle.pattern_notes.specs.Patterns.{Look, named_readings, taken_out, all_taken, constructor_met, union_met}
 use Rattle.value_laws.specs.Belonging.{Integers, standing, closeds, closed, types_or_own, form_holds}
 use Rattle.value_laws.specs.Known.{Point, Agree, Later, Goes}
 use Rattle.value_laws.proofs.Basics.{no, fronts}
@@ -43,9 +42,9 @@ use Rattle.value_laws.proofs.Alike.{asks}
 use Rattle.value_laws.proofs.Arguments.{assigned_there}
 use Rattle.fitting_laws.proofs.Within.{AllWithin, belongs_within}
 use Rattle.pattern_laws.specs.Beside.{Ends, Behind, Beside}
-use Rattle.pattern_laws.specs.Typing.{Typing, Bears, EachReads, named_place}
+use Rattle.pattern_laws.specs.Typing.{Typing, Bears, EachReads}
 use Rattle.pattern_laws.specs.Standing.{Standing, is_size, size_of, parts_stand, payload_stands, union_stands, constructor_stands}
-use Rattle.pattern_laws.proofs.Steps.{walks, falling}
+use Rattle.pattern_laws.proofs.Steps.{walks, falling, wrongs}
 use Rattle.pattern_laws.proofs.Tables.{union_alone, not_below_none}
 use Rattle.pattern_laws.proofs.Values.{named_had, named_types, named_numbers}
 use Rattle.pattern_laws.proofs.Points.{Kept, EachIs, EachSuits, all_bear, ItemOf, of_on, takes}
@@ -324,13 +323,21 @@ module _ (around : Around) (past : Positive) (own : List Closed) (y : Typing aro
       of_its_own place how u c is rs x b s looks ms ss fine t e d (out-Value x.val)
       (named_had around.types past own f.integers u is rs x.val (b.has_it f.integers (same f)))
 
+  -- the value may be of another union
+  of_own : {n : ℕ} {f : Point n} {facts : List Fact} {c : Run Item (List (Local Item))} (place : Place) (same_union : Bool) (walk : Walk (List Bound))
+      → (same_union ≡ true → Beside q past n f facts walk c Found) → Beside q past n f facts (union_met place same_union walk) c Found
+  of_own place true walk h = h refl
+  of_own place false walk h = wrongs place
+
   pub union_beside : {n : ℕ} {f : Point n} {facts : List Fact} (place : Place) (how : Matching) (u c v : ℕ) (is : List Index) (rs : List Reading) (x : Item)
       → Bears around.types past own y f (I.Named v is rs) x → Good f → (looks : List Look) (ms : List (Matcher Item)) (ss : List Standing)
       → Fine looks ms ss → constructor_stands around.types u c ss x.typ ≡ true
-      → Union n f facts place how u c is rs x looks ms (payload_type around.types u c) (out-Value x.val)
+      → Beside q past n f facts (union_met place (nat_eq u v)
+      (constructor_met place looks around how (payload_readings (payload_types (length looks) (payload_type around.types u c)) is rs)))
+      (as_run (so_many (length ms) (opened z w.numbers (H.Constructor u c) (length ms) x (out-Value x.val))) then run_parts ms) Found
   union_beside {f = f} place how u c v is rs x b s looks ms ss fine d =
-      let both = and_parts (is_size u (named_place (out-Sized x.typ))) (union_stands around.types ss (payload_type around.types u c)
-      (part_typ around.types (payload u c) x.typ)) d in
-      let its_own : v ≡ u = (Decides-eqb v u).0 (ap (is_size u) (sym (y.kept.named f.integers v is rs x.typ (b.typed f.integers (same f)))) ∙ both.0) in
+      of_own place (nat_eq u v)
+      (constructor_met place looks around how (payload_readings (payload_types (length looks) (payload_type around.types u c)) is rs)) (λ e.
+      let its_own : v ≡ u = sym ((Decides-eqb u v).0 e) in
       of_union_of place how u c is rs x (subst (λ j. Bears around.types past own y f (I.Named j is rs) x) its_own b) s looks ms ss fine
-      (payload_type around.types u c) refl both.1
+      (payload_type around.types u c) refl d)

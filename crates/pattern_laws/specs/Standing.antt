@@ -23,7 +23,7 @@ use Rattle.sail_core.specs.Making.{component, payload, one_item}
 use Rattle.sail_core.specs.Numbers.{Givens, known}
 use Rattle.sail_core.specs.Values.{bits_typ, natural_of}
 use Rattle.checked_meaning.specs.Items.{fixed_typ, part_typ}
-use Rattle.pattern_laws.specs.Typing.{tuple_size, named_place}
+use Rattle.pattern_laws.specs.Typing.{tuple_size}
 
 -- whether a pattern stands at values of such a type
 abbrev pub Standing : Type 0
@@ -35,14 +35,10 @@ is_size k (Some n) = nat_eq n k
 
 -- ---- literals
 
-abbrev pub is_member : Types → ℕ → ℕ → Option ℕ → Bool
-is_member types e k None = true
-is_member types e k (Some u) = nat_eq u e && nat_lt k (length (members types e))
-
--- a member where values of its own enum are
-abbrev pub literal_stands : Types → Literal → Standing
-literal_stands types (L.Member e k) s = is_member types e k (named_place (out-Sized s))
-literal_stands types literal s = true
+-- a member that its enum has
+abbrev pub literal_stands : Types → Literal → Bool
+literal_stands types (L.Member e k) = nat_lt k (length (members types e))
+literal_stands types literal = true
 
 -- ---- parts
 
@@ -53,7 +49,7 @@ parts_stand types (p ∷ ps) k s = p (part_typ types (component k) s) && parts_s
 abbrev pub tuple_stands : Types → List Standing → Standing
 tuple_stands types ps s = is_size (length ps) (tuple_size (out-Sized s)) && parts_stand types ps 0 s
 
--- ---- constructors: of the value's own union, over the payload or the parts of one that is a tuple
+-- ---- constructors: that their union has, over the payload or the parts of one that is a tuple
 
 abbrev pub size_of : Typ-F Typ → Option ℕ
 size_of (T.Tuple ts) = Some (length ts)
@@ -68,10 +64,9 @@ union_stands types ps None s = false
 union_stands types ps (Some t) s = payload_stands types ps t s
 
 abbrev pub constructor_stands : Types → ℕ → ℕ → List Standing → Standing
-constructor_stands types u c ps s =
-    is_size u (named_place (out-Sized s)) && union_stands types ps (payload_type types u c) (part_typ types (payload u c) s)
+constructor_stands types u c ps s = union_stands types ps (payload_type types u c) (part_typ types (payload u c) s)
 
--- ---- widths of the parts of `@`: those that are written are known and not negative, and one part at most has the rest
+-- ---- widths of the parts of `@`: those that are written are known and not negative
 
 abbrev pub is_there : Option ℕ → Bool
 is_there None = false
@@ -80,10 +75,10 @@ is_there (Some n) = true
 abbrev pub is_known : Givens → Num → Bool
 is_known nu t = is_there (and_then (known nu t) natural_of)
 
-abbrev pub widths_stand : Givens → Bool → List (Option Num) → Bool
-widths_stand nu may [] = true
-widths_stand nu may (Some t ∷ ws) = is_known nu t && widths_stand nu may ws
-widths_stand nu may (None ∷ ws) = may && widths_stand nu false ws
+abbrev pub widths_stand : Givens → List (Option Num) → Bool
+widths_stand nu [] = true
+widths_stand nu (Some t ∷ ws) = is_known nu t && widths_stand nu ws
+widths_stand nu (None ∷ ws) = widths_stand nu ws
 
 -- at bits of each width up to this one
 abbrev pub at_widths : Types → ℕ → Standing → Bool
@@ -93,7 +88,7 @@ at_widths types (suc n) p = p (fixed_typ types (bits_typ (suc n))) && at_widths 
 -- ---- forms
 
 abbrev pub head_stands : Types → Givens → Head → List Standing → Standing
-head_stands types nu (H.Is literal) [] s = literal_stands types literal s
+head_stands types nu (H.Is literal) [] s = literal_stands types literal
 head_stands types nu (H.Is literal) ps s = false
 head_stands types nu H.Tuple ps s = tuple_stands types ps s
 head_stands types nu (H.Constructor u c) ps s = constructor_stands types u c ps s
@@ -101,7 +96,7 @@ head_stands types nu H.Vector ps s = list_all (λ p. p (part_typ types one_item 
 head_stands types nu H.List ps s = list_all (λ p. p (part_typ types one_item s)) ps
 head_stands types nu H.Cons (p ∷ q ∷ []) s = p (part_typ types one_item s) && q s
 head_stands types nu H.Cons ps s = false
-head_stands types nu (H.Cut ws) ps s = (nat_eq (length ws) (length ps) && widths_stand nu true ws) && list_all (at_widths types 128) ps
+head_stands types nu (H.Cut ws) ps s = (nat_eq (length ws) (length ps) && widths_stand nu ws) && list_all (at_widths types 128) ps
 
 abbrev pub given_stands : Types → Standing → Option Direction → Bool
 given_stands types p None = false

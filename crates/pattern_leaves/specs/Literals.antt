@@ -1,5 +1,5 @@
 -- Literals in patterns (Sail language manual, "Pattern matching").
-use Rattle.std.specs.Prelude.{ℕ, ℤ, pos, Bool, true, false, List, [], ◌∷◌, length, Some}
+use Rattle.std.specs.Prelude.{ℕ, ℤ, pos, nat_eq, Bool, true, false, List, [], ◌∷◌, length, Some}
 use Rattle.sail_base.specs.declared.place.Place.{Place}
 use Rattle.sail_types.specs.Sums.{constant}
 use Rattle.sail_types.specs.declared.numbers.Num.{Num}
@@ -26,13 +26,18 @@ abbrev pub integer_met : Bool → ℤ → Num → Walk (List Bound)
 integer_met true z n = bind (assume (equal n (constant z))) (λ t. no_names)
 integer_met false z n = no_names
 
--- whether a literal that owes nothing is one of values of these indices
+-- whether values of these indices are of this enum
+abbrev pub is_of_enum : ℕ → Indices-F Indices Reading → Bool
+is_of_enum e (W.Named u is rs) = nat_eq e u
+is_of_enum e i = false
+
+-- whether a literal that owes nothing is one of values of these indices: a member, of those of its own enum
 abbrev pub is_of : Literal → Indices-F Indices Reading → Bool
 is_of L.Unit W.Unit = true
 is_of (L.Truth b) (W.Truth c) = true
 is_of (L.Bit b) W.Bit = true
 is_of (L.String text) W.String = true
-is_of (L.Member e k) (W.Named u is rs) = true
+is_of (L.Member e k) i = is_of_enum e i
 is_of literal i = false
 
 -- what owes nothing where it is one of the values

@@ -1,12 +1,14 @@
 -- Widths of the parts of a concatenation `p @ q` (Sail language manual, "Pattern matching").
-use Rattle.std.specs.Prelude.{Bool, true, false, List, [], ◌∷◌, map, Option, Some, None, option_map}
+use Rattle.std.specs.Prelude.{Bool, true, false, ◌&&◌, List, [], ◌∷◌, map, Option, Some, None, option_map, if◌then◌else◌}
 use Rattle.sail_base.specs.declared.place.Place.{Place}
 use Rattle.sail_types.specs.Sums.{and_then, read, sum, zero_num}
+use Rattle.sail_types.specs.declared.numbers.Con.TheVariants as C
 use Rattle.sail_types.specs.declared.numbers.Num.{Num}
 use Rattle.value_indices.specs.declared.indices.Indices.{Indices}
 use Rattle.value_indices.specs.declared.indices.Indices.TheVariants as I
 use Rattle.value_indices.specs.declared.notes.Fact.{Fact}
-use Rattle.value_indices.specs.Steps.{Walk, Conditions, bind, give, owe_under}
+use Rattle.value_indices.specs.declared.notes.Made.TheVariants as Makes
+use Rattle.value_indices.specs.Steps.{Walk, Conditions, bind, give, note, size_note, owe_under}
 use Rattle.value_indices.specs.Opening.{at_most, equal, number_or_fresh}
 use Rattle.pattern_leaves.specs.Settings.{Around}
 
@@ -41,18 +43,32 @@ abbrev pub cut_condition : Num → Option Num → Bool → Conditions
 cut_condition w total true = option_map (λ s. equal s w) total ∷ []
 cut_condition w total false = option_map (λ s. at_most s w) total ∷ []
 
--- bits of a width; a variable stands for one that can't be said
-abbrev pub bits_part : Option Num → Walk Indices
-bits_part w = bind (number_or_fresh w) (λ n. give (I.Bits n))
+-- whether one part at most has the rest, and none where none may
+abbrev pub one_rest : Bool → List (Option (Option Num)) → Bool
+one_rest may [] = true
+one_rest may (None ∷ ws) = may && one_rest false ws
+one_rest may (Some w ∷ ws) = one_rest may ws
+
+-- what is false where more than one part would have the rest: no model that was resolved has that
+abbrev pub cut_conditions : Num → Option Num → List (Option (Option Num)) → Conditions
+cut_conditions w total ws = if one_rest true ws then cut_condition w total (all_known ws) else Some (C.Truth false) ∷ []
+
+-- bits of a width, whose size is noted where they are cut out
+abbrev pub sized_bits : Place → Num → Walk Indices
+sized_bits place n = bind (note (λ facts. size_note facts place (Makes.ByIndices (I.Bits n)))) (λ t. give (I.Bits n))
+
+-- a variable stands for a width that can't be said
+abbrev pub bits_part : Place → Option Num → Walk Indices
+bits_part place w = bind (number_or_fresh w) (sized_bits place)
 
 -- a part that isn't known has the rest
-abbrev pub cut_width : Option Num → Option (Option Num) → Walk Indices
-cut_width rest None = bits_part rest
-cut_width rest (Some w) = bits_part w
+abbrev pub cut_width : Place → Option Num → Option (Option Num) → Walk Indices
+cut_width place rest None = bits_part place rest
+cut_width place rest (Some w) = bits_part place w
 
 -- under what was in force before the parts
 abbrev pub cut_owed : Place → List (Option (Option Num)) → Num → List Fact → Walk (Unit {0})
-cut_owed place ws w earlier = owe_under earlier place (cut_condition w (first_sum ws) (all_known ws))
+cut_owed place ws w earlier = owe_under earlier place (cut_conditions w (first_sum ws) ws)
 
 -- ---- sums from the left
 

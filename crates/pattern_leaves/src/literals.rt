@@ -56,7 +56,17 @@ fn is_of(literal: &Literal, indices: &Indices) -> bool
         Literal::Truth(_) => matches!(indices, Indices::Truth(_)),
         Literal::Bit(_) => matches!(indices, Indices::Bit),
         Literal::String(_) => matches!(indices, Indices::String),
-        Literal::Member(_, _) => matches!(indices, Indices::Named(_, _, _)),
+        Literal::Member(own, _) => is_of_enum(*own, indices),
+        _ => false,
+    }
+}
+
+/// Whether values of these indices are of this enum.
+fn is_of_enum(own: u32, indices: &Indices) -> bool
+    ensures { result ≡ spec.is_of_enum own (out-Indices indices.now) }
+{
+    match indices {
+        Indices::Named(named, _, _) => own == *named,
         _ => false,
     }
 }

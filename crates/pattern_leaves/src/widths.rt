@@ -1,5 +1,5 @@
 //! Widths of the parts of a concatenation.
-ghost use Rattle.std.specs.Prelude.{◌≡◌, ◌∷◌, IfOk, OnOk, map, option_map};
+ghost use Rattle.std.specs.Prelude.{◌≡◌, ◌∷◌, IfOk, OnOk, map, option_map, true};
 ghost use Rattle.sail_types.specs.Sums.{read, and_then, difference};
 ghost use Rattle.value_indices.specs.Steps.{each};
 ghost use Rattle.value_indices.specs.Walking as walk;
@@ -8,10 +8,10 @@ ghost use Rattle.pattern_leaves.specs.Widths as spec;
 
 use crate::around::Around;
 use crate::exponents::one_condition;
-use sail_base::Items;
+use sail_base::{Items, Place};
 use sail_types::{Con, Num, add, copy_num, read_number, subtract};
 use std::alloc::{AllocError, Global};
-use value_indices::{Indices, Walking, at_most, equal, number_or_fresh};
+use value_indices::{Indices, Made, Walking, at_most, equal, number_or_fresh};
 
 /// What is known of the widths. It fails where memory is wanting.
 pub fn known_widths(
@@ -97,12 +97,28 @@ pub fn first_sum(alloc: Global, widths: &[Option<Option<Num>>]) -> Result<Option
 }
 
 /// Whether all of the widths are known.
-pub fn all_known(widths: &[Option<Option<Num>>]) -> bool
+fn all_known(widths: &[Option<Option<Num>>]) -> bool
     ensures { result ≡ spec.all_known widths.now }
 {
     for width in widths {
         if width.is_none() {
             return false;
+        }
+    }
+    true
+}
+
+/// Whether one of the parts at most has the rest.
+fn one_rest(widths: &[Option<Option<Num>>]) -> bool
+    ensures { result ≡ spec.one_rest true widths.now }
+{
+    let mut may = true;
+    for width in widths {
+        if width.is_none() {
+            if !may {
+                return false;
+            }
+            may = false;
         }
     }
     true
@@ -118,8 +134,25 @@ pub fn rest_of(alloc: Global, width: &Num, total: &Option<Num>) -> Result<Option
     }
 }
 
-/// What a concatenation owes: that the widths make up that of the value, or leave some of it. It fails where memory is wanting.
-pub fn cut_condition(
+/// What a concatenation owes: that the widths make up that of the value, or leave some of it to one part, and what is false where more than one part
+/// would have it. It fails where memory is wanting.
+pub fn cut_conditions(
+    alloc: Global,
+    width: &Num,
+    total: Option<Num>,
+    widths: &[Option<Option<Num>>],
+) -> Result<Items<Option<Con>>, AllocError>
+    ensures { IfOk result (λ made. made ≡ spec.cut_conditions width.now total widths.now) }
+{
+    if one_rest(widths) {
+        cut_condition(alloc, width, total, all_known(widths))
+    } else {
+        one_condition(alloc, Some(Con::Truth(false)))
+    }
+}
+
+/// That the widths make up that of the value, or leave some of it. It fails where memory is wanting.
+fn cut_condition(
     alloc: Global,
     width: &Num,
     total: Option<Num>,
@@ -143,41 +176,64 @@ pub fn cut_condition(
 /// The value of a part of a concatenation; of one that isn't known the rest. The one error is want of memory.
 fn cut_width(
     alloc: Global,
+    place: Place,
     rest: &Option<Num>,
     width: &Option<Option<Num>>,
     walking: &mut Walking,
 ) -> Result<Indices, AllocError>
-    ensures made { IfOk result (λ made. made ≡ walk.got (spec.cut_width rest.now width.now) (walk.seen walking.old)) }
-    ensures walked { OnOk result (walk.seen walking.new ≡ walk.run (spec.cut_width rest.now width.now) (walk.seen walking.old)) }
+    ensures made { IfOk result (λ made. made ≡ walk.got (spec.cut_width place rest.now width.now) (walk.seen walking.old)) }
+    ensures walked { OnOk result (walk.seen walking.new ≡ walk.run (spec.cut_width place rest.now width.now) (walk.seen walking.old)) }
 {
     match width {
-        None => bits_of(alloc, rest, walking),
-        Some(width) => bits_of(alloc, width, walking),
+        None => bits_of(alloc, place, rest, walking),
+        Some(width) => bits_of(alloc, place, width, walking),
     }
 }
 
 /// Bits of a width, fresh where it can't be said. The one error is want of memory.
-fn bits_of(alloc: Global, width: &Option<Num>, walking: &mut Walking) -> Result<Indices, AllocError>
-    ensures made { IfOk result (λ made. made ≡ walk.got (spec.bits_part width.now) (walk.seen walking.old)) }
-    ensures walked { OnOk result (walk.seen walking.new ≡ walk.run (spec.bits_part width.now) (walk.seen walking.old)) }
+fn bits_of(
+    alloc: Global,
+    place: Place,
+    width: &Option<Num>,
+    walking: &mut Walking,
+) -> Result<Indices, AllocError>
+    ensures made { IfOk result (λ made. made ≡ walk.got (spec.bits_part place width.now) (walk.seen walking.old)) }
+    ensures walked { OnOk result (walk.seen walking.new ≡ walk.run (spec.bits_part place width.now) (walk.seen walking.old)) }
 {
     let width = copy_number(alloc, width)?;
-    Ok(Indices::Bits(number_or_fresh(alloc, walking, width)?))
+    let number = number_or_fresh(alloc, walking, width)?;
+    sized_bits(alloc, place, number, walking)
 }
 
-/// The values of the parts of a concatenation. The one error is want of memory.
+/// Bits of this width, whose size is noted. It fails where memory is wanting.
+fn sized_bits(
+    alloc: Global,
+    place: Place,
+    number: Num,
+    walking: &mut Walking,
+) -> Result<Indices, AllocError>
+    ensures made { IfOk result (λ made. made ≡ walk.got (spec.sized_bits place number) (walk.seen walking.old)) }
+    ensures walked { OnOk result (walk.seen walking.new ≡ walk.run (spec.sized_bits place number) (walk.seen walking.old)) }
+{
+    let width = copy_num(alloc, &number)?;
+    walking.note_sizes(place, Made::ByIndices(Indices::Bits(width)))?;
+    Ok(Indices::Bits(number))
+}
+
+/// The values of the parts of a concatenation, each of which has its size noted at the place. The one error is want of memory.
 pub fn cut_widths(
     alloc: Global,
+    place: Place,
     rest: &Option<Num>,
     widths: &[Option<Option<Num>>],
     walking: &mut Walking,
 ) -> Result<Items<Indices>, AllocError>
-    ensures made { IfOk result (λ made. made ≡ walk.got (each (spec.cut_width rest.now) widths.now) (walk.seen walking.old)) }
-    ensures walked { OnOk result (walk.seen walking.new ≡ walk.run (each (spec.cut_width rest.now) widths.now) (walk.seen walking.old)) }
+    ensures made { IfOk result (λ made. made ≡ walk.got (each (spec.cut_width place rest.now) widths.now) (walk.seen walking.old)) }
+    ensures walked { OnOk result (walk.seen walking.new ≡ walk.run (each (spec.cut_width place rest.now) widths.now) (walk.seen walking.old)) }
 {
     let mut parts = Items::new(alloc);
     for width in widths {
-        parts.push(cut_width(alloc, rest, width, walking)?)?;
+        parts.push(cut_width(alloc, place, rest, width, walking)?)?;
     }
     Ok(parts)
 }

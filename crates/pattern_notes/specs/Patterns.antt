@@ -1,6 +1,6 @@
 -- The walk over a pattern: what it owes of the value that it is matched with, what it makes known, and what the names that it binds are
 -- (Sail language manual, "Pattern matching").
-use Rattle.std.specs.Prelude.{ℕ, pos, Bool, true, false, List, [], ◌∷◌, ◌++◌, length, map, slice_get, Option, Some, None}
+use Rattle.std.specs.Prelude.{ℕ, pos, nat_eq, Bool, true, false, List, [], ◌∷◌, ◌++◌, length, map, slice_get, Option, Some, None}
 use Rattle.sail_base.specs.declared.place.Place.{Place}
 use Rattle.sail_types.specs.Named.{payload}
 use Rattle.sail_types.specs.Sums.{and_then, constant, difference}
@@ -112,7 +112,7 @@ vector_met place ps around how n r = after_inner (items_met place ps around how 
 
 -- the parts, each of its width
 abbrev pub cut_parts : Place → List Look → Around → Matching → List (Option (Option Num)) → Option Num → Walk (List Bound)
-cut_parts place ps around how ws rest = bind (each (cut_width rest) ws) (parts_match place ps around how)
+cut_parts place ps around how ws rest = bind (each (cut_width place rest) ws) (parts_match place ps around how)
 
 -- the parts, then the sum of their widths
 abbrev pub cut_met : Place → List Look → Around → Matching → List (Option (Option Num)) → Num → Walk (List Bound)
@@ -120,12 +120,17 @@ cut_met place ps around how ws w = after_inner (cut_parts place ps around how ws
 
 -- ---- heads
 
+-- a constructor of the value's own union
+abbrev pub union_met : Place → Bool → Walk (List Bound) → Walk (List Bound)
+union_met place true met = met
+union_met place false met = wrong_pattern place
+
 -- a pattern that opens a value that exists
 abbrev pub head_met : Place → Head → List Look → Around → Matching → Indices-F Indices Reading → Walk (List Bound)
 head_met place (H.Is literal) ps around how i = literal_met place how.in_case literal i
 head_met place H.Tuple ps around how (W.Tuple is) = parts_match place ps around how is
 head_met place (H.Constructor u c) ps around how (W.Named v is rs) =
-    constructor_met place ps around how (payload_readings (payload_types (length ps) (payload around.types u c)) is rs)
+    union_met place (nat_eq u v) (constructor_met place ps around how (payload_readings (payload_types (length ps) (payload around.types u c)) is rs))
 head_met place H.Vector ps around how (W.Vector n r) = vector_met place ps around how n r
 head_met place H.List ps around how (W.List r) = items_met place ps around how r
 head_met place H.Cons ps around how (W.List r) = cons_met place ps around how r

@@ -1,9 +1,11 @@
 //! The walk over a pattern that opens a value into parts.
-ghost use Rattle.std.specs.Prelude.{◌≡◌, map, IfOk, OnOk};
+ghost use Rattle.std.specs.Prelude.{◌≡◌, map, length, nat_eq, IfOk, OnOk};
+ghost use Rattle.sail_types.specs.Named.{payload as payload_in};
 ghost use Rattle.sail_core.specs.declared.patterns.Head.TheVariants as H;
 ghost use Rattle.value_indices.specs.declared.indices.Indices.{out-Indices};
 ghost use Rattle.value_indices.specs.Walking as walk;
 ghost use Rattle.pattern_notes.specs.Patterns as patterns;
+ghost use Rattle.pattern_leaves.specs.Payloads as payloads;
 ghost use Rattle.pattern_leaves.specs.Settings as settings;
 
 use crate::matching::Matching;
@@ -13,9 +15,9 @@ use crate::several::{
 use pattern_leaves::{Around, Bound, meet_literal, wrong_pattern};
 use sail_base::{Items, Place};
 use sail_core::{Head, Pattern};
-use sail_types::Num;
+use sail_types::{Index, Num};
 use std::alloc::{AllocError, Global};
-use value_indices::{Indices, Walking};
+use value_indices::{Indices, Reading, Walking};
 
 /// A head over these parts; of a value that doesn't exist names are of none. The one error is want of memory.
 #[cycle(matched)]
@@ -150,10 +152,11 @@ fn match_union(
         (walk.seen walking.old)) }
 {
     match indices {
-        Indices::Named(_, numbers, types) => {
-            match_constructor(
+        Indices::Named(own, numbers, types) => {
+            match_own(
                 alloc,
                 place,
+                union == *own,
                 union,
                 constructor,
                 parts,
@@ -165,6 +168,48 @@ fn match_union(
             )
         }
         _ => wrong_pattern(alloc, place, walking),
+    }
+}
+
+/// A constructor, of the union that the value is of or of another one. The one error is want of memory.
+#[cycle(matched)]
+fn match_own(
+    alloc: Global,
+    place: Place,
+    is_own: bool,
+    union: u32,
+    constructor: u32,
+    parts: &[Pattern],
+    around: &Around<'_>,
+    how: Matching,
+    numbers: &[Index],
+    types: &[Reading],
+    walking: &mut Walking,
+) -> Result<Items<Bound>, AllocError>
+    ensures found { IfOk result (λ found. found
+        ≡ walk.got (patterns.union_met place is_own (patterns.constructor_met place (map patterns.look parts.now) (settings.around_of around.now) how
+        (payloads.payload_readings (payloads.payload_types (length parts.now) (payload_in around.now.types.now union constructor))
+        numbers.now types.now))) (walk.seen walking.old)) }
+    ensures walked { OnOk result (walk.seen walking.new
+        ≡ walk.run (patterns.union_met place is_own (patterns.constructor_met place (map patterns.look parts.now) (settings.around_of around.now) how
+        (payloads.payload_readings (payloads.payload_types (length parts.now) (payload_in around.now.types.now union constructor))
+        numbers.now types.now))) (walk.seen walking.old)) }
+{
+    if is_own {
+        match_constructor(
+            alloc,
+            place,
+            union,
+            constructor,
+            parts,
+            around,
+            how,
+            numbers,
+            types,
+            walking,
+        )
+    } else {
+        wrong_pattern(alloc, place, walking)
     }
 }
 

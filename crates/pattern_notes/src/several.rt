@@ -14,8 +14,8 @@ use crate::matching::{Matching, inside};
 use crate::parts::{match_given, match_pattern};
 use crate::taking::take_all;
 use pattern_leaves::{
-    Around, Bound, all_known, cut_condition, cut_widths, first_sum, known_widths, one_condition,
-    payload, payload_readings, rest_of, wrong_pattern,
+    Around, Bound, cut_conditions, cut_widths, first_sum, known_widths, one_condition, payload,
+    payload_readings, rest_of, wrong_pattern,
 };
 use sail_base::{Boxed, Items, Place};
 use sail_core::Pattern;
@@ -275,7 +275,7 @@ fn match_known(
 {
     let total = first_sum(alloc, known)?;
     let rest = rest_of(alloc, width, &total)?;
-    let conditions = cut_condition(alloc, width, total, all_known(known))?;
+    let conditions = cut_conditions(alloc, width, total, known)?;
     walking.remember()?;
     let found = match_cut_parts(alloc, place, parts, around, how, known, &rest, walking)?;
     walking.owe_earlier(alloc, place, conditions)?;
@@ -302,6 +302,6 @@ fn match_cut_parts(
         ≡ walk.run (patterns.cut_parts place (map patterns.look parts.now) (settings.around_of around.now) how known.now rest.now)
         (walk.seen walking.old)) }
 {
-    let values = cut_widths(alloc, rest, known, walking)?;
+    let values = cut_widths(alloc, place, rest, known, walking)?;
     match_parts(alloc, place, parts, around, how, values.as_slice(), walking)
 }

@@ -1,5 +1,5 @@
 use Rattle.std.proofs.Common.{◌≡◌, ◌+◌, ◌++◌, ◌∷◌, [], List, length, map, drop, refl, sym, ap, ◌∙◌, subst, IfOk, OnOk}
-use Rattle.std.proofs.Common.{ℕ, Option, Some, None, slice_get, arith}
+use Rattle.std.proofs.Common.{ℕ, nat_eq, Bool, Option, Some, None, slice_get, arith}
 use Rattle.std.specs.Option.{option_copied}
 use Rattle.sail_types.specs.Named.{payload as payload_in}
 use Rattle.sail_types.specs.Sums.{and_then, difference}
@@ -22,7 +22,7 @@ use Rattle.pattern_leaves.specs.declared.names.Bound.{Bound}
 use Rattle.pattern_leaves.specs.Settings.{around_of, bound, written_in}
 use Rattle.pattern_leaves.specs.Literals.{no_names, wrong_pattern}
 use Rattle.pattern_leaves.specs.Payloads.{payload_types, payload_readings}
-use Rattle.pattern_leaves.specs.Widths.{all_known, cut_condition, cut_owed, cut_width, first_sum}
+use Rattle.pattern_leaves.specs.Widths.{cut_conditions, cut_owed, cut_width, first_sum}
 use Rattle.pattern_leaves.specs.Annotations.{written_at}
 use Rattle.pattern_leaves.proofs.Opened.{out_never}
 use Rattle.pattern_leaves.proofs.Rests.{one_of, two_of}
@@ -30,7 +30,7 @@ use Rattle.pattern_leaves.proofs.Walked.{then_got, then_run, made_got, made_run,
 use Rattle.pattern_notes.specs.declared.matching.Matching.{Matching}
 use Rattle.pattern_notes.specs.Patterns.{look, matched, inside, form_match, direction_met, given_met, result_of, option_of, written_owed, annotated_met}
 use Rattle.pattern_notes.specs.Patterns.{parameter_owed, after_inner, item_met, items_met, each_met_never, cons_met, parts_match, taken_out, all_taken}
-use Rattle.pattern_notes.specs.Patterns.{named_readings, constructor_met, length_owed, cut_met, cut_parts, head_met, opens_met}
+use Rattle.pattern_notes.specs.Patterns.{named_readings, constructor_met, length_owed, cut_met, cut_parts, head_met, opens_met, union_met}
 use Rattle.pattern_notes.proofs.Found.{found_as, left_as, after_got, after_run, more_got, more_run, on_ok, also_got, also_run, ended_got}
 use Rattle.pattern_notes.proofs.HeadForms.{bits_met, first_met, items_of, list_met, named_met, tuple_met}
 use Rattle.pattern_notes.proofs.HeadForms.{not_bits, not_first, not_list, not_named, not_never, not_tuple, not_vector}
@@ -175,8 +175,8 @@ several::match_known-returns t c =
     let rest : c.in_ok-rest.rest ≡ and_then (first_sum ws) (difference w) =
     c.in_ok-rest.ensures ∙ ap (λ (s : Option Num). and_then s (difference w)) c.in_ok-total.ensures in
     let last = seen c.match_cut_parts.new.walking in
-    let owed : c.in_ok-conditions.conditions ≡ cut_condition w (first_sum ws) (all_known ws) =
-    c.in_ok-conditions.ensures ∙ (λ j. cut_condition w (c.in_ok-total.ensures j) (c.all_known.ensures j)) in
+    let owed : c.in_ok-conditions.conditions ≡ cut_conditions w (first_sum ws) ws =
+    c.in_ok-conditions.ensures ∙ ap (λ (s : Option Num). cut_conditions w s ws) c.in_ok-total.ensures in
     record {
       found = after_got (cut_parts c.args.place ps around c.args.how ws (and_then (first_sum ws) (difference w))) (cut_owed c.args.place ws w)
           (seen c.args.walking.now) (seen c.remember.new.self) c.in_ok-found.found c.in_ok-remember.ensures
@@ -537,14 +537,41 @@ heads::match_union-returns-in-Named t c =
     let k = c.args.constructor in
     let ns = c.as_slice.result.now in
     let rs = c.as_slice-in-Named.result.now in
-    let opens = named_met c.args.place ps around c.args.how i u k _ c.in-Named.numbers ns c.in-Named.types rs c.in-Named.is c.as_slice.ensures
+    let own = c.in-Named.own in
+    let opens = named_met c.args.place ps around c.args.how i u k own c.in-Named.numbers ns c.in-Named.types rs c.in-Named.is c.as_slice.ensures
     c.as_slice-in-Named.ensures in
-    let counted = λ (n : ℕ). constructor_met c.args.place ps around c.args.how
-    (payload_readings (payload_types n (payload_in around.types u k)) ns rs) in
+    let counted = λ (n : ℕ). union_met c.args.place (nat_eq u own) (constructor_met c.args.place ps around c.args.how
+    (payload_readings (payload_types n (payload_in around.types u k)) ns rs)) in
     let is = sym (opens ∙ ap counted (as_many c.args.parts.now)) in
+    record {
+      found = found_as c.match_own.result _ _ v is c.match_own.ensures.found;
+      walked = left_as c.match_own.result _ _ v _ is c.match_own.ensures.walked;
+    }
+
+pub heads::match_own-returns-then-is_own : goal.heads::match_own-returns-then-is_own
+heads::match_own-returns-then-is_own t c =
+    let around = around_of c.args.around.now in
+    let ps = map look c.args.parts.now in
+    let v = seen c.args.walking.now in
+    let inner = constructor_met c.args.place ps around c.args.how (payload_readings
+    (payload_types (length c.args.parts.now) (payload_in around.types c.args.union c.args.constructor)) c.args.numbers.now c.args.types.now) in
+    let is = ap (λ (b : Bool). union_met c.args.place b inner) (sym c.if-is_own.true) in
     record {
       found = found_as c.match_constructor.result _ _ v is c.match_constructor.ensures.found;
       walked = left_as c.match_constructor.result _ _ v _ is c.match_constructor.ensures.walked;
+    }
+
+pub heads::match_own-returns-else-is_own : goal.heads::match_own-returns-else-is_own
+heads::match_own-returns-else-is_own t c =
+    let around = around_of c.args.around.now in
+    let ps = map look c.args.parts.now in
+    let v = seen c.args.walking.now in
+    let inner = constructor_met c.args.place ps around c.args.how (payload_readings
+    (payload_types (length c.args.parts.now) (payload_in around.types c.args.union c.args.constructor)) c.args.numbers.now c.args.types.now) in
+    let is = ap (λ (b : Bool). union_met c.args.place b inner) (sym c.if-is_own.false) in
+    record {
+      found = found_as c.wrong_pattern.result _ _ v is c.wrong_pattern.ensures.found;
+      walked = left_as c.wrong_pattern.result _ _ v _ is c.wrong_pattern.ensures.walked;
     }
 
 pub heads::match_union-returns-in_default : goal.heads::match_union-returns-in_default
@@ -713,7 +740,7 @@ several::match_cut_parts-returns t c =
     let ps = map look c.args.parts.now in
     let v = seen c.args.walking.now in
     let w = seen c.cut_widths.new.walking in
-    let widths = each (cut_width c.args.rest.now) c.args.known.now in
+    let widths = each (cut_width c.args.place c.args.rest.now) c.args.known.now in
     let inner = parts_match c.args.place ps around c.args.how in
     let same = ap inner c.as_slice.ensures in
     record {

@@ -46,6 +46,9 @@ decreases-heads::match_tuple l = 32 * most the_size l.parts.now + 10
 abbrev pub decreases-heads::match_union : goal.decreases-heads::match_union
 decreases-heads::match_union l = 32 * most the_size l.parts.now + 10
 
+abbrev pub decreases-heads::match_own : goal.decreases-heads::match_own
+decreases-heads::match_own l = 32 * most the_size l.parts.now + 4
+
 abbrev pub decreases-heads::match_items_of_vector : goal.decreases-heads::match_items_of_vector
 decreases-heads::match_items_of_vector l = 32 * most the_size l.parts.now + 10
 

@@ -9,7 +9,7 @@ use Rattle.pattern_leaves.proofs.widths.cut_widths.Goals as goal
 
 pub loop-width-preserved : goal.loop-width-preserved
 loop-width-preserved c =
-    let f = cut_width c.args.rest.now in
+    let f = cut_width c.args.place c.args.rest.now in
     let ws = c.args.widths.now in
     let k = c.loop-width.width-index in
     let x = c.width-item.result in
@@ -24,7 +24,7 @@ loop-width-preserved c =
 pub returns-clause-made : goal.returns-clause-made
 returns-clause-made c =
     let v = seen c.loop-width.walking in
-    ended_by c.loop-width.parts _ v _ (each_end (cut_width c.args.rest.now) c.args.widths.now c.loop-width.width-index c.loop-width-test.false)
+    ended_by c.loop-width.parts _ v _ (each_end (cut_width c.args.place c.args.rest.now) c.args.widths.now c.loop-width.width-index c.loop-width-test.false)
     c.loop-width.invariant.made
 
 pub returns-clause-walked : goal.returns-clause-walked
@@ -32,5 +32,5 @@ returns-clause-walked c =
     let v = seen c.loop-width.walking in
     sym (run_give {A = List Indices} [] v)
     ∙ ap (λ (a : Walk (List Indices)). run a v)
-    (sym (each_end (cut_width c.args.rest.now) c.args.widths.now c.loop-width.width-index c.loop-width-test.false))
+    (sym (each_end (cut_width c.args.place c.args.rest.now) c.args.widths.now c.loop-width.width-index c.loop-width-test.false))
     ∙ c.loop-width.invariant.walked
