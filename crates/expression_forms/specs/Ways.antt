@@ -1,5 +1,5 @@
 -- Ways into values, and parts that are read (Sail language manual, "Structs", "Vectors", "Bitvectors").
-use Rattle.std.specs.Prelude.{Bool, List, None, Option, Some, if◌then◌else◌, map, pos, slice_get, ℕ, [], ◌++◌, ◌∷◌}
+use Rattle.std.specs.Prelude.{Bool, List, None, Option, Some, if◌then◌else◌, map, nat_eq, pos, slice_get, ℕ, [], ◌++◌, ◌∷◌}
 use Rattle.sail_base.specs.declared.place.Place.{Place}
 use Rattle.sail_types.specs.Named.{fields}
 use Rattle.sail_types.specs.Sums.{and_then, constant, difference, sum, zero_num}
@@ -79,8 +79,9 @@ abbrev pub field_reached : List Typ → List Index → List Reading → Option R
 field_reached (t ∷ ts) is rs = reached [] [] (R.Of t is rs)
 field_reached [] is rs = None
 
+-- of a value of its own struct
 abbrev pub into_field : Around → ℕ → ℕ → Indices-F Indices Reading → Option Reached
-into_field around u k (W.Named v is rs) = field_reached (fields_of around u (k ∷ [])) is rs
+into_field around u k (W.Named v is rs) = if nat_eq u v then field_reached (fields_of around u (k ∷ [])) is rs else None
 into_field around u k form = None
 
 abbrev pub into_item : Num → Indices-F Indices Reading → Option Reached

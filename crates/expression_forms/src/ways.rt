@@ -186,8 +186,8 @@ fn field_reached(
     }
 }
 
-/// A field of a value, by the struct's place in the table and its own in the struct; none where there is no such field. It fails where
-/// memory is wanting.
+/// A field of a value, by the struct's place in the table and its own in the struct; none where there is no such field, and of a value of another
+/// type. It fails where memory is wanting.
 pub fn into_field(
     alloc: Global,
     around: &Around<'_>,
@@ -198,14 +198,18 @@ pub fn into_field(
     ensures { IfOk result (λ made. made ≡ ways.into_field (around_of around.now) named field (out-Indices value.now)) }
 {
     match value {
-        Indices::Named(_, indices, readings) => {
-            let types = fields_of(alloc, around, named, &[field])?;
-            field_reached(
-                alloc,
-                types.as_slice(),
-                indices.as_slice(),
-                readings.as_slice(),
-            )
+        Indices::Named(own, indices, readings) => {
+            if named == *own {
+                let types = fields_of(alloc, around, named, &[field])?;
+                field_reached(
+                    alloc,
+                    types.as_slice(),
+                    indices.as_slice(),
+                    readings.as_slice(),
+                )
+            } else {
+                Ok(None)
+            }
         }
         _ => Ok(None),
     }

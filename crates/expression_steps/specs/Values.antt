@@ -1,5 +1,6 @@
 -- Values that are made of parts, and parts of values (Sail language manual, "Vectors", "Lists", "Structs", "Bitvectors").
-use Rattle.std.specs.Prelude.{Bool, List, None, Option, Some, drop, false, if◌then◌else◌, length, map, nat_lt, pos, replicate, suc, take, zero, ℕ, [], ◌∷◌}
+use Rattle.std.specs.Prelude.{Bool, List, None, Option, Some, drop, false, if◌then◌else◌, length, map, nat_eq, nat_lt, pos, replicate, suc}
+use Rattle.std.specs.Prelude.{take, zero, ℕ, [], ◌∷◌}
 use Rattle.sail_base.specs.declared.place.Place.{Place}
 use Rattle.sail_types.specs.Sums.{constant}
 use Rattle.sail_types.specs.declared.numbers.Index.{Index}
@@ -186,12 +187,12 @@ due_aims rs = map (aimed Aims.Due) rs
 abbrev pub new_aims : List Typ → List Index → List Reading → List Aim
 new_aims ts is rs = if any_holed rs then part_aims None ts else due_aims (each_under is rs ts)
 
--- if there is a struct
+-- if the value is of this struct
 abbrev pub with_aims : Around → ℕ → List ℕ → Indices-F Indices Reading → Option (List Aim)
-with_aims around u ks (W.Named v is rs) = Some (new_aims (fields_of around u ks) is rs)
+with_aims around u ks (W.Named v is rs) = if nat_eq u v then Some (new_aims (fields_of around u ks) is rs) else None
 with_aims around u ks form = None
 
--- what a value gives that is no struct
+-- what a value gives that is not of this struct
 abbrev pub no_struct : Place → Indices-F Indices Reading → Walk Indices
 no_struct place W.Never = never_value
 no_struct place form = wrong_value place

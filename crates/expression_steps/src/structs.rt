@@ -93,7 +93,7 @@ fn new_aims(
     }
 }
 
-/// What is wanted of new values of fields of a struct; none of a value that is no struct. It fails where memory is wanting, and where
+/// What is wanted of new values of fields of a struct; none of a value that is not of this struct. It fails where memory is wanting, and where
 /// binders are too many.
 pub fn with_aims(
     alloc: Global,
@@ -105,21 +105,25 @@ pub fn with_aims(
     ensures { IfOk result (λ made. made ≡ value_spec.with_aims (around_of around.now) named fields.now (out-Indices value.now)) }
 {
     match value {
-        Indices::Named(_, indices, readings) => {
-            let types = fields_of(alloc, around, named, fields)?;
-            let aims = new_aims(
-                alloc,
-                types.as_slice(),
-                indices.as_slice(),
-                readings.as_slice(),
-            )?;
-            Ok(Some(aims))
+        Indices::Named(own, indices, readings) => {
+            if named == *own {
+                let types = fields_of(alloc, around, named, fields)?;
+                let aims = new_aims(
+                    alloc,
+                    types.as_slice(),
+                    indices.as_slice(),
+                    readings.as_slice(),
+                )?;
+                Ok(Some(aims))
+            } else {
+                Ok(None)
+            }
         }
         _ => Ok(None),
     }
 }
 
-/// What a value gives that is no struct: what never ends normally stays so, any other one owes what is false. It fails where memory is
+/// What a value gives that is not of the struct: what never ends normally stays so, any other one owes what is false. It fails where memory is
 /// wanting.
 #[tactic(auto, using(value_indices::proofs::Walks::walks))]
 pub fn no_struct(

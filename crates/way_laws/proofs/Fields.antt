@@ -25,7 +25,7 @@ use Rattle.value_indices.specs.declared.indices.Indices.TheVariants as I
 use Rattle.value_indices.specs.declared.indices.Reading.{Reading}
 use Rattle.value_indices.specs.declared.indices.Reading.TheVariants as R
 use Rattle.pattern_leaves.specs.Settings.{Around}
-use Rattle.expression_forms.specs.Ways.{field_reached, fields_at, into_field, one_typ}
+use Rattle.expression_forms.specs.Ways.{field_reached, fields_at, fields_of, into_field, one_typ}
 use Rattle.expression_forms.specs.declared.ways.Reached.{Reached}
 use Rattle.value_laws.specs.Belonging.{asked, closed, closeds, form_holds, has}
 use Rattle.value_laws.proofs.Basics.{no, two}
@@ -187,8 +187,13 @@ module _ (around : Around) (mu : Assignment) (own : List Closed) (u k : ℕ) (is
   by_fields None defined some = none some
   by_fields (Some fs) defined some = by_field fs (slice_get fs k) defined refl some
 
+  own_struct : (same_struct : Bool) (o : Option Reached) → (if same_struct then o else None) ≡ Some x → o ≡ Some x
+  own_struct true o some = some
+  own_struct false o some = none some
+
   pub fields_there : into_field around u k (W.Named u is qs) ≡ Some x → There
-  fields_there some = by_fields (fields around.types u) refl some
+  fields_there some =
+      by_fields (fields around.types u) refl (own_struct (nat_eq u u) (field_reached (fields_of around u (k ∷ [])) is qs) some)
 
 pub fields_are_there : FieldsAreThere
 fields_are_there around mu own u k is qs v x h some reads = fields_there around mu own u k is qs v x h reads some
