@@ -68,7 +68,7 @@ fn walk_inward(
         }
         Kind::If(shape) => {
             let met = walk_branches(alloc, walking, around, scope, place, shape, parts, aim)?;
-            if_end(alloc, walking, place, parts, met)
+            if_end(alloc, walking, around, place, parts, aim, met)
         }
         Kind::Match(arms, shape) => {
             walk_cases(

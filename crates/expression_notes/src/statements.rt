@@ -13,7 +13,7 @@ ghost use Rattle.expression_notes.specs.Claims.{claiming_if, claims_in, statemen
 use crate::branches::walk_branches;
 use crate::expressions::walk_expression;
 use crate::parts::walk_truth;
-use call_notes::{Aim, wrong_value};
+use call_notes::{Aim, settled, wrong_value};
 use expression_forms::Scope;
 use expression_steps::{
     Binding, begin_binding, binding_of, claim_behind, end_binding, is_nested, left_at, wrong_state,
@@ -167,8 +167,8 @@ fn bring_in(groups: &mut Items<Items<Bound>>, found: Items<Bound>) -> Result<(),
     Ok(())
 }
 
-/// The value of a block behind its statements: of the one part that is left, if there is one. It fails where memory is wanting, and where
-/// variables are too many.
+/// The value of a block behind its statements: of the one part that is left, if there is one, and else `()`, of which a type may be wanted. It
+/// fails where memory is wanting, and where variables are too many.
 #[cycle(walk)]
 #[tactic(auto, using(value_indices::proofs::Walks::walks))]
 fn walk_value(
@@ -186,7 +186,10 @@ fn walk_value(
         (around_of around.now) (scope_of scope.now) aim.now) (walk.seen walking.old)) }
 {
     match parts {
-        [] => Ok(Indices::Unit),
+        [] => {
+            let aim = aim.inner(alloc)?;
+            settled(alloc, walking, around, place, &aim, Indices::Unit)
+        }
         [value] => {
             let aim = aim.inner(alloc)?;
             walk_expression(alloc, walking, around, scope, value, &aim)

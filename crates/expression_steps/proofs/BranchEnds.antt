@@ -7,6 +7,10 @@ use Rattle.value_indices.specs.Steps.{Walk, give}
 use Rattle.value_indices.specs.Walking.{Written, got, run}
 use Rattle.value_indices.specs.declared.indices.Indices.{Indices}
 use Rattle.value_indices.proofs.Walks.{got_give, run_give}
+use Rattle.pattern_leaves.specs.Settings.{Around}
+use Rattle.call_arguments.specs.Aims.{branch_aim}
+use Rattle.call_arguments.specs.declared.aims.Aim.{Aim}
+use Rattle.call_notes.specs.Ends.{settled}
 use Rattle.expression_steps.specs.Coded.{each_part}
 use Rattle.expression_steps.specs.Expressions.{part}
 use Rattle.expression_steps.specs.Statements.{claim_behind, claim_met, if_end, met_condition, value_met}
@@ -21,13 +25,20 @@ alone_run {A} a x w is = sym (run_give x w) ∙ ap (λ (b : Walk A). run b w) (s
 
 -- ---- its value
 
-pub if_given : (place : Place) (cs : List Core) (m : Option (Con × Indices)) → 2 ≤ length cs → length cs < 4
-    → if_end place (each_part cs) m ≡ give (value_met m)
-if_given place [] m some few = absurd (omega arith)
-if_given place (a ∷ []) m some few = absurd (omega arith)
-if_given place (a ∷ b ∷ []) m some few = refl
-if_given place (a ∷ b ∷ c ∷ []) m some few = refl
-if_given place (a ∷ b ∷ c ∷ d ∷ cs) m some few = absurd (omega arith)
+pub when_settled : (place : Place) (cs : List Core) (around : Around) (aim : Aim) (m : Option (Con × Indices)) → 2 ≤ length cs → length cs < 3
+    → if_end place (each_part cs) around aim m ≡ settled around place (branch_aim aim) (value_met m)
+when_settled place [] around aim m some few = absurd (omega arith)
+when_settled place (a ∷ []) around aim m some few = absurd (omega arith)
+when_settled place (a ∷ b ∷ []) around aim m some few = refl
+when_settled place (a ∷ b ∷ c ∷ cs) around aim m some few = absurd (omega arith)
+
+pub if_given : (place : Place) (cs : List Core) (around : Around) (aim : Aim) (m : Option (Con × Indices)) → 3 ≤ length cs → length cs < 4
+    → if_end place (each_part cs) around aim m ≡ give (value_met m)
+if_given place [] around aim m some few = absurd (omega arith)
+if_given place (a ∷ []) around aim m some few = absurd (omega arith)
+if_given place (a ∷ b ∷ []) around aim m some few = absurd (omega arith)
+if_given place (a ∷ b ∷ c ∷ []) around aim m some few = refl
+if_given place (a ∷ b ∷ c ∷ d ∷ cs) around aim m some few = absurd (omega arith)
 
 -- ---- what it claims
 

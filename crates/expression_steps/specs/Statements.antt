@@ -26,7 +26,7 @@ use Rattle.pattern_leaves.specs.Settings.{Around, Scope, bound, declared, expone
 use Rattle.pattern_leaves.specs.declared.names.Bound.{Bound}
 use Rattle.call_arguments.specs.Aims.{aimed, branch_aim, inner_aim, wanted}
 use Rattle.call_arguments.specs.Holes.{without_holes}
-use Rattle.call_notes.specs.Ends.{never_value, opened_at, wrong_value}
+use Rattle.call_notes.specs.Ends.{never_value, opened_at, settled, wrong_value}
 use Rattle.call_notes.specs.Noted.{node_ended, numbers_noted}
 use Rattle.call_arguments.specs.declared.aims.Aim.{Aim}
 use Rattle.call_arguments.specs.declared.aims.Aim.TheVariants as Aims
@@ -142,14 +142,14 @@ abbrev pub value_met : Option (Con × Indices) → Indices
 value_met None = I.Never
 value_met (Some m) = m.1
 
--- of any other number of parts what is false is owed
-abbrev pub if_end : Place → List Part → Option (Con × Indices) → Walk Indices
-if_end place (c ∷ a ∷ []) m = give (value_met m)
-if_end place (c ∷ a ∷ b ∷ []) m = give (value_met m)
-if_end place parts m = wrong_value place
+-- without `else` the `()` is what is wanted; of any other number of parts what is false is owed
+abbrev pub if_end : Place → List Part → Around → Aim → Option (Con × Indices) → Walk Indices
+if_end place (c ∷ a ∷ []) around aim m = settled around place (branch_aim aim) (value_met m)
+if_end place (c ∷ a ∷ b ∷ []) around aim m = give (value_met m)
+if_end place parts around aim m = wrong_value place
 
 abbrev pub if_forms : Place → Shape → List Part → Around → Scope → Aim → Walk Indices
-if_forms place shape parts around scope aim = bind (branches_forms place shape parts around scope aim) (if_end place parts)
+if_forms place shape parts around scope aim = bind (branches_forms place shape parts around scope aim) (if_end place parts around aim)
 
 -- ---- statements: the condition that is in force in the rest of the block
 
@@ -216,14 +216,14 @@ abbrev pub var_walk : List ℕ → Option Written → Part → Part → Around �
 var_walk name written a b around scope aim =
     bind (var_name name written a around scope) (λ found. b.walk around (found ++ scope) (inner_aim aim))
 
--- ---- blocks: a claim is in force to the block's end, opened values' facts beyond it
+-- ---- blocks: a claim is in force to the block's end, opened values' facts beyond it; without a value the `()` is what is wanted
 
 abbrev pub under_claim : Walk Indices → Option Con → Walk Indices
 under_claim rest None = rest
 under_claim rest (Some c) = claimed c rest
 
 abbrev pub block_walk : Place → List Statement → List Part → Around → Scope → Aim → Walk Indices
-block_walk place [] [] around scope aim = give I.Unit
+block_walk place [] [] around scope aim = settled around place (inner_aim aim) I.Unit
 block_walk place [] (value ∷ []) around scope aim = value.walk around scope (inner_aim aim)
 block_walk place (S.Evaluate ∷ ss) (a ∷ parts) around scope aim =
     bind (a.state around scope) (under_claim (block_walk place ss parts around scope aim))

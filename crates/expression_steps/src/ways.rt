@@ -4,15 +4,16 @@ ghost use Rattle.std.specs.Option.{option_copied};
 ghost use Rattle.value_indices.specs.Walking as walk;
 ghost use Rattle.pattern_leaves.specs.Settings as settings;
 ghost use Rattle.pattern_leaves.specs.Settings.{around_of};
-ghost use Rattle.call_arguments.specs.Aims.{wanted as wanted_by};
+ghost use Rattle.call_arguments.specs.Aims.{branch_aim, wanted as wanted_by};
 ghost use Rattle.call_arguments.specs.declared.aims.Aim as aims;
+ghost use Rattle.call_notes.specs.Ends as ends;
 ghost use Rattle.expression_steps.specs.Coded as coded;
 ghost use Rattle.expression_steps.specs.Expressions.{part};
 ghost use Rattle.expression_steps.specs.Parts.{Part};
 ghost use Rattle.expression_steps.specs.Statements as statement_spec;
 
 use crate::knowing::{never_ends, place_of};
-use call_notes::{Aim, opened_at, wrong_value};
+use call_notes::{Aim, opened_at, settled, wrong_value};
 use expression_forms::{first_way, like_first, met_ways};
 use pattern_leaves::{Around, Bound};
 use pattern_notes::{Matching, match_arm};
@@ -272,22 +273,44 @@ fn value_met(met: Option<(Con, Indices)>) -> Indices
     }
 }
 
+/// The `()` of an `if` without `else`, of which a type may be wanted there. It fails where memory is wanting, and where variables are too
+/// many.
+#[tactic(auto, using(value_indices::proofs::Walks::walks))]
+fn end_when(
+    alloc: Global,
+    walking: &mut Walking,
+    around: &Around<'_>,
+    place: Place,
+    aim: &Aim,
+    value: Indices,
+) -> Result<Indices, AllocError>
+    ensures value { IfOk result (λ made. made ≡ walk.got (ends.settled (around_of around.now) place (branch_aim aim.now) value) (walk.seen walking.old)) }
+    ensures walked { OnOk result (walk.seen walking.new ≡ walk.run (ends.settled (around_of around.now) place (branch_aim aim.now) value)
+        (walk.seen walking.old)) }
+{
+    let aim = aim.branch(alloc)?;
+    settled(alloc, walking, around, place, &aim, value)
+}
+
 /// The value of an `if` whose condition and value these are; of another number of parts than two or three it owes what is false. It fails
-/// where memory is wanting.
+/// where memory is wanting, and where variables are too many.
 #[tactic(auto, using(value_indices::proofs::Walks::walks))]
 pub fn if_end(
     alloc: Global,
     walking: &mut Walking,
+    around: &Around<'_>,
     place: Place,
     parts: &[Core],
+    aim: &Aim,
     met: Option<(Con, Indices)>,
 ) -> Result<Indices, AllocError>
-    ensures value { IfOk result (λ made. made ≡ walk.got (statement_spec.if_end place (coded.each_part parts.now) met) (walk.seen walking.old)) }
-    ensures walked { OnOk result (walk.seen walking.new ≡ walk.run (statement_spec.if_end place (coded.each_part parts.now) met)
+    ensures value { IfOk result (λ made. made ≡ walk.got (statement_spec.if_end place (coded.each_part parts.now) (around_of around.now) aim.now met)
         (walk.seen walking.old)) }
+    ensures walked { OnOk result (walk.seen walking.new ≡ walk.run (statement_spec.if_end place (coded.each_part parts.now) (around_of around.now)
+        aim.now met) (walk.seen walking.old)) }
 {
     match parts {
-        [_, _] => Ok(value_met(met)),
+        [_, _] => end_when(alloc, walking, around, place, aim, value_met(met)),
         [_, _, _] => Ok(value_met(met)),
         _ => wrong_value(alloc, walking, place),
     }

@@ -14,11 +14,11 @@ use Rattle.expression_steps.specs.Statements.{block_walk, let_names, let_walk, v
 use Rattle.checked_meaning.specs.Items.{Item}
 use Rattle.soundness_steps.specs.Works.{Scene}
 use Rattle.soundness_forms.specs.EachKind.{KindFine, PartsFine, node}
+use Rattle.soundness_forms.specs.Forms.{FitsSuffice}
 use Rattle.soundness_forms.specs.Standing.{Standing, are_statements, is_bound, is_value}
 use Rattle.soundness_forms.proofs.Growth.{grows_bind, grows_end}
 use Rattle.soundness_forms.proofs.LeavingKinds.{bound_fine}
 use Rattle.soundness_forms.proofs.PlainKinds.{fine_by, value_fine, wrong_inward}
-use Rattle.soundness_binding.specs.Kinds.{BlockFine}
 use Rattle.soundness_binding.specs.Matches.{AllLetsMatch, LetsMatch}
 use Rattle.soundness_binding.proofs.Bound.{block_fine, let_fine, var_fine}
 use Rattle.soundness_binding.proofs.Grows.{Statements, block_grows, names_grow, var_grows}
@@ -103,10 +103,10 @@ module _ (q : Scene) (w : World Item) where
   each_statement (s ∷ s2 ∷ ss) (p ∷ []) (r ∷ rs) h right = absurd h.1
   each_statement (s ∷ s2 ∷ ss) (p ∷ p2 ∷ ps) (r ∷ []) h right = absurd h.1
 
-  pub block_kind : (statements : List Statement) → AllLetsMatch q w statements → BlockFine q w statements
-  block_kind statements matches place k ss ps rs h right value =
+  pub block_kind : FitsSuffice → (statements : List Statement) → AllLetsMatch q w statements → KindFine q w (K.Block statements)
+  block_kind fit statements matches place k ss ps rs h right =
       let all = each_statement ss ps rs h right in
       fine_by q w false false (node q w place k (K.Block statements) ps) _ (λ around scope. refl)
-      (λ names falls g n f facts scope aim there st. block_fine q w place k statements ps rs all matches value names falls scope aim there st)
+      (λ names falls g n f facts scope aim there st. block_fine q w fit place k statements ps rs all matches names falls scope aim there st)
       (λ around scope aim. grows_bind (block_walk place statements ps around scope aim) (node_end k false)
       (block_grows q w around place statements ps rs all scope aim) (grows_end k false))

@@ -3,15 +3,17 @@ use Rattle.std.proofs.Common.{◌≡◌, ℕ, Bool, true, false, ◌&&◌, List,
 use Rattle.sail_base.specs.declared.place.Place.{Place}
 use Rattle.sail_types.specs.Belongs.{Reading as Closed, belongs}
 use Rattle.sail_types.specs.declared.numbers.Con.{Con}
-use Rattle.sail_core.specs.Making.{Making, World}
+use Rattle.sail_core.specs.Making.{Making, World, nothing}
 use Rattle.sail_core.specs.Meaning.{block, kind_meaning, let_in}
 use Rattle.sail_core.specs.Run.{Run, local, within, ◌then◌}
 use Rattle.sail_core.specs.declared.patterns.Arm.{Arm}
+use Rattle.sail_core.specs.declared.patterns.Literal.TheVariants as L
 use Rattle.sail_core.specs.declared.tree.Kind.TheVariants as K
 use Rattle.sail_core.specs.declared.tree.Statement.{Statement}
 use Rattle.sail_core.specs.declared.tree.Statement.TheVariants as S
 use Rattle.sail_core.specs.declared.written.Written.{Written}
 use Rattle.value_indices.specs.declared.indices.Indices.{Indices}
+use Rattle.value_indices.specs.declared.indices.Indices.TheVariants as I
 use Rattle.value_indices.specs.declared.indices.Reading.{Reading}
 use Rattle.value_indices.specs.declared.notes.Fact.{Fact}
 use Rattle.value_indices.specs.declared.notes.Fact.TheVariants as Y
@@ -35,17 +37,17 @@ use Rattle.value_laws.proofs.Steps.{later_on, same}
 use Rattle.soundness_steps.specs.Works.{Kept, Scene, Setting, Work, here, is_var}
 use Rattle.soundness_steps.specs.Steps.{Beside}
 use Rattle.soundness_steps.specs.Values.{AimSteady, Belongs, Claims, Comes, Is, IsWanted}
-use Rattle.soundness_steps.proofs.Steps.{binds, claims, given_back, means, walks_then}
+use Rattle.soundness_steps.proofs.Steps.{binds, claims, given_back, means, rests, walks_then}
 use Rattle.soundness_steps.proofs.Scenes.{under_names}
-use Rattle.soundness_forms.specs.Forms.{Fine, at}
+use Rattle.soundness_forms.specs.Forms.{Fine, FitsSuffice, at}
 use Rattle.soundness_forms.specs.Worlds.{Surrounds}
-use Rattle.soundness_forms.proofs.Basics.{aim_on, then_walks, wanted_on, wrongs}
+use Rattle.soundness_forms.proofs.Basics.{aim_on, settles, then_walks, wanted_on, wrongs}
 use Rattle.soundness_forms.proofs.Casts.{aimed_due, aimed_given, free_is, no_guard}
+use Rattle.soundness_forms.proofs.Constants.{literal_has, literal_sized}
 use Rattle.soundness_forms.proofs.Leaving.{aimed_is}
 use Rattle.soundness_forms.proofs.Lets.{let_runs}
 use Rattle.soundness_forms.proofs.Worlds.{surrounds_more, surrounds_on}
 use Rattle.soundness_forms.proofs.Written.{exponents_any, written_wanted}
-use Rattle.soundness_binding.specs.Kinds.{has_value}
 use Rattle.soundness_binding.specs.Matches.{AllLetsMatch, LetsMatch}
 use Rattle.soundness_binding.proofs.Grows.{Statements, block_grows}
 use Rattle.soundness_binding.proofs.Wide.{vars_widen}
@@ -230,6 +232,9 @@ module _ (q : Scene) (w : World Item) where
       Beside (at q w names falls) n f facts (block_walk place ss ps (here q) scope aim) (block z w ss rs)
       (λ m g i x. Comes q.set q.work g false true (last_never_ends ps) aim i x)
 
+  unit_is : {n : ℕ} (f : Point n) → Is q.set q.work f I.Unit (nothing z)
+  unit_is f = record { has = literal_has q.set q.work f L.Unit refl; typ = λ g a. literal_sized q.set.around.types q.work.own g L.Unit }
+
   -- the end of what is behind a statement
   end_of : (a : Part) (ps : List Part) → a.never_ends ≡ false → last_never_ends ps ≡ false → last_never_ends (a ∷ ps) ≡ false
   end_of a [] e k = e
@@ -239,7 +244,7 @@ module _ (q : Scene) (w : World Item) where
       → Comes q.set q.work f false true (last_never_ends ps) aim i x → Comes q.set q.work f false true (last_never_ends (a ∷ ps)) aim i x
   behind f a ps aim i x e c = ends_as q.set q.work f aim (last_never_ends ps) (last_never_ends (a ∷ ps)) i x (end_of a ps e c.ends) c
 
-  module _ (place : Place) where
+  module _ (fit : FitsSuffice) (place : Place) where
     under_claims : (o : Option Con) {m : ℕ} {g : Point m} {fs : List Fact} (names : List Kept) (falls : Bool) (scope : Scope) (aim : Aim)
         (ss : List Statement) (ps : List Part) (rs : List (Run Item Item)) → Statements q w ps rs → Claims q.set q.work g o
         → ((gs : List Fact) → Block g gs names falls scope place aim ss ps rs)
@@ -250,44 +255,45 @@ module _ (q : Scene) (w : World Item) where
         claims c (block_grows q w (here q) place ss ps rs h scope aim) t (next (fs ++ Y.Holds c ∷ []))
 
     pub block_runs : (ss : List Statement) (ps : List Part) (rs : List (Run Item Item)) → Statements q w ps rs → AllLetsMatch q w ss
-        → has_value ss ps ≡ true → (names : List Kept) (falls : Bool)
-        (scope : Scope) (aim : Aim) (n : ℕ) (f : Point n) (facts : List Fact) → Surrounds (at q w names falls) w f scope → AimSteady q.set q.work f aim
-        → Block f facts names falls scope place aim ss ps rs
-    block_runs [] [] [] h ms v names falls scope aim n f facts there st = absurd (cc)
-    block_runs [] (p ∷ []) (r ∷ []) h ms v names falls scope aim n f facts there st =
+        → (names : List Kept) (falls : Bool) (scope : Scope) (aim : Aim) (n : ℕ) (f : Point n) (facts : List Fact)
+        → Surrounds (at q w names falls) w f scope → AimSteady q.set q.work f aim → Block f facts names falls scope place aim ss ps rs
+    block_runs [] [] [] h ms names falls scope aim n f facts there st =
+        means (λ m g i x l c. inner_comes q.set q.work g aim false false i x c)
+        (rests (nothing z) (settles fit place (inner_aim aim) I.Unit (nothing z) (inner_steady q.set q.work f aim st) (unit_is f)))
+    block_runs [] (p ∷ []) (r ∷ []) h ms names falls scope aim n f facts there st =
         let value = subst (λ c. Fine q w c false p r) h.0.1 h.0.2 in
         means (λ m g i x l c. inner_comes q.set q.work g aim p.is_nested p.never_ends i x c)
         (value.walks names falls no_guard n f facts scope (inner_aim aim) there (inner_steady q.set q.work f aim st))
-    block_runs (S.Evaluate ∷ ss) (p ∷ ps) (r ∷ rs) h ms v names falls scope aim n f facts there st =
+    block_runs (S.Evaluate ∷ ss) (p ∷ ps) (r ∷ rs) h ms names falls scope aim n f facts there st =
         binds (under_claim (block_walk place ss ps (here q) scope aim)) (λ x. block z w ss rs)
         (h.0.2.states names falls no_guard n f facts scope there)
         (λ m g fs c x l t.
         means (λ m2 g2 i y l2 d. behind g2 p ps aim i y t.1 d)
         (under_claims c names falls scope aim ss ps rs h.1 t.0 (λ gs.
-        block_runs ss ps rs h.1 ms v names falls scope aim m g gs (surrounds_on (at q w names falls) w scope l there) (aim_on q.set q.work aim l st))))
-    block_runs (S.Define here_at arm ∷ ss) (p ∷ ps) (r ∷ rs) h ms v names falls scope aim n f facts there st =
+        block_runs ss ps rs h.1 ms names falls scope aim m g gs (surrounds_on (at q w names falls) w scope l there) (aim_on q.set q.work aim l st))))
+    block_runs (S.Define here_at arm ∷ ss) (p ∷ ps) (r ∷ rs) h ms names falls scope aim n f facts there st =
         let_bound arm ms.0 names falls scope here_at p r h.0.0 h.0.2 (λ found. block_walk place ss ps (here q) (found ++ scope) aim) (block z w ss rs) there
         (λ m g fs found ks l e there2.
         means (λ m2 g2 i y l2 d. behind g2 p ps aim i y e d)
-        (block_runs ss ps rs h.1 ms.1 v (ks ++ names) true (found ++ scope) aim m g fs there2 (aim_on q.set q.work aim l st)))
-    block_runs (S.Declare name written ∷ ss) (p ∷ ps) (r ∷ rs) h ms v names falls scope aim n f facts there st =
+        (block_runs ss ps rs h.1 ms.1 (ks ++ names) true (found ++ scope) aim m g fs there2 (aim_on q.set q.work aim l st)))
+    block_runs (S.Declare name written ∷ ss) (p ∷ ps) (r ∷ rs) h ms names falls scope aim n f facts there st =
         var_bound names falls scope name written p r h.0.0 h.0.2 (λ found. block_walk place ss ps (here q) (found ++ scope) aim) (block z w ss rs) there
         (λ m g fs rd t l e there2.
         means (λ m2 g2 i y l2 d. behind g2 p ps aim i y e d)
-        (block_runs ss ps rs h.1 ms v (is_var name t ∷ names) falls (declared name rd ∷ scope) aim m g fs there2 (aim_on q.set q.work aim l st)))
-    block_runs [] (p ∷ []) (r ∷ r2 ∷ rs) h ms v names falls scope aim n f facts there st = absurd h.1
-    block_runs [] (p ∷ p2 ∷ ps) rs h ms v names falls scope aim n f facts there st = wrongs place (block z w [] rs)
-    block_runs (S.Evaluate ∷ ss) [] [] h ms v names falls scope aim n f facts there st = wrongs place (block z w (S.Evaluate ∷ ss) [])
-    block_runs (S.Define here_at arm ∷ ss) [] [] h ms v names falls scope aim n f facts there st = wrongs place (block z w (S.Define here_at arm ∷ ss) [])
-    block_runs (S.Declare name written ∷ ss) [] [] h ms v names falls scope aim n f facts there st = wrongs place (block z w (S.Declare name written ∷ ss) [])
-    block_runs (s ∷ ss) [] (r ∷ rs) h ms v names falls scope aim n f facts there st = absurd h
-    block_runs [] [] (r ∷ rs) h ms v names falls scope aim n f facts there st = absurd h
-    block_runs ss (p ∷ ps) [] h ms v names falls scope aim n f facts there st = absurd h
+        (block_runs ss ps rs h.1 ms (is_var name t ∷ names) falls (declared name rd ∷ scope) aim m g fs there2 (aim_on q.set q.work aim l st)))
+    block_runs [] (p ∷ []) (r ∷ r2 ∷ rs) h ms names falls scope aim n f facts there st = absurd h.1
+    block_runs [] (p ∷ p2 ∷ ps) rs h ms names falls scope aim n f facts there st = wrongs place (block z w [] rs)
+    block_runs (S.Evaluate ∷ ss) [] [] h ms names falls scope aim n f facts there st = wrongs place (block z w (S.Evaluate ∷ ss) [])
+    block_runs (S.Define here_at arm ∷ ss) [] [] h ms names falls scope aim n f facts there st = wrongs place (block z w (S.Define here_at arm ∷ ss) [])
+    block_runs (S.Declare name written ∷ ss) [] [] h ms names falls scope aim n f facts there st = wrongs place (block z w (S.Declare name written ∷ ss) [])
+    block_runs (s ∷ ss) [] (r ∷ rs) h ms names falls scope aim n f facts there st = absurd h
+    block_runs [] [] (r ∷ rs) h ms names falls scope aim n f facts there st = absurd h
+    block_runs ss (p ∷ ps) [] h ms names falls scope aim n f facts there st = absurd h
 
     pub block_fine : {n : ℕ} {f : Point n} {facts : List Fact} (k : ℕ) (ss : List Statement) (ps : List Part) (rs : List (Run Item Item)) → Statements q w ps rs
-        → AllLetsMatch q w ss → has_value ss ps ≡ true → (names : List Kept) (falls : Bool) (scope : Scope) (aim : Aim)
+        → AllLetsMatch q w ss → (names : List Kept) (falls : Bool) (scope : Scope) (aim : Aim)
         → Surrounds (at q w names falls) w f scope → AimSteady q.set q.work f aim
         → Beside (at q w names falls) n f facts (kind_walk place k (K.Block ss) ps (here q) scope aim) (kind_meaning z w place k (K.Block ss) rs)
         (λ m g i x. Comes q.set q.work g false true (last_never_ends ps) aim i x)
-    block_fine {n} {f} {facts} k ss ps rs h ms v names falls scope aim there st =
-        then_walks (λ i. give i) (block_runs ss ps rs h ms v names falls scope aim n f facts there st) (λ m g fs i x l d. given_back i d)
+    block_fine {n} {f} {facts} k ss ps rs h ms names falls scope aim there st =
+        then_walks (λ i. give i) (block_runs ss ps rs h ms names falls scope aim n f facts there st) (λ m g fs i x l d. given_back i d)

@@ -29,7 +29,7 @@ use Rattle.checked_meaning.specs.Items.{Item}
 use Rattle.soundness_steps.specs.Works.{Scene}
 use Rattle.soundness_steps.specs.Steps.{Grows}
 use Rattle.soundness_forms.specs.Forms.{Fine}
-use Rattle.soundness_forms.proofs.Growth.{grows_bind, grows_give, grows_owe, grows_wrong}
+use Rattle.soundness_forms.proofs.Growth.{grows_bind, grows_give, grows_owe, grows_settled, grows_wrong}
 
 exponents_grow : (around : Around) (ns : List WrittenNumber) → Grows (exponents_owed around ns)
 exponents_grow around [] = grows_give tt
@@ -86,7 +86,7 @@ module _ (q : Scene) (w : World Item) where
 
   pub block_grows : (around : Around) (place : Place) (ss : List Statement) (ps : List Part) (rs : List (Run Item Item)) → Statements ps rs
       → (scope : Scope) (aim : Aim) → Grows (block_walk place ss ps around scope aim)
-  block_grows around place [] [] [] h scope aim = grows_give I.Unit
+  block_grows around place [] [] [] h scope aim = grows_settled around place (inner_aim aim) I.Unit
   block_grows around place [] (p ∷ []) (r ∷ []) h scope aim = h.0.2.grows around scope (inner_aim aim)
   block_grows around place (S.Evaluate ∷ ss) (p ∷ ps) (r ∷ rs) h scope aim =
       grows_bind (p.state around scope) (under_claim (block_walk place ss ps around scope aim)) (h.0.2.state_grows around scope)

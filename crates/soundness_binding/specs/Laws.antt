@@ -9,7 +9,7 @@ use Rattle.checked_meaning.specs.Items.{Item}
 use Rattle.pattern_laws.specs.Laws.{Tests}
 use Rattle.soundness_steps.specs.Works.{Scene}
 use Rattle.soundness_forms.specs.EachKind.{KindFine}
-use Rattle.soundness_binding.specs.Kinds.{BlockFine}
+use Rattle.soundness_forms.specs.Forms.{FitsSuffice}
 use Rattle.soundness_binding.specs.Matches.{AllLetsMatch, LetsMatch}
 use Rattle.soundness_binding.specs.Scenes.{ArmStands, DirectionsRead, LetStands}
 
@@ -21,9 +21,10 @@ LetsAreFine = (q : Scene) (w : World Item) (arm : Arm) → LetsMatch q w arm →
 abbrev pub VarsAreFine : Type 0
 VarsAreFine = (q : Scene) (w : World Item) (name : List ℕ) (written : Option Written) → KindFine q w (K.Var name written)
 
--- blocks with a value, where the pattern of each `let` in them matches
+-- blocks, where the pattern of each `let` in them matches
 abbrev pub BlocksAreFine : Type 0
-BlocksAreFine = (q : Scene) (w : World Item) (statements : List Statement) → AllLetsMatch q w statements → BlockFine q w statements
+BlocksAreFine = FitsSuffice → (q : Scene) (w : World Item) (statements : List Statement) → AllLetsMatch q w statements
+    → KindFine q w (K.Block statements)
 
 -- patterns where a piece may say No, whatever test of the types that values carry is kept by their parts
 abbrev pub PatternsStand : Type 0

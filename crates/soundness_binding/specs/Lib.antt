@@ -1,4 +1,3 @@
-pub mod Kinds
 pub mod Laws
 pub mod Matches
 pub mod Scenes

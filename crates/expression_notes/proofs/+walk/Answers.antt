@@ -587,9 +587,11 @@ statements::walk_in-returns-in_ok-aim-in-len2 t c = let scope = scope_of c.args.
     let two = two_of _ _ _ c.in-len2.len_at_least c.in-len2.len_below c.core-item.is c.body-item.is in let by = c.walk_expression.ensures in
     record { value = rw two (value_same _ _ _ same.value by.value); walked = rw two (walked_same _ _ _ _ same.walked by.walked) }
 
-pub statements::walk_value-returns-in-empty : goal.statements::walk_value-returns-in-empty
-statements::walk_value-returns-in-empty t c = let v = seen c.args.walking.now in let no_part = none_of _ c.in-empty.len_below in
-    record { value = rw no_part (sym (got_give I.Unit v)); walked = rw no_part (sym (run_give {A = Indices} I.Unit v)) }
+pub statements::walk_value-returns-in_ok-aim-in-empty : goal.statements::walk_value-returns-in_ok-aim-in-empty
+statements::walk_value-returns-in_ok-aim-in-empty t c = let v = seen c.args.walking.now in let no_part = none_of _ c.in-empty.len_below in
+    let is = ap (λ (aim : Aim). settled (around_of c.args.around.now) c.args.place aim I.Unit) c.in_ok-aim-in-empty.ensures in
+    let by = c.settled.ensures in
+    record { value = rw no_part (same_got _ (λ made. made) _ _ _ (sym is) by.value); walked = rw no_part (same_run _ _ _ _ _ (sym is) by.walked) }
 
 pub statements::walk_block-loop-index-preserved : goal.statements::walk_block-loop-index-preserved
 statements::walk_block-loop-index-preserved t c = let l = c.loop-index in let scope = scope_of c.args.scope.now in
