@@ -1,5 +1,5 @@
 -- Literals in patterns.
-use Rattle.std.proofs.Common.{◌≡◌, ℕ, nat_eq, nat_lt, ℤ, pos, Bool, true, false, ◌&&◌, List, [], ◌∷◌, length, map, Some, refl, sym, ap, ◌∙◌, subst}
+use Rattle.std.proofs.Common.{◌≡◌, ℕ, nat_eq, nat_lt, ℤ, pos, Bool, true, false, List, [], ◌∷◌, length, map, Some, refl, sym, ap, ◌∙◌, subst}
 use Rattle.std.proofs.Common.{if◌then◌else◌, bytes_eq}
 use Rattle.std.specs.Bool.{beq}
 use Rattle.std.specs.Ordering.{int_eq}
