@@ -19,7 +19,7 @@ use Rattle.value_indices.specs.declared.notes.Fact.{Fact}
 use Rattle.value_indices.specs.Steps.{Note, size_note, call_note, conditions}
 use Rattle.size_values.specs.declared.constants.Constant.{Constant}
 use Rattle.size_values.specs.declared.constants.Picked.{Picked}
-use Rattle.size_values.specs.Numbers.{Known, constant_under, known_at, may_hold, number_in, with_picked}
+use Rattle.size_values.specs.Numbers.{Known, known_at, may_hold, value_of, with_picked}
 use Rattle.size_values.specs.Sizes.{joined}
 use Rattle.size_splits.specs.Bodies.{Body}
 use Rattle.size_splits.specs.Sizing.{Sizing, first_named, is_open_note, made_facts, note_names}
@@ -45,9 +45,9 @@ form_names v (E.Any bs) = list_any (λ b. b) bs
 abbrev pub names_it : ℕ → Con → Bool
 names_it v = fold-Con Bool (form_names v)
 
--- a number, where it is constant
+-- a number, where it is constant and no number past the largest integer is on the way
 abbrev pub constant_number : (ℕ → Constant) → Num → Option ℤ
-constant_number of t = number_in (constant_under of t)
+constant_number of t = value_of of t
 
 -- from the lower end up to the upper one, if they are at most so many; of an empty range that end alone
 unfoldable pub up_to : ℕ → ℤ → ℤ → Option (List ℤ)

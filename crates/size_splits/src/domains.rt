@@ -10,7 +10,7 @@ ghost use Rattle.size_splits.specs.Splits as spec;
 use crate::names::{is_variable, names_it};
 use sail_base::Items;
 use sail_types::{Comparison, Con};
-use size_values::{Variables, constant_number};
+use size_values::{Variables, value_of};
 use std::alloc::{AllocError, Global};
 
 /// The integers from one up to another, if they are at most so many; of an empty range the lower end alone. It fails where memory is
@@ -73,7 +73,7 @@ fn lower_end(variables: &Variables<'_>, variable: u32, condition: &Con) -> Optio
 {
     match condition {
         Con::Compare(how, low, number) => if is_at_most(*how) && is_variable(variable, number) {
-            constant_number(low, variables)
+            value_of(low, variables)
         } else {
             None
         },
@@ -87,7 +87,7 @@ fn upper_end(variables: &Variables<'_>, variable: u32, condition: &Con) -> Optio
 {
     match condition {
         Con::Compare(how, number, high) => if is_at_most(*how) && is_variable(variable, number) {
-            constant_number(high, variables)
+            value_of(high, variables)
         } else {
             None
         },

@@ -1,1 +1,1 @@
-mod Presence
+pub mod Presence

@@ -29,7 +29,7 @@ use Rattle.sized_trees.proofs.Each.{each_append, each_if, model_each}
 
 -- ---- combinations
 
-abbrev Asks : List ℕ → List Picked → Type 0
+abbrev pub Asks : List ℕ → List Picked → Type 0
 Asks vs ps = asked ps ≡ vs
 
 -- those that have numbers to take
@@ -98,10 +98,10 @@ once_asks f vs seen (ps ∷ pss) s e =
 -- ---- at a place
 
 module _ (r : Inside) (list : List Instance) where
-  abbrev asked_at : List Fact → List ℕ
+  abbrev pub asked_at : List Fact → List ℕ
   asked_at facts = kept (is_given facts) (taken (known_at (known_of r.numbers)) (conditions (facts ++ [])) r.split)
 
-  place_asks : (facts : List Fact) → Each (Asks (asked_at facts)) (combinations_at r facts)
+  pub place_asks : (facts : List Fact) → Each (Asks (asked_at facts)) (combinations_at r facts)
   place_asks facts =
       let k = known_of r.numbers in
       let cs = conditions (facts ++ []) in
@@ -115,7 +115,7 @@ module _ (r : Inside) (list : List Instance) where
   only_asks true vs c e = (e, tt)
   only_asks false vs c e = tt
 
-  cases_ask : (operands : List Indices) (made : Made) (vs : List ℕ) (pss : List (List Picked)) → Each (Asks vs) pss
+  pub cases_ask : (operands : List Indices) (made : Made) (vs : List ℕ) (pss : List (List Picked)) → Each (Asks vs) pss
       → Each (CaseAsks vs) (cases_under r operands made pss)
   cases_ask operands made vs [] e = tt
   cases_ask operands made vs (ps ∷ pss) e =
@@ -132,7 +132,7 @@ module _ (r : Inside) (list : List Instance) where
   if_asks true vs o e = e
   if_asks false vs o e = tt
 
-  leads_ask : (operands : List Indices) (f : ℕ) (js : List Index) (qs : List Reading) (vs : List ℕ) (pss : List (List Picked)) → Each (Asks vs) pss
+  pub leads_ask : (operands : List Indices) (f : ℕ) (js : List Index) (qs : List Reading) (vs : List ℕ) (pss : List (List Picked)) → Each (Asks vs) pss
       → Each (LeadAsks vs) (leads_under r list operands f js qs pss)
   leads_ask operands f js qs vs [] e = tt
   leads_ask operands f js qs vs (ps ∷ pss) e =

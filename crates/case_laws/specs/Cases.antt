@@ -1,0 +1,68 @@
+-- Where each combination that counts at a node has a case, the case of the present numbers is present (Sail language manual, "Type variables").
+use Rattle.std.specs.Prelude.{◌≡◌, ℕ, Bool, true, List, Some, is_some}
+use Rattle.std.specs.List.{list_all}
+use Rattle.sail_types.specs.Numbers.{Positive}
+use Rattle.sail_types.specs.declared.numbers.Index.{Index}
+use Rattle.value_indices.specs.declared.indices.Indices.{Indices}
+use Rattle.value_indices.specs.declared.indices.Reading.{Reading}
+use Rattle.value_indices.specs.declared.notes.Fact.{Fact}
+use Rattle.value_indices.specs.declared.notes.Made.{Made}
+use Rattle.value_indices.specs.Steps.{conditions}
+use Rattle.size_values.specs.declared.constants.Picked.{Picked}
+use Rattle.size_values.specs.Numbers.{known_of}
+use Rattle.value_laws.specs.Belonging.{Integers, standing}
+use Rattle.value_laws.specs.Known.{AllTrue}
+use Rattle.split_laws.specs.Counted.{Agrees, AreTaken}
+use Rattle.monomorph.specs.declared.found.Instance.{Instance}
+use Rattle.monomorph.specs.Reading.{Inside}
+use Rattle.checked_meaning.specs.Checked.{Noted}
+use Rattle.sized_trees.specs.declared.trees.Lead.{Lead}
+use Rattle.sized_trees.specs.Bodies.{node_cases, node_leads}
+use Rattle.sized_trees.specs.Cases.{case_of, case_under, lead_under}
+use Rattle.sized_trees.specs.Combinations.{combinations_at, is_given}
+use Rattle.sized_meanings.specs.Present.{present_case, present_lead}
+
+-- ---- what is in force is so: the known variables have these integers, all facts are true, and the numbers that are given are noted
+
+pub record IsSo (past : Positive) (f : Integers) (r : Inside) (facts : List Fact) (noted : Noted) : Type 0 where
+  pub known : Agrees (known_of r.numbers) f
+  pub true_there : AllTrue (standing past f) (conditions facts)
+  pub given : (v : ℕ) → is_given facts v ≡ true → noted v ≡ Some (f v)
+
+-- ---- cases
+
+abbrev pub has_case : Inside → List Indices → Made → List Picked → Bool
+has_case r operands made ps = is_some (case_under r operands made ps)
+
+abbrev pub has_all_cases : Inside → List Fact → List Indices → Made → Bool
+has_all_cases r facts operands made = list_all (has_case r operands made) (combinations_at r facts)
+
+pub record HasPresentCase (r : Inside) (facts : List Fact) (operands : List Indices) (made : Made) (noted : Noted) (f : Integers) : Type 0 where
+  pub picked : List Picked
+  pub are : AreTaken f picked
+  pub is_there : present_case noted (node_cases r facts operands made) ≡ Some (case_of r operands made picked)
+
+abbrev pub PresentCases : Type 0
+PresentCases = (past : Positive) (f : Integers) (r : Inside) (facts : List Fact) (noted : Noted) (operands : List Indices) (made : Made)
+    → IsSo past f r facts noted → has_all_cases r facts operands made ≡ true → HasPresentCase r facts operands made noted f
+
+-- ---- where a call leads
+
+abbrev pub has_lead : Inside → List Instance → List Indices → ℕ → List Index → List Reading → List Picked → Bool
+has_lead r list operands g js qs ps = is_some (lead_under r list operands g js qs ps)
+
+abbrev pub has_all_leads : Inside → List Instance → List Fact → List Indices → ℕ → List Index → List Reading → Bool
+has_all_leads r list facts operands g js qs = list_all (has_lead r list operands g js qs) (combinations_at r facts)
+
+pub record HasPresentLead (r : Inside) (list : List Instance) (facts : List Fact) (operands : List Indices) (g : ℕ) (js : List Index)
+    (qs : List Reading) (noted : Noted) (f : Integers) : Type 0 where
+  pub picked : List Picked
+  pub are : AreTaken f picked
+  pub lead : Lead
+  pub is : lead_under r list operands g js qs picked ≡ Some lead
+  pub is_there : present_lead noted (node_leads r list facts operands g js qs) ≡ Some lead
+
+abbrev pub PresentLeads : Type 0
+PresentLeads = (past : Positive) (f : Integers) (r : Inside) (list : List Instance) (facts : List Fact) (noted : Noted) (operands : List Indices)
+    (g : ℕ) (js : List Index) (qs : List Reading) → IsSo past f r facts noted → has_all_leads r list facts operands g js qs ≡ true
+    → HasPresentLead r list facts operands g js qs noted f

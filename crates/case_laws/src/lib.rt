@@ -1,0 +1,17 @@
+//! Laws of cases: where each combination that counts at a node has a case, the one of the present numbers is present.
+//!
+//! `specs/Cases` has the laws.
+#![tactic(auto)]
+
+ghost use Rattle.case_laws.specs.Cases.{PresentCases, PresentLeads};
+
+/// Where each combination that counts at a node has a case, and what is in force is so, the case of the present numbers is present. It does
+/// nothing.
+pub fn present_cases()
+    ensures { PresentCases }
+{}
+
+/// The same of where a call leads. It does nothing.
+pub fn present_leads()
+    ensures { PresentLeads }
+{}

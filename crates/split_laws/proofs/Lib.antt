@@ -1,0 +1,5 @@
+pub mod Basics
+pub mod Values
+pub mod Domains
+pub mod Combinations
+pub mod Constants
