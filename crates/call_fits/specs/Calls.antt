@@ -1,6 +1,6 @@
 -- What a call owes suffices: its arguments belong to the parameters, where the callee's variables stand for what the call gives them (Sail language
 -- manual, "Functions", "Type variables").
-use Rattle.std.specs.Prelude.{◌≡◌, ◌≤◌, ℕ, zero, suc, ℤ, pos, int_le, Bool, true, false, ◌&&◌, List, [], ◌∷◌, length, map, Option, Some, None, if◌then◌else◌}
+use Rattle.std.specs.Prelude.{◌≡◌, ◌≤◌, ℕ, zero, suc, ℤ, pos, int_le, Bool, true, false, List, [], ◌∷◌, length, map, Option, Some, None, if◌then◌else◌}
 use Rattle.sail_base.specs.declared.kind.Kind.{Kind}
 use Rattle.sail_base.specs.declared.kind.Kind.TheVariants as K
 use Rattle.sail_types.specs.Belongs.{Reading as Closed, assigned, belongs}
@@ -18,9 +18,7 @@ use Rattle.sail_types.specs.declared.types.Typ.TheOpen as T
 use Rattle.sail_types.specs.declared.values.Value.{Value}
 use Rattle.sail_core.specs.Numbers.{Givens, givens_of}
 use Rattle.sail_core.specs.declared.model.Function.{Function}
-use Rattle.value_indices.specs.declared.indices.Indices.{Indices, out-Indices}
-use Rattle.value_indices.specs.declared.indices.Indices.TheOpen as W
-use Rattle.value_indices.specs.declared.indices.Indices.TheOpen.{Indices-F}
+use Rattle.value_indices.specs.declared.indices.Indices.{Indices}
 use Rattle.value_indices.specs.declared.indices.Reading.{Reading}
 use Rattle.value_indices.specs.declared.indices.Reading.TheVariants as R
 use Rattle.value_fits.specs.Fitting.{fits}
@@ -99,35 +97,13 @@ abbrev pub EachHasPlace : ℕ → List Parameter → List Typ → Type 0
 EachHasPlace j [] ts = (i : ℕ) → j ≤ i → among_as (map placed_as ts) i ≡ None
 EachHasPlace j (p ∷ ps) ts = (among_as (map placed_as ts) j ≡ Some (is_bool p.kind)) × EachHasPlace (suc j) ps ts
 
--- ---- values with as many parts as their types
-
-abbrev pub Parts : Type 0
-Parts = Indices → Bool
-
-abbrev pub each_has : List Parts → List Indices → Bool
-each_has [] [] = true
-each_has (f ∷ fs) (i ∷ is) = f i && each_has fs is
-each_has fs is = false
-
-abbrev pub form_has : Typ-F Parts → Indices-F Indices Reading → Bool
-form_has (T.Tuple fs) (W.Tuple is) = each_has fs is
-form_has t i = true
-
-abbrev pub parts_of : Typ-F Parts → Parts
-parts_of t i = form_has t (out-Indices i)
-
--- a tuple, or a tuple that is a part of one, has as many parts as the type has there
-abbrev pub has_parts : Typ → Parts
-has_parts = fold-Typ Parts parts_of
-
 -- ---- arguments
 
 module _ (types : Types) (past : Positive) (own : List Closed) {n : ℕ} (f : Point n) where
-  -- a value of this type has these indices, which mean one and the same
-  pub record Has (t : Typ) (i : Indices) (v : Value) : Type 0 where
+  -- a value has these indices, which mean one and the same
+  pub record Has (i : Indices) (v : Value) : Type 0 where
     pub steady : (g : Integers) → Agree f g → meant types (standing past g) own i ≡ meant types (standing past f.integers) own i
     pub is_so : has types (standing past f.integers) own i v ≡ true
-    pub parts : has_parts t i ≡ true
 
   -- one that owes further in belongs to a type that names no variable
   abbrev pub OwesInside : Bool → Typ → Value → Type 0
@@ -137,7 +113,7 @@ module _ (types : Types) (past : Positive) (own : List Closed) {n : ℕ} (f : Po
   -- as many as parameters
   abbrev pub AreArguments : List Bool → List Typ → List Indices → List Value → Type 0
   AreArguments [] [] [] [] = Unit {0}
-  AreArguments (b ∷ bs) (t ∷ ts) (i ∷ is) (v ∷ vs) = Has t i v × OwesInside b t v × AreArguments bs ts is vs
+  AreArguments (b ∷ bs) (t ∷ ts) (i ∷ is) (v ∷ vs) = Has i v × OwesInside b t v × AreArguments bs ts is vs
   AreArguments bs ts is vs = ⊥
 
 -- ---- what suffices
