@@ -34,7 +34,7 @@ use Rattle.value_fits.specs.Fitting.{Fit, fits, never, says}
 use Rattle.value_fits.specs.Fitting as In
 use Rattle.call_arguments.specs.Callees.{is_closed, is_numberless_under, is_typeless, numbers_from, or_zero}
 use Rattle.call_arguments.specs.Holes.{types_without_holes}
-use Rattle.call_arguments.specs.Placing.{are_as_many, argument_fits, arguments_fit, arguments_owe, constraint_of, is_placed, is_trivial_form, parameter_fits, placing}
+use Rattle.call_arguments.specs.Placing.{are_as_many, argument_fits, arguments_fit, arguments_owe, call_conditions, constraint_of, is_placed, is_trivial_form, parameter_fits, placing}
 use Rattle.value_laws.specs.Belonging.{Integers, Meant, standing, closeds, closed, types_or_own, is_of}
 use Rattle.value_laws.specs.Known.{Point, Agree, Later}
 use Rattle.value_laws.proofs.Alike.{asks}
@@ -53,12 +53,13 @@ use Rattle.fitting_laws.proofs.Leaves.{con_said}
 use Rattle.fitting_laws.proofs.Places.{EachPlaced, among_same, given_there as indices_give}
 use Rattle.fitting_laws.proofs.Standing.{EachHad, Had, StaysUnder, among_given_stays, under_later}
 use Rattle.call_fits.specs.Calls.{AllBelong, AreArguments, CallsFit, EachHasPlace, Enters, Has, OwesInside, among_as, given_of, given_there, givens_at}
-use Rattle.call_fits.specs.Calls.{inside, integer_there, integers_there, is_bool, own_variables, placed_as, variable_index}
+use Rattle.call_fits.specs.Calls.{inside, integer_there, integers_there, is_bool, own_variables, placed_as, types_found, variable_index}
 use Rattle.call_fits.proofs.Below.{SameBelow}
 use Rattle.call_fits.proofs.Closed.{closed_gives_none, closed_same, closed_unplaced}
 use Rattle.call_fits.proofs.Filled.{filled_full, filled_same}
 use Rattle.call_fits.proofs.Parts.{EachPart, Given as GivenThere, Gives, PartFits, gives_first, gives_rest, part_behind, part_suffices}
 use Rattle.call_fits.proofs.Placed.{among_kind, given_at, kind_there, or_some}
+use Rattle.call_fits.proofs.Types.{types_steady}
 
 module _ (types : Types) (past : Positive) (own : List Closed) where
   abbrev there : Integers → Assignment
@@ -376,8 +377,17 @@ as_many : {past : Positive} {Then : Integers → Type 0} (b : Bool) (n : ℕ) (f
 as_many true n f made h = h
 as_many {Then = Then} false n f made h = never_suffices n f Then
 
-pub calls_fit : CallsFit
-calls_fit types past own fn bs is vs rs n f places arguments steady =
+-- where the callee's Type variables stand for types that hang on fixed variables alone
+steady_fit : (types : Types) (past : Positive) (own : List Closed) (fn : Function) (bs : List Bool) (is : List Indices) (vs : List Value)
+    (rs : List Reading) (n : ℕ) (f : Point n)
+    → EachHasPlace 0 fn.variables fn.parameters
+    → AreArguments types past own f bs fn.parameters is vs
+    → ((g : Integers) → Agree f g
+    → map (closed types (standing past g) own) rs ≡ map (closed types (standing past f.integers) own) rs)
+    → Suffices past n f (call_conditions (fits types) fn (numbers_from 0 fn.variables fn.parameters is) rs bs is n)
+    (λ g. Enters types past own fn (numbers_from 0 fn.variables fn.parameters is) rs vs
+    (integers_there (standing past f.integers) (numbers_from 0 fn.variables fn.parameters is)) g)
+steady_fit types past own fn bs is vs rs n f places arguments steady =
     let js : List Index = numbers_from 0 fn.variables fn.parameters is in
     let qs : List Reading = types_without_holes rs in
     let stays = λ (g : Integers) (a : Agree f g) (j : ℕ). among_given_stays types past own f fn.parameters j is vs
@@ -398,3 +408,8 @@ calls_fit types past own fn bs is vs rs n f places arguments steady =
     (λ g l. says_so (constraint_of js fn.constraint) (λ k a said. said)))
     (λ g a q. enters types past own fn is vs rs f.integers g (stays g a) places q.0.0 q.0.1 q.1) in
     as_many (are_as_many bs fn.parameters is) n f (arguments_owe (fits types) fn js qs bs is n) owed
+
+pub calls_fit : CallsFit
+calls_fit types past own fn bs is vs n f places arguments =
+    steady_fit types past own fn bs is vs (types_found n fn is) n f places arguments
+    (types_steady types past own f bs (length fn.type_variables) 0 fn.parameters is vs arguments)

@@ -22,6 +22,7 @@ use Rattle.value_indices.specs.declared.indices.Indices.TheFolds.{fold-roll-Indi
 use Rattle.value_indices.specs.declared.indices.Indices.TheOpen as W
 use Rattle.value_indices.specs.declared.indices.Indices.TheOpen.{Indices-F, Reading-F}
 use Rattle.value_indices.specs.declared.indices.Reading.{Reading, roll-Reading}
+use Rattle.value_indices.specs.declared.indices.Reading.TheVariants as R
 use Rattle.wide_types.specs.Widening.{is_below, value_of_type, widened, widened_type}
 use Rattle.call_arguments.specs.Aims.{is_hole}
 use Rattle.call_arguments.specs.Callees.{Typed, first_typed, first_type_typed, form_typed, index_under, is_type_below, is_value_below, only_below, or_hole}
@@ -237,15 +238,15 @@ module _ (types : Types) (past : Positive) (own : List Closed) {m : ℕ} (f : Po
 
   value_if_gives : (is : Bool) (i : Indices) → NearlyWide i → Gives (value_if m is i)
   value_if_gives false i near q e = none e
-  value_if_gives true i near = below_gives (widened i) (λ g k a b s. widened_same types past own g k i (near g k a b s))
+  value_if_gives true i near q e = below_gives (widened i) (λ g k a b s. widened_same types past own g k i (near g k a b s)) q e
 
   type_unless_gives : (hole : Bool) (r : Reading) → NearlyType r → Gives (type_unless m hole r)
   type_unless_gives true r near q e = none e
-  type_unless_gives false r near = below_gives (widened_type r) (λ g k a b s. type_widens types past own g k r (near g k a b s))
+  type_unless_gives false r near q e = below_gives (widened_type r) (λ g k a b s. type_widens types past own g k r (near g k a b s)) q e
 
   type_if_gives : (is : Bool) (r : Reading) → NearlyType r → Gives (type_if m is r)
   type_if_gives false r near q e = none e
-  type_if_gives true r near = type_unless_gives (is_hole r) r near
+  type_if_gives true r near q e = type_unless_gives (is_hole r) r near q e
 
   -- the one or the other
   one_gives : (c : Bool) (r s : Reading) → Gives (Some r) → Gives (Some s) → Gives (if c then Some r else Some s)
@@ -282,16 +283,16 @@ module _ (types : Types) (past : Positive) (own : List Closed) {m : ℕ} (f : Po
   first_gives : (ts : List Typed) → AllSettle ts → (is : List Indices) → AllWide is → Gives (first_typed ts is)
   first_gives [] h is near q e = none e
   first_gives (t ∷ ts) h [] near q e = none e
-  first_gives (t ∷ ts) h (i ∷ is) near =
+  first_gives (t ∷ ts) h (i ∷ is) near q e =
       let s : Settles t = h.0 in
-      fuller_gives (t.of_value i) (first_typed ts is) (s.value_gives i near.0) (first_gives ts h.1 is near.1)
+      fuller_gives (t.of_value i) (first_typed ts is) (s.value_gives i near.0) (first_gives ts h.1 is near.1) q e
 
   first_type_gives : (ts : List Typed) → AllSettle ts → (rs : List Reading) → AllTypes rs → Gives (first_type_typed ts rs)
   first_type_gives [] h rs near q e = none e
   first_type_gives (t ∷ ts) h [] near q e = none e
-  first_type_gives (t ∷ ts) h (r ∷ rs) near =
+  first_type_gives (t ∷ ts) h (r ∷ rs) near q e =
       let s : Settles t = h.0 in
-      fuller_gives (t.of_type r) (first_type_typed ts rs) (s.type_gives r near.0) (first_type_gives ts h.1 rs near.1)
+      fuller_gives (t.of_type r) (first_type_typed ts rs) (s.type_gives r near.0) (first_type_gives ts h.1 rs near.1) q e
 
   -- parts of what is nearly the same
   list_near : (r : Reading) → NearlyForm (W.List r) → NearlyType r
@@ -357,11 +358,11 @@ module _ (types : Types) (past : Positive) (own : List Closed) {m : ℕ} (f : Po
 
     form_gives : (y : Typ-F SuchTyp) (x : Indices-F Indices Reading) → NearlyForm x → Gives (value_typed v (typed_form y) x)
     unfolding TypSettles
-    form_gives (T.List y) (W.List r) near = let s : Settles (typed_at m v y.0) = y.1 in s.type_gives r (list_near r near)
-    form_gives (T.Vector n y) (W.Vector t r) near = let s : Settles (typed_at m v y.0) = y.1 in s.type_gives r (vector_near t r near)
-    form_gives (T.Tuple ys) (W.Tuple is) near = first_gives (map (typed_at m v) (typs_in ys)) (all_settle ys) is (tuple_near is near)
-    form_gives (T.Named u args ys) (W.Named w is rs) near =
-        first_type_gives (map (typed_at m v) (typs_in ys)) (all_settle ys) rs (named_near w is rs near)
+    form_gives (T.List y) (W.List r) near q e = let s : Settles (typed_at m v y.0) = y.1 in s.type_gives r (list_near r near) q e
+    form_gives (T.Vector n y) (W.Vector t r) near q e = let s : Settles (typed_at m v y.0) = y.1 in s.type_gives r (vector_near t r near) q e
+    form_gives (T.Tuple ys) (W.Tuple is) near q e = first_gives (map (typed_at m v) (typs_in ys)) (all_settle ys) is (tuple_near is near) q e
+    form_gives (T.Named u args ys) (W.Named w is rs) near q e =
+        first_type_gives (map (typed_at m v) (typs_in ys)) (all_settle ys) rs (named_near w is rs near) q e
     form_gives y x near q e = none e
 
     typ_step : (y : Typ-F SuchTyp) → Settles (form_typed m v (typed_form y))
@@ -388,14 +389,14 @@ module _ (types : Types) (past : Positive) (own : List Closed) {m : ℕ} (f : Po
 
   hole_steady : (o : Option Reading) → Gives o → Steady (or_hole o)
   hole_steady None h g k a b =
-      closed_is types (standing past g) own (roll-Reading W.Hole) W.Hole refl ∙ sym (closed_is types (standing past k) own (roll-Reading W.Hole) W.Hole refl)
-  hole_steady (Some r) h = h r refl
+      closed_is types (standing past g) own R.Hole W.Hole R.rolls-Hole ∙ sym (closed_is types (standing past k) own R.Hole W.Hole R.rolls-Hole)
+  hole_steady (Some r) h g k a b = h r refl g k a b
 
   arguments_near : (bs : List Bool) (ts : List Typ) (is : List Indices) (vs : List Value) → AreArguments types past own f bs ts is vs → AllWide is
   arguments_near [] [] [] [] h = tt
   arguments_near (b ∷ bs) (t ∷ ts) (i ∷ is) (v ∷ vs) h = (
     λ g k a c s. ap (λ (n : Meant). n.wide) (h.0.steady g a ∙ sym (h.0.steady k c)),
-    arguments_near bs ts is vs h.1.1,
+    arguments_near bs ts is vs h.2,
   )
   arguments_near bs ts is vs h = absurd h
 

@@ -22,7 +22,7 @@ use Rattle.value_indices.specs.declared.indices.Indices.{Indices}
 use Rattle.value_indices.specs.declared.indices.Reading.{Reading}
 use Rattle.value_indices.specs.declared.indices.Reading.TheVariants as R
 use Rattle.value_fits.specs.Fitting.{fits}
-use Rattle.call_arguments.specs.Callees.{is_closed, numbers_from}
+use Rattle.call_arguments.specs.Callees.{is_closed, numbers_from, types_from}
 use Rattle.call_arguments.specs.Placing.{call_conditions}
 use Rattle.value_laws.specs.Belonging.{Integers, standing, over, meant, closed, types_or_own, has, is_of}
 use Rattle.value_laws.specs.Known.{Point, Agree}
@@ -132,14 +132,15 @@ pub record Enters (types : Types) (past : Positive) (own : List Closed) (fn : Fu
   pub constraint : true_in (inside past fn.variables h) fn.constraint ≡ true
   pub are_given : givens_of (length fn.variables) fn.parameters vs ≡ Some (givens_at h 0 fn.variables)
 
--- where the callee's Type variables stand for types that hang on fixed variables alone
+-- what the callee's Type variables are found to stand for; types of items are opened from the next variable on
+abbrev pub types_found : ℕ → Function → List Indices → List Reading
+types_found n fn is = types_from n 0 (length fn.type_variables) fn.parameters is
+
 abbrev pub CallsFit : Type 0
-CallsFit = (types : Types) (past : Positive) (own : List Closed) (fn : Function) (bs : List Bool) (is : List Indices) (vs : List Value)
-    (qs : List Reading) (n : ℕ) (f : Point n)
+CallsFit = (types : Types) (past : Positive) (own : List Closed) (fn : Function) (bs : List Bool) (is : List Indices) (vs : List Value) (n : ℕ)
+    (f : Point n)
     → EachHasPlace 0 fn.variables fn.parameters
     → AreArguments types past own f bs fn.parameters is vs
-    → ((g : Integers) → Agree f g
-    → map (closed types (standing past g) own) qs ≡ map (closed types (standing past f.integers) own) qs)
-    → Suffices past n f (call_conditions (fits types) fn (numbers_from 0 fn.variables fn.parameters is) qs bs is n)
-    (λ g. Enters types past own fn (numbers_from 0 fn.variables fn.parameters is) qs vs
+    → Suffices past n f (call_conditions (fits types) fn (numbers_from 0 fn.variables fn.parameters is) (types_found n fn is) bs is n)
+    (λ g. Enters types past own fn (numbers_from 0 fn.variables fn.parameters is) (types_found n fn is) vs
     (integers_there (standing past f.integers) (numbers_from 0 fn.variables fn.parameters is)) g)
