@@ -1,5 +1,6 @@
 -- What an argument owes, by the form of its parameter's type.
-use Rattle.std.proofs.Common.{◌≡◌, ◌∙◌, ap, sym, refl, ℕ, List, [], ◌∷◌, map}
+use Rattle.std.proofs.Common.{◌≡◌, ◌∙◌, ap, sym, refl, ℕ, nat_eq, if◌then◌else◌, List, [], ◌∷◌, length, map}
+use Rattle.std.proofs.lemmas.List.{length-map}
 use Rattle.sail_types.specs.declared.numbers.Con.{Con}
 use Rattle.sail_types.specs.declared.numbers.Index.{Index}
 use Rattle.sail_types.specs.declared.numbers.Num.{Num}
@@ -76,9 +77,11 @@ module _ (fit : Fit) (js : List Index) (qs : List Reading) (known : List ℕ) (i
 
   -- the parts of a tuple
   pub parts_are : (t : Typ) (ts us : List Typ) (is ks : List Indices) → t ≡ V.Tuple ts → i ≡ I.Tuple is → us ≡ ts → ks ≡ is
-      → each_placing (map (parameter_fits fit js qs) us) ks known n ≡ own t
+      → (if nat_eq (length us) (length ks) then each_placing (map (parameter_fits fit js qs) us) ks known n else full t) ≡ own t
   parts_are t ts us is ks e tuple same values =
-      (λ j. each_placing (map (parameter_fits fit js qs) (same j)) (values j) known n)
+      (λ j. if nat_eq (length (same j)) (length (values j)) then each_placing (map (parameter_fits fit js qs) (same j)) (values j) known n else full t)
+      ∙ ap (λ l. if nat_eq l (length is) then each_placing (map (parameter_fits fit js qs) ts) is known n else full t)
+      (sym (length-map ts (parameter_fits fit js qs)))
       ∙ ap (λ (x : ValueForm). tuple_placed (map (parameter_fits fit js qs) ts) known n (full t) x)
       (sym (ap out-Indices (tuple ∙ sym (I.rolls-Tuple is)) ∙ out-roll-Indices (W.Tuple is)))
       ∙ tuple_is t ts e

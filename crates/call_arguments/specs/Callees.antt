@@ -12,10 +12,10 @@ use Rattle.sail_types.specs.declared.table.Parameter.{Parameter}
 use Rattle.sail_types.specs.declared.types.Typ.{Typ, Typ-F, fold-Typ, out-Typ}
 use Rattle.sail_types.specs.declared.types.Typ.TheOpen as T
 use Rattle.value_indices.specs.Steps.{Walk, bind, give}
-use Rattle.value_indices.specs.declared.indices.Indices.{Indices, out-Indices}
+use Rattle.value_indices.specs.declared.indices.Indices.{Indices, fold-Indices, out-Indices}
 use Rattle.value_indices.specs.declared.indices.Indices.TheOpen as W
-use Rattle.value_indices.specs.declared.indices.Indices.TheOpen.{Indices-F}
-use Rattle.value_indices.specs.declared.indices.Reading.{Reading}
+use Rattle.value_indices.specs.declared.indices.Indices.TheOpen.{Indices-F, Reading-F}
+use Rattle.value_indices.specs.declared.indices.Reading.{Reading, fold-Reading}
 use Rattle.value_indices.specs.declared.indices.Reading.TheVariants as R
 use Rattle.value_fits.specs.Fitting.{among, placed}
 use Rattle.wide_types.specs.Widening.{fresh_index, is_below, is_con_below, value_of_type, widened, widened_type}
@@ -88,8 +88,33 @@ abbrev pub numbers_from : ℕ → List Parameter → List Typ → List Indices �
 numbers_from j [] ts is = []
 numbers_from j (p ∷ ps) ts is = or_zero p.kind (among (map placed ts) j is) ∷ numbers_from (suc j) ps ts is
 
+-- ---- types that name no variable from one on, but for integers and truths, which are widened
+
+abbrev pub value_names_below : ℕ → Indices-F Bool Bool → Bool
+value_names_below m (W.Bits t) = is_below m t
+value_names_below m (W.List b) = b
+value_names_below m (W.Vector t b) = is_below m t && b
+value_names_below m (W.Tuple bs) = list_all (λ b. b) bs
+value_names_below m (W.Named u is bs) = list_all (index_under m) is && list_all (λ b. b) bs
+value_names_below m form = true
+
+abbrev pub type_names_below : ℕ → Reading-F Bool Bool → Bool
+type_names_below m (W.Of t is bs) = list_all (index_under m) is && list_all (λ b. b) bs
+type_names_below m (W.Widened b) = b
+type_names_below m (W.Parts bs) = list_all (λ b. b) bs
+type_names_below m W.Hole = true
+
+abbrev pub is_value_below : ℕ → Indices → Bool
+is_value_below m = fold-Indices Bool Bool (value_names_below m) (type_names_below m)
+
+abbrev pub is_type_below : ℕ → Reading → Bool
+is_type_below m = fold-Reading Bool Bool (value_names_below m) (type_names_below m)
+
+abbrev pub only_below : ℕ → Reading → Option Reading
+only_below m r = if is_type_below m r then Some r else None
+
 -- ---- its Type variables: each the widened type of what the first place that names it is given, of those that give it one without a hole
--- inside if there are such
+-- inside if there are such. Types of items are opened from the next variable of the call on; a type that names one of what they bind is none
 
 pub record Typed : Type 0 where
   pub of_value : Indices → Option Reading
@@ -111,45 +136,45 @@ value_typed k (T.Named u arguments fs) (W.Named v is rs) = first_type_typed fs r
 value_typed k t i = None
 
 -- where a place names the variable itself
-abbrev pub value_if : Bool → Indices → Option Reading
-value_if is i = if is then Some (widened i) else None
+abbrev pub value_if : ℕ → Bool → Indices → Option Reading
+value_if m is i = if is then only_below m (widened i) else None
 
 -- a hole gives no type
-abbrev pub type_unless : Bool → Reading → Option Reading
-type_unless hole r = if hole then None else Some (widened_type r)
+abbrev pub type_unless : ℕ → Bool → Reading → Option Reading
+type_unless m hole r = if hole then None else only_below m (widened_type r)
 
-abbrev pub type_if : Bool → Reading → Option Reading
-type_if is r = if is then type_unless (is_hole r) r else None
+abbrev pub type_if : ℕ → Bool → Reading → Option Reading
+type_if m is r = if is then type_unless m (is_hole r) r else None
 
-abbrev pub form_typed : ℕ → Typ-F Typed → Typed
-form_typed k (T.Variable j) = record {
-  of_value = value_if (nat_eq j k);
-  of_type = type_if (nat_eq j k);
+abbrev pub form_typed : ℕ → ℕ → Typ-F Typed → Typed
+form_typed m k (T.Variable j) = record {
+  of_value = value_if m (nat_eq j k);
+  of_type = type_if m (nat_eq j k);
 }
-form_typed k (T.Exists name c f) = f
-form_typed k t = record {
+form_typed m k (T.Exists name c f) = f
+form_typed m k t = record {
   of_value = λ i. value_typed k t (out-Indices i);
-  of_type = λ r. value_typed k t (out-Indices (value_of_type 0 r));
+  of_type = λ r. value_typed k t (out-Indices (value_of_type m r));
 }
 
-abbrev pub typed_at : ℕ → Typ → Typed
-typed_at k = fold-Typ Typed (form_typed k)
+abbrev pub typed_at : ℕ → ℕ → Typ → Typed
+typed_at m k = fold-Typ Typed (form_typed m k)
 
 -- what a value gives, and what a type does
-abbrev pub value_typed_at : ℕ → Typ → Indices → Option Reading
-value_typed_at k t = (typed_at k t).of_value
+abbrev pub value_typed_at : ℕ → ℕ → Typ → Indices → Option Reading
+value_typed_at m k t = (typed_at m k t).of_value
 
-abbrev pub type_typed_at : ℕ → Typ → Reading → Option Reading
-type_typed_at k t = (typed_at k t).of_type
+abbrev pub type_typed_at : ℕ → ℕ → Typ → Reading → Option Reading
+type_typed_at m k t = (typed_at m k t).of_type
 
 abbrev pub or_hole : Option Reading → Reading
 or_hole None = R.Hole
 or_hole (Some r) = r
 
 -- so many Type variables, from this one on
-abbrev pub types_from : ℕ → ℕ → List Typ → List Indices → List Reading
-types_from k zero ts is = []
-types_from k (suc count) ts is = or_hole (first_typed (map (typed_at k) ts) is) ∷ types_from (suc k) count ts is
+abbrev pub types_from : ℕ → ℕ → ℕ → List Typ → List Indices → List Reading
+types_from m k zero ts is = []
+types_from m k (suc count) ts is = or_hole (first_typed (map (typed_at m k) ts) is) ∷ types_from m (suc k) count ts is
 
 -- ---- constructors
 

@@ -22,7 +22,7 @@ use Rattle.value_indices.specs.declared.indices.Indices.TheOpen as W
 use Rattle.value_indices.specs.declared.indices.Indices.TheOpen.{Indices-F}
 use Rattle.value_indices.specs.declared.indices.Reading.{Reading}
 use Rattle.value_indices.specs.declared.indices.Reading.TheVariants as R
-use Rattle.value_fits.specs.Fitting.{Fit, also, item_fits, number_fits, placed, says, truth_fits}
+use Rattle.value_fits.specs.Fitting.{Fit, also, item_fits, never, number_fits, placed, says, truth_fits}
 use Rattle.value_fits.specs.declared.fitted.Fitted.{Fitted}
 use Rattle.call_arguments.specs.Callees.{is_closed}
 use Rattle.call_arguments.specs.Holes.{types_without_holes}
@@ -128,8 +128,9 @@ abbrev pub items_placed : Fit → List Index → Num → Reading → List ℕ �
 items_placed fit js l q known n whole (W.Vector k r) = vector_placed fit js l q known k r n
 items_placed fit js l q known n whole form = whole
 
+-- where a tuple has as many parts as its type
 abbrev pub tuple_placed : List PlaceFit → List ℕ → ℕ → Placing → ValueForm → Placing
-tuple_placed fs known n whole (W.Tuple is) = each_placing fs is known n
+tuple_placed fs known n whole (W.Tuple is) = if nat_eq (length fs) (length is) then each_placing fs is known n else whole
 tuple_placed fs known n whole form = whole
 
 abbrev pub value_placing : Fit → List Index → List Reading → Typ-F (Typ × TypeFit) → List ℕ → ℕ → Placing → ValueForm → Placing
@@ -169,8 +170,15 @@ is_trivial_form c = false
 abbrev pub constraint_of : List Index → Con → Conditions
 constraint_of js c = if is_trivial_form (out-Con c) then [] else read_con js c ∷ []
 
+-- as many arguments as parameters
+abbrev pub are_as_many : List Bool → List Typ → List Indices → Bool
+are_as_many bs ts is = nat_eq (length bs) (length ts) && nat_eq (length is) (length ts)
+
+abbrev pub arguments_owe : Fit → Function → List Index → List Reading → List Bool → List Indices → ℕ → Fitted
+arguments_owe fit f js qs bs is n = also (arguments_fit fit js qs bs f.parameters is [] n).fitted (says (constraint_of js f.constraint))
+
 abbrev pub conditions_of : Fit → Function → List Index → List Reading → List Bool → List Indices → ℕ → Fitted
-conditions_of fit f js qs bs is n = also (arguments_fit fit js qs bs f.parameters is [] n).fitted (says (constraint_of js f.constraint))
+conditions_of fit f js qs bs is n = if are_as_many bs f.parameters is then arguments_owe fit f js qs bs is n else never n
 
 -- of a hole in what stands for a Type variable is only what never ends
 abbrev pub call_conditions : Fit → Function → List Index → List Reading → List Bool → List Indices → ℕ → Fitted

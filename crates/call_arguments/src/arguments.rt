@@ -1,5 +1,5 @@
 //! What the arguments of a call owe.
-ghost use Rattle.std.specs.Prelude.{◌≡◌, ◌&&◌, IfOk, OnOk, map};
+ghost use Rattle.std.specs.Prelude.{◌≡◌, ◌&&◌, IfOk, OnOk, if◌then◌else◌, length, map, nat_eq};
 ghost use Rattle.sail_types.specs.declared.numbers.Con.{out-Con};
 ghost use Rattle.value_fits.specs.Fitting as fitting;
 ghost use Rattle.value_fits.specs.Lent.{reading_of};
@@ -214,19 +214,51 @@ fn parameter_fits(
             next,
         ),
         Typ::Tuple(parts) => match value {
-            Indices::Tuple(values) => each_fits(
+            Indices::Tuple(values) => tuple_fits(
                 alloc,
                 types,
+                typ,
                 parts.as_slice(),
                 indices,
                 readings,
                 known,
+                value,
                 values.as_slice(),
                 next,
             ),
             _ => whole_fits(alloc, types, typ, indices, readings, known, value, next),
         },
         _ => whole_fits(alloc, types, typ, indices, readings, known, value, next),
+    }
+}
+
+/// The same of a tuple, part by part where it has as many parts as its type.
+#[cycle(places)]
+fn tuple_fits(
+    alloc: Global,
+    types: &Types,
+    typ: &Typ,
+    parts: &[Typ],
+    indices: &[Index],
+    readings: &[Reading],
+    known: &mut Items<u32>,
+    value: &Indices,
+    values: &[Indices],
+    next: u32,
+) -> Result<Fitted, AllocError>
+    ensures fitted { IfOk result (λ made. made
+        ≡ places.Placing.fitted (if nat_eq (length parts.now) (length values.now)
+        then places.each_placing (map (places.parameter_fits (fitting.fits types.now) indices.now readings.now) parts.now) values.now known.old next
+        else places.whole_placed (fitting.fits types.now) indices.now readings.now typ.now known.old value.now next)) }
+    ensures placed { OnOk result (known.new
+        ≡ places.Placing.placed (if nat_eq (length parts.now) (length values.now)
+        then places.each_placing (map (places.parameter_fits (fitting.fits types.now) indices.now readings.now) parts.now) values.now known.old next
+        else places.whole_placed (fitting.fits types.now) indices.now readings.now typ.now known.old value.now next)) }
+{
+    if parts.len() == values.len() {
+        each_fits(alloc, types, parts, indices, readings, known, values, next)
+    } else {
+        whole_fits(alloc, types, typ, indices, readings, known, value, next)
     }
 }
 
@@ -360,7 +392,7 @@ fn constraint_of(
 
 /// That each argument is of its parameter's type, where the function's variables stand for these, unless it owes that further in, and the
 /// constraint. It fails where memory is wanting, and where variables are too many.
-fn conditions_of(
+fn arguments_owe(
     alloc: Global,
     types: &Types,
     function: &Function,
@@ -371,7 +403,7 @@ fn conditions_of(
     next: u32,
 ) -> Result<Fitted, AllocError>
     ensures { IfOk result (λ made. made
-        ≡ places.conditions_of (fitting.fits types.now) function.now indices.now readings.now nested.now arguments.now next) }
+        ≡ places.arguments_owe (fitting.fits types.now) function.now indices.now readings.now nested.now arguments.now next) }
 {
     let mut known = Items::new(alloc);
     let fitted = arguments_fit(
@@ -388,6 +420,36 @@ fn conditions_of(
     let conditions = constraint_of(alloc, indices, &function.constraint)?;
     let constraint = Fitted::says(alloc, conditions, fitted.next);
     fitted.also(constraint)
+}
+
+/// Whether there are as many arguments as parameters.
+fn are_as_many(nested: &[bool], parameters: &[Typ], arguments: &[Indices]) -> bool
+    ensures { result ≡ places.are_as_many nested.now parameters.now arguments.now }
+{
+    nested.len() == parameters.len() && arguments.len() == parameters.len()
+}
+
+/// The same; what is false where there are more arguments than parameters, or fewer.
+fn conditions_of(
+    alloc: Global,
+    types: &Types,
+    function: &Function,
+    indices: &[Index],
+    readings: &[Reading],
+    nested: &[bool],
+    arguments: &[Indices],
+    next: u32,
+) -> Result<Fitted, AllocError>
+    ensures { IfOk result (λ made. made
+        ≡ places.conditions_of (fitting.fits types.now) function.now indices.now readings.now nested.now arguments.now next) }
+{
+    if are_as_many(nested, function.parameters.as_slice(), arguments) {
+        arguments_owe(
+            alloc, types, function, indices, readings, nested, arguments, next,
+        )
+    } else {
+        Fitted::never(alloc, next)
+    }
 }
 
 /// What a call of a function owes: that each argument is of its parameter's type, where the function's variables stand for these, unless

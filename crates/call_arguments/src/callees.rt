@@ -250,16 +250,17 @@ pub fn indices_from(
 /// and where variables are too many.
 pub fn types_or(
     alloc: Global,
+    from: u32,
     known: &Option<Items<Reading>>,
     parameters: &[Parameter],
     types: &[Typ],
     arguments: &[Indices],
 ) -> Result<Items<Reading>, AllocError>
     ensures { IfOk result (λ made. made
-        ≡ callees.types_or known.now (callees.types_from 0 (callees.type_parameters parameters.now) types.now arguments.now)) }
+        ≡ callees.types_or known.now (callees.types_from from 0 (callees.type_parameters parameters.now) types.now arguments.now)) }
 {
     match known {
-        None => types_from(alloc, type_parameters(parameters), types, arguments),
+        None => types_from(alloc, from, type_parameters(parameters), types, arguments),
         Some(readings) => copy_readings(alloc, readings.as_slice()),
     }
 }

@@ -18,7 +18,7 @@ fn index_under(depth: u32, index: &Index) -> bool
 }
 
 /// The same of arguments.
-fn are_under(depth: u32, indices: &[Index]) -> bool
+pub fn are_under(depth: u32, indices: &[Index]) -> bool
     ensures { result ≡ list_all (callees.index_under depth) indices.now }
 {
     for index in indices {

@@ -6,6 +6,7 @@
 
 mod aims;
 mod arguments;
+mod below;
 mod callees;
 mod closed;
 mod counts;

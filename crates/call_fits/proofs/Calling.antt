@@ -29,11 +29,12 @@ use Rattle.sail_core.specs.declared.model.Function.{Function}
 use Rattle.value_indices.specs.declared.indices.Indices.{Indices}
 use Rattle.value_indices.specs.declared.indices.Reading.{Reading}
 use Rattle.value_indices.specs.declared.indices.Reading.TheVariants as R
-use Rattle.value_fits.specs.Fitting.{Fit, fits, says}
+use Rattle.value_fits.specs.declared.fitted.Fitted.{Fitted}
+use Rattle.value_fits.specs.Fitting.{Fit, fits, never, says}
 use Rattle.value_fits.specs.Fitting as In
 use Rattle.call_arguments.specs.Callees.{is_closed, is_numberless_under, is_typeless, numbers_from, or_zero}
 use Rattle.call_arguments.specs.Holes.{types_without_holes}
-use Rattle.call_arguments.specs.Placing.{argument_fits, arguments_fit, constraint_of, is_placed, is_trivial_form, parameter_fits, placing}
+use Rattle.call_arguments.specs.Placing.{are_as_many, argument_fits, arguments_fit, arguments_owe, call_conditions, constraint_of, is_placed, is_trivial_form, parameter_fits, placing}
 use Rattle.value_laws.specs.Belonging.{Integers, Meant, standing, closeds, closed, types_or_own, is_of}
 use Rattle.value_laws.specs.Known.{Point, Agree, Later}
 use Rattle.value_laws.proofs.Alike.{asks}
@@ -47,17 +48,18 @@ use Rattle.fitting_laws.proofs.Counted.{FitCounts, fits_count}
 use Rattle.fitting_laws.proofs.Deep.{fits_go}
 use Rattle.fitting_laws.proofs.Forms.{FitGoes}
 use Rattle.fitting_laws.proofs.Holes.{Full, none}
-use Rattle.fitting_laws.proofs.Joining.{also_suffice, says_so, suffice_as}
+use Rattle.fitting_laws.proofs.Joining.{also_suffice, never_suffices, says_so, suffice_as}
 use Rattle.fitting_laws.proofs.Leaves.{con_said}
 use Rattle.fitting_laws.proofs.Places.{EachPlaced, among_same, given_there as indices_give}
 use Rattle.fitting_laws.proofs.Standing.{EachHad, Had, StaysUnder, among_given_stays, under_later}
 use Rattle.call_fits.specs.Calls.{AllBelong, AreArguments, CallsFit, EachHasPlace, Enters, Has, OwesInside, among_as, given_of, given_there, givens_at}
-use Rattle.call_fits.specs.Calls.{inside, integer_there, integers_there, is_bool, own_variables, placed_as, variable_index}
+use Rattle.call_fits.specs.Calls.{inside, integer_there, integers_there, is_bool, own_variables, placed_as, types_found, variable_index}
 use Rattle.call_fits.proofs.Below.{SameBelow}
 use Rattle.call_fits.proofs.Closed.{closed_gives_none, closed_same, closed_unplaced}
 use Rattle.call_fits.proofs.Filled.{filled_full, filled_same}
 use Rattle.call_fits.proofs.Parts.{EachPart, Given as GivenThere, Gives, PartFits, gives_first, gives_rest, part_behind, part_suffices}
 use Rattle.call_fits.proofs.Placed.{among_kind, given_at, kind_there, or_some}
+use Rattle.call_fits.proofs.Types.{types_steady}
 
 module _ (types : Types) (past : Positive) (own : List Closed) where
   abbrev there : Integers → Assignment
@@ -65,13 +67,12 @@ module _ (types : Types) (past : Positive) (own : List Closed) where
 
   -- ---- arguments at later points
 
-  has_later : {n m : ℕ} (f : Point n) (g : Point m) (t : Typ) (i : Indices) (v : Value) → Later f g → Has types past own f t i v → Has types past own g t i v
+  has_later : {n m : ℕ} (f : Point n) (g : Point m) (t : Typ) (i : Indices) (v : Value) → Later f g → Has types past own f i v → Has types past own g i v
   has_later f g t i v a h =
       let at = h.steady g.integers (agree_on a (same g)) in
       record {
         steady = λ k b. h.steady k (agree_on a b) ∙ sym at;
         is_so = ap (λ (m : Meant). m.holds v) at ∙ h.is_so;
-        parts = h.parts;
       }
 
   inside_later : {n m : ℕ} (f : Point n) (g : Point m) (b : Bool) (t : Typ) (v : Value) → Later f g → OwesInside types past own f b t v
@@ -91,7 +92,7 @@ module _ (types : Types) (past : Positive) (own : List Closed) where
   arguments_later f g (b ∷ bs) (t ∷ ts) (i ∷ is) (v ∷ vs) a h =
       (has_later f g t i v a h.0, inside_later f g b t v a h.1, arguments_later f g bs ts is vs a h.2)
 
-  had : {n : ℕ} (f : Point n) (t : Typ) (i : Indices) (v : Value) → Has types past own f t i v → Had types past own f i v
+  had : {n : ℕ} (f : Point n) (t : Typ) (i : Indices) (v : Value) → Has types past own f i v → Had types past own f i v
   had f t i v h g a = (ap (λ (m : Meant). m.holds v) (h.steady g a) ∙ h.is_so, ap (λ (m : Meant). m.wide) (h.steady g a))
 
   all_had : {n : ℕ} (f : Point n) (bs : List Bool) (ts : List Typ) (is : List Indices) (vs : List Value) → AreArguments types past own f bs ts is vs
@@ -134,13 +135,13 @@ module _ (types : Types) (past : Positive) (own : List Closed) where
           λ j. ap (option_map (indices_give (there g))) (closed_unplaced t k.0 j i) ∙ sym (closed_gives_none types t k.0 j v (under_at g) (stand g) is_it),
         )
 
-    one_suffices : (t : Typ) (known : List ℕ) (i : Indices) (v : Value) (n : ℕ) (f : Point n) → Has types past own f t i v
+    one_suffices : (t : Typ) (known : List ℕ) (i : Indices) (v : Value) (n : ℕ) (f : Point n) → Has types past own f i v
         → StaysUnder types past own f js qs → GivenThere types past own fit go counts js qs full known t i
         → Suffices past n f (parameter_fits fit js qs t known i n).fitted (Fits t i v)
     one_suffices t known i v n f h s given =
-        part_suffices types past own fit go counts js qs full t known i v n f h.parts (had f t i v h) s given
+        part_suffices types past own fit go counts js qs full t known i v n f (had f t i v h) s given
 
-    argument_suffices : (b : Bool) (t : Typ) (known : List ℕ) (i : Indices) (v : Value) (n : ℕ) (f : Point n) → Has types past own f t i v
+    argument_suffices : (b : Bool) (t : Typ) (known : List ℕ) (i : Indices) (v : Value) (n : ℕ) (f : Point n) → Has types past own f i v
         → OwesInside types past own f b t v → StaysUnder types past own f js qs → GivenThere types past own fit go counts js qs full known t i
         → Suffices past n f (argument_fits fit js qs b t known i n).fitted (Fits t i v)
     argument_suffices false t known i v n f h inner s given = one_suffices t known i v n f h s given
@@ -370,8 +371,23 @@ module _ (types : Types) (past : Positive) (own : List Closed) where
           are_given = all.2;
         }
 
-pub calls_fit : CallsFit
-calls_fit types past own fn bs is vs rs n f places arguments steady =
+-- another number of arguments owes what is false
+as_many : {past : Positive} {Then : Integers → Type 0} (b : Bool) (n : ℕ) (f : Point n) (made : Fitted) → Suffices past n f made Then
+    → Suffices past n f (if b then made else never n) Then
+as_many true n f made h = h
+as_many {Then = Then} false n f made h = never_suffices n f Then
+
+-- where the callee's Type variables stand for types that hang on fixed variables alone
+steady_fit : (types : Types) (past : Positive) (own : List Closed) (fn : Function) (bs : List Bool) (is : List Indices) (vs : List Value)
+    (rs : List Reading) (n : ℕ) (f : Point n)
+    → EachHasPlace 0 fn.variables fn.parameters
+    → AreArguments types past own f bs fn.parameters is vs
+    → ((g : Integers) → Agree f g
+    → map (closed types (standing past g) own) rs ≡ map (closed types (standing past f.integers) own) rs)
+    → Suffices past n f (call_conditions (fits types) fn (numbers_from 0 fn.variables fn.parameters is) rs bs is n)
+    (λ g. Enters types past own fn (numbers_from 0 fn.variables fn.parameters is) rs vs
+    (integers_there (standing past f.integers) (numbers_from 0 fn.variables fn.parameters is)) g)
+steady_fit types past own fn bs is vs rs n f places arguments steady =
     let js : List Index = numbers_from 0 fn.variables fn.parameters is in
     let qs : List Reading = types_without_holes rs in
     let stays = λ (g : Integers) (a : Agree f g) (j : ℕ). among_given_stays types past own f fn.parameters j is vs
@@ -383,10 +399,17 @@ calls_fit types past own fn bs is vs rs n f places arguments steady =
       ap (λ cs. closeds (types_or_own cs own))
           (filled_same types (standing past g) own rs ∙ steady g a ∙ sym (filled_same types (standing past f.integers) own rs)),
     ) in
+    let owed : Suffices past n f (arguments_owe (fits types) fn js qs bs is n) (λ g. Enters types past own fn js rs vs (integers_there (standing past f.integers) js) g) =
     suffice_as
     (also_suffice (says (constraint_of js fn.constraint))
     (arguments_go types past own (fits types) (fits_go types past own deepest) (fits_count types deepest) js qs
     (filled_full types (standing past f.integers) own rs) bs fn.parameters is vs [] n f arguments under
     (λ j x e. let k = given_at fn.variables fn.parameters is places j x e in (k.0, λ h. k.1)))
     (λ g l. says_so (constraint_of js fn.constraint) (λ k a said. said)))
-    (λ g a q. enters types past own fn is vs rs f.integers g (stays g a) places q.0.0 q.0.1 q.1)
+    (λ g a q. enters types past own fn is vs rs f.integers g (stays g a) places q.0.0 q.0.1 q.1) in
+    as_many (are_as_many bs fn.parameters is) n f (arguments_owe (fits types) fn js qs bs is n) owed
+
+pub calls_fit : CallsFit
+calls_fit types past own fn bs is vs n f places arguments =
+    steady_fit types past own fn bs is vs (types_found n fn is) n f places arguments
+    (types_steady types past own f bs (length fn.type_variables) 0 fn.parameters is vs arguments)

@@ -4,4 +4,7 @@ pub mod Filled
 pub mod Placed
 pub mod Below
 pub mod Closed
+pub mod Widened
+pub mod Opened
+pub mod Types
 pub mod Calling

@@ -1,7 +1,8 @@
 -- Where what an argument owes is true, it belongs to its parameter: part by part.
-use Rattle.std.proofs.Common.{◌≡◌, ℕ, zero, suc, ◌≤◌, ◌<◌, nat_lt, Bool, true, false, List, [], ◌∷◌, map, length, slice_get}
+use Rattle.std.proofs.Common.{◌≡◌, ℕ, zero, suc, ◌≤◌, ◌<◌, nat_eq, nat_lt, Bool, true, false, List, [], ◌∷◌, map, length, slice_get}
 use Rattle.std.proofs.Common.{Option, Some, None, option_map, if◌then◌else◌, refl, sym, ap, ◌∙◌, subst, arith}
-use Rattle.std.proofs.lemmas.Bool.{and_parts, ltb-false, ltb-true}
+use Rattle.std.proofs.lemmas.Bool.Decides.{Decides-eqb}
+use Rattle.std.proofs.lemmas.Bool.{ltb-false, ltb-true}
 use Rattle.sail_types.specs.Belongs.{Reading as Closed, Readings as Closeds, reading, each_belongs, belongs}
 use Rattle.sail_types.specs.Numbers.{Assignment, Positive, number, true_in}
 use Rattle.sail_types.specs.Places.{first, form_is, is_variable, only}
@@ -13,7 +14,7 @@ use Rattle.sail_types.specs.declared.numbers.Index.{Index}
 use Rattle.sail_types.specs.declared.numbers.Index.TheVariants as N
 use Rattle.sail_types.specs.declared.numbers.Num.{Num}
 use Rattle.sail_types.specs.declared.table.Types.{Types}
-use Rattle.sail_types.specs.declared.types.Typ.{Typ, Typ-F, fold-roll-Typ, roll-Typ}
+use Rattle.sail_types.specs.declared.types.Typ.{Typ, Typ-F, roll-Typ}
 use Rattle.sail_types.specs.declared.types.Typ.TheFolds.{ind-Typ, map-Typ, para-roll-Typ}
 use Rattle.sail_types.specs.declared.types.Typ.TheOpen as T
 use Rattle.sail_types.specs.declared.values.Value.{Value, Value-F, out-Value}
@@ -48,7 +49,6 @@ use Rattle.fitting_laws.proofs.Places.{EachPlaced, PlacedAs, among_same, bits_pl
 use Rattle.fitting_laws.proofs.Places.{value_placed, vector_placed as length_there}
 use Rattle.fitting_laws.proofs.Standing.{Always, EachHad, Had, HadForm, StaysUnder, each_had, each_later, had_form, of_stays, out_of}
 use Rattle.fitting_laws.proofs.Standing.{stays_later, tuple_stays, under_later, vector_stays, wide_at}
-use Rattle.call_fits.specs.Calls.{each_has, form_has, has_parts, parts_of}
 use Rattle.call_fits.proofs.Variables.{behind_in, behind_out, form_finds, form_found, number_is, truth_is_variable, variable_finds, variable_found}
 
 -- ---- what was placed
@@ -135,7 +135,7 @@ module _ (types : Types) (past : Positive) (own : List Closed) (fit : Fit) (go :
   Given known t i = Gives known (λ j. In.placed t j i)
 
   PartGoes : Typ → Type 0
-  PartGoes t = (known : List ℕ) (i : Indices) (v : Value) (n : ℕ) (f : Point n) → has_parts t i ≡ true → Had types past own f i v
+  PartGoes t = (known : List ℕ) (i : Indices) (v : Value) (n : ℕ) (f : Point n) → Had types past own f i v
       → StaysUnder types past own f js qs → Given known t i → Suffices past n f (parameter_fits fit js qs t known i n).fitted (PartFits t i v)
 
   -- a variable without a number behind it had none before, and is given none
@@ -227,21 +227,20 @@ module _ (types : Types) (past : Positive) (own : List Closed) (fit : Fit) (go :
       )
 
   parts_suffice : (ys : List SuchTyp) (known : List ℕ) (is : List Indices) (vs : List Value) (n : ℕ) (f : Point n)
-      → each_has (map has_parts (types_in ys)) is ≡ true → EachHad types past own f is vs → StaysUnder types past own f js qs
+      → length ys ≡ length is → EachHad types past own f is vs → StaysUnder types past own f js qs
       → Gives known (λ j. In.among (map In.placed (types_in ys)) j is)
       → Suffices past n f (each_placing (each_fit (types_in ys)) is known n).fitted (λ g. EachPart g (types_in ys) is vs)
   unfolding PartGoes Behind
   parts_suffice [] known [] [] n f parts had s given = says_so [] (λ g a said. (refl, tt))
   parts_suffice [] known [] (v ∷ vs) n f parts had s given = absurd had
-  parts_suffice [] known (i ∷ is) vs n f parts had s given = no parts
-  parts_suffice (y ∷ ys) known [] vs n f parts had s given = no parts
+  parts_suffice [] known (i ∷ is) vs n f parts had s given = absurd (omega (arith, parts))
+  parts_suffice (y ∷ ys) known [] vs n f parts had s given = absurd (omega (arith, parts))
   parts_suffice (y ∷ ys) known (i ∷ is) [] n f parts had s given = absurd had
   parts_suffice (y ∷ ys) known (i ∷ is) (v ∷ vs) n f parts had s given =
-      let have = and_parts (has_parts y.0 i) (each_has (map has_parts (types_in ys)) is) parts in
       let made = parameter_fits fit js qs y.0 known i n in
       suffice_as (also_suffice (λ m. (each_placing (each_fit (types_in ys)) is made.placed m).fitted)
-      (y.1.0 known i v n f have.0 had.0 s (gives_first known y.0 (types_in ys) i is given))
-      (λ g l. parts_suffice ys made.placed is vs made.fitted.next g have.1 (each_later types past own f g is vs l had.1)
+      (y.1.0 known i v n f had.0 s (gives_first known y.0 (types_in ys) i is given))
+      (λ g l. parts_suffice ys made.placed is vs made.fitted.next g (omega (arith, parts)) (each_later types past own f g is vs l had.1)
       (under_later types past own f g js qs l s) (gives_rest known made.placed y.0 (types_in ys) i is (λ j m h. y.1.1 known i n j m h) given)))
       (λ g a q. (
         two (belongs types v (reading y.0 (under_at g) (stand g))) (each_belongs (asks types vs) (under_at g) (stand g) (types_in ys)) q.0.0 q.1.0,
@@ -270,13 +269,14 @@ module _ (types : Types) (past : Positive) (own : List Closed) (fit : Fit) (go :
       ≡ value_placing fit js qs (fits_form x) known n (whole_placed fit js qs (roll-Typ x) known i n) (out-Indices i)
   opens_form x known i n = ap (λ (f : TypeFit). f (roll-Typ x) known i n) (para-roll-Typ TypeFit (form_placing fit js qs) x)
 
-  parts_form : (x : Typ-F Typ) (t : Typ) (i : Indices) → roll-Typ x ≡ t → has_parts t i ≡ parts_of (map-Typ Typ (Indices → Bool) has_parts x) i
-  parts_form x t i e = ap (λ u. has_parts u i) (sym e) ∙ ap (λ p. p i) (fold-roll-Typ (Indices → Bool) parts_of x)
+  fits_length : (ys : List SuchTyp) → length (each_fit (types_in ys)) ≡ length ys
+  fits_length [] = refl
+  fits_length (y ∷ ys) = ap suc (fits_length ys)
 
   module _ (t : Typ) (i : Indices) where
     -- the parts of a value of a tuple's indices
     tuple_suffices : (ys : List SuchTyp) (is : List Indices) (w : Value-F Value) (known : List ℕ) (n : ℕ) (f : Point n)
-        → each_has (map has_parts (types_in ys)) is ≡ true
+        → length ys ≡ length is
         → Always types past own f (λ g. (form_holds types (there g) own (W.Tuple (map (meant types (there g) own) is)) w ≡ true)
         × (wide_at types past own g (W.Tuple is) ≡ wide_at types past own f.integers (W.Tuple is)))
         → StaysUnder types past own f js qs → Gives known (λ j. In.among (map In.placed (types_in ys)) j is)
@@ -294,10 +294,10 @@ module _ (types : Types) (past : Positive) (own : List Closed) (fit : Fit) (go :
     tuple_suffices ys is w known n f parts h s given = no (h f.integers (same f)).0
 
     form_goes : (v : Value) (x : Typ-F SuchTyp) → roll-Typ (typ_form x) ≡ t → (y : Indices-F Indices Reading) → out-Indices i ≡ y
-        → (known : List ℕ) (n : ℕ) (f : Point n) → parts_of (map-Typ Typ (Indices → Bool) has_parts (typ_form x)) i ≡ true → Had types past own f i v
+        → (known : List ℕ) (n : ℕ) (f : Point n) → Had types past own f i v
         → HadForm types past own f y v → StaysUnder types past own f js qs → Given known t i
         → Suffices past n f (value_placing fit js qs (fits_form (typ_form x)) known n (whole_placed fit js qs t known i n) y).fitted (PartFits t i v)
-    form_goes v (T.Int u) e (W.Integer m) d known n f parts had h s given =
+    form_goes v (T.Int u) e (W.Integer m) d known n f had h s given =
         let here : (j : ℕ) → In.placed t j i ≡ only (is_variable j u) (N.Number m) =
         λ j. index_placed (T.Int u) t j i e ∙ ap (In.form_place (T.Int u) j) d in
         let fits_by : (g : Integers) → Agree f g → number (there g) m ≡ number (under_at g) u → PartFits t i v g =
@@ -312,7 +312,7 @@ module _ (types : Types) (past : Positive) (own : List Closed) (fit : Fit) (go :
         (number_given known u m (λ j. In.placed t j i) (λ j is. here j ∙ only_there (is_variable j u) (N.Number m) is) given b g)))
         (says_so (number_fits m (read js u)) (λ g a said.
         let q = number_said (there g) m (read js u) said in fits_by g a (q.2 ∙ number_read past g js u q.0 q.1)))
-    form_goes v (T.Bits u) e (W.Bits m) d known n f parts had h s given =
+    form_goes v (T.Bits u) e (W.Bits m) d known n f had h s given =
         let here : (j : ℕ) → In.placed t j i ≡ only (is_variable j u) (N.Number m) =
         λ j. index_placed (T.Bits u) t j i e ∙ ap (In.form_place (T.Bits u) j) d in
         let fits_by : (g : Integers) → Agree f g → number (there g) m ≡ number (under_at g) u → PartFits t i v g =
@@ -327,7 +327,7 @@ module _ (types : Types) (past : Positive) (own : List Closed) (fit : Fit) (go :
         (number_given known u m (λ j. In.placed t j i) (λ j is. here j ∙ only_there (is_variable j u) (N.Number m) is) given b g)))
         (says_so (number_fits m (read js u)) (λ g a said.
         let q = number_said (there g) m (read js u) said in fits_by g a (q.2 ∙ number_read past g js u q.0 q.1)))
-    form_goes v (T.Truth c) e (W.Truth m) d known n f parts had h s given =
+    form_goes v (T.Truth c) e (W.Truth m) d known n f had h s given =
         let here : (j : ℕ) → In.placed t j i ≡ only (form_is j (out-Con c)) (N.Truth m) =
         λ j. index_placed (T.Truth c) t j i e ∙ ap (In.form_place (T.Truth c) j) d in
         let fits_by : (g : Integers) → Agree f g → true_in (there g) m ≡ true_in (under_at g) c → PartFits t i v g =
@@ -342,7 +342,7 @@ module _ (types : Types) (past : Positive) (own : List Closed) (fit : Fit) (go :
         fits_by g a (truth_given known c m (λ j. In.placed t j i) (λ j is. here j ∙ only_there (form_is j (out-Con c)) (N.Truth m) is) given b g)))
         (says_so (truth_fits m (read_con js c)) (λ g a said.
         let q = truth_said (there g) m (read_con js c) said in fits_by g a (q.2 ∙ truth_read past g js c q.0 q.1)))
-    form_goes v (T.Vector l y) e (W.Vector k r) d known n f parts had h s given =
+    form_goes v (T.Vector l y) e (W.Vector k r) d known n f had h s given =
         let here : (j : ℕ) → In.placed t j i ≡ only (is_variable j l) (N.Number k) =
         λ j. index_placed (T.Vector l y.0) t j i e ∙ ap (In.form_place (T.Vector l (In.placed y.0)) j) d in
         let fits_by : (g : Integers) → Agree f g → number (there g) k ≡ number (under_at g) l → Within types past own g r (R.Of y.0 js qs) → PartFits t i v g =
@@ -365,17 +365,23 @@ module _ (types : Types) (past : Positive) (own : List Closed) (fit : Fit) (go :
         (number_given known l k (λ j. In.placed t j i) (λ j is. here j ∙ only_there (is_variable j l) (N.Number k) is) given b g) q))
         (suffice_as (also_suffice (item_fits fit r (R.Of y.0 js qs)) (says_so (number_fits k (read js l)) (λ g a said. said)) (λ p b. items n p b))
         (λ g a q. let w = number_said (there g) k (read js l) q.0 in fits_by g a (w.2 ∙ number_read past g js l w.0 w.1) q.1))
-    form_goes v (T.Tuple ys) e (W.Tuple is) d known n f parts had h s given =
-        suffice_as (tuple_suffices ys is (out-Value v) known n f
-        (ap (form_has (T.Tuple (map has_parts (types_in ys)))) (sym d) ∙ parts) h s (λ j x k.
-        given j x (index_placed (T.Tuple (types_in ys)) t j i e ∙ ap (In.form_place (T.Tuple (map In.placed (types_in ys))) j) d ∙ k)))
-        (λ g a q. (
-          belongs_form types v (T.Tuple (types_in ys)) t (under_at g) (stand g) e ∙ q.0,
-          λ j. ap (option_map (given_there (there g)))
-              (index_placed (T.Tuple (types_in ys)) t j i e ∙ ap (In.form_place (T.Tuple (map In.placed (types_in ys))) j) d)
-              ∙ q.1 j ∙ sym (value_placed (T.Tuple (types_in ys)) t j v e),
-        ))
-    form_goes v x e y d known n f parts had h s given = whole_suffices t i v n f had s
+    form_goes v (T.Tuple ys) e (W.Tuple is) d known n f had h s given =
+        by (nat_eq (length (each_fit (types_in ys))) (length is)) refl
+      where
+        by : (b : Bool) → nat_eq (length (each_fit (types_in ys))) (length is) ≡ b
+            → Suffices past n f (if b then each_placing (each_fit (types_in ys)) is known n else whole_placed fit js qs t known i n).fitted (PartFits t i v)
+        by false c = whole_suffices t i v n f had s
+        by true c =
+            suffice_as (tuple_suffices ys is (out-Value v) known n f
+            (sym (fits_length ys) ∙ (Decides-eqb (length (each_fit (types_in ys))) (length is)).0 c) h s (λ j x k.
+            given j x (index_placed (T.Tuple (types_in ys)) t j i e ∙ ap (In.form_place (T.Tuple (map In.placed (types_in ys))) j) d ∙ k)))
+            (λ g a q. (
+              belongs_form types v (T.Tuple (types_in ys)) t (under_at g) (stand g) e ∙ q.0,
+              λ j. ap (option_map (given_there (there g)))
+                  (index_placed (T.Tuple (types_in ys)) t j i e ∙ ap (In.form_place (T.Tuple (map In.placed (types_in ys))) j) d)
+                  ∙ q.1 j ∙ sym (value_placed (T.Tuple (types_in ys)) t j v e),
+            ))
+    form_goes v x e y d known n f had h s given = whole_suffices t i v n f had s
 
     form_behind : (x : Typ-F SuchTyp) → roll-Typ (typ_form x) ≡ t → (y : Indices-F Indices Reading) → out-Indices i ≡ y
         → (known : List ℕ) (n j : ℕ) → j < length js
@@ -392,21 +398,26 @@ module _ (types : Types) (past : Positive) (own : List Closed) (fit : Fit) (go :
           k.0,
           index_placed (T.Vector u y.0) t j i e ∙ ap (In.form_place (T.Vector u (In.placed y.0)) j) d ∙ k.1,
         )
-    form_behind (T.Tuple ys) e (W.Tuple is) d known n j l h =
-        let k = parts_behind ys known is n j l h in (
-          k.0,
-          index_placed (T.Tuple (types_in ys)) t j i e ∙ ap (In.form_place (T.Tuple (map In.placed (types_in ys))) j) d ∙ k.1,
-        )
+    form_behind (T.Tuple ys) e (W.Tuple is) d known n j l h = by (nat_eq (length (each_fit (types_in ys))) (length is)) h
+      where
+        by : (b : Bool) → is_placed (if b then each_placing (each_fit (types_in ys)) is known n else whole_placed fit js qs t known i n).placed j ≡ false
+            → (is_placed known j ≡ false) × (In.placed t j i ≡ None)
+        by false m = whole_behind t known i n j l m
+        by true m =
+            let k = parts_behind ys known is n j l m in (
+              k.0,
+              index_placed (T.Tuple (types_in ys)) t j i e ∙ ap (In.form_place (T.Tuple (map In.placed (types_in ys))) j) d ∙ k.1,
+            )
     form_behind x e y d known n j l h = whole_behind t known i n j l h
 
   -- ---- types inside types
 
   part_step : (x : Typ-F SuchTyp) → PartGoes (roll-Typ (typ_form x))
   unfolding PartGoes
-  part_step x known i v n f parts had s given =
+  part_step x known i v n f had s given =
       let t = roll-Typ (typ_form x) in
       subst (λ (a : Placing). Suffices past n f a.fitted (PartFits t i v)) (sym (opens_form (typ_form x) known i n))
-      (form_goes t i v x refl (out-Indices i) refl known n f (sym (parts_form (typ_form x) t i refl) ∙ parts) had (had_form types past own f i v had) s given)
+      (form_goes t i v x refl (out-Indices i) refl known n f had (had_form types past own f i v had) s given)
 
   behind_step : (x : Typ-F SuchTyp) → Behind (roll-Typ (typ_form x))
   unfolding Behind
@@ -418,10 +429,10 @@ module _ (types : Types) (past : Positive) (own : List Closed) (fit : Fit) (go :
   each_part = ind-Typ (λ t. PartGoes t × Behind t)
       (λ e y same_form. subst (λ d. PartGoes (roll-Typ d) × Behind (roll-Typ d)) same_form (part_step y, behind_step y))
 
-  pub part_suffices : (t : Typ) (known : List ℕ) (i : Indices) (v : Value) (n : ℕ) (f : Point n) → has_parts t i ≡ true → Had types past own f i v
+  pub part_suffices : (t : Typ) (known : List ℕ) (i : Indices) (v : Value) (n : ℕ) (f : Point n) → Had types past own f i v
       → StaysUnder types past own f js qs → Given known t i → Suffices past n f (parameter_fits fit js qs t known i n).fitted (PartFits t i v)
   unfolding PartGoes
-  part_suffices t known i v n f parts h s given = (each_part t).0 known i v n f parts h s given
+  part_suffices t known i v n f h s given = (each_part t).0 known i v n f h s given
 
   pub part_behind : (t : Typ) (known : List ℕ) (i : Indices) (n j : ℕ) → j < length js
       → is_placed (parameter_fits fit js qs t known i n).placed j ≡ false → (is_placed known j ≡ false) × (In.placed t j i ≡ None)

@@ -1,6 +1,6 @@
 -- What a call owes suffices: its arguments belong to the parameters, where the callee's variables stand for what the call gives them (Sail language
 -- manual, "Functions", "Type variables").
-use Rattle.std.specs.Prelude.{◌≡◌, ◌≤◌, ℕ, zero, suc, ℤ, pos, int_le, Bool, true, false, ◌&&◌, List, [], ◌∷◌, length, map, Option, Some, None, if◌then◌else◌}
+use Rattle.std.specs.Prelude.{◌≡◌, ◌≤◌, ℕ, zero, suc, ℤ, pos, int_le, Bool, true, false, List, [], ◌∷◌, length, map, Option, Some, None, if◌then◌else◌}
 use Rattle.sail_base.specs.declared.kind.Kind.{Kind}
 use Rattle.sail_base.specs.declared.kind.Kind.TheVariants as K
 use Rattle.sail_types.specs.Belongs.{Reading as Closed, assigned, belongs}
@@ -18,13 +18,11 @@ use Rattle.sail_types.specs.declared.types.Typ.TheOpen as T
 use Rattle.sail_types.specs.declared.values.Value.{Value}
 use Rattle.sail_core.specs.Numbers.{Givens, givens_of}
 use Rattle.sail_core.specs.declared.model.Function.{Function}
-use Rattle.value_indices.specs.declared.indices.Indices.{Indices, out-Indices}
-use Rattle.value_indices.specs.declared.indices.Indices.TheOpen as W
-use Rattle.value_indices.specs.declared.indices.Indices.TheOpen.{Indices-F}
+use Rattle.value_indices.specs.declared.indices.Indices.{Indices}
 use Rattle.value_indices.specs.declared.indices.Reading.{Reading}
 use Rattle.value_indices.specs.declared.indices.Reading.TheVariants as R
 use Rattle.value_fits.specs.Fitting.{fits}
-use Rattle.call_arguments.specs.Callees.{is_closed, numbers_from}
+use Rattle.call_arguments.specs.Callees.{is_closed, numbers_from, types_from}
 use Rattle.call_arguments.specs.Placing.{call_conditions}
 use Rattle.value_laws.specs.Belonging.{Integers, standing, over, meant, closed, types_or_own, has, is_of}
 use Rattle.value_laws.specs.Known.{Point, Agree}
@@ -99,35 +97,13 @@ abbrev pub EachHasPlace : ℕ → List Parameter → List Typ → Type 0
 EachHasPlace j [] ts = (i : ℕ) → j ≤ i → among_as (map placed_as ts) i ≡ None
 EachHasPlace j (p ∷ ps) ts = (among_as (map placed_as ts) j ≡ Some (is_bool p.kind)) × EachHasPlace (suc j) ps ts
 
--- ---- values with as many parts as their types
-
-abbrev pub Parts : Type 0
-Parts = Indices → Bool
-
-abbrev pub each_has : List Parts → List Indices → Bool
-each_has [] [] = true
-each_has (f ∷ fs) (i ∷ is) = f i && each_has fs is
-each_has fs is = false
-
-abbrev pub form_has : Typ-F Parts → Indices-F Indices Reading → Bool
-form_has (T.Tuple fs) (W.Tuple is) = each_has fs is
-form_has t i = true
-
-abbrev pub parts_of : Typ-F Parts → Parts
-parts_of t i = form_has t (out-Indices i)
-
--- a tuple, or a tuple that is a part of one, has as many parts as the type has there
-abbrev pub has_parts : Typ → Parts
-has_parts = fold-Typ Parts parts_of
-
 -- ---- arguments
 
 module _ (types : Types) (past : Positive) (own : List Closed) {n : ℕ} (f : Point n) where
-  -- a value of this type has these indices, which mean one and the same
-  pub record Has (t : Typ) (i : Indices) (v : Value) : Type 0 where
+  -- a value has these indices, which mean one and the same
+  pub record Has (i : Indices) (v : Value) : Type 0 where
     pub steady : (g : Integers) → Agree f g → meant types (standing past g) own i ≡ meant types (standing past f.integers) own i
     pub is_so : has types (standing past f.integers) own i v ≡ true
-    pub parts : has_parts t i ≡ true
 
   -- one that owes further in belongs to a type that names no variable
   abbrev pub OwesInside : Bool → Typ → Value → Type 0
@@ -137,7 +113,7 @@ module _ (types : Types) (past : Positive) (own : List Closed) {n : ℕ} (f : Po
   -- as many as parameters
   abbrev pub AreArguments : List Bool → List Typ → List Indices → List Value → Type 0
   AreArguments [] [] [] [] = Unit {0}
-  AreArguments (b ∷ bs) (t ∷ ts) (i ∷ is) (v ∷ vs) = Has t i v × OwesInside b t v × AreArguments bs ts is vs
+  AreArguments (b ∷ bs) (t ∷ ts) (i ∷ is) (v ∷ vs) = Has i v × OwesInside b t v × AreArguments bs ts is vs
   AreArguments bs ts is vs = ⊥
 
 -- ---- what suffices
@@ -156,14 +132,15 @@ pub record Enters (types : Types) (past : Positive) (own : List Closed) (fn : Fu
   pub constraint : true_in (inside past fn.variables h) fn.constraint ≡ true
   pub are_given : givens_of (length fn.variables) fn.parameters vs ≡ Some (givens_at h 0 fn.variables)
 
--- where the callee's Type variables stand for types that hang on fixed variables alone
+-- what the callee's Type variables are found to stand for; types of items are opened from the next variable on
+abbrev pub types_found : ℕ → Function → List Indices → List Reading
+types_found n fn is = types_from n 0 (length fn.type_variables) fn.parameters is
+
 abbrev pub CallsFit : Type 0
-CallsFit = (types : Types) (past : Positive) (own : List Closed) (fn : Function) (bs : List Bool) (is : List Indices) (vs : List Value)
-    (qs : List Reading) (n : ℕ) (f : Point n)
+CallsFit = (types : Types) (past : Positive) (own : List Closed) (fn : Function) (bs : List Bool) (is : List Indices) (vs : List Value) (n : ℕ)
+    (f : Point n)
     → EachHasPlace 0 fn.variables fn.parameters
     → AreArguments types past own f bs fn.parameters is vs
-    → ((g : Integers) → Agree f g
-    → map (closed types (standing past g) own) qs ≡ map (closed types (standing past f.integers) own) qs)
-    → Suffices past n f (call_conditions (fits types) fn (numbers_from 0 fn.variables fn.parameters is) qs bs is n)
-    (λ g. Enters types past own fn (numbers_from 0 fn.variables fn.parameters is) qs vs
+    → Suffices past n f (call_conditions (fits types) fn (numbers_from 0 fn.variables fn.parameters is) (types_found n fn is) bs is n)
+    (λ g. Enters types past own fn (numbers_from 0 fn.variables fn.parameters is) (types_found n fn is) vs
     (integers_there (standing past f.integers) (numbers_from 0 fn.variables fn.parameters is)) g)

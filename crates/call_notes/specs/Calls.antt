@@ -10,7 +10,7 @@ use Rattle.sail_core.specs.declared.model.Direction.{Direction}
 use Rattle.sail_core.specs.declared.model.Function.{Function}
 use Rattle.sail_core.specs.declared.tree.Callee.{Callee}
 use Rattle.sail_core.specs.declared.tree.Callee.TheVariants as D
-use Rattle.value_indices.specs.Steps.{Walk, bind, call_note, give, note}
+use Rattle.value_indices.specs.Steps.{Walk, bind, call_note, give, note, next_variable}
 use Rattle.value_indices.specs.declared.indices.Indices.{Indices}
 use Rattle.value_indices.specs.declared.indices.Indices.TheVariants as I
 use Rattle.value_indices.specs.declared.indices.Reading.{Reading}
@@ -35,10 +35,13 @@ function_called around place k i f js qs bs is =
     bind (owe_fit place (call_conditions (fits around.types) f js qs bs is)) (λ t.
     bind (noted_call place k is (D.Function i) js qs) (λ u. made_opened place k is (R.Of f.result js qs)))
 
+-- where variables are counted from m on
+abbrev pub numbered_call : Around → Place → ℕ → ℕ → Function → List Bool → List Indices → ℕ → Walk Indices
+numbered_call around place k i f bs is m =
+    function_called around place k i f (numbers_from 0 f.variables f.parameters is) (types_from m 0 (length f.type_variables) f.parameters is) bs is
+
 abbrev pub known_call : Around → Place → ℕ → ℕ → Function → List Bool → List Indices → Walk Indices
-known_call around place k i f bs is =
-    if any_never is then never_value
-    else function_called around place k i f (numbers_from 0 f.variables f.parameters is) (types_from 0 (length f.type_variables) f.parameters is) bs is
+known_call around place k i f bs is = if any_never is then never_value else bind next_variable (numbered_call around place k i f bs is)
 
 abbrev pub function_call : Around → Place → ℕ → ℕ → Option Function → List Bool → List Indices → Walk Indices
 function_call around place k i None bs is = wrong_value place
@@ -83,12 +86,14 @@ parts_owed around (place ∷ places) known (t ∷ ts) (i ∷ is) js qs =
 parts_owed around places known ts is js qs = give tt
 
 -- a value of the named type of this place in the table, made of arguments of these types
+abbrev pub named_with : Around → ℕ → List Parameter → List Place → Option (List Reading) → List Typ → List Indices → List Reading → Walk Indices
+named_with around u ps places known ts is qs =
+    bind (indices_from 0 (number_parameters ps) ts is) (λ js. bind (parts_owed around places known ts is js qs) (λ x. give (I.Named u js qs)))
+
 abbrev pub made_named : Around → ℕ → List Parameter → List Place → Option (List Reading) → List Typ → List Indices → Walk Indices
 made_named around u ps places known ts is =
     if any_never is then never_value
-    else bind (indices_from 0 (number_parameters ps) ts is) (λ js.
-    bind (parts_owed around places known ts is js (types_or known (types_from 0 (type_parameters ps) ts is))) (λ x.
-    give (I.Named u js (types_or known (types_from 0 (type_parameters ps) ts is)))))
+    else bind next_variable (λ m. named_with around u ps places known ts is (types_or known (types_from m 0 (type_parameters ps) ts is)))
 
 -- ---- calls
 

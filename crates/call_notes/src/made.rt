@@ -115,8 +115,8 @@ pub fn made_named(
     if any_never(arguments) {
         return Ok(Indices::Never);
     }
+    let readings = types_or(alloc, walking.next, known, parameters, types, arguments)?;
     let indices = indices_from(alloc, walking, parameters, types, arguments)?;
-    let readings = types_or(alloc, known, parameters, types, arguments)?;
     parts_owed(
         alloc,
         walking,

@@ -6,7 +6,7 @@ use Rattle.sail_types.specs.declared.numbers.Index.{Index}
 use Rattle.sail_types.specs.declared.numbers.Num.{Num}
 use Rattle.sail_types.specs.declared.types.Typ.{Typ}
 use Rattle.sail_types.specs.declared.types.Typ.TheVariants as Y
-use Rattle.value_indices.specs.Steps.{Walk, bind, give}
+use Rattle.value_indices.specs.Steps.{Walk, bind, give, next_variable}
 use Rattle.value_indices.specs.declared.indices.Indices.{Indices, out-Indices}
 use Rattle.value_indices.specs.declared.indices.Indices.TheOpen as W
 use Rattle.value_indices.specs.declared.indices.Indices.TheOpen.{Indices-F}
@@ -45,8 +45,8 @@ each_filled (r ∷ rs) (q ∷ qs) = filled_at r (Some q) ∷ each_filled rs qs
 -- ---- `{ e with f = v }`
 
 -- what the Type variables of a struct stand for, once such values are those of fields of these types
-abbrev pub types_behind : List Typ → List Reading → List Indices → List Reading
-types_behind ts rs is = each_filled rs (types_from 0 (length rs) ts is)
+abbrev pub types_behind : ℕ → List Typ → List Reading → List Indices → List Reading
+types_behind m ts rs is = each_filled rs (types_from m 0 (length rs) ts is)
 
 -- the values are of the fields' types, and what the struct was is of the type that it has with them
 abbrev pub refilled : Around → Place → List Typ → Indices → ℕ → List Index → List Reading → List Indices → Walk Indices
@@ -55,7 +55,7 @@ refilled around place ts i v js qs is =
     bind (owe_fit place (fits around.types i (R.Widened (I.Named v js qs)))) (λ u. give (I.Named v js qs)))
 
 abbrev pub with_filled : Around → Place → List Typ → Indices → List Indices → Indices-F Indices Reading → Walk Indices
-with_filled around place ts i is (W.Named v js rs) = refilled around place ts i v js (types_behind ts rs is) is
+with_filled around place ts i is (W.Named v js rs) = bind next_variable (λ m. refilled around place ts i v js (types_behind m ts rs is) is)
 with_filled around place ts i is form = give i
 
 abbrev pub struct_holed : Indices-F Indices Reading → Bool

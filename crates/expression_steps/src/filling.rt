@@ -77,13 +77,14 @@ fn each_filled(
 /// What the Type variables of a struct stand for, once these are the values of fields of these types.
 fn types_behind(
     alloc: Global,
+    from: u32,
     types: &[Typ],
     readings: &[Reading],
     values: &[Indices],
 ) -> Result<Items<Reading>, AllocError>
-    ensures { IfOk result (λ made. made ≡ filling.types_behind types.now readings.now values.now) }
+    ensures { IfOk result (λ made. made ≡ filling.types_behind from types.now readings.now values.now) }
 {
-    let found = types_from(alloc, readings.len(), types, values)?;
+    let found = types_from(alloc, from, readings.len(), types, values)?;
     each_filled(alloc, readings, found.as_slice())
 }
 
@@ -137,6 +138,7 @@ fn with_filled(
         Indices::Named(named, numbers, readings) => {
             let behind = types_behind(
                 alloc,
+                walking.next,
                 types.as_slice(),
                 readings.as_slice(),
                 values.as_slice(),

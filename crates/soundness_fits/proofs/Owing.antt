@@ -18,7 +18,7 @@ use Rattle.value_indices.specs.declared.notes.Fact.TheVariants as Y
 use Rattle.value_indices.specs.Steps.{Conditions, conditions, goals_under}
 use Rattle.value_fits.specs.declared.fitted.Fitted.{Fitted}
 use Rattle.value_fits.specs.Fitting.{fits, owe_fit, owe_made}
-use Rattle.call_arguments.specs.Callees.{numbers_from, types_from}
+use Rattle.call_arguments.specs.Callees.{numbers_from}
 use Rattle.call_arguments.specs.Placing.{call_conditions}
 use Rattle.value_laws.specs.Belonging.{Integers, Meant, standing, closed, types_or_own}
 use Rattle.value_laws.specs.Known.{AllTrue, given_in, Point, Agree}
@@ -28,6 +28,7 @@ use Rattle.fitting_laws.proofs.Deep.{fitting}
 use Rattle.fitting_laws.proofs.Joining.{conjunction_said, suffice_as, true_both}
 use Rattle.call_fits.specs.Calls as Fits
 use Rattle.call_fits.proofs.Calling.{calls_fit}
+use Rattle.call_fits.proofs.Types.{types_steady}
 use Rattle.soundness_steps.specs.Works.{Scene}
 use Rattle.soundness_steps.specs.Noted.{EachNoted}
 use Rattle.soundness_steps.specs.Covers.{given_there}
@@ -36,7 +37,7 @@ use Rattle.soundness_steps.specs.Steps.{AllMet, Walks}
 use Rattle.soundness_steps.proofs.Steps.{walks_mean}
 use Rattle.soundness_forms.specs.Calls.{ArgumentsAre}
 use Rattle.soundness_forms.specs.Forms.{FitsSuffice}
-use Rattle.soundness_fits.specs.Calls.{AllHaveParts, StandingCallsFit}
+use Rattle.soundness_fits.specs.Calls.{StandingCallsFit}
 
 given_more : (fs gs : List Fact) → given_in gs ≡ [] → given_in (fs ++ gs) ≡ given_in fs
 given_more [] gs h = h
@@ -83,32 +84,30 @@ fits_suffice q n f facts place i r v has wanted =
 -- ---- calls
 
 module _ (q : Scene) {n : ℕ} (f : Point n) where
-  arguments_there : (bs : List Bool) (ts : List Typ) (is : List Indices) (vs : List Value) → AllHaveParts ts is
+  arguments_there : (bs : List Bool) (ts : List Typ) (is : List Indices) (vs : List Value)
       → ArgumentsAre q.set q.work f bs ts is vs → Fits.AreArguments q.set.around.types q.set.past q.work.types f bs ts is vs
-  arguments_there [] [] [] [] parts h = tt
-  arguments_there [] [] [] (v ∷ vs) parts h = absurd h
-  arguments_there [] [] (i ∷ is) vs parts h = absurd h
-  arguments_there [] (t ∷ ts) is vs parts h = absurd h
-  arguments_there (b ∷ bs) [] is vs parts h = absurd h
-  arguments_there (b ∷ bs) (t ∷ ts) [] vs parts h = absurd h
-  arguments_there (b ∷ bs) (t ∷ ts) (i ∷ is) [] parts h = absurd h
-  arguments_there (true ∷ bs) (t ∷ ts) (i ∷ is) (v ∷ vs) parts h = (
+  arguments_there [] [] [] [] h = tt
+  arguments_there [] [] [] (v ∷ vs) h = absurd h
+  arguments_there [] [] (i ∷ is) vs h = absurd h
+  arguments_there [] (t ∷ ts) is vs h = absurd h
+  arguments_there (b ∷ bs) [] is vs h = absurd h
+  arguments_there (b ∷ bs) (t ∷ ts) [] vs h = absurd h
+  arguments_there (b ∷ bs) (t ∷ ts) (i ∷ is) [] h = absurd h
+  arguments_there (true ∷ bs) (t ∷ ts) (i ∷ is) (v ∷ vs) h = (
     record {
       steady = λ g a. h.0.steady g a ∙ sym (h.0.steady f.integers (same f));
       is_so = ap (λ (m : Meant). m.holds v) (h.0.steady f.integers (same f)) ∙ h.0.is_so;
-      parts = parts.0;
     },
     h.1,
-    arguments_there bs ts is vs parts.1 h.2,
+    arguments_there bs ts is vs h.2,
   )
-  arguments_there (false ∷ bs) (t ∷ ts) (i ∷ is) (v ∷ vs) parts h = (
+  arguments_there (false ∷ bs) (t ∷ ts) (i ∷ is) (v ∷ vs) h = (
     record {
       steady = λ g a. h.0.steady g a ∙ sym (h.0.steady f.integers (same f));
       is_so = ap (λ (m : Meant). m.holds v) (h.0.steady f.integers (same f)) ∙ h.0.is_so;
-      parts = parts.0;
     },
     tt,
-    arguments_there bs ts is vs parts.1 h.2,
+    arguments_there bs ts is vs h.2,
   )
 
 -- ---- what the callee's variables stand for, in the framework's words
@@ -147,20 +146,21 @@ belong_same types mu rs (t ∷ ts) [] h = absurd h
 belong_same types mu rs (t ∷ ts) (v ∷ vs) h = (h.0, belong_same types mu rs ts vs h.1)
 
 pub calls_fit_standing : StandingCallsFit
-calls_fit_standing q n f facts place fn bs is vs places parts steady arguments =
+calls_fit_standing q n f facts place fn bs is vs places arguments =
     let types = q.set.around.types in
     let past = q.set.past in
     let own = q.work.types in
     let js : List Index = numbers_from 0 fn.variables fn.parameters is in
-    let qs : List Reading = types_from 0 (length fn.type_variables) fn.parameters is in
+    let qs : List Reading = Fits.types_found n fn is in
+    let there = arguments_there q f bs fn.parameters is vs arguments in
     let h : Integers = Fits.integers_there (standing past f.integers) js in
     let types_at : Integers → List Closed = λ g. map (closed types (standing past g) own) qs in
     let inside_same : Fits.inside past fn.variables h ≡ Steps.inside q.set fn h = ap (assigned (standing past h)) (own_same 0 fn.variables) in
     let owed : Walks q n f facts (owe_fit place (call_conditions (fits types) fn js qs bs is)) (λ m p t.
     (g : Integers) → Agree p g → Fits.Enters types past own fn js qs vs h g × (types_at g ≡ types_at f.integers)) =
     suffices_walks {q = q} place (call_conditions (fits types) fn js qs bs is)
-    (suffice_as (calls_fit types past own fn bs is vs qs n f places (arguments_there q f bs fn.parameters is vs parts arguments) steady)
-    (λ g a e. (e, steady g a))) in
+    (suffice_as (calls_fit types past own fn bs is vs n f places there)
+    (λ g a e. (e, types_steady types past own f bs (length fn.type_variables) 0 fn.parameters is vs there g a))) in
     walks_mean (λ m p t e.
     let first = e p.integers (same p) in
     record {

@@ -83,12 +83,13 @@ called_for {q} {f} {fs} {m} {Holds} o x c now e h =
     subst (λ p. EndsWell q f m fs Holds (goes_on ((needs p then λ y. gives (Some y)) now) c)) (sym e) h
 
 module _ (q : Scene) (w : World Item) (place : Place) (k i : ℕ) (fn : Function) (is_it : slice_get q.set.around.functions i ≡ Some fn)
-    (calls : SoundCalls q.set q.reached w) (is : List Indices) (xs : List Item) where
+    (calls : SoundCalls q.set q.reached w) (is : List Indices) (xs : List Item) (next : ℕ) where
   abbrev js : List Index
   js = numbers_from 0 fn.variables fn.parameters is
 
+  -- where variables are counted from this one on
   abbrev qs : List Reading
-  qs = types_from 0 (length fn.type_variables) fn.parameters is
+  qs = types_from next 0 (length fn.type_variables) fn.parameters is
 
   -- the result, under what the callee's variables stand for
   abbrev Gives : {n : ℕ} {f : Point n} → CallFits q.set q.work f fn js qs (vals xs) → Value → Type 0
@@ -129,16 +130,16 @@ module _ (q : Scene) (w : World Item) (place : Place) (k i : ℕ) (fn : Function
       closed_is q.set.around.types (standing q.set.past g) q.work.types (R'.Of fn.result js qs) (W.Of fn.result js qs) (R'.rolls-Of fn.result js qs)
       ∙ (λ j. reading fn.result (fits.same g a j) (closeds (fits.same_types g a j)))
 
-  pub function_fine : CallsFit → {n : ℕ} {f : Point n} {facts : List Fact} (bs : List Bool) → ArgumentsAre q.set q.work f bs fn.parameters is (vals xs)
+  pub function_fine : CallsFit → {f : Point next} {facts : List Fact} (bs : List Bool) → ArgumentsAre q.set q.work f bs fn.parameters is (vals xs)
       → AllTyped q.set q.work f is xs
-      → Beside q n f facts (function_called (here q) place k i fn js qs bs is)
+      → Beside q next f facts (function_called (here q) place k i fn js qs bs is)
       (((checked q.set.around.types q.cases).calls k xs then λ awaited. w.call place i awaited (vals xs)) then λ v.
       (checked q.set.around.types q.cases).make k xs v)
       (λ m g j y. Is q.set q.work g j y)
   unfolding opened
-  function_fine fit {n} {f} {facts} bs args typed =
+  function_fine fit {f} {facts} bs args typed =
       walks_then (λ t. bind (noted_call place k is (D.Function i) js qs) (λ u. made_opened place k is (R'.Of fn.result js qs)))
-      (fit q n f facts place fn bs is (vals xs) args) (λ m g fs t l fits.
+      (fit q next f facts place fn bs is (vals xs) args) (λ m g fs t l fits.
       binds (λ u. made_opened place k is (R'.Of fn.result js qs)) (λ v. (checked q.set.around.types q.cases).make k xs v)
       (call_runs (typed_on q.set q.work is xs l typed) fits) (λ m2 g2 fs2 u v l2 h.
       made_opens place k is (R'.Of fn.result js qs) false M.Unnamed xs v (typed_on q.set q.work is xs (later_on l l2) typed)

@@ -28,7 +28,7 @@ MetGrows = (types : Types) (m : ℕ) (shape : Shape) (i : Indices) → Grows (me
 abbrev pub AgreementCounts : Type 0
 AgreementCounts = (types : Types) (m : ℕ) (none : Bool) (first i : Indices) → Counts (agrees_unless none types m first i)
 
-grows_next : Grows next_variable
+pub grows_next : Grows next_variable
 unfolding next_variable
 grows_next = record { onward = λ facts n. omega arith; more = λ facts n. []; extends = λ facts n. sym (append-nil facts) }
 

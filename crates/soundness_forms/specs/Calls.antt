@@ -52,5 +52,5 @@ abbrev pub CallsFit : Type 0
 CallsFit = (q : Scene) (n : ℕ) (f : Point n) (facts : List Fact) (place : Place) (fn : Function) (bs : List Bool) (is : List Indices) (vs : List Value)
     → ArgumentsAre q.set q.work f bs fn.parameters is vs
     → Walks q n f facts (owe_fit place (call_conditions (fits q.set.around.types) fn (numbers_from 0 fn.variables fn.parameters is)
-    (types_from 0 (length fn.type_variables) fn.parameters is) bs is))
-    (λ m g t. CallFits q.set q.work g fn (numbers_from 0 fn.variables fn.parameters is) (types_from 0 (length fn.type_variables) fn.parameters is) vs)
+    (types_from n 0 (length fn.type_variables) fn.parameters is) bs is))
+    (λ m g t. CallFits q.set q.work g fn (numbers_from 0 fn.variables fn.parameters is) (types_from n 0 (length fn.type_variables) fn.parameters is) vs)

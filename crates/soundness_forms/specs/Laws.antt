@@ -41,7 +41,7 @@ CallsAreFine = CallsFit → (q : Scene) (w : World Item) (place : Place) (k i : 
     → SoundCalls q.set q.reached w → (n : ℕ) (f : Point n) (facts : List Fact) (bs : List Bool) (is : List Indices) (xs : List Item)
     → ArgumentsAre q.set q.work f bs fn.parameters is (vals xs) → AllTyped q.set q.work f is xs
     → Beside q n f facts (function_called (here q) place k i fn (numbers_from 0 fn.variables fn.parameters is)
-    (types_from 0 (length fn.type_variables) fn.parameters is) bs is)
+    (types_from n 0 (length fn.type_variables) fn.parameters is) bs is)
     (((checked q.set.around.types q.cases).calls k xs then λ awaited. w.call place i awaited (vals xs)) then λ v.
     (checked q.set.around.types q.cases).make k xs v)
     (λ m g j y. Is q.set q.work g j y)

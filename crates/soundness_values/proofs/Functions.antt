@@ -21,13 +21,13 @@ use Rattle.value_indices.specs.declared.indices.Reading.TheVariants as Q
 use Rattle.value_indices.specs.declared.notes.Fact.{Fact}
 use Rattle.value_indices.specs.declared.notes.Made.TheVariants as Makes
 use Rattle.value_indices.specs.Opening.{opened}
-use Rattle.value_indices.specs.Steps.{Walk, call_note, size_note}
+use Rattle.value_indices.specs.Steps.{Walk, bind, call_note, next_variable, size_note}
 use Rattle.value_fits.specs.Fitting.{fits, owe_fit}
 use Rattle.pattern_leaves.specs.Settings.{Around, Scope}
 use Rattle.call_arguments.specs.Callees.{argument_aim, numbers_from, types_from}
 use Rattle.call_arguments.specs.Placing.{call_conditions}
 use Rattle.call_arguments.specs.declared.aims.Aim.{Aim}
-use Rattle.call_notes.specs.Calls.{function_call, function_called, noted_call, parameter_types}
+use Rattle.call_notes.specs.Calls.{function_call, function_called, noted_call, numbered_call, parameter_types}
 use Rattle.call_notes.specs.Ends.{any_never, never_value, sized_by}
 use Rattle.call_notes.specs.Noted.{node_made}
 use Rattle.expression_steps.specs.Calls.{argument_aims, call_walk, nestings}
@@ -40,7 +40,7 @@ use Rattle.soundness_steps.specs.Calls.{SoundCalls}
 use Rattle.soundness_steps.specs.Works.{Scene, Setting, Work, here}
 use Rattle.soundness_steps.specs.Steps.{Beside, Grows}
 use Rattle.soundness_steps.specs.Values.{AimSteady, Comes, Is, IsMet}
-use Rattle.soundness_steps.proofs.Steps.{binds, runs_as}
+use Rattle.soundness_steps.proofs.Steps.{binds, next_is, runs_as}
 use Rattle.soundness_forms.specs.Calls.{ArgumentMet, ArgumentsAre, CallsFit}
 use Rattle.soundness_forms.specs.EachKind.{node}
 use Rattle.soundness_forms.specs.Forms.{AllFine, Fine, FitsSuffice, at, z}
@@ -48,6 +48,7 @@ use Rattle.soundness_forms.specs.Worlds.{Surrounds}
 use Rattle.soundness_forms.proofs.Basics.{wrong_walks}
 use Rattle.soundness_forms.proofs.Called.{function_fine}
 use Rattle.soundness_forms.proofs.Growth.{grows_bind, grows_give, grows_made, grows_note, grows_opening, grows_owe_fit, grows_wrong}
+use Rattle.soundness_forms.proofs.JoinGrowth.{grows_next}
 use Rattle.soundness_forms.proofs.Parts.{EachIs, all_have, are_typed, each_fine, none_never}
 use Rattle.soundness_forms.proofs.PlainKinds.{fine_by, settled_grows}
 use Rattle.soundness_values.specs.Calls.{AsMany, CountStands}
@@ -103,12 +104,11 @@ module _ (q : Scene) (w : World Item) (scope : Scope) (place : Place) (k i : ℕ
       → Ends f facts (function_call (here q) place k i o (nestings ps) is) xs
   of_function calls None e ps is xs c h = none_beside (wrong_walks place)
   of_function calls (Some fn) e {n} {f} {facts} ps is xs c h =
-      subst (λ b. Ends f facts (if b then never_value
-      else function_called (here q) place k i fn (numbers_from 0 fn.variables fn.parameters is) (types_from 0 (length fn.type_variables) fn.parameters is)
-      (nestings ps) is) xs)
+      subst (λ b. Ends f facts (if b then never_value else bind next_variable (numbered_call (here q) place k i fn (nestings ps) is)) xs)
       (sym (none_never q.set q.work f is (vals xs) (all_have q.set q.work f ps (argument_aims fn.parameters) is xs h)))
-      (function_fine q w place k i fn e calls is xs suffice (nestings ps) (arguments_are q.set q.work f ps fn.parameters is xs c h)
-      (are_typed q.set q.work f ps (argument_aims fn.parameters) is xs h))
+      (next_is (numbered_call (here q) place k i fn (nestings ps) is)
+      (function_fine q w place k i fn e calls is xs n suffice (nestings ps) (arguments_are q.set q.work f ps fn.parameters is xs c h)
+      (are_typed q.set q.work f ps (argument_aims fn.parameters) is xs h)))
 
   abbrev types_there : List Typ
   types_there = parameter_types (slice_get q.set.around.functions i)
@@ -145,12 +145,10 @@ call_grows : (around : Around) (place : Place) (k i : ℕ) (o : Option Function)
 call_grows around place k i None bs is = grows_wrong place
 call_grows around place k i (Some fn) bs is = by (any_never is)
   where
-    by : (b : Bool) → Grows (if b then never_value
-        else function_called around place k i fn (numbers_from 0 fn.variables fn.parameters is)
-        (types_from 0 (length fn.type_variables) fn.parameters is) bs is)
+    by : (b : Bool) → Grows (if b then never_value else bind next_variable (numbered_call around place k i fn bs is))
     by true = grows_give I.Never
-    by false = function_grows around place k i fn (numbers_from 0 fn.variables fn.parameters is)
-        (types_from 0 (length fn.type_variables) fn.parameters is) bs is
+    by false = grows_bind next_variable _ grows_next (λ m. function_grows around place k i fn (numbers_from 0 fn.variables fn.parameters is)
+        (types_from m 0 (length fn.type_variables) fn.parameters is) bs is)
 
 -- ---- the node
 

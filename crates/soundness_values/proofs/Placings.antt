@@ -1,5 +1,5 @@
 -- What the arguments of a call owe counts variables on: none from before is taken again.
-use Rattle.std.proofs.Common.{ℕ, ◌≤◌, Bool, true, false, List, [], ◌∷◌, map, Option, if◌then◌else◌, subst, sym}
+use Rattle.std.proofs.Common.{ℕ, ◌≤◌, nat_eq, Bool, true, false, List, [], ◌∷◌, length, map, Option, if◌then◌else◌, subst, sym}
 use Rattle.sail_types.specs.Readings.{read_con}
 use Rattle.sail_types.specs.Sums.{read}
 use Rattle.sail_types.specs.Zero.{deepest}
@@ -15,13 +15,13 @@ use Rattle.value_indices.specs.declared.indices.Indices.{Indices, out-Indices}
 use Rattle.value_indices.specs.declared.indices.Indices.TheOpen as W
 use Rattle.value_indices.specs.declared.indices.Reading.{Reading}
 use Rattle.value_indices.specs.declared.indices.Reading.TheVariants as R
-use Rattle.value_fits.specs.Fitting.{Fit, also, fits, item_fits, joined, number_fits, says, truth_fits}
+use Rattle.value_fits.specs.Fitting.{Fit, also, fits, item_fits, joined, never, number_fits, says, truth_fits}
 use Rattle.value_fits.specs.declared.fitted.Fitted.{Fitted}
 use Rattle.fitting_laws.proofs.Counted.{Counts, FitCounts, fits_count, item_counts}
 use Rattle.fitting_laws.proofs.Counting.{le_on, le_self}
 use Rattle.call_arguments.specs.Callees.{is_closed}
 use Rattle.call_arguments.specs.Holes.{types_without_holes}
-use Rattle.call_arguments.specs.Placing.{PlaceFit, Placing, TypeFit, ValueForm, also_placing, argument_fits, arguments_fit, at_place, bits_placed}
+use Rattle.call_arguments.specs.Placing.{PlaceFit, Placing, TypeFit, ValueForm, also_placing, are_as_many, argument_fits, arguments_fit, arguments_owe, at_place, bits_placed}
 use Rattle.call_arguments.specs.Placing.{bool_placed}
 use Rattle.call_arguments.specs.Placing.{call_conditions, constraint_of, each_placing, form_placing, form_variable, gives_number, int_placed, items_placed}
 use Rattle.call_arguments.specs.Placing.{number_placed, parameter_fits, placing, truth_placed, tuple_placed, type_fits, variable_in, vector_placed}
@@ -86,7 +86,11 @@ module _ (types : Types) (fit : Fit) (counts : FitCounts fit) (js : List Index) 
     items_on l q v = h
 
     tuple_on : (fs : List PlaceFit) → AllPlace fs → (v : ValueForm) → On n (tuple_placed fs known n whole v)
-    tuple_on fs k (W.Tuple is) = each_on fs k is known n
+    tuple_on fs k (W.Tuple is) = by (nat_eq (length fs) (length is))
+      where
+        by : (b : Bool) → On n (if b then each_placing fs is known n else whole)
+        by true = each_on fs k is known n
+        by false = h
     tuple_on fs k v = h
 
   TypePlaces : Typ → Type 0
@@ -150,7 +154,13 @@ module _ (types : Types) (fit : Fit) (counts : FitCounts fit) (js : List Index) 
 -- a call
 pub conditions_count : (types : Types) (f : Function) (js : List Index) (qs : List Reading) (bs : List Bool) (is : List Indices)
     → Counts (call_conditions (fits types) f js qs bs is)
-conditions_count types f js qs bs is n =
-    let full = types_without_holes qs in
-    let a = (arguments_fit (fits types) js full bs f.parameters is [] n).fitted in
-    joins a (says (constraint_of js f.constraint) a.next) n (arguments_on types (fits types) (fits_count types deepest) js full bs f.parameters is [] n)
+conditions_count types f js qs bs is n = by (are_as_many bs f.parameters is)
+  where
+    full : List Reading
+    full = types_without_holes qs
+
+    by : (b : Bool) → n ≤ (if b then arguments_owe (fits types) f js full bs is n else never n).next
+    by true =
+        let a = (arguments_fit (fits types) js full bs f.parameters is [] n).fitted in
+        joins a (says (constraint_of js f.constraint) a.next) n (arguments_on types (fits types) (fits_count types deepest) js full bs f.parameters is [] n)
+    by false = le_self n

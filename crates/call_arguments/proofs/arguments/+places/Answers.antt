@@ -48,8 +48,8 @@ parameter_fits-returns-in-Tuple-value t c =
     c.in-Tuple.parts c.as_slice.result.now c.in-Tuple-value.values c.as_slice-in-Tuple-value.result.now c.in-Tuple.is c.in-Tuple-value.is c.as_slice.ensures
     c.as_slice-in-Tuple-value.ensures in
     record {
-      fitted = found c.each_fits.result _ _ c.each_fits.ensures.fitted (ap (λ (p : Placing). p.fitted) is);
-      placed = left c.each_fits.result c.each_fits.new.known _ _ c.each_fits.ensures.placed (ap (λ (p : Placing). p.placed) is);
+      fitted = found c.tuple_fits.result _ _ c.tuple_fits.ensures.fitted (ap (λ (p : Placing). p.fitted) is);
+      placed = left c.tuple_fits.result c.tuple_fits.new.known _ _ c.tuple_fits.ensures.placed (ap (λ (p : Placing). p.placed) is);
     }
 
 pub parameter_fits-returns-in_default-value : goal.parameter_fits-returns-in_default-value

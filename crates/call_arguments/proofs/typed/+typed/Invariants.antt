@@ -21,10 +21,10 @@ decreases-first_type l = 3 * most the_size l.types.now + 2
 -- what was found, and what the rest gives
 abbrev pub invariant-first_value-loop-index : goal.invariant-first_value-loop-index
 invariant-first_value-loop-index l =
-    fuller l.made (first_typed (map (typed_at l.variable) (drop l.index l.types)) (drop l.index l.values))
-    ≡ first_typed (map (typed_at l.variable) l.types) l.values
+    fuller l.made (first_typed (map (typed_at l.from l.variable) (drop l.index l.types)) (drop l.index l.values))
+    ≡ first_typed (map (typed_at l.from l.variable) l.types) l.values
 
 abbrev pub invariant-first_type-loop-index : goal.invariant-first_type-loop-index
 invariant-first_type-loop-index l =
-    fuller l.made (first_type_typed (map (typed_at l.variable) (drop l.index l.types)) (drop l.index l.readings))
-    ≡ first_type_typed (map (typed_at l.variable) l.types) l.readings
+    fuller l.made (first_type_typed (map (typed_at l.from l.variable) (drop l.index l.types)) (drop l.index l.readings))
+    ≡ first_type_typed (map (typed_at l.from l.variable) l.types) l.readings
