@@ -24,7 +24,7 @@ use Rattle.checked_meaning.specs.Checked.{checked}
 use Rattle.checked_meaning.specs.Items.{Item}
 use Rattle.value_laws.specs.Belonging.{standing}
 use Rattle.value_laws.specs.Known.{Point}
-use Rattle.value_laws.proofs.Steps.{agree_on}
+use Rattle.soundness_steps.proofs.Points.{agree_on}
 use Rattle.soundness_steps.specs.Works.{Scene, here}
 use Rattle.soundness_steps.specs.Steps.{Beside, Grows}
 use Rattle.soundness_steps.specs.Values.{AimSteady, Comes, IsTrue}

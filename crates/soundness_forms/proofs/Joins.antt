@@ -18,8 +18,9 @@ use Rattle.call_notes.specs.Ends.{opened_at}
 use Rattle.expression_steps.specs.Statements.{Way, each_way, first_behind, meeting, meeting_from, met_value, one_way, way_behind}
 use Rattle.checked_meaning.specs.Items.{Item}
 use Rattle.checked_meaning.specs.Checked.{checked}
-use Rattle.value_laws.specs.Known.{Point, Later}
-use Rattle.value_laws.proofs.Steps.{agree_on, later_on, no_later}
+use Rattle.value_laws.specs.Known.{Point}
+use Rattle.soundness_steps.specs.Points.{Later}
+use Rattle.soundness_steps.proofs.Points.{agree_on, later_on, no_later}
 use Rattle.soundness_steps.specs.Works.{Scene, here}
 use Rattle.soundness_steps.specs.Steps.{Beside, Grows, Walks}
 use Rattle.soundness_steps.specs.Values.{AimSteady, Belongs, Comes, Is, IsMadeAs, IsMet, IsWanted}
@@ -120,19 +121,19 @@ joining free q m (Aims.Given r) = record {
   grows = behind_grows q m;
   Met = CameTo q m r;
   taken = λ falls. wanted_taken (record q { may_fall = falls }) m r;
-  opened = λ place shape o x n f facts st h. wanted_opened q m r place o x n f facts st h;
+  opened = λ place shape o x n f facts le st h. wanted_opened q m r place o x n f facts st h;
 }
 joining free q m (Aims.PartOf r) = record {
   grows = behind_grows q m;
   Met = CameTo q m r;
   taken = λ falls. wanted_taken (record q { may_fall = falls }) m r;
-  opened = λ place shape o x n f facts st h. walks_mean (λ j g i y. (y.0, tt)) (wanted_opened q m r place o x n f facts st h);
+  opened = λ place shape o x n f facts le st h. walks_mean (λ j g i y. (y.0, tt)) (wanted_opened q m r place o x n f facts st h);
 }
 joining free q m (Aims.Due r) = record {
   grows = behind_grows q m;
   Met = CameTo q m r;
   taken = λ falls. wanted_taken (record q { may_fall = falls }) m r;
-  opened = λ place shape o x n f facts st h. wanted_opened q m r place o x n f facts st h;
+  opened = λ place shape o x n f facts le st h. wanted_opened q m r place o x n f facts st h;
 }
 
 -- what ways come to, once they are joined
@@ -151,7 +152,7 @@ pub joined : (q : Scene) {n : ℕ} {f : Point n} {facts : List Fact} (aim : Aim)
 joined q {n} aim k place shape ws c never_ends st h =
     next_is (meeting_from (here q) place shape (wanted aim) ws)
     (then_walks (met_value (here q) place shape (wanted aim) n) h (λ m g fs o x l e.
-    walks_mean (λ j p i d. came q aim never_ends i x d.0 d.1 e.1) (k.opened place shape o x m g fs (aim_on q.set q.work aim l st) e.0)))
+    walks_mean (λ j p i d. came q aim never_ends i x d.0 d.1 e.1) (k.opened place shape o x m g fs l.onward (aim_on q.set q.work aim l st) e.0)))
 
 -- the way that runs, behind others that don't
 pub behind_others : (q : Scene) (m : ℕ) (aim : Aim) (k : Joining q m aim) (nested : Bool) (before : List Way) (w : Way) (after : List Way) (c : Run Item Item)

@@ -38,8 +38,8 @@ use Rattle.value_laws.specs.Known.{Point}
 use Rattle.value_laws.proofs.Arguments.{assigned_there}
 use Rattle.value_laws.proofs.Basics.{no}
 use Rattle.value_laws.proofs.Meanings.{named_same}
-use Rattle.value_laws.proofs.Steps.{no_later}
 use Rattle.value_laws.proofs.Values.{belongs_form, form_asked, meant_is}
+use Rattle.soundness_steps.proofs.Points.{no_later}
 use Rattle.soundness_steps.specs.Works.{Scene, here}
 use Rattle.soundness_steps.specs.Noted.{form_gives, type_gives, variables_given, with_given}
 use Rattle.soundness_steps.specs.States.{IsThrown, Sound, nothing_stands}

@@ -6,3 +6,5 @@ pub mod Loops
 pub mod Counting
 pub mod JoinedKinds
 pub mod TryKind
+pub mod AgreementCounts
+pub mod Meeting

@@ -27,13 +27,15 @@ use Rattle.expression_steps.specs.Parts.{Part}
 use Rattle.expression_steps.specs.Values.{part_updated}
 use Rattle.checked_meaning.specs.Items.{Item}
 use Rattle.value_laws.specs.Belonging.{Integers, Meant, is_of, standing}
-use Rattle.value_laws.specs.Known.{AllTrue, Point, Agree, Later}
+use Rattle.value_laws.specs.Known.{AllTrue, Point, Agree}
 use Rattle.value_laws.proofs.Basics.{two}
-use Rattle.value_laws.proofs.Steps.{agree_on, same}
+use Rattle.value_laws.proofs.Steps.{same}
 use Rattle.fitting_laws.specs.Fitting.{Said, Suffices}
 use Rattle.fitting_laws.proofs.Deep.{fitting}
 use Rattle.fitting_laws.proofs.Joining.{also_suffice, says_so, true_all}
 use Rattle.way_laws.specs.Laws.{AreTrue, HasPart}
+use Rattle.soundness_steps.specs.Points.{Later}
+use Rattle.soundness_steps.proofs.Points.{agree_on}
 use Rattle.soundness_steps.specs.Works.{Scene, here}
 use Rattle.soundness_steps.specs.Steps.{Beside, Walks}
 use Rattle.soundness_steps.specs.Values.{AllTyped, Comes, Has, Is, IsMet, IsWanted}

@@ -18,11 +18,13 @@ use Rattle.call_notes.specs.Calls.{made_named, parts_owed}
 use Rattle.call_notes.specs.Ends.{never_value}
 use Rattle.fitting_laws.proofs.Standing.{EachHad}
 use Rattle.value_laws.specs.Belonging.{Integers, Meant, closed, closeds, has, index_there, meant, standing}
-use Rattle.value_laws.specs.Known.{Agree, Later, Point}
+use Rattle.value_laws.specs.Known.{Agree, Point}
 use Rattle.value_laws.proofs.Arguments.{assigned_there}
 use Rattle.value_laws.proofs.Meanings.{named_same}
-use Rattle.value_laws.proofs.Steps.{agree_on, no_later, same}
+use Rattle.value_laws.proofs.Steps.{same}
 use Rattle.value_laws.proofs.Values.{meant_is}
+use Rattle.soundness_steps.specs.Points.{Later}
+use Rattle.soundness_steps.proofs.Points.{agree_on, no_later}
 use Rattle.soundness_steps.specs.Works.{Scene, Setting, Work, here}
 use Rattle.soundness_steps.specs.Steps.{Walks}
 use Rattle.soundness_steps.specs.Values.{AllHave, Has}
