@@ -26,7 +26,7 @@ pub record Joining (q : Scene) (m : ℕ) (aim : Aim) : Type 1 where
   pub Met : (j : ℕ) → Point j → Option Indices → Item → Type 0
   -- the way that runs, with ways behind it that don't; `first` is that before it of which later ones owe
   pub taken : (falls nested : Bool) (w : Way) (after : List Way) (c : Run Item Item) (first : Option Indices) (n : ℕ) (f : Point n) (facts : List Fact)
-      → AllGrow after
+      → m ≤ n → AllGrow after
       → Beside (record q { may_fall = falls }) n f facts w.walk c (λ j g i x. Comes q.set q.work g true nested w.never_ends (branch_aim aim) i x)
       → Beside (record q { may_fall = falls }) n f facts (each_way (here q) (is_none (wanted aim)) m (w ∷ after) first)
       ((checked q.set.around.types q.cases).inside c)

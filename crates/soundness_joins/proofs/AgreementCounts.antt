@@ -8,7 +8,7 @@ use Rattle.value_fits.specs.Fitting.{fits, never, says}
 use Rattle.fitting_laws.proofs.Counted.{Counts, fits_count}
 use Rattle.fitting_laws.proofs.Counting.{le_self}
 use Rattle.wide_types.specs.Widening.{agrees_within, value_spelled}
-use Rattle.expression_forms.specs.Inside.{is_value_told, is_value_whole}
+use Rattle.expression_forms.specs.Inside.{is_value_below, is_value_told, is_value_whole}
 use Rattle.expression_forms.specs.Meeting.{as_first}
 use Rattle.soundness_forms.proofs.JoinGrowth.{AgreementCounts}
 
@@ -16,14 +16,14 @@ whole_counts : (types : Types) (first i : Indices) (b : Bool) → Counts (λ n. 
 whole_counts types first i true n = fits_count types deepest i (R.Widened first) n
 whole_counts types first i false n = le_self n
 
-first_counts : (types : Types) (holes : Bool) (first i : Indices) → Counts (as_first types holes first i)
-first_counts types holes first i = whole_counts types first i (holes || is_value_whole first)
+first_counts : (types : Types) (m : ℕ) (holes : Bool) (first i : Indices) → Counts (as_first types m holes first i)
+first_counts types m holes first i = whole_counts types first i ((holes || is_value_whole first) && is_value_below m first)
 
 numbers_count : (types : Types) (m : ℕ) (first i : Indices) (b : Bool)
     → Counts (λ n. if b then says (agrees_within deepest m (value_spelled first) (value_spelled i)) n
-    else as_first types (is_value_told (value_spelled i)) first i n)
+    else as_first types m (is_value_told (value_spelled i)) first i n)
 numbers_count types m first i true n = le_self n
-numbers_count types m first i false n = first_counts types (is_value_told (value_spelled i)) first i n
+numbers_count types m first i false n = first_counts types m (is_value_told (value_spelled i)) first i n
 
 pub agreement_counts : AgreementCounts
 agreement_counts types m true first i n = le_self n

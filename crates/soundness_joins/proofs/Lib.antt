@@ -7,4 +7,5 @@ pub mod Counting
 pub mod JoinedKinds
 pub mod TryKind
 pub mod AgreementCounts
+pub mod Wholes
 pub mod Meeting

@@ -23,17 +23,19 @@ use Rattle.value_fits.specs.Fitting.{fits, never, owe_fit, owe_made, says}
 use Rattle.wide_types.specs.Widening.{agrees_within, met, value_spelled}
 use Rattle.call_arguments.specs.declared.aims.Aim.TheVariants as Aims
 use Rattle.call_notes.specs.Ends.{is_never, is_never_form}
-use Rattle.expression_forms.specs.Inside.{is_value_told, is_value_whole}
+use Rattle.expression_forms.specs.Inside.{is_value_below, is_value_told, is_value_whole}
 use Rattle.expression_forms.specs.Meeting.{agrees_unless, as_first, first_way, gives_none, like_first}
 use Rattle.expression_steps.specs.Statements.{Way, each_way, first_behind, owed_of_first, way_behind}
 use Rattle.checked_meaning.specs.Checked.{checked}
 use Rattle.checked_meaning.specs.Items.{Item}
-use Rattle.value_laws.specs.Belonging.{Meant, has, meant, standing}
+use Rattle.value_laws.specs.Belonging.{Integers, Meant, has, meant, standing}
 use Rattle.value_laws.specs.Known as Known
 use Rattle.value_laws.specs.Known.{Agree, AllTrue, Goes, Point}
 use Rattle.value_laws.proofs.Basics.{no}
 use Rattle.value_laws.proofs.Numbers.{truth_is}
 use Rattle.value_laws.proofs.Steps.{same}
+use Rattle.value_laws.proofs.Values.{closed_is}
+use Rattle.meeting_laws.proofs.Steadied.{wide_below}
 use Rattle.meeting_laws.specs.Laws.{AgreeingIsSound, HasItsType, IsFull, MeetingIsSound}
 use Rattle.soundness_steps.specs.Works.{Scene, here}
 use Rattle.soundness_steps.specs.Points.{Later}
@@ -41,15 +43,22 @@ use Rattle.soundness_steps.specs.Steps.{Beside, Stands, Walks}
 use Rattle.soundness_steps.specs.Values.{Belongs, Comes, Has, Is, IsTrue}
 use Rattle.soundness_steps.proofs.Points.{agree_on, later_on, later_whole, no_later, whole}
 use Rattle.soundness_steps.proofs.Steps.{given_back, known_walk, scopes, stands_on, walks_mean, walks_on, walks_over}
+use Rattle.soundness_forms.specs.Forms.{FitsSuffice}
 use Rattle.soundness_forms.specs.Joins.{AllGrow}
-use Rattle.soundness_forms.proofs.Basics.{has_there, then_walks}
+use Rattle.soundness_forms.proofs.Basics.{has_on, has_there, then_walks}
 use Rattle.soundness_forms.proofs.JoinGrowth.{AgreementCounts, MetGrows, behind_grows}
 use Rattle.soundness_forms.proofs.Tests.{never_value}
+use Rattle.soundness_joins.proofs.Wholes.{no_hole_widened}
 
--- what is owed of a later way that is compared as a whole: its value is of the first one's type
-abbrev pub FirstFits : Type 0
-FirstFits = (q : Scene) (n : ℕ) (f : Point n) (facts : List Fact) (place : Place) (i first : Indices) (v : Value) → Has q.set q.work f i v
-    → Walks q n f facts (owe_fit place (fits q.set.around.types i (R.Widened first))) (λ m g t. Belongs q.set q.work g (R.Widened first) v)
+-- what is owed of a later way that is compared with a first that has a hole comes into force, as far as it does
+abbrev pub HoledFits : Type 0
+HoledFits = (q : Scene) (n : ℕ) (f : Point n) (facts : List Fact) (place : Place) (i first : Indices) (v : Value) → Has q.set q.work f i v
+    → is_value_whole first ≡ false
+    → Walks q n f facts (owe_fit place (fits q.set.around.types i (R.Widened first))) (λ m g t. Unit {0})
+
+-- no type inside the first way's is a hole, nor is one where that is spelled out
+abbrev pub IsWhole : Indices → Type 0
+IsWhole first = (is_value_whole first ≡ true) × (is_value_whole (value_spelled first) ≡ true)
 
 -- ---- the first point, of which every variable is fixed
 
@@ -130,11 +139,11 @@ module _ (q : Scene) (m : ℕ) where
 
   abbrev pub MetFree : (j : ℕ) → Point j → Option Indices → Item → Type 0
   MetFree j g None x = ⊥
-  MetFree j g (Some first) x = Came g first x.val
+  MetFree j g (Some first) x = IsWhole first → Came g first x.val
 
   met_on : {n k : ℕ} {f : Point n} {g : Point k} (o : Option Indices) (x : Item) → Later f g → MetFree n f o x → MetFree k g o x
   met_on None x l h = h
-  met_on (Some first) x l h = came_on first x.val l h
+  met_on (Some first) x l h = λ is. came_on first x.val l (h is)
 
   -- ---- the value behind all ways
 
@@ -180,50 +189,88 @@ module _ (q : Scene) (m : ℕ) where
   gives_one : {n : ℕ} {f : Point n} (never_ends : Bool) (i : Indices) (x : Item) → never_ends ≡ false → Is q.set q.work f i x → gives_none never_ends i ≡ false
   gives_one never_ends i x e h = ap (λ b. b || is_never i) e ∙ never_not i x h (out-Indices i) refl
 
-  module _ (typed : HasItsType) (fitted : FirstFits) where
+  never_walks : {n : ℕ} {f : Point n} {facts : List Fact} (place : Place) (first : Indices) (v : Value)
+      → Walks q n f facts (owe_fit place never) (λ j g t. IsWhole first → Came g first v)
+  never_walks place first v = walks_mean (λ j g t b is. no (sym (false_all (standing q.set.past g.integers)) ∙ b g.integers (same g)))
+      (says_walks place (Some (C.Truth false) ∷ []))
+
+  module _ (typed : HasItsType) (fit : FitsSuffice) (holed : HoledFits) where
     own_type : {n : ℕ} {f : Point n} (i : Indices) (v : Value) → Has q.set q.work f i v → Belongs q.set q.work f (R.Widened i) v
     own_type i v h g a = typed q.set.around.types q.set.past q.work.types g i v (has_there h g a)
 
-    -- compared as a whole
-    as_first_walks : {n : ℕ} {f : Point n} {facts : List Fact} (place : Place) (first i : Indices) (v : Value) (b : Bool) → Has q.set q.work f i v
-        → Walks q n f facts (owe_fit place (λ k. if b then fits q.set.around.types i (R.Widened first) k else never k)) (λ j g t. Came g first v)
-    as_first_walks {n} {f} {facts} place first i v true h = walks_mean (λ j g t b. by_type b) (fitted q n f facts place i first v h)
-    as_first_walks {n} {f} {facts} place first i v false h = walks_mean (λ j g t b.
-        absurd (never_true (standing q.set.past g.integers) (b g.integers (same g))))
-        (says_walks place (Some (C.Truth false) ∷ []))
-      where
-        never_true : (nu : Assignment) → true_in nu (conjunction (Some (C.Truth false) ∷ [])) ≡ true → ⊥
-        never_true nu h = no (sym (false_all nu) ∙ h)
+    -- from a point at which every variable before the next is fixed
+    from_whole : {n : ℕ} {f : Point n} {facts : List Fact} {A : Type 0} {w : Walk A} {Holds : (j : ℕ) → Point j → A → Type 0}
+        → Walks q n (whole f) facts w Holds → Walks q n f facts w Holds
+    from_whole {f = f} h = record {
+      go = λ noted stands notes.
+          let d = h.go noted (stands_on (later_whole f) stands) notes in
+          record { point = d.point; later = later_on (later_whole f) d.later; stands = d.stands; holds = d.holds };
+    }
 
-    agrees_walks : {n : ℕ} {f : Point n} {facts : List Fact} (place : Place) (first i : Indices) (v : Value) (a b : Bool) → Has q.set q.work f i v
-        → is_value_told (value_spelled first) ≡ a → is_value_told (value_spelled i) ≡ b
+    -- a first that names no variable of its own
+    fits_first : {n : ℕ} {f : Point n} {facts : List Fact} (place : Place) (i first : Indices) (v : Value) → m ≤ n → is_value_whole first ≡ true
+        → is_value_below m first ≡ true → Has q.set q.work f i v
+        → Walks q n f facts (owe_fit place (fits q.set.around.types i (R.Widened first))) (λ j g t. Belongs q.set q.work g (R.Widened first) v)
+    fits_first {n} {f} {facts} place i first v le w b h =
+        let types = q.set.around.types in
+        let past = q.set.past in
+        let own = q.work.types in
+        let widens = λ (g : Integers). closed_is types (standing past g) own (R.Widened first) (W.Widened first) (R.rolls-Widened first) in
+        from_whole (fit q n (whole f) facts place i (R.Widened first) v (has_on (later_whole f) h) (
+          (λ g a. widens g
+              ∙ sym (wide_below types past own m f.integers g (λ k less. a.same k (lt-ltb k n (omega (arith, le, less)))) first b)
+              ∙ sym (widens f.integers)),
+          no_hole_widened first w,
+        ))
+
+    as_first_by : {n : ℕ} {f : Point n} {facts : List Fact} (place : Place) (first i : Indices) (v : Value) (b holes w : Bool) → m ≤ n
+        → is_value_below m first ≡ b → is_value_whole first ≡ w → Has q.set q.work f i v
+        → Walks q n f facts (owe_fit place (λ k. if (holes || w) && b then fits q.set.around.types i (R.Widened first) k else never k))
+        (λ j g t. IsWhole first → Came g first v)
+    as_first_by place first i v true true true le e u h = walks_mean (λ j g t b is. by_type b) (fits_first place i first v le u e h)
+    as_first_by place first i v true false true le e u h = walks_mean (λ j g t b is. by_type b) (fits_first place i first v le u e h)
+    as_first_by {n} {f} {facts} place first i v true true false le e u h =
+        walks_mean (λ j g t b is. no (sym u ∙ is.0)) (holed q n f facts place i first v h u)
+    as_first_by place first i v true false false le e u h = never_walks place first v
+    as_first_by place first i v false true true le e u h = never_walks place first v
+    as_first_by place first i v false true false le e u h = never_walks place first v
+    as_first_by place first i v false false true le e u h = never_walks place first v
+    as_first_by place first i v false false false le e u h = never_walks place first v
+
+    agrees_walks : {n : ℕ} {f : Point n} {facts : List Fact} (place : Place) (first i : Indices) (v : Value) (a b : Bool) → m ≤ n
+        → Has q.set q.work f i v → is_value_told (value_spelled first) ≡ a → is_value_told (value_spelled i) ≡ b
         → Walks q n f facts (owe_fit place (λ k. if a && b then says (agrees_within deepest m (value_spelled first) (value_spelled i)) k
-        else as_first q.set.around.types b first i k)) (λ j g t. Came g first v)
-    agrees_walks {n} {f} place first i v true true h t u = keeps (R.Widened i) v (own_type i v h)
-        (says_walks place (agrees_within deepest m (value_spelled first) (value_spelled i))) (λ j g x b c. by_numbers i t u c b)
-    agrees_walks place first i v true false h t u = as_first_walks place first i v (false || is_value_whole first) h
-    agrees_walks place first i v false true h t u = as_first_walks place first i v (true || is_value_whole first) h
-    agrees_walks place first i v false false h t u = as_first_walks place first i v (false || is_value_whole first) h
+        else as_first q.set.around.types m b first i k)) (λ j g t. IsWhole first → Came g first v)
+    agrees_walks {n} {f} place first i v true true le h t u = keeps (R.Widened i) v (own_type i v h)
+        (says_walks place (agrees_within deepest m (value_spelled first) (value_spelled i))) (λ j g x b c is. by_numbers i t u c b)
+    agrees_walks place first i v true false le h t u =
+        as_first_by place first i v (is_value_below m first) false (is_value_whole first) le refl refl h
+    agrees_walks place first i v false true le h t u =
+        as_first_by place first i v (is_value_below m first) true (is_value_whole first) le refl refl h
+    agrees_walks place first i v false false le h t u =
+        as_first_by place first i v (is_value_below m first) false (is_value_whole first) le refl refl h
 
     -- what a way owes of the first, where it gives a value
-    owed_walks : {n : ℕ} {f : Point n} {facts : List Fact} (place : Place) (never_ends : Bool) (first i : Indices) (x : Item) → never_ends ≡ false
-        → Is q.set q.work f i x → Walks q n f facts (like_first (here q) place never_ends m first i) (λ j g t. Came g first x.val)
-    owed_walks {n} {f} {facts} place never_ends first i x e h =
-        subst (λ b. Walks q n f facts (owe_fit place (agrees_unless b q.set.around.types m first i)) (λ j g t. Came g first x.val))
+    owed_walks : {n : ℕ} {f : Point n} {facts : List Fact} (place : Place) (never_ends : Bool) (first i : Indices) (x : Item) → m ≤ n → never_ends ≡ false
+        → Is q.set q.work f i x
+        → Walks q n f facts (like_first (here q) place never_ends m first i) (λ j g t. IsWhole first → Came g first x.val)
+    owed_walks {n} {f} {facts} place never_ends first i x le e h =
+        subst (λ b. Walks q n f facts (owe_fit place (agrees_unless b q.set.around.types m first i)) (λ j g t. IsWhole first → Came g first x.val))
         (sym (gives_one never_ends i x e h))
-        (agrees_walks place first i x.val (is_value_told (value_spelled first)) (is_value_told (value_spelled i)) h.has refl refl)
+        (agrees_walks place first i x.val (is_value_told (value_spelled first)) (is_value_told (value_spelled i)) le h.has refl refl)
 
     first_is : (never_ends : Bool) (i : Indices) → gives_none never_ends i ≡ false → first_way never_ends i ≡ Some i
     first_is never_ends i e = ap (λ b. if b then None else Some i) e
 
-    way_walks : {n : ℕ} {f : Point n} {facts : List Fact} (w : Way) (first : Option Indices) (i : Indices) (x : Item) → w.never_ends ≡ false
+    way_walks : {n : ℕ} {f : Point n} {facts : List Fact} (w : Way) (first : Option Indices) (i : Indices) (x : Item) → m ≤ n → w.never_ends ≡ false
         → Is q.set q.work f i x
         → Walks q n f facts (bind (owed_of_first (here q) true w.place w.never_ends m first i) (λ t. give i))
         (λ j g d. MetFree j g (first_behind true w.never_ends first d) x)
-    way_walks {n} {f} w None i x e h = walks_on (λ t. give i) {Holds = λ j g t. MetFree j g (first_way w.never_ends i) x}
-        (given_back tt (subst (λ o. MetFree n f o x) (sym (first_is w.never_ends i (gives_one w.never_ends i x e h))) (by_type (own_type i x.val h.has))))
+    way_walks {n} {f} w None i x le e h = walks_on (λ t. give i) {Holds = λ j g t. MetFree j g (first_way w.never_ends i) x}
+        (given_back tt (subst (λ o. MetFree n f o x) (sym (first_is w.never_ends i (gives_one w.never_ends i x e h)))
+        (λ is. by_type (own_type i x.val h.has))))
         (λ j g fs t l d. given_back i d)
-    way_walks w (Some first) i x e h = walks_on (λ t. give i) (owed_walks w.place w.never_ends first i x e h) (λ j g fs t l d. given_back i d)
+    way_walks w (Some first) i x le e h = walks_on (λ t. give i) (owed_walks w.place w.never_ends first i x le e h) (λ j g fs t l d. given_back i d)
 
     -- ---- with ways behind it that aren't run
 
@@ -247,19 +294,21 @@ module _ (q : Scene) (m : ℕ) where
               point = d.point;
               later = d.later;
               stands = d.stands;
-              holds = subst (λ o. MetFree (each_way (here q) true m ws (Some first) facts n).next d.point o x) (sym d.holds) (came_on first x.val d.later k);
+              holds = subst (λ o. MetFree (each_way (here q) true m ws (Some first) facts n).next d.point o x) (sym d.holds)
+                  (λ is. came_on first x.val d.later (k is));
             };
       }
 
       pub taken_free : {n : ℕ} {f : Point n} {facts : List Fact} (nested : Bool) (w : Way) (after : List Way) (c : Run Item Item) (first : Option Indices)
-          → AllGrow after → Beside q n f facts w.walk c (λ j g i x. Comes q.set q.work g true nested w.never_ends Aims.Free i x)
+          → m ≤ n → AllGrow after → Beside q n f facts w.walk c (λ j g i x. Comes q.set q.work g true nested w.never_ends Aims.Free i x)
           → Beside q n f facts (each_way (here q) true m (w ∷ after) first) ((checked q.set.around.types q.cases).inside c)
           (λ j g o x. MetFree j g o x × (w.never_ends ≡ false))
-      taken_free nested w after c first h b = then_walks (each_way (here q) true m after)
+      taken_free nested w after c first le h b = then_walks (each_way (here q) true m after)
           {Holds = λ j g o x. MetFree j g o x × (w.never_ends ≡ false)}
           (then_walks (λ i. give (first_behind true w.never_ends first i))
           {Holds = λ j g i x. MetFree j g (first_behind true w.never_ends first i) x × (w.never_ends ≡ false)}
           (scopes (then_walks (λ i. bind (owed_of_first (here q) true w.place w.never_ends m first i) (λ t. give i)) b (λ j g fs i x l e.
-          walks_mean (λ k p d a. (a, e.ends)) (way_walks w first i x e.ends (record { has = e.has; typ = e.typ })))))
+          walks_mean (λ k p d a. (a, e.ends))
+          (way_walks w first i x (let on = l.onward in omega (arith, le, on)) e.ends (record { has = e.has; typ = e.typ })))))
           (λ j g fs i x l e. given_back (first_behind true w.never_ends first i) e))
           (λ j g fs o x l e. walks_mean (λ k p d a. (a, e.1)) (over_others after o x h e.0))
