@@ -1,5 +1,5 @@
 -- The type that a value widens to hangs on the variables that it names alone.
-use Rattle.std.proofs.Common.{◌≡◌, ℕ, ◌<◌, pos, Bool, true, false, ◌&&◌, List, [], ◌∷◌, map, slice_get, Option, Some, None, refl, sym, ap, ◌∙◌, subst}
+use Rattle.std.proofs.Common.{◌≡◌, ℕ, ◌<◌, pos, Bool, true, List, [], ◌∷◌, map, slice_get, Option, Some, None, refl, sym, ap, ◌∙◌, subst}
 use Rattle.std.specs.List.{list_all}
 use Rattle.std.proofs.lemmas.Bool.{and_parts}
 use Rattle.sail_types.specs.Belongs.{Reading as Closed, assigned, reading}
@@ -11,7 +11,7 @@ use Rattle.sail_types.specs.declared.numbers.Index.TheVariants as N
 use Rattle.sail_types.specs.declared.table.Types.{Types}
 use Rattle.sail_types.specs.declared.types.Typ.TheVariants as U
 use Rattle.value_indices.specs.declared.indices.Indices.{Indices, roll-Indices}
-use Rattle.value_indices.specs.declared.indices.Indices.TheFolds.{fold-roll-Indices, fold-roll-Reading, ind-Indices, ind-Reading, map-Indices, map-Reading}
+use Rattle.value_indices.specs.declared.indices.Indices.TheFolds.{fold-roll-Indices, fold-roll-Reading, ind-Indices, map-Indices, map-Reading}
 use Rattle.value_indices.specs.declared.indices.Indices.TheOpen as W
 use Rattle.value_indices.specs.declared.indices.Indices.TheOpen.{Indices-F, Reading-F}
 use Rattle.value_indices.specs.declared.indices.Reading.{Reading, roll-Reading}
