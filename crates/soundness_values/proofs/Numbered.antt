@@ -21,12 +21,10 @@ use Rattle.value_fits.specs.Fitting.{among, placed}
 use Rattle.wide_types.specs.Widening.{fresh_index}
 use Rattle.call_arguments.specs.Callees.{index_if, indices_from}
 use Rattle.value_laws.specs.Belonging.{Integers, index_there, standing}
-use Rattle.value_laws.specs.Known.{Agree, Goes, Point}
+use Rattle.value_laws.specs.Known.{Agree, Goes, Later, Point}
 use Rattle.value_laws.proofs.Numbers.{holds_is}
-use Rattle.value_laws.proofs.Steps.{fresh_integer, gives, goes_then}
+use Rattle.value_laws.proofs.Steps.{agree_on, fresh_integer, gives, goes_then, later_on}
 use Rattle.fitting_laws.proofs.Standing.{EachHad, GivenStays, among_given_stays}
-use Rattle.soundness_steps.specs.Points.{Later}
-use Rattle.soundness_steps.proofs.Points.{agree_on, later_on}
 
 module _ (types : Types) (past : Positive) (own : List Closed) {n : ℕ} (f : Point n) (ts : List Typ) (is : List Indices) (vs : List Value)
     (had : EachHad types past own f is vs) where
