@@ -14,7 +14,7 @@ use Rattle.value_fits.specs.declared.fitted.Fitted.{Fitted}
 use Rattle.wide_types.specs.Widening.{agrees_within, met, value_spelled}
 use Rattle.pattern_leaves.specs.Settings.{Around}
 use Rattle.call_notes.specs.Ends.{is_never, never_value, sized}
-use Rattle.expression_forms.specs.Inside.{is_value_told, is_value_whole}
+use Rattle.expression_forms.specs.Inside.{is_value_below, is_value_told, is_value_whole}
 
 -- the body of a `let` that never ends gives no value, though the `let` counts as one that ends
 abbrev pub gives_none : Bool → Indices → Bool
@@ -24,15 +24,16 @@ gives_none never_ends i = never_ends || is_never i
 abbrev pub first_way : Bool → Indices → Option Indices
 first_way never_ends i = if gives_none never_ends i then None else Some i
 
--- that a value is of the type of the first way as it stands; a hole in it is filled by types with one number for all items alone
-abbrev pub as_first : Types → Bool → Indices → Indices → ℕ → Fitted
-as_first types holes first i n = if holes || is_value_whole first then fits types i (R.Widened first) n else never n
+-- that a value is of the type of the first way as it stands, in which no variable of that way stands; a hole in it is filled by types with one number
+-- for all items alone
+abbrev pub as_first : Types → ℕ → Bool → Indices → Indices → ℕ → Fitted
+as_first types m holes first i n = if (holes || is_value_whole first) && is_value_below m first then fits types i (R.Widened first) n else never n
 
 -- that a value has the numbers that are kept of the first way, where these say all of every item of both, and else that it is of its type
 abbrev pub agrees_spelled : Types → ℕ → Indices → Indices → Indices → Indices → ℕ → Fitted
 agrees_spelled types m first i spelled other n =
     if is_value_told spelled && is_value_told other then says (agrees_within deepest m spelled other) n
-    else as_first types (is_value_told other) first i n
+    else as_first types m (is_value_told other) first i n
 
 abbrev pub agrees : Types → ℕ → Indices → Indices → ℕ → Fitted
 agrees types m first i n = agrees_spelled types m first i (value_spelled first) (value_spelled i) n

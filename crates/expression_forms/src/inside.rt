@@ -3,7 +3,9 @@ ghost use Rattle.std.specs.Prelude.{◌≡◌, map};
 ghost use Rattle.std.specs.List.{list_all};
 ghost use Rattle.expression_forms.specs.Inside as inside;
 
+use sail_types::Index;
 use value_indices::{Indices, Reading};
+use wide_types::{is_below, is_con_below};
 
 /// Whether no type inside that of a value is a hole.
 #[cycle(whole)]
@@ -106,6 +108,89 @@ fn are_types_told(readings: &[Reading]) -> bool
 {
     for reading in readings {
         if !is_type_told(reading) {
+            return false;
+        }
+    }
+    true
+}
+
+/// Whether a number or a truth names only variables before that one.
+fn is_argument_below(before: u32, argument: &Index) -> bool
+    ensures { result ≡ inside.is_argument_below before argument.now }
+{
+    match argument {
+        Index::Number(number) => is_below(before, number),
+        Index::Truth(con) => is_con_below(before, con),
+    }
+}
+
+/// The same of arguments.
+fn are_arguments_below(before: u32, arguments: &[Index]) -> bool
+    ensures { result ≡ list_all (inside.is_argument_below before) arguments.now }
+{
+    for argument in arguments {
+        if !is_argument_below(before, argument) {
+            return false;
+        }
+    }
+    true
+}
+
+/// Whether the widened type of a value names only variables before that one; it has any integer, and any truth.
+#[cycle(below)]
+pub(crate) fn is_value_below(before: u32, value: &Indices) -> bool
+    ensures { result ≡ inside.is_value_below before value.now }
+{
+    match value {
+        Indices::Bits(width) => is_below(before, width),
+        Indices::List(item) => is_type_below(before, item.get()),
+        Indices::Vector(length, item) => is_below(before, length)
+            && is_type_below(before, item.get()),
+        Indices::Tuple(parts) => are_values_below(before, parts.as_slice()),
+        Indices::Named(_, arguments, types) => {
+            are_arguments_below(before, arguments.as_slice())
+                && are_types_below(before, types.as_slice())
+        }
+        _ => true,
+    }
+}
+
+/// The same of values.
+#[cycle(below)]
+fn are_values_below(before: u32, values: &[Indices]) -> bool
+    ensures { result ≡ list_all (λ b. b) (map (inside.is_value_below before) values.now) }
+{
+    for value in values {
+        if !is_value_below(before, value) {
+            return false;
+        }
+    }
+    true
+}
+
+/// The same of a type.
+#[cycle(below)]
+fn is_type_below(before: u32, reading: &Reading) -> bool
+    ensures { result ≡ inside.is_type_below before reading.now }
+{
+    match reading {
+        Reading::Of(_, arguments, types) => {
+            are_arguments_below(before, arguments.as_slice())
+                && are_types_below(before, types.as_slice())
+        }
+        Reading::Widened(value) => is_value_below(before, value.get()),
+        Reading::Parts(parts) => are_types_below(before, parts.as_slice()),
+        Reading::Hole => true,
+    }
+}
+
+/// The same of types.
+#[cycle(below)]
+fn are_types_below(before: u32, readings: &[Reading]) -> bool
+    ensures { result ≡ list_all (λ b. b) (map (inside.is_type_below before) readings.now) }
+{
+    for reading in readings {
+        if !is_type_below(before, reading) {
             return false;
         }
     }

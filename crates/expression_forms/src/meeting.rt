@@ -5,7 +5,7 @@ ghost use Rattle.pattern_leaves.specs.Settings.{around_of};
 ghost use Rattle.value_indices.specs.Walking as walk;
 ghost use Rattle.expression_forms.specs.Meeting as meeting;
 
-use crate::inside::{is_value_told, is_value_whole};
+use crate::inside::{is_value_below, is_value_told, is_value_whole};
 use call_notes::{is_never, note_value};
 use pattern_leaves::Around;
 use sail_base::{Items, Place};
@@ -33,19 +33,20 @@ pub fn first_way(never_ends: bool, value: Indices) -> Option<Indices>
     }
 }
 
-/// What has to be true for a later way to be of the type of the first as it stands, in which holes may be or not. It fails where memory is
-/// wanting, and where variables are too many.
+/// What has to be true for a later way to be of the type of the first as it stands, which names only variables before that one, and in which
+/// holes may be or not. It fails where memory is wanting, and where variables are too many.
 fn as_first(
     alloc: Global,
     types: &Types,
+    before: u32,
     holes: bool,
     first: &Indices,
     value: &Indices,
     next: u32,
 ) -> Result<Fitted, AllocError>
-    ensures { IfOk result (λ made. made ≡ meeting.as_first types.now holes first.now value.now next) }
+    ensures { IfOk result (λ made. made ≡ meeting.as_first types.now before holes first.now value.now next) }
 {
-    if holes || is_value_whole(first) {
+    if (holes || is_value_whole(first)) && is_value_below(before, first) {
         let wanted = Wanted::Widened(first);
         fits(alloc, types, value, &wanted, next)
     } else {
@@ -73,7 +74,7 @@ fn agrees_spelled(
         let conditions = agrees_within(alloc, deepest(), before, spelled, other)?;
         Ok(Fitted::says(alloc, conditions, next))
     } else {
-        as_first(alloc, types, told, first, value, next)
+        as_first(alloc, types, before, told, first, value, next)
     }
 }
 

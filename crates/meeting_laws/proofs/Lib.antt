@@ -9,3 +9,4 @@ pub mod Kept
 pub mod Shown
 pub mod Agreeing
 pub mod Full
+pub mod Steadied

@@ -32,8 +32,10 @@ use Rattle.expression_steps.specs.Statements.{bind_names, block_walk, is_written
 use Rattle.checked_meaning.specs.Checked.{checked}
 use Rattle.checked_meaning.specs.Items.{Item}
 use Rattle.value_laws.specs.Belonging.{Integers, standing, closed}
-use Rattle.value_laws.specs.Known.{Point, Agree, Later}
-use Rattle.value_laws.proofs.Steps.{later_on, same}
+use Rattle.value_laws.specs.Known.{Point, Agree}
+use Rattle.value_laws.proofs.Steps.{same}
+use Rattle.soundness_steps.specs.Points.{Later}
+use Rattle.soundness_steps.proofs.Points.{later_on}
 use Rattle.soundness_steps.specs.Works.{Kept, Scene, Setting, Work, here, is_var}
 use Rattle.soundness_steps.specs.Steps.{Beside}
 use Rattle.soundness_steps.specs.Values.{AimSteady, Belongs, Claims, Comes, Is, IsWanted}

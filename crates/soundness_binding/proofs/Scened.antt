@@ -15,13 +15,13 @@ use Rattle.value_indices.specs.declared.notes.Fact.{Fact}
 use Rattle.value_indices.specs.Steps.{Note, goal_note, size_note, made_note, call_note, way_note, given_note, name_note, Walk}
 use Rattle.value_laws.specs.Belonging.{Integers, standing}
 use Rattle.value_laws.specs.Known.{given_in, Point, Agree}
-use Rattle.value_laws.proofs.Steps.{agree_on}
 use Rattle.checked_meaning.specs.Checked.{Noted}
 use Rattle.checked_meaning.specs.Items.{Item}
 use Rattle.pattern_laws.specs.Beside as P
 use Rattle.pattern_laws.specs.Grounds.{Grounded, IsGiven, Ways}
 use Rattle.pattern_laws.specs.Laws.{Tests, typing_of}
 use Rattle.pattern_laws.proofs.Patterns.{arm_is_sound, let_is_sound}
+use Rattle.soundness_steps.proofs.Points.{agree_on, behind}
 use Rattle.soundness_steps.specs.Calls as Calls
 use Rattle.soundness_steps.specs.Calls.{After, CallEnds, SoundCalls, call_falls, call_gives, call_stops, call_throws}
 use Rattle.soundness_steps.specs.Noted.{EachNoted}
@@ -50,10 +50,10 @@ ends_as : (q : Scene) {n : ℕ} {f : Point n} (facts : List Fact) (noted : Noted
     → P.EndsWell (ends q) noted (λ x. P.Reach q.set.past f facts m more (λ p. Holds p x)) e → EndsWell q f m more Holds e
 ends_as q facts noted more fall stands (P.well_given x now r k alike) = well_given x now (record {
   point = r.point;
-  later = r.later;
+  later = behind r.later;
   stands = record {
     there = λ g a.
-        let before = stands.there g (agree_on r.later a) in
+        let before = stands.there g (agree_on (behind r.later) a) in
         record {
           numbers = before.numbers;
           true_there = r.stands.there g a;

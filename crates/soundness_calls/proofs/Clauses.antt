@@ -35,9 +35,11 @@ use Rattle.function_notes.specs.Functions.{arm_of, body_of, clause_walk, clauses
 use Rattle.checked_meaning.specs.Checked.{Noted}
 use Rattle.checked_meaning.specs.Items.{Item, vals}
 use Rattle.value_laws.specs.Belonging.{Integers, standing}
-use Rattle.value_laws.specs.Known.{Agree, Later, Point, given_in}
+use Rattle.value_laws.specs.Known.{Agree, Point, given_in}
 use Rattle.value_laws.proofs.Numbers.{truth_is}
-use Rattle.value_laws.proofs.Steps.{agree_on, later_on, same}
+use Rattle.value_laws.proofs.Steps.{same}
+use Rattle.soundness_steps.specs.Points.{Later}
+use Rattle.soundness_steps.proofs.Points.{agree_on, later_on}
 use Rattle.soundness_steps.specs.Works.{Kept, Scene, Setting, Work, here}
 use Rattle.soundness_steps.specs.Noted.{EachNoted, IsSo, variables_given, with_given}
 use Rattle.soundness_steps.specs.States.{Sound}

@@ -35,10 +35,12 @@ use Rattle.function_notes.specs.Functions.{arms_walk, both_walk, clause_arms, cl
 use Rattle.checked_meaning.specs.Checked.{Checks, Noted}
 use Rattle.checked_meaning.specs.Items.{Item, item}
 use Rattle.value_laws.specs.Belonging.{Integers, closed, is_of, standing}
-use Rattle.value_laws.specs.Known.{Later, Point}
+use Rattle.value_laws.specs.Known.{Point}
 use Rattle.value_laws.proofs.Numbers.{beyond_past, truth_is}
-use Rattle.value_laws.proofs.Steps.{later_on, same}
+use Rattle.value_laws.proofs.Steps.{same}
 use Rattle.value_laws.proofs.Values.{closed_is}
+use Rattle.soundness_steps.specs.Points.{Later}
+use Rattle.soundness_steps.proofs.Points.{later_on}
 use Rattle.soundness_steps.specs.Works.{Scene, Setting, nobody, here}
 use Rattle.soundness_steps.specs.Noted.{OpensAs}
 use Rattle.soundness_steps.specs.States.{IsAnswer, Sound, StateBelongs, nothing_stands}

@@ -39,8 +39,10 @@ use Rattle.function_notes.specs.Functions.{last_made, last_of, measured_walk, ow
 use Rattle.checked_meaning.specs.Checked.{Cases, Checks, Noted, checked, noting}
 use Rattle.checked_meaning.specs.Items.{Item, item, items_of, typs, vals}
 use Rattle.value_laws.specs.Belonging.{Integers, closed, standing}
-use Rattle.value_laws.specs.Known.{AllTrue, Later, Point}
-use Rattle.value_laws.proofs.Steps.{agree_on, no_later, same}
+use Rattle.value_laws.specs.Known.{AllTrue, Point}
+use Rattle.value_laws.proofs.Steps.{same}
+use Rattle.soundness_steps.specs.Points.{Later}
+use Rattle.soundness_steps.proofs.Points.{agree_on, no_later}
 use Rattle.soundness_steps.specs.Works.{Scene, Setting, Work, here}
 use Rattle.soundness_steps.specs.Noted.{EachNoted}
 use Rattle.soundness_steps.specs.States.{AllKept, IsAnswer, IsThrown, Sound, StateBelongs}

@@ -33,8 +33,9 @@ use Rattle.expression_steps.specs.Statements.{natural_type}
 use Rattle.value_laws.specs.Belonging.{Integers, is_of, standing}
 use Rattle.value_laws.proofs.Basics.{no}
 use Rattle.value_laws.proofs.Opening.{opening_sound}
-use Rattle.value_laws.proofs.Steps.{agree_on, same}
+use Rattle.value_laws.proofs.Steps.{same}
 use Rattle.value_laws.proofs.Values.{belongs_form, closed_is, form_asked}
+use Rattle.soundness_steps.proofs.Points.{agree_on, behind}
 use Rattle.soundness_steps.specs.Noted.{sized}
 use Rattle.soundness_steps.specs.Works.{Scene}
 use Rattle.sail_core.specs.Making.{natural}
@@ -113,7 +114,7 @@ natural_read q n p x h =
     let g : Integers = goes.point.integers in
     let i = natural_value false M.Unnamed [] n in
     let typ : x.typ ≡ S.Int =
-    (h.typ g (agree_on goes.later (same goes.point))).each false M.Unnamed [] n (ap (λ m. m.holds x.val) (goes.holds g (same goes.point)) ∙ o.1)
+    (h.typ g (agree_on (behind goes.later) (same goes.point))).each false M.Unnamed [] n (ap (λ m. m.holds x.val) (goes.holds g (same goes.point)) ∙ o.1)
     ∙ ap (sized types q.work.own g) i.1 ∙ integer_sized types q.work.own g i.0 in
     let is : (read_as q).is int_typ x ≡ true = (λ j. sized_eq (int_fixed types j) (typ j)) ∙ int_same in
     (v.0, λ now. λ j. goes_on (if_so (needs (v.1 j)) stuck (is j) now) (λ z. needs (natural_of z)))

@@ -22,10 +22,11 @@ use Rattle.pattern_notes.specs.Patterns.{Look}
 use Rattle.function_notes.specs.Functions.{other_looks, parameter_naming, parameters_opened, reading_under}
 use Rattle.checked_meaning.specs.Items.{Item, vals}
 use Rattle.value_laws.specs.Belonging.{Integers, each_holds, form_holds, standing, has, meant}
-use Rattle.value_laws.specs.Known.{Point, Agree, Later}
+use Rattle.value_laws.specs.Known.{Point, Agree}
 use Rattle.value_laws.proofs.Basics.{two}
-use Rattle.value_laws.proofs.Steps.{agree_on, no_later}
 use Rattle.value_laws.proofs.Values.{has_form}
+use Rattle.soundness_steps.specs.Points.{Later}
+use Rattle.soundness_steps.proofs.Points.{agree_on, no_later}
 use Rattle.soundness_steps.specs.Works.{Work, Scene, Setting}
 use Rattle.soundness_steps.specs.Steps.{Walks}
 use Rattle.soundness_steps.specs.Values.{AllAre, AllHave, Belongs, Is, IsMadeAs, IsSteady}

@@ -22,13 +22,14 @@ use Rattle.call_arguments.specs.Callees.{numbers_from}
 use Rattle.call_arguments.specs.Placing.{call_conditions}
 use Rattle.value_laws.specs.Belonging.{Integers, Meant, standing, closed, types_or_own}
 use Rattle.value_laws.specs.Known.{AllTrue, given_in, Point, Agree}
-use Rattle.value_laws.proofs.Steps.{agree_on, no_later, same}
+use Rattle.value_laws.proofs.Steps.{no_later, same}
 use Rattle.fitting_laws.specs.Fitting.{Said, Suffices}
 use Rattle.fitting_laws.proofs.Deep.{fitting}
 use Rattle.fitting_laws.proofs.Joining.{conjunction_said, suffice_as, true_both}
 use Rattle.call_fits.specs.Calls as Fits
 use Rattle.call_fits.proofs.Calling.{calls_fit}
 use Rattle.call_fits.proofs.Types.{types_steady}
+use Rattle.soundness_steps.proofs.Points.{agree_on, behind}
 use Rattle.soundness_steps.specs.Works.{Scene}
 use Rattle.soundness_steps.specs.Noted.{EachNoted}
 use Rattle.soundness_steps.specs.Covers.{given_there}
@@ -57,13 +58,13 @@ unfolding owe_fit owe_made
 suffices_walks {q} {n} {f} {facts} place made s = record {
   go = λ noted stands met.
       let there : (g : Integers) → Agree s.point g → AllTrue (standing q.set.past g) (conditions (facts ++ (made n).facts)) =
-      λ g a. true_both (standing q.set.past g) facts (made n).facts (stands.there g (agree_on s.later a)).true_there (s.true_there g a) in
+      λ g a. true_both (standing q.set.past g) facts (made n).facts (stands.there g (agree_on (behind s.later) a)).true_there (s.true_there g a) in
       record {
         point = s.point;
-        later = s.later;
+        later = behind s.later;
         stands = record {
           there = λ g a.
-              let before = stands.there g (agree_on s.later a) in
+              let before = stands.there g (agree_on (behind s.later) a) in
               record {
                 numbers = before.numbers;
                 true_there = there g a;

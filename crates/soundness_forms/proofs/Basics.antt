@@ -25,10 +25,12 @@ use Rattle.call_notes.specs.Ends.{settled, wrong_value}
 use Rattle.checked_meaning.specs.Items.{Item, item, typs}
 use Rattle.checked_meaning.specs.Checked.{Cases, checked}
 use Rattle.value_laws.specs.Belonging.{Integers, standing, has}
-use Rattle.value_laws.specs.Known.{Point, Agree, Later}
+use Rattle.value_laws.specs.Known.{Point, Agree}
 use Rattle.value_laws.proofs.Numbers.{truth_is}
 use Rattle.value_laws.proofs.Opening.{opening_sound}
-use Rattle.value_laws.proofs.Steps.{same, agree_on}
+use Rattle.value_laws.proofs.Steps.{same}
+use Rattle.soundness_steps.specs.Points.{Later}
+use Rattle.soundness_steps.proofs.Points.{agree_on}
 use Rattle.soundness_steps.specs.Works.{Work, Setting, Scene, here}
 use Rattle.soundness_steps.specs.Noted.{sized}
 use Rattle.soundness_steps.specs.Steps.{Beside, Walks}

@@ -1,5 +1,5 @@
 -- `if`, beside its run.
-use Rattle.std.proofs.Common.{◌≡◌, ℕ, Bool, true, false, not, ◌&&◌, List, [], ◌∷◌, Option, Some, None, refl, sym, ap, ◌∙◌}
+use Rattle.std.proofs.Common.{◌≡◌, ℕ, Bool, true, false, not, ◌&&◌, List, [], ◌∷◌, Option, Some, None, refl, sym, ap, ◌∙◌, arith}
 use Rattle.sail_base.specs.declared.place.Place.{Place}
 use Rattle.sail_types.specs.Numbers.{Assignment, form_true, true_in}
 use Rattle.sail_types.specs.declared.numbers.Con.{Con, fold-roll-Con}
@@ -24,7 +24,7 @@ use Rattle.checked_meaning.specs.Checked.{checked}
 use Rattle.checked_meaning.specs.Items.{Item}
 use Rattle.value_laws.specs.Belonging.{standing}
 use Rattle.value_laws.specs.Known.{Point}
-use Rattle.value_laws.proofs.Steps.{agree_on}
+use Rattle.soundness_steps.proofs.Points.{agree_on}
 use Rattle.soundness_steps.specs.Works.{Scene, here}
 use Rattle.soundness_steps.specs.Steps.{Beside, Grows}
 use Rattle.soundness_steps.specs.Values.{AimSteady, Comes, IsTrue}
@@ -85,7 +85,7 @@ module _ (free : FreeJoining) (q : Scene) (w : World Item) (scope : Scope) (plac
       let k = joining free q n aim in
       joined q aim k place shape (if_ways a b (here q) scope aim c) ((checked q.set.around.types q.cases).inside ra) (a.never_ends && b.never_ends) st
       (means (λ m g o x l e. (e.0, and_first a.never_ends b.never_ends e.1))
-      (behind_others q n aim k a.is_nested [] (way_of a (here q) scope aim c) (way_of b (here q) scope aim (C.Not c) ∷ []) ra None tt
+      (behind_others q n aim k a.is_nested [] (way_of a (here q) scope aim c) (way_of b (here q) scope aim (C.Not c) ∷ []) ra None (omega arith) tt
       (under_grows q w scope b rb true hb (C.Not c) (branch_aim aim), tt) (λ j g l.
       under_runs q w scope a ra true ha c (branch_aim aim) (surrounds_on q w scope l there) (aim_on q.set q.work (branch_aim aim) l (branch_steady q f aim st))
       (λ h d. is h (agree_on l d)))))
@@ -93,7 +93,7 @@ module _ (free : FreeJoining) (q : Scene) (w : World Item) (scope : Scope) (plac
       let k = joining free q n aim in
       joined q aim k place shape (if_ways a b (here q) scope aim c) ((checked q.set.around.types q.cases).inside rb) (a.never_ends && b.never_ends) st
       (means (λ m g o x l e. (e.0, and_second a.never_ends b.never_ends e.1))
-      (behind_others q n aim k b.is_nested (way_of a (here q) scope aim c ∷ []) (way_of b (here q) scope aim (C.Not c)) [] rb None
+      (behind_others q n aim k b.is_nested (way_of a (here q) scope aim c ∷ []) (way_of b (here q) scope aim (C.Not c)) [] rb None (omega arith)
       (under_grows q w scope a ra true ha c (branch_aim aim), tt) tt (λ j g l.
       under_runs q w scope b rb true hb (C.Not c) (branch_aim aim) (surrounds_on q w scope l there)
       (aim_on q.set q.work (branch_aim aim) l (branch_steady q f aim st)) (λ h d. not_is (standing q.set.past h) c ∙ ap not (is h (agree_on l d))))))

@@ -27,8 +27,9 @@ use Rattle.checked_meaning.specs.Items.{Item, typs, vals}
 use Rattle.checked_meaning.specs.Checked.{checked}
 use Rattle.value_laws.specs.Belonging.{Integers, standing, closed, closeds, over}
 use Rattle.value_laws.specs.Known.{Point, Agree}
-use Rattle.value_laws.proofs.Steps.{agree_on, later_on, no_later, same}
+use Rattle.value_laws.proofs.Steps.{same}
 use Rattle.value_laws.proofs.Values.{closed_is}
+use Rattle.soundness_steps.proofs.Points.{agree_on, later_on, no_later}
 use Rattle.soundness_steps.specs.Works.{Scene, Work, here}
 use Rattle.soundness_steps.specs.Noted.{type_sized}
 use Rattle.soundness_steps.specs.Covers.{AllAgree, given_there}

@@ -1,5 +1,5 @@
 -- `match` and `try`, beside their runs.
-use Rattle.std.proofs.Common.{◌≡◌, ℕ, Bool, true, false, List, [], ◌∷◌, ◌++◌, Option, None, refl}
+use Rattle.std.proofs.Common.{◌≡◌, ◌≤◌, ℕ, Bool, true, false, List, [], ◌∷◌, ◌++◌, Option, None, refl, arith}
 use Rattle.std.specs.Prelude.{is_none}
 use Rattle.sail_base.specs.declared.place.Place.{Place}
 use Rattle.sail_types.specs.declared.shapes.Shape.{Shape}
@@ -87,20 +87,22 @@ module _ (q : Scene) (w : World Item) (grows : ArmsGrow q w) (scope : Scope) (pl
   -- the first case that is taken
   pub cases_run : (m : ℕ) (k : Joining q m aim) (none : Run Item Item) → NoneEnds none
       → (arms : List Arm) (ps : List Part) (rs : List (Run Item Item)) → AllMatch (falling q) w arms → Bodies q w arms ps rs
-      → {n : ℕ} {f : Point n} {facts : List Fact} (first : Option Indices) → Surrounds q w f scope → AimSteady q.set q.work f aim → Is q.set q.work f i x
+      → {n : ℕ} {f : Point n} {facts : List Fact} (first : Option Indices) → m ≤ n → Surrounds q w f scope → AimSteady q.set q.work f aim
+      → Is q.set q.work f i x
       → Beside q n f facts (each_way (here q) (is_none (wanted aim)) m (case_ways place arms ps (here q) scope aim i) first)
       (first_of (checked q.set.around.types q.cases) w arms rs none (x ∷ [])) (λ j g o y. k.Met j g o y × (false ≡ false))
-  cases_run m k none ends [] [] [] ms h {n} {f} {facts} first there st is =
+  cases_run m k none ends [] [] [] ms h {n} {f} {facts} first le there st is =
       record { run = λ now stands met ok. ends now ok n f _ _ _ }
-  cases_run m k none ends (arm ∷ arms) (p ∷ ps) (r ∷ rs) ms h {n} {f} {facts} first there st is =
+  cases_run m k none ends (arm ∷ arms) (p ∷ ps) (r ∷ rs) ms h {n} {f} {facts} first le there st is =
       let z = checked q.set.around.types q.cases in
       let one = k.taken true p.is_nested (case_way place arm p (here q) scope aim i) (case_ways place arms ps (here q) scope aim i)
-      (arm_taken z w arm r (x ∷ [])) first n f facts (cases_grow arms ps rs h.1) (case_runs arm p r h.0.0 ms.0 h.0.1 there st is) in
+      (arm_taken z w arm r (x ∷ [])) first n f facts le (cases_grow arms ps rs h.1) (case_runs arm p r h.0.0 ms.0 h.0.1 there st is) in
       let more = runs_over {q = q} (each_way (here q) (is_none (wanted aim)) m (case_ways place arms ps (here q) scope aim i))
       (λ d. first_behind (is_none (wanted aim)) p.never_ends first d)
       (way_behind (here q) (is_none (wanted aim)) m (case_way place arm p (here q) scope aim i) first)
       (k.grows (case_way place arm p (here q) scope aim i) first (case_grows arm p r true h.0.0 h.0.1))
-      (λ j g o l. cases_run m k none ends arms ps rs ms.1 h.1 o (surrounds_on q w scope l there) (aim_on q.set q.work aim l st) (is_on l is)) in
+      (λ j g o l. cases_run m k none ends arms ps rs ms.1 h.1 o (let on = l.onward in omega (arith, le, on))
+      (surrounds_on q w scope l there) (aim_on q.set q.work aim l st) (is_on l is)) in
       record {
         run = λ now stands met ok.
             or_well (λ after. first_of z w arms rs none (x ∷ []) (record after { opened = now.opened }))
@@ -108,16 +110,17 @@ module _ (q : Scene) (w : World Item) (grows : ArmsGrow q w) (scope : Scope) (pl
             { state = ok.state; names = ok.names }))
             (λ after ok2. more.run (record after { opened = now.opened }) stands met (record { state = ok2.state; names = ok2.names }));
       }
-  cases_run m k none ends [] [] (r ∷ rs) ms h first there st is = absurd h
-  cases_run m k none ends [] (p ∷ ps) rs ms h first there st is = absurd h
-  cases_run m k none ends (arm ∷ arms) [] rs ms h first there st is = absurd h
-  cases_run m k none ends (arm ∷ arms) (p ∷ ps) [] ms h first there st is = absurd h
+  cases_run m k none ends [] [] (r ∷ rs) ms h first le there st is = absurd h
+  cases_run m k none ends [] (p ∷ ps) rs ms h first le there st is = absurd h
+  cases_run m k none ends (arm ∷ arms) [] rs ms h first le there st is = absurd h
+  cases_run m k none ends (arm ∷ arms) (p ∷ ps) [] ms h first le there st is = absurd h
 
 -- ---- `match`
 
 module _ (free : FreeJoining) (q : Scene) (w : World Item) (grows : ArmsGrow q w) (scope : Scope) (place : Place) (shape : Shape) where
   pub match_fine : {n : ℕ} {f : Point n} {facts : List Fact} (k : ℕ) (aim : Aim) (arms : List Arm) (a : Part) (ra : Run Item Item) (ps : List Part)
-      (rs : List (Run Item Item)) (cast : Bool) → Fine q w cast false a ra → AllMatch (falling q) w arms → Bodies q w arms ps rs → Surrounds q w f scope → AimSteady q.set q.work f aim
+      (rs : List (Run Item Item)) (cast : Bool) → Fine q w cast false a ra → AllMatch (falling q) w arms → Bodies q w arms ps rs
+      → Surrounds q w f scope → AimSteady q.set q.work f aim
       → Beside q n f facts (kind_walk place k (K.Match arms shape) (a ∷ ps) (here q) scope aim)
       (kind_meaning (checked q.set.around.types q.cases) w place k (K.Match arms shape) (ra ∷ rs))
       (λ m g i x. Comes q.set q.work g false true false aim i x)
@@ -129,6 +132,6 @@ module _ (free : FreeJoining) (q : Scene) (w : World Item) (grows : ArmsGrow q w
       (λ m g fs i x l c. joined q aim (joining free q m aim) place shape (case_ways place arms ps (here q) scope aim i)
       (first_of (checked q.set.around.types q.cases) w arms rs (stops (MatchFailure place)) (x ∷ [])) false (aim_on q.set q.work aim l st)
       (cases_run q w grows scope place i x aim m (joining free q m aim) (stops (MatchFailure place)) (λ now ok j h d es holds.
-      well_stopped (MatchFailure place) now) arms ps rs ms hs None (surrounds_on q w scope l there) (aim_on q.set q.work aim l st)
+      well_stopped (MatchFailure place) now) arms ps rs ms hs None (omega arith) (surrounds_on q w scope l there) (aim_on q.set q.work aim l st)
       (free_is cast a.is_nested a.never_ends i x c))))
       (λ m g fs i x l d. given_back i d)

@@ -1,5 +1,5 @@
 -- Where ways meet: one of them runs, and its value is opened behind all of them.
-use Rattle.std.proofs.Common.{◌≡◌, ℕ, Bool, true, false, List, [], ◌∷◌, ◌++◌, Option, None}
+use Rattle.std.proofs.Common.{◌≡◌, ◌≤◌, ℕ, Bool, true, false, List, [], ◌∷◌, ◌++◌, Option, None, arith}
 use Rattle.std.specs.Prelude.{is_none}
 use Rattle.sail_base.specs.declared.place.Place.{Place}
 use Rattle.sail_types.specs.declared.shapes.Shape.{Shape}
@@ -18,8 +18,9 @@ use Rattle.call_notes.specs.Ends.{opened_at}
 use Rattle.expression_steps.specs.Statements.{Way, each_way, first_behind, meeting, meeting_from, met_value, one_way, way_behind}
 use Rattle.checked_meaning.specs.Items.{Item}
 use Rattle.checked_meaning.specs.Checked.{checked}
-use Rattle.value_laws.specs.Known.{Point, Later}
-use Rattle.value_laws.proofs.Steps.{agree_on, later_on, no_later}
+use Rattle.value_laws.specs.Known.{Point}
+use Rattle.soundness_steps.specs.Points.{Later}
+use Rattle.soundness_steps.proofs.Points.{agree_on, later_on, no_later}
 use Rattle.soundness_steps.specs.Works.{Scene, here}
 use Rattle.soundness_steps.specs.Steps.{Beside, Grows, Walks}
 use Rattle.soundness_steps.specs.Values.{AimSteady, Belongs, Comes, Is, IsMadeAs, IsMet, IsWanted}
@@ -119,20 +120,20 @@ joining free q m Aims.Free = free q m
 joining free q m (Aims.Given r) = record {
   grows = behind_grows q m;
   Met = CameTo q m r;
-  taken = λ falls. wanted_taken (record q { may_fall = falls }) m r;
-  opened = λ place shape o x n f facts st h. wanted_opened q m r place o x n f facts st h;
+  taken = λ falls nested w after c first n f facts le. wanted_taken (record q { may_fall = falls }) m r nested w after c first n f facts;
+  opened = λ place shape o x n f facts le st h. wanted_opened q m r place o x n f facts st h;
 }
 joining free q m (Aims.PartOf r) = record {
   grows = behind_grows q m;
   Met = CameTo q m r;
-  taken = λ falls. wanted_taken (record q { may_fall = falls }) m r;
-  opened = λ place shape o x n f facts st h. walks_mean (λ j g i y. (y.0, tt)) (wanted_opened q m r place o x n f facts st h);
+  taken = λ falls nested w after c first n f facts le. wanted_taken (record q { may_fall = falls }) m r nested w after c first n f facts;
+  opened = λ place shape o x n f facts le st h. walks_mean (λ j g i y. (y.0, tt)) (wanted_opened q m r place o x n f facts st h);
 }
 joining free q m (Aims.Due r) = record {
   grows = behind_grows q m;
   Met = CameTo q m r;
-  taken = λ falls. wanted_taken (record q { may_fall = falls }) m r;
-  opened = λ place shape o x n f facts st h. wanted_opened q m r place o x n f facts st h;
+  taken = λ falls nested w after c first n f facts le. wanted_taken (record q { may_fall = falls }) m r nested w after c first n f facts;
+  opened = λ place shape o x n f facts le st h. wanted_opened q m r place o x n f facts st h;
 }
 
 -- what ways come to, once they are joined
@@ -151,17 +152,18 @@ pub joined : (q : Scene) {n : ℕ} {f : Point n} {facts : List Fact} (aim : Aim)
 joined q {n} aim k place shape ws c never_ends st h =
     next_is (meeting_from (here q) place shape (wanted aim) ws)
     (then_walks (met_value (here q) place shape (wanted aim) n) h (λ m g fs o x l e.
-    walks_mean (λ j p i d. came q aim never_ends i x d.0 d.1 e.1) (k.opened place shape o x m g fs (aim_on q.set q.work aim l st) e.0)))
+    walks_mean (λ j p i d. came q aim never_ends i x d.0 d.1 e.1) (k.opened place shape o x m g fs l.onward (aim_on q.set q.work aim l st) e.0)))
 
 -- the way that runs, behind others that don't
 pub behind_others : (q : Scene) (m : ℕ) (aim : Aim) (k : Joining q m aim) (nested : Bool) (before : List Way) (w : Way) (after : List Way) (c : Run Item Item)
     {n : ℕ} {f : Point n} {facts : List Fact} (first : Option Indices)
-    → AllGrow before → AllGrow after
+    → m ≤ n → AllGrow before → AllGrow after
     → ((j : ℕ) (g : Point j) → Later f g → Beside q j g facts w.walk c (λ i p d x. Comes q.set q.work p true nested w.never_ends (branch_aim aim) d x))
     → Beside q n f facts (each_way (here q) (is_none (wanted aim)) m (before ++ w ∷ after) first) ((checked q.set.around.types q.cases).inside c)
     (λ j g o x. k.Met j g o x × (w.never_ends ≡ false))
-behind_others q m aim k nested [] w after c {n} {f} {facts} first h a run = k.taken q.may_fall nested w after c first n f facts a (run n f (no_later f))
-behind_others q m aim k nested (v ∷ before) w after c first h a run =
+behind_others q m aim k nested [] w after c {n} {f} {facts} first le h a run =
+    k.taken q.may_fall nested w after c first n f facts le a (run n f (no_later f))
+behind_others q m aim k nested (v ∷ before) w after c first le h a run =
     runs_over (each_way (here q) (is_none (wanted aim)) m (before ++ w ∷ after)) (λ i. first_behind (is_none (wanted aim)) v.never_ends first i)
     (way_behind (here q) (is_none (wanted aim)) m v first) (k.grows v first h.0) (λ j g o l.
-    behind_others q m aim k nested before w after c o h.1 a (λ i p l2. run i p (later_on l l2)))
+    behind_others q m aim k nested before w after c o (let on = l.onward in omega (arith, le, on)) h.1 a (λ i p l2. run i p (later_on l l2)))

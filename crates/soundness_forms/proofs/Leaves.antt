@@ -26,7 +26,8 @@ use Rattle.checked_meaning.specs.Items.{Item}
 use Rattle.checked_meaning.specs.Checked.{checked}
 use Rattle.value_laws.specs.Belonging.{Integers, standing, closed}
 use Rattle.value_laws.specs.Known.{Point, Agree}
-use Rattle.value_laws.proofs.Steps.{agree_on, no_later, same}
+use Rattle.value_laws.proofs.Steps.{same}
+use Rattle.soundness_steps.proofs.Points.{agree_on, no_later}
 use Rattle.soundness_steps.specs.Works.{Scene, here}
 use Rattle.soundness_steps.specs.States.{Sound}
 use Rattle.soundness_steps.specs.Steps.{EndsWell, well_given, Beside, Walks, no_walk}

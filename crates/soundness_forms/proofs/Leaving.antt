@@ -28,7 +28,8 @@ use Rattle.expression_steps.specs.Parts.{Part}
 use Rattle.checked_meaning.specs.Checked.{checked}
 use Rattle.checked_meaning.specs.Items.{Item}
 use Rattle.value_laws.specs.Known.{Point}
-use Rattle.value_laws.proofs.Steps.{agree_on, later_on, same}
+use Rattle.value_laws.proofs.Steps.{same}
+use Rattle.soundness_steps.proofs.Points.{agree_on, later_on}
 use Rattle.soundness_steps.specs.Works.{Scene, here}
 use Rattle.soundness_steps.specs.States.{IsAnswer}
 use Rattle.soundness_steps.specs.Steps.{Beside, Walks, well_returned, well_stopped}

@@ -15,7 +15,8 @@ use Rattle.pattern_notes.specs.Patterns.{looks, one_match}
 use Rattle.pattern_notes.specs.declared.matching.Matching.{Matching}
 use Rattle.checked_meaning.specs.Checked.{checked}
 use Rattle.checked_meaning.specs.Items.{Item}
-use Rattle.value_laws.specs.Known.{Point, Later}
+use Rattle.value_laws.specs.Known.{Point}
+use Rattle.soundness_steps.specs.Points.{Later}
 use Rattle.soundness_steps.specs.Works.{Kept, Scene, here}
 use Rattle.soundness_steps.specs.Steps.{Beside, well_stopped}
 use Rattle.soundness_steps.specs.Values.{Is}

@@ -17,8 +17,9 @@ use Rattle.call_notes.specs.Noted.{node_ended, node_given, node_made, numbers_gi
 use Rattle.checked_meaning.specs.Items.{Item}
 use Rattle.checked_meaning.specs.Checked.{checked}
 use Rattle.value_laws.specs.Belonging.{has}
-use Rattle.value_laws.specs.Known.{Point, Later}
-use Rattle.value_laws.proofs.Steps.{agree_on, later_on}
+use Rattle.value_laws.specs.Known.{Point}
+use Rattle.soundness_steps.specs.Points.{Later}
+use Rattle.soundness_steps.proofs.Points.{agree_on, later_on}
 use Rattle.soundness_steps.specs.Works.{Work, Setting, Scene, here}
 use Rattle.soundness_steps.specs.Steps.{Beside}
 use Rattle.soundness_steps.specs.Values.{AllTyped, AimSteady, Belongs, Comes, Has, Is, IsSteady}

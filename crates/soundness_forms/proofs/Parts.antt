@@ -21,11 +21,12 @@ use Rattle.call_notes.specs.Ends.{any_never, is_never, is_never_form}
 use Rattle.expression_steps.specs.Parts.{Part, each_walk}
 use Rattle.checked_meaning.specs.Items.{Item, vals}
 use Rattle.value_laws.specs.Belonging.{Integers, Meant, each_holds, form_holds, meant, standing}
-use Rattle.value_laws.specs.Known.{Point, Agree, Later}
+use Rattle.value_laws.specs.Known.{Point, Agree}
 use Rattle.value_laws.proofs.Basics.{two}
 use Rattle.value_laws.proofs.Meanings.{tuples_same}
 use Rattle.value_laws.proofs.Steps.{same}
 use Rattle.value_laws.proofs.Values.{has_form, meant_is}
+use Rattle.soundness_steps.specs.Points.{Later}
 use Rattle.soundness_steps.specs.Works.{Scene, Setting, Work, here}
 use Rattle.soundness_steps.specs.Steps.{Beside}
 use Rattle.soundness_steps.specs.Values.{AimSteady, AllHave, AllTyped, Has, Is, IsMet}

@@ -24,7 +24,8 @@ use Rattle.expression_steps.specs.Expressions.{kind_walk}
 use Rattle.checked_meaning.specs.Checked.{checked}
 use Rattle.checked_meaning.specs.Items.{Item}
 use Rattle.value_laws.specs.Known.{Point}
-use Rattle.value_laws.proofs.Steps.{agree_on, same}
+use Rattle.value_laws.proofs.Steps.{same}
+use Rattle.soundness_steps.proofs.Points.{agree_on}
 use Rattle.soundness_steps.specs.Works.{Scene, Setting, Work, here}
 use Rattle.soundness_steps.specs.Steps.{Beside}
 use Rattle.soundness_steps.specs.Values.{AimSteady, Belongs, Comes, Has, Is, IsSteady}

@@ -23,8 +23,9 @@ use Rattle.checked_meaning.specs.Items.{Item}
 use Rattle.value_laws.specs.Belonging.{Integers, standing, closeds, index_there}
 use Rattle.value_laws.specs.Known.{Point, Agree}
 use Rattle.value_laws.proofs.Arguments.{assigned_there}
-use Rattle.value_laws.proofs.Steps.{no_later, same}
+use Rattle.value_laws.proofs.Steps.{same}
 use Rattle.value_laws.proofs.Values.{closed_is}
+use Rattle.soundness_steps.proofs.Points.{no_later}
 use Rattle.soundness_steps.specs.Works.{Scene, here}
 use Rattle.soundness_steps.specs.Covers.{given_there}
 use Rattle.soundness_steps.specs.Steps.{Walks}

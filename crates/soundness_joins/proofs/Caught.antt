@@ -1,5 +1,5 @@
 -- `try`, beside its run.
-use Rattle.std.proofs.Common.{◌≡◌, ℕ, pos, true, false, List, [], ◌∷◌, ◌++◌, Option, Some, None, refl, sym, ap, ◌∙◌, subst}
+use Rattle.std.proofs.Common.{◌≡◌, ℕ, pos, true, false, List, [], ◌∷◌, ◌++◌, Option, Some, None, refl, sym, ap, ◌∙◌, subst, arith}
 use Rattle.std.proofs.lemmas.List.{append-nil}
 use Rattle.std.specs.Prelude.{is_none}
 use Rattle.sail_base.specs.declared.place.Place.{Place}
@@ -38,8 +38,8 @@ use Rattle.value_laws.specs.Known.{Point}
 use Rattle.value_laws.proofs.Arguments.{assigned_there}
 use Rattle.value_laws.proofs.Basics.{no}
 use Rattle.value_laws.proofs.Meanings.{named_same}
-use Rattle.value_laws.proofs.Steps.{no_later}
 use Rattle.value_laws.proofs.Values.{belongs_form, form_asked, meant_is}
+use Rattle.soundness_steps.proofs.Points.{no_later}
 use Rattle.soundness_steps.specs.Works.{Scene, here}
 use Rattle.soundness_steps.specs.Noted.{form_gives, type_gives, variables_given, with_given}
 use Rattle.soundness_steps.specs.States.{IsThrown, Sound, nothing_stands}
@@ -163,7 +163,7 @@ module _ (free : FreeJoining) (q : Scene) (w : World Item) (grows : ArmsGrow q w
       joined q aim k place shape (try_way a (here q) scope aim ∷ case_ways place arms ps (here q) scope aim over)
       ((checked q.set.around.types q.cases).inside ra) false st
       (means (λ m g o y l e. (e.0, refl))
-      (k.taken q.may_fall a.is_nested (try_way a (here q) scope aim) (case_ways place arms ps (here q) scope aim over) ra None n f facts
+      (k.taken q.may_fall a.is_nested (try_way a (here q) scope aim) (case_ways place arms ps (here q) scope aim over) ra None n f facts (omega arith)
       (ways_grow arms ps rs hs)
       (ha.walks q.names q.may_fall no_guard n f facts scope (branch_aim aim) there (branch_steady q f aim st))))
 
@@ -182,6 +182,7 @@ module _ (free : FreeJoining) (q : Scene) (w : World Item) (grows : ArmsGrow q w
       (way_behind (here q) (is_none (wanted aim)) n (try_way a (here q) scope aim) None)
       (k.grows (try_way a (here q) scope aim) None (ha.grows (here q) scope (branch_aim aim)))
       (λ j g o l. cases_run q w grows scope place over x aim n k (throws v) (λ now ok i e m fs Holds. well_thrown v now is ok) arms ps rs ms hs o
+      (let on = l.onward in omega (arith, on))
       (surrounds_on q w scope l there) (aim_on q.set q.work aim l st) (is_on l h)))
 
   pub try_fine : {n : ℕ} {f : Point n} {facts : List Fact} (k : ℕ) → Surrounds q w f scope → AimSteady q.set q.work f aim

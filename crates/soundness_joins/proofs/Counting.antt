@@ -37,11 +37,13 @@ use Rattle.expression_steps.specs.Parts.{Part, number_before, number_walk, numbe
 use Rattle.expression_steps.specs.Statements.{bounds_of, counted, turn_begun, turn_named, turns_walk}
 use Rattle.checked_meaning.specs.Items.{Item}
 use Rattle.value_laws.specs.Belonging.{Integers, standing}
-use Rattle.value_laws.specs.Known.{Agree, Later, Point}
+use Rattle.value_laws.specs.Known.{Agree, Point}
 use Rattle.value_laws.proofs.Meanings.{integers_same}
 use Rattle.value_laws.proofs.Numbers.{at_most_is, variable_is}
-use Rattle.value_laws.proofs.Steps.{agree_on, between_goes, fresh_called, later_on, no_later, same}
+use Rattle.value_laws.proofs.Steps.{between_goes, fresh_called, same}
 use Rattle.value_laws.proofs.Values.{meant_is}
+use Rattle.soundness_steps.specs.Points.{Later}
+use Rattle.soundness_steps.proofs.Points.{agree_on, later_on, no_later}
 use Rattle.soundness_steps.specs.Works.{Scene, here, is_value}
 use Rattle.soundness_steps.specs.States.{Sound}
 use Rattle.soundness_steps.specs.Steps.{AllMet, Beside, Grows, Stands, Walks}

@@ -6,3 +6,6 @@ pub mod Loops
 pub mod Counting
 pub mod JoinedKinds
 pub mod TryKind
+pub mod AgreementCounts
+pub mod Wholes
+pub mod Meeting

@@ -39,11 +39,13 @@ use Rattle.expression_steps.specs.Parts.{Part}
 use Rattle.expression_steps.specs.Statements.{loop_walk, natural_type}
 use Rattle.checked_meaning.specs.Items.{Item}
 use Rattle.value_laws.specs.Belonging.{closeds, standing}
-use Rattle.value_laws.specs.Known.{Point, Later}
+use Rattle.value_laws.specs.Known.{Point}
 use Rattle.value_laws.proofs.Arguments.{assigned_there}
 use Rattle.value_laws.proofs.Basics.{no}
-use Rattle.value_laws.proofs.Steps.{later_on, same}
+use Rattle.value_laws.proofs.Steps.{same}
 use Rattle.value_laws.proofs.Values.{belongs_form, closed_is, form_asked}
+use Rattle.soundness_steps.specs.Points.{Later}
+use Rattle.soundness_steps.proofs.Points.{later_on}
 use Rattle.soundness_steps.specs.Works.{Scene, here}
 use Rattle.soundness_steps.specs.States.{Sound}
 use Rattle.soundness_steps.specs.Steps.{AllMet, Beside, Stands}

@@ -32,7 +32,7 @@ use Rattle.value_laws.specs.Belonging.{Integers, meant, standing}
 use Rattle.value_laws.specs.Known.{Point, Agree}
 use Rattle.value_laws.proofs.Knowing.{truth_means}
 use Rattle.value_laws.proofs.Numbers.{truth_is}
-use Rattle.value_laws.proofs.Steps.{agree_on, later_on}
+use Rattle.soundness_steps.proofs.Points.{agree_on, later_on}
 use Rattle.soundness_steps.specs.Works.{Scene, here}
 use Rattle.soundness_steps.specs.Noted.{sized}
 use Rattle.soundness_steps.specs.Steps.{Beside, Walks}

@@ -19,8 +19,9 @@ use Rattle.value_indices.specs.Steps.{Walk, bind, give}
 use Rattle.call_arguments.specs.declared.aims.Aim.{Aim}
 use Rattle.call_notes.specs.Ends.{settled}
 use Rattle.value_laws.specs.Belonging.{Integers}
-use Rattle.value_laws.specs.Known.{Point, Later}
+use Rattle.value_laws.specs.Known.{Point}
 use Rattle.checked_meaning.specs.Items.{Item}
+use Rattle.soundness_steps.specs.Points.{Later}
 use Rattle.soundness_steps.specs.Works.{Scene, here}
 use Rattle.soundness_steps.specs.Noted.{known, sized}
 use Rattle.soundness_steps.specs.Steps.{AllMet, Beside, no_walk}

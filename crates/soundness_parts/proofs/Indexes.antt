@@ -20,8 +20,9 @@ use Rattle.call_notes.specs.Ends.{integer_number, number_form}
 use Rattle.expression_steps.specs.Parts.{Part, number_before, number_walk, numbers_behind, numbers_walk}
 use Rattle.checked_meaning.specs.Items.{Item}
 use Rattle.value_laws.specs.Belonging.{Integers, standing}
-use Rattle.value_laws.specs.Known.{Point, Agree, Later}
-use Rattle.value_laws.proofs.Steps.{agree_on}
+use Rattle.value_laws.specs.Known.{Point, Agree}
+use Rattle.soundness_steps.specs.Points.{Later}
+use Rattle.soundness_steps.proofs.Points.{agree_on}
 use Rattle.soundness_steps.specs.Works.{Scene, here}
 use Rattle.soundness_steps.specs.Steps.{Beside, Walks, EndsWell, well_given, well_no, well_returned, well_stopped, well_thrown}
 use Rattle.soundness_steps.specs.Values.{Is}

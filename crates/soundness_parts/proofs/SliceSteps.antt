@@ -26,7 +26,8 @@ use Rattle.expression_forms.specs.declared.ways.Reached.{Reached}
 use Rattle.expression_steps.specs.Parts.{Part, number_before, number_walk, numbers_behind, numbers_walk}
 use Rattle.expression_steps.specs.Values.{Passed, Taken, no_way, passed, reached_by, read_taken, slice_reached, taken, then_on, way_taken, way_walk}
 use Rattle.checked_meaning.specs.Items.{Item}
-use Rattle.value_laws.specs.Known.{Point, Later}
+use Rattle.value_laws.specs.Known.{Point}
+use Rattle.soundness_steps.specs.Points.{Later}
 use Rattle.soundness_steps.specs.Works.{Scene, here}
 use Rattle.soundness_steps.specs.Steps.{Beside, Walks}
 use Rattle.soundness_steps.specs.Values.{Is}

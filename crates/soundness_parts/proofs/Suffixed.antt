@@ -25,7 +25,8 @@ use Rattle.expression_steps.specs.Expressions.{kind_walk, node_end}
 use Rattle.expression_steps.specs.Parts.{Part, numbers_walk}
 use Rattle.expression_steps.specs.Values.{Passed, Taken, indexes_of, no_way, part_walk, passed, read_taken, suffixes_walk, taken, then_on, value_on, way_taken, way_walk}
 use Rattle.checked_meaning.specs.Items.{Item}
-use Rattle.value_laws.specs.Known.{Point, Later}
+use Rattle.value_laws.specs.Known.{Point}
+use Rattle.soundness_steps.specs.Points.{Later}
 use Rattle.soundness_steps.specs.Works.{Scene, here}
 use Rattle.soundness_steps.specs.Steps.{Beside, Walks}
 use Rattle.soundness_steps.specs.Values.{AimSteady, Comes, Is}

@@ -20,9 +20,10 @@ use Rattle.checked_meaning.specs.Items.{Item}
 use Rattle.checked_meaning.specs.Checked.{checked}
 use Rattle.value_laws.specs.Belonging.{Integers, is_of, standing}
 use Rattle.value_laws.specs.Known.{Point, Agree}
-use Rattle.value_laws.proofs.Steps.{agree_on, no_later, same}
+use Rattle.value_laws.proofs.Steps.{same}
 use Rattle.way_laws.specs.Laws.{AreTrue, HasPart}
 use Rattle.way_laws.proofs.Conditions.{none_needed}
+use Rattle.soundness_steps.proofs.Points.{agree_on, no_later}
 use Rattle.soundness_steps.specs.Works.{Scene}
 use Rattle.soundness_steps.specs.Steps.{Beside, Walks}
 use Rattle.soundness_steps.specs.Values.{AllTyped, Is, IsSteady}

@@ -27,13 +27,16 @@ use Rattle.expression_steps.specs.Parts.{Part}
 use Rattle.expression_steps.specs.Values.{part_updated}
 use Rattle.checked_meaning.specs.Items.{Item}
 use Rattle.value_laws.specs.Belonging.{Integers, Meant, is_of, standing}
-use Rattle.value_laws.specs.Known.{AllTrue, Point, Agree, Later}
+use Rattle.value_laws.specs.Known.{AllTrue, Point, Agree}
 use Rattle.value_laws.proofs.Basics.{two}
-use Rattle.value_laws.proofs.Steps.{agree_on, same}
+use Rattle.value_laws.proofs.Steps.{same}
 use Rattle.fitting_laws.specs.Fitting.{Said, Suffices}
 use Rattle.fitting_laws.proofs.Deep.{fitting}
 use Rattle.fitting_laws.proofs.Joining.{also_suffice, says_so, true_all}
 use Rattle.way_laws.specs.Laws.{AreTrue, HasPart}
+use Rattle.soundness_steps.specs.Points.{Later}
+use Rattle.soundness_steps.proofs.Points as Points
+use Rattle.soundness_steps.proofs.Points.{agree_on}
 use Rattle.soundness_steps.specs.Works.{Scene, here}
 use Rattle.soundness_steps.specs.Steps.{Beside, Walks}
 use Rattle.soundness_steps.specs.Values.{AllTyped, Comes, Has, Is, IsMet, IsWanted}
@@ -82,11 +85,11 @@ module _ (q : Scene) {n : ℕ} {f : Point n} (r : Reached) (j : Indices) (v : Va
 
   part_suffices : (nested : Bool) → IsMet q.set q.work f (Aims.Given r.typ) nested v → Suffices q.set.past n f (part_fits (here q) r nested j n) Fits
   part_suffices true met =
-      also_suffice (fits_unless true (here q) j r.typ) (says_so r.conditions (λ g a s. s)) (λ g l. says_so [] (λ c a s. met c (agree_on l a)))
+      also_suffice (fits_unless true (here q) j r.typ) (says_so r.conditions (λ g a s. s)) (λ g l. says_so [] (λ c a s. met c (agree_on (Points.behind l) a)))
   part_suffices false met =
       also_suffice (fits_unless false (here q) j r.typ) (says_so r.conditions (λ g a s. s)) (λ g l.
-      let there = has_on l has in
-      let wants = wanted_on q.set q.work r.typ l wanted in
+      let there = has_on (Points.behind l) has in
+      let wants = wanted_on q.set q.work r.typ (Points.behind l) wanted in
       fitting q.set.around.types q.set.past q.work.types j r.typ n g v wants.1 (λ c a. there.steady c a ∙ sym (there.steady g.integers (same g))) wants.0
       (ap (λ (m : Meant). m.holds v) (there.steady g.integers (same g)) ∙ there.is_so))
 

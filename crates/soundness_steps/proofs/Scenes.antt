@@ -7,8 +7,8 @@ use Rattle.sail_core.specs.Run.{Local, Now, Ended, Run, within, tick, tick_at, o
 use Rattle.value_indices.specs.declared.notes.Fact.{Fact}
 use Rattle.value_indices.specs.Steps.{Walk, give}
 use Rattle.value_laws.specs.Known.{Point}
-use Rattle.value_laws.proofs.Steps.{no_later}
 use Rattle.checked_meaning.specs.Items.{Item}
+use Rattle.soundness_steps.proofs.Points.{no_later}
 use Rattle.soundness_steps.specs.Works.{Kept, Scene}
 use Rattle.soundness_steps.specs.States.{AllKept, Sound}
 use Rattle.soundness_steps.specs.Steps.{Stands, EndsWell, well_given, well_no, well_returned, well_thrown, well_stopped, Beside, no_walk}

@@ -14,10 +14,12 @@ use Rattle.value_indices.specs.declared.notes.Made.{Made}
 use Rattle.value_indices.specs.Steps.{Note, made_note, given_note, Walk, conditions, give, bind, note, assume}
 use Rattle.value_indices.specs.Steps.{next_variable, scoped, claimed, owe, conjunction, Conditions}
 use Rattle.value_laws.specs.Belonging.{Integers, standing, has}
-use Rattle.value_laws.specs.Known.{AllTrue, given_in, Point, Agree, Later, Goes}
-use Rattle.value_laws.proofs.Steps.{same, agree_on, later_on, no_later}
+use Rattle.value_laws.specs.Known.{AllTrue, given_in, Point, Agree, Goes}
+use Rattle.value_laws.proofs.Steps.{same}
 use Rattle.checked_meaning.specs.Items.{Item, item, typs}
 use Rattle.checked_meaning.specs.Checked.{Noted, checked, noting}
+use Rattle.soundness_steps.specs.Points.{Later}
+use Rattle.soundness_steps.proofs.Points.{agree_on, behind, later_on, no_later}
 use Rattle.soundness_steps.specs.Works.{Work, Setting, Scene}
 use Rattle.soundness_steps.specs.Noted.{EachNoted, IsSo, variables_given, with_given, is_made, MadeAs}
 use Rattle.soundness_steps.specs.Covers.{AreSized, HasCase, Notes}
@@ -197,10 +199,10 @@ pub known_walk : {q : Scene} {n : ℕ} {f : Point n} {facts : List Fact} {A : Ty
 known_walk {q} {n} {f} {facts} {w} k = record {
   go = λ noted stands met. record {
     point = k.goes.point;
-    later = k.goes.later;
+    later = behind k.goes.later;
     stands = record {
       there = λ g a.
-          let s = stands.there g (agree_on k.goes.later a) in
+          let s = stands.there g (agree_on (behind k.goes.later) a) in
           record {
             numbers = s.numbers;
             true_there = k.goes.true_there g a s.true_there;
@@ -341,7 +343,7 @@ abbrev pub grown : {n m : ℕ} → Point n → n ≤ m → Point m
 grown f l = record { fixed = f.fixed; integers = f.integers; before = λ i h. let k = f.before i h in omega arith }
 
 pub grown_later : {n m : ℕ} (f : Point n) (l : n ≤ m) → Later f (grown f l)
-grown_later f l = record { onward = l; fixed = λ i h. h; same = λ i h. refl; new = λ i h less. h }
+grown_later f l = record { onward = l; fixed = λ i h. h; same = λ i h. refl }
 
 -- a scope that isn't run: nothing is fixed there
 pub passes_over : {q : Scene} {n : ℕ} {f : Point n} {facts : List Fact} {A C D : Type 0} (k : A → Walk C) {d : Run Item D}

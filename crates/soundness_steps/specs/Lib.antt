@@ -1,6 +1,7 @@
 pub mod Works
 pub mod Noted
 pub mod Covers
+pub mod Points
 pub mod States
 pub mod Calls
 pub mod Steps

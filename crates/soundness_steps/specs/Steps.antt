@@ -8,9 +8,10 @@ use Rattle.sail_core.specs.Run.{Now, Ended, Run}
 use Rattle.value_indices.specs.declared.notes.Fact.{Fact}
 use Rattle.value_indices.specs.Steps.{Note, Walk, went, give}
 use Rattle.value_laws.specs.Belonging.{Integers}
-use Rattle.value_laws.specs.Known.{Point, Agree, Later}
+use Rattle.value_laws.specs.Known.{Point, Agree}
 use Rattle.checked_meaning.specs.Items.{Item}
 use Rattle.checked_meaning.specs.Checked.{Noted}
+use Rattle.soundness_steps.specs.Points.{Later}
 use Rattle.soundness_steps.specs.Works.{Work, Setting, Scene}
 use Rattle.soundness_steps.specs.Noted.{IsSo, with_given}
 use Rattle.soundness_steps.specs.Covers.{AreMet}

@@ -45,9 +45,10 @@ use Rattle.value_laws.specs.Known.{Agree, Point}
 use Rattle.value_laws.proofs.Alike.{asks}
 use Rattle.value_laws.proofs.Basics.{no}
 use Rattle.value_laws.proofs.Meanings.{lists_same}
-use Rattle.value_laws.proofs.Steps.{agree_on, later_on, same}
+use Rattle.value_laws.proofs.Steps.{same}
 use Rattle.value_laws.proofs.Values.{belongs_form, belongs_out, closed_is, form_asked, has_form, meant_is, variable_belongs}
 use Rattle.row_laws.proofs.Steady.{first_same, readings_of, same_lists}
+use Rattle.soundness_steps.proofs.Points.{agree_on, later_on}
 use Rattle.soundness_steps.specs.Works.{Scene, Setting, Work, here}
 use Rattle.soundness_steps.specs.Steps.{Beside, Walks}
 use Rattle.soundness_steps.specs.Values.{AimSteady, AllTyped, Belongs, Comes, Has, Is, IsSteady, IsWanted}

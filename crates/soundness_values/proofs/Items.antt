@@ -21,9 +21,10 @@ use Rattle.expression_steps.specs.Values.{Row, first_like, filled_here, item_lik
 use Rattle.expression_steps.specs.Values.{items_wanted}
 use Rattle.checked_meaning.specs.Items.{Item, vals}
 use Rattle.value_laws.specs.Belonging.{standing}
-use Rattle.value_laws.specs.Known.{Point, Later}
-use Rattle.value_laws.proofs.Steps.{agree_on, later_on}
+use Rattle.value_laws.specs.Known.{Point}
 use Rattle.value_laws.proofs.Values.{closed_is}
+use Rattle.soundness_steps.specs.Points.{Later}
+use Rattle.soundness_steps.proofs.Points.{agree_on, later_on}
 use Rattle.soundness_steps.specs.Works.{Scene, Setting, Work, here}
 use Rattle.soundness_steps.specs.Steps.{Beside, Walks}
 use Rattle.soundness_steps.specs.Values.{AimSteady, AllTyped, Belongs, Is, IsSteady, IsWanted}

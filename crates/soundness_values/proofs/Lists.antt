@@ -51,8 +51,9 @@ use Rattle.value_laws.specs.Belonging.{Integers, standing, closed, form_holds, m
 use Rattle.value_laws.specs.Known.{Point}
 use Rattle.value_laws.proofs.Basics.{two}
 use Rattle.value_laws.proofs.Meanings.{lists_same, vectors_same}
-use Rattle.value_laws.proofs.Steps.{no_later, same}
+use Rattle.value_laws.proofs.Steps.{same}
 use Rattle.value_laws.proofs.Values.{has_form, meant_is}
+use Rattle.soundness_steps.proofs.Points.{no_later}
 use Rattle.soundness_steps.specs.Works.{Scene, Setting, Work, here}
 use Rattle.soundness_steps.specs.Covers as C
 use Rattle.soundness_steps.specs.Steps.{Beside, Walks}

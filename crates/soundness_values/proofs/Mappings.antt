@@ -51,10 +51,12 @@ use Rattle.expression_steps.specs.Parts.{Part, each_walk}
 use Rattle.checked_meaning.specs.Checked.{checked}
 use Rattle.checked_meaning.specs.Items.{Item, vals}
 use Rattle.value_laws.specs.Belonging.{Integers, closed, closeds, is_of, standing}
-use Rattle.value_laws.specs.Known.{Later, Point}
+use Rattle.value_laws.specs.Known.{Point}
 use Rattle.value_laws.proofs.Arguments.{assigned_there}
-use Rattle.value_laws.proofs.Steps.{later_on, no_later, same}
+use Rattle.value_laws.proofs.Steps.{same}
 use Rattle.value_laws.proofs.Values.{closed_is}
+use Rattle.soundness_steps.specs.Points.{Later}
+use Rattle.soundness_steps.proofs.Points.{later_on, no_later}
 use Rattle.soundness_steps.specs.Calls.{After, CallEnds, IsOf, SoundCalls, call_falls, call_gives, call_stops, call_throws}
 use Rattle.soundness_steps.specs.States.{AllKept, Sound, nothing_stands}
 use Rattle.soundness_steps.specs.Works.{Scene, Setting, Work, here}

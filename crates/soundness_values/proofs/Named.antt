@@ -21,9 +21,11 @@ use Rattle.call_fits.proofs.Closed.{closed_same}
 use Rattle.call_fits.proofs.Filled.{filled_full, filled_same}
 use Rattle.fitting_laws.proofs.Holes.{of_full}
 use Rattle.value_laws.specs.Belonging.{Integers, closed, closeds, standing, types_or_own}
-use Rattle.value_laws.specs.Known.{Agree, Later, Point}
-use Rattle.value_laws.proofs.Steps.{agree_on, later_on, same}
+use Rattle.value_laws.specs.Known.{Agree, Point}
+use Rattle.value_laws.proofs.Steps.{same}
 use Rattle.value_laws.proofs.Values.{closed_is}
+use Rattle.soundness_steps.specs.Points.{Later}
+use Rattle.soundness_steps.proofs.Points.{agree_on, later_on}
 use Rattle.soundness_steps.specs.Works.{Scene, Setting, Work, here}
 use Rattle.soundness_steps.specs.Steps.{Walks}
 use Rattle.soundness_steps.specs.Values.{AllHave, Belongs, Has, IsWanted}

@@ -18,11 +18,14 @@ use Rattle.call_notes.specs.Calls.{made_named, parts_owed}
 use Rattle.call_notes.specs.Ends.{never_value}
 use Rattle.fitting_laws.proofs.Standing.{EachHad}
 use Rattle.value_laws.specs.Belonging.{Integers, Meant, closed, closeds, has, index_there, meant, standing}
-use Rattle.value_laws.specs.Known.{Agree, Later, Point}
+use Rattle.value_laws.specs.Known.{Agree, Point}
 use Rattle.value_laws.proofs.Arguments.{assigned_there}
 use Rattle.value_laws.proofs.Meanings.{named_same}
-use Rattle.value_laws.proofs.Steps.{agree_on, no_later, same}
+use Rattle.value_laws.proofs.Steps as Knowing
+use Rattle.value_laws.proofs.Steps.{same}
 use Rattle.value_laws.proofs.Values.{meant_is}
+use Rattle.soundness_steps.specs.Points.{Later}
+use Rattle.soundness_steps.proofs.Points.{agree_on, no_later}
 use Rattle.soundness_steps.specs.Works.{Scene, Setting, Work, here}
 use Rattle.soundness_steps.specs.Steps.{Walks}
 use Rattle.soundness_steps.specs.Values.{AllHave, Has}
@@ -104,7 +107,7 @@ module _ (fit : FitsSuffice) (q : Scene) {n : ℕ} (f : Point n) (u : ℕ) (ps :
       bind (parts_owed (here q) places known ts is js qs) (λ x. give (I.Named u js qs)))) (λ m g i. NamedIs g i))
       (sym (none_never q.set q.work f is vs have))
       (walks_on (λ js. bind (parts_owed (here q) places known ts is js qs) (λ x. give (I.Named u js qs)))
-      (walks_later (known_walk (all_go q.set.around.types q.set.past q.work.types f ts is vs (all_had q.set q.work f is vs have) (no_later f) 0
+      (walks_later (known_walk (all_go q.set.around.types q.set.past q.work.types f ts is vs (all_had q.set q.work f is vs have) (Knowing.no_later f) 0
       (number_parameters ps)))) (λ m g fs js l k.
       let indices : IndicesStay q.set q.work g js = λ h a. k.1 h a ∙ sym (k.1 g.integers (same g)) in
       let types : TypesStay q.set q.work g qs = types_on q.set q.work qs l stays in

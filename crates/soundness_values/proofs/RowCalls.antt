@@ -20,7 +20,8 @@ use Rattle.expression_steps.specs.Expressions.{kind_walk}
 use Rattle.expression_steps.specs.Parts.{Part, each_walk}
 use Rattle.checked_meaning.specs.Checked.{checked}
 use Rattle.checked_meaning.specs.Items.{Item, vals}
-use Rattle.value_laws.specs.Known.{Point, Later}
+use Rattle.value_laws.specs.Known.{Point}
+use Rattle.soundness_steps.specs.Points.{Later}
 use Rattle.soundness_steps.specs.Works.{Scene, here}
 use Rattle.soundness_steps.specs.Steps.{Beside}
 use Rattle.soundness_steps.specs.Values.{AimSteady, AllHave, AllTyped, Comes, Is}

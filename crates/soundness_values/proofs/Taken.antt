@@ -6,13 +6,14 @@ use Rattle.value_indices.specs.Steps.{Walk}
 use Rattle.value_indices.specs.declared.notes.Fact.{Fact}
 use Rattle.wide_types.specs.Widening.{wide_value}
 use Rattle.value_fits.specs.Fitting.{fits, item_fits}
-use Rattle.value_laws.specs.Known.{Later, Point}
-use Rattle.value_laws.proofs.Steps.{agree_on}
+use Rattle.value_laws.specs.Known.{Point}
 use Rattle.fitting_laws.proofs.Counted.{fits_count}
 use Rattle.fitting_laws.proofs.Deep.{fits_go}
 use Rattle.fitting_laws.proofs.Forms.{item_suffices}
 use Rattle.meeting_laws.proofs.Forms.{is_wide, widened_is}
 use Rattle.meeting_laws.proofs.Widened.{value_widens}
+use Rattle.soundness_steps.specs.Points.{Later}
+use Rattle.soundness_steps.proofs.Points.{agree_on}
 use Rattle.soundness_steps.specs.Works.{Scene}
 use Rattle.soundness_steps.specs.Steps.{Walks}
 use Rattle.soundness_steps.proofs.Steps.{walks_mean}
