@@ -1,24 +1,30 @@
 -- By induction: the values so far are those of the names so far.
-use Rattle.std.proofs.Common.{◌≡◌, sym, refl, subst, ap, ℕ, suc, List, [], ◌∷◌, ◌++◌}
+use Rattle.std.proofs.Common.{◌≡◌, sym, refl, subst, ap, ℕ, suc, List, [], ◌∷◌, ◌++◌, map}
 use Rattle.sail_types.specs.Numbers.{Positive}
 use Rattle.sail_types.specs.declared.values.Value.{Value}
 use Rattle.model_state.specs.RunState.{RunState}
-use Rattle.sail_core.specs.Run.{Ended}
+use Rattle.sail_core.specs.Run.{Ended, Local}
 use Rattle.sail_core.specs.Start.{Added, Opened, after_opening, begun, nowhere, opening_run, openings_from}
 use Rattle.sail_core.specs.declared.model.CoreModel.{CoreModel}
 use Rattle.sail_core.specs.declared.model.Opening.{Opening}
 use Rattle.sail_core.specs.declared.model.OpeningKind.{OpeningKind}
 use Rattle.sail_core.specs.declared.model.OpeningKind.TheVariants as O
+use Rattle.sail_core.specs.declared.patterns.Arm.{Arm}
+use Rattle.pattern_leaves.specs.declared.names.Bound.{Bound}
 use Rattle.pattern_leaves.specs.declared.names.TopLevel.{TopLevel}
-use Rattle.constraint_gen.specs.Models.{around_with, lets_behind, names_of}
+use Rattle.constraint_gen.specs.Models.{around_with, lets_behind, names_of, top_level}
 use Rattle.checked_meaning.specs.Checked.{Cases, Checks, checked, checking}
 use Rattle.checked_meaning.specs.Items.{Item}
+use Rattle.value_laws.specs.Known.{Point}
 use Rattle.soundness_steps.specs.Works.{nobody}
+use Rattle.soundness_forms.specs.Patterns.{Binds}
 use Rattle.soundness_forms.specs.Worlds.{LetsAre}
 use Rattle.soundness_openings.specs.Initials.{OpeningEnds, opening_gives, opening_stops, pure_setting}
-use Rattle.soundness_openings.specs.Whole.{KindStands, OpenedRight, OpeningsAreSound, OpeningsStand}
+use Rattle.soundness_openings.specs.Lets.{let_found}
+use Rattle.soundness_openings.specs.Whole.{KindStands, LetStands, OpenedRight, OpeningsAreSound, OpeningsStand}
 use Rattle.soundness_openings.proofs.Initials.{initials_sound}
 use Rattle.soundness_openings.proofs.Lets.{lets_end}
+use Rattle.soundness_openings.proofs.Told.{names_told}
 
 module _ (m : CoreModel) (past : Positive) where
   abbrev Are : List TopLevel → List Value → Type 0
@@ -30,6 +36,23 @@ module _ (m : CoreModel) (past : Positive) where
   behind lets (l ∷ ls) (v ∷ vs) a = (a.0, behind lets ls vs a.1)
   behind lets [] (v ∷ vs) a = absurd a
   behind lets (l ∷ ls) [] a = absurd a
+
+  before : (lets names : List TopLevel) (vs : List Value) → LetsAre (pure_setting m past lets) nobody names vs → Are names vs
+  before lets [] [] a = tt
+  before lets (l ∷ ls) (v ∷ vs) a = (a.0, before lets ls vs a.1)
+  before lets [] (v ∷ vs) a = absurd a
+  before lets (l ∷ ls) [] a = absurd a
+
+  names_are : (names : List TopLevel) (vs : List Value) (cases : Cases) (o : Opening) (arm : Arm)
+      → LetStands (record { model = m; past = past; names = names; values = vs }) cases o arm
+      → (p : Point (let_found m names o arm [] 0).next) (locals : List (Local Item))
+      → Binds (pure_setting m past names) nobody p (let_found m names o arm [] 0).value locals
+      → Are (names_of (around_with m names) o (O.Let arm)) (map (λ (l : Local Item). l.held.val) locals)
+  names_are names vs cases o arm s p locals binds =
+      let found : List Bound = (let_found m names o arm [] 0).value in
+      let values : List Value = map (λ (l : Local Item). l.held.val) locals in
+      subst (λ (bs : List Bound). Are (map top_level bs) values) s.same_names (before names (map top_level found) values
+      (names_told (pure_setting m past names) (let_found m names o arm [] 0).next p found locals (s.told p) binds))
 
   both : (names others : List TopLevel) (vs us : List Value) → Are names vs → Are others us → Are (names ++ others) (vs ++ us)
   both [] others [] us a b = b
@@ -53,7 +76,8 @@ module _ (m : CoreModel) (past : Positive) where
   one_ends names vs are cases o (O.Let arm) is s =
       as_adds (names_of (around_with m names) o (O.Let arm)) _
       (λ a h. record {
-        are = subst (λ (c : Added). Are (names_of (around_with m names) o (O.Let arm)) c.values) (sym h.is_added) (s.names_are h.point h.locals h.binds);
+        are = subst (λ (c : Added). Are (names_of (around_with m names) o (O.Let arm)) c.values)
+            (sym h.is_added) (names_are names vs cases o arm s h.point h.locals h.binds);
         stays = ap (λ (c : Added). c.change (nowhere m.types)) h.is_added;
       })
       (lets_end m past names vs cases (behind names names vs are) o arm is s.value s.matches s.met)

@@ -1,3 +1,4 @@
 pub mod Initials
 pub mod Lets
+pub mod Told
 pub mod Whole

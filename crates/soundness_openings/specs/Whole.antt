@@ -1,9 +1,8 @@
 -- Openings one after the other: none is stuck, and the names of top-level lets have such values as the walk tells of them.
-use Rattle.std.specs.Prelude.{◌≡◌, ℕ, suc, true, false, List, [], ◌∷◌, ◌++◌, map}
+use Rattle.std.specs.Prelude.{◌≡◌, ℕ, suc, true, false, List, [], ◌∷◌, ◌++◌}
 use Rattle.sail_types.specs.Numbers.{Positive}
 use Rattle.sail_types.specs.declared.types.Typ.{Typ}
 use Rattle.sail_types.specs.declared.values.Value.{Value}
-use Rattle.sail_core.specs.Run.{Local}
 use Rattle.sail_core.specs.Start.{Opened, nowhere, opened, opened_not, opened_to, opening_world, openings_of}
 use Rattle.sail_core.specs.declared.model.CoreModel.{CoreModel}
 use Rattle.sail_core.specs.declared.model.Opening.{Opening}
@@ -12,17 +11,17 @@ use Rattle.sail_core.specs.declared.model.OpeningKind.TheVariants as O
 use Rattle.sail_core.specs.declared.patterns.Arm.{Arm}
 use Rattle.pattern_leaves.specs.declared.names.TopLevel.{TopLevel}
 use Rattle.expression_steps.specs.Expressions.{part}
-use Rattle.constraint_gen.specs.Models.{around_of, around_with, names_of}
+use Rattle.constraint_gen.specs.Models.{around_of, around_with, let_walk, names_of}
 use Rattle.checked_meaning.specs.Checked.{Cases, Checks, checking}
-use Rattle.checked_meaning.specs.Items.{Item}
 use Rattle.value_laws.specs.Known.{Point}
 use Rattle.soundness_steps.specs.Works.{nobody}
 use Rattle.soundness_steps.specs.Covers.{AreMet}
 use Rattle.soundness_forms.specs.Forms.{at}
-use Rattle.soundness_forms.specs.Patterns.{Binds, LetMatches}
+use Rattle.soundness_forms.specs.Patterns.{LetMatches}
 use Rattle.soundness_forms.specs.Worlds.{LetsAre}
 use Rattle.soundness_openings.specs.Initials.{ValueStands, initial_aim, pure_around, pure_scene, pure_setting}
 use Rattle.soundness_openings.specs.Lets.{let_found}
+use Rattle.soundness_openings.specs.Told.{EachStands}
 
 -- behind which names an opening stands, and the values that they have there
 pub record Behind : Type 0 where
@@ -38,14 +37,16 @@ pub record RegisterStands (b : Behind) (cases : Cases) (o : Opening) : Type 0 wh
   pub met : AreMet (pure_setting b.model b.past b.names) nobody (λ d. false) cases
       ((part o.value).walk (pure_around b.model b.names) [] (initial_aim typ) [] 0).notes
 
--- a let; what its pattern binds is as the names are told elsewhere
+-- a let
 pub record LetStands (b : Behind) (cases : Cases) (o : Opening) (arm : Arm) : Type 0 where
   pub value : ValueStands (pure_scene (pure_setting b.model b.past b.names) cases) (opening_world b.values) o.value
   pub matches : LetMatches (at (pure_scene (pure_setting b.model b.past b.names) cases) (opening_world b.values) [] true) (opening_world b.values) arm
   pub met : AreMet (pure_setting b.model b.past b.names) nobody (λ d. false) cases (let_found b.model b.names o arm [] 0).notes
-  pub names_are : (p : Point (let_found b.model b.names o arm [] 0).next) (locals : List (Local Item))
-      → Binds (pure_setting b.model b.past b.names) nobody p (let_found b.model b.names o arm [] 0).value locals
-      → LetsAre (pure_setting b.model b.past []) nobody (names_of (around_with b.model b.names) o (O.Let arm)) (map (λ l. l.held.val) locals)
+  -- the walk finds the same where it knows all of the model
+  pub same_names : (let_found b.model b.names o arm [] 0).value ≡ (let_walk (around_with b.model b.names) o.place arm (part o.value) [] 0).value
+  -- names whose indices aren't constant are of the type that is read
+  pub told : (p : Point (let_found b.model b.names o arm [] 0).next)
+      → EachStands (pure_setting b.model b.past b.names) p (let_found b.model b.names o arm [] 0).value
 
 abbrev pub KindStands : Behind → Cases → Opening → OpeningKind → Type 0
 KindStands b cases o (O.Let arm) = LetStands b cases o arm

@@ -3,6 +3,7 @@
 
 ghost use Rattle.soundness_openings.specs.Initials.{InitialsAreSound};
 ghost use Rattle.soundness_openings.specs.Lets.{LetsEndWell};
+ghost use Rattle.soundness_openings.specs.Told.{NamesAreTold};
 ghost use Rattle.soundness_openings.specs.Whole.{OpeningsAreSound};
 
 /// An initial value of a register belongs to the register's type, or its run stops.
@@ -18,4 +19,9 @@ pub fn lets_end_well()
 /// Openings one after the other are never stuck, and the names of top-level lets have such values as the walk tells of them.
 pub fn openings_are_sound()
     ensures { OpeningsAreSound }
+{}
+
+/// What a let binds is as its names are told elsewhere, where that is so of those whose indices aren't constant.
+pub fn names_are_told()
+    ensures { NamesAreTold }
 {}
