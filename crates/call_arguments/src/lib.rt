@@ -18,7 +18,8 @@ mod typed;
 pub use aims::Aim;
 pub use arguments::call_conditions;
 pub use callees::{
-    argument_aim, indices_from, numbers_from, part_aim, payload_types, types_or, was_due,
+    argument_aim, indices_from, numbers_from, part_aim, payload_types, type_parameters, types_or,
+    was_due,
 };
 pub use closed::{is_closed, is_numberless};
 pub use counts::least_of_three;
