@@ -12,29 +12,32 @@ use Rattle.soundness_forms.specs.EachKind.{KindFine}
 use Rattle.soundness_forms.proofs.Guards.{applies_kind, clauses_kind, optional_kind, when_kind}
 use Rattle.soundness_forms.proofs.LeavingKinds.{exit_kind, return_kind, top_level_kind}
 use Rattle.soundness_forms.proofs.PlainKinds.{cast_kind, constant_kind, local_kind, variable_kind, written_kind}
+use Rattle.soundness_forms.proofs.Registers.{register_kind}
 use Rattle.soundness_forms.proofs.Throwing.{assert_kind, throw_kind}
 use Rattle.soundness_binding.proofs.BindingKinds.{var_kind}
 use Rattle.soundness_fits.proofs.Owing.{fits_suffice}
+use Rattle.soundness_parts.proofs.PartKinds.{with_slice_kind}
 use Rattle.soundness_values.proofs.Filled.{filled_value}
 use Rattle.soundness_values.proofs.MadeKinds.{row_kind, tuple_kind}
+use Rattle.soundness_values.proofs.Mappings.{converts_kind}
 use Rattle.soundness_values.proofs.Taken.{widening}
 use Rattle.soundness_joins.proofs.JoinedKinds.{and_kind, foreach_kind, or_kind}
-use Rattle.sail_soundness.specs.Whole.{is_proved}
+use Rattle.sail_soundness.specs.Whole.{TypesClosed, is_proved}
 
-module _ (q : Scene) (w : World Item) where
+module _ (q : Scene) (w : World Item) (model : TypesClosed q.set) where
   calls : (callee : Callee) → is_proved (K.Call callee) ≡ true → KindFine q w (K.Call callee)
   calls (C.Applies d) e = applies_kind q w d
   calls (C.Function i) e = no e
   calls (C.Row row) e = row_kind fits_suffice q w widening row
   calls (C.Constructor u k) e = no e
-  calls (C.Converts d) e = no e
+  calls (C.Converts d) e = converts_kind fits_suffice q w model.mappings d
 
   pub proved : (kind : Kind) → is_proved kind ≡ true → KindFine q w kind
   proved (K.Constant l) e = constant_kind fits_suffice q w l
   proved (K.Local name) e = local_kind fits_suffice q w name
   proved (K.Variable name) e = variable_kind fits_suffice q w name
   proved (K.TopLevel i) e = top_level_kind (λ types s j. filled_value types 0 s j) fits_suffice q w i
-  proved (K.Register i) e = no e
+  proved (K.Register i) e = register_kind fits_suffice q w model.registers i
   proved (K.Call callee) e = calls callee e
   proved K.And e = and_kind fits_suffice q w
   proved K.Or e = or_kind fits_suffice q w
@@ -48,7 +51,7 @@ module _ (q : Scene) (w : World Item) where
   proved (K.With u fields) e = no e
   proved (K.Part suffixes) e = no e
   proved K.WithItem e = no e
-  proved K.WithSlice e = no e
+  proved K.WithSlice e = with_slice_kind q w fits_suffice
   proved (K.SizeOf x numbers) e = no e
   proved (K.Constraint c numbers) e = no e
   proved (K.Assign targets) e = no e

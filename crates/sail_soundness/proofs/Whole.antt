@@ -12,7 +12,7 @@ use Rattle.soundness_steps.specs.Works.{Scene}
 use Rattle.soundness_forms.specs.Forms.{Fine, z}
 use Rattle.soundness_forms.specs.Standing.{Standing, node_standing, standing}
 use Rattle.soundness_forms.specs.EachKind.{PartsFine}
-use Rattle.sail_soundness.specs.Whole.{EachFollows, NodeFine, OthersFine, is_proved, joined, nodes, nodes_over}
+use Rattle.sail_soundness.specs.Whole.{EachFine, EachFollows, NodeFine, TypesClosed, is_proved, joined, nodes, nodes_over}
 use Rattle.sail_soundness.proofs.Nodes.{proved}
 
 -- ---- nodes
@@ -32,15 +32,15 @@ nodes_are d =
     ∷ joined (map (λ (p : Core × List (Core-F Core)). p.1) (map (λ c. (c, nodes c)) d.parts))) (firsts d.parts)
     ∙ ap (λ ns. d ∷ ns) (nexts d.parts)
 
-module _ (q : Scene) (w : World Item) where
+module _ (q : Scene) (w : World Item) (model : TypesClosed q.set) where
   abbrev types : Types
   types = q.set.around.types
 
-  front : (ns ms : List (Core-F Core)) → OthersFine q w (ns ++ ms) → OthersFine q w ns
+  front : (ns ms : List (Core-F Core)) → EachFine q w (ns ++ ms) → EachFine q w ns
   front [] ms h = tt
   front (c ∷ ns) ms h = (h.0, front ns ms h.1)
 
-  behind : (ns ms : List (Core-F Core)) → OthersFine q w (ns ++ ms) → OthersFine q w ms
+  behind : (ns ms : List (Core-F Core)) → EachFine q w (ns ++ ms) → EachFine q w ms
   behind [] ms h = h
   behind (c ∷ ns) ms h = behind ns ms h.1
 
@@ -48,13 +48,13 @@ module _ (q : Scene) (w : World Item) where
   each d left = by_kind (is_proved d.kind) refl
     where
       by_kind : (b : Bool) → is_proved d.kind ≡ b → NodeFine q w d
-      by_kind true e = proved q w d.kind e d.place d.number (map (standing types) d.parts) (map part d.parts) (map (meaning (z q w) w) d.parts)
+      by_kind true e = proved q w model d.kind e d.place d.number (map (standing types) d.parts) (map part d.parts) (map (meaning (z q w) w) d.parts)
       by_kind false e = left e
 
   -- ---- an expression with its part, its run and how it stands
 
   abbrev Such : Core → Type 0
-  Such c = OthersFine q w (nodes c) → (standing types c).right ≡ true
+  Such c = EachFine q w (nodes c) → (standing types c).right ≡ true
       → Fine q w (standing types c).cast (standing types c).guard (part c) (meaning (z q w) w c)
 
   abbrev SuchCore : Type 0
@@ -63,7 +63,7 @@ module _ (q : Scene) (w : World Item) where
   abbrev bare : List SuchCore → List Core
   bare ys = map (λ y. y.0) ys
 
-  parts_fine : (ys : List SuchCore) → OthersFine q w (joined (map nodes (bare ys)))
+  parts_fine : (ys : List SuchCore) → EachFine q w (joined (map nodes (bare ys)))
       → PartsFine q w (map (standing types) (bare ys)) (map part (bare ys)) (map (meaning (z q w) w) (bare ys))
   parts_fine [] h = tt
   parts_fine (y ∷ ys) h =
@@ -75,7 +75,7 @@ module _ (q : Scene) (w : World Item) where
       let s = fold-roll-Core Standing (node_standing types) d in
       let p = fold-roll-Core Part core_part d in
       let r = fold-roll-Core (Run Item Item) (λ c. kind_meaning (z q w) w c.place c.number c.kind c.parts) d in
-      let here = subst (OthersFine q w) (nodes_are d) others in
+      let here = subst (EachFine q w) (nodes_are d) others in
       subst (λ m. Fine q w (standing types (roll-Core d)).cast (standing types (roll-Core d)).guard (part (roll-Core d)) m) (sym r)
       (subst (λ a. Fine q w (standing types (roll-Core d)).cast (standing types (roll-Core d)).guard a
       (kind_meaning (z q w) w d.place d.number d.kind (map (meaning (z q w) w) d.parts))) (sym p)
@@ -87,4 +87,4 @@ module _ (q : Scene) (w : World Item) where
   fine = ind-Core Such (λ c y e. subst (λ d. Such (roll-Core d)) e (node_fine y))
 
 pub whole : EachFollows
-whole q w c right others = fine q w c others right
+whole q w c right others = fine q w others.0 c others.1 right

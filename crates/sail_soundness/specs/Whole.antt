@@ -8,24 +8,29 @@ use Rattle.sail_core.specs.declared.tree.Kind.{Kind}
 use Rattle.sail_core.specs.declared.tree.Kind.TheVariants as K
 use Rattle.expression_steps.specs.Expressions.{part}
 use Rattle.checked_meaning.specs.Items.{Item}
-use Rattle.soundness_steps.specs.Works.{Scene}
+use Rattle.soundness_steps.specs.Works.{Scene, Setting}
 use Rattle.soundness_forms.specs.EachKind.{PartsFine, node}
 use Rattle.soundness_forms.specs.Forms.{Fine, z}
+use Rattle.soundness_forms.specs.Registers.{RegistersClosed}
 use Rattle.soundness_forms.specs.Standing.{is_cast, is_guard, kind_right, standing}
+use Rattle.soundness_values.specs.Mappings.{MappingsClosed}
 
--- kinds of nodes that are fine: literals, names in scope and of top-level lets, calls of builtins, `&` and `|`, casts, tuples, `var`, guards,
--- `foreach` and what leaves; and those that stand in no expression of a resolved core
+-- kinds of nodes that are fine: literals, names in scope, of top-level lets and registers, calls of builtins and of mappings, `&` and `|`, casts,
+-- tuples, updates of slices, `var`, guards, `foreach` and what leaves; and those that stand in no expression of a resolved core
 abbrev pub is_proved : Kind → Bool
 is_proved (K.Constant literal) = true
 is_proved (K.Local name) = true
 is_proved (K.Variable name) = true
 is_proved (K.TopLevel i) = true
+is_proved (K.Register i) = true
 is_proved (K.Call (C.Row row)) = true
+is_proved (K.Call (C.Converts d)) = true
 is_proved (K.Call (C.Applies d)) = true
 is_proved K.And = true
 is_proved K.Or = true
 is_proved (K.Cast written) = true
 is_proved K.Tuple = true
+is_proved K.WithSlice = true
 is_proved (K.Var name written) = true
 is_proved (K.Clauses arms) = true
 is_proved K.When = true
@@ -49,6 +54,11 @@ nodes_over c = record { place = c.place; number = c.number; kind = c.kind; parts
 abbrev pub nodes : Core → List (Core-F Core)
 nodes = para-Core (List (Core-F Core)) nodes_over
 
+-- types of registers and mappings name no variable
+pub record TypesClosed (set : Setting) : Type 0 where
+  pub registers : RegistersClosed set
+  pub mappings : MappingsClosed set
+
 module _ (q : Scene) (w : World Item) where
   -- a node is fine where its own parts are, as they stand
   abbrev pub NodeFine : Core-F Core → Type 0
@@ -57,10 +67,13 @@ module _ (q : Scene) (w : World Item) where
       → Fine q w (is_cast c.kind) (is_guard c.kind) (node q w c.place c.number c.kind (map part c.parts))
       (kind_meaning (z q w) w c.place c.number c.kind (map (meaning (z q w) w) c.parts))
 
-  -- nodes of the other kinds are
+  abbrev pub EachFine : List (Core-F Core) → Type 0
+  EachFine [] = Unit {0}
+  EachFine (c ∷ cs) = (is_proved c.kind ≡ false → NodeFine c) × EachFine cs
+
+  -- nodes of the other kinds are, in a model whose registers and mappings are as the resolver has them
   abbrev pub OthersFine : List (Core-F Core) → Type 0
-  OthersFine [] = Unit {0}
-  OthersFine (c ∷ cs) = (is_proved c.kind ≡ false → NodeFine c) × OthersFine cs
+  OthersFine cs = TypesClosed q.set × EachFine cs
 
 -- an expression in which casts, guards and literals stand as the resolver puts them is fine, where those of its nodes are that aren't of a proved kind
 abbrev pub EachFollows : Type 0

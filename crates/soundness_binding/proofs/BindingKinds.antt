@@ -12,10 +12,11 @@ use Rattle.expression_steps.specs.Expressions.{node_end}
 use Rattle.expression_steps.specs.Parts.{Part}
 use Rattle.expression_steps.specs.Statements.{block_walk, let_names, let_walk, var_name, var_walk}
 use Rattle.checked_meaning.specs.Items.{Item}
+use Rattle.value_laws.proofs.Basics.{no}
 use Rattle.soundness_steps.specs.Works.{Scene}
 use Rattle.soundness_forms.specs.EachKind.{KindFine, PartsFine, node}
 use Rattle.soundness_forms.specs.Forms.{FitsSuffice}
-use Rattle.soundness_forms.specs.Standing.{Standing, are_statements, is_bound, is_value}
+use Rattle.soundness_forms.specs.Standing.{Standing, block_right, is_bound, is_value}
 use Rattle.soundness_forms.proofs.Growth.{grows_bind, grows_end}
 use Rattle.soundness_forms.proofs.LeavingKinds.{bound_fine}
 use Rattle.soundness_forms.proofs.PlainKinds.{fine_by, value_fine, wrong_inward}
@@ -86,26 +87,28 @@ module _ (q : Scene) (w : World Item) where
   var_kind name written place k (s ∷ s2 ∷ s3 ∷ ss) (p ∷ p2 ∷ []) (r ∷ r2 ∷ rs) h right = absurd h.1.1
   var_kind name written place k (s ∷ s2 ∷ s3 ∷ ss) (p ∷ p2 ∷ p3 ∷ ps) (r ∷ r2 ∷ []) h right = absurd h.1.1
 
-  -- the parts of a block: what is bound or left comes first, a value last
-  each_statement : (ss : List Standing) (ps : List Part) (rs : List (Run Item Item)) → PartsFine q w ss ps rs → are_statements ss ≡ true
-      → Statements q w ps rs
-  each_statement [] [] [] h right = tt
-  each_statement (s ∷ []) (p ∷ []) (r ∷ []) h right = ((false, refl, value_fine q w s p r right h.0), tt)
-  each_statement (s ∷ s2 ∷ ss) (p ∷ p2 ∷ ps) (r ∷ r2 ∷ rs) h right =
-      let both = and_parts (is_bound s) (are_statements (s2 ∷ ss)) right in
-      ((s.cast, tt, bound_fine q w s p r both.0 h.0), each_statement (s2 ∷ ss) (p2 ∷ ps) (r2 ∷ rs) h.1 both.1)
-  each_statement [] [] (r ∷ rs) h right = absurd h
-  each_statement [] (p ∷ ps) rs h right = absurd h
-  each_statement (s ∷ ss) [] rs h right = absurd h
-  each_statement (s ∷ ss) (p ∷ ps) [] h right = absurd h
-  each_statement (s ∷ []) (p ∷ []) (r ∷ r2 ∷ rs) h right = absurd h.1
-  each_statement (s ∷ []) (p ∷ p2 ∷ ps) (r ∷ rs) h right = absurd h.1
-  each_statement (s ∷ s2 ∷ ss) (p ∷ []) (r ∷ rs) h right = absurd h.1
-  each_statement (s ∷ s2 ∷ ss) (p ∷ p2 ∷ ps) (r ∷ []) h right = absurd h.1
+  -- the parts of a block: what is evaluated or bound comes first, its value last
+  each_statement : (ts : List Statement) (ss : List Standing) (ps : List Part) (rs : List (Run Item Item)) → PartsFine q w ss ps rs
+      → block_right ts ss ≡ true → Statements q w ts ps rs
+  each_statement [] [] [] [] h right = tt
+  each_statement [] (s ∷ []) (p ∷ []) (r ∷ []) h right = value_fine q w s p r right h.0
+  each_statement [] (s ∷ s2 ∷ ss) ps rs h right = no right
+  each_statement (t ∷ ts) [] ps rs h right = no right
+  each_statement (t ∷ ts) (s ∷ ss) (p ∷ ps) (r ∷ rs) h right =
+      let both = and_parts (is_bound s) (block_right ts ss) right in
+      ((s.cast, bound_fine q w s p r both.0 h.0), each_statement ts ss ps rs h.1 both.1)
+  each_statement [] [] [] (r ∷ rs) h right = absurd h
+  each_statement [] [] (p ∷ ps) rs h right = absurd h
+  each_statement [] (s ∷ []) [] rs h right = absurd h
+  each_statement [] (s ∷ []) (p ∷ ps) [] h right = absurd h
+  each_statement [] (s ∷ []) (p ∷ []) (r ∷ r2 ∷ rs) h right = absurd h.1
+  each_statement [] (s ∷ []) (p ∷ p2 ∷ ps) (r ∷ rs) h right = absurd h.1
+  each_statement (t ∷ ts) (s ∷ ss) [] rs h right = absurd h
+  each_statement (t ∷ ts) (s ∷ ss) (p ∷ ps) [] h right = absurd h
 
   pub block_kind : FitsSuffice → (statements : List Statement) → AllLetsMatch q w statements → KindFine q w (K.Block statements)
   block_kind fit statements matches place k ss ps rs h right =
-      let all = each_statement ss ps rs h right in
+      let all = each_statement statements ss ps rs h right in
       fine_by q w false false (node q w place k (K.Block statements) ps) _ (λ around scope. refl)
       (λ names falls g n f facts scope aim there st. block_fine q w fit place k statements ps rs all matches names falls scope aim there st)
       (λ around scope aim. grows_bind (block_walk place statements ps around scope aim) (node_end k false)

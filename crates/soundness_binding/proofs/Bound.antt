@@ -43,7 +43,7 @@ use Rattle.soundness_steps.proofs.Steps.{binds, claims, given_back, means, rests
 use Rattle.soundness_steps.proofs.Scenes.{under_names}
 use Rattle.soundness_forms.specs.Forms.{Fine, FitsSuffice, at}
 use Rattle.soundness_forms.specs.Worlds.{Surrounds}
-use Rattle.soundness_forms.proofs.Basics.{aim_on, settles, then_walks, wanted_on, wrongs}
+use Rattle.soundness_forms.proofs.Basics.{aim_on, settles, then_walks, wanted_on}
 use Rattle.soundness_forms.proofs.Casts.{aimed_due, aimed_given, free_is, no_guard}
 use Rattle.soundness_forms.proofs.Constants.{literal_has, literal_sized}
 use Rattle.soundness_forms.proofs.Leaving.{aimed_is}
@@ -248,7 +248,7 @@ module _ (q : Scene) (w : World Item) where
 
   module _ (fit : FitsSuffice) (place : Place) where
     under_claims : (o : Option Con) {m : ℕ} {g : Point m} {fs : List Fact} (names : List Kept) (falls : Bool) (scope : Scope) (aim : Aim)
-        (ss : List Statement) (ps : List Part) (rs : List (Run Item Item)) → Statements q w ps rs → Claims q.set q.work g o
+        (ss : List Statement) (ps : List Part) (rs : List (Run Item Item)) → Statements q w ss ps rs → Claims q.set q.work g o
         → ((gs : List Fact) → Block g gs names falls scope place aim ss ps rs)
         → Beside (at q w names falls) m g fs (under_claim (block_walk place ss ps (here q) scope aim) o) (block z w ss rs)
         (λ j p i x. Comes q.set q.work p false true (last_never_ends ps) aim i x)
@@ -256,44 +256,42 @@ module _ (q : Scene) (w : World Item) where
     under_claims (Some c) {fs = fs} names falls scope aim ss ps rs h t next =
         claims c (block_grows q w (here q) place ss ps rs h scope aim) t (next (fs ++ Y.Holds c ∷ []))
 
-    pub block_runs : (ss : List Statement) (ps : List Part) (rs : List (Run Item Item)) → Statements q w ps rs → AllLetsMatch q w ss
+    pub block_runs : (ss : List Statement) (ps : List Part) (rs : List (Run Item Item)) → Statements q w ss ps rs → AllLetsMatch q w ss
         → (names : List Kept) (falls : Bool) (scope : Scope) (aim : Aim) (n : ℕ) (f : Point n) (facts : List Fact)
         → Surrounds (at q w names falls) w f scope → AimSteady q.set q.work f aim → Block f facts names falls scope place aim ss ps rs
     block_runs [] [] [] h ms names falls scope aim n f facts there st =
         means (λ m g i x l c. inner_comes q.set q.work g aim false false i x c)
         (rests (nothing z) (settles fit place (inner_aim aim) I.Unit (nothing z) (inner_steady q.set q.work f aim st) (unit_is f)))
     block_runs [] (p ∷ []) (r ∷ []) h ms names falls scope aim n f facts there st =
-        let value = subst (λ c. Fine q w c false p r) h.0.1 h.0.2 in
         means (λ m g i x l c. inner_comes q.set q.work g aim p.is_nested p.never_ends i x c)
-        (value.walks names falls no_guard n f facts scope (inner_aim aim) there (inner_steady q.set q.work f aim st))
+        (h.walks names falls no_guard n f facts scope (inner_aim aim) there (inner_steady q.set q.work f aim st))
     block_runs (S.Evaluate ∷ ss) (p ∷ ps) (r ∷ rs) h ms names falls scope aim n f facts there st =
         binds (under_claim (block_walk place ss ps (here q) scope aim)) (λ x. block z w ss rs)
-        (h.0.2.states names falls no_guard n f facts scope there)
+        (h.0.1.states names falls no_guard n f facts scope there)
         (λ m g fs c x l t.
         means (λ m2 g2 i y l2 d. behind g2 p ps aim i y t.1 d)
         (under_claims c names falls scope aim ss ps rs h.1 t.0 (λ gs.
         block_runs ss ps rs h.1 ms names falls scope aim m g gs (surrounds_on (at q w names falls) w scope l there) (aim_on q.set q.work aim l st))))
     block_runs (S.Define here_at arm ∷ ss) (p ∷ ps) (r ∷ rs) h ms names falls scope aim n f facts there st =
-        let_bound arm ms.0 names falls scope here_at p r h.0.0 h.0.2 (λ found. block_walk place ss ps (here q) (found ++ scope) aim) (block z w ss rs) there
+        let_bound arm ms.0 names falls scope here_at p r h.0.0 h.0.1 (λ found. block_walk place ss ps (here q) (found ++ scope) aim) (block z w ss rs) there
         (λ m g fs found ks l e there2.
         means (λ m2 g2 i y l2 d. behind g2 p ps aim i y e d)
         (block_runs ss ps rs h.1 ms.1 (ks ++ names) true (found ++ scope) aim m g fs there2 (aim_on q.set q.work aim l st)))
     block_runs (S.Declare name written ∷ ss) (p ∷ ps) (r ∷ rs) h ms names falls scope aim n f facts there st =
-        var_bound names falls scope name written p r h.0.0 h.0.2 (λ found. block_walk place ss ps (here q) (found ++ scope) aim) (block z w ss rs) there
+        var_bound names falls scope name written p r h.0.0 h.0.1 (λ found. block_walk place ss ps (here q) (found ++ scope) aim) (block z w ss rs) there
         (λ m g fs rd t l e there2.
         means (λ m2 g2 i y l2 d. behind g2 p ps aim i y e d)
         (block_runs ss ps rs h.1 ms (is_var name t ∷ names) falls (declared name rd ∷ scope) aim m g fs there2 (aim_on q.set q.work aim l st)))
-    block_runs [] (p ∷ []) (r ∷ r2 ∷ rs) h ms names falls scope aim n f facts there st = absurd h.1
-    block_runs [] (p ∷ p2 ∷ ps) rs h ms names falls scope aim n f facts there st = wrongs place (block z w [] rs)
-    block_runs (S.Evaluate ∷ ss) [] [] h ms names falls scope aim n f facts there st = wrongs place (block z w (S.Evaluate ∷ ss) [])
-    block_runs (S.Define here_at arm ∷ ss) [] [] h ms names falls scope aim n f facts there st = wrongs place (block z w (S.Define here_at arm ∷ ss) [])
-    block_runs (S.Declare name written ∷ ss) [] [] h ms names falls scope aim n f facts there st = wrongs place (block z w (S.Declare name written ∷ ss) [])
-    block_runs (s ∷ ss) [] (r ∷ rs) h ms names falls scope aim n f facts there st = absurd h
     block_runs [] [] (r ∷ rs) h ms names falls scope aim n f facts there st = absurd h
-    block_runs ss (p ∷ ps) [] h ms names falls scope aim n f facts there st = absurd h
+    block_runs [] (p ∷ []) (r ∷ r2 ∷ rs) h ms names falls scope aim n f facts there st = absurd h
+    block_runs [] (p ∷ p2 ∷ ps) (r ∷ rs) h ms names falls scope aim n f facts there st = absurd h
+    block_runs [] (p ∷ []) [] h ms names falls scope aim n f facts there st = absurd h
+    block_runs [] (p ∷ p2 ∷ ps) [] h ms names falls scope aim n f facts there st = absurd h
+    block_runs (s ∷ ss) [] rs h ms names falls scope aim n f facts there st = absurd h
+    block_runs (s ∷ ss) (p ∷ ps) [] h ms names falls scope aim n f facts there st = absurd h
 
-    pub block_fine : {n : ℕ} {f : Point n} {facts : List Fact} (k : ℕ) (ss : List Statement) (ps : List Part) (rs : List (Run Item Item)) → Statements q w ps rs
-        → AllLetsMatch q w ss → (names : List Kept) (falls : Bool) (scope : Scope) (aim : Aim)
+    pub block_fine : {n : ℕ} {f : Point n} {facts : List Fact} (k : ℕ) (ss : List Statement) (ps : List Part) (rs : List (Run Item Item))
+        → Statements q w ss ps rs → AllLetsMatch q w ss → (names : List Kept) (falls : Bool) (scope : Scope) (aim : Aim)
         → Surrounds (at q w names falls) w f scope → AimSteady q.set q.work f aim
         → Beside (at q w names falls) n f facts (kind_walk place k (K.Block ss) ps (here q) scope aim) (kind_meaning z w place k (K.Block ss) rs)
         (λ m g i x. Comes q.set q.work g false true (last_never_ends ps) aim i x)

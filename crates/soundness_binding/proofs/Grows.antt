@@ -29,7 +29,7 @@ use Rattle.checked_meaning.specs.Items.{Item}
 use Rattle.soundness_steps.specs.Works.{Scene}
 use Rattle.soundness_steps.specs.Steps.{Grows}
 use Rattle.soundness_forms.specs.Forms.{Fine}
-use Rattle.soundness_forms.proofs.Growth.{grows_bind, grows_give, grows_owe, grows_settled, grows_wrong}
+use Rattle.soundness_forms.proofs.Growth.{grows_bind, grows_give, grows_owe, grows_settled}
 
 exponents_grow : (around : Around) (ns : List WrittenNumber) → Grows (exponents_owed around ns)
 exponents_grow around [] = grows_give tt
@@ -54,15 +54,12 @@ claim_grows rest None h = h
 claim_grows rest (Some c) h = claimed_grows c rest h
 
 module _ (q : Scene) (w : World Item) where
-  -- the last of several is a value
-  abbrev IsLast : List Part → Bool → Type 0
-  IsLast [] cast = cast ≡ false
-  IsLast (p ∷ ps) cast = Unit {0}
-
-  abbrev pub Statements : List Part → List (Run Item Item) → Type 0
-  Statements [] [] = Unit {0}
-  Statements (p ∷ ps) (r ∷ rs) = ((cast : Bool) × IsLast ps cast × Fine q w cast false p r) × Statements ps rs
-  Statements ps rs = ⊥
+  -- parts of a block beside its statements: what they evaluate or bind, and its value, where it has one
+  abbrev pub Statements : List Statement → List Part → List (Run Item Item) → Type 0
+  Statements [] [] [] = Unit {0}
+  Statements [] (p ∷ []) (r ∷ []) = Fine q w false false p r
+  Statements (s ∷ ss) (p ∷ ps) (r ∷ rs) = ((cast : Bool) × Fine q w cast false p r) × Statements ss ps rs
+  Statements ss ps rs = ⊥
 
   pub names_grow : (around : Around) (place : Place) (arm : Arm) (a : Part) (ra : Run Item Item) (cast : Bool) → Fine q w cast false a ra → (scope : Scope)
       → Grows (let_names place arm a around scope)
@@ -84,24 +81,23 @@ module _ (q : Scene) (w : World Item) where
       grows_bind (a.walk around scope (aimed Aims.Due r)) (λ i. give (declared name r ∷ [])) (ha.grows around scope (aimed Aims.Due r))
       (λ i. grows_give (declared name r ∷ [])))
 
-  pub block_grows : (around : Around) (place : Place) (ss : List Statement) (ps : List Part) (rs : List (Run Item Item)) → Statements ps rs
+  pub block_grows : (around : Around) (place : Place) (ss : List Statement) (ps : List Part) (rs : List (Run Item Item)) → Statements ss ps rs
       → (scope : Scope) (aim : Aim) → Grows (block_walk place ss ps around scope aim)
   block_grows around place [] [] [] h scope aim = grows_settled around place (inner_aim aim) I.Unit
-  block_grows around place [] (p ∷ []) (r ∷ []) h scope aim = h.0.2.grows around scope (inner_aim aim)
+  block_grows around place [] (p ∷ []) (r ∷ []) h scope aim = h.grows around scope (inner_aim aim)
   block_grows around place (S.Evaluate ∷ ss) (p ∷ ps) (r ∷ rs) h scope aim =
-      grows_bind (p.state around scope) (under_claim (block_walk place ss ps around scope aim)) (h.0.2.state_grows around scope)
+      grows_bind (p.state around scope) (under_claim (block_walk place ss ps around scope aim)) (h.0.1.state_grows around scope)
       (λ c. claim_grows (block_walk place ss ps around scope aim) c (block_grows around place ss ps rs h.1 scope aim))
   block_grows around place (S.Define here_at arm ∷ ss) (p ∷ ps) (r ∷ rs) h scope aim =
       grows_bind (let_names here_at arm p around scope) (λ found. block_walk place ss ps around (found ++ scope) aim)
-      (names_grow around here_at arm p r h.0.0 h.0.2 scope) (λ found. block_grows around place ss ps rs h.1 (found ++ scope) aim)
+      (names_grow around here_at arm p r h.0.0 h.0.1 scope) (λ found. block_grows around place ss ps rs h.1 (found ++ scope) aim)
   block_grows around place (S.Declare name written ∷ ss) (p ∷ ps) (r ∷ rs) h scope aim =
       grows_bind (var_name name written p around scope) (λ found. block_walk place ss ps around (found ++ scope) aim)
-      (var_grows around name written p r h.0.0 h.0.2 scope) (λ found. block_grows around place ss ps rs h.1 (found ++ scope) aim)
-  block_grows around place [] (p ∷ []) (r ∷ r2 ∷ rs) h scope aim = absurd h.1
-  block_grows around place [] (p ∷ p2 ∷ ps) rs h scope aim = grows_wrong place
-  block_grows around place (S.Evaluate ∷ ss) [] [] h scope aim = grows_wrong place
-  block_grows around place (S.Define here_at arm ∷ ss) [] [] h scope aim = grows_wrong place
-  block_grows around place (S.Declare name written ∷ ss) [] [] h scope aim = grows_wrong place
-  block_grows around place (s ∷ ss) [] (r ∷ rs) h scope aim = absurd h
+      (var_grows around name written p r h.0.0 h.0.1 scope) (λ found. block_grows around place ss ps rs h.1 (found ++ scope) aim)
   block_grows around place [] [] (r ∷ rs) h scope aim = absurd h
-  block_grows around place ss (p ∷ ps) [] h scope aim = absurd h
+  block_grows around place [] (p ∷ []) (r ∷ r2 ∷ rs) h scope aim = absurd h
+  block_grows around place [] (p ∷ p2 ∷ ps) (r ∷ rs) h scope aim = absurd h
+  block_grows around place [] (p ∷ []) [] h scope aim = absurd h
+  block_grows around place [] (p ∷ p2 ∷ ps) [] h scope aim = absurd h
+  block_grows around place (s ∷ ss) [] rs h scope aim = absurd h
+  block_grows around place (s ∷ ss) (p ∷ ps) [] h scope aim = absurd h

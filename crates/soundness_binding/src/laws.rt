@@ -11,7 +11,7 @@ pub fn vars_are_fine()
     ensures { VarsAreFine }
 {}
 
-/// So does a block with a value, where its statements do.
+/// So does a block, where its statements do.
 pub fn blocks_are_fine()
     ensures { BlocksAreFine }
 {}

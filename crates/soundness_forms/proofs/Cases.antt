@@ -66,7 +66,8 @@ module _ (q : Scene) (w : World Item) (grows : ArmsGrow q w) (scope : Scope) (pl
   cases_grow (arm ∷ arms) (p ∷ ps) [] h = absurd h
 
   -- one case, which may say No
-  case_runs : (arm : Arm) (p : Part) (r : Run Item Item) (guard : Bool) → ArmMatches (falling q) w arm → Fine q w true guard p r → {n : ℕ} {f : Point n} {facts : List Fact}
+  case_runs : (arm : Arm) (p : Part) (r : Run Item Item) (guard : Bool) → ArmMatches (falling q) w arm → Fine q w true guard p r
+      → {n : ℕ} {f : Point n} {facts : List Fact}
       → Surrounds q w f scope → AimSteady q.set q.work f aim → Is q.set q.work f i x
       → Beside (falling q) n f facts (case_walk place arm p (here q) scope aim i) (arm_taken (checked q.set.around.types q.cases) w arm r (x ∷ []))
       (λ j g d y. Comes q.set q.work g true p.is_nested p.never_ends (branch_aim aim) d y)

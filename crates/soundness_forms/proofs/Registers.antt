@@ -42,6 +42,7 @@ use Rattle.soundness_steps.specs.Works.{Scene, Setting, Work, here}
 use Rattle.soundness_steps.proofs.Steps.{runs_then, walks_on}
 use Rattle.soundness_forms.specs.EachKind.{KindFine, node}
 use Rattle.soundness_forms.specs.Forms.{FitsSuffice, at}
+use Rattle.soundness_forms.specs.Registers.{RegistersClosed}
 use Rattle.soundness_forms.specs.Worlds.{Surrounds}
 use Rattle.soundness_forms.proofs.Basics.{wrong_walks}
 use Rattle.soundness_forms.proofs.Growth.{grows_named, grows_wrong}
@@ -108,10 +109,6 @@ module _ (fit : FitsSuffice) (q : Scene) (w : World Item) {n : ℕ} (f : Point n
 register_grows : (place : Place) (k : ℕ) (o : Option Register) → Grows (register_walk place k o)
 register_grows place k None = grows_wrong place
 register_grows place k (Some r) = grows_named place k r.name (register_type r)
-
--- where the types of registers name no variable
-abbrev pub RegistersClosed : Setting → Type 0
-RegistersClosed set = (i : ℕ) (r : Register) → slice_get set.around.registers i ≡ Some r → is_closed r.typ ≡ true
 
 pub register_kind : FitsSuffice → (q : Scene) (w : World Item) → RegistersClosed q.set → (i : ℕ) → KindFine q w (K.Register i)
 register_kind fit q w is_so i place k [] [] [] h right = fine_by q w false false (node q w place k (K.Register i) []) _ (λ around scope. refl)

@@ -5,4 +5,5 @@ pub mod EachKind
 pub mod Calls
 pub mod Patterns
 pub mod Joins
+pub mod Registers
 pub mod Laws

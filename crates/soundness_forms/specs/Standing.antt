@@ -11,6 +11,7 @@ use Rattle.sail_core.specs.declared.tree.Callee.TheVariants as C
 use Rattle.sail_core.specs.declared.tree.Core.{Core, Core-F, fold-Core}
 use Rattle.sail_core.specs.declared.tree.Kind.{Kind}
 use Rattle.sail_core.specs.declared.tree.Kind.TheVariants as K
+use Rattle.sail_core.specs.declared.tree.Statement.{Statement}
 
 -- a node: whether it is such a cast, maybe behind a guard, whether it is a guard, and whether all inside it stands right
 pub record Standing : Type 0 where
@@ -52,23 +53,38 @@ literal_right types (L.Bits bits) = is_width (length bits)
 literal_right types (L.Member e k) = nat_lt k (length (members types e))
 literal_right types literal = true
 
+-- a block: what its statements evaluate or bind, and its value, where it has one
+abbrev pub block_right : List Statement → List Standing → Bool
+block_right [] [] = true
+block_right [] (p ∷ []) = is_value p
+block_right (s ∷ ss) (p ∷ ps) = is_bound p && block_right ss ps
+block_right ss ps = false
+
+-- what a kind asks by itself: options, and what is applied to one, are of later trees
+abbrev pub kind_stands : Types → Kind → Bool
+kind_stands types (K.Constant literal) = literal_right types literal
+kind_stands types (K.Call (C.Applies d)) = false
+kind_stands types (K.Optional t) = false
+kind_stands types kind = true
+
+-- and of its parts
+abbrev pub parts_right : Kind → List Standing → Bool
+parts_right (K.Cast None) (a ∷ []) = is_value a
+parts_right (K.Let arm) (a ∷ b ∷ []) = is_bound a && is_value b
+parts_right (K.Var name written) (a ∷ b ∷ []) = is_bound a && is_value b
+parts_right (K.Block statements) ps = block_right statements ps
+parts_right (K.If shape) (c ∷ ps) = is_value c && list_all is_branch ps
+parts_right (K.Match arms shape) (a ∷ bodies) = is_bound a && (nat_eq (length arms) (length bodies) && list_all is_body bodies)
+parts_right (K.Try arms shape) (a ∷ bodies) = is_branch a && (nat_eq (length arms) (length bodies) && list_all is_body bodies)
+parts_right (K.Clauses arms) bodies = nat_eq (length arms) (length bodies) && list_all is_body bodies
+parts_right K.When (guard ∷ body ∷ []) = is_value guard && is_branch body
+parts_right K.Return ps = list_all is_bound ps
+parts_right K.Throw ps = list_all is_bound ps
+parts_right K.Exit ps = list_all is_bound ps
+parts_right kind ps = list_all is_value ps
+
 abbrev pub kind_right : Types → Kind → List Standing → Bool
-kind_right types (K.Constant literal) ps = literal_right types literal && list_all is_value ps
-kind_right types (K.Cast None) (a ∷ []) = is_value a
-kind_right types (K.Let arm) (a ∷ b ∷ []) = is_bound a && is_value b
-kind_right types (K.Var name written) (a ∷ b ∷ []) = is_bound a && is_value b
-kind_right types (K.Block statements) ps = are_statements ps
-kind_right types (K.If shape) (c ∷ ps) = is_value c && list_all is_branch ps
-kind_right types (K.Match arms shape) (a ∷ bodies) = is_bound a && (nat_eq (length arms) (length bodies) && list_all is_body bodies)
-kind_right types (K.Try arms shape) (a ∷ bodies) = is_branch a && (nat_eq (length arms) (length bodies) && list_all is_body bodies)
-kind_right types (K.Clauses arms) bodies = nat_eq (length arms) (length bodies) && list_all is_body bodies
-kind_right types K.When (guard ∷ body ∷ []) = is_value guard && is_branch body
-kind_right types K.Return ps = list_all is_bound ps
-kind_right types K.Throw ps = list_all is_bound ps
-kind_right types K.Exit ps = list_all is_bound ps
-kind_right types (K.Optional t) ps = false
-kind_right types (K.Call (C.Applies d)) ps = false
-kind_right types kind ps = list_all is_value ps
+kind_right types kind ps = kind_stands types kind && parts_right kind ps
 
 abbrev pub node_standing : Types → Core-F Standing → Standing
 node_standing types c = record { cast = is_cast c.kind; guard = is_guard c.kind; right = kind_right types c.kind c.parts }
