@@ -50,7 +50,7 @@ use Rattle.value_laws.proofs.Numbers.{at_most_is, number_read, truth_is}
 use Rattle.value_laws.proofs.Values.{meant_is}
 use Rattle.value_laws.proofs.Meanings.{bits_same}
 use Rattle.value_laws.proofs.Knowing.{form_meant, number_goes}
-use Rattle.pattern_laws.specs.Beside.{AllMet, Stands, Ends, Behind, Beside}
+use Rattle.pattern_laws.specs.Beside.{AllMet, Stands, Ends, OfSizes, Behind, Beside}
 use Rattle.fitting_laws.specs.Fitting.{Said}
 use Rattle.pattern_laws.specs.Typing.{Typing, Bears}
 use Rattle.pattern_laws.specs.Standing.{Standing, is_there, is_known, widths_stand, at_widths}
@@ -160,7 +160,8 @@ small_width : (n : ℕ) → n ≤ 128 → is_small (pos n) ≡ true
 unfolding largest
 small_width n l = le-leb n (2 ^ 126) (omega (arith, l))
 
-module _ (around : Around) (past : Positive) (own : List Closed) (y : Typing around.types past own) (q : Ends) (cases : Cases) (w : World Item) where
+module _ (around : Around) (past : Positive) (own : List Closed) {fit : OfSizes} (y : Typing around.types past own fit) (q : Ends fit) (cases : Cases)
+    (w : World Item) where
   abbrev Found : Behind (List Bound) (List (Local Item))
   Found = Names around past own y q cases w
 
@@ -397,7 +398,7 @@ module _ (around : Around) (past : Positive) (own : List Closed) (y : Typing aro
 
   cut_fits : {n : ℕ} {f : Point n} {facts : List Fact} (s : Good f) (place : Place) (how : Matching) (looks : List Look) (ws : List (Option Num))
       (ns : List (Option ℕ)) → EachKnown w.numbers ws ns → (t : Num) (width : ℕ) → number (there f.integers) t ≡ pos width
-      → AllMet q past (cut_met place looks around how (known_widths around ws) t facts n).notes → Stands past f facts → Fits width ns
+      → AllMet q past (cut_met place looks around how (known_widths around ws) t facts n).notes → Stands q past f facts → Fits width ns
   unfolding owe_under
   cut_fits {n} {f} {facts} s place how looks ws ns h t width e met stands =
       let os = known_widths around ws in
