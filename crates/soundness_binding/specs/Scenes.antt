@@ -33,7 +33,7 @@ use Rattle.soundness_forms.specs.Worlds.{Surrounds}
 
 -- sizes that are noted are told by a test
 abbrev pub SizesTold : (set : Setting) (work : Work) → Tests set.around.types set.past work.types → Type 0
-SizesTold set work t = (g : Integers) (made : Made) → SizesFit set.around.types set.past g made → t.fit g made ≡ true
+SizesTold set work t = (g : Integers) (made : Made) → SizesFit set.around.types work.own set.past g made → t.fit g made ≡ true
 
 -- what holds of moments in a scene where these numbers are noted
 abbrev pub ends : (q : Scene) (t : Tests q.set.around.types q.set.past q.work.types) → Noted → Ends (λ g made. t.fit g made ≡ true)
