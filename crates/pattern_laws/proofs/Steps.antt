@@ -52,8 +52,8 @@ module _ {fit : OfSizes} {q : Ends fit} where
 
 -- what is reached from a later point
 pub reach_then : {fit : OfSizes} {q : Ends fit} {past : Positive} {n : ℕ} {f : Point n} {facts : List Fact} {m : ℕ} {more : List Fact}
-    {Holds : Point m → Type 0} {k : ℕ} {last : List Fact} {Then : Point k → Type 0} (r : Reach q past f facts m more Holds) → Reach q past r.point more k last Then
-    → Reach q past f facts k last Then
+    {Holds : Point m → Type 0} {k : ℕ} {last : List Fact} {Then : Point k → Type 0} (r : Reach q past f facts m more Holds)
+    → Reach q past r.point more k last Then → Reach q past f facts k last Then
 reach_then r s = record { point = s.point; later = later_on r.later s.later; stands = s.stands; given = s.given ∙ r.given; holds = s.holds }
 
 module _ {fit : OfSizes} {q : Ends fit} {past : Positive} where

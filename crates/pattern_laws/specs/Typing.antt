@@ -67,8 +67,9 @@ pub record IsKept (types : Types) (past : Positive) (own : List Closed) (fit : O
       → fits g (I.Named u is rs) s → reads g (R.Of t is rs) (part_typ types (payload u c) s)
   pub of_tuple : (g : Integers) (t : Typ) (ts : List Typ) (is : List Index) (rs : List Reading) (s : Sized) → out-Typ t ≡ T.Tuple ts
       → reads g (R.Of t is rs) s → EachReads types (reads g) s 0 (payload_readings ts is rs)
-  -- a part of bits
-  pub cut : (g : Integers) (t : Num) (k : ℕ) → number (standing past g) t ≡ pos k → fits g (I.Bits t) (fixed_typ types (bits_typ k))
+  -- a part of bits whose size fits
+  pub cut : (g : Integers) (t : Num) (k : ℕ) → fit g (Makes.ByIndices (I.Bits t)) → number (standing past g) t ≡ pos k
+      → fits g (I.Bits t) (fixed_typ types (bits_typ k))
 
 pub record Typing (types : Types) (past : Positive) (own : List Closed) (fit : OfSizes) : Type 1 where
   pub fits : Integers → Indices → Sized → Type 0
