@@ -39,7 +39,7 @@ use Rattle.fitting_laws.specs.Fitting.{Suffices}
 use Rattle.fitting_laws.proofs.Counting.{Grows}
 use Rattle.fitting_laws.proofs.Deep.{fitting}
 use Rattle.fitting_laws.proofs.Holes.{of_full}
-use Rattle.pattern_laws.specs.Beside.{AllMet, Stands, Ends, Behind, Beside}
+use Rattle.pattern_laws.specs.Beside.{AllMet, Stands, Ends, OfSizes, Behind, Beside}
 use Rattle.pattern_laws.specs.Typing.{Typing, Bears, HeldBears, NamesBear}
 use Rattle.pattern_laws.specs.Standing.{Standing, given_stands}
 use Rattle.pattern_laws.specs.Grounds.{IsGiven, Ways}
@@ -59,26 +59,28 @@ grown_later f l = record { onward = l; fixed = λ i h. h; same = λ i h. refl; n
 
 -- ---- walks of which nothing is wanted
 
-quiet_give : {past : Positive} {n : ℕ} {f : Point n} {facts : List Fact} → Stands past f facts → Quiet past f facts (give tt)
+quiet_give : {fit : OfSizes} {q : Ends fit} {past : Positive} {n : ℕ} {f : Point n} {facts : List Fact} → Stands q past f facts → Quiet q past f facts (give tt)
 unfolding give
 quiet_give {f = f} s = record { point = f; later = no_later f; stands = s; given = refl; holds = tt }
 
-quiet_both : {past : Positive} {n : ℕ} {f : Point n} {facts : List Fact} (a b : Walk (Unit {0})) → Quiet past f facts a
-    → ((m : ℕ) (g : Point m) (fs : List Fact) → Later f g → Stands past g fs → Quiet past g fs b) → Quiet past f facts (bind a (λ t. b))
+quiet_both : {fit : OfSizes} {q : Ends fit} {past : Positive} {n : ℕ} {f : Point n} {facts : List Fact} (a b : Walk (Unit {0})) → Quiet q past f facts a
+    → ((m : ℕ) (g : Point m) (fs : List Fact) → Later f g → Stands q past g fs → Quiet q past g fs b) → Quiet q past f facts (bind a (λ t. b))
 unfolding bind
 quiet_both {n = n} {facts = facts} a b one next = reach_then one (next (a facts n).next one.point (a facts n).facts one.later one.stands)
 
-owe_quiet : {past : Positive} {n : ℕ} {f : Point n} {facts : List Fact} (place : Place) (cs : Conditions) → Stands past f facts
-    → Quiet past f facts (owe place cs)
+owe_quiet : {fit : OfSizes} {q : Ends fit} {past : Positive} {n : ℕ} {f : Point n} {facts : List Fact} (place : Place) (cs : Conditions) → Stands q past f facts
+    → Quiet q past f facts (owe place cs)
 unfolding owe
 owe_quiet {f = f} place cs s = record { point = f; later = no_later f; stands = s; given = refl; holds = tt }
 
-exponents_quiet : {past : Positive} {n : ℕ} {f : Point n} {facts : List Fact} (around : Around) (ns : List WrittenNumber) → Stands past f facts
-    → Quiet past f facts (exponents_owed around ns)
+exponents_quiet : {fit : OfSizes} {q : Ends fit} {past : Positive} {n : ℕ} {f : Point n} {facts : List Fact} (around : Around) (ns : List WrittenNumber)
+    → Stands q past f facts
+    → Quiet q past f facts (exponents_owed around ns)
 exponents_quiet around [] s = quiet_give s
 exponents_quiet around (n ∷ ns) s = quiet_both _ _ (owe_quiet n.place _ s) (λ m g fs l t. exponents_quiet around ns t)
 
-module _ (around : Around) (past : Positive) (own : List Closed) (y : Typing around.types past own) (q : Ends) (cases : Cases) (w : World Item) where
+module _ (around : Around) (past : Positive) (own : List Closed) {fit : OfSizes} (y : Typing around.types past own fit) (q : Ends fit) (cases : Cases)
+    (w : World Item) where
   abbrev Found : Behind (List Bound) (List (Local Item))
   Found = Names around past own y q cases w
 
@@ -108,14 +110,17 @@ module _ (around : Around) (past : Positive) (own : List Closed) (y : Typing aro
       steady (b.has_it f.integers (same f))
 
   fit_quiet : {n : ℕ} {f : Point n} {facts : List Fact} (earlier : List Fact) (place : Place) (i : Indices) (t : Typ) (js : List Index) (x : Item)
-      → Fit f i t js x → Stands past f facts → Quiet past f facts (owe_fit_under earlier place (fits around.types i (R.Of t js [])))
+      → Fit f i t js x → Stands q past f facts → Quiet q past f facts (owe_fit_under earlier place (fits around.types i (R.Of t js [])))
   unfolding owe_fit_under owe_made_under
   fit_quiet {n} {f} {facts} earlier place i t js x s stands =
       let a = fits around.types i (R.Of t js []) n in
       record {
         point = s.point;
         later = s.later;
-        stands = record { there = λ g l. true_both (there g) facts a.facts (stands.there g (agree_on s.later l)) (s.true_there g l) };
+        stands = record {
+          there = λ g l. true_both (there g) facts a.facts (stands.there g (agree_on s.later l)) (s.true_there g l);
+          so = λ g l. subst (q.so g) (sym (given_both facts a.facts s.given)) (stands.so g (agree_on s.later l));
+        };
         given = given_both facts a.facts s.given;
         holds = tt;
       }
@@ -138,13 +143,13 @@ module _ (around : Around) (past : Positive) (own : List Closed) (y : Typing aro
   -- ---- `p : T`
 
   written_quiet : {n : ℕ} {f : Point n} {facts : List Fact} (earlier : List Fact) (place : Place) (wr : Written) (is_owed : Bool) (i : Indices) (x : Item)
-      → Has f i x → Good f → Stands past f facts → Quiet past f facts (written_owed around place wr is_owed i earlier)
+      → Has f i x → Good f → Stands q past f facts → Quiet q past f facts (written_owed around place wr is_owed i earlier)
   written_quiet earlier place wr is_owed i x b s stands =
       quiet_both _ _ (exponents_quiet around wr.numbers stands) (λ m g fs l t.
       owed_by is_owed g fs (bears_on around.types past own y l b) (grounds_on around past own y q cases w l s) t)
     where
-      owed_by : {m : ℕ} (o : Bool) (g : Point m) (fs : List Fact) → Has g i x → Good g → Stands past g fs
-          → Quiet past g fs (annotation_owed around place o i (written_in around wr) earlier)
+      owed_by : {m : ℕ} (o : Bool) (g : Point m) (fs : List Fact) → Has g i x → Good g → Stands q past g fs
+          → Quiet q past g fs (annotation_owed around place o i (written_in around wr) earlier)
       owed_by true g fs b s t = quiet_give t
       owed_by false g fs b s t = fit_quiet earlier place i wr.typ around.numbers x (fit_of i wr.typ around.numbers x b (written_steady wr.typ s)) t
 
@@ -182,7 +187,7 @@ module _ (around : Around) (past : Positive) (own : List Closed) (y : Typing aro
 
   -- that the value is one that the direction takes stands behind the inner pattern
   taken_by : {n : ℕ} {f : Point n} {facts : List Fact} (place : Place) (m : Direction) (i : Indices) (x : Item) → Has f i x → (inner : Walk (List Bound))
-      → Grows inner → AllMet q past (after_inner inner (parameter_owed around place m i) facts n).notes → Stands past f facts → (g : Integers)
+      → Grows inner → AllMet q past (after_inner inner (parameter_owed around place m i) facts n).notes → Stands q past f facts → (g : Integers)
       → is_of around.types (there g) own (R.Of m.parameter [] []) x.val ≡ true
   unfolding owe_fit_under owe_made_under
   taken_by {n} {f} {facts} place m i x b inner grows met stands g =

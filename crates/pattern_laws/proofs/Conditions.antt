@@ -21,7 +21,7 @@ use Rattle.value_laws.specs.Known.{AllTrue, InForce, given_in}
 use Rattle.value_laws.proofs.Basics.{no}
 use Rattle.value_laws.proofs.Numbers.{mapped, truth_is}
 use Rattle.fitting_laws.specs.Fitting.{Said}
-use Rattle.pattern_laws.specs.Beside.{AllMet, Ends}
+use Rattle.pattern_laws.specs.Beside.{AllMet, Ends, OfSizes}
 
 -- ---- conditions that are true
 
@@ -58,7 +58,8 @@ pub all_said : (mu : Assignment) (os : Conditions) → true_in mu (conjunction o
 all_said mu os h = by_together mu os (together os) refl h
 
 -- an obligation of some conditions holds, and what is in force there is true
-pub goals_said : (q : Ends) (past : Positive) (facts : List Fact) (place : Place) (os : Conditions) → AllMet q past (goals_under facts place os)
+pub goals_said : {fit : OfSizes} (q : Ends fit) (past : Positive) (facts : List Fact) (place : Place) (os : Conditions)
+    → AllMet q past (goals_under facts place os)
     → (g : Integers) → InForce past g facts → Said (standing past g) os
 goals_said q past facts place [] met g t = tt
 goals_said q past facts place (o ∷ os) met g t = all_said (standing past g) (o ∷ os) (met.0 g t)
@@ -75,10 +76,10 @@ given_both [] gs h = h
 given_both (Y.Holds c ∷ fs) gs h = given_both fs gs h
 given_both (Y.IsGiven v ∷ fs) gs h = ap (λ vs. v ∷ vs) (given_both fs gs h)
 
-pub met_front : (q : Ends) (past : Positive) (ns ms : List Note) → AllMet q past (ns ++ ms) → AllMet q past ns
+pub met_front : {fit : OfSizes} (q : Ends fit) (past : Positive) (ns ms : List Note) → AllMet q past (ns ++ ms) → AllMet q past ns
 met_front q past [] ms h = tt
 met_front q past (n ∷ ns) ms h = (h.0, met_front q past ns ms h.1)
 
-pub met_behind : (q : Ends) (past : Positive) (ns ms : List Note) → AllMet q past (ns ++ ms) → AllMet q past ms
+pub met_behind : {fit : OfSizes} (q : Ends fit) (past : Positive) (ns ms : List Note) → AllMet q past (ns ++ ms) → AllMet q past ms
 met_behind q past [] ms h = h
 met_behind q past (n ∷ ns) ms h = met_behind q past ns ms h.1

@@ -33,28 +33,29 @@ use Rattle.value_indices.specs.declared.indices.Indices.TheOpen as W
 use Rattle.value_indices.specs.declared.indices.Indices.TheVariants as I
 use Rattle.value_indices.specs.declared.notes.Fact.{Fact}
 use Rattle.value_indices.specs.declared.notes.Made.TheVariants as Makes
-use Rattle.value_indices.specs.Steps.{each, owe_under, size_note}
+use Rattle.value_indices.specs.Opening.{number_or_fresh}
+use Rattle.value_indices.specs.Steps.{Walk, bind, each, give, note, owe_under, size_note}
 use Rattle.checked_meaning.specs.Items.{Item, item, fixed_typ}
 use Rattle.checked_meaning.specs.Checked.{Cases}
 use Rattle.pattern_leaves.specs.declared.names.Bound.{Bound}
 use Rattle.pattern_leaves.specs.Settings.{Around}
-use Rattle.pattern_leaves.specs.Widths.{known_widths, sum_of, sum_from, first_sum, all_known, one_rest, cut_condition, cut_conditions, bits_part, cut_width}
-use Rattle.pattern_leaves.specs.Widths.{cut_owed}
+use Rattle.pattern_leaves.specs.Widths.{known_widths, sum_of, sum_from, first_sum, all_known, one_rest, cut_condition, cut_conditions, bits_part, sized_bits}
+use Rattle.pattern_leaves.specs.Widths.{cut_width, cut_owed}
 use Rattle.pattern_notes.specs.declared.matching.Matching.{Matching}
 use Rattle.pattern_notes.specs.Patterns.{Look, cut_parts, cut_met}
 use Rattle.value_laws.specs.Belonging.{Integers, standing, form_holds}
 use Rattle.value_laws.specs.Known.{Point, Agree, Later, Goes}
 use Rattle.value_laws.proofs.Basics.{no, two}
-use Rattle.value_laws.proofs.Steps.{same, agree_on, gives, goes_then}
+use Rattle.value_laws.proofs.Steps.{same, agree_on, gives, goes_on, goes_then}
 use Rattle.value_laws.proofs.Numbers.{at_most_is, number_read, truth_is}
 use Rattle.value_laws.proofs.Values.{meant_is}
 use Rattle.value_laws.proofs.Meanings.{bits_same}
 use Rattle.value_laws.proofs.Knowing.{form_meant, number_goes}
-use Rattle.pattern_laws.specs.Beside.{AllMet, Stands, Ends, Behind, Beside}
+use Rattle.pattern_laws.specs.Beside.{AllMet, Stands, Ends, OfSizes, Behind, Beside}
 use Rattle.fitting_laws.specs.Fitting.{Said}
 use Rattle.pattern_laws.specs.Typing.{Typing, Bears}
 use Rattle.pattern_laws.specs.Standing.{Standing, is_there, is_known, widths_stand, at_widths}
-use Rattle.pattern_laws.proofs.Conditions.{equal_numbers, goals_said}
+use Rattle.pattern_laws.proofs.Conditions.{equal_numbers, goals_said, met_behind, met_front}
 use Rattle.pattern_laws.proofs.Steps.{walks, knowing, after_beside, owed_quiet, met_after}
 use Rattle.pattern_laws.proofs.KnownNumbers.{known_number}
 use Rattle.pattern_laws.proofs.Literals.{pos_same}
@@ -160,7 +161,8 @@ small_width : (n : ℕ) → n ≤ 128 → is_small (pos n) ≡ true
 unfolding largest
 small_width n l = le-leb n (2 ^ 126) (omega (arith, l))
 
-module _ (around : Around) (past : Positive) (own : List Closed) (y : Typing around.types past own) (q : Ends) (cases : Cases) (w : World Item) where
+module _ (around : Around) (past : Positive) (own : List Closed) {fit : OfSizes} (y : Typing around.types past own fit) (q : Ends fit) (cases : Cases)
+    (w : World Item) where
   abbrev Found : Behind (List Bound) (List (Local Item))
   Found = Names around past own y q cases w
 
@@ -190,11 +192,12 @@ module _ (around : Around) (past : Positive) (own : List Closed) (y : Typing aro
       ((Decides-int_eq (pos (length b)) (number (there zeros) (constant (pos n)))).1 (ap pos e ∙ sym (number_constant (there zeros) (pos n))))
       (subst (λ m. is_width m ≡ true) (sym e) (le-leb n 128 l))
 
-  bits_mean : (n : ℕ) (u : Num) (g : Integers) → number (there g) u ≡ pos n → Is around.types past own y (bits_kept n) g (I.Bits u)
-  bits_mean n u g h = (
+  bits_mean : (n : ℕ) (u : Num) (g : Integers) → fit g (Makes.ByIndices (I.Bits u)) → number (there g) u ≡ pos n
+      → Is around.types past own y (bits_kept n) g (I.Bits u)
+  bits_mean n u g size h = (
     meant_is around.types (there g) own (I.Bits u) (W.Bits u) (I.rolls-Bits u)
         ∙ bits_same around.types past own g zeros u (constant (pos n)) (h ∙ sym (number_constant (there zeros) (pos n))),
-    y.kept.cut g u n h,
+    y.kept.cut g u n size h,
   )
 
   -- ---- the walk's parts
@@ -202,12 +205,32 @@ module _ (around : Around) (past : Positive) (own : List Closed) (y : Typing aro
   abbrev Gives : {n : ℕ} → Point n → Option Num → ℕ → Type 0
   Gives f o k = (k ≤ 128) × ((u : Num) → o ≡ Some u → (g : Integers) → Agree f g → number (there g) u ≡ pos k)
 
-  part_goes : {n : ℕ} {f : Point n} {facts : List Fact} (place : Place) (o : Option Num) (k : ℕ) → Gives f o k
-      → Goes past n f facts (bits_part place o) (λ g i. Is around.types past own y (bits_kept k) g i)
-  part_goes place o k h =
-      goes_then (number_goes around.types past own o (pos k) (small_width k h.0) h.1) (λ m g fs u l e.
+  -- what is in force before a step of the walk is in force behind it
+  stands_behind : {n : ℕ} {f : Point n} {facts : List Fact} {A : Type 0} {walk : Walk A} {Holds : Integers → A → Type 0}
+      (r : Goes past n f facts walk Holds) → Stands q past f facts → Stands q past r.goes.point (walk facts n).facts
+  stands_behind r stands = record {
+    there = λ g c. r.goes.true_there g c (stands.there g (agree_on r.goes.later c));
+    so = λ g c. subst (q.so g) (sym r.goes.given) (stands.so g (agree_on r.goes.later c));
+  }
+
+  sized_goes : {n : ℕ} {f : Point n} {facts : List Fact} (place : Place) (u : Num) (k : ℕ)
+      → ((g : Integers) → Agree f g → fit g (Makes.ByIndices (I.Bits u))) → ((g : Integers) → Agree f g → number (there g) u ≡ pos k)
+      → Goes past n f facts (sized_bits place u) (λ g i. Is around.types past own y (bits_kept k) g i)
+  sized_goes place u k sizes h =
       goes_then (note_goes (λ here. size_note here place (Makes.ByIndices (I.Bits u)))) (λ m2 g2 fs2 t l2 e2.
-      gives (I.Bits u) (λ i c. bits_mean k u i (e i (agree_on l2 c)))))
+      gives (I.Bits u) (λ i c. bits_mean k u i (sizes i (agree_on l2 c)) (h i (agree_on l2 c))))
+
+  part_goes : {n : ℕ} {f : Point n} {facts : List Fact} (place : Place) (o : Option Num) (k : ℕ) → AllMet q past (bits_part place o facts n).notes
+      → Stands q past f facts → Gives f o k → Goes past n f facts (bits_part place o) (λ g i. Is around.types past own y (bits_kept k) g i)
+  unfolding bind note
+  part_goes {n} {f} {facts} place o k met stands h =
+      let wide = number_or_fresh o in
+      let first : Goes past n f facts wide (λ g t. number (there g) t ≡ pos k) =
+      number_goes around.types past own o (pos k) (small_width k h.0) h.1 in
+      let noted = met_behind q past (wide facts n).notes _ met in
+      let now : Stands q past first.goes.point (wide facts n).facts = stands_behind first stands in
+      goes_on (sized_bits place) first
+      (sized_goes place (wide facts n).value k (λ g c. noted.0 g (now.there g c) (now.so g c)) first.goes.holds)
 
   -- what a part's width is said to be
   abbrev said : Option Num → Option (Option Num) → Option Num
@@ -226,19 +249,29 @@ module _ (around : Around) (past : Positive) (own : List Closed) (y : Typing aro
   gives_on rest (o ∷ os) [] l h = absurd h
   gives_on rest (o ∷ os) (k ∷ ks) l h = ((h.0.0, λ u e g a. h.0.1 u e g (agree_on l a)), gives_on rest os ks l h.1)
 
-  width_goes : {n : ℕ} {f : Point n} {facts : List Fact} (place : Place) (rest : Option Num) (o : Option (Option Num)) (k : ℕ) → Gives f (said rest o) k
+  width_goes : {n : ℕ} {f : Point n} {facts : List Fact} (place : Place) (rest : Option Num) (o : Option (Option Num)) (k : ℕ)
+      → AllMet q past (cut_width place rest o facts n).notes → Stands q past f facts → Gives f (said rest o) k
       → Goes past n f facts (cut_width place rest o) (λ g i. Is around.types past own y (bits_kept k) g i)
-  width_goes place rest None k h = part_goes place rest k h
-  width_goes place rest (Some o) k h = part_goes place o k h
+  width_goes place rest None k met stands h = part_goes place rest k met stands h
+  width_goes place rest (Some o) k met stands h = part_goes place o k met stands h
 
   widths_go : (place : Place) (rest : Option Num) (os : List (Option (Option Num))) (ks : List ℕ) {n : ℕ} {f : Point n} {facts : List Fact}
-      → EachGives f rest os ks → Goes past n f facts (each (cut_width place rest) os) (λ g is. EachIs around.types past own y (map bits_kept ks) g is)
-  widths_go place rest [] [] h = gives [] (λ g a. tt)
-  widths_go place rest [] (k ∷ ks) h = absurd h
-  widths_go place rest (o ∷ os) [] h = absurd h
-  widths_go place rest (o ∷ os) (k ∷ ks) h =
-      goes_then (width_goes place rest o k h.0) (λ m g fs i l e. goes_then (widths_go place rest os ks (gives_on rest os ks l h.1)) (λ m2 g2 fs2 is l2 e2.
-      gives (i ∷ is) (λ j c. (e j (agree_on l2 c), e2 j c))))
+      → AllMet q past (each (cut_width place rest) os facts n).notes → Stands q past f facts → EachGives f rest os ks
+      → Goes past n f facts (each (cut_width place rest) os) (λ g is. EachIs around.types past own y (map bits_kept ks) g is)
+  unfolding bind
+  widths_go place rest [] [] met stands h = gives [] (λ g a. tt)
+  widths_go place rest [] (k ∷ ks) met stands h = absurd h
+  widths_go place rest (o ∷ os) [] met stands h = absurd h
+  widths_go place rest (o ∷ os) (k ∷ ks) {n} {f} {facts} met stands h =
+      let one = cut_width place rest o in
+      let others = each (cut_width place rest) os in
+      let here = met_front q past (one facts n).notes _ met in
+      let behind = met_front q past (others (one facts n).facts (one facts n).next).notes _ (met_behind q past (one facts n).notes _ met) in
+      let i = (one facts n).value in
+      let first : Goes past n f facts one (λ g j. Is around.types past own y (bits_kept k) g j) = width_goes place rest o k here stands h.0 in
+      goes_on (λ j. bind others (λ is. give (j ∷ is))) first
+      (goes_then (widths_go place rest os ks behind (stands_behind first stands) (gives_on rest os ks first.goes.later h.1)) (λ m2 g2 fs2 is l2 e2.
+      gives (i ∷ is) (λ j c. (first.goes.holds j (agree_on l2 c), e2 j c))))
 
   -- ---- the run's parts
 
@@ -397,7 +430,7 @@ module _ (around : Around) (past : Positive) (own : List Closed) (y : Typing aro
 
   cut_fits : {n : ℕ} {f : Point n} {facts : List Fact} (s : Good f) (place : Place) (how : Matching) (looks : List Look) (ws : List (Option Num))
       (ns : List (Option ℕ)) → EachKnown w.numbers ws ns → (t : Num) (width : ℕ) → number (there f.integers) t ≡ pos width
-      → AllMet q past (cut_met place looks around how (known_widths around ws) t facts n).notes → Stands past f facts → Fits width ns
+      → AllMet q past (cut_met place looks around how (known_widths around ws) t facts n).notes → Stands q past f facts → Fits width ns
   unfolding owe_under
   cut_fits {n} {f} {facts} s place how looks ws ns h t width e met stands =
       let os = known_widths around ws in
@@ -417,6 +450,14 @@ module _ (around : Around) (past : Positive) (own : List Closed) (y : Typing aro
     where
       less : (a b : ℕ) → b ≤ a → pos a -ℤ pos b ≡ pos (a - b)
       less a b l = omega (arith, ints, l)
+
+  -- the parts, whose sizes are noted
+  parts_go : {n : ℕ} {f : Point n} {facts : List Fact} (place : Place) (how : Matching) (looks : List Look) (rest : Option Num)
+      (os : List (Option (Option Num))) (ks : List ℕ) → EachGives f rest os ks → AllMet q past (cut_parts place looks around how os rest facts n).notes
+      → Stands q past f facts → Goes past n f facts (each (cut_width place rest) os) (λ g is. EachIs around.types past own y (map bits_kept ks) g is)
+  unfolding bind
+  parts_go {n} {f} {facts} place how looks rest os ks h met stands =
+      widths_go place rest os ks (met_front q past (each (cut_width place rest) os facts n).notes _ met) stands h
 
   pub cut_beside : {n : ℕ} {f : Point n} {facts : List Fact} (place : Place) (how : Matching) (looks : List Look) (ms : List (Matcher Item))
       (ss : List Standing) → AllWell around past own y q cases w looks ms ss → (ws : List (Option Num)) (t : Num) (x : Item)
@@ -450,11 +491,11 @@ module _ (around : Around) (past : Positive) (own : List Closed) (y : Typing aro
       (seen_parts around past own y q cases w ms parts.0
       (bits_long widths parts.0 parts.2 ∙ many ∙ as_many_stand around past own y q cases w looks ms ss fine)
       (after_beside (cut_owed place (known_widths around ws) t)
-      (walks (widths_go place rest (known_widths around ws) widths
-      (each_said f s rest ws ns left found.2 enough (rest_is s ws ns found.2 t (length bs) wide fit.0)))
+      (knowing (parts_go place how looks rest (known_widths around ws) widths
+      (each_said f s rest ws ns left found.2 enough (rest_is s ws ns found.2 t (length bs) wide fit.0))) (λ go. walks go
       (λ m g fs is l is_so. parts_beside around past own y q cases w place how looks ms ss fine is parts.0
       (all_bear around.types past own y is (map bits_kept widths) parts.0 (bits_suit widths parts.0 enough parts.2) is_so)
-      (grounds_on around past own y q cases w l s) (bits_stand widths parts.0 ss enough parts.2 (sym many) one.1)))
+      (grounds_on around past own y q cases w l s) (bits_stand widths parts.0 ss enough parts.2 (sym many) one.1))))
       (λ m k p g bs ls l h. names_on around.types past own y bs ls l h)
       (λ m g fs l stands. owed_quiet facts place _ stands))))
   cut_beside {f = f} place how looks ms ss fine ws t x b s d v e =

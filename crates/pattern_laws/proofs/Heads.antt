@@ -36,7 +36,7 @@ use Rattle.value_laws.specs.Belonging.{Integers, standing, Meant, meant, closed,
 use Rattle.value_laws.specs.Known.{Point, Agree}
 use Rattle.value_laws.proofs.Basics.{no}
 use Rattle.value_laws.proofs.Steps.{same, agree_on}
-use Rattle.pattern_laws.specs.Beside.{AllMet, Stands, Ends, Behind, Beside}
+use Rattle.pattern_laws.specs.Beside.{AllMet, Stands, Ends, OfSizes, Behind, Beside}
 use Rattle.pattern_laws.specs.Typing.{Typing, Bears, AllBear, EachFits, NamesBear, tuple_size}
 use Rattle.pattern_laws.specs.Standing.{Standing, is_size, parts_stand}
 use Rattle.pattern_laws.proofs.Conditions.{equal_numbers, goals_said}
@@ -48,7 +48,8 @@ use Rattle.pattern_laws.proofs.Points.{names_on, AllOf, all_of}
 use Rattle.pattern_laws.proofs.Parts.{reads, Grounds, grounds_on, Names, Well, AllWell, EachStands, also_beside, parts_beside, item_beside, items_beside}
 use Rattle.pattern_laws.proofs.Parts.{as_many, seen_parts}
 
-module _ (around : Around) (past : Positive) (own : List Closed) (y : Typing around.types past own) (q : Ends) (cases : Cases) (w : World Item) where
+module _ (around : Around) (past : Positive) (own : List Closed) {fit : OfSizes} (y : Typing around.types past own fit) (q : Ends fit) (cases : Cases)
+    (w : World Item) where
   abbrev Found : Behind (List Bound) (List (Local Item))
   Found = Names around past own y q cases w
 
@@ -207,7 +208,7 @@ module _ (around : Around) (past : Positive) (own : List Closed) (y : Typing aro
 
   vector_long : {n : ℕ} {f : Point n} {facts : List Fact} (place : Place) (how : Matching) (looks : List Look) (t : Num) (r : Reading) (vs : List Value)
       → number (standing past f.integers) t ≡ pos (length vs) → AllMet q past (vector_met place looks around how t r facts n).notes
-      → Stands past f facts → length vs ≡ length looks
+      → Stands q past f facts → length vs ≡ length looks
   unfolding owe_under
   vector_long {n} {f} {facts} place how looks t r vs e met stands =
       let owed = (met_after q past n facts (items_met place looks around how r) (length_owed place (length looks) t) met).1 in

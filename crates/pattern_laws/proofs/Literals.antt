@@ -38,7 +38,7 @@ use Rattle.value_laws.specs.Known.{Point, Agree}
 use Rattle.value_laws.proofs.Basics.{no}
 use Rattle.value_laws.proofs.Alike.{asks}
 use Rattle.value_laws.proofs.Steps.{same, assumes}
-use Rattle.pattern_laws.specs.Beside.{AllMet, Stands, Ends, Behind, Beside}
+use Rattle.pattern_laws.specs.Beside.{AllMet, Stands, Ends, OfSizes, Behind, Beside}
 use Rattle.pattern_laws.specs.Typing.{Typing, Bears, NamesBear}
 use Rattle.pattern_laws.specs.Standing.{literal_stands}
 use Rattle.pattern_laws.proofs.Conditions.{equal_numbers, numbers_equal, goals_said}
@@ -49,7 +49,7 @@ use Rattle.pattern_laws.proofs.Values.{never_had, unit_had, truth_had, bit_had, 
 pub pos_same : {n m : ℕ} → pos n ≡ pos m → n ≡ m
 pos_same e = cc
 
-module _ (types : Types) (past : Positive) (own : List Closed) (y : Typing types past own) (q : Ends) where
+module _ (types : Types) (past : Positive) (own : List Closed) {fit : OfSizes} (y : Typing types past own fit) (q : Ends fit) where
   abbrev Names : Behind (List Bound) (List (Local Item))
   Names m p bs ls = NamesBear types past own y m p bs ls
 
@@ -89,10 +89,11 @@ module _ (types : Types) (past : Positive) (own : List Closed) (y : Typing types
     -- ---- bits
 
     as_wide : (bits cs : List Bool) (t : Num) → ((g : Integers) → Agree f g → form_holds types (standing past g) own (W.Bits t) (V.Bits cs) ≡ true)
-        → AllMet q past (bits_met place (length bits) t facts n).notes → Stands past f facts → length bits ≡ length cs
+        → AllMet q past (bits_met place (length bits) t facts n).notes → Stands q past f facts → length bits ≡ length cs
     unfolding bind owe
     as_wide bits cs t h met stands =
-        let said = goals_said q past facts place (Some (equal (constant (pos (length bits))) t) ∷ []) (met.0, tt) f.integers (stands.there f.integers (same f)) in
+        let said = goals_said q past facts place (Some (equal (constant (pos (length bits))) t) ∷ []) (met.0, tt) f.integers
+        (stands.there f.integers (same f)) in
         pos_same (sym (number_constant (standing past f.integers) (pos (length bits)))
         ∙ equal_numbers (standing past f.integers) (constant (pos (length bits))) t said.0 ∙ wide_as types past own f.integers t cs (h f.integers (same f)))
 

@@ -14,29 +14,32 @@ use Rattle.sail_core.specs.Patterns.{Parts, Wrong, so_many, as_run, Matcher, par
 use Rattle.value_indices.specs.declared.indices.Indices.{Indices}
 use Rattle.value_indices.specs.declared.indices.Reading.{Reading}
 use Rattle.value_indices.specs.declared.notes.Fact.{Fact}
-use Rattle.value_indices.specs.Steps.{Walk}
+use Rattle.value_indices.specs.declared.notes.Made.TheVariants as Makes
+use Rattle.value_indices.specs.Steps.{Walk, bind, note}
 use Rattle.checked_meaning.specs.Items.{Item, item}
 use Rattle.checked_meaning.specs.Checked.{Cases, checked}
 use Rattle.pattern_leaves.specs.declared.names.Bound.{Bound}
 use Rattle.pattern_leaves.specs.Settings.{Around}
 use Rattle.pattern_notes.specs.declared.matching.Matching.{Matching}
 use Rattle.pattern_notes.specs.Patterns.{Look, inside, also, parts_match, item_met, items_met}
-use Rattle.value_laws.specs.Known.{Point, Later}
+use Rattle.value_laws.specs.Belonging.{Integers}
+use Rattle.value_laws.specs.Known.{Point, Agree, Later}
 use Rattle.value_laws.proofs.Steps.{agree_on}
 use Rattle.value_laws.proofs.Arguments.{still_later}
 use Rattle.fitting_laws.proofs.Counting.{Grows}
-use Rattle.pattern_laws.specs.Beside.{Ends, Behind, Beside}
+use Rattle.pattern_laws.specs.Beside.{AllMet, Stands, Ends, OfSizes, Behind, Beside}
 use Rattle.pattern_laws.specs.Typing.{Typing, Bears, AllBear, NamesBear}
 use Rattle.pattern_laws.specs.Grounds.{Grounded}
 use Rattle.pattern_laws.specs.Standing.{Standing}
-use Rattle.pattern_laws.proofs.Steps.{binds, walks, rests, wrongs}
+use Rattle.pattern_laws.proofs.Steps.{binds, knowing, walks, rests, wrongs}
 use Rattle.pattern_laws.proofs.Points.{all_on, names_on, names_both, one_bears, ItemOf, AllOf, of_each, takes}
 
 -- so many parts as are looked for
 pub so_many_is : {X : Type 0} (k : ℕ) (xs : List X) → length xs ≡ k → so_many k (Parts xs) ≡ Parts xs
 so_many_is k xs e = ap (λ b. if b then Parts xs else Wrong) ((Decides-eqb (length xs) k).1 e)
 
-module _ (around : Around) (past : Positive) (own : List Closed) (y : Typing around.types past own) (q : Ends) (cases : Cases) (w : World Item) where
+module _ (around : Around) (past : Positive) (own : List Closed) {fit : OfSizes} (y : Typing around.types past own fit) (q : Ends fit) (cases : Cases)
+    (w : World Item) where
   abbrev pub reads : Making Item
   reads = checked around.types cases
 
@@ -103,10 +106,14 @@ module _ (around : Around) (past : Positive) (own : List Closed) (y : Typing aro
   pub item_beside : {n : ℕ} {f : Point n} {facts : List Fact} (place : Place) (how : Matching) (a : Look) (m : Matcher Item) (k : Standing) → Well a m k
       → (r : Reading) (x : Item) → ItemOf around.types past own y f r x → Grounds f → k x.typ ≡ true
       → Beside q past n f facts (item_met place a around how r) (m x) Names
-  item_beside place how a m k h r x o s t =
-      let made = takes around.types past own y place a.naming r x o in
+  unfolding bind note
+  item_beside {n} {f} {facts} place how a m k h r x o s t =
+      let told : AllMet q past (item_met place a around how r facts n).notes → Stands q past f facts → (g : Integers) → Agree f g
+      → fit g (Makes.ByType r) = λ met stands g c. met.0 g (stands.there g c) (stands.so g c) in
+      knowing told (λ sizes.
+      let made = takes around.types past own y place a.naming r x sizes o in
       walks made.2 (λ m2 g fs i l is.
-      h.beside (inside how) i x m2 g fs (one_bears around.types past own y (made.0, x.typ) x (made.1, refl) is) (grounds_on l s) t)
+      h.beside (inside how) i x m2 g fs (one_bears around.types past own y (made.0, x.typ) x (made.1, refl) is) (grounds_on l s) t))
 
   pub items_beside : {n : ℕ} {f : Point n} {facts : List Fact} (place : Place) (how : Matching) (looks : List Look) (ms : List (Matcher Item))
       (ss : List Standing) → AllWell looks ms ss → (r : Reading) (s : Sized) (vs : List Value) → length vs ≡ length looks

@@ -34,7 +34,7 @@ use Rattle.value_laws.specs.Belonging.{standing, has}
 use Rattle.value_laws.specs.Known.{Point}
 use Rattle.value_laws.proofs.Basics.{no}
 use Rattle.value_laws.proofs.Steps.{same}
-use Rattle.pattern_laws.specs.Beside.{Ends, Behind, Beside}
+use Rattle.pattern_laws.specs.Beside.{Ends, OfSizes, Behind, Beside}
 use Rattle.pattern_laws.specs.Typing.{Typing, Bears, AllBear}
 use Rattle.pattern_laws.specs.Standing.{Standing, form_stands, head_stands, stands, each_stands, arm_stands}
 use Rattle.pattern_laws.specs.Grounds.{Ways}
@@ -50,7 +50,8 @@ use Rattle.pattern_laws.proofs.Unions.{union_beside}
 use Rattle.pattern_laws.proofs.Cuts.{cut_beside}
 use Rattle.pattern_laws.proofs.Annotated.{typed_beside, maps_beside}
 
-module _ (around : Around) (past : Positive) (own : List Closed) (y : Typing around.types past own) (q : Ends) (cases : Cases) (w : World Item)
+module _ (around : Around) (past : Positive) (own : List Closed) {fit : OfSizes} (y : Typing around.types past own fit) (q : Ends fit) (cases : Cases)
+    (w : World Item)
     (ways : Ways around past own y q w) where
   abbrev Found : Behind (List Bound) (List (Local Item))
   Found = Names around past own y q cases w
@@ -266,14 +267,16 @@ module _ (around : Around) (past : Positive) (own : List Closed) (y : Typing aro
       never true = refl
       never false = refl
 
-pub pattern_is_sound : (around : Around) (past : Positive) (own : List Closed) (y : Typing around.types past own) (q : Ends)
+pub pattern_is_sound : (around : Around) (past : Positive) (own : List Closed) {fit : OfSizes} (y : Typing around.types past own fit) (q : Ends fit)
     → PatternIsSound around past own y q
 pattern_is_sound around past own y q cases w ways p how i x n f facts b s t = (pattern_well around past own y q cases w ways p).beside how i x n f facts b s t
 
-pub arm_is_sound : (around : Around) (past : Positive) (own : List Closed) (y : Typing around.types past own) (q : Ends) → ArmIsSound around past own y q
+pub arm_is_sound : (around : Around) (past : Positive) (own : List Closed) {fit : OfSizes} (y : Typing around.types past own fit) (q : Ends fit)
+    → ArmIsSound around past own y q
 arm_is_sound around past own y q cases w ways place arm how is xs n f facts b s t = arm_beside around past own y q cases w ways place arm how is xs b s t
 
-pub let_is_sound : (around : Around) (past : Positive) (own : List Closed) (y : Typing around.types past own) (q : Ends) → LetIsSound around past own y q
+pub let_is_sound : (around : Around) (past : Positive) (own : List Closed) {fit : OfSizes} (y : Typing around.types past own fit) (q : Ends fit)
+    → LetIsSound around past own y q
 let_is_sound around past own y q cases w ways place arm how i x n f facts b s t = let_beside around past own y q cases w ways place arm how i x b s t
 
 pub patterns_are_sound : PatternsAreSound

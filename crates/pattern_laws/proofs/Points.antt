@@ -25,13 +25,14 @@ use Rattle.value_laws.specs.Belonging.{Integers, standing, Meant, meant, closed}
 use Rattle.value_laws.specs.Known.{Point, Agree, Later, Goes}
 use Rattle.value_laws.proofs.Steps.{same, agree_on, no_later, goes_on}
 use Rattle.value_laws.proofs.Opening.{opening_sound}
+use Rattle.pattern_laws.specs.Beside.{OfSizes}
 use Rattle.pattern_laws.specs.Typing.{Typing, Bears, AllBear, HeldBears, NamesBear}
 
 pub note_goes : {past : Positive} {n : ℕ} {f : Point n} {facts : List Fact} (make : List Fact → Note) → Goes past n f facts (note make) (λ g t. Unit {0})
 unfolding note
 note_goes {f} make = record { goes = record { point = f; later = no_later f; true_there = λ g a t. t; holds = λ g a. tt; given = refl } }
 
-module _ (types : Types) (past : Positive) (own : List Closed) (y : Typing types past own) where
+module _ (types : Types) (past : Positive) (own : List Closed) {fit : OfSizes} (y : Typing types past own fit) where
   abbrev there : Integers → Assignment
   there g = standing past g
 
@@ -148,9 +149,10 @@ module _ (types : Types) (past : Positive) (own : List Closed) (y : Typing types
   abbrev pub Taken : Item → (n : ℕ) → Point n → List Fact → Walk Indices → Type 0
   Taken x n f facts walk = (m : Meant) × (m.holds x.val ≡ true) × Goes past n f facts walk (λ g i. Is (m, x.typ) g i)
 
-  taken : {n : ℕ} {f : Point n} {facts : List Fact} (naming : Naming) (r : Reading) (x : Item) → ItemOf f r x → Taken x n f facts (opened_for naming r)
+  taken : {n : ℕ} {f : Point n} {facts : List Fact} (naming : Naming) (r : Reading) (x : Item)
+      → ((g : Integers) → Agree f g → fit g (Makes.ByType r)) → ItemOf f r x → Taken x n f facts (opened_for naming r)
   unfolding opened_for
-  taken {n} {f} {facts} naming r x o =
+  taken {n} {f} {facts} naming r x sizes o =
       let s = opening_sound types past own r false naming n f facts x.val (λ g a. o.is_typ g a ∙ sym (o.is_typ f.integers (same f)))
       (ap (belongs types x.val) (o.is_typ f.integers (same f)) ∙ o.belongs_to) in
       let w = s.2.goes in (
@@ -163,7 +165,8 @@ module _ (types : Types) (past : Positive) (own : List Closed) (y : Typing types
             true_there = w.true_there;
             holds = λ g a. (
               w.holds g a,
-              y.kept.opens g r x.typ naming facts n x.val (ap (λ m. m.holds x.val) (w.holds g a) ∙ s.1) (o.reads g (agree_on w.later a)),
+              y.kept.opens g r x.typ naming facts n x.val (sizes g (agree_on w.later a)) (ap (λ m. m.holds x.val) (w.holds g a) ∙ s.1)
+                  (o.reads g (agree_on w.later a)),
             );
             given = w.given;
           };
@@ -171,9 +174,10 @@ module _ (types : Types) (past : Positive) (own : List Closed) (y : Typing types
       )
 
   -- a value is taken out, its sizes noted
-  pub takes : {n : ℕ} {f : Point n} {facts : List Fact} (place : Place) (naming : Naming) (r : Reading) (x : Item) → ItemOf f r x
-      → Taken x n f facts (taken_out place naming r)
-  takes {n} {f} {facts} place naming r x o =
+  pub takes : {n : ℕ} {f : Point n} {facts : List Fact} (place : Place) (naming : Naming) (r : Reading) (x : Item)
+      → ((g : Integers) → Agree f g → fit g (Makes.ByType r)) → ItemOf f r x → Taken x n f facts (taken_out place naming r)
+  takes {n} {f} {facts} place naming r x sizes o =
       let first : Goes past n f facts (note (λ fs. size_note fs place (Makes.ByType r))) (λ g t. Unit {0}) =
       note_goes (λ fs. size_note fs place (Makes.ByType r)) in
-      let t = taken naming r x (of_on first.goes.later o) in (t.0, t.1, goes_on (λ u. opened_for naming r) first t.2)
+      let t = taken naming r x (λ g a. sizes g (agree_on first.goes.later a)) (of_on first.goes.later o) in
+      (t.0, t.1, goes_on (λ u. opened_for naming r) first t.2)

@@ -1,5 +1,5 @@
 -- Steps of a walk beside a run, and what is known behind them.
-use Rattle.std.proofs.Common.{◌≡◌, ℕ, true, false, List, [], ◌∷◌, Some, refl, sym, ◌∙◌}
+use Rattle.std.proofs.Common.{◌≡◌, ℕ, true, false, List, [], ◌∷◌, Some, refl, sym, ◌∙◌, subst}
 use Rattle.sail_base.specs.declared.place.Place.{Place}
 use Rattle.sail_types.specs.Numbers.{Positive}
 use Rattle.sail_types.specs.declared.numbers.Con.TheVariants as C
@@ -16,15 +16,17 @@ use Rattle.value_laws.proofs.Steps.{same, agree_on, later_on, no_later}
 use Rattle.pattern_leaves.specs.declared.names.Bound.{Bound}
 use Rattle.pattern_leaves.specs.Literals.{wrong_pattern}
 use Rattle.pattern_notes.specs.Patterns.{after_inner}
-use Rattle.pattern_laws.specs.Beside.{AllMet, Stands, Reach, Ends, EndsWell, well_given, well_no, well_returned, well_thrown, well_stopped, Behind, Beside}
+use Rattle.pattern_laws.specs.Beside.{AllMet, Stands, Reach, Ends, OfSizes, EndsWell, well_given, well_no}
+use Rattle.pattern_laws.specs.Beside.{well_returned, well_thrown, well_stopped, Behind, Beside}
 use Rattle.pattern_laws.proofs.Conditions.{goals_said, met_front, met_behind}
 
-pub stands_on : {past : Positive} {n m : ℕ} {f : Point n} {g : Point m} {facts : List Fact} → Later f g → Stands past f facts → Stands past g facts
-stands_on l s = record { there = λ h a. s.there h (agree_on l a) }
+pub stands_on : {fit : OfSizes} {q : Ends fit} {past : Positive} {n m : ℕ} {f : Point n} {g : Point m} {facts : List Fact} → Later f g
+    → Stands q past f facts → Stands q past g facts
+stands_on l s = record { there = λ h a. s.there h (agree_on l a); so = λ h a. s.so h (agree_on l a) }
 
 -- ---- ends
 
-module _ {q : Ends} where
+module _ {fit : OfSizes} {q : Ends fit} where
   pub well_then : {o : Noted} {B D : Type 0} {Holds : B → Type 0} {Then : D → Type 0} {e : Ended Item B} {c : B → Run Item D} → EndsWell q o Holds e
       → ((x : B) (now : Now Item) → Holds x → q.keeps now → now.opened ≡ o → EndsWell q o Then (c x now)) → EndsWell q o Then (goes_on e c)
   well_then (well_given x now h k e) next = next x now h k e
@@ -49,11 +51,12 @@ module _ {q : Ends} where
   noted_as alike (well_stopped cause now) = well_stopped cause now
 
 -- what is reached from a later point
-pub reach_then : {past : Positive} {n : ℕ} {f : Point n} {facts : List Fact} {m : ℕ} {more : List Fact} {Holds : Point m → Type 0} {k : ℕ}
-    {last : List Fact} {Then : Point k → Type 0} (r : Reach past f facts m more Holds) → Reach past r.point more k last Then → Reach past f facts k last Then
+pub reach_then : {fit : OfSizes} {q : Ends fit} {past : Positive} {n : ℕ} {f : Point n} {facts : List Fact} {m : ℕ} {more : List Fact}
+    {Holds : Point m → Type 0} {k : ℕ} {last : List Fact} {Then : Point k → Type 0} (r : Reach q past f facts m more Holds)
+    → Reach q past r.point more k last Then → Reach q past f facts k last Then
 reach_then r s = record { point = s.point; later = later_on r.later s.later; stands = s.stands; given = s.given ∙ r.given; holds = s.holds }
 
-module _ {q : Ends} {past : Positive} where
+module _ {fit : OfSizes} {q : Ends fit} {past : Positive} where
   -- ---- one behind the other
 
   pub binds : {n : ℕ} {f : Point n} {facts : List Fact} {A B C D : Type 0} {w : Walk A} {k : A → Walk C} {c : Run Item B} {d : B → Run Item D}
@@ -77,10 +80,13 @@ module _ {q : Ends} {past : Positive} where
   walks {n} {f} {facts} {w = w} {k = k} b next = record {
     run = λ now stands met ok.
         let went = b.goes in
-        let r : Reach past f facts (w facts n).next (w facts n).facts (λ p. Unit {0}) = record {
+        let r : Reach q past f facts (w facts n).next (w facts n).facts (λ p. Unit {0}) = record {
           point = went.point;
           later = went.later;
-          stands = record { there = λ g a. went.true_there g a (stands.there g (agree_on went.later a)) };
+          stands = record {
+            there = λ g a. went.true_there g a (stands.there g (agree_on went.later a));
+            so = λ g a. subst (q.so g) (sym went.given) (stands.so g (agree_on went.later a));
+          };
           given = went.given;
           holds = tt;
         } in
@@ -110,7 +116,7 @@ module _ {q : Ends} {past : Positive} where
 
   -- what is told by the obligations and by what is in force
   pub knowing : {n : ℕ} {f : Point n} {facts : List Fact} {A B : Type 0} {w : Walk A} {c : Run Item B} {Then : Behind A B} {P : Type 0}
-      → (AllMet q past (w facts n).notes → Stands past f facts → P) → (P → Beside q past n f facts w c Then) → Beside q past n f facts w c Then
+      → (AllMet q past (w facts n).notes → Stands q past f facts → P) → (P → Beside q past n f facts w c Then) → Beside q past n f facts w c Then
   knowing told next = record { run = λ now stands met ok. (next (told met stands)).run now stands met ok }
 
   -- a piece that says No
@@ -119,7 +125,7 @@ module _ {q : Ends} {past : Positive} where
 
   -- what isn't so
   pub never_so : {n : ℕ} {f : Point n} {facts : List Fact} {A B : Type 0} {w : Walk A} {c : Run Item B} {Then : Behind A B}
-      → (AllMet q past (w facts n).notes → Stands past f facts → ⊥) → Beside q past n f facts w c Then
+      → (AllMet q past (w facts n).notes → Stands q past f facts → ⊥) → Beside q past n f facts w c Then
   never_so told = record { run = λ now stands met ok. absurd (told met stands) }
 
   -- a piece that ends well by itself, then one beside the walk
@@ -163,39 +169,43 @@ module _ {q : Ends} {past : Positive} where
   }
 
 -- of a direction that the pattern goes through
-pub way_reached : (q : Ends) (past : Positive) (n : ℕ) (facts : List Fact) {C : Type 0} (d : ℕ) (k : Walk C)
+pub way_reached : {fit : OfSizes} (q : Ends fit) (past : Positive) (n : ℕ) (facts : List Fact) {C : Type 0} (d : ℕ) (k : Walk C)
     → AllMet q past (bind (note (λ fs. way_note fs d)) (λ t. k) facts n).notes → q.reached d ≡ true
 unfolding bind note
 way_reached q past n facts d k met = met.0
 
 -- ---- what is false is owed
 
-wrong_met : (q : Ends) {past : Positive} {n : ℕ} {f : Point n} {facts : List Fact} (place : Place) → AllMet q past (wrong_pattern place facts n).notes
-    → Stands past f facts → ⊥
+wrong_met : {fit : OfSizes} (q : Ends fit) {past : Positive} {n : ℕ} {f : Point n} {facts : List Fact} (place : Place)
+    → AllMet q past (wrong_pattern place facts n).notes
+    → Stands q past f facts → ⊥
 unfolding bind owe give
 wrong_met q {past} {f = f} {facts = facts} place met stands =
     let said = goals_said q past facts place (Some (C.Truth false) ∷ []) (met.0, tt) f.integers (stands.there f.integers (same f)) in
     no (sym (truth_is (standing past f.integers) false) ∙ said.0)
 
-pub wrongs : {q : Ends} {past : Positive} {n : ℕ} {f : Point n} {facts : List Fact} {B : Type 0} {c : Run Item B} {Then : Behind (List Bound) B} (place : Place)
+pub wrongs : {fit : OfSizes} {q : Ends fit} {past : Positive} {n : ℕ} {f : Point n} {facts : List Fact} {B : Type 0} {c : Run Item B}
+    {Then : Behind (List Bound) B} (place : Place)
     → Beside q past n f facts (wrong_pattern place) c Then
-wrongs {q = q} {past = past} {n = n} {f = f} {facts = facts} place = never_so (λ met stands. wrong_met q {past = past} {n = n} {f = f} {facts = facts} place met stands)
+wrongs {q = q} {past = past} {n = n} {f = f} {facts = facts} place =
+    never_so (λ met stands. wrong_met q {past = past} {n = n} {f = f} {facts = facts} place met stands)
 
 -- ---- what an outer pattern owes behind its inner ones
 
 -- a walk of which nothing is wanted but that what comes into force is true
-abbrev pub Quiet : Positive → {n : ℕ} → Point n → List Fact → Walk (Unit {0}) → Type 0
-Quiet past {n} f facts walk = Reach past f facts (walk facts n).next (walk facts n).facts (λ p. Unit {0})
+abbrev pub Quiet : {fit : OfSizes} → Ends fit → Positive → {n : ℕ} → Point n → List Fact → Walk (Unit {0}) → Type 0
+Quiet q past {n} f facts walk = Reach q past f facts (walk facts n).next (walk facts n).facts (λ p. Unit {0})
 
-pub owed_quiet : {past : Positive} {n : ℕ} {f : Point n} {facts : List Fact} (earlier : List Fact) (place : Place) (cs : Conditions) → Stands past f facts
-    → Quiet past f facts (owe_under earlier place cs)
+pub owed_quiet : {fit : OfSizes} {q : Ends fit} {past : Positive} {n : ℕ} {f : Point n} {facts : List Fact} (earlier : List Fact) (place : Place)
+    (cs : Conditions) → Stands q past f facts
+    → Quiet q past f facts (owe_under earlier place cs)
 unfolding owe_under
 owed_quiet {f = f} earlier place cs s = record { point = f; later = no_later f; stands = s; given = refl; holds = tt }
 
-pub after_beside : {q : Ends} {past : Positive} {n : ℕ} {f : Point n} {facts : List Fact} {B : Type 0} {inner : Walk (List Bound)}
+pub after_beside : {fit : OfSizes} {q : Ends fit} {past : Positive} {n : ℕ} {f : Point n} {facts : List Fact} {B : Type 0} {inner : Walk (List Bound)}
     (owed : List Fact → Walk (Unit {0})) {c : Run Item B} {Holds : Behind (List Bound) B} → Beside q past n f facts inner c Holds
     → ((m k : ℕ) (p : Point m) (r : Point k) (bs : List Bound) (x : B) → Later p r → Holds m p bs x → Holds k r bs x)
-    → ((m : ℕ) (g : Point m) (fs : List Fact) → Later f g → Stands past g fs → Quiet past g fs (owed facts))
+    → ((m : ℕ) (g : Point m) (fs : List Fact) → Later f g → Stands q past g fs → Quiet q past g fs (owed facts))
     → Beside q past n f facts (after_inner inner owed) c Holds
 unfolding after_inner bind facts_here give
 after_beside {q = q} {past = past} {n = n} {f = f} {facts = facts} {inner = inner} owed b on quiet = record {
@@ -211,7 +221,7 @@ after_beside {q = q} {past = past} {n = n} {f = f} {facts = facts} {inner = inne
       });
 }
 
-pub met_after : (q : Ends) (past : Positive) (n : ℕ) (facts : List Fact) (inner : Walk (List Bound)) (owed : List Fact → Walk (Unit {0}))
+pub met_after : {fit : OfSizes} (q : Ends fit) (past : Positive) (n : ℕ) (facts : List Fact) (inner : Walk (List Bound)) (owed : List Fact → Walk (Unit {0}))
     → AllMet q past (after_inner inner owed facts n).notes
     → AllMet q past (inner facts n).notes × AllMet q past (owed facts (inner facts n).facts (inner facts n).next).notes
 unfolding after_inner bind facts_here give

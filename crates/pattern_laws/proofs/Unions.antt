@@ -25,7 +25,7 @@ use Rattle.value_indices.specs.declared.indices.Indices.TheVariants as I
 use Rattle.value_indices.specs.declared.indices.Reading.{Reading}
 use Rattle.value_indices.specs.declared.indices.Reading.TheVariants as R
 use Rattle.value_indices.specs.declared.notes.Fact.{Fact}
-use Rattle.value_indices.specs.Steps.{Walk, bind, give}
+use Rattle.value_indices.specs.Steps.{Walk, bind, give, note}
 use Rattle.checked_meaning.specs.Items.{Item, item, part_typ}
 use Rattle.checked_meaning.specs.Checked.{Cases}
 use Rattle.pattern_leaves.specs.declared.names.Bound.{Bound}
@@ -41,17 +41,19 @@ use Rattle.value_laws.proofs.Values.{closed_is, form_asked, inner, belongs_form}
 use Rattle.value_laws.proofs.Alike.{asks}
 use Rattle.value_laws.proofs.Arguments.{assigned_there}
 use Rattle.fitting_laws.proofs.Within.{AllWithin, belongs_within}
-use Rattle.pattern_laws.specs.Beside.{Ends, Behind, Beside}
+use Rattle.pattern_laws.specs.Beside.{AllMet, Stands, Ends, OfSizes, Behind, Beside}
 use Rattle.pattern_laws.specs.Typing.{Typing, Bears, EachReads}
 use Rattle.pattern_laws.specs.Standing.{Standing, is_size, size_of, parts_stand, payload_stands, union_stands, constructor_stands}
-use Rattle.pattern_laws.proofs.Steps.{walks, falling, wrongs}
+use Rattle.pattern_laws.proofs.Conditions.{met_behind, met_front}
+use Rattle.pattern_laws.proofs.Steps.{walks, falling, knowing, wrongs}
 use Rattle.pattern_laws.proofs.Tables.{union_alone, not_below_none}
 use Rattle.pattern_laws.proofs.Values.{named_had, named_types, named_numbers}
 use Rattle.pattern_laws.proofs.Points.{Kept, EachIs, EachSuits, all_bear, ItemOf, of_on, takes}
 use Rattle.pattern_laws.proofs.Parts.{reads, Grounds, grounds_on, Names, AllWell, EachStands, parts_beside, seen_parts, as_many}
 use Rattle.pattern_laws.proofs.Heads.{components_stand, components_long, as_many_stand}
 
-module _ (around : Around) (past : Positive) (own : List Closed) (y : Typing around.types past own) (q : Ends) (cases : Cases) (w : World Item) where
+module _ (around : Around) (past : Positive) (own : List Closed) {fit : OfSizes} (y : Typing around.types past own fit) (q : Ends fit) (cases : Cases)
+    (w : World Item) where
   abbrev Found : Behind (List Bound) (List (Local Item))
   Found = Names around past own y q cases w
 
@@ -88,19 +90,29 @@ module _ (around : Around) (past : Positive) (own : List Closed) (y : Typing aro
       (ks : List (Kept around.types past own y)) × EachSuits around.types past own y ks xs
       × Goes past n f facts walk (λ g is. EachIs around.types past own y ks g is)
 
-  takes_all : (place : Place) (looks : List Look) (rs : List Reading) (xs : List Item) {n : ℕ} {f : Point n} {facts : List Fact} → length rs ≡ length looks
+  takes_all : (place : Place) (looks : List Look) (rs : List Reading) (xs : List Item) {n : ℕ} {f : Point n} {facts : List Fact}
+      → AllMet q past (all_taken place (named_readings looks rs) facts n).notes → Stands q past f facts → length rs ≡ length looks
       → EachOf f rs xs → AllTaken xs n f facts (all_taken place (named_readings looks rs))
-  takes_all place [] [] [] e h = ([], tt, gives [] (λ g a. tt))
-  takes_all place [] [] (x ∷ xs) e h = absurd h
-  takes_all place [] (r ∷ rs) xs e h = absurd (cc)
-  takes_all place (a ∷ looks) [] xs e h = absurd (cc)
-  takes_all place (a ∷ looks) (r ∷ rs) [] e h = absurd h
-  takes_all place (a ∷ looks) (r ∷ rs) (x ∷ xs) {n} {f} {facts} e h =
+  unfolding bind note
+  takes_all place [] [] [] met stands e h = ([], tt, gives [] (λ g a. tt))
+  takes_all place [] [] (x ∷ xs) met stands e h = absurd h
+  takes_all place [] (r ∷ rs) xs met stands e h = absurd (cc)
+  takes_all place (a ∷ looks) [] xs met stands e h = absurd (cc)
+  takes_all place (a ∷ looks) (r ∷ rs) [] met stands e h = absurd h
+  takes_all place (a ∷ looks) (r ∷ rs) (x ∷ xs) {n} {f} {facts} met stands e h =
       let out = taken_out place a.naming r in
-      let one = takes around.types past own y {n = n} {f = f} {facts = facts} place a.naming r x h.0 in
+      let rest = all_taken place (named_readings looks rs) in
+      let here = met_front q past (out facts n).notes _ met in
+      let behind = met_front q past (rest (out facts n).facts (out facts n).next).notes _ (met_behind q past (out facts n).notes _ met) in
+      let one = takes around.types past own y {n = n} {f = f} {facts = facts} place a.naming r x (λ g c. here.0 g (stands.there g c) (stands.so g c)) h.0 in
       let first = one.2.goes in
+      let now : Stands q past first.point (out facts n).facts =
+      record {
+        there = λ g c. first.true_there g c (stands.there g (agree_on first.later c));
+        so = λ g c. subst (q.so g) (sym first.given) (stands.so g (agree_on first.later c));
+      } in
       let more : AllTaken xs (out facts n).next first.point (out facts n).facts (all_taken place (named_readings looks rs)) =
-      takes_all place looks rs xs (suc_same e) (each_on rs xs first.later h.1) in (
+      takes_all place looks rs xs behind now (suc_same e) (each_on rs xs first.later h.1) in (
         (one.0, x.typ) ∷ more.0,
         ((one.1, refl), more.1),
         goes_on (λ i. bind (all_taken place (named_readings looks rs)) (λ is. give (i ∷ is))) one.2
@@ -113,11 +125,14 @@ module _ (around : Around) (past : Positive) (own : List Closed) (y : Typing aro
   met_beside : {n : ℕ} {f : Point n} {facts : List Fact} (place : Place) (how : Matching) (looks : List Look) (ms : List (Matcher Item))
       (ss : List Standing) → Fine looks ms ss → (rs : List Reading) (xs : List Item) → length rs ≡ length looks → EachOf f rs xs → Good f
       → EachStands around past own y q cases w ss xs → Beside q past n f facts (constructor_met place looks around how rs) (run_parts ms xs) Found
-  met_beside place how looks ms ss fine rs xs e h s t =
-      let all = takes_all place looks rs xs e h in
-      walks all.2 (λ m g fs is l held.
+  unfolding bind
+  met_beside {n} {f} {facts} place how looks ms ss fine rs xs e h s t =
+      let told : AllMet q past (constructor_met place looks around how rs facts n).notes → Stands q past f facts
+      → AllTaken xs n f facts (all_taken place (named_readings looks rs)) =
+      λ met stands. takes_all place looks rs xs (met_front q past (all_taken place (named_readings looks rs) facts n).notes _ met) stands e h in
+      knowing told (λ all. walks all.2 (λ m g fs is l held.
       parts_beside around past own y q cases w place how looks ms ss fine is xs (all_bear around.types past own y is all.0 xs all.1 held)
-      (grounds_on around past own y q cases w l s) t)
+      (grounds_on around past own y q cases w l s) t))
 
   -- ---- a payload, of a type under what the variables of the union stand for
 

@@ -13,7 +13,7 @@ use Rattle.checked_meaning.specs.Items.{Item, fixed_typ}
 use Rattle.pattern_leaves.specs.Settings.{Around}
 use Rattle.value_laws.specs.Belonging.{Integers, standing, is_of}
 use Rattle.value_laws.specs.Known.{Point, Agree}
-use Rattle.pattern_laws.specs.Beside.{Ends, EndsWell}
+use Rattle.pattern_laws.specs.Beside.{Ends, OfSizes, EndsWell}
 use Rattle.pattern_laws.specs.Typing.{Typing}
 
 -- what the type variables of the function stand for hangs on fixed variables alone, and is what they stand for in the run
@@ -21,7 +21,7 @@ pub record Grounded (past : Positive) (around : Around) (nu : Givens) {n : ℕ} 
   pub still : (g : Integers) → Agree f g → assigned (standing past g) around.numbers ≡ assigned (standing past f.integers) around.numbers
   pub says : (g : Integers) → Agree f g → (i : ℕ) (z : ℤ) → given_int (slice_get nu i) ≡ Some z → number (standing past g) (number_at around.numbers i) ≡ z
 
-module _ (around : Around) (past : Positive) (own : List Closed) (y : Typing around.types past own) where
+module _ (around : Around) (past : Positive) (own : List Closed) {fit : OfSizes} (y : Typing around.types past own fit) where
   -- a value of a type that names no variable, as a direction gives it
   pub record IsGiven (t : Typ) (v : Item) : Type 0 where
     pub belongs_to : (g : Integers) → is_of around.types (standing past g) own (R.Of t [] []) v.val ≡ true
@@ -29,7 +29,7 @@ module _ (around : Around) (past : Positive) (own : List Closed) (y : Typing aro
     pub reads : (g : Integers) → y.reads g (R.Of t [] []) v.typ
 
   -- on a value of what it takes a direction that patterns go through ends well, and gives a value of what it gives
-  abbrev pub Ways : Ends → World Item → Type 0
+  abbrev pub Ways : Ends fit → World Item → Type 0
   Ways q w = (d : ℕ) (m : Direction) (x : Item) → q.reached d ≡ true → slice_get around.directions d ≡ Some m
       → ((g : Integers) → is_of around.types (standing past g) own (R.Of m.parameter [] []) x.val ≡ true)
       → (now : Now Item) → q.keeps now → EndsWell q now.opened (λ v. IsGiven m.result v) (w.way d x now)

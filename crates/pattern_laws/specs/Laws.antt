@@ -14,6 +14,7 @@ use Rattle.sail_core.specs.Patterns.{arm_meaning, matcher}
 use Rattle.value_indices.specs.declared.indices.Indices.{Indices}
 use Rattle.value_indices.specs.declared.indices.Reading.{Reading}
 use Rattle.value_indices.specs.declared.notes.Fact.{Fact}
+use Rattle.value_indices.specs.declared.notes.Made.{Made}
 use Rattle.checked_meaning.specs.Items.{Item, typs}
 use Rattle.checked_meaning.specs.Checked.{Cases, checked}
 use Rattle.pattern_leaves.specs.Settings.{Around}
@@ -21,12 +22,12 @@ use Rattle.pattern_notes.specs.declared.matching.Matching.{Matching}
 use Rattle.pattern_notes.specs.Patterns.{arm_match, looks, matched, one_match}
 use Rattle.value_laws.specs.Belonging.{Integers}
 use Rattle.value_laws.specs.Known.{Point}
-use Rattle.pattern_laws.specs.Beside.{Ends, Beside}
+use Rattle.pattern_laws.specs.Beside.{Ends, OfSizes, Beside}
 use Rattle.pattern_laws.specs.Typing.{AllBear, Bears, IsKept, NamesBear, Typing}
 use Rattle.pattern_laws.specs.Standing.{arm_stands, stands}
 use Rattle.pattern_laws.specs.Grounds.{Grounded, Ways}
 
-module _ (around : Around) (past : Positive) (own : List Closed) (y : Typing around.types past own) (q : Ends) where
+module _ (around : Around) (past : Positive) (own : List Closed) {fit : OfSizes} (y : Typing around.types past own fit) (q : Ends fit) where
   -- a pattern that is matched with a value of the indices that the walk knows: where what is in force is true and its obligations hold, its run is
   -- never stuck; where it matches, the names are those of the walk, their values have the indices that the walk gives them, and all that came into
   -- force is true
@@ -51,22 +52,30 @@ module _ (around : Around) (past : Positive) (own : List Closed) (y : Typing aro
       → Beside q past n f facts (one_match place (looks arm) around how i) (arm_meaning (checked around.types cases) w arm (x ∷ []))
       (NamesBear around.types past own y)
 
--- ---- what holds of moments, of what is returned and thrown, of directions, and of the types that values carry, as tests
+-- ---- what holds of moments, of what is returned and thrown, of directions, of the sizes that are noted, and of the types that values carry, as tests
 
 pub record Tests (types : Types) (past : Positive) (own : List Closed) : Type 0 where
   pub keeps : Now Item → Bool
   pub answer : Value → Bool
   pub thrown : Value → Bool
   pub reached : ℕ → Bool
+  pub so : Integers → List ℕ → Bool
+  pub fit : Integers → Made → Bool
   pub fits : Integers → Indices → Sized → Bool
   pub reads : Integers → Reading → Sized → Bool
-  pub kept : IsKept types past own (λ g i s. fits g i s ≡ true) (λ g r s. reads g r s ≡ true)
+  pub kept : IsKept types past own (λ g made. fit g made ≡ true) (λ g i s. fits g i s ≡ true) (λ g r s. reads g r s ≡ true)
 
 module _ {types : Types} {past : Positive} {own : List Closed} (t : Tests types past own) where
-  abbrev pub ends_of : Ends
-  ends_of = record { keeps = λ now. t.keeps now ≡ true; answer = λ v. t.answer v ≡ true; thrown = λ v. t.thrown v ≡ true; reached = t.reached }
+  abbrev pub ends_of : Ends (λ g made. t.fit g made ≡ true)
+  ends_of = record {
+    keeps = λ now. t.keeps now ≡ true;
+    answer = λ v. t.answer v ≡ true;
+    thrown = λ v. t.thrown v ≡ true;
+    reached = t.reached;
+    so = λ g vs. t.so g vs ≡ true;
+  }
 
-  abbrev pub typing_of : Typing types past own
+  abbrev pub typing_of : Typing types past own (λ g made. t.fit g made ≡ true)
   typing_of = record { fits = λ g i s. t.fits g i s ≡ true; reads = λ g r s. t.reads g r s ≡ true; kept = t.kept }
 
 -- ---- the laws, whatever these tests are

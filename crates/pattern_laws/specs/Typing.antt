@@ -20,6 +20,7 @@ use Rattle.value_indices.specs.declared.indices.Naming.{Naming}
 use Rattle.value_indices.specs.declared.indices.Reading.{Reading}
 use Rattle.value_indices.specs.declared.indices.Reading.TheVariants as R
 use Rattle.value_indices.specs.declared.notes.Fact.{Fact}
+use Rattle.value_indices.specs.declared.notes.Made.TheVariants as Makes
 use Rattle.value_indices.specs.Opening.{opened_for}
 use Rattle.checked_meaning.specs.Items.{Item, fixed_typ, part_typ}
 use Rattle.pattern_leaves.specs.Payloads.{payload_readings}
@@ -27,6 +28,7 @@ use Rattle.pattern_leaves.specs.declared.names.Bound.{Bound}
 use Rattle.pattern_leaves.specs.declared.names.Held.{Held}
 use Rattle.pattern_leaves.specs.declared.names.Held.TheVariants as H
 use Rattle.value_laws.specs.Belonging.{Integers, standing, meant, has}
+use Rattle.pattern_laws.specs.Beside.{OfSizes}
 use Rattle.value_laws.specs.Known.{Point, Agree}
 
 -- the parts of a tuple's type, where it is one
@@ -49,11 +51,12 @@ EachReads types reads s k [] = Unit {0}
 EachReads types reads s k (r ∷ rs) = reads r (part_typ types (component k) s) × EachReads types reads s (suc k) rs
 
 -- which types values carry, of indices and of types of the walk: parts keep it
-pub record IsKept (types : Types) (past : Positive) (own : List Closed) (fits : Integers → Indices → Sized → Type 0)
+pub record IsKept (types : Types) (past : Positive) (own : List Closed) (fit : OfSizes) (fits : Integers → Indices → Sized → Type 0)
     (reads : Integers → Reading → Sized → Type 0) : Type 0 where
-  -- a value of a type, opened
+  -- a value of a type whose sizes fit, opened
   pub opens : (g : Integers) (r : Reading) (s : Sized) (naming : Naming) (facts : List Fact) (n : ℕ) (v : Value)
-      → has types (standing past g) own (opened_for naming r facts n).value v ≡ true → reads g r s → fits g (opened_for naming r facts n).value s
+      → fit g (Makes.ByType r) → has types (standing past g) own (opened_for naming r facts n).value v ≡ true → reads g r s
+      → fits g (opened_for naming r facts n).value s
   -- the parts of a tuple, items, payloads, and parts of payloads
   pub size : (g : Integers) (is : List Indices) (s : Sized) → fits g (I.Tuple is) s → tuple_size (out-Sized s) ≡ Some (length is)
   pub parts : (g : Integers) (is : List Indices) (s : Sized) → fits g (I.Tuple is) s → EachFits types (fits g) s 0 is
@@ -64,15 +67,16 @@ pub record IsKept (types : Types) (past : Positive) (own : List Closed) (fits : 
       → fits g (I.Named u is rs) s → reads g (R.Of t is rs) (part_typ types (payload u c) s)
   pub of_tuple : (g : Integers) (t : Typ) (ts : List Typ) (is : List Index) (rs : List Reading) (s : Sized) → out-Typ t ≡ T.Tuple ts
       → reads g (R.Of t is rs) s → EachReads types (reads g) s 0 (payload_readings ts is rs)
-  -- a part of bits
-  pub cut : (g : Integers) (t : Num) (k : ℕ) → number (standing past g) t ≡ pos k → fits g (I.Bits t) (fixed_typ types (bits_typ k))
+  -- a part of bits whose size fits
+  pub cut : (g : Integers) (t : Num) (k : ℕ) → fit g (Makes.ByIndices (I.Bits t)) → number (standing past g) t ≡ pos k
+      → fits g (I.Bits t) (fixed_typ types (bits_typ k))
 
-pub record Typing (types : Types) (past : Positive) (own : List Closed) : Type 1 where
+pub record Typing (types : Types) (past : Positive) (own : List Closed) (fit : OfSizes) : Type 1 where
   pub fits : Integers → Indices → Sized → Type 0
   pub reads : Integers → Reading → Sized → Type 0
-  pub kept : IsKept types past own fits reads
+  pub kept : IsKept types past own fit fits reads
 
-module _ (types : Types) (past : Positive) (own : List Closed) (y : Typing types past own) where
+module _ (types : Types) (past : Positive) (own : List Closed) {fit : OfSizes} (y : Typing types past own fit) where
   -- a value has these indices, of which it is known what they widen to, whatever variables stand for that aren't fixed
   pub record Bears {n : ℕ} (f : Point n) (i : Indices) (x : Item) : Type 0 where
     pub wide : Closed

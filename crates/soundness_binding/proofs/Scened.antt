@@ -30,25 +30,30 @@ use Rattle.soundness_steps.specs.Steps.{AllMet, Beside, EndsWell, Stands, well_g
 use Rattle.soundness_steps.specs.Works.{Scene, here}
 use Rattle.soundness_forms.specs.Worlds.{AreGiven}
 use Rattle.soundness_forms.proofs.Written.{numbers_still}
-use Rattle.soundness_binding.specs.Scenes.{ArmStands, DirectionsRead, LetStands, ends}
+use Rattle.soundness_binding.specs.Scenes.{ArmStands, DirectionsRead, LetStands, SizesTold, ends}
 
 -- ---- a piece beside a walk goes over into a scene
 
--- of a pattern's notes obligations, and directions that are reached, are wanted
-met_as : (q : Scene) (ns : List Note) → AllMet q ns → P.AllMet (ends q) q.set.past ns
-met_as q [] met = tt
-met_as q (goal_note facts place c ∷ ns) met = (met.0, met_as q ns met.1)
-met_as q (size_note facts place made ∷ ns) met = (tt, met_as q ns met.1)
-met_as q (made_note facts k operands made ∷ ns) met = (tt, met_as q ns met.1)
-met_as q (call_note facts place k operands callee js qs ∷ ns) met = (tt, met_as q ns met.1)
-met_as q (way_note facts d ∷ ns) met = (met.0, met_as q ns met.1)
-met_as q (given_note facts k i ∷ ns) met = (tt, met_as q ns met.1)
-met_as q (name_note v name ∷ ns) met = (tt, met_as q ns met.1)
+-- of a pattern's notes obligations, sizes, and directions that are reached, are wanted
+met_as : (q : Scene) (t : Tests q.set.around.types q.set.past q.work.types) → SizesTold q.set q.work t → (noted : Noted) (ns : List Note) → AllMet q ns
+    → P.AllMet (ends q t noted) q.set.past ns
+met_as q t told noted [] met = tt
+met_as q t told noted (goal_note facts place c ∷ ns) met = (met.0, met_as q t told noted ns met.1)
+met_as q t told noted (size_note facts place made ∷ ns) met = (
+  λ g all so. told g made (met.0 g noted (record { numbers = so.0; true_there = all; given = so.1 })),
+  met_as q t told noted ns met.1,
+)
+met_as q t told noted (made_note facts k operands made ∷ ns) met = (tt, met_as q t told noted ns met.1)
+met_as q t told noted (call_note facts place k operands callee js qs ∷ ns) met = (tt, met_as q t told noted ns met.1)
+met_as q t told noted (way_note facts d ∷ ns) met = (met.0, met_as q t told noted ns met.1)
+met_as q t told noted (given_note facts k i ∷ ns) met = (tt, met_as q t told noted ns met.1)
+met_as q t told noted (name_note v name ∷ ns) met = (tt, met_as q t told noted ns met.1)
 
-ends_as : (q : Scene) {n : ℕ} {f : Point n} (facts : List Fact) (noted : Noted) {m : ℕ} (more : List Fact) {B : Type 0} {Holds : Point m → B → Type 0}
+ends_as : (q : Scene) (t : Tests q.set.around.types q.set.past q.work.types) {n : ℕ} {f : Point n} (facts : List Fact) (noted : Noted) {m : ℕ}
+    (more : List Fact) {B : Type 0} {Holds : Point m → B → Type 0}
     {e : Ended Item B} → q.may_fall ≡ true → Stands q.set q.work noted f facts
-    → P.EndsWell (ends q) noted (λ x. P.Reach q.set.past f facts m more (λ p. Holds p x)) e → EndsWell q f m more Holds e
-ends_as q facts noted more fall stands (P.well_given x now r k alike) = well_given x now (record {
+    → P.EndsWell (ends q t noted) noted (λ x. P.Reach (ends q t noted) q.set.past f facts m more (λ p. Holds p x)) e → EndsWell q f m more Holds e
+ends_as q t facts noted more fall stands (P.well_given x now r k alike) = well_given x now (record {
   point = r.point;
   later = behind r.later;
   stands = record {
@@ -62,18 +67,23 @@ ends_as q facts noted more fall stands (P.well_given x now r k alike) = well_giv
   };
   holds = r.holds;
 }) k
-ends_as q facts noted more fall stands (P.well_no now k) = well_no now fall k
-ends_as q facts noted more fall stands (P.well_returned v now b k) = well_returned v now b k
-ends_as q facts noted more fall stands (P.well_thrown v now b k) = well_thrown v now b k
-ends_as q facts noted more fall stands (P.well_stopped cause now) = well_stopped cause now
+ends_as q t facts noted more fall stands (P.well_no now k) = well_no now fall k
+ends_as q t facts noted more fall stands (P.well_returned v now b k) = well_returned v now b k
+ends_as q t facts noted more fall stands (P.well_thrown v now b k) = well_thrown v now b k
+ends_as q t facts noted more fall stands (P.well_stopped cause now) = well_stopped cause now
 
-pub in_scene : (q : Scene) {n : ℕ} {f : Point n} {facts : List Fact} {A B : Type 0} {walk : Walk A} {piece : Run Item B}
-    {Then : (m : ℕ) → Point m → A → B → Type 0} → q.may_fall ≡ true → P.Beside (ends q) q.set.past n f facts walk piece Then
+pub in_scene : (q : Scene) (t : Tests q.set.around.types q.set.past q.work.types) → SizesTold q.set q.work t
+    → {n : ℕ} {f : Point n} {facts : List Fact} {A B : Type 0} {walk : Walk A} {piece : Run Item B}
+    {Then : (m : ℕ) → Point m → A → B → Type 0} → q.may_fall ≡ true
+    → ((noted : Noted) → P.Beside (ends q t noted) q.set.past n f facts walk piece Then)
     → Beside q n f facts walk piece Then
-in_scene q {n} {f} {facts} {walk = walk} fall b = record {
+in_scene q t told {n} {f} {facts} {walk = walk} fall b = record {
   run = λ now stands met ok.
-      ends_as q facts now.opened (walk facts n).facts fall stands
-      (b.run now (record { there = λ g a. (stands.there g a).true_there }) (met_as q (walk facts n).notes met) ok);
+      ends_as q t facts now.opened (walk facts n).facts fall stands
+      ((b now.opened).run now (record {
+        there = λ g a. (stands.there g a).true_there;
+        so = λ g a. ((stands.there g a).numbers, (stands.there g a).given);
+      }) (met_as q t told now.opened (walk facts n).notes met) ok);
 }
 
 -- ---- what is known there
@@ -110,26 +120,30 @@ module _ (q : Scene) (w : World Item) (t : Tests q.set.around.types q.set.past q
         reads = λ g. ap (t.reads g (R.Of m.result [] [])) k.typ ∙ known.2 g;
       }
 
-  call_as : (m : Direction) (d : ℕ) → slice_get q.set.around.directions d ≡ Some m → (now : Now Item) → Sound q now → {e : Ended Item Item}
+  call_as : (noted : Noted) (m : Direction) (d : ℕ) → slice_get q.set.around.directions d ≡ Some m → (now : Now Item) → Sound q now → {e : Ended Item Item}
       → CallEnds q.set true now (Calls.IsGiven q.set m) e
-      → P.EndsWell (ends q) now.opened (λ v. IsGiven (here q) q.set.past q.work.types (typing_of t) m.result v) e
-  call_as m d found now ok (call_gives x after k a) = P.well_given x after (given_as m d found x k) (after_ok now after ok a) a.opened
-  call_as m d found now ok (call_falls after e a) = P.well_no after (after_ok now after ok a)
-  call_as m d found now ok (call_throws v after h a) = P.well_thrown v after h (after_ok now after ok a)
-  call_as m d found now ok (call_stops cause after) = P.well_stopped cause after
+      → P.EndsWell (ends q t noted) now.opened (λ v. IsGiven (here q) q.set.past q.work.types (typing_of t) m.result v) e
+  call_as noted m d found now ok (call_gives x after k a) = P.well_given x after (given_as m d found x k) (after_ok now after ok a) a.opened
+  call_as noted m d found now ok (call_falls after e a) = P.well_no after (after_ok now after ok a)
+  call_as noted m d found now ok (call_throws v after h a) = P.well_thrown v after h (after_ok now after ok a)
+  call_as noted m d found now ok (call_stops cause after) = P.well_stopped cause after
 
-  ways : SoundCalls q.set q.reached w → Ways (here q) q.set.past q.work.types (typing_of t) (ends q) w
-  ways calls d m x reached found belongs now ok =
+  ways : SoundCalls q.set q.reached w → (noted : Noted) → Ways (here q) q.set.past q.work.types (typing_of t) (ends q t noted) w
+  ways calls noted d m x reached found belongs now ok =
       let known = read d m found in
-      call_as m d found now ok
+      call_as noted m d found now ok
       (calls.way d m x reached found (sym (known.0 (λ i. pos 0) x.val) ∙ belongs (λ i. pos 0)) now ok.state)
 
-  pub let_stands : q.may_fall ≡ true → LetStands q w t
-  let_stands fall n f facts scope place arm how i x there bears stands =
-      in_scene q fall (let_is_sound (here q) q.set.past q.work.types (typing_of t) (ends q) q.cases w (ways there.calls) place arm how i x n f facts bears
+  pub let_stands : SizesTold q.set q.work t → q.may_fall ≡ true → LetStands q w t
+  let_stands told fall n f facts scope place arm how i x there bears stands =
+      in_scene q t told fall (λ noted.
+      let_is_sound (here q) q.set.past q.work.types (typing_of t) (ends q t noted) q.cases w (ways there.calls noted)
+      place arm how i x n f facts bears
       (grounded q w f there.numbers) stands)
 
-  pub arm_stands_there : q.may_fall ≡ true → ArmStands q w t
-  arm_stands_there fall n f facts scope place arm how is xs there bears stands =
-      in_scene q fall (arm_is_sound (here q) q.set.past q.work.types (typing_of t) (ends q) q.cases w (ways there.calls) place arm how is xs n f facts bears
+  pub arm_stands_there : SizesTold q.set q.work t → q.may_fall ≡ true → ArmStands q w t
+  arm_stands_there told fall n f facts scope place arm how is xs there bears stands =
+      in_scene q t told fall (λ noted.
+      arm_is_sound (here q) q.set.past q.work.types (typing_of t) (ends q t noted) q.cases w (ways there.calls noted)
+      place arm how is xs n f facts bears
       (grounded q w f there.numbers) stands)

@@ -11,7 +11,7 @@ use Rattle.soundness_steps.specs.Works.{Scene}
 use Rattle.soundness_forms.specs.EachKind.{KindFine}
 use Rattle.soundness_forms.specs.Forms.{FitsSuffice}
 use Rattle.soundness_binding.specs.Matches.{AllLetsMatch, LetsMatch}
-use Rattle.soundness_binding.specs.Scenes.{ArmStands, DirectionsRead, LetStands}
+use Rattle.soundness_binding.specs.Scenes.{ArmStands, DirectionsRead, LetStands, SizesTold}
 
 -- `let`, where its pattern matches
 abbrev pub LetsAreFine : Type 0
@@ -28,5 +28,6 @@ BlocksAreFine = FitsSuffice → (q : Scene) (w : World Item) (statements : List 
 
 -- patterns where a piece may say No, whatever test of the types that values carry is kept by their parts
 abbrev pub PatternsStand : Type 0
-PatternsStand = (q : Scene) (w : World Item) (t : Tests q.set.around.types q.set.past q.work.types) → DirectionsRead q.set q.work t → q.may_fall ≡ true
+PatternsStand = (q : Scene) (w : World Item) (t : Tests q.set.around.types q.set.past q.work.types) → DirectionsRead q.set q.work t
+    → SizesTold q.set q.work t → q.may_fall ≡ true
     → LetStands q w t × ArmStands q w t

@@ -11,9 +11,11 @@ use Rattle.sail_core.specs.declared.patterns.Arm.{Arm}
 use Rattle.value_indices.specs.declared.indices.Indices.{Indices}
 use Rattle.value_indices.specs.declared.indices.Reading.TheVariants as R
 use Rattle.value_indices.specs.declared.notes.Fact.{Fact}
+use Rattle.value_indices.specs.declared.notes.Made.{Made}
 use Rattle.pattern_leaves.specs.Settings.{Scope}
 use Rattle.pattern_notes.specs.Patterns.{arm_match, looks, one_match}
 use Rattle.pattern_notes.specs.declared.matching.Matching.{Matching}
+use Rattle.checked_meaning.specs.Checked.{Noted}
 use Rattle.checked_meaning.specs.Items.{Item, fixed_typ, typs}
 use Rattle.value_laws.specs.Belonging.{Integers, is_of, standing}
 use Rattle.value_laws.specs.Known.{Point}
@@ -21,19 +23,26 @@ use Rattle.pattern_laws.specs.Beside.{Ends}
 use Rattle.pattern_laws.specs.Laws.{Tests, typing_of}
 use Rattle.pattern_laws.specs.Standing.{arm_stands}
 use Rattle.pattern_laws.specs.Typing.{AllBear, Bears, NamesBear}
+use Rattle.soundness_steps.specs.Covers.{SizesFit}
+use Rattle.soundness_steps.specs.Noted.{EachNoted, HasNumbers}
 use Rattle.soundness_steps.specs.States.{IsAnswer, IsThrown, Sound, nothing_stands}
 use Rattle.soundness_steps.specs.Steps.{Beside}
 use Rattle.soundness_steps.specs.Works.{Scene, Setting, Work, here}
 use Rattle.soundness_forms.specs.Forms.{z}
 use Rattle.soundness_forms.specs.Worlds.{Surrounds}
 
--- what holds of moments in a scene
-abbrev pub ends : Scene → Ends
-ends q = record {
+-- sizes that are noted are told by a test
+abbrev pub SizesTold : (set : Setting) (work : Work) → Tests set.around.types set.past work.types → Type 0
+SizesTold set work t = (g : Integers) (made : Made) → SizesFit set.around.types work.own set.past g made → t.fit g made ≡ true
+
+-- what holds of moments in a scene where these numbers are noted
+abbrev pub ends : (q : Scene) (t : Tests q.set.around.types q.set.past q.work.types) → Noted → Ends (λ g made. t.fit g made ≡ true)
+ends q t noted = record {
   keeps = Sound q;
   answer = IsAnswer q.set.around.types q.answer;
   thrown = IsThrown q.set q.set.around.exception;
   reached = q.reached;
+  so = λ g vs. HasNumbers 0 q.work.instance.numbers g × EachNoted noted g vs;
 }
 
 -- a type that names no variable, wherever it is read

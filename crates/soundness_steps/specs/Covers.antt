@@ -30,6 +30,7 @@ use Rattle.value_indices.specs.Steps.{Note, goal_note, size_note, made_note, cal
 use Rattle.checked_meaning.specs.Checked.{Noted, Cases}
 use Rattle.value_laws.specs.Belonging.{Integers, standing, has}
 use Rattle.value_laws.specs.Known.{AllTrue}
+use Rattle.size_laws.specs.Settled.{Settled, of_reading}
 use Rattle.soundness_steps.specs.Works.{Work, Setting}
 use Rattle.soundness_steps.specs.Noted.{IsSo, variables_given, with_given, known, sized, type_sized, is_made, MadeAs}
 
@@ -53,9 +54,10 @@ abbrev pub AllFit : List Size → Type 0
 AllFit [] = Unit {0}
 AllFit (s ∷ ss) = NumberFits s.number s.largest × AllFit ss
 
-abbrev pub SizesFit : Types → Positive → Integers → Made → Type 0
-SizesFit types past f (Makes.ByIndices i) = FormFits past f (out-Indices i) × AllFit (value_sizes types (known f) i)
-SizesFit types past f (Makes.ByType r) = AllFit (reading_sizes types (known f) r)
+-- a type's sizes are the same, moreover, where a value of it is opened
+abbrev pub SizesFit : Types → List Sized → Positive → Integers → Made → Type 0
+SizesFit types own past f (Makes.ByIndices i) = FormFits past f (out-Indices i) × AllFit (value_sizes types (known f) i)
+SizesFit types own past f (Makes.ByType r) = AllFit (reading_sizes types (known f) r) × Settled types own (known f) (of_reading r)
 
 -- ---- calls: what is awaited are numbers that the call gives
 
@@ -112,7 +114,7 @@ module _ (set : Setting) (work : Work) where
   abbrev pub IsMet : (ℕ → Bool) → Cases → Note → Type 0
   IsMet reached cases (goal_note facts place goal) = GoalHolds facts goal
   IsMet reached cases (size_note facts place made) = (f : Integers) (noted : Noted) → IsSo set.past work noted f facts
-      → SizesFit set.around.types set.past f made
+      → SizesFit set.around.types work.own set.past f made
   IsMet reached cases (made_note facts k operands made) = (f : Integers) (noted : Noted) → IsSo set.past work noted f facts
       → (ss : List Sized) → AreSized f operands ss → (v : Value) → is_made set.around.types set.past work f made v ≡ true
       → HasCase f made v (cases.makes k ss v noted)
