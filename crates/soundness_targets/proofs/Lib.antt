@@ -3,3 +3,4 @@ pub mod Changed
 pub mod Named
 pub mod Assigned
 pub mod Assignments
+pub mod AssignedKinds

@@ -17,6 +17,7 @@ use Rattle.value_laws.specs.Known.{Point}
 use Rattle.soundness_steps.specs.Works.{Scene, here}
 use Rattle.soundness_steps.specs.Steps.{Beside}
 use Rattle.soundness_steps.specs.Values.{AimSteady, Comes}
+use Rattle.soundness_forms.specs.EachKind.{node}
 use Rattle.soundness_forms.specs.Forms.{Fine, z}
 use Rattle.soundness_forms.specs.Worlds.{Surrounds}
 use Rattle.soundness_targets.specs.Names.{RegistersClosed, VarsWhole, target}
@@ -34,3 +35,10 @@ module _ (q : Scene) (w : World Item) (scope : Scope) where
 abbrev pub NamesAreAssigned : Type 0
 NamesAreAssigned = (q : Scene) (w : World Item) (scope : Scope) → ((name : List ℕ) → VarsWhole scope → AssignedTo q w scope (T.Variable name))
     × ((i : ℕ) → RegistersClosed q.set → AssignedTo q w scope (T.Register i))
+
+-- such an assignment to a register is fine, as what an expression is made of
+abbrev pub RegistersAreAssigned : Type 0
+RegistersAreAssigned = (q : Scene) (w : World Item) → RegistersClosed q.set → (place at : Place) (number k i : ℕ) (p : Part) (r : Run Item Item)
+    → Fine q w false false p r
+    → Fine q w false false (node q w place number (K.Assign (target at k (T.Register i) ∷ [])) (p ∷ []))
+    (kind_meaning (z q w) w place number (K.Assign (target at k (T.Register i) ∷ [])) (r ∷ []))
