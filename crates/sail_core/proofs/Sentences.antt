@@ -14,7 +14,7 @@ use Rattle.sail_core.specs.Values.{Into, item_way, replaced}
 use Rattle.sail_core.specs.Making.{World, plainly, truth, integer}
 use Rattle.sail_core.specs.Targets.{Spot, Spotted, Spotting, spotting, spotted, assigned, target_meaning, read_register, write_register, register_read}
 use Rattle.sail_core.specs.Targets.{register_spot, part_spot, also, ways_of}
-use Rattle.sail_core.specs.Meaning.{first_of}
+use Rattle.sail_core.specs.Meaning.{first_of, met_at}
 use Rattle.sail_core.specs.Sentences.{register, item_of, AssignmentsRead, GuardsComeLater, NoTurnNoTick, TicksFirst}
 
 -- what a target means over those inside
@@ -45,6 +45,22 @@ after_goes R.Stuck f g = refl
 pub then_assoc : {A B C : Type 0} (r : Run Value A) (f : A → Run Value B) (g : B → Run Value C) → ((r then f) then g) ≡ (r then λ x. f x then g)
 then_assoc r f g = λ i now. after_goes (r now) f g i
 
+-- a piece that gives what it gives
+gives_again : {A : Type 0} (e : Ended Value A) → goes_on e (λ x. R.gives x) ≡ e
+gives_again (R.Gives x now) = refl
+gives_again (R.No now) = refl
+gives_again (R.Returns v now) = refl
+gives_again (R.Throws v now) = refl
+gives_again (R.Stops cause now) = refl
+gives_again R.Stuck = refl
+
+pub then_gives : {A : Type 0} (r : Run Value A) → (r then λ x. R.gives x) ≡ r
+then_gives r = λ i now. gives_again (r now) i
+
+-- where ways meet, the plain meaning makes nothing but the value that is there
+pub met_plainly : (k : ℕ) (ways : Run Value Value) → met_at plainly k ways ≡ ways
+met_plainly k ways = then_gives ways
+
 pub guards_come_later : GuardsComeLater
 guards_come_later w arm arms body bodies none xs h = λ i now. or_so (goes_on (h i now) (λ found. within found body)) (first_of plainly w arms bodies none xs)
 
@@ -65,17 +81,6 @@ pub ticks_first : TicksFirst
 ticks_first s calls active p i awaited vs f now h = no_tick _ now h
 
 -- ---- `R[i] = e`
-
-gives_again : {A : Type 0} (e : Ended Value A) → goes_on e (λ x. R.gives x) ≡ e
-gives_again (R.Gives x now) = refl
-gives_again (R.No now) = refl
-gives_again (R.Returns v now) = refl
-gives_again (R.Throws v now) = refl
-gives_again (R.Stops cause now) = refl
-gives_again R.Stuck = refl
-
-then_gives : {A : Type 0} (r : Run Value A) → (r then λ x. R.gives x) ≡ r
-then_gives r = λ i now. gives_again (r now) i
 
 module _ (w : World Value) (p : Place) (k r : ℕ) (i e : Run Value Value) where
   abbrev Ways : Type 0

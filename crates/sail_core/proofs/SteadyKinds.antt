@@ -22,8 +22,8 @@ use Rattle.sail_core.specs.Numbers.{known, known_truth}
 use Rattle.sail_core.specs.Making.{World, plainly, made, integer, truth, natural}
 use Rattle.sail_core.specs.Patterns.{arm_meaning}
 use Rattle.sail_core.specs.Targets.{called, spotting}
-use Rattle.sail_core.specs.Meaning.{arm_taken, first_of, let_in, tried, block, count_turns, foreach, next_of, in_span, fallen, loop_measure, condition_of}
-use Rattle.sail_core.specs.Meaning.{while_turns, repeat_turns, taken, suffix_then, suffixes_of, put, built, truly, kind_meaning, core_meaning}
+use Rattle.sail_core.specs.Meaning.{arm_taken, first_of, let_in, tried, met_at, block, count_turns, foreach, next_of, in_span, fallen, loop_measure}
+use Rattle.sail_core.specs.Meaning.{condition_of, while_turns, repeat_turns, taken, suffix_then, suffixes_of, put, built, truly, kind_meaning, core_meaning}
 use Rattle.sail_core.specs.Steady.{Steady, SteadyWorld}
 use Rattle.sail_core.proofs.Growth.{at_once, then_steady, or_steady, caught_later, within_steady, gives_steady, needs_steady, stops_steady, if_steady}
 use Rattle.sail_core.proofs.Growth.{tick_steady}
@@ -40,6 +40,9 @@ natural_steady v = then_steady (integer plainly v) (λ i. needs (natural_of i)) 
 
 choice_steady : (v : Value) (a b : Run Value Value) → Steady a → Steady b → Steady (truth plainly v then if_so a b)
 choice_steady v a b h k = then_steady (truth plainly v) (if_so a b) (truth_steady v) (if_steady a b h k)
+
+met_steady : (k : ℕ) (ways : Run Value Value) → Steady ways → Steady (met_at plainly k ways)
+met_steady k ways h = then_steady ways (λ x. made plainly k (V.Unit ∷ []) x) h (made_steady k (V.Unit ∷ []))
 
 -- ---- arms
 
@@ -223,10 +226,13 @@ module _ (w : World Value) (s : SteadyWorld w) (p : Place) (k : ℕ) where
   kind_steady (K.Let arm) (a ∷ b ∷ []) h = then_steady a (λ x. let_in plainly w p arm x b) h.0 (λ x. let_steady w s p arm x b h.1.0)
   kind_steady (K.Var name t) (a ∷ b ∷ []) h = then_steady a (λ x. within (local name x ∷ []) b) h.0 (λ x. within_steady (local name x ∷ []) b h.1.0)
   kind_steady (K.If shape) (a ∷ b ∷ []) h = then_steady a _ h.0 (λ x. choice_steady x b (gives V.Unit) h.1.0 (gives_steady V.Unit))
-  kind_steady (K.If shape) (a ∷ b ∷ c ∷ []) h = then_steady a _ h.0 (λ x. choice_steady x b c h.1.0 h.1.1.0)
+  kind_steady (K.If shape) (a ∷ b ∷ c ∷ []) h =
+      met_steady k (a then λ x. truth plainly x then if_so b c) (then_steady a _ h.0 (λ x. choice_steady x b c h.1.0 h.1.1.0))
   kind_steady (K.Match arms shape) (a ∷ bodies) h =
-      then_steady a _ h.0 (λ x. first_steady w s arms bodies h.1 (stops (MatchFailure p)) (stops_steady Value (MatchFailure p) refl) (x ∷ []))
-  kind_steady (K.Try arms shape) (a ∷ bodies) h = tried_steady w s k arms bodies h.1 a h.0
+      met_steady k (a then λ x. first_of plainly w arms bodies (stops (MatchFailure p)) (x ∷ []))
+      (then_steady a _ h.0 (λ x. first_steady w s arms bodies h.1 (stops (MatchFailure p)) (stops_steady Value (MatchFailure p) refl) (x ∷ [])))
+  kind_steady (K.Try arms shape) (a ∷ bodies) h =
+      met_steady k (tried plainly w k arms bodies a) (tried_steady w s k arms bodies h.1 a h.0)
   kind_steady (K.Clauses arms) bodies h = first_steady w s arms bodies h falls (λ now. at_once now) w.arguments
   kind_steady K.When (a ∷ b ∷ []) h = then_steady a _ h.0 (λ x. choice_steady x b falls h.1.0 (λ now. at_once now))
   kind_steady (K.Foreach name way) (a ∷ b ∷ c ∷ body ∷ []) h =

@@ -52,6 +52,10 @@ abbrev pub tried : {X : Type 0} → Making X → World X → ℕ → List Arm �
 tried z w k arms bodies piece now =
     caught (z.inside piece now) (λ v after. (made z k [] v then λ x. first_of z w arms bodies (throws v) (x ∷ [])) (z.back now after))
 
+-- where ways meet: the value of the way that was taken is made anew, of `()`, by which a `try` tells it from what it catches
+abbrev pub met_at : {X : Type 0} → Making X → ℕ → Run X X → Run X X
+met_at z k ways = ways then λ x. made z k (nothing z ∷ []) (z.val x)
+
 -- ---- blocks
 
 -- statements, each with the rest of the block behind it
@@ -187,9 +191,10 @@ kind_meaning z w place k (K.Block statements) parts = block z w statements parts
 kind_meaning z w place k (K.Let arm) (a ∷ b ∷ []) = a then λ x. let_in z w place arm x b
 kind_meaning z w place k (K.Var name written) (a ∷ b ∷ []) = a then λ x. within (local name x ∷ []) b
 kind_meaning z w place k (K.If shape) (a ∷ b ∷ []) = a then λ x. truth z x then if_so (z.inside b) (gives (nothing z))
-kind_meaning z w place k (K.If shape) (a ∷ b ∷ c ∷ []) = a then λ x. truth z x then if_so (z.inside b) (z.inside c)
-kind_meaning z w place k (K.Match arms shape) (a ∷ bodies) = a then λ x. first_of z w arms bodies (stops (MatchFailure place)) (x ∷ [])
-kind_meaning z w place k (K.Try arms shape) (a ∷ bodies) = tried z w k arms bodies a
+kind_meaning z w place k (K.If shape) (a ∷ b ∷ c ∷ []) = met_at z k (a then λ x. truth z x then if_so (z.inside b) (z.inside c))
+kind_meaning z w place k (K.Match arms shape) (a ∷ bodies) =
+    met_at z k (a then λ x. first_of z w arms bodies (stops (MatchFailure place)) (x ∷ []))
+kind_meaning z w place k (K.Try arms shape) (a ∷ bodies) = met_at z k (tried z w k arms bodies a)
 kind_meaning z w place k (K.Clauses arms) bodies = first_of z w arms bodies falls w.arguments
 kind_meaning z w place k K.When (a ∷ b ∷ []) = a then λ x. truth z x then if_so b falls
 kind_meaning z w place k (K.Foreach name way) (a ∷ b ∷ c ∷ body ∷ []) =
