@@ -54,7 +54,7 @@ ways_sound : (q : Scene) (w : World Item) (place : Place) (arms : List Arm) (cs 
 ways_sound q w place [] cs h ms = tt
 ways_sound q w place (arm ∷ arms) [] h ms = tt
 ways_sound q w place (arm ∷ arms) (c ∷ cs) h ms = (
-  arms_sound q w place arm c (standing q.set.around.types c).guard ms.0 (body_fine q w true c h.0 h.1 h.2),
+  arms_sound q w place arm c (standing q.set.around c).guard ms.0 (body_fine q w true c h.0 h.1 h.2),
   ways_sound q w place arms cs h.3 ms.1,
 )
 

@@ -1,6 +1,5 @@
 -- An expression is fine where each of its nodes is.
 use Rattle.std.proofs.Common.{◌≡◌, Bool, true, false, List, [], ◌∷◌, ◌++◌, map, refl, sym, ap, ◌∙◌, subst}
-use Rattle.sail_types.specs.declared.table.Types.{Types}
 use Rattle.sail_core.specs.Making.{World}
 use Rattle.sail_core.specs.Meaning.{kind_meaning, meaning}
 use Rattle.sail_core.specs.Run.{Run}
@@ -33,9 +32,6 @@ nodes_are d =
     ∙ ap (λ ns. d ∷ ns) (nexts d.parts)
 
 module _ (q : Scene) (w : World Item) (model : TypesClosed q.set) where
-  abbrev types : Types
-  types = q.set.around.types
-
   front : (ns ms : List (Core-F Core)) → EachFine q w (ns ++ ms) → EachFine q w ns
   front [] ms h = tt
   front (c ∷ ns) ms h = (h.0, front ns ms h.1)
@@ -48,14 +44,14 @@ module _ (q : Scene) (w : World Item) (model : TypesClosed q.set) where
   each d left = by_kind (is_proved d.kind) refl
     where
       by_kind : (b : Bool) → is_proved d.kind ≡ b → NodeFine q w d
-      by_kind true e = proved q w model d.kind e d.place d.number (map (standing types) d.parts) (map part d.parts) (map (meaning (z q w) w) d.parts)
+      by_kind true e = proved q w model d.kind e d.place d.number (map (standing q.set.around) d.parts) (map part d.parts) (map (meaning (z q w) w) d.parts)
       by_kind false e = left e
 
   -- ---- an expression with its part, its run and how it stands
 
   abbrev Such : Core → Type 0
-  Such c = EachFine q w (nodes c) → (standing types c).right ≡ true
-      → Fine q w (standing types c).cast (standing types c).guard (part c) (meaning (z q w) w c)
+  Such c = EachFine q w (nodes c) → (standing q.set.around c).right ≡ true
+      → Fine q w (standing q.set.around c).cast (standing q.set.around c).guard (part c) (meaning (z q w) w c)
 
   abbrev SuchCore : Type 0
   SuchCore = (c : Core) × Such c
@@ -64,7 +60,7 @@ module _ (q : Scene) (w : World Item) (model : TypesClosed q.set) where
   bare ys = map (λ y. y.0) ys
 
   parts_fine : (ys : List SuchCore) → EachFine q w (joined (map nodes (bare ys)))
-      → PartsFine q w (map (standing types) (bare ys)) (map part (bare ys)) (map (meaning (z q w) w) (bare ys))
+      → PartsFine q w (map (standing q.set.around) (bare ys)) (map part (bare ys)) (map (meaning (z q w) w) (bare ys))
   parts_fine [] h = tt
   parts_fine (y ∷ ys) h =
       (y.1 (front (nodes y.0) (joined (map nodes (bare ys))) h), parts_fine ys (behind (nodes y.0) (joined (map nodes (bare ys))) h))
@@ -72,12 +68,12 @@ module _ (q : Scene) (w : World Item) (model : TypesClosed q.set) where
   node_fine : (y : Core-F SuchCore) → Such (roll-Core (map-Core SuchCore Core (λ p. p.0) y))
   node_fine y others right =
       let d : Core-F Core = map-Core SuchCore Core (λ p. p.0) y in
-      let s = fold-roll-Core Standing (node_standing types) d in
+      let s = fold-roll-Core Standing (node_standing q.set.around) d in
       let p = fold-roll-Core Part core_part d in
       let r = fold-roll-Core (Run Item Item) (λ c. kind_meaning (z q w) w c.place c.number c.kind c.parts) d in
       let here = subst (EachFine q w) (nodes_are d) others in
-      subst (λ m. Fine q w (standing types (roll-Core d)).cast (standing types (roll-Core d)).guard (part (roll-Core d)) m) (sym r)
-      (subst (λ a. Fine q w (standing types (roll-Core d)).cast (standing types (roll-Core d)).guard a
+      subst (λ m. Fine q w (standing q.set.around (roll-Core d)).cast (standing q.set.around (roll-Core d)).guard (part (roll-Core d)) m) (sym r)
+      (subst (λ a. Fine q w (standing q.set.around (roll-Core d)).cast (standing q.set.around (roll-Core d)).guard a
       (kind_meaning (z q w) w d.place d.number d.kind (map (meaning (z q w) w) d.parts))) (sym p)
       (subst (λ t. Fine q w t.cast t.guard (core_part (map-Core Core Part part d))
       (kind_meaning (z q w) w d.place d.number d.kind (map (meaning (z q w) w) d.parts))) (sym s)

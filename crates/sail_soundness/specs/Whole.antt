@@ -62,8 +62,8 @@ pub record TypesClosed (set : Setting) : Type 0 where
 module _ (q : Scene) (w : World Item) where
   -- a node is fine where its own parts are, as they stand
   abbrev pub NodeFine : Core-F Core → Type 0
-  NodeFine c = PartsFine q w (map (standing q.set.around.types) c.parts) (map part c.parts) (map (meaning (z q w) w) c.parts)
-      → kind_right q.set.around.types c.kind (map (standing q.set.around.types) c.parts) ≡ true
+  NodeFine c = PartsFine q w (map (standing q.set.around) c.parts) (map part c.parts) (map (meaning (z q w) w) c.parts)
+      → kind_right q.set.around c.kind (map (standing q.set.around) c.parts) ≡ true
       → Fine q w (is_cast c.kind) (is_guard c.kind) (node q w c.place c.number c.kind (map part c.parts))
       (kind_meaning (z q w) w c.place c.number c.kind (map (meaning (z q w) w) c.parts))
 
@@ -77,5 +77,5 @@ module _ (q : Scene) (w : World Item) where
 
 -- an expression in which casts, guards and literals stand as the resolver puts them is fine, where those of its nodes are that aren't of a proved kind
 abbrev pub EachFollows : Type 0
-EachFollows = (q : Scene) (w : World Item) (c : Core) → (standing q.set.around.types c).right ≡ true → OthersFine q w (nodes c)
-    → Fine q w (standing q.set.around.types c).cast (standing q.set.around.types c).guard (part c) (meaning (z q w) w c)
+EachFollows = (q : Scene) (w : World Item) (c : Core) → (standing q.set.around c).right ≡ true → OthersFine q w (nodes c)
+    → Fine q w (standing q.set.around c).cast (standing q.set.around c).guard (part c) (meaning (z q w) w c)

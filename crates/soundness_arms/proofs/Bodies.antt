@@ -21,11 +21,11 @@ use Rattle.soundness_arms.proofs.Arms.{arms_sound}
 use Rattle.soundness_arms.proofs.Grows.{all_count}
 
 module _ (q : Scene) (w : World Item) (declared : Bool) where
-  pub body_fine : (c : Core) → (standing q.set.around.types (body_of declared c)).cast ≡ true → (standing q.set.around.types (body_of declared c)).right ≡ true
-      → OthersFine q w (nodes (body_of declared c)) → Fine q w true (standing q.set.around.types (body_of declared c)).guard (part (body_of declared c))
+  pub body_fine : (c : Core) → (standing q.set.around (body_of declared c)).cast ≡ true → (standing q.set.around (body_of declared c)).right ≡ true
+      → OthersFine q w (nodes (body_of declared c)) → Fine q w true (standing q.set.around (body_of declared c)).guard (part (body_of declared c))
       (meaning (read_as q) w (body_of declared c))
   body_fine c is right others =
-      subst (λ b. Fine q w b (standing q.set.around.types (body_of declared c)).guard (part (body_of declared c)) (meaning (read_as q) w (body_of declared c)))
+      subst (λ b. Fine q w b (standing q.set.around (body_of declared c)).guard (part (body_of declared c)) (meaning (read_as q) w (body_of declared c)))
       is (whole q w (body_of declared c) right others)
 
   arms_follow : (place : Place) (arms : List Arm) (cs : List Core) → BodiesStand q w declared cs
@@ -33,7 +33,7 @@ module _ (q : Scene) (w : World Item) (declared : Bool) where
   arms_follow place [] cs h ms = tt
   arms_follow place (arm ∷ arms) [] h ms = tt
   arms_follow place (arm ∷ arms) (c ∷ cs) h ms = (
-    arms_sound q w place (arm_of declared arm) (body_of declared c) (standing q.set.around.types (body_of declared c)).guard ms.0
+    arms_sound q w place (arm_of declared arm) (body_of declared c) (standing q.set.around (body_of declared c)).guard ms.0
         (body_fine c h.0 h.1 h.2),
     arms_follow place arms cs h.3 ms.1,
   )

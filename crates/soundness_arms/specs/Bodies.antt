@@ -19,7 +19,7 @@ use Rattle.soundness_arms.specs.Laws.{clause_scene}
 abbrev pub BodiesStand : Scene → World Item → Bool → List Core → Type 0
 BodiesStand q w declared [] = Unit {0}
 BodiesStand q w declared (c ∷ cs) =
-    ((standing q.set.around.types (body_of declared c)).cast ≡ true) × ((standing q.set.around.types (body_of declared c)).right ≡ true)
+    ((standing q.set.around (body_of declared c)).cast ≡ true) × ((standing q.set.around (body_of declared c)).right ≡ true)
     × OthersFine q w (nodes (body_of declared c)) × BodiesStand q w declared cs
 
 pub record Clauses (q : Scene) (w : World Item) (declared : Bool) (core : Core) : Type 0 where

@@ -32,5 +32,5 @@ module _ (q : Scene) (w : World Item) where
   -- what is to be shown of each kind
   abbrev pub KindFine : Kind → Type 0
   KindFine kind = (place : Place) (k : ℕ) (ss : List Standing) (ps : List Part) (rs : List (Run Item Item)) → PartsFine ss ps rs
-      → kind_right q.set.around.types kind ss ≡ true
+      → kind_right q.set.around kind ss ≡ true
       → Fine q w (is_cast kind) (is_guard kind) (node place k kind ps) (kind_meaning (z q w) w place k kind rs)

@@ -169,7 +169,7 @@ module _ (around : Around) (scope : Scope) where
 
 module _ (fit : FitsSuffice) (q : Scene) (w : World Item) where
   abbrev RowsFine : Kind → Place → ℕ → List Standing → List Part → List (Run Item Item) → Type 0
-  RowsFine kind place k ss ps rs = kind_right q.set.around.types kind ss ≡ true
+  RowsFine kind place k ss ps rs = kind_right q.set.around kind ss ≡ true
       → Fine q w (is_cast kind) (is_guard kind) (node q w place k kind ps) (kind_meaning (z q w) w place k kind rs)
 
   value_row : (t : Row) → is_value t.0 ≡ true → (t.0.right ≡ true → Fine q w t.0.cast t.0.guard t.1 t.2) → Fine q w false false t.1 t.2

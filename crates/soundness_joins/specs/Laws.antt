@@ -26,7 +26,7 @@ CountingIsFine = FitsSuffice → (q : Scene) (w : World Item) (name : List ℕ) 
 -- a kind over parts of which this is known besides
 abbrev pub KindFineOver : Scene → World Item → (List Part → Type 0) → Kind → Type 0
 KindFineOver q w Known kind = (place : Place) (k : ℕ) (ss : List Standing) (ps : List Part) (rs : List (Run Item Item)) → Known ps → PartsFine q w ss ps rs
-    → kind_right q.set.around.types kind ss ≡ true → Fine q w false false (node q w place k kind ps) (kind_meaning (z q w) w place k kind rs)
+    → kind_right q.set.around kind ss ≡ true → Fine q w false false (node q w place k kind ps) (kind_meaning (z q w) w place k kind rs)
 
 abbrev pub LoopsAreFine : Type 0
 LoopsAreFine = FitsSuffice → (q : Scene) (w : World Item) → KindFineOver q w (WhileParts q) K.While × KindFineOver q w (RepeatParts q) K.Repeat

@@ -64,7 +64,7 @@ module _ (m : CoreModel) (past : Positive) (lets : List TopLevel) (vs : List Val
   value_ends : LetsAre set nobody lets vs → (c : Core) (aim : Aim) → ValueStands q w c → AimSteady set nobody start_point aim
       → AreMet set nobody q.reached cases ((part c).walk (pure_around m lets) [] aim [] 0).notes
       → EndsWell q start_point ((part c).walk (pure_around m lets) [] aim [] 0).next ((part c).walk (pure_around m lets) [] aim [] 0).facts
-      (λ g x. Comes set nobody g (standing m.types c).cast (part c).is_nested (part c).never_ends aim
+      (λ g x. Comes set nobody g (standing set.around c).cast (part c).is_nested (part c).never_ends aim
       ((part c).walk (pure_around m lets) [] aim [] 0).value x) (meaning (checked m.types cases) w c (begun 0 (nowhere m.types)))
   value_ends are c aim stands steady met =
       let h = whole q w c stands.right stands.others in
@@ -92,6 +92,6 @@ initials_sound m past lets vs cases are o r t is stands met =
     (subst (λ aim. AreMet set nobody (λ d. false) cases ((part c).walk (pure_around m lets) [] aim [] 0).notes) (bare_aim t) met) in
     subst (λ (kind : OpeningKind). OpeningEnds (RegisterAdds m.types past r t) (goes_on (meaning (checked m.types cases) (opening_world vs) c
     (begun 0 (nowhere m.types))) (opening_kind (checked m.types cases) (opening_world vs) o.place kind))) (sym is)
-    (register_ends m past lets vs cases o.place r t (standing m.types c).cast (part c).is_nested (part c).never_ends
+    (register_ends m past lets vs cases o.place r t (standing set.around c).cast (part c).is_nested (part c).never_ends
     ((part c).walk (pure_around m lets) [] (Aims.Due (bare_type t)) [] 0).value
     (meaning (checked m.types cases) (opening_world vs) c (begun 0 (nowhere m.types))) ended)

@@ -91,7 +91,7 @@ module _ (m : CoreModel) (past : Positive) (lets : List TopLevel) (vs : List Val
       (λ j g fs i x l comes. or_stopped place (arm_meaning (checked m.types cases) w arm (x ∷ []))
       (matches j g fs [] place (record { in_case = false; is_owed = is_written (arm_written arm) && (part c).is_nested }) i x
       (surrounds_falling q w g [] true (surrounds_on q w [] l (surrounds m past lets vs cases are)))
-      (bound_is set nobody g (here q) (arm_written arm) (standing m.types c).cast (part c).is_nested (part c).never_ends i x comes)))
+      (bound_is set nobody g (here q) (arm_written arm) (standing q.set.around c).cast (part c).is_nested (part c).never_ends i x comes)))
 
   let_ends : {n : ℕ} {facts : List Fact} (found : List Bound) (e : Ended Item (List (Local Item)))
       → EndsWell q start_point n facts (λ g locals. Binds set nobody g found locals) e

@@ -61,8 +61,8 @@ pure_scene set cases = record {
 
 -- the value stands as the resolver puts it, and its nodes that aren't of a proved kind are fine
 pub record ValueStands (q : Scene) (w : World Item) (c : Core) : Type 0 where
-  pub right : (standing q.set.around.types c).right ≡ true
-  pub no_guard : (standing q.set.around.types c).guard ≡ false
+  pub right : (standing q.set.around c).right ≡ true
+  pub no_guard : (standing q.set.around c).guard ≡ false
   pub others : OthersFine q w (nodes c)
 
 -- it ends with what is added, or stops

@@ -43,5 +43,5 @@ module _ (q : Scene) (w : World Item) (shape : Shape) where
   -- a kind of literals of this shape
   abbrev pub LiteralFine : Kind → Type 0
   LiteralFine kind = (place : Place) (k : ℕ) (ss : List Standing) (ps : List Part) (rs : List (Run Item Item)) → FillsWhole ps → PartsFine q w ss ps rs
-      → kind_right q.set.around.types kind ss ≡ true
+      → kind_right q.set.around kind ss ≡ true
       → Fine q w (is_cast kind) (is_guard kind) (node q w place k kind ps) (kind_meaning (z q w) w place k kind rs)

@@ -1,8 +1,8 @@
 -- Where casts and guards stand in an expression, whatever its literals are; and what its kinds ask by themselves.
-use Rattle.std.specs.Prelude.{◌≡◌, Bool, true, false, ◌&&◌}
+use Rattle.std.specs.Prelude.{◌≡◌, Bool, true, false, ◌&&◌, length}
 use Rattle.std.specs.List.{list_all}
-use Rattle.sail_types.specs.declared.table.Types.{Types}
 use Rattle.sail_core.specs.declared.tree.Core.{Core, Core-F, fold-Core}
+use Rattle.pattern_leaves.specs.Settings.{Around}
 use Rattle.shape_rules.specs.Calls.{Elaborate}
 use Rattle.shape_rules.specs.Scopes.{Locals, Setting}
 use Rattle.sail_kinds.specs.Scopes.{Within}
@@ -15,12 +15,12 @@ node_places c = record { cast = is_cast c.kind; guard = is_guard c.kind; right =
 abbrev pub places : Core → Standing
 places = fold-Core Standing node_places
 
-abbrev pub node_kinds : Types → Core-F Bool → Bool
-node_kinds types c = kind_stands types c.kind && list_all (λ b. b) c.parts
+abbrev pub node_kinds : Around → Core-F Bool → Bool
+node_kinds around c = kind_stands around c.kind (length c.parts) && list_all (λ b. b) c.parts
 
--- literals are within their limits, and nothing is of later trees
-abbrev pub kinds_stand : Types → Core → Bool
-kinds_stand types = fold-Core Bool (node_kinds types)
+-- literals are within their limits, nodes have as many parts as their definitions ask, and nothing is of later trees
+abbrev pub kinds_stand : Around → Core → Bool
+kinds_stand around = fold-Core Bool (node_kinds around)
 
 -- a value that another node may be made of
 pub record IsPlain (s : Standing) : Type 0 where
