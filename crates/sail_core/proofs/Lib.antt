@@ -6,4 +6,4 @@ mod SteadyRows
 mod SteadyTargets
 mod SteadyKinds
 mod SteadyModels
-mod Sentences
+pub mod Sentences
