@@ -22,11 +22,11 @@ use Rattle.sail_core.specs.Run.{Now, Run, gives, stuck, stops, throws, needs, if
 use Rattle.sail_core.specs.Values.{Into, tuple_of, vector_of, list_of, cons_of, with_of, struct_of, field_way, item_way, slice_way, literal_typ}
 use Rattle.sail_core.specs.Values.{literal_value, int_typ, truth_in, natural_of}
 use Rattle.sail_core.specs.Numbers.{known, known_truth}
-use Rattle.sail_core.specs.Making.{plainly, made, truth, natural}
+use Rattle.sail_core.specs.Making.{plainly, made, truth, natural, nothing}
 use Rattle.sail_core.specs.Targets.{spotting}
 use Rattle.sail_core.specs.Meaning.{arm_taken, first_of, let_in, tried, block, from_before, count_turns, foreach, next_of, in_span, fallen, loop_measure}
-use Rattle.sail_core.specs.Meaning.{condition_of, while_turns, repeat_turns, taken, suffix_then, suffixes_of, put, built, truly, option_typ, kind_meaning}
-use Rattle.sail_core.specs.Meaning.{meaning, core_meaning}
+use Rattle.sail_core.specs.Meaning.{condition_of, while_turns, repeat_turns, taken, suffix_then, suffixes_of, put, built, truly, option_typ, met_at}
+use Rattle.sail_core.specs.Meaning.{kind_meaning, meaning, core_meaning}
 use Rattle.checked_meaning.specs.Items.{Item, vals, fixed_typ}
 use Rattle.checked_meaning.specs.Checked.{Noted, Cases, checked}
 use Rattle.checked_meaning.specs.Alike.{plain_now, Is, Alike, value_in, same, LetsAlike, no_lets, same_lets, Around, WorldsAlike, checked_world}
@@ -71,6 +71,9 @@ module _ (types : Types) (cases : Cases) where
   choice_alike : (x : Item) {a b : Run Item Item} {c d : Run Value Value} → AreAlike a c → AreAlike b d
       → AreAlike (truth (checked types cases) x then if_so a b) (truth plainly x.val then if_so c d)
   choice_alike x h k = then_is _ (truth_alike x) (λ t. if_alike t h k)
+
+  met_alike : (k : ℕ) {c : Run Item Item} {d : Run Value Value} → AreAlike c d → AreAlike (met_at (checked types cases) k c) (met_at plainly k d)
+  met_alike k h = then_is _ h (λ x. made_alike types cases k (nothing (checked types cases) ∷ []) x.val)
 
   -- ---- arms
 
@@ -249,9 +252,11 @@ module _ (types : Types) (cases : Cases) where
     kind_alike (K.Let arm) (p ∷ q ∷ []) = then_is _ p.alike (λ x. let_alike a s place arm x q.alike)
     kind_alike (K.Var name written) (p ∷ q ∷ []) = then_is _ p.alike (λ x. within_alike (local name x ∷ []) q.alike)
     kind_alike (K.If shape) (p ∷ q ∷ []) = then_is _ p.alike (λ x. choice_alike x (inside_alike types cases q.alike) (nothing_alike types cases))
-    kind_alike (K.If shape) (p ∷ q ∷ r ∷ []) = then_is _ p.alike (λ x. choice_alike x (inside_alike types cases q.alike) (inside_alike types cases r.alike))
-    kind_alike (K.Match arms shape) (p ∷ ps) = then_is _ p.alike (λ x. first_alike a s arms ps (stops_alike (MatchFailure place)) (x ∷ []))
-    kind_alike (K.Try arms shape) (p ∷ ps) = tried_alike a s k arms ps p.alike
+    kind_alike (K.If shape) (p ∷ q ∷ r ∷ []) =
+        met_alike k (then_is _ p.alike (λ x. choice_alike x (inside_alike types cases q.alike) (inside_alike types cases r.alike)))
+    kind_alike (K.Match arms shape) (p ∷ ps) =
+        met_alike k (then_is _ p.alike (λ x. first_alike a s arms ps (stops_alike (MatchFailure place)) (x ∷ [])))
+    kind_alike (K.Try arms shape) (p ∷ ps) = met_alike k (tried_alike a s k arms ps p.alike)
     kind_alike (K.Clauses arms) ps = first_alike a s arms ps falls_alike a.arguments
     kind_alike K.When (p ∷ q ∷ []) = then_is _ p.alike (λ x. choice_alike x q.alike falls_alike)
     kind_alike (K.Foreach name way) (p ∷ q ∷ r ∷ t ∷ []) =

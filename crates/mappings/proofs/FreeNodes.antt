@@ -20,7 +20,7 @@ use Rattle.sail_core.specs.declared.tree.Core.{Core, roll-Core, fold-roll-Core, 
 use Rattle.sail_core.specs.Run.{Run, falls, stops, throws, in_turn, tick, caught, within, local, ◌then◌}
 use Rattle.sail_core.specs.Making.{Making, World, made}
 use Rattle.sail_core.specs.Targets.{called, Spot, Spotting, asked, call_spot, target_meaning, spotting, spotted, assigned}
-use Rattle.sail_core.specs.Meaning.{or_then, arm_taken, first_of, let_in, tried, block, kind_meaning, meaning}
+use Rattle.sail_core.specs.Meaning.{or_then, arm_taken, first_of, let_in, tried, met_at, block, kind_meaning, meaning}
 use Rattle.sail_core.specs.Program.{Ways}
 use Rattle.sail_core.specs.Nodes.{node}
 use Rattle.sail_core.specs.Fragments.{all_true, arm_in, callee_in, caller_in, target_kind_in, target_in, statement_in, kind_in, core_in}
@@ -159,9 +159,10 @@ module _ {X : Type 0} (z : Making X) (w : World X) (ways : Ways X) (options : Gi
   kind_free place k (K.Let arm) (a ∷ b ∷ []) h =
       then_same a (λ x. let_in z free place (free_arm arm) x b) (λ x. let_in z w place arm x b) (λ x. let_free place arm x b h)
   kind_free place k (K.Match arms shape) [] h = refl
-  kind_free place k (K.Match arms shape) (a ∷ bodies) h = λ i. a then λ x. first_free arms bodies (stops (MatchFailure place)) (x ∷ []) h i
+  kind_free place k (K.Match arms shape) (a ∷ bodies) h =
+      λ i. met_at z k (a then λ x. first_free arms bodies (stops (MatchFailure place)) (x ∷ []) h i)
   kind_free place k (K.Try arms shape) [] h = refl
-  kind_free place k (K.Try arms shape) (a ∷ bodies) h = tried_free k arms bodies a h
+  kind_free place k (K.Try arms shape) (a ∷ bodies) h = ap (met_at z k) (tried_free k arms bodies a h)
   kind_free place k (K.Clauses arms) parts h = first_free arms parts falls w.arguments h
   kind_free place k (K.Optional t) parts h = absurd (true≢false (sym h))
   kind_free place k kind parts h = refl

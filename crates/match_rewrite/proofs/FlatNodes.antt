@@ -10,7 +10,7 @@ use Rattle.sail_core.specs.declared.tree.Kind.TheVariants as K
 use Rattle.sail_core.specs.declared.tree.Core.{Core, roll-Core, fold-roll-Core, map-Core, ind-Core}
 use Rattle.sail_core.specs.Run.{Run, falls, stops, throws, caught, within, local, ◌then◌}
 use Rattle.sail_core.specs.Making.{Making, World, made}
-use Rattle.sail_core.specs.Meaning.{or_then, arm_taken, first_of, let_in, tried, block, kind_meaning, meaning}
+use Rattle.sail_core.specs.Meaning.{or_then, arm_taken, first_of, let_in, tried, met_at, block, kind_meaning, meaning}
 use Rattle.sail_core.specs.Nodes.{node}
 use Rattle.match_rewrite.specs.Rewriting.{flat_arm, flat_statement, flat_kind, flat_core}
 use Rattle.match_rewrite.proofs.Sequences.{then_same}
@@ -58,9 +58,10 @@ module _ {X : Type 0} (z : Making X) (w : World X) where
   kind_flat place k (K.Let arm) (a ∷ b ∷ []) =
       then_same a (λ x. let_in z w place (flat_arm arm) x b) (λ x. let_in z w place arm x b) (λ x. let_flat place arm x b)
   kind_flat place k (K.Match arms shape) [] = refl
-  kind_flat place k (K.Match arms shape) (a ∷ bodies) = λ i. a then λ x. first_flat arms bodies (stops (MatchFailure place)) (x ∷ []) i
+  kind_flat place k (K.Match arms shape) (a ∷ bodies) =
+      λ i. met_at z k (a then λ x. first_flat arms bodies (stops (MatchFailure place)) (x ∷ []) i)
   kind_flat place k (K.Try arms shape) [] = refl
-  kind_flat place k (K.Try arms shape) (a ∷ bodies) = tried_flat k arms bodies a
+  kind_flat place k (K.Try arms shape) (a ∷ bodies) = ap (met_at z k) (tried_flat k arms bodies a)
   kind_flat place k (K.Clauses arms) parts = first_flat arms parts falls w.arguments
   kind_flat place k kind parts = refl
 

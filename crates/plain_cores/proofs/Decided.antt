@@ -15,7 +15,7 @@ use Rattle.sail_core.specs.declared.tree.Statement.TheVariants as S
 use Rattle.sail_core.specs.Run as R
 use Rattle.sail_core.specs.Run.{Run, gives, held_in, if_so, in_turn, local, needs, returns}
 use Rattle.sail_core.specs.Run.{stops, within, ◌then◌}
-use Rattle.sail_core.specs.Making.{World, made, plainly}
+use Rattle.sail_core.specs.Making.{World, made, plainly, truth}
 use Rattle.sail_core.specs.Meaning as Means
 use Rattle.sail_core.specs.Meaning.{truly}
 use Rattle.sail_core.specs.Numbers.{known, known_truth}
@@ -148,7 +148,9 @@ module _ (t : Table) (w : World Value) (d : IsAtRest w) where
       then_d a (λ v. within (local name v ∷ []) b) h.0 (λ v. within_d (local name v ∷ []) b h.1.0)
   kind_d place k (K.If of) (a ∷ b ∷ []) h alone =
       then_d a _ h.0 (λ x. truth_d x (if_so b (gives Val.Unit)) (so_d b (gives Val.Unit) h.1.0 (λ now. tt)))
-  kind_d place k (K.If of) (a ∷ b ∷ c ∷ []) h alone = then_d a _ h.0 (λ x. truth_d x (if_so b c) (so_d b c h.1.0 h.1.1.0))
+  kind_d place k (K.If of) (a ∷ b ∷ c ∷ []) h alone =
+      then_d (a then λ x. truth plainly x then if_so b c) (λ x. made plainly k (Val.Unit ∷ []) x)
+      (then_d a _ h.0 (λ x. truth_d x (if_so b c) (so_d b c h.1.0 h.1.1.0))) (λ x now. tt)
   kind_d place k (K.Foreach name way) (a ∷ b ∷ c ∷ body ∷ []) h alone =
       then_d a _ h.0
       (λ x. integer_d x _

@@ -33,7 +33,7 @@ use Rattle.shape_meanings.specs.Keeping.{Fits, Reach, reach_of, Agree}
 use Rattle.shape_meanings.specs.Sound.{Right}
 use Rattle.shape_meanings.proofs.Orders.{exact}
 use Rattle.shape_meanings.proofs.Values.{fits_form, opened_at, out_put}
-use Rattle.shape_meanings.proofs.Runs.{then_agree}
+use Rattle.shape_meanings.proofs.Runs.{then_agree, met_plainly}
 use Rattle.shape_meanings.proofs.Settling.{RunsAs, widened, unrolled}
 
 -- ---- casts do nothing
@@ -105,6 +105,8 @@ if_runs setting locals place s t c a b at_a at_b mc ma mb rc ra rb registers cho
     (λ v later h good2. branches_agree reach Q v (core_meaning wc a) (ma ws) (core_meaning wc b) (mb ws) later h
     (ra registers choice wc ws d slots seen later good2) (rb registers choice wc ws d slots seen later good2)) in (
       ap (λ (q : Run Value Value). q now) (unrolled wc place 0 (K.If s) (c ∷ cast a at_a ∷ cast b at_b ∷ []))
+          ∙ ap (λ (q : Run Value Value). q now)
+          (met_plainly 0 (core_meaning wc c then λ v. needs (truth_in v) then if_so (core_meaning wc (cast a at_a)) (core_meaning wc (cast b at_b))))
           ∙ (λ i. goes_on (core_meaning wc c now) (λ v. needs (truth_in v) then if_so (cast_means wc a at_a i) (cast_means wc b at_b i)))
           ∙ r.0,
       r.1,

@@ -32,7 +32,7 @@ use Rattle.shape_meanings.specs.Whole.{Choice}
 use Rattle.shape_meanings.specs.Keeping.{Fits, SeenAs, Reach, Good, reach_of, Agree}
 use Rattle.shape_meanings.specs.Worlds.{Describes}
 use Rattle.shape_meanings.specs.Parts.{CasesAre, MaybeIs, IsRight}
-use Rattle.shape_meanings.proofs.Runs.{then_agree, or_agree}
+use Rattle.shape_meanings.proofs.Runs.{then_agree, or_agree, met_plainly}
 use Rattle.shape_meanings.proofs.Settling.{RunsAs, widened, both_empty, unrolled}
 use Rattle.shape_meanings.proofs.Branches.{cast_means, given_over, branches_agree, bool_exact}
 use Rattle.shape_meanings.proofs.Lets.{taken_agrees}
@@ -131,6 +131,8 @@ match_right setting locals place value cs mv ms right are want e =
           (one.runs registers c wc ws d slots seen now good)
           (λ v later fit good2. r.1 registers c wc ws d slots seen v fit failed failed (λ here good3. (refl, good3)) later good2) in (
             ap (λ (x : Run Value Value). x now) (unrolled wc place 0 (K.Match cases.arms cases.shape) (cast a.core value.place ∷ cases.bodies))
+                ∙ ap (λ (x : Run Value Value). x now) (met_plainly 0 (core_meaning wc (cast a.core value.place)
+                then λ v. first_of plainly wc cases.arms (map (core_meaning wc) cases.bodies) failed (v ∷ [])))
                 ∙ ap (λ (x : Run Value Value). goes_on (x now)
                 (λ v. first_of plainly wc cases.arms (map (core_meaning wc) cases.bodies) failed (v ∷ []))) (cast_means wc a.core value.place)
                 ∙ q.0,

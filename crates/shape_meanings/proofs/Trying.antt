@@ -11,7 +11,7 @@ use Rattle.sail_core.specs.declared.tree.Kind.TheVariants as K
 use Rattle.sail_core.specs.Run as R
 use Rattle.sail_core.specs.Run.{Now, Ended, Run, throws, caught}
 use Rattle.sail_core.specs.Making.{plainly}
-use Rattle.sail_core.specs.Meaning.{core_meaning, first_of}
+use Rattle.sail_core.specs.Meaning.{core_meaning, first_of, tried}
 use Rattle.shape_joins.proofs.Order.{fills_twice}
 use Rattle.sail_meaning.specs.World as Source
 use Rattle.sail_meaning.specs.Expressions.{Case, first_case, chosen}
@@ -22,6 +22,7 @@ use Rattle.shape_rules.specs.Statements.{CasePart, Cases, cases_found, choose_fo
 use Rattle.shape_meanings.specs.Whole.{Choice}
 use Rattle.shape_meanings.specs.Keeping.{Fits, Reach, Good, reach_of, Keeps, Agree}
 use Rattle.shape_meanings.specs.Parts.{CasesAre, IsRight}
+use Rattle.shape_meanings.proofs.Runs.{met_plainly}
 use Rattle.shape_meanings.proofs.Orders.{puts}
 use Rattle.shape_meanings.proofs.Settling.{widened, both_empty, unrolled}
 use Rattle.shape_meanings.proofs.Branches.{cast_means, given_over}
@@ -77,6 +78,8 @@ try_right setting locals place value cs mv ms right are want e =
           r.1 registers c wc ws d slots seen v (subst (λ s. fits setting.types v s ≡ true) (sym (thrown_put c setting.exception)) fit) (throws v) (throws v)
           (λ here good3. (refl, (fit, good3))) later good2) in (
             ap (λ (x : Run Value Value). x now) (unrolled wc place 0 (K.Try cases.arms cases.shape) (cast a.core value.place ∷ cases.bodies))
+                ∙ ap (λ (x : Run Value Value). x now)
+                (met_plainly 0 (tried plainly wc 0 cases.arms (map (core_meaning wc) cases.bodies) (core_meaning wc (cast a.core value.place))))
                 ∙ ap (λ (x : Run Value Value). caught (x now) catch_c) (cast_means wc a.core value.place)
                 ∙ q.0,
             q.1,

@@ -18,10 +18,11 @@ use Rattle.sail_core.specs.Run as R
 use Rattle.sail_core.specs.Run.{Ended, Run, gives, falls, stops, throws, returns, needs, if_so, in_turn, within, local, ◌then◌}
 use Rattle.sail_core.specs.Making.{World, plainly, truth, integer, made}
 use Rattle.sail_core.specs.Meaning as Means
-use Rattle.sail_core.specs.Meaning.{core_meaning, kind_meaning, arm_taken, first_of, let_in, block, suffixes_of, suffix_then, truly}
+use Rattle.sail_core.specs.Meaning.{core_meaning, kind_meaning, arm_taken, first_of, let_in, tried, block, suffixes_of, suffix_then, truly}
 use Rattle.sail_core.specs.Targets.{called}
 use Rattle.sail_core.specs.Values.{tuple_of, vector_of, list_of, cons_of, with_of, struct_of, field_way, item_way, slice_way}
 use Rattle.shape_meanings.specs.Keeping.{Fits, Reach}
+use Rattle.shape_meanings.proofs.Runs.{met_plainly}
 use Rattle.shape_progress.specs.Conditions.{index_met, slice_met, width_met, number_met, truth_met, step_met, measure_met}
 use Rattle.shape_progress.specs.Checks.{Table, call_met, checked, checked_kind, arm_then, first_arm, let_then}
 use Rattle.shape_progress.specs.Checks.{statements, checked_suffix, checked_suffixes, if_met}
@@ -189,12 +190,19 @@ module _ (t : Table) (w : World Value) (callees : Callees) (fine : CalledAsMeant
   kind_as place k (K.If of) (a ∷ b ∷ []) =
       then_as a.plain a.checked _ _ a.meant (λ x. choice_as x b.plain b.checked (gives Val.Unit) (gives Val.Unit) b.meant (itself (gives Val.Unit)))
   kind_as place k (K.If of) (a ∷ b ∷ c ∷ []) =
-      then_as a.plain a.checked _ _ a.meant (λ x. choice_as x b.plain b.checked c.plain c.checked b.meant c.meant)
+      then_as (a.plain then λ x. truth plainly x then if_so b.plain c.plain) (a.checked then λ x. truth plainly x then if_so b.checked c.checked)
+      (λ x. made plainly k (Val.Unit ∷ []) x) (λ x. made plainly k (Val.Unit ∷ []) x)
+      (then_as a.plain a.checked _ _ a.meant (λ x. choice_as x b.plain b.checked c.plain c.checked b.meant c.meant))
+      (λ x. itself (made plainly k (Val.Unit ∷ []) x))
   kind_as place k (K.Match arms of) (a ∷ ps) =
-      then_as a.plain a.checked _ _ a.meant (λ v. arms_as arms ps (stops (Stop.MatchFailure place)) (v ∷ []))
-  kind_as place k (K.Try arms of) (a ∷ ps) = λ now.
-      caught_as (a.plain now) (a.checked now) (λ v. first_of plainly w arms (plains ps) (throws v) (v ∷ []))
-      (λ v. first_arm wc arms (runs ps) (throws v) (v ∷ [])) (a.meant now) (λ v. arms_as arms ps (throws v) (v ∷ []))
+      subst (λ (r : Run Value Value). AsMeant r (checked_kind t wc place k (K.Match arms of) (runs (a ∷ ps))))
+      (sym (met_plainly k (a.plain then λ v. first_of plainly w arms (plains ps) (stops (Stop.MatchFailure place)) (v ∷ []))))
+      (then_as a.plain a.checked _ _ a.meant (λ v. arms_as arms ps (stops (Stop.MatchFailure place)) (v ∷ [])))
+  kind_as place k (K.Try arms of) (a ∷ ps) =
+      subst (λ (r : Run Value Value). AsMeant r (checked_kind t wc place k (K.Try arms of) (runs (a ∷ ps))))
+      (sym (met_plainly k (tried plainly w k arms (plains ps) a.plain)))
+      (λ now. caught_as (a.plain now) (a.checked now) (λ v. first_of plainly w arms (plains ps) (throws v) (v ∷ []))
+      (λ v. first_arm wc arms (runs ps) (throws v) (v ∷ [])) (a.meant now) (λ v. arms_as arms ps (throws v) (v ∷ [])))
   kind_as place k (K.Clauses arms) ps = arms_as arms ps falls w.arguments
   kind_as place k K.When (a ∷ b ∷ []) =
       then_as a.plain a.checked _ _ a.meant (λ x. choice_as x b.plain b.checked falls falls b.meant (itself falls))

@@ -23,7 +23,7 @@ use Rattle.sail_core.specs.declared.tree.Kind.{Kind}
 use Rattle.sail_core.specs.declared.tree.Kind.TheVariants as K
 use Rattle.sail_core.specs.declared.tree.Statement.{Statement}
 use Rattle.sail_core.specs.declared.tree.Statement.TheVariants as T
-use Rattle.sail_core.specs.Run.{Run, gives, falls, stops, throws, returns, needs, in_turn, within, local, held_in, ◌then◌}
+use Rattle.sail_core.specs.Run.{Run, gives, falls, stops, throws, returns, needs, if_so, in_turn, within, local, held_in, ◌then◌}
 use Rattle.sail_core.specs.Making.{World, plainly, truth, made}
 use Rattle.sail_core.specs.Meaning as Means
 use Rattle.sail_core.specs.Meaning.{taken, truly}
@@ -344,8 +344,11 @@ module _ (t : Table) (w : World Value) (P : Rule)
       (λ x fit. choice_goes reach w (F reach w V.Unit) x (checked t w b) (gives Val.Unit) fit (sound reach same V.Unit b h.2)
       (gives_goes reach w (F reach w V.Unit) Val.Unit (unit_fits reach.types reach.choice))))
   kind_goes reach same s place k (K.If of) (a ∷ b ∷ c ∷ []) h =
-      then_goes reach w (F reach w V.Bool) (F reach w s) (checked t w a) _ (sound reach same V.Bool a h.0)
-      (λ x fit. choice_goes reach w (F reach w s) x (checked t w b) (checked t w c) fit (sound reach same s b h.1) (sound reach same s c h.2))
+      then_goes reach w (F reach w s) (F reach w s) (checked t w a then λ x. truth plainly x then if_so (checked t w b) (checked t w c))
+      (λ x. made plainly k (Val.Unit ∷ []) x)
+      (then_goes reach w (F reach w V.Bool) (F reach w s) (checked t w a) _ (sound reach same V.Bool a h.0)
+      (λ x fit. choice_goes reach w (F reach w s) x (checked t w b) (checked t w c) fit (sound reach same s b h.1) (sound reach same s c h.2)))
+      (λ x fit. gives_goes reach w (F reach w s) x fit)
   kind_goes reach same s place k (K.Match arms of) (a ∷ cs) h =
       then_goes reach w (F reach w h.0) (F reach w s) (checked t w a) _ (sound reach same h.0 a h.1)
       (λ v fit. arms_go reach same (h.0 ∷ []) s arms cs (stops (MatchFailure place)) (λ now ready. tt) h.2 (v ∷ []) (one_fits reach h.0 v fit))
