@@ -19,6 +19,7 @@ use Rattle.sail_core.specs.Run.{Now, Ended, Run, needs, if_so, goes_on, â—Œthenâ
 use Rattle.sail_core.specs.Values.{truth_in, form_truth}
 use Rattle.sail_core.specs.Making as Core
 use Rattle.sail_core.specs.Meaning.{core_meaning}
+use Rattle.sail_core.proofs.Sentences.{met_plainly}
 use Rattle.shape_joins.specs.Filling.{fills}
 use Rattle.shape_joins.proofs.Order.{no, fills_itself, fills_twice}
 use Rattle.shape_joins.proofs.JoinsLeast.{joins_are_above, joins_are_least}
@@ -33,7 +34,7 @@ use Rattle.shape_meanings.specs.Keeping.{Fits, Reach, reach_of, Agree}
 use Rattle.shape_meanings.specs.Sound.{Right}
 use Rattle.shape_meanings.proofs.Orders.{exact}
 use Rattle.shape_meanings.proofs.Values.{fits_form, opened_at, out_put}
-use Rattle.shape_meanings.proofs.Runs.{then_agree, met_plainly}
+use Rattle.shape_meanings.proofs.Runs.{then_agree}
 use Rattle.shape_meanings.proofs.Settling.{RunsAs, widened, unrolled}
 
 -- ---- casts do nothing

@@ -15,6 +15,7 @@ use Rattle.sail_core.specs.Values.{truth_in}
 use Rattle.sail_core.specs.Making as Core
 use Rattle.sail_core.specs.Making.{plainly}
 use Rattle.sail_core.specs.Meaning.{core_meaning, first_of, arm_taken}
+use Rattle.sail_core.proofs.Sentences.{met_plainly}
 use Rattle.shape_joins.specs.Filling.{fills}
 use Rattle.shape_joins.proofs.Order.{fills_itself, fills_twice}
 use Rattle.sail_meaning.specs.World as Source
@@ -32,7 +33,7 @@ use Rattle.shape_meanings.specs.Whole.{Choice}
 use Rattle.shape_meanings.specs.Keeping.{Fits, SeenAs, Reach, Good, reach_of, Agree}
 use Rattle.shape_meanings.specs.Worlds.{Describes}
 use Rattle.shape_meanings.specs.Parts.{CasesAre, MaybeIs, IsRight}
-use Rattle.shape_meanings.proofs.Runs.{then_agree, or_agree, met_plainly}
+use Rattle.shape_meanings.proofs.Runs.{then_agree, or_agree}
 use Rattle.shape_meanings.proofs.Settling.{RunsAs, widened, both_empty, unrolled}
 use Rattle.shape_meanings.proofs.Branches.{cast_means, given_over, branches_agree, bool_exact}
 use Rattle.shape_meanings.proofs.Lets.{taken_agrees}

@@ -6,8 +6,6 @@ use Rattle.sail_types.specs.declared.table.Types.{Types}
 use Rattle.sail_types.specs.declared.values.Value.{Value}
 use Rattle.sail_core.specs.Run as R
 use Rattle.sail_core.specs.Run.{Now, Ended, Run, goes_on, or_so, within, leaving, held_in, ◌then◌}
-use Rattle.sail_core.specs.Making.{plainly}
-use Rattle.sail_core.specs.Meaning.{met_at}
 use Rattle.shape_joins.proofs.JoinsLeast.{some_same, none}
 use Rattle.shape_rules.specs.declared.locals.Local.{Local}
 use Rattle.shape_rules.specs.Scopes.{Locals, local_of}
@@ -34,19 +32,6 @@ pub then_agree : {A B : Type 0} (reach : Reach) (P : A → Type 0) (Q : B → Ty
 then_agree reach P Q n m kc km a next =
     let r = then_keeps reach P Q m kc km a.1 next in
     (ap (λ e. goes_on e kc) a.0 ∙ r.0, r.1)
-
--- ---- where ways meet, the plain meaning makes nothing but the value that is there
-
-as_it_ends : (e : Ended Value Value) → goes_on e (λ v. R.gives v) ≡ e
-as_it_ends (R.Gives x now) = refl
-as_it_ends (R.No now) = refl
-as_it_ends (R.Returns v now) = refl
-as_it_ends (R.Throws v now) = refl
-as_it_ends (R.Stops cause now) = refl
-as_it_ends R.Stuck = refl
-
-pub met_plainly : (k : ℕ) (ways : Run Value Value) → met_at plainly k ways ≡ ways
-met_plainly k ways = λ i now. as_it_ends (ways now) i
 
 -- ---- one piece, and where it says No another one
 

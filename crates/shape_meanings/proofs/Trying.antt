@@ -12,6 +12,7 @@ use Rattle.sail_core.specs.Run as R
 use Rattle.sail_core.specs.Run.{Now, Ended, Run, throws, caught}
 use Rattle.sail_core.specs.Making.{plainly}
 use Rattle.sail_core.specs.Meaning.{core_meaning, first_of, tried}
+use Rattle.sail_core.proofs.Sentences.{met_plainly}
 use Rattle.shape_joins.proofs.Order.{fills_twice}
 use Rattle.sail_meaning.specs.World as Source
 use Rattle.sail_meaning.specs.Expressions.{Case, first_case, chosen}
@@ -22,7 +23,6 @@ use Rattle.shape_rules.specs.Statements.{CasePart, Cases, cases_found, choose_fo
 use Rattle.shape_meanings.specs.Whole.{Choice}
 use Rattle.shape_meanings.specs.Keeping.{Fits, Reach, Good, reach_of, Keeps, Agree}
 use Rattle.shape_meanings.specs.Parts.{CasesAre, IsRight}
-use Rattle.shape_meanings.proofs.Runs.{met_plainly}
 use Rattle.shape_meanings.proofs.Orders.{puts}
 use Rattle.shape_meanings.proofs.Settling.{widened, both_empty, unrolled}
 use Rattle.shape_meanings.proofs.Branches.{cast_means, given_over}

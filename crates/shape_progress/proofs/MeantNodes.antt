@@ -19,10 +19,10 @@ use Rattle.sail_core.specs.Run.{Ended, Run, gives, falls, stops, throws, returns
 use Rattle.sail_core.specs.Making.{World, plainly, truth, integer, made}
 use Rattle.sail_core.specs.Meaning as Means
 use Rattle.sail_core.specs.Meaning.{core_meaning, kind_meaning, arm_taken, first_of, let_in, tried, block, suffixes_of, suffix_then, truly}
+use Rattle.sail_core.proofs.Sentences.{met_plainly}
 use Rattle.sail_core.specs.Targets.{called}
 use Rattle.sail_core.specs.Values.{tuple_of, vector_of, list_of, cons_of, with_of, struct_of, field_way, item_way, slice_way}
 use Rattle.shape_meanings.specs.Keeping.{Fits, Reach}
-use Rattle.shape_meanings.proofs.Runs.{met_plainly}
 use Rattle.shape_progress.specs.Conditions.{index_met, slice_met, width_met, number_met, truth_met, step_met, measure_met}
 use Rattle.shape_progress.specs.Checks.{Table, call_met, checked, checked_kind, arm_then, first_arm, let_then}
 use Rattle.shape_progress.specs.Checks.{statements, checked_suffix, checked_suffixes, if_met}
