@@ -253,3 +253,77 @@ module _ (types : Types) (past : Positive) (own : List Closed) where
         meant_is types (there k) own (I.Tuple is) (W.Tuple is) (I.rolls-Tuple is)
         ∙ tuples_same types past own k zeros (map (meant types (there k) own) is) all.0 (q k b))),
   )
+
+  -- ---- and what is so of the meaning besides
+
+  abbrev pub OpenedAs : (Meant → Type 0) → Value → (n : ℕ) → Point n → List Fact → Walk Indices → Type 0
+  OpenedAs P v n f facts walk = (m : Meant) × (m.holds v ≡ true) × P m × Goes past n f facts walk (Means m)
+
+  pub kept_as : {n : ℕ} {f : Point n} {facts : List Fact} {walk : Walk Indices} (P Q : Meant → Type 0) (v : Value) → ((m : Meant) → P m → Q m)
+      → OpenedAs P v n f facts walk → OpenedAs Q v n f facts walk
+  kept_as P Q v h s = (s.0, s.1, h s.0 s.2, s.3)
+
+  pub opens_kept : {n : ℕ} {f : Point n} {facts : List Fact} {A : Type 0} {w : Walk A} {k : A → Walk Indices} {Holds : Integers → A → Type 0}
+      (P : Meant → Type 0) (v : Value) → Goes past n f facts w Holds
+      → ((m : ℕ) (g : Point m) (fs : List Fact) (x : A) → Later f g → ((h : Integers) → Agree g h → Holds h x) → OpenedAs P v m g fs (k x))
+      → OpenedAs P v n f facts (bind w k)
+  opens_kept {n} {f} {facts} {w} {k} P v r next =
+      let s : OpenedAs P v (w facts n).next r.goes.point (w facts n).facts (k (w facts n).value) =
+      next (w facts n).next r.goes.point (w facts n).facts (w facts n).value r.goes.later r.goes.holds in (s.0, s.1, s.2, goes_on k r s.3)
+
+  module _ {n : ℕ} {f : Point n} {facts : List Fact} (P : Meant → Type 0) where
+    pub bits_kept : (u : Num) (v : Value) (bits : List Bool) → out-Value v ≡ V.Bits bits → is_width (length bits) ≡ true
+        → Always f (λ g. number (there g) u ≡ pos (length bits)) → P (form_meant (W.Bits (constant (pos (length bits)))))
+        → OpenedAs P v n f facts (bits_of u)
+    unfolding bits_known
+    bits_kept u v bits e width h p = let s : Opened v n f facts (bits_of u) = bits_known u v bits e width h in (s.0, s.1, p, s.2)
+
+    pub vector_kept : (u : Num) (r : Reading) (c : Closed) (v : Value) (vs : List Value) → out-Value v ≡ V.Vector vs → is_length (length vs) ≡ true
+        → Always f (λ g. number (there g) u ≡ pos (length vs)) → Always f (λ g. closed types (there g) own r ≡ c)
+        → list_all (λ x. belongs types x c) vs ≡ true → P (form_meant (W.Vector (constant (pos (length vs))) c)) → OpenedAs P v n f facts (vector_of r u)
+    unfolding vector_known
+    vector_kept u r c v vs e fits h steady items p =
+        let s : Opened v n f facts (vector_of r u) = vector_known u r c v vs e fits h steady items in (s.0, s.1, p, s.2)
+
+    pub integer_kept : (tells : Bool) (u : Num) (z : ℤ) (v : Value) → out-Value v ≡ V.Integer z → is_small z ≡ true
+        → Always f (λ g. number (there g) u ≡ z) → P (form_meant (W.Integer (constant z))) → OpenedAs P v n f facts (integer_of tells u)
+    unfolding integer_known
+    integer_kept tells u z v e small h p = let s : Opened v n f facts (integer_of tells u) = integer_known tells u z v e small h in (s.0, s.1, p, s.2)
+
+    pub between_kept : (name : Naming) (low high : Option Num) (z : ℤ) (v : Value) → out-Value v ≡ V.Integer z → is_small z ≡ true
+        → ((t : Num) → low ≡ Some t → Always f (λ g. int_le (number (there g) t) z ≡ true))
+        → ((t : Num) → high ≡ Some t → Always f (λ g. int_le z (number (there g) t) ≡ true)) → P (form_meant (W.Integer (constant z)))
+        → OpenedAs P v n f facts (integer_between name low high)
+    unfolding between_known
+    between_kept name low high z v e small h k p =
+        let s : Opened v n f facts (integer_between name low high) = between_known name low high z v e small h k in (s.0, s.1, p, s.2)
+
+    pub any_truth_kept : (name : Naming) (b : Bool) (v : Value) → out-Value v ≡ V.Truth b → P (truth_meant b) → OpenedAs P v n f facts (any_truth name)
+    unfolding any_truth_known
+    any_truth_kept name b v e p = let s : Opened v n f facts (any_truth name) = any_truth_known name b v e in (s.0, s.1, p, s.2)
+
+  abbrev pub AllOpenedAs : (List Meant → Type 0) → List Value → (n : ℕ) → Point n → List Fact → Walk (List Indices) → Type 0
+  AllOpenedAs P vs n f facts walk =
+      (ms : List Meant) × (each_holds ms vs ≡ true) × P ms × Goes past n f facts walk (λ g is. map (meant types (there g) own) is ≡ ms)
+
+  pub both_kept : {n : ℕ} {f : Point n} {facts : List Fact} {w : Walk Indices} {ws : Walk (List Indices)} (P : Meant → Type 0) (Q R : List Meant → Type 0)
+      (v : Value) (vs : List Value) → ((m : Meant) (ms : List Meant) → P m → Q ms → R (m ∷ ms)) → OpenedAs P v n f facts w
+      → ((m : ℕ) (g : Point m) (fs : List Fact) → Later f g → AllOpenedAs Q vs m g fs ws)
+      → AllOpenedAs R (v ∷ vs) n f facts (bind w (λ i. bind ws (λ is. give (i ∷ is))))
+  both_kept {n} {f} {facts} {w} {ws} P Q R v vs join one rest =
+      let first = one.3.goes in
+      let more : AllOpenedAs Q vs (w facts n).next first.point (w facts n).facts ws =
+      rest (w facts n).next first.point (w facts n).facts first.later in (
+        one.0 ∷ more.0,
+        two (one.0.holds v) (each_holds more.0 vs) one.1 more.1,
+        join one.0 more.0 one.2 more.2,
+        goes_on (λ i. bind ws (λ is. give (i ∷ is))) one.3 (goes_then more.3 (λ m g fs is a q.
+            gives ((w facts n).value ∷ is) (λ k b. λ j. first.holds k (agree_on a b) j ∷ q k b j))),
+      )
+
+  pub tuple_kept : {n : ℕ} {f : Point n} {facts : List Fact} {ws : Walk (List Indices)} (P : Meant → Type 0) (Q : List Meant → Type 0) (v : Value)
+      (vs : List Value) → out-Value v ≡ V.Tuple vs → ((ms : List Meant) → Q ms → P (form_meant (W.Tuple ms))) → AllOpenedAs Q vs n f facts ws
+      → OpenedAs P v n f facts (bind ws (λ is. give (I.Tuple is)))
+  unfolding tuple_known
+  tuple_kept {n} {f} {facts} {ws} P Q v vs e as_tuple all =
+      let s : Opened v n f facts (bind ws (λ is. give (I.Tuple is))) = tuple_known v vs e (all.0, all.1, all.3) in (s.0, s.1, as_tuple all.0 all.2, s.2)

@@ -6,4 +6,8 @@ pub mod Alike
 pub mod Arguments
 pub mod Meanings
 pub mod Knowing
+pub mod Keeping
+pub mod Stood
+pub mod OpenedTypes
+pub mod WidenedTypes
 pub mod Opening

@@ -19,3 +19,12 @@ OpeningIsSound = (types : Types) (past : Positive) (own : List Closed) (r : Read
     → ((g : Integers) → Agree f g → closed types (standing past g) own r ≡ closed types (standing past f.integers) own r)
     → is_of types (standing past f.integers) own r v ≡ true
     → (m : Meant) × (m.holds v ≡ true) × Goes past n f facts (opening r tells name) (λ g i. meant types (standing past g) own i ≡ m)
+
+-- and each other value with that meaning belongs to the type too
+abbrev pub OpeningKeeps : Type 0
+OpeningKeeps = (types : Types) (past : Positive) (own : List Closed) (r : Reading) (tells : Bool) (name : Naming) (n : ℕ) (f : Point n)
+    (facts : List Fact) (v : Value)
+    → ((g : Integers) → Agree f g → closed types (standing past g) own r ≡ closed types (standing past f.integers) own r)
+    → is_of types (standing past f.integers) own r v ≡ true
+    → (m : Meant) × (m.holds v ≡ true) × ((w : Value) → m.holds w ≡ true → is_of types (standing past f.integers) own r w ≡ true)
+    × Goes past n f facts (opening r tells name) (λ g i. meant types (standing past g) own i ≡ m)

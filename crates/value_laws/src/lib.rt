@@ -4,10 +4,15 @@
 //! `specs/Known`.
 #![tactic(auto)]
 
-ghost use Rattle.value_laws.specs.Laws.{OpeningIsSound};
+ghost use Rattle.value_laws.specs.Laws.{OpeningIsSound, OpeningKeeps};
 
 /// What is taken to be known of a value of a type is so: for some integers of the new variables all that comes into force is true, and the
 /// value has the indices that the type is opened to.
 pub fn opening_is_sound()
     ensures { OpeningIsSound }
+{}
+
+/// Each other value with these indices belongs to the type too.
+pub fn openings_keep()
+    ensures { OpeningKeeps }
 {}
