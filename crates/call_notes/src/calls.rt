@@ -133,7 +133,7 @@ fn known_call(
     let variables = function.variables.as_slice();
     let count = function.type_variables.len();
     let indices = numbers_from(alloc, variables, parameters, arguments)?;
-    let readings = types_from(alloc, walking.next, count, parameters, arguments)?;
+    let readings = types_from(alloc, walking.next(), count, parameters, arguments)?;
     function_called(
         alloc, walking, around, place, number, callee, function, indices, readings, nested,
         arguments,

@@ -115,7 +115,7 @@ pub fn made_named(
     if any_never(arguments) {
         return Ok(Indices::Never);
     }
-    let readings = types_or(alloc, walking.next, known, parameters, types, arguments)?;
+    let readings = types_or(alloc, walking.next(), known, parameters, types, arguments)?;
     let indices = indices_from(alloc, walking, parameters, types, arguments)?;
     parts_owed(
         alloc,

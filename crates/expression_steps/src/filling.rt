@@ -138,7 +138,7 @@ fn with_filled(
         Indices::Named(named, numbers, readings) => {
             let behind = types_behind(
                 alloc,
-                walking.next,
+                walking.next(),
                 types.as_slice(),
                 readings.as_slice(),
                 values.as_slice(),

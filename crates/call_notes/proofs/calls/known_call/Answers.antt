@@ -14,7 +14,7 @@ returns c =
     let js : c.in_ok-indices.indices ≡ numbers_from 0 f.variables f.parameters is =
     c.in_ok-indices.ensures ∙ (λ i. numbers_from 0 (c.as_slice-variables.ensures i) (c.as_slice-parameters.ensures i) is) in
     let qs : c.in_ok-readings.readings ≡ types_from w.next 0 (length f.type_variables) f.parameters is =
-    c.in_ok-readings.ensures ∙ (λ i. types_from w.next 0 (c.len-count.ensures i) (c.as_slice-parameters.ensures i) is) in
+    c.in_ok-readings.ensures ∙ (λ i. types_from (c.next.ensures i) 0 (c.len-count.ensures i) (c.as_slice-parameters.ensures i) is) in
     let around = around_of c.args.around.now in
     let none = sym c.any_never.ensures ∙ c.if-any_never.false in
     record {
