@@ -70,7 +70,7 @@ module _ (core : Core) (cs : List Core) (around : Around) (scope : Scope) (same 
   -- of an `if`, behind its branches
   module _ (shape : Shape) (is : (out-Core core).kind ≡ K.If shape) (met : Option (Con × Indices)) (v : Written) where
     abbrev branches : Walk (Option (Con × Indices))
-    branches = branches_forms (out-Core core).place shape (each_part cs) around scope Aims.Free
+    branches = branches_forms (out-Core core).place (out-Core core).number shape (each_part cs) around scope Aims.Free
 
     abbrev claims : Option (Con × Indices) → Walk (Option Con)
     claims = claim_behind (out-Core core).place (each_part cs)

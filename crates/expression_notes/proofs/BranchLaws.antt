@@ -32,46 +32,47 @@ use Rattle.expression_notes.proofs.Alike.{Alike}
 -- ---- `if`
 
 module _ (around : Around) (scope : Scope) (c : Core) (met : Option Con) (v w : Written) (found : met ≡ got (truth_walk (part c) around scope) v)
-    (was : w ≡ run (truth_walk (part c) around scope) v) (place : Place) (shape : Shape) (aim : Aim) where
+    (was : w ≡ run (truth_walk (part c) around scope) v) (place : Place) (number : ℕ) (shape : Shape) (aim : Aim) where
   abbrev nothing : Option (Con × Indices)
   nothing = None
 
   module _ (cs : List Core) (a : Core) (two_is : cs ≡ c ∷ a ∷ []) where
     abbrev branches : Walk (Option (Con × Indices))
-    branches = branches_forms place shape (each_part cs) around scope aim
+    branches = branches_forms place number shape (each_part cs) around scope aim
 
     pub no_when_alike : met ≡ None → Alike nothing (got branches v) w (run branches v)
     no_when_alike none = record {
-      value = no_when_got around scope c met v w found was place shape aim cs a two_is none;
-      walked = no_when_run around scope c met v w found was place shape aim cs a two_is none;
+      value = no_when_got around scope c met v w found was place number shape aim cs a two_is none;
+      walked = no_when_run around scope c met v w found was place number shape aim cs a two_is none;
     }
 
     pub some_when_alike : (g : Con) → met ≡ Some g → (h : Con) (w1 w2 w3 w4 : Written) → h ≡ g → w1 ≡ remembering w → w2 ≡ run (assume h) w1
         → w3 ≡ run ((part a).walk around scope Aims.Free) w2 → w4 ≡ restored w3 → Alike (Some (g, I.Unit)) (got branches v) w4 (run branches v)
     some_when_alike g some h w1 w2 w3 w4 same one two three four = record {
-      value = some_when_got around scope c met v w found was place shape aim cs a two_is g some;
-      walked = some_when_run around scope c met v w found was place shape aim cs a two_is g some h w1 w2 w3 w4 same one two three four;
+      value = some_when_got around scope c met v w found was place number shape aim cs a two_is g some;
+      walked = some_when_run around scope c met v w found was place number shape aim cs a two_is g some h w1 w2 w3 w4 same one two three four;
     }
 
   module _ (a b : Core) where
     abbrev either : Walk (Option (Con × Indices))
-    either = either_walk place shape (part c) (part a) (part b) around scope aim
+    either = either_walk place number shape (part c) (part a) (part b) around scope aim
 
     abbrev meets : List Meeting → Walk Indices
-    meets ws = meeting around place shape (wanted aim) ws
+    meets ws = meeting around place number shape (wanted aim) ws
 
     pub no_either_alike : met ≡ None → Alike nothing (got either v) w (run either v)
     no_either_alike none = record {
-      value = no_either_got around scope c met v w found was place shape aim a b none;
-      walked = no_either_run around scope c met v w found was place shape aim a b none;
+      value = no_either_got around scope c met v w found was place number shape aim a b none;
+      walked = no_either_run around scope c met v w found was place number shape aim a b none;
     }
 
     pub some_either_alike : (g h : Con) → met ≡ Some g → h ≡ C.Not g → (ws : List Meeting) (i : Indices) (u : Written)
         → ws ≡ two_ways (part a) (part b) around scope aim g h → i ≡ got (meets ws) w → u ≡ run (meets ws) w
         → Alike (Some (g, i)) (got either v) u (run either v)
     some_either_alike g h some other ws i u ways is gone = record {
-      value = some_either_got around scope c met v w found was place shape aim a b g h some other i (is ∙ ap (λ (ms : List Meeting). got (meets ms) w) ways);
-      walked = some_either_run around scope c met v w found was place shape aim a b g h some other u
+      value = some_either_got around scope c met v w found was place number shape aim a b g h some other i
+          (is ∙ ap (λ (ms : List Meeting). got (meets ms) w) ways);
+      walked = some_either_run around scope c met v w found was place number shape aim a b g h some other u
           (gone ∙ ap (λ (ms : List Meeting). run (meets ms) w) ways);
     }
 
@@ -92,24 +93,24 @@ module _ (is_free : Bool) (m : ℕ) (around : Around) (scope : Scope) (aim : Aim
     walked = ways_walked is_free m around scope aim ws first now k way v u within is found was;
   }
 
-  module _ (place : Place) (shape : Shape) (free : is_free ≡ is_none (wanted aim)) (first shown : Option Indices) (k : ℕ) (v w : Written)
+  module _ (place : Place) (number : ℕ) (shape : Shape) (free : is_free ≡ is_none (wanted aim)) (first shown : Option Indices) (k : ℕ) (v w : Written)
       (next : m ≡ v.next) (past : length ws ≤ k) (same : shown ≡ first) where
     abbrev all : Walk (Option Indices)
     all = each_way around is_free m (ways_seen around scope aim ws) None
 
     abbrev met : Walk Indices
-    met = met_value around place shape (wanted aim) m shown
+    met = met_value around place number shape (wanted aim) m shown
 
     abbrev whole : Walk Indices
-    whole = meeting around place shape (wanted aim) (ways_seen around scope aim ws)
+    whole = meeting around place number shape (wanted aim) (ways_seen around scope aim ws)
 
     pub ways_met : got (from k first) w ≡ got all v → run (from k first) w ≡ run all v → Alike (got met w) (got whole v) (run met w) (run whole v)
     ways_met found was =
         let is = ways_ended is_free m around scope aim ws first k w past ∙ found in
         let went = ways_left is_free m around scope aim ws first k w past ∙ was in
         record {
-          value = meeting_got around place shape (wanted aim) (ways_seen around scope aim ws) is_free free m first shown v w next is went same;
-          walked = meeting_run around place shape (wanted aim) (ways_seen around scope aim ws) is_free free m first shown v w next is went same;
+          value = meeting_got around place number shape (wanted aim) (ways_seen around scope aim ws) is_free free m first shown v w next is went same;
+          walked = meeting_run around place number shape (wanted aim) (ways_seen around scope aim ws) is_free free m first shown v w next is went same;
         }
 
 -- ---- a `foreach`

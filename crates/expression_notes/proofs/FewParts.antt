@@ -14,12 +14,12 @@ use Rattle.expression_steps.specs.Coded.{each_part}
 use Rattle.expression_steps.specs.Statements.{branches_forms}
 use Rattle.expression_notes.proofs.Alike.{Alike}
 
-module _ (place : Place) (shape : Shape) (around : Around) (scope : Scope) (aim : Aim) (w : Written) where
+module _ (place : Place) (number : ℕ) (shape : Shape) (around : Around) (scope : Scope) (aim : Aim) (w : Written) where
   abbrev nothing : Option (Con × Indices)
   nothing = None
 
   abbrev branches : List Core → Walk (Option (Con × Indices))
-  branches cs = branches_forms place shape (each_part cs) around scope aim
+  branches cs = branches_forms place number shape (each_part cs) around scope aim
 
   few : (cs : List Core) → length cs < 2 → branches cs ≡ give nothing
   few [] less = refl

@@ -60,13 +60,14 @@ fn walk_ways(
     around: &Around<'_>,
     scope: &Scope<'_>,
     place: Place,
+    number: u32,
     shape: &Shape,
     ways: &[Way<'_>],
     aim: &Aim,
 ) -> Result<Indices, AllocError>
-    ensures value { IfOk result (λ made. made ≡ walk.got (statement_spec.meeting (around_of around.now) place shape.now (wanted_by aim.now)
+    ensures value { IfOk result (λ made. made ≡ walk.got (statement_spec.meeting (around_of around.now) place number shape.now (wanted_by aim.now)
         (coded.ways_seen (around_of around.now) (scope_of scope.now) aim.now ways.now)) (walk.seen walking.old)) }
-    ensures walked { OnOk result (walk.seen walking.new ≡ walk.run (statement_spec.meeting (around_of around.now) place shape.now (wanted_by aim.now)
+    ensures walked { OnOk result (walk.seen walking.new ≡ walk.run (statement_spec.meeting (around_of around.now) place number shape.now (wanted_by aim.now)
         (coded.ways_seen (around_of around.now) (scope_of scope.now) aim.now ways.now)) (walk.seen walking.old)) }
 {
     let before = walking.next();
@@ -80,6 +81,7 @@ fn walk_ways(
         walking,
         around,
         place,
+        number,
         shape,
         aim,
         before,
@@ -96,15 +98,16 @@ fn walk_either<'a>(
     around: &Around<'_>,
     scope: &Scope<'_>,
     place: Place,
+    number: u32,
     shape: &Shape,
     condition: &Core,
     then: &'a Core,
     otherwise: &'a Core,
     aim: &Aim,
 ) -> Result<Option<(Con, Indices)>, AllocError>
-    ensures value { IfOk result (λ made. made ≡ walk.got (statement_spec.either_walk place shape.now (part condition.now) (part then.now)
+    ensures value { IfOk result (λ made. made ≡ walk.got (statement_spec.either_walk place number shape.now (part condition.now) (part then.now)
         (part otherwise.now) (around_of around.now) (scope_of scope.now) aim.now) (walk.seen walking.old)) }
-    ensures walked { OnOk result (walk.seen walking.new ≡ walk.run (statement_spec.either_walk place shape.now (part condition.now) (part then.now)
+    ensures walked { OnOk result (walk.seen walking.new ≡ walk.run (statement_spec.either_walk place number shape.now (part condition.now) (part then.now)
         (part otherwise.now) (around_of around.now) (scope_of scope.now) aim.now) (walk.seen walking.old)) }
 {
     match walk_truth(alloc, walking, around, scope, condition)? {
@@ -112,7 +115,9 @@ fn walk_either<'a>(
         Some(given) => {
             let other = negated(alloc, copy_con(alloc, &given)?)?;
             let ways = either_ways(&given, &other, &*then, &*otherwise);
-            let value = walk_ways(alloc, walking, around, scope, place, shape, &ways, aim)?;
+            let value = walk_ways(
+                alloc, walking, around, scope, place, number, shape, &ways, aim,
+            )?;
             Ok(Some((given, value)))
         }
     }
@@ -128,13 +133,14 @@ pub(crate) fn walk_branches(
     around: &Around<'_>,
     scope: &Scope<'_>,
     place: Place,
+    number: u32,
     shape: &Shape,
     parts: &[Core],
     aim: &Aim,
 ) -> Result<Option<(Con, Indices)>, AllocError>
-    ensures value { IfOk result (λ made. made ≡ walk.got (statement_spec.branches_forms place shape.now (coded.each_part parts.now)
+    ensures value { IfOk result (λ made. made ≡ walk.got (statement_spec.branches_forms place number shape.now (coded.each_part parts.now)
         (around_of around.now) (scope_of scope.now) aim.now) (walk.seen walking.old)) }
-    ensures walked { OnOk result (walk.seen walking.new ≡ walk.run (statement_spec.branches_forms place shape.now (coded.each_part parts.now)
+    ensures walked { OnOk result (walk.seen walking.new ≡ walk.run (statement_spec.branches_forms place number shape.now (coded.each_part parts.now)
         (around_of around.now) (scope_of scope.now) aim.now) (walk.seen walking.old)) }
 {
     match parts {
@@ -151,7 +157,7 @@ pub(crate) fn walk_branches(
             }
         },
         [test, then, otherwise] => walk_either(
-            alloc, walking, around, scope, place, shape, test, then, otherwise, aim,
+            alloc, walking, around, scope, place, number, shape, test, then, otherwise, aim,
         ),
         _ => Ok(None),
     }
@@ -192,6 +198,7 @@ pub(crate) fn walk_cases<'a>(
                     around,
                     scope,
                     place,
+                    number,
                     shape,
                     ways.as_slice(),
                     aim,
@@ -205,6 +212,7 @@ pub(crate) fn walk_cases<'a>(
                     around,
                     scope,
                     place,
+                    number,
                     shape,
                     cases.as_slice(),
                     aim,

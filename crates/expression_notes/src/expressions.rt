@@ -67,7 +67,9 @@ fn walk_inward(
             walk_in(alloc, walking, around, scope, place, &binding, parts, aim)
         }
         Kind::If(shape) => {
-            let met = walk_branches(alloc, walking, around, scope, place, shape, parts, aim)?;
+            let met = walk_branches(
+                alloc, walking, around, scope, place, number, shape, parts, aim,
+            )?;
             if_end(alloc, walking, around, place, parts, aim, met)
         }
         Kind::Match(arms, shape) => {
@@ -192,8 +194,8 @@ fn walk_parted(
         Kind::Foreach(name, way) => {
             walk_foreach(alloc, walking, around, scope, place, name, *way, parts)
         }
-        Kind::While => walk_loop(alloc, walking, around, scope, place, parts),
-        Kind::Repeat => walk_loop(alloc, walking, around, scope, place, parts),
+        Kind::While => walk_loop(alloc, walking, around, scope, place, true, parts),
+        Kind::Repeat => walk_loop(alloc, walking, around, scope, place, false, parts),
         _ => wrong_value(alloc, walking, place),
     }
 }

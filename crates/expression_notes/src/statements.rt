@@ -46,7 +46,15 @@ fn walk_state(
         Kind::If(shape) => {
             let free = Aim::Free;
             let met = walk_branches(
-                alloc, walking, around, scope, core.place, shape, parts, &free,
+                alloc,
+                walking,
+                around,
+                scope,
+                core.place,
+                core.number,
+                shape,
+                parts,
+                &free,
             )?;
             claim_behind(alloc, walking, core.place, parts, met)
         }

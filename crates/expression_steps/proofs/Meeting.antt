@@ -165,7 +165,7 @@ module _ (is_free : Bool) (m : ℕ) (around : Around) (scope : Scope) (aim : Aim
 
 -- ---- the value of ways
 
-module _ (around : Around) (place : Place) (shape : Shape) (r : Option Reading) (ws : List Meeting) (is_free : Bool) (free : is_free ≡ is_none r)
+module _ (around : Around) (place : Place) (number : ℕ) (shape : Shape) (r : Option Reading) (ws : List Meeting) (is_free : Bool) (free : is_free ≡ is_none r)
     (m : ℕ) (first shown : Option Indices) (v w : Written) (next : m ≡ v.next) (found : first ≡ got (each_way around is_free m ws None) v)
     (was : w ≡ run (each_way around is_free m ws None) v) (same : shown ≡ first) where
   abbrev all_so : Walk (Option Indices)
@@ -177,15 +177,15 @@ module _ (around : Around) (place : Place) (shape : Shape) (r : Option Reading) 
   all_run : w ≡ run all_so v
   all_run = was ∙ ap (λ (b : Bool). run (each_way around b m ws None) v) free
 
-  pub meeting_got : got (met_value around place shape r m shown) w ≡ got (meeting around place shape r ws) v
+  pub meeting_got : got (met_value around place number shape r m shown) w ≡ got (meeting around place number shape r ws) v
   meeting_got =
-      then_got all_so (met_value around place shape r m) v w shown all_got all_run
-      ∙ then_got next_variable (meeting_from around place shape r ws) v v m (next ∙ sym (got_next v)) (sym (run_next v))
+      then_got all_so (met_value around place number shape r m) v w shown all_got all_run
+      ∙ then_got next_variable (meeting_from around place number shape r ws) v v m (next ∙ sym (got_next v)) (sym (run_next v))
 
-  pub meeting_run : run (met_value around place shape r m shown) w ≡ run (meeting around place shape r ws) v
+  pub meeting_run : run (met_value around place number shape r m shown) w ≡ run (meeting around place number shape r ws) v
   meeting_run =
-      then_run all_so (met_value around place shape r m) v w shown all_got all_run
-      ∙ then_run next_variable (meeting_from around place shape r ws) v v m (next ∙ sym (got_next v)) (sym (run_next v))
+      then_run all_so (met_value around place number shape r m) v w shown all_got all_run
+      ∙ then_run next_variable (meeting_from around place number shape r ws) v v m (next ∙ sym (got_next v)) (sym (run_next v))
 
 -- ---- cases
 
@@ -278,7 +278,7 @@ module _ (place : Place) (number : ℕ) (is_try : Bool) (shape : Shape) (arms : 
   cases_form ds = led place (λ a bodies. cases_walk is_try place number shape arms a bodies around scope aim) (each_part ds)
 
   abbrev meets : List Meeting → Walk Indices
-  meets ws = meeting around place shape (wanted aim) ws
+  meets ws = meeting around place number shape (wanted aim) ws
 
   pub no_cases : cs ≡ [] → wrong_value place ≡ cases_form cs
   no_cases none = sym (ap cases_form none)
@@ -291,7 +291,7 @@ module _ (place : Place) (number : ℕ) (is_try : Bool) (shape : Shape) (arms : 
       caught = caught_at number (thrown around.exception)
 
       abbrev tried : Indices → Walk Indices
-      tried = try_over place shape arms (part c) (each_part rest) around scope aim
+      tried = try_over place number shape arms (part c) (each_part rest) around scope aim
 
       try_is : try_walk place number shape arms (part c) (each_part rest) around scope aim ≡ cases_form cs
       try_is = ap (λ (b : Bool). cases_walk b place number shape arms (part c) (each_part rest) around scope aim) (sym tries) ∙ ap cases_form (sym first)
@@ -312,9 +312,9 @@ module _ (place : Place) (number : ℕ) (is_try : Bool) (shape : Shape) (arms : 
     module _ (i : Indices) (ws : List Meeting) (v w : Written) (matches : is_try ≡ false) (is : i ≡ got ((part c).walk around scope Aims.Free) v)
         (was : w ≡ run ((part c).walk around scope Aims.Free) v) (same : ws ≡ case_ways place arms (each_part rest) around scope aim i) where
       abbrev over : Indices → Walk Indices
-      over = match_under place shape arms (each_part rest) around scope aim
+      over = match_under place number shape arms (each_part rest) around scope aim
 
-      match_is : match_walk place shape arms (part c) (each_part rest) around scope aim ≡ cases_form cs
+      match_is : match_walk place number shape arms (part c) (each_part rest) around scope aim ≡ cases_form cs
       match_is = ap (λ (b : Bool). cases_walk b place number shape arms (part c) (each_part rest) around scope aim) (sym matches) ∙ ap cases_form (sym first)
 
       pub match_got : got (meets ws) w ≡ got (cases_form cs) v
@@ -344,9 +344,9 @@ module _ (around : Around) (scope : Scope) (c : Core) (met : Option Con) (v w : 
     met_run o is =
         then_run (truth_walk (part c) around scope) next v w o (sym is ∙ found) was ∙ ap (λ (a : Walk (Option (Con × Indices))). run a v) opens
 
-  module _ (place : Place) (shape : Shape) (aim : Aim) (cs : List Core) (a : Core) (two_is : cs ≡ c ∷ a ∷ []) where
+  module _ (place : Place) (number : ℕ) (shape : Shape) (aim : Aim) (cs : List Core) (a : Core) (two_is : cs ≡ c ∷ a ∷ []) where
     abbrev branches : List Core → Walk (Option (Con × Indices))
-    branches ds = branches_forms place shape (each_part ds) around scope aim
+    branches ds = branches_forms place number shape (each_part ds) around scope aim
 
     abbrev body : Option Con → Walk (Option (Con × Indices))
     body o = when_met (part a) around scope o
@@ -376,12 +376,12 @@ module _ (around : Around) (scope : Scope) (c : Core) (met : Option Con) (v w : 
           (made_run given (λ i. I.Unit) w w4 (scoped_run (under g (part a) around scope Aims.Free) w w1 w3 w4 one inner four))
           ∙ met_run body (branches cs) (ap branches (sym two_is)) (Some g) some
 
-  module _ (place : Place) (shape : Shape) (aim : Aim) (a b : Core) where
+  module _ (place : Place) (number : ℕ) (shape : Shape) (aim : Aim) (a b : Core) where
     abbrev either : Walk (Option (Con × Indices))
-    either = either_walk place shape (part c) (part a) (part b) around scope aim
+    either = either_walk place number shape (part c) (part a) (part b) around scope aim
 
     abbrev both : Option Con → Walk (Option (Con × Indices))
-    both o = either_met place shape (part a) (part b) around scope aim o
+    both o = either_met place number shape (part a) (part b) around scope aim o
 
     pub no_either_got : met ≡ None → nothing ≡ got either v
     no_either_got none = sym (got_give nothing w) ∙ met_got both either refl None none
@@ -391,7 +391,7 @@ module _ (around : Around) (scope : Scope) (c : Core) (met : Option Con) (v w : 
 
     module _ (g h : Con) (some : met ≡ Some g) (other : h ≡ C.Not g) where
       abbrev meets_so : Con → Walk Indices
-      meets_so d = meeting around place shape (wanted aim) (two_ways (part a) (part b) around scope aim g d)
+      meets_so d = meeting around place number shape (wanted aim) (two_ways (part a) (part b) around scope aim g d)
 
       pub some_either_got : (i : Indices) → i ≡ got (meets_so h) w → Some (g, i) ≡ got either v
       some_either_got i is =

@@ -1,11 +1,11 @@
 -- What is written down behind the turns of loops.
-use Rattle.std.proofs.Common.{◌≡◌, ◌∙◌, ap, sym, refl, ℕ, ◌<◌, ◌≤◌, arith, List, [], ◌∷◌, ◌++◌, length, take, get_or, Option, None, Some}
+use Rattle.std.proofs.Common.{◌≡◌, ◌∙◌, ap, sym, refl, ℕ, ◌<◌, ◌≤◌, arith, List, [], ◌∷◌, ◌++◌, length, take, get_or, Option, None, Some, Bool, true, false}
 use Rattle.sail_base.specs.declared.place.Place.{Place}
 use Rattle.sail_types.specs.Sums.{variable}
 use Rattle.sail_types.specs.declared.numbers.Num.{Num}
 use Rattle.sail_core.specs.declared.tree.Core.{Core}
 use Rattle.sail_core.specs.declared.tree.Counting.{Counting}
-use Rattle.value_indices.specs.Steps.{Walk, bind, fresh_named, give}
+use Rattle.value_indices.specs.Steps.{Walk, bind, fresh_named, give, scoped}
 use Rattle.value_indices.specs.Walking.{Written, got, remembering, restored, run}
 use Rattle.value_indices.specs.declared.indices.Indices.{Indices}
 use Rattle.value_indices.specs.declared.indices.Indices.TheVariants as I
@@ -16,14 +16,14 @@ use Rattle.pattern_leaves.proofs.Walked.{made_got, made_run, then_got, then_run}
 use Rattle.call_arguments.specs.declared.aims.Aim.TheVariants as Aims
 use Rattle.expression_steps.specs.Coded.{each_part}
 use Rattle.expression_steps.specs.Expressions.{part}
-use Rattle.expression_steps.specs.Parts.{four, numbers_walk}
-use Rattle.expression_steps.specs.Statements.{bounds_of, counted, foreach_walk, step_owed, turn_begun, turn_named, turn_walk, turns_walk}
+use Rattle.expression_steps.specs.Parts.{four, numbers_walk, truth_walk}
+use Rattle.expression_steps.specs.Statements.{bounds_of, counted, foreach_walk, step_owed, turn_begun, turn_named, turn_part, turn_walk, turns_walk}
 use Rattle.expression_steps.specs.declared.counting.Bounds.{Bounds}
 use Rattle.expression_steps.proofs.Conditions.{scoped_run}
 
 -- ---- three walks of which nothing is kept
 
-module _ (a b c : Walk Indices) where
+module _ {A B C : Type 0} (a : Walk A) (b : Walk B) (c : Walk C) where
   abbrev last : Walk Indices
   last = bind c (λ k. give I.Unit)
 
@@ -40,6 +40,22 @@ module _ (a b c : Walk Indices) where
       three ∙ ap (λ (w : Written). run c w) (two ∙ ap (λ (w : Written). run b w) one)
       ∙ sym (run_bind a (λ i. later) v ∙ run_bind b (λ j. last) (run a v) ∙ run_bind c (λ k. give I.Unit) (run b (run a v))
       ∙ run_give I.Unit (run c (run b (run a v))))
+
+-- ---- the condition and the body of a turn
+
+module _ (around : Around) (scope : Scope) (core : Core) (is_condition : Bool) (v w1 w2 w3 : Written) (one : w1 ≡ remembering v)
+    (three : w3 ≡ restored w2) where
+  pub tested_run : is_condition ≡ true → w2 ≡ run (truth_walk (part core) around scope) w1 → w3 ≡ run (turn_part is_condition (part core) around scope) v
+  tested_run is two =
+      scoped_run (bind (truth_walk (part core) around scope) (λ c. give tt)) v w1 w2 w3 one
+      (made_run (truth_walk (part core) around scope) (λ c. tt) w1 w2 two) three
+      ∙ ap (λ (b : Bool). run (turn_part b (part core) around scope) v) (sym is)
+
+  pub alone_run : is_condition ≡ false → w2 ≡ run ((part core).walk around scope Aims.Free) w1 → w3 ≡ run (turn_part is_condition (part core) around scope) v
+  alone_run is two =
+      made_run (scoped ((part core).walk around scope Aims.Free)) (λ i. tt) v w3
+      (scoped_run ((part core).walk around scope Aims.Free) v w1 w2 w3 one two three)
+      ∙ ap (λ (b : Bool). run (turn_part b (part core) around scope) v) (sym is)
 
 -- ---- two of them, of whatever they give
 

@@ -103,8 +103,8 @@ inward place k (K.Cast None) parts around scope aim = one place (λ a. place_wal
 inward place k (K.Block statements) parts around scope aim = block_walk place statements parts around scope aim
 inward place k (K.Let arm) parts around scope aim = two place (λ a b. let_walk place arm a b around scope aim) parts
 inward place k (K.Var name written) parts around scope aim = two place (λ a b. var_walk name written a b around scope aim) parts
-inward place k (K.If shape) parts around scope aim = if_forms place shape parts around scope aim
-inward place k (K.Match arms shape) parts around scope aim = led place (λ a bodies. match_walk place shape arms a bodies around scope aim) parts
+inward place k (K.If shape) parts around scope aim = if_forms place k shape parts around scope aim
+inward place k (K.Match arms shape) parts around scope aim = led place (λ a bodies. match_walk place k shape arms a bodies around scope aim) parts
 inward place k (K.Try arms shape) parts around scope aim = led place (λ a bodies. try_walk place k shape arms a bodies around scope aim) parts
 inward place k K.When parts around scope aim = two place (λ a b. guarded a b around scope aim) parts
 inward place k kind parts around scope aim = wrong_value place
@@ -150,8 +150,8 @@ parted place k K.WithSlice parts around scope aim = update_forms place k Y.Slice
 parted place k (K.Assign targets) parts around scope aim = assigned place (map spotting targets) around scope parts
 parted place k (K.Foreach name way) parts around scope aim =
     four place (λ a b c body. foreach_walk place name way a b c body around scope) parts
-parted place k K.While parts around scope aim = three place (λ measure a b. loop_walk measure a b around scope) parts
-parted place k K.Repeat parts around scope aim = three place (λ measure a b. loop_walk measure a b around scope) parts
+parted place k K.While parts around scope aim = three place (λ measure a b. loop_walk true measure a b around scope) parts
+parted place k K.Repeat parts around scope aim = three place (λ measure a b. loop_walk false measure a b around scope) parts
 parted place k kind parts around scope aim = wrong_value place
 
 abbrev pub is_made : Kind → Bool
@@ -246,7 +246,7 @@ kind_place place K.When (a ∷ b ∷ []) = b.place
 kind_place place kind parts = place
 
 abbrev pub kind_state : Place → ℕ → Kind → List Part → Around → Scope → Walk (Option Con)
-kind_state place k (K.If shape) parts around scope = if_state place shape parts around scope
+kind_state place k (K.If shape) parts around scope = if_state place k shape parts around scope
 kind_state place k (K.Assert text) parts around scope = assert_state place parts around scope
 kind_state place k kind parts around scope = plain_state (kind_walk place k kind parts around scope Aims.Free)
 

@@ -1,6 +1,6 @@
 -- What operators on truths, branches, names that are bound, blocks and loops owe, and which facts are in force where (Sail language manual,
 -- "Booleans", "Conditionals", "Let bindings", "Pattern matching", "Exceptions", "Loops", "Assertions").
-use Rattle.std.specs.Prelude.{Bool, List, None, Option, Some, false, if◌then◌else◌, is_none, pos, true, ℕ, [], ◌&&◌, ◌++◌, ◌∷◌}
+use Rattle.std.specs.Prelude.{Bool, List, None, Option, Some, false, if◌then◌else◌, is_none, not, pos, true, ℕ, [], ◌&&◌, ◌++◌, ◌∷◌}
 use Rattle.sail_base.specs.declared.place.Place.{Place}
 use Rattle.sail_types.specs.Sums.{constant, variable, zero_num}
 use Rattle.sail_types.specs.declared.numbers.Con.{Con}
@@ -26,8 +26,8 @@ use Rattle.pattern_leaves.specs.Settings.{Around, Scope, bound, declared, expone
 use Rattle.pattern_leaves.specs.declared.names.Bound.{Bound}
 use Rattle.call_arguments.specs.Aims.{aimed, branch_aim, inner_aim, wanted}
 use Rattle.call_arguments.specs.Holes.{without_holes}
-use Rattle.call_notes.specs.Ends.{never_value, opened_at, settled, wrong_value}
-use Rattle.call_notes.specs.Noted.{node_ended, numbers_noted}
+use Rattle.call_notes.specs.Ends.{never_value, settled, wrong_value}
+use Rattle.call_notes.specs.Noted.{made_opened, node_ended, node_given, numbers_noted}
 use Rattle.call_arguments.specs.declared.aims.Aim.{Aim}
 use Rattle.call_arguments.specs.declared.aims.Aim.TheVariants as Aims
 use Rattle.expression_forms.specs.Meeting.{first_way, like_first, met_ways, thrown}
@@ -91,17 +91,20 @@ abbrev pub each_way : Around → Bool → ℕ → List Way → Option Indices �
 each_way around is_free m [] first = give first
 each_way around is_free m (w ∷ ws) first = bind (one_way around is_free m w first) (each_way around is_free m ws)
 
--- with a wanted type that type, opened; else the widened type of the first way that ends normally
-abbrev pub met_value : Around → Place → Shape → Option Reading → ℕ → Option Indices → Walk Indices
-met_value around place shape None m first = met_ways around place m shape first
-met_value around place shape (Some r) m first = opened_at place r
+-- with a wanted type that type, opened; else the widened type of the first way that ends normally: the node makes it of `()`
+abbrev pub met_made : Around → Place → ℕ → Shape → Option Reading → ℕ → Option Indices → Walk Indices
+met_made around place k shape None m first = bind (met_ways around place m shape first) (node_ended k (I.Unit ∷ []))
+met_made around place k shape (Some r) m first = made_opened place k (I.Unit ∷ []) r
 
-abbrev pub meeting_from : Around → Place → Shape → Option Reading → List Way → ℕ → Walk Indices
-meeting_from around place shape r ws m = bind (each_way around (is_none r) m ws None) (met_value around place shape r m)
+abbrev pub met_value : Around → Place → ℕ → Shape → Option Reading → ℕ → Option Indices → Walk Indices
+met_value around place k shape r m first = bind (met_made around place k shape r m first) (node_given k)
+
+abbrev pub meeting_from : Around → Place → ℕ → Shape → Option Reading → List Way → ℕ → Walk Indices
+meeting_from around place k shape r ws m = bind (each_way around (is_none r) m ws None) (met_value around place k shape r m)
 
 -- the value of ways, of which this type is wanted
-abbrev pub meeting : Around → Place → Shape → Option Reading → List Way → Walk Indices
-meeting around place shape r ws = bind next_variable (meeting_from around place shape r ws)
+abbrev pub meeting : Around → Place → ℕ → Shape → Option Reading → List Way → Walk Indices
+meeting around place k shape r ws = bind next_variable (meeting_from around place k shape r ws)
 
 -- ---- `if`
 
@@ -114,8 +117,8 @@ two_ways a b around scope aim c d = way_of a around scope aim c ∷ way_of b aro
 abbrev pub if_ways : Part → Part → Around → Scope → Aim → Con → List Way
 if_ways a b around scope aim c = two_ways a b around scope aim c (C.Not c)
 
-abbrev pub if_under : Place → Shape → Part → Part → Around → Scope → Aim → Con → Walk Indices
-if_under place shape a b around scope aim c = meeting around place shape (wanted aim) (if_ways a b around scope aim c)
+abbrev pub if_under : Place → ℕ → Shape → Part → Part → Around → Scope → Aim → Con → Walk Indices
+if_under place k shape a b around scope aim c = meeting around place k shape (wanted aim) (if_ways a b around scope aim c)
 
 -- without `else` it is `()`
 abbrev pub when_under : Part → Around → Scope → Con → Walk Indices
@@ -125,18 +128,18 @@ abbrev pub when_met : Part → Around → Scope → Option Con → Walk (Option 
 when_met a around scope None = give None
 when_met a around scope (Some c) = bind (when_under a around scope c) (λ i. give (Some (c, i)))
 
-abbrev pub either_met : Place → Shape → Part → Part → Around → Scope → Aim → Option Con → Walk (Option (Con × Indices))
-either_met place shape a b around scope aim None = give None
-either_met place shape a b around scope aim (Some c) = bind (if_under place shape a b around scope aim c) (λ i. give (Some (c, i)))
+abbrev pub either_met : Place → ℕ → Shape → Part → Part → Around → Scope → Aim → Option Con → Walk (Option (Con × Indices))
+either_met place k shape a b around scope aim None = give None
+either_met place k shape a b around scope aim (Some c) = bind (if_under place k shape a b around scope aim c) (λ i. give (Some (c, i)))
 
-abbrev pub either_walk : Place → Shape → Part → Part → Part → Around → Scope → Aim → Walk (Option (Con × Indices))
-either_walk place shape c a b around scope aim = bind (truth_walk c around scope) (either_met place shape a b around scope aim)
+abbrev pub either_walk : Place → ℕ → Shape → Part → Part → Part → Around → Scope → Aim → Walk (Option (Con × Indices))
+either_walk place k shape c a b around scope aim = bind (truth_walk c around scope) (either_met place k shape a b around scope aim)
 
 -- its condition and its value; none where there is no condition
-abbrev pub branches_forms : Place → Shape → List Part → Around → Scope → Aim → Walk (Option (Con × Indices))
-branches_forms place shape (c ∷ a ∷ []) around scope aim = bind (truth_walk c around scope) (when_met a around scope)
-branches_forms place shape (c ∷ a ∷ b ∷ []) around scope aim = either_walk place shape c a b around scope aim
-branches_forms place shape parts around scope aim = give None
+abbrev pub branches_forms : Place → ℕ → Shape → List Part → Around → Scope → Aim → Walk (Option (Con × Indices))
+branches_forms place k shape (c ∷ a ∷ []) around scope aim = bind (truth_walk c around scope) (when_met a around scope)
+branches_forms place k shape (c ∷ a ∷ b ∷ []) around scope aim = either_walk place k shape c a b around scope aim
+branches_forms place k shape parts around scope aim = give None
 
 abbrev pub value_met : Option (Con × Indices) → Indices
 value_met None = I.Never
@@ -148,8 +151,8 @@ if_end place (c ∷ a ∷ []) around aim m = settled around place (branch_aim ai
 if_end place (c ∷ a ∷ b ∷ []) around aim m = give (value_met m)
 if_end place parts around aim m = wrong_value place
 
-abbrev pub if_forms : Place → Shape → List Part → Around → Scope → Aim → Walk Indices
-if_forms place shape parts around scope aim = bind (branches_forms place shape parts around scope aim) (if_end place parts around aim)
+abbrev pub if_forms : Place → ℕ → Shape → List Part → Around → Scope → Aim → Walk Indices
+if_forms place k shape parts around scope aim = bind (branches_forms place k shape parts around scope aim) (if_end place parts around aim)
 
 -- ---- statements: the condition that is in force in the rest of the block
 
@@ -175,8 +178,8 @@ claim_behind place (c ∷ a ∷ []) m = give (claim_met a.never_ends false (met_
 claim_behind place (c ∷ a ∷ b ∷ []) m = give (claim_met a.never_ends b.never_ends (met_condition m))
 claim_behind place parts m = wrong_state place
 
-abbrev pub if_state : Place → Shape → List Part → Around → Scope → Walk (Option Con)
-if_state place shape parts around scope = bind (branches_forms place shape parts around scope Aims.Free) (claim_behind place parts)
+abbrev pub if_state : Place → ℕ → Shape → List Part → Around → Scope → Walk (Option Con)
+if_state place k shape parts around scope = bind (branches_forms place k shape parts around scope Aims.Free) (claim_behind place parts)
 
 abbrev pub assert_state : Place → List Part → Around → Scope → Walk (Option Con)
 assert_state place (a ∷ []) around scope = truth_walk a around scope
@@ -258,20 +261,20 @@ case_ways place (arm ∷ arms) (body ∷ bodies) around scope aim i =
     case_way place arm body around scope aim i ∷ case_ways place arms bodies around scope aim i
 case_ways place arms bodies around scope aim i = []
 
-abbrev pub match_under : Place → Shape → List Arm → List Part → Around → Scope → Aim → Indices → Walk Indices
-match_under place shape arms bodies around scope aim i = meeting around place shape (wanted aim) (case_ways place arms bodies around scope aim i)
+abbrev pub match_under : Place → ℕ → Shape → List Arm → List Part → Around → Scope → Aim → Indices → Walk Indices
+match_under place k shape arms bodies around scope aim i = meeting around place k shape (wanted aim) (case_ways place arms bodies around scope aim i)
 
-abbrev pub match_walk : Place → Shape → List Arm → Part → List Part → Around → Scope → Aim → Walk Indices
-match_walk place shape arms a bodies around scope aim =
-    bind (a.walk around scope Aims.Free) (match_under place shape arms bodies around scope aim)
+abbrev pub match_walk : Place → ℕ → Shape → List Arm → Part → List Part → Around → Scope → Aim → Walk Indices
+match_walk place k shape arms a bodies around scope aim =
+    bind (a.walk around scope Aims.Free) (match_under place k shape arms bodies around scope aim)
 
 abbrev pub try_way : Part → Around → Scope → Aim → Way
 try_way a around scope aim = record { never_ends = a.never_ends; place = a.place; walk = a.walk around scope (branch_aim aim) }
 
 -- a first way, and the cases over what is thrown
-abbrev pub try_over : Place → Shape → List Arm → Part → List Part → Around → Scope → Aim → Indices → Walk Indices
-try_over place shape arms a bodies around scope aim i =
-    meeting around place shape (wanted aim) (try_way a around scope aim ∷ case_ways place arms bodies around scope aim i)
+abbrev pub try_over : Place → ℕ → Shape → List Arm → Part → List Part → Around → Scope → Aim → Indices → Walk Indices
+try_over place k shape arms a bodies around scope aim i =
+    meeting around place k shape (wanted aim) (try_way a around scope aim ∷ case_ways place arms bodies around scope aim i)
 
 -- what is thrown is caught by the node: it stands before the first way, behind which the same is in force
 abbrev pub caught_at : ℕ → Indices → Walk (Unit {0})
@@ -279,11 +282,11 @@ caught_at k i = bind (node_ended k [] i) (numbers_noted k)
 
 abbrev pub try_walk : Place → ℕ → Shape → List Arm → Part → List Part → Around → Scope → Aim → Walk Indices
 try_walk place k shape arms a bodies around scope aim =
-    bind (caught_at k (thrown around.exception)) (λ t. try_over place shape arms a bodies around scope aim (thrown around.exception))
+    bind (caught_at k (thrown around.exception)) (λ t. try_over place k shape arms a bodies around scope aim (thrown around.exception))
 
 abbrev pub cases_walk : Bool → Place → ℕ → Shape → List Arm → Part → List Part → Around → Scope → Aim → Walk Indices
 cases_walk is_try place k shape arms a bodies around scope aim =
-    if is_try then try_walk place k shape arms a bodies around scope aim else match_walk place shape arms a bodies around scope aim
+    if is_try then try_walk place k shape arms a bodies around scope aim else match_walk place k shape arms a bodies around scope aim
 
 -- a guard is in force in its case
 abbrev pub guarded : Part → Part → Around → Scope → Aim → Walk Indices
@@ -330,11 +333,19 @@ natural_type = R.Of (Y.Range zero_num largest_num) [] []
 abbrev pub measure_walk : Part → Around → Scope → Walk Indices
 measure_walk a around scope = scoped (a.walk around scope (Aims.Due natural_type))
 
--- of which nothing is wanted, with an end of its own
-abbrev pub alone_walk : Part → Around → Scope → Walk Indices
-alone_walk a around scope = scoped (a.walk around scope Aims.Free)
+-- a condition, which has to be a truth, with an end of its own
+abbrev pub tested_walk : Part → Around → Scope → Walk (Unit {0})
+tested_walk a around scope = scoped (bind (truth_walk a around scope) (λ c. give tt))
 
--- a measure, and two parts in the order of the text
-abbrev pub loop_walk : Part → Part → Part → Around → Scope → Walk Indices
-loop_walk measure a b around scope =
-    bind (measure_walk measure around scope) (λ i. bind (alone_walk a around scope) (λ j. bind (alone_walk b around scope) (λ k. give I.Unit)))
+-- a body, of which nothing is wanted, with an end of its own
+abbrev pub alone_walk : Part → Around → Scope → Walk (Unit {0})
+alone_walk a around scope = bind (scoped (a.walk around scope Aims.Free)) (λ i. give tt)
+
+abbrev pub turn_part : Bool → Part → Around → Scope → Walk (Unit {0})
+turn_part is_condition a around scope = if is_condition then tested_walk a around scope else alone_walk a around scope
+
+-- a measure, and two parts in the order of the text: of a `while` the condition comes first, of a `repeat` the body
+abbrev pub loop_walk : Bool → Part → Part → Part → Around → Scope → Walk Indices
+loop_walk is_while measure a b around scope =
+    bind (measure_walk measure around scope) (λ i.
+    bind (turn_part is_while a around scope) (λ j. bind (turn_part (not is_while) b around scope) (λ k. give I.Unit)))

@@ -13,7 +13,7 @@ ghost use Rattle.expression_steps.specs.Parts.{Part};
 ghost use Rattle.expression_steps.specs.Statements as statement_spec;
 
 use crate::knowing::{never_ends, place_of};
-use call_notes::{Aim, opened_at, settled, wrong_value};
+use call_notes::{Aim, made_opened, node_ended, node_given, settled, wrong_value};
 use expression_forms::{first_way, like_first, met_ways};
 use pattern_leaves::{Around, Bound};
 use pattern_notes::{Matching, match_arm};
@@ -240,27 +240,57 @@ pub fn is_free(aim: &Aim) -> bool
     }
 }
 
-/// The value where ways of this shape meet, of which this is wanted, by the first that ends normally. It fails where memory is wanting,
-/// and where variables are too many.
-pub fn met_value(
+/// The value where ways of this shape meet, of which this is wanted, by the first that ends normally; the node of a number makes it of `()`.
+/// It fails where memory is wanting, and where variables are too many.
+#[tactic(auto, using(value_indices::proofs::Walks::walks))]
+fn met_made(
     alloc: Global,
     walking: &mut Walking,
     around: &Around<'_>,
     place: Place,
+    number: u32,
     shape: &Shape,
     aim: &Aim,
     before: u32,
     first: Option<&Indices>,
 ) -> Result<Indices, AllocError>
-    ensures value { IfOk result (λ made. made ≡ walk.got (statement_spec.met_value (around_of around.now) place shape.now (wanted_by aim.now) before
-        (option_copied first.entry)) (walk.seen walking.old)) }
-    ensures walked { OnOk result (walk.seen walking.new ≡ walk.run (statement_spec.met_value (around_of around.now) place shape.now
+    ensures value { IfOk result (λ made. made ≡ walk.got (statement_spec.met_made (around_of around.now) place number shape.now (wanted_by aim.now)
+        before (option_copied first.entry)) (walk.seen walking.old)) }
+    ensures walked { OnOk result (walk.seen walking.new ≡ walk.run (statement_spec.met_made (around_of around.now) place number shape.now
         (wanted_by aim.now) before (option_copied first.entry)) (walk.seen walking.old)) }
 {
     match aim.wanted() {
-        None => met_ways(alloc, walking, around, place, before, shape, first),
-        Some(wanted) => opened_at(alloc, walking, place, wanted),
+        None => {
+            let value = met_ways(alloc, walking, around, place, before, shape, first)?;
+            node_ended(alloc, walking, number, &[Indices::Unit], value)
+        }
+        Some(wanted) => made_opened(alloc, walking, place, number, &[Indices::Unit], wanted),
     }
+}
+
+/// The same, with the numbers of the value that the node gives, noted from here on. It fails where memory is wanting, and where variables
+/// are too many.
+#[tactic(auto, using(value_indices::proofs::Walks::walks))]
+pub fn met_value(
+    alloc: Global,
+    walking: &mut Walking,
+    around: &Around<'_>,
+    place: Place,
+    number: u32,
+    shape: &Shape,
+    aim: &Aim,
+    before: u32,
+    first: Option<&Indices>,
+) -> Result<Indices, AllocError>
+    ensures value { IfOk result (λ made. made ≡ walk.got (statement_spec.met_value (around_of around.now) place number shape.now
+        (wanted_by aim.now) before (option_copied first.entry)) (walk.seen walking.old)) }
+    ensures walked { OnOk result (walk.seen walking.new ≡ walk.run (statement_spec.met_value (around_of around.now) place number shape.now
+        (wanted_by aim.now) before (option_copied first.entry)) (walk.seen walking.old)) }
+{
+    let value = met_made(
+        alloc, walking, around, place, number, shape, aim, before, first,
+    )?;
+    node_given(alloc, walking, number, value)
 }
 
 /// A value that was met with its condition; none where there is no condition.

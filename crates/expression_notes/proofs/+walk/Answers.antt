@@ -1,4 +1,4 @@
-use Rattle.std.proofs.Common.{take, ◌≡◌, ◌∙◌, ◌+◌, ◌++◌, ◌∷◌, [], List, Some, map, slice_get, ap, sym, refl, arith, ◌≤◌, length, ◌-◌}
+use Rattle.std.proofs.Common.{take, ◌≡◌, ◌∙◌, ◌+◌, ◌++◌, ◌∷◌, [], List, Some, map, slice_get, ap, sym, refl, arith, ◌≤◌, length, ◌-◌, not}
 use Rattle.std.proofs.lemmas.List.{map-append}
 use Rattle.sail_types.specs.declared.numbers.Con.TheVariants as C
 use Rattle.sail_types.specs.declared.numbers.Con.{Con}
@@ -27,7 +27,7 @@ use Rattle.expression_steps.specs.Calls.{argument_aims}
 use Rattle.expression_steps.specs.Coded.{aim_or_free, each_part, left_behind, spotted_in, ways_seen, taken_in}
 use Rattle.expression_steps.specs.Expressions.{part}
 use Rattle.expression_steps.specs.Parts.{three, under}
-use Rattle.expression_steps.specs.Statements.{alone_walk, measure_walk, natural_type, joined_under}
+use Rattle.expression_steps.specs.Statements.{measure_walk, natural_type, joined_under, turn_part}
 use Rattle.expression_steps.specs.Targets.{spotting, part_of, tuple_spotted, assigned, assigned_one}
 use Rattle.expression_steps.specs.Values.{Row, taken, no_way}
 use Rattle.expression_notes.proofs.Bindings.{names_alike}
@@ -48,7 +48,7 @@ use Rattle.expression_notes.proofs.Spotted.{last_there, none_within_got, spots_o
 use Rattle.expression_notes.proofs.Spotted.{absent_alike, spots_ended, stopped_alike}
 use Rattle.expression_notes.proofs.Taken.{never_alike, part_alike, step_alike, stop_alike, taken_got, reached_got, reached_run, updated_got, updated_run}
 use Rattle.expression_notes.proofs.Taken.{way_opens, few_way, no_way_got, one_value, suffixes_ended, uncounted}
-use Rattle.expression_steps.proofs.Turns.{turns_got, turns_run}
+use Rattle.expression_steps.proofs.Turns.{alone_run, tested_run, turns_got, turns_run}
 use Rattle.expression_steps.proofs.Walked.{each_end, each_more, like_end, like_more}
 use Rattle.expression_notes.proofs.RowLaws.{row_due, row_free}
 use Rattle.expression_notes.proofs.+walk.Goals as goal
@@ -470,13 +470,15 @@ branches::walk_ways-loop-way-preserved t c = let way = c.in_ok-first.ensures in
 
 pub branches::walk_ways-returns : goal.branches::walk_ways-returns
 branches::walk_ways-returns t c = let same = ways_met c.is_free-free.result c.next-before.result (around_of c.args.around.now) (scope_of c.args.scope.now)
-    c.args.aim.now c.args.ways.now c.args.place c.args.shape.now c.is_free-free.ensures c.loop-way.first _ _ (seen c.args.walking.now) (seen c.loop-way.walking)
+    c.args.aim.now c.args.ways.now c.args.place c.args.number c.args.shape.now c.is_free-free.ensures c.loop-way.first _ _ (seen c.args.walking.now) (seen
+    c.loop-way.walking)
     c.next-before.ensures c.loop-way-test.false c.as_ref.ensures.value c.loop-way.invariant.value c.loop-way.invariant.walked in
     record { value = value_same _ _ _ same.value c.met_value.ensures.value; walked = walked_same _ _ _ _ same.walked c.met_value.ensures.walked }
 
 pub branches::walk_either-returns-in-None : goal.branches::walk_either-returns-in-None
 branches::walk_either-returns-in-None t c = let truth = c.in_ok-walk_truth.ensures in
-    let same = no_either_alike _ _ c.args.condition.now _ _ _ truth.value truth.walked c.args.place c.args.shape.now c.args.aim.now c.args.then.now
+    let same = no_either_alike _ _ c.args.condition.now _ _ _ truth.value truth.walked c.args.place c.args.number c.args.shape.now c.args.aim.now
+    c.args.then.now
     c.args.otherwise.now c.in-None.is in
     record { value = same.value; walked = same.walked }
 
@@ -484,21 +486,24 @@ pub branches::walk_either-returns-in_ok-value-in-Some : goal.branches::walk_eith
 branches::walk_either-returns-in_ok-value-in-Some t c = let around = around_of c.args.around.now in let scope = scope_of c.args.scope.now in
     let truth = c.in_ok-walk_truth.ensures in let value = c.in_ok-value-in-Some.ensures in
     let not = c.in_ok-other-in-Some.ensures ∙ ap (λ (d : Con). C.Not d) c.in_ok-copy_con-in-Some.ensures in
-    let same = some_either_alike around scope c.args.condition.now _ _ _ truth.value truth.walked c.args.place c.args.shape.now c.args.aim.now c.args.then.now
+    let same = some_either_alike around scope c.args.condition.now _ _ _ truth.value truth.walked c.args.place c.args.number c.args.shape.now c.args.aim.now
+    c.args.then.now
     c.args.otherwise.now _ _ c.in-Some.is not _ _ _ (c.either_ways-ways.ensures.ways around scope c.args.aim.now) value.value value.walked in
     record { value = same.value; walked = same.walked }
 
 pub branches::walk_branches-returns-in-None : goal.branches::walk_branches-returns-in-None
 branches::walk_branches-returns-in-None t c = let truth = c.in_ok-walk_truth-in-len2.ensures in
     let two = two_of _ _ _ c.in-len2.len_at_least c.in-len2.len_below c.condition-item.is c.body-item.is in
-    let same = no_when_alike _ _ c.condition-item.result _ _ _ truth.value truth.walked c.args.place c.args.shape.now c.args.aim.now c.args.parts.now
+    let same = no_when_alike _ _ c.condition-item.result _ _ _ truth.value truth.walked c.args.place c.args.number c.args.shape.now c.args.aim.now
+    c.args.parts.now
     c.body-item.result two c.in-None.is in
     record { value = same.value; walked = same.walked }
 
 pub branches::walk_branches-returns-in_ok-restore-in-Some : goal.branches::walk_branches-returns-in_ok-restore-in-Some
 branches::walk_branches-returns-in_ok-restore-in-Some t c = let truth = c.in_ok-walk_truth-in-len2.ensures in
     let two = two_of _ _ _ c.in-len2.len_at_least c.in-len2.len_below c.condition-item.is c.body-item.is in
-    let same = some_when_alike _ _ c.condition-item.result _ _ _ truth.value truth.walked c.args.place c.args.shape.now c.args.aim.now c.args.parts.now
+    let same = some_when_alike _ _ c.condition-item.result _ _ _ truth.value truth.walked c.args.place c.args.number c.args.shape.now c.args.aim.now
+    c.args.parts.now
     c.body-item.result two _ c.in-Some.is _ _ _ _ _ c.in_ok-copy_con-in-Some.ensures c.in_ok-remember-in-Some.ensures c.in_ok-assume-in-Some.ensures
     c.in_ok-walk_expression-in-Some.ensures.walked c.in_ok-restore-in-Some.ensures in
     record { value = same.value; walked = same.walked }
@@ -509,17 +514,20 @@ branches::walk_branches-returns-in-len3 t c =
     record { value = rw parts c.walk_either.ensures.value; walked = rw parts c.walk_either.ensures.walked }
 
 pub branches::walk_branches-returns-in-empty : goal.branches::walk_branches-returns-in-empty
-branches::walk_branches-returns-in-empty t c = let same = few_alike c.args.place c.args.shape.now (around_of c.args.around.now) (scope_of c.args.scope.now)
+branches::walk_branches-returns-in-empty t c = let same = few_alike c.args.place c.args.number c.args.shape.now (around_of c.args.around.now) (scope_of
+    c.args.scope.now)
     c.args.aim.now (seen c.args.walking.now) c.args.parts.now (omega arith) in
     record { value = same.value; walked = same.walked }
 
 pub branches::walk_branches-returns-in-len1 : goal.branches::walk_branches-returns-in-len1
-branches::walk_branches-returns-in-len1 t c = let same = few_alike c.args.place c.args.shape.now (around_of c.args.around.now) (scope_of c.args.scope.now)
+branches::walk_branches-returns-in-len1 t c = let same = few_alike c.args.place c.args.number c.args.shape.now (around_of c.args.around.now) (scope_of
+    c.args.scope.now)
     c.args.aim.now (seen c.args.walking.now) c.args.parts.now (omega arith) in
     record { value = same.value; walked = same.walked }
 
 pub branches::walk_branches-returns-in_default : goal.branches::walk_branches-returns-in_default
-branches::walk_branches-returns-in_default t c = let same = many_alike c.args.place c.args.shape.now (around_of c.args.around.now) (scope_of c.args.scope.now)
+branches::walk_branches-returns-in_default t c = let same = many_alike c.args.place c.args.number c.args.shape.now (around_of c.args.around.now) (scope_of
+    c.args.scope.now)
     c.args.aim.now (seen c.args.walking.now) c.args.parts.now (omega arith) in
     record { value = same.value; walked = same.walked }
 
@@ -625,19 +633,25 @@ loops::walk_foreach-returns-in_ok-restore-in-Some t c = let n = c.in_ok-numbers-
     c.in_ok-found-in-Some.ensures.walked inside c.in_ok-walk_expression-in-Some.ensures.walked c.in_ok-restore-in-Some.ensures in
     record { value = same.value; walked = same.walked }
 
-pub loops::walk_loop-returns-in_ok-restore-in-len3-3 : goal.loops::walk_loop-returns-in_ok-restore-in-len3-3
-loops::walk_loop-returns-in_ok-restore-in-len3-3 t c = let around = around_of c.args.around.now in let scope = scope_of c.args.scope.now in
-    let v = seen c.args.walking.now in
+pub loops::walk_turn-returns-in_ok-restore : goal.loops::walk_turn-returns-in_ok-restore
+loops::walk_turn-returns-in_ok-restore t c =
+    tested_run _ _ _ _ _ _ _ _ c.in_ok-remember.ensures c.in_ok-restore.ensures c.if-is_condition.true c.in_ok-walk_truth.ensures.walked
+
+pub loops::walk_turn-returns-in_ok-restore-else-is_condition : goal.loops::walk_turn-returns-in_ok-restore-else-is_condition
+loops::walk_turn-returns-in_ok-restore-else-is_condition t c =
+    alone_run _ _ _ _ _ _ _ _ c.in_ok-remember.ensures c.in_ok-restore-else-is_condition.ensures c.if-is_condition.false c.in_ok-walk_expression.ensures.walked
+
+pub loops::walk_loop-returns-in_ok-walk_turn-in-len3-2 : goal.loops::walk_loop-returns-in_ok-walk_turn-in-len3-2
+loops::walk_loop-returns-in_ok-walk_turn-in-len3-2 t c = let around = around_of c.args.around.now in let scope = scope_of c.args.scope.now in
+    let v = seen c.args.walking.now in let is_while = c.args.is_while in
     let parts = three_of _ _ _ _ c.in-len3.len_at_least c.in-len3.len_below c.measure-item.is c.first-item.is c.second-item.is in
     let m = part c.measure-item.result in let a = part c.first-item.result in let b = part c.second-item.result in
     let due : seen c.walk_expression.new.walking ≡ run (m.walk around scope (Aims.Due natural_type)) (seen c.remember.new.self) =
     c.in_ok-walk_expression-in-len3.ensures.walked ∙ ap (λ (aim : Aim). run (m.walk around scope aim) (seen c.remember.new.self)) c.natural_aim-aim.ensures in
     let one = scoped_run _ _ _ _ _ c.in_ok-remember-in-len3.ensures due c.in_ok-restore-in-len3.ensures in
-    let two = scoped_run _ _ _ _ _ c.in_ok-remember-in-len3-2.ensures c.in_ok-walk_expression-in-len3-2.ensures.walked c.in_ok-restore-in-len3-2.ensures in
-    let three = scoped_run _ _ _ _ _ c.in_ok-remember-in-len3-3.ensures c.in_ok-walk_expression-in-len3-3.ensures.walked c.in_ok-restore-in-len3-3.ensures in
     record {
-      value = rw parts (turns_got (measure_walk m around scope) (alone_walk a around scope) (alone_walk b around scope) v);
-      walked = rw parts (turns_run _ _ _ _ _ _ _ one two three);
+      value = rw parts (turns_got (measure_walk m around scope) (turn_part is_while a around scope) (turn_part (not is_while) b around scope) v);
+      walked = rw parts (turns_run _ _ _ _ _ _ _ one c.in_ok-walk_turn-in-len3.ensures c.in_ok-walk_turn-in-len3-2.ensures);
     }
 
 -- ---- what calls require: that there is less to walk over
