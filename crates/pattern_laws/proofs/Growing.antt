@@ -1,5 +1,6 @@
 -- The walk over a pattern counts its variables on, and what was in force stays so, whatever it is matched with.
 use Rattle.std.proofs.Common.{ℕ, nat_eq, ℤ, Bool, true, false, List, [], ◌∷◌, length, map, Option, Some, None, slice_get, refl, sym, subst, append-nil}
+use Rattle.std.proofs.Common.{if◌then◌else◌}
 use Rattle.sail_base.specs.declared.place.Place.{Place}
 use Rattle.sail_types.specs.Zero.{deepest}
 use Rattle.sail_types.specs.Named.{payload}
@@ -33,8 +34,8 @@ use Rattle.pattern_leaves.specs.Literals.{no_names, wrong_pattern, integer_met, 
 use Rattle.pattern_leaves.specs.Payloads.{payload_types, payload_readings}
 use Rattle.pattern_leaves.specs.Widths.{bits_part, cut_width}
 use Rattle.pattern_notes.specs.declared.matching.Matching.{Matching}
-use Rattle.pattern_notes.specs.Patterns.{Look, inside, also, parts_match, taken_out, all_taken, item_met, items_met, cons_met, after_inner, head_met}
-use Rattle.pattern_notes.specs.Patterns.{constructor_met, union_met}
+use Rattle.pattern_notes.specs.Patterns.{Look, inside, also, each_match, parts_match, taken_out, all_taken, item_met, items_met, cons_met}
+use Rattle.pattern_notes.specs.Patterns.{after_inner, constructor_met, head_met, union_met}
 use Rattle.pattern_notes.specs.Patterns.{each_met_never, opens_met, annotation_owed, written_owed, typed_met, direction_met, result_of, option_of, form_match}
 use Rattle.pattern_notes.specs.Patterns.{look, look_form, looks, arm_match, one_match}
 use Rattle.fitting_laws.proofs.Counted.{fits_count}
@@ -146,11 +147,18 @@ module _ (around : Around) where
   AllGrow [] = Unit {0}
   AllGrow (p ∷ ps) = LookGrows p × AllGrow ps
 
+  in_order_grows : (place : Place) (how : Matching) (ps : List Look) → AllGrow ps → (is : List Indices) → Grows (each_match place ps around how is)
+  in_order_grows place how [] c [] = none_grows
+  in_order_grows place how [] c (i ∷ is) = wrong_grows place
+  in_order_grows place how (p ∷ ps) c [] = wrong_grows place
+  in_order_grows place how (p ∷ ps) c (i ∷ is) = also_grows _ _ (c.0 (inside how) i) (in_order_grows place how ps c.1 is)
+
   parts_grows : (place : Place) (how : Matching) (ps : List Look) → AllGrow ps → (is : List Indices) → Grows (parts_match place ps around how is)
-  parts_grows place how [] c [] = none_grows
-  parts_grows place how [] c (i ∷ is) = wrong_grows place
-  parts_grows place how (p ∷ ps) c [] = wrong_grows place
-  parts_grows place how (p ∷ ps) c (i ∷ is) = also_grows _ _ (c.0 (inside how) i) (parts_grows place how ps c.1 is)
+  parts_grows place how ps c is = by (nat_eq (length ps) (length is))
+    where
+      by : (b : Bool) → Grows (if b then each_match place ps around how is else wrong_pattern place)
+      by true = in_order_grows place how ps c is
+      by false = wrong_grows place
 
   pub item_grows : (place : Place) (how : Matching) (p : Look) → LookGrows p → (r : Reading) → Grows (item_met place p around how r)
   item_grows place how p c r = bind_grows _ _ (taken_grows place p.naming r) (λ i. c (inside how) i)

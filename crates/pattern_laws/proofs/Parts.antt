@@ -1,5 +1,5 @@
 -- Parts that are matched from left to right, and items that are taken out one by one.
-use Rattle.std.proofs.Common.{◌≡◌, ℕ, suc, true, List, [], ◌∷◌, ◌++◌, map, length, refl, sym, ap, subst, if◌then◌else◌}
+use Rattle.std.proofs.Common.{◌≡◌, ℕ, suc, nat_eq, Bool, true, false, List, [], ◌∷◌, ◌++◌, map, length, refl, sym, ap, subst, if◌then◌else◌}
 use Rattle.std.proofs.lemmas.Bool.{and_parts}
 use Rattle.std.proofs.lemmas.Bool.Decides.{Decides-eqb}
 use Rattle.std.specs.List.{list_all}
@@ -19,9 +19,10 @@ use Rattle.value_indices.specs.Steps.{Walk, bind, note}
 use Rattle.checked_meaning.specs.Items.{Item, item}
 use Rattle.checked_meaning.specs.Checked.{Cases, checked}
 use Rattle.pattern_leaves.specs.declared.names.Bound.{Bound}
+use Rattle.pattern_leaves.specs.Literals.{wrong_pattern}
 use Rattle.pattern_leaves.specs.Settings.{Around}
 use Rattle.pattern_notes.specs.declared.matching.Matching.{Matching}
-use Rattle.pattern_notes.specs.Patterns.{Look, inside, also, parts_match, item_met, items_met}
+use Rattle.pattern_notes.specs.Patterns.{Look, inside, also, each_match, parts_match, item_met, items_met}
 use Rattle.value_laws.specs.Belonging.{Integers}
 use Rattle.value_laws.specs.Known.{Point, Agree, Later}
 use Rattle.value_laws.proofs.Steps.{agree_on}
@@ -85,21 +86,30 @@ module _ (around : Around) (past : Positive) (own : List Closed) {fit : OfSizes}
 
   -- ---- parts from left to right
 
+  in_order_beside : {n : ℕ} {f : Point n} {facts : List Fact} (place : Place) (how : Matching) (looks : List Look) (ms : List (Matcher Item))
+      (ss : List Standing) → AllWell looks ms ss → (is : List Indices) (xs : List Item) → AllBear around.types past own y f is xs → Grounds f
+      → EachStands ss xs → Beside q past n f facts (each_match place looks around how is) (run_parts ms xs) Names
+  in_order_beside place how [] [] [] h [] [] b s t = rests [] [] tt
+  in_order_beside place how [] [] [] h [] (x ∷ xs) b s t = absurd b
+  in_order_beside place how [] [] [] h (i ∷ is) xs b s t = wrongs place
+  in_order_beside place how [] [] (k ∷ ss) h is xs b s t = absurd h
+  in_order_beside place how [] (m ∷ ms) ss h is xs b s t = absurd h
+  in_order_beside place how (a ∷ looks) [] ss h is xs b s t = absurd h
+  in_order_beside place how (a ∷ looks) (m ∷ ms) [] h is xs b s t = absurd h
+  in_order_beside place how (a ∷ looks) (m ∷ ms) (k ∷ ss) h [] xs b s t = wrongs place
+  in_order_beside place how (a ∷ looks) (m ∷ ms) (k ∷ ss) h (i ∷ is) [] b s t = absurd b
+  in_order_beside {n} {f} {facts} place how (a ∷ looks) (m ∷ ms) (k ∷ ss) h (i ∷ is) (x ∷ xs) b s t =
+      also_beside (h.0.beside (inside how) i x n f facts b.0 s t.0) (λ m2 g2 fs l.
+      in_order_beside place how looks ms ss h.1 is xs (all_on around.types past own y is xs l b.1) (grounds_on l s) t.1)
+
   pub parts_beside : {n : ℕ} {f : Point n} {facts : List Fact} (place : Place) (how : Matching) (looks : List Look) (ms : List (Matcher Item))
       (ss : List Standing) → AllWell looks ms ss → (is : List Indices) (xs : List Item) → AllBear around.types past own y f is xs → Grounds f
       → EachStands ss xs → Beside q past n f facts (parts_match place looks around how is) (run_parts ms xs) Names
-  parts_beside place how [] [] [] h [] [] b s t = rests [] [] tt
-  parts_beside place how [] [] [] h [] (x ∷ xs) b s t = absurd b
-  parts_beside place how [] [] [] h (i ∷ is) xs b s t = wrongs place
-  parts_beside place how [] [] (k ∷ ss) h is xs b s t = absurd h
-  parts_beside place how [] (m ∷ ms) ss h is xs b s t = absurd h
-  parts_beside place how (a ∷ looks) [] ss h is xs b s t = absurd h
-  parts_beside place how (a ∷ looks) (m ∷ ms) [] h is xs b s t = absurd h
-  parts_beside place how (a ∷ looks) (m ∷ ms) (k ∷ ss) h [] xs b s t = wrongs place
-  parts_beside place how (a ∷ looks) (m ∷ ms) (k ∷ ss) h (i ∷ is) [] b s t = absurd b
-  parts_beside {n} {f} {facts} place how (a ∷ looks) (m ∷ ms) (k ∷ ss) h (i ∷ is) (x ∷ xs) b s t =
-      also_beside (h.0.beside (inside how) i x n f facts b.0 s t.0) (λ m2 g2 fs l.
-      parts_beside place how looks ms ss h.1 is xs (all_on around.types past own y is xs l b.1) (grounds_on l s) t.1)
+  parts_beside {n} {f} {facts} place how looks ms ss h is xs b s t = by (nat_eq (length looks) (length is))
+    where
+      by : (c : Bool) → Beside q past n f facts (if c then each_match place looks around how is else wrong_pattern place) (run_parts ms xs) Names
+      by true = in_order_beside place how looks ms ss h is xs b s t
+      by false = wrongs place
 
   -- ---- items
 

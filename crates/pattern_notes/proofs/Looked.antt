@@ -8,7 +8,7 @@ use Rattle.sail_base.specs.declared.place.Place.{Place}
 use Rattle.pattern_notes.specs.declared.matching.Matching.{Matching}
 use Rattle.pattern_leaves.specs.Settings.{Around, bound}
 use Rattle.value_indices.specs.Steps.{give}
-use Rattle.pattern_notes.specs.Patterns.{Look, look, look_form, matched, form_match, inside, parts_match, also}
+use Rattle.pattern_notes.specs.Patterns.{Look, look, look_form, matched, form_match, inside, each_match, also}
 use Rattle.pattern_leaves.specs.Literals.{no_names, wrong_pattern}
 use Rattle.pattern_notes.specs.Patterns.{form_naming, form_written, named_readings, all_taken, taken_out, items_met, item_met, each_met_never}
 use Rattle.pattern_notes.specs.Patterns.{name_met, nothing_met}
@@ -36,32 +36,32 @@ written_is p qs same =
 
 pub parts_more : (place : Place) (ps : List Pattern) (vs : List Indices) (around : Around) (how : Matching) (k : ℕ) (p : Pattern) (x : Indices)
     → k < length ps → p ≡ get_or ps k p → slice_get vs k ≡ Some x
-    → parts_match place (map look (drop k ps)) around how (drop k vs)
-    ≡ also (matched p around (inside how) x) (parts_match place (map look (drop (k + 1) ps)) around how (drop (k + 1) vs))
+    → each_match place (map look (drop k ps)) around how (drop k vs)
+    ≡ also (matched p around (inside how) x) (each_match place (map look (drop (k + 1) ps)) around how (drop (k + 1) vs))
 parts_more place ps vs around how k p x within is value =
-    (λ j. parts_match place (map look (rest_is ps k p within is j)) around how (got_is vs k x value j))
+    (λ j. each_match place (map look (rest_is ps k p within is j)) around how (got_is vs k x value j))
 
 pub parts_short : (place : Place) (ps : List Pattern) (vs : List Indices) (around : Around) (how : Matching) (k : ℕ) (p : Pattern)
     → k < length ps → p ≡ get_or ps k p → slice_get vs k ≡ None
-    → parts_match place (map look (drop k ps)) around how (drop k vs) ≡ wrong_pattern place
+    → each_match place (map look (drop k ps)) around how (drop k vs) ≡ wrong_pattern place
 parts_short place ps vs around how k p within is none =
-    (λ j. parts_match place (map look (rest_is ps k p within is j)) around how (none_left vs k none j))
+    (λ j. each_match place (map look (rest_is ps k p within is j)) around how (none_left vs k none j))
 
 pub parts_end : (place : Place) (ps : List Pattern) (vs : List Indices) (around : Around) (how : Matching) (k : ℕ)
-    → length ps ≤ k → length vs ≤ k → parts_match place (map look (drop k ps)) around how (drop k vs) ≡ no_names
+    → length ps ≤ k → length vs ≤ k → each_match place (map look (drop k ps)) around how (drop k vs) ≡ no_names
 parts_end place ps vs around how k some few =
-    (λ j. parts_match place (map look (all_behind ps k some j)) around how (all_behind vs k few j))
+    (λ j. each_match place (map look (all_behind ps k some j)) around how (all_behind vs k few j))
 
 longer : (place : Place) (vs : List Indices) (around : Around) (how : Matching) (k : ℕ) → k < length vs
-    → parts_match place [] around how (drop k vs) ≡ wrong_pattern place
+    → each_match place [] around how (drop k vs) ≡ wrong_pattern place
 longer place [] around how k more = absurd (omega arith)
 longer place (x ∷ vs) around how zero more = refl
 longer place (x ∷ vs) around how (suc k) more = longer place vs around how k (omega arith)
 
 pub parts_long : (place : Place) (ps : List Pattern) (vs : List Indices) (around : Around) (how : Matching) (k : ℕ)
-    → length ps ≤ k → k < length vs → parts_match place (map look (drop k ps)) around how (drop k vs) ≡ wrong_pattern place
+    → length ps ≤ k → k < length vs → each_match place (map look (drop k ps)) around how (drop k vs) ≡ wrong_pattern place
 parts_long place ps vs around how k some more =
-    (λ j. parts_match place (map look (all_behind ps k some j)) around how (drop k vs)) ∙ longer place vs around how k more
+    (λ j. each_match place (map look (all_behind ps k some j)) around how (drop k vs)) ∙ longer place vs around how k more
 
 -- ---- items, and values that don't exist
 

@@ -1,6 +1,7 @@
 -- The walk over a pattern: what it owes of the value that it is matched with, what it makes known, and what the names that it binds are
 -- (Sail language manual, "Pattern matching").
 use Rattle.std.specs.Prelude.{ℕ, pos, nat_eq, Bool, true, false, List, [], ◌∷◌, ◌++◌, length, map, slice_get, Option, Some, None}
+use Rattle.std.specs.Prelude.{if◌then◌else◌}
 use Rattle.sail_base.specs.declared.place.Place.{Place}
 use Rattle.sail_types.specs.Named.{payload}
 use Rattle.sail_types.specs.Sums.{and_then, constant, difference}
@@ -55,10 +56,14 @@ unfoldable pub also : Walk (List Bound) → Walk (List Bound) → Walk (List Bou
 also first next = bind first (λ found. bind next (λ more. give (found ++ more)))
 
 -- parts from left to right
+abbrev pub each_match : Place → List Look → Around → Matching → List Indices → Walk (List Bound)
+each_match place [] around how [] = no_names
+each_match place (p ∷ ps) around how (i ∷ is) = also (p.match_with around (inside how) i) (each_match place ps around how is)
+each_match place ps around how is = wrong_pattern place
+
+-- where there are as many as values: before the first is matched, else what is false would be owed under what that makes known
 abbrev pub parts_match : Place → List Look → Around → Matching → List Indices → Walk (List Bound)
-parts_match place [] around how [] = no_names
-parts_match place (p ∷ ps) around how (i ∷ is) = also (p.match_with around (inside how) i) (parts_match place ps around how is)
-parts_match place ps around how is = wrong_pattern place
+parts_match place ps around how is = if nat_eq (length ps) (length is) then each_match place ps around how is else wrong_pattern place
 
 -- ---- payloads and items, opened for the names at which they are matched
 

@@ -1,5 +1,5 @@
 //! The walk over several patterns, one after the other.
-ghost use Rattle.std.specs.Prelude.{◌≡◌, map, length, slice_get, IfOk, OnOk};
+ghost use Rattle.std.specs.Prelude.{◌≡◌, if◌then◌else◌, map, length, slice_get, IfOk, OnOk};
 ghost use Rattle.std.specs.Option.{option_copied};
 ghost use Rattle.sail_types.specs.Named.{payload as payload_in};
 ghost use Rattle.sail_types.specs.Sums.{and_then, difference};
@@ -23,7 +23,8 @@ use sail_types::{Index, Num, copy_num};
 use std::alloc::{AllocError, Global};
 use value_indices::{Indices, Reading, Walking, copy_reading, equal};
 
-/// Patterns that are matched with as many values, from left to right. The one error is want of memory, also of numbers for variables.
+/// Patterns that are matched with as many values, from left to right; where they come to another number, what is false is owed. The one
+/// error is want of memory, also of numbers for variables.
 #[cycle(matched)]
 pub(crate) fn match_parts(
     alloc: Global,
@@ -38,6 +39,60 @@ pub(crate) fn match_parts(
         ≡ walk.got (patterns.parts_match place (map patterns.look parts.now) (settings.around_of around.now) how values.now) (walk.seen walking.old)) }
     ensures walked { OnOk result (walk.seen walking.new
         ≡ walk.run (patterns.parts_match place (map patterns.look parts.now) (settings.around_of around.now) how values.now) (walk.seen walking.old)) }
+{
+    match_counted(
+        alloc,
+        place,
+        parts.len() == values.len(),
+        parts,
+        around,
+        how,
+        values,
+        walking,
+    )
+}
+
+/// Patterns and values, of which it is known whether they come to as many. The one error is want of memory, also of numbers for variables.
+#[cycle(matched)]
+fn match_counted(
+    alloc: Global,
+    place: Place,
+    as_many: bool,
+    parts: &[Pattern],
+    around: &Around<'_>,
+    how: Matching,
+    values: &[Indices],
+    walking: &mut Walking,
+) -> Result<Items<Bound>, AllocError>
+    ensures found { IfOk result (λ found. found ≡ walk.got (if as_many
+        then patterns.each_match place (map patterns.look parts.now) (settings.around_of around.now) how values.now else literals.wrong_pattern place)
+        (walk.seen walking.old)) }
+    ensures walked { OnOk result (walk.seen walking.new ≡ walk.run (if as_many
+        then patterns.each_match place (map patterns.look parts.now) (settings.around_of around.now) how values.now else literals.wrong_pattern place)
+        (walk.seen walking.old)) }
+{
+    if as_many {
+        match_each(alloc, place, parts, around, how, values, walking)
+    } else {
+        wrong_pattern(alloc, place, walking)
+    }
+}
+
+/// Patterns that are matched with values, from left to right. The one error is want of memory, also of numbers for variables.
+#[cycle(matched)]
+fn match_each(
+    alloc: Global,
+    place: Place,
+    parts: &[Pattern],
+    around: &Around<'_>,
+    how: Matching,
+    values: &[Indices],
+    walking: &mut Walking,
+) -> Result<Items<Bound>, AllocError>
+    ensures found { IfOk result (λ found. found
+        ≡ walk.got (patterns.each_match place (map patterns.look parts.now) (settings.around_of around.now) how values.now) (walk.seen walking.old)) }
+    ensures walked { OnOk result (walk.seen walking.new
+        ≡ walk.run (patterns.each_match place (map patterns.look parts.now) (settings.around_of around.now) how values.now) (walk.seen walking.old)) }
 {
     let mut found = Items::new(alloc);
     for (index, part) in parts.iter().enumerate() {

@@ -14,11 +14,7 @@ use Rattle.sail_core.specs.Numbers.{Instance}
 use Rattle.sail_core.specs.declared.tree.Callee.{Callee}
 use Rattle.sail_core.specs.declared.tree.Callee.TheVariants as D
 use Rattle.size_values.specs.Numbers.{value_of}
-use Rattle.size_values.specs.Sizes.{reading_sizes, value_sizes}
-use Rattle.size_values.specs.declared.constants.Constant.{Constant}
-use Rattle.size_values.specs.declared.constants.Constant.TheVariants as K
 use Rattle.size_values.specs.declared.sized.Sized.{Sized}
-use Rattle.size_values.specs.declared.sizes.Size.{Size}
 use Rattle.value_indices.specs.declared.indices.Indices.{Indices, out-Indices}
 use Rattle.value_indices.specs.declared.indices.Indices.TheOpen as W
 use Rattle.value_indices.specs.declared.indices.Indices.TheOpen.{Indices-F}
@@ -45,19 +41,10 @@ FormFits past f (W.Bits t) = IsSize past f t 128
 FormFits past f (W.Vector t r) = IsSize past f t 4096
 FormFits past f form = Unit {0}
 
--- each size inside, those of fields and payloads too: no variable that a type binds stands in one
-abbrev pub NumberFits : Constant → ℕ → Type 0
-NumberFits (K.Number z) largest = (pos 0 ≤ℤ z) × (z ≤ℤ pos largest)
-NumberFits c largest = ⊥
-
-abbrev pub AllFit : List Size → Type 0
-AllFit [] = Unit {0}
-AllFit (s ∷ ss) = NumberFits s.number s.largest × AllFit ss
-
--- a type's sizes are the same, moreover, where a value of it is opened
+-- those of a type are the same where a value of it is opened
 abbrev pub SizesFit : Types → List Sized → Positive → Integers → Made → Type 0
-SizesFit types own past f (Makes.ByIndices i) = FormFits past f (out-Indices i) × AllFit (value_sizes types (known f) i)
-SizesFit types own past f (Makes.ByType r) = AllFit (reading_sizes types (known f) r) × Settled types own (known f) (of_reading r)
+SizesFit types own past f (Makes.ByIndices i) = FormFits past f (out-Indices i)
+SizesFit types own past f (Makes.ByType r) = Settled types own (known f) (of_reading r)
 
 -- ---- calls: what is awaited are numbers that the call gives
 

@@ -147,7 +147,7 @@ size_said {f} place i = record {
     point = f;
     later = no_later f;
     stands = stands;
-    holds = (met.0 f.integers noted (stands.there f.integers (same f))).0;
+    holds = met.0 f.integers noted (stands.there f.integers (same f));
   };
 }
 

@@ -99,7 +99,7 @@ module _ (q : Scene) {n : ℕ} (f : Point n) (facts : List Fact) (noted : Noted)
   size_form g (W.Variable i) h = tt
 
   size_fits : (g : Integers) (made : Made) → C.SizesFit q.set.around.types q.work.own q.set.past g made → M.SizeFits (standing q.set.past g) made
-  size_fits g (Makes.ByIndices i) h = size_form g (out-Indices i) h.0
+  size_fits g (Makes.ByIndices i) h = size_form g (out-Indices i) h
   size_fits g (Makes.ByType r) h = tt
 
   one_met : (g : Integers) → Agree f g → (x : Note) → C.IsMet q.set q.work q.reached q.cases x → M.IsMet q.set.past (given_in facts) g x

@@ -1,5 +1,5 @@
 use Rattle.std.proofs.Common.{◌≡◌, ◌+◌, ◌++◌, ◌∷◌, [], List, length, map, drop, refl, sym, ap, ◌∙◌, subst, IfOk, OnOk}
-use Rattle.std.proofs.Common.{ℕ, nat_eq, Bool, Option, Some, None, slice_get, arith}
+use Rattle.std.proofs.Common.{ℕ, nat_eq, Bool, Option, Some, None, slice_get, if◌then◌else◌, arith}
 use Rattle.std.specs.Option.{option_copied}
 use Rattle.sail_types.specs.Named.{payload as payload_in}
 use Rattle.sail_types.specs.Sums.{and_then, difference}
@@ -29,7 +29,7 @@ use Rattle.pattern_leaves.proofs.Rests.{one_of, two_of}
 use Rattle.pattern_leaves.proofs.Walked.{then_got, then_run, made_got, made_run, wrong_got}
 use Rattle.pattern_notes.specs.declared.matching.Matching.{Matching}
 use Rattle.pattern_notes.specs.Patterns.{look, matched, inside, form_match, direction_met, given_met, result_of, option_of, written_owed, annotated_met}
-use Rattle.pattern_notes.specs.Patterns.{parameter_owed, after_inner, item_met, items_met, each_met_never, cons_met, parts_match, taken_out, all_taken}
+use Rattle.pattern_notes.specs.Patterns.{parameter_owed, after_inner, item_met, items_met, each_met_never, cons_met, each_match, parts_match, taken_out, all_taken}
 use Rattle.pattern_notes.specs.Patterns.{named_readings, constructor_met, length_owed, cut_met, cut_parts, head_met, opens_met, union_met}
 use Rattle.pattern_notes.proofs.Found.{found_as, left_as, after_got, after_run, more_got, more_run, on_ok, also_got, also_run, ended_got}
 use Rattle.pattern_notes.proofs.HeadForms.{bits_met, first_met, items_of, list_met, named_met, tuple_met}
@@ -212,8 +212,8 @@ several::match_cons-returns-in_ok-append-in-len2 t c =
           ∙ ap (λ (ps : List Pattern). run (cons_met place (map look ps) around how r) v) (sym two);
     }
 
-pub several::match_parts-loop-index-preserved : goal.several::match_parts-loop-index-preserved
-several::match_parts-loop-index-preserved t c =
+pub several::match_each-loop-index-preserved : goal.several::match_each-loop-index-preserved
+several::match_each-loop-index-preserved t c =
     let around = around_of c.args.around.now in
     let place = c.args.place in
     let how = c.args.how in
@@ -224,8 +224,8 @@ several::match_parts-loop-index-preserved t c =
     let x = c.in-Some.value.now in
     let value : slice_get vs k ≡ Some x = sym c.value_at.ensures ∙ ap option_copied c.in-Some.is in
     let first = matched p around (inside how) x in
-    let whole = parts_match place (map look (drop k ps)) around how (drop k vs) in
-    let rest = parts_match place (map look (drop (k + 1) ps)) around how (drop (k + 1) vs) in
+    let whole = each_match place (map look (drop k ps)) around how (drop k vs) in
+    let rest = each_match place (map look (drop (k + 1) ps)) around how (drop (k + 1) vs) in
     let opens = parts_more place ps vs around how k p x c.loop-index-test.true c.index-parts-index.is value in
     let v = seen c.loop-index.walking in
     let w = seen c.match_pattern.new.walking in
@@ -235,6 +235,40 @@ several::match_parts-loop-index-preserved t c =
       found = more_got c.loop-index.found c.append.new.self c.in_ok-match_pattern-in-Some.field-0 whole first rest v w c.in_ok-append-in-Some.ensures.appended
           is was opens ∙ c.loop-index.invariant.found;
       walked = more_run whole first rest v w was opens ∙ c.loop-index.invariant.walked;
+    }
+
+pub several::match_parts-returns : goal.several::match_parts-returns
+several::match_parts-returns t c =
+    let around = around_of c.args.around.now in
+    let place = c.args.place in
+    let ps = c.args.parts.now in
+    let vs = c.args.values.now in
+    let v = seen c.args.walking.now in
+    let counted = λ (n : ℕ). if nat_eq n (length vs) then each_match place (map look ps) around c.args.how vs else wrong_pattern place in
+    let is = ap counted (sym (as_many ps)) in
+    record {
+      found = found_as c.match_counted.result _ _ v is c.match_counted.ensures.found;
+      walked = left_as c.match_counted.result _ _ v _ is c.match_counted.ensures.walked;
+    }
+
+pub several::match_counted-returns-then-as_many : goal.several::match_counted-returns-then-as_many
+several::match_counted-returns-then-as_many t c =
+    let v = seen c.args.walking.now in
+    let met = each_match c.args.place (map look c.args.parts.now) (around_of c.args.around.now) c.args.how c.args.values.now in
+    let is = ap (λ (b : Bool). if b then met else wrong_pattern c.args.place) (sym c.if-as_many.true) in
+    record {
+      found = found_as c.match_each.result _ _ v is c.match_each.ensures.found;
+      walked = left_as c.match_each.result _ _ v _ is c.match_each.ensures.walked;
+    }
+
+pub several::match_counted-returns-else-as_many : goal.several::match_counted-returns-else-as_many
+several::match_counted-returns-else-as_many t c =
+    let v = seen c.args.walking.now in
+    let met = each_match c.args.place (map look c.args.parts.now) (around_of c.args.around.now) c.args.how c.args.values.now in
+    let is = ap (λ (b : Bool). if b then met else wrong_pattern c.args.place) (sym c.if-as_many.false) in
+    record {
+      found = found_as c.wrong_pattern.result _ _ v is c.wrong_pattern.ensures.found;
+      walked = left_as c.wrong_pattern.result _ _ v _ is c.wrong_pattern.ensures.walked;
     }
 
 pub parts::match_pattern-returns : goal.parts::match_pattern-returns
@@ -750,8 +784,8 @@ several::match_cut_parts-returns t c =
           ∙ then_run widths inner v w c.in_ok-values.values c.in_ok-values.ensures.made c.in_ok-values.ensures.walked) c.match_parts.ensures.walked;
     }
 
-pub several::match_parts-returns-in-None : goal.several::match_parts-returns-in-None
-several::match_parts-returns-in-None t c =
+pub several::match_each-returns-in-None : goal.several::match_each-returns-in-None
+several::match_each-returns-in-None t c =
     let around = around_of c.args.around.now in
     let k = c.loop-index.index in
     let v = seen c.loop-index.walking in
@@ -766,8 +800,8 @@ several::match_parts-returns-in-None t c =
       walked = subst (λ (z : Written). OnOk c.end_wrong.result (seen c.end_wrong.new.walking ≡ z)) walked c.end_wrong.ensures.walked;
     }
 
-pub several::match_parts-returns-then-count-wanted : goal.several::match_parts-returns-then-count-wanted
-several::match_parts-returns-then-count-wanted t c =
+pub several::match_each-returns-then-count-wanted : goal.several::match_each-returns-then-count-wanted
+several::match_each-returns-then-count-wanted t c =
     let around = around_of c.args.around.now in
     let k = c.loop-index.index in
     let v = seen c.loop-index.walking in
@@ -781,8 +815,8 @@ several::match_parts-returns-then-count-wanted t c =
       walked = subst (λ (z : Written). OnOk ended.result (seen ended.new.walking ≡ z)) walked ended.ensures.walked;
     }
 
-pub several::match_parts-returns-else-count-wanted : goal.several::match_parts-returns-else-count-wanted
-several::match_parts-returns-else-count-wanted t c =
+pub several::match_each-returns-else-count-wanted : goal.several::match_each-returns-else-count-wanted
+several::match_each-returns-else-count-wanted t c =
     let around = around_of c.args.around.now in
     let k = c.loop-index.index in
     let v = seen c.loop-index.walking in

@@ -2,7 +2,7 @@ use Rattle.std.proofs.Common.{◌≡◌, ◌+◌, ◌*◌, ◌++◌, map, drop}
 use denote.Param.Weighed.{most}
 use Rattle.sail_core.proofs.patterns.Pattern.TheLaws.{the_size}
 use Rattle.value_indices.specs.Walking.{got, run, seen}
-use Rattle.pattern_notes.specs.Patterns.{look, parts_match, items_met, each_met_never}
+use Rattle.pattern_notes.specs.Patterns.{look, each_match, items_met, each_met_never}
 use Rattle.pattern_leaves.specs.Settings.{around_of}
 use Rattle.pattern_notes.proofs.+matched.Given as goal
 
@@ -47,7 +47,7 @@ abbrev pub decreases-heads::match_union : goal.decreases-heads::match_union
 decreases-heads::match_union l = 32 * most the_size l.parts.now + 10
 
 abbrev pub decreases-heads::match_own : goal.decreases-heads::match_own
-decreases-heads::match_own l = 32 * most the_size l.parts.now + 4
+decreases-heads::match_own l = 32 * most the_size l.parts.now + 5
 
 abbrev pub decreases-heads::match_items_of_vector : goal.decreases-heads::match_items_of_vector
 decreases-heads::match_items_of_vector l = 32 * most the_size l.parts.now + 10
@@ -62,7 +62,13 @@ abbrev pub decreases-heads::match_bits : goal.decreases-heads::match_bits
 decreases-heads::match_bits l = 32 * most the_size l.parts.now + 10
 
 abbrev pub decreases-several::match_parts : goal.decreases-several::match_parts
-decreases-several::match_parts l = 32 * most the_size l.parts.now + 2
+decreases-several::match_parts l = 32 * most the_size l.parts.now + 3
+
+abbrev pub decreases-several::match_counted : goal.decreases-several::match_counted
+decreases-several::match_counted l = 32 * most the_size l.parts.now + 2
+
+abbrev pub decreases-several::match_each : goal.decreases-several::match_each
+decreases-several::match_each l = 32 * most the_size l.parts.now + 1
 
 abbrev pub decreases-several::match_items : goal.decreases-several::match_items
 decreases-several::match_items l = 32 * most the_size l.parts.now + 2
@@ -74,19 +80,19 @@ abbrev pub decreases-several::match_cons : goal.decreases-several::match_cons
 decreases-several::match_cons l = 32 * most the_size l.parts.now + 2
 
 abbrev pub decreases-several::match_constructor : goal.decreases-several::match_constructor
-decreases-several::match_constructor l = 32 * most the_size l.parts.now + 3
+decreases-several::match_constructor l = 32 * most the_size l.parts.now + 4
 
 abbrev pub decreases-several::match_vector : goal.decreases-several::match_vector
 decreases-several::match_vector l = 32 * most the_size l.parts.now + 3
 
 abbrev pub decreases-several::match_cut : goal.decreases-several::match_cut
-decreases-several::match_cut l = 32 * most the_size l.parts.now + 5
+decreases-several::match_cut l = 32 * most the_size l.parts.now + 6
 
 abbrev pub decreases-several::match_known : goal.decreases-several::match_known
-decreases-several::match_known l = 32 * most the_size l.parts.now + 4
+decreases-several::match_known l = 32 * most the_size l.parts.now + 5
 
 abbrev pub decreases-several::match_cut_parts : goal.decreases-several::match_cut_parts
-decreases-several::match_cut_parts l = 32 * most the_size l.parts.now + 3
+decreases-several::match_cut_parts l = 32 * most the_size l.parts.now + 4
 
 abbrev pub decreases-parts::match_maps_to : goal.decreases-parts::match_maps_to
 decreases-parts::match_maps_to l = 32 * the_size l.part.now + 3
@@ -94,10 +100,10 @@ decreases-parts::match_maps_to l = 32 * the_size l.part.now + 3
 abbrev pub decreases-parts::match_sees_to : goal.decreases-parts::match_sees_to
 decreases-parts::match_sees_to l = 32 * the_size l.part.now + 3
 
-abbrev pub invariant-several::match_parts-loop-index : goal.invariant-several::match_parts-loop-index
-invariant-several::match_parts-loop-index l =
-    let rest = parts_match l.place (map look (drop l.index l.parts)) (around_of l.around) l.how (drop l.index l.values) in
-    let all = parts_match l.place (map look l.parts) (around_of l.around) l.how l.values in
+abbrev pub invariant-several::match_each-loop-index : goal.invariant-several::match_each-loop-index
+invariant-several::match_each-loop-index l =
+    let rest = each_match l.place (map look (drop l.index l.parts)) (around_of l.around) l.how (drop l.index l.values) in
+    let all = each_match l.place (map look l.parts) (around_of l.around) l.how l.values in
     record {
       found : l.found ++ got rest (seen l.walking) ≡ got all (seen l.fn.walking);
       walked : run rest (seen l.walking) ≡ run all (seen l.fn.walking);
