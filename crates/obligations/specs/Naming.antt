@@ -1,5 +1,5 @@
 -- Which variables conditions name as numbers, in exponents too.
-use Rattle.std.specs.Prelude.{ℕ, nat_eq, Bool, true, false, ◌||◌, List, map}
+use Rattle.std.specs.Prelude.{ℕ, nat_eq, Bool, false, ◌||◌, List, map}
 use Rattle.std.specs.List.{list_any}
 use Rattle.sail_types.specs.declared.numbers.Atom.{Atom}
 use Rattle.sail_types.specs.declared.numbers.Atom.TheOpen as N

@@ -13,7 +13,7 @@ use Rattle.sail_types.specs.declared.table.Parameter.{Parameter}
 use Rattle.sail_types.specs.declared.types.Typ.{Typ}
 use Rattle.sail_kinds.specs.declared.scope.Variable.{Variable}
 use Rattle.sail_signatures.specs.declared.signature.Signature.{Signature}
-use Rattle.sail_tables.specs.Refused.{IsAccepted, signature_in}
+use Rattle.sail_tables.specs.Refused.{signature_in}
 use Rattle.sail_core.specs.Numbers.{Givens}
 use Rattle.sail_core.specs.declared.model.Function.{Function}
 use Rattle.type_definitions.specs.Defined.{types_of}
