@@ -1,31 +1,19 @@
 -- Bodies of clauses that no `val` declares: the walk over what stands behind the type that is written before it.
-use Rattle.std.proofs.Common.{◌≡◌, ◌∙◌, ap, sym, refl, ℕ, Option, Some, None, List, [], ◌∷◌, Result, Ok, Err}
-use Rattle.std.specs.Prelude.{Bool, true, false, IfOk, OnOk}
-use Rattle.sail_base.specs.declared.place.Place.{Place}
-use Rattle.sail_core.specs.declared.tree.Core.{Core, Core-F, out-Core, fold-roll-Core}
-use Rattle.sail_core.specs.declared.tree.Kind.{Kind}
-use Rattle.sail_core.specs.declared.tree.Kind.TheVariants as K
+use Rattle.std.proofs.Common.{◌≡◌, ◌∙◌, ap, sym, ℕ, Option, Some, Result, Ok, Err}
+use Rattle.std.specs.Prelude.{Bool, false, IfOk, OnOk}
+use Rattle.sail_core.specs.declared.tree.Core.{Core, out-Core}
 use Rattle.value_indices.specs.declared.indices.Indices.{Indices}
 use Rattle.value_indices.specs.Steps.{Walk, bind}
 use Rattle.value_indices.specs.Walking.{Written, got, run}
 use Rattle.value_indices.proofs.Walks.{got_bind, run_bind}
 use Rattle.pattern_leaves.specs.Settings.{Around, Scope}
 use Rattle.call_arguments.specs.declared.aims.Aim.{Aim}
+use Rattle.call_arguments.specs.declared.aims.Aim.TheVariants as Aims
 use Rattle.call_notes.specs.Noted.{node_given}
 use Rattle.expression_forms.specs.Nodes.{cast_ended, cast_given}
 use Rattle.expression_steps.specs.Parts.{Part}
-use Rattle.expression_steps.specs.Expressions.{part, core_part, kind_walk}
-use Rattle.function_notes.specs.Functions.{only, comes_to_result, bare_by, bare_cast, bare_result, behind_type, body_of, wanted_cast}
-
-asked : {A : Type 0} (t : Bool) (xs : List A) (x : A) → only t xs ≡ Some x → t ≡ true
-asked true xs x e = refl
-asked false [] x e = let h : None ≡ Some x = e in absurd (cc)
-asked false (y ∷ []) x e = let h : None ≡ Some x = e in absurd (cc)
-asked false (y ∷ z ∷ ys) x e = let h : None ≡ Some x = e in absurd (cc)
-
-cast_none : (kind : Kind) → comes_to_result kind ≡ true → kind ≡ K.Cast None
-cast_none (K.Cast None) e = refl
-cast_none kind e = let h : false ≡ true = e in absurd (cc)
+use Rattle.expression_steps.specs.Expressions.{part}
+use Rattle.function_notes.specs.Functions.{bare_part, behind_part, behind_type, body_part, comes_to_result, only, result_part}
 
 -- ---- what comes to what is wanted, by its node
 
@@ -62,32 +50,18 @@ module _ (first whole : Walk Indices) (k : ℕ) (aim : Aim) (opens : whole ≡ c
 
 -- ---- the type that is written before a body, and the node of the result
 
-node_walk : (place : Place) (k : ℕ) (kind : Kind) (a : Part) (around : Around) (scope : Scope) (aim : Aim) → kind ≡ K.Cast None
-    → kind_walk place k kind (a ∷ []) around scope aim ≡ cast_of k aim (a.walk around scope aim)
-node_walk place k kind a around scope aim is = ap (λ (h : Kind). kind_walk place k h (a ∷ []) around scope aim) is
-
 module _ (body : Core) (around : Around) (scope : Scope) (aim : Aim) where
   abbrev number : ℕ
   number = (out-Core body).number
 
   pub behind_walk : (inside : Core) → behind_type (out-Core body) ≡ Some inside
-      → Part.walk (part (bare_cast body)) around scope aim ≡ cast_of number aim (Part.walk (part inside) around scope aim)
-  behind_walk inside e =
-      ap (λ (o : Option Core). Part.walk (part (wanted_cast body o)) around scope aim) e
-      ∙ ap (λ (p : Part). p.walk around scope aim) (fold-roll-Core Part core_part (record (out-Core body) { kind = K.Cast None; parts = inside ∷ [] }))
-
-  result_walk : (inside : Core) → only (comes_to_result (out-Core body).kind) (out-Core body).parts ≡ Some inside
-      → Part.walk (part (bare_result (out-Core body))) around scope aim ≡ cast_of number aim (Part.walk (part (bare_cast inside)) around scope aim)
-  result_walk inside e =
-      let f : Core-F Core = out-Core body in
-      ap (λ (o : Option Core). Part.walk (part (bare_by f o)) around scope aim) e
-      ∙ (ap (λ (p : Part). p.walk around scope aim) (fold-roll-Core Part core_part (record f { parts = bare_cast inside ∷ [] }))
-      ∙ node_walk f.place f.number f.kind (part (bare_cast inside)) around scope aim
-      (cast_none f.kind (asked (comes_to_result f.kind) f.parts inside e)))
+      → Part.walk (bare_part body) around scope aim ≡ cast_of number Aims.Free (Part.walk (part inside) around scope aim)
+  behind_walk inside e = ap (λ (o : Option Core). Part.walk (behind_part body o) around scope aim) e
 
   pub body_walk : (declared : Bool) (inside : Core) (within : Scope) → declared ≡ false
       → only (comes_to_result (out-Core body).kind) (out-Core body).parts ≡ Some inside → within ≡ scope
-      → Part.walk (part (body_of declared body)) around scope aim ≡ cast_of number aim (Part.walk (part (bare_cast inside)) around within aim)
+      → Part.walk (body_part declared body) around scope aim ≡ cast_of number aim (Part.walk (bare_part inside) around within aim)
   body_walk declared inside within undeclared behind names =
-      ap (λ (d : Bool). Part.walk (part (body_of d body)) around scope aim) undeclared
-      ∙ (result_walk inside behind ∙ (λ j. cast_of number aim (Part.walk (part (bare_cast inside)) around (sym names j) aim)))
+      ap (λ (d : Bool). Part.walk (body_part d body) around scope aim) undeclared
+      ∙ (ap (λ (o : Option Core). Part.walk (result_part body o) around scope aim) behind
+      ∙ (λ j. cast_of number aim (Part.walk (bare_part inside) around (sym names j) aim)))

@@ -18,7 +18,7 @@ use Rattle.sail_core.specs.declared.patterns.Arm.TheVariants as A
 use Rattle.sail_core.specs.declared.patterns.Form.{Form}
 use Rattle.sail_core.specs.declared.patterns.Form.TheVariants as F
 use Rattle.sail_core.specs.declared.patterns.Pattern.{Pattern, Pattern-F, roll-Pattern, fold-Pattern}
-use Rattle.sail_core.specs.declared.tree.Core.{Core, Core-F, roll-Core, out-Core}
+use Rattle.sail_core.specs.declared.tree.Core.{Core, Core-F, out-Core}
 use Rattle.sail_core.specs.declared.tree.Kind.{Kind as CoreKind}
 use Rattle.sail_core.specs.declared.tree.Kind.TheVariants as K
 use Rattle.sail_core.specs.declared.written.WrittenNumber.{WrittenNumber}
@@ -38,10 +38,11 @@ use Rattle.call_arguments.specs.declared.aims.Aim.{Aim}
 use Rattle.call_arguments.specs.declared.aims.Aim.TheVariants as Aims
 use Rattle.call_arguments.specs.Aims.{aimed}
 use Rattle.call_arguments.specs.Placing.{is_trivial_form}
-use Rattle.call_notes.specs.Noted.{node_made, numbers_noted}
+use Rattle.call_notes.specs.Noted.{node_given, node_made, numbers_noted}
+use Rattle.expression_forms.specs.Nodes.{cast_ended}
 use Rattle.expression_steps.specs.Parts.{Part}
 use Rattle.expression_steps.specs.Statements.{natural_type}
-use Rattle.expression_steps.specs.Expressions.{part}
+use Rattle.expression_steps.specs.Expressions.{core_part, part}
 
 -- ---- type variables: the first variables of a definition, with their names
 
@@ -92,25 +93,36 @@ comes_to_written kind = false
 abbrev pub behind_type : Core-F Core → Option Core
 behind_type form = only (comes_to_written form.kind) form.parts
 
--- it comes to what is wanted of it
-abbrev pub wanted_cast : Core → Option Core → Core
-wanted_cast c (Some a) = roll-Core (record (out-Core c) { kind = K.Cast None; parts = a ∷ [] })
-wanted_cast c None = c
-
-abbrev pub bare_cast : Core → Core
-bare_cast c = wanted_cast c (behind_type (out-Core c))
-
 abbrev pub comes_to_result : CoreKind → Bool
 comes_to_result (K.Cast None) = true
 comes_to_result kind = false
 
-abbrev pub bare_by : Core-F Core → Option Core → Core
-bare_by form (Some c) = roll-Core (record form { parts = bare_cast c ∷ [] })
-bare_by form None = roll-Core form
+-- a part that comes to what is wanted of it, by the node of a body
+abbrev pub cast_over : Core-F Core → Part → Part
+cast_over c a = core_part (record { place = c.place; number = c.number; kind = K.Cast None; parts = a ∷ [] })
+
+-- a value that is what it is, by the node of a number
+abbrev pub as_it_is : ℕ → Walk Indices → Walk Indices
+as_it_is k first = bind (bind first (cast_ended k Aims.Free)) (node_given k)
+
+-- the type is left out: the result's is made around it
+abbrev pub passed_over : Core-F Core → Part → Part
+passed_over c a = record (cast_over c a) { walk = λ around scope aim. as_it_is c.number (a.walk around scope aim) }
+
+abbrev pub behind_part : Core → Option Core → Part
+behind_part c (Some a) = passed_over (out-Core c) (part a)
+behind_part c None = part c
+
+abbrev pub bare_part : Core → Part
+bare_part c = behind_part c (behind_type (out-Core c))
+
+abbrev pub result_part : Core → Option Core → Part
+result_part c (Some inside) = cast_over (out-Core c) (bare_part inside)
+result_part c None = part c
 
 -- where a body comes to the type of the result
-abbrev pub bare_result : Core-F Core → Core
-bare_result form = bare_by form (only (comes_to_result form.kind) form.parts)
+abbrev pub bare_result : Core → Part
+bare_result c = result_part c (only (comes_to_result (out-Core c).kind) (out-Core c).parts)
 
 -- what stands behind the type that is written before a body
 abbrev pub inside_result : Core → Option Core → Core
@@ -123,8 +135,8 @@ unwritten c = inside_result c (only (comes_to_result (out-Core c).kind) (out-Cor
 abbrev pub arm_of : Bool → Arm → Arm
 arm_of declared arm = if declared then arm else bare_arm arm
 
-abbrev pub body_of : Bool → Core → Core
-body_of declared c = if declared then c else bare_result (out-Core c)
+abbrev pub body_part : Bool → Core → Part
+body_part declared c = if declared then part c else bare_result c
 
 -- ---- clauses
 
@@ -170,7 +182,7 @@ clause_walk place entry around ts once aim arm body =
 
 abbrev pub written_walk : Place → Option ℕ → Around → List Typ → List WrittenNumber → Aim → Bool → Arm → Core → Walk Indices
 written_walk place entry around ts once aim declared arm body =
-    clause_walk place entry around ts once aim (arm_of declared arm) (part (body_of declared body))
+    clause_walk place entry around ts once aim (arm_of declared arm) (body_part declared body)
 
 -- exponents are owed in the first clause alone
 abbrev pub clauses_walk : Place → Option ℕ → Around → List Typ → List WrittenNumber → Aim → Bool → List Arm → List Core → Walk (Unit {0})

@@ -5,7 +5,6 @@ ghost use Rattle.expression_forms.specs.Scopes.{scope_of};
 ghost use Rattle.pattern_notes.specs.Patterns.{look, nested};
 ghost use Rattle.value_indices.specs.Steps.{give, wrong};
 ghost use Rattle.value_indices.specs.Walking as walk;
-ghost use Rattle.expression_steps.specs.Expressions.{part};
 ghost use Rattle.expression_steps.specs.Parts as parts;
 ghost use Rattle.function_notes.specs.Functions as spec;
 
@@ -150,8 +149,8 @@ fn enter_parameters(
     Ok(values)
 }
 
-/// A body without the type that is written before it: what stands behind that comes to what is wanted. It fails where memory is wanting, and
-/// where variables are too many.
+/// A body without the type that is written before it: what stands behind that is wanted so, and is noted as what it is. It fails where memory
+/// is wanting, and where variables are too many.
 #[tactic(auto, using(value_indices::proofs::Walks::walks))]
 fn walk_behind(
     alloc: Global,
@@ -161,15 +160,15 @@ fn walk_behind(
     aim: &Aim,
     body: &Core,
 ) -> Result<Indices, AllocError>
-    ensures value { IfOk result (λ made. made ≡ walk.got (parts.Part.walk (part (spec.bare_cast body.now)) (around_of around.now)
+    ensures value { IfOk result (λ made. made ≡ walk.got (parts.Part.walk (spec.bare_part body.now) (around_of around.now)
         (scope_of scope.now) aim.now) (walk.seen walking.old)) }
-    ensures walked { OnOk result (walk.seen walking.new ≡ walk.run (parts.Part.walk (part (spec.bare_cast body.now)) (around_of around.now)
+    ensures walked { OnOk result (walk.seen walking.new ≡ walk.run (parts.Part.walk (spec.bare_part body.now) (around_of around.now)
         (scope_of scope.now) aim.now) (walk.seen walking.old)) }
 {
     match behind_type(body) {
         Some(core) => {
             let value = walk_expression(alloc, walking, around, scope, core, aim)?;
-            cast_given(alloc, walking, body.number, aim, value)
+            cast_given(alloc, walking, body.number, &Aim::Free, value)
         }
         None => walk_expression(alloc, walking, around, scope, body, aim),
     }
@@ -186,9 +185,9 @@ fn walk_body(
     found: &[Bound],
     body: &Core,
 ) -> Result<Indices, AllocError>
-    ensures value { IfOk result (λ made. made ≡ walk.got (parts.Part.walk (part (spec.body_of common.now.is_declared body.now))
+    ensures value { IfOk result (λ made. made ≡ walk.got (parts.Part.walk (spec.body_part common.now.is_declared body.now)
         (around_of around.now) found.now common.now.aim.now) (walk.seen walking.old)) }
-    ensures walked { OnOk result (walk.seen walking.new ≡ walk.run (parts.Part.walk (part (spec.body_of common.now.is_declared body.now))
+    ensures walked { OnOk result (walk.seen walking.new ≡ walk.run (parts.Part.walk (spec.body_part common.now.is_declared body.now)
         (around_of around.now) found.now common.now.aim.now) (walk.seen walking.old)) }
 {
     let outer = Scope::empty();
@@ -216,9 +215,9 @@ pub fn walk_clause(
     body: &Core,
 ) -> Result<Indices, AllocError>
     ensures value { IfOk result (λ made. made ≡ walk.got (spec.clause_walk common.now.place common.now.entry (around_of around.now) common.now.types.now
-        once.now common.now.aim.now arm.now (part (spec.body_of common.now.is_declared body.now))) (walk.seen walking.old)) }
+        once.now common.now.aim.now arm.now (spec.body_part common.now.is_declared body.now)) (walk.seen walking.old)) }
     ensures walked { OnOk result (walk.seen walking.new ≡ walk.run (spec.clause_walk common.now.place common.now.entry (around_of around.now)
-        common.now.types.now once.now common.now.aim.now arm.now (part (spec.body_of common.now.is_declared body.now))) (walk.seen walking.old)) }
+        common.now.types.now once.now common.now.aim.now arm.now (spec.body_part common.now.is_declared body.now)) (walk.seen walking.old)) }
 {
     walking.remember()?;
     let values = enter_parameters(

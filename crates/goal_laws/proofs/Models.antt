@@ -6,21 +6,20 @@ use Rattle.obligations.specs.declared.obligation.Obligation.{Obligation}
 use Rattle.value_indices.specs.Steps.{Note, goal_note, size_note, made_note, call_note, way_note, given_note, name_note, conditions}
 use Rattle.constraint_gen.specs.Models.{Definition, around_of, from_nothing, in_order, is_before, listed, placed_among}
 use Rattle.constraint_gen.specs.Obligations.{goals_in, names_of, obligations, obligations_in}
-use Rattle.goal_laws.specs.Goals.{AllHold, EachNote, EachOf, GoalFits, GoalIsTrue, GoalsHold}
+use Rattle.goal_laws.specs.Goals.{AllHold, EachNote, EachOf, GoalIsTrue, GoalsHold}
 use Rattle.goal_laws.proofs.Closing.{goal_true}
 
 -- ---- one definition
 
-goals_true : (names : List (List ℕ)) (ns : List Note) → AllHold (goals_in names ns) → EachNote GoalFits ns → EachNote GoalIsTrue ns
-goals_true names [] h fit = tt
-goals_true names (goal_note facts place goal ∷ ns) h fit =
-    (λ past f. goal_true past f goal (conditions facts) fit.0 h.0, goals_true names ns h.1 fit.1)
-goals_true names (size_note facts place made ∷ ns) h fit = (tt, goals_true names ns h fit.1)
-goals_true names (made_note facts k operands made ∷ ns) h fit = (tt, goals_true names ns h fit.1)
-goals_true names (call_note facts place k operands callee js qs ∷ ns) h fit = (tt, goals_true names ns h fit.1)
-goals_true names (way_note facts d ∷ ns) h fit = (tt, goals_true names ns h fit.1)
-goals_true names (given_note facts k i ∷ ns) h fit = (tt, goals_true names ns h fit.1)
-goals_true names (name_note v name ∷ ns) h fit = (tt, goals_true names ns h fit.1)
+goals_true : (names : List (List ℕ)) (ns : List Note) → AllHold (goals_in names ns) → EachNote GoalIsTrue ns
+goals_true names [] h = tt
+goals_true names (goal_note facts place goal ∷ ns) h = (λ past f. goal_true past f goal (conditions facts) h.0, goals_true names ns h.1)
+goals_true names (size_note facts place made ∷ ns) h = (tt, goals_true names ns h)
+goals_true names (made_note facts k operands made ∷ ns) h = (tt, goals_true names ns h)
+goals_true names (call_note facts place k operands callee js qs ∷ ns) h = (tt, goals_true names ns h)
+goals_true names (way_note facts d ∷ ns) h = (tt, goals_true names ns h)
+goals_true names (given_note facts k i ∷ ns) h = (tt, goals_true names ns h)
+goals_true names (name_note v name ∷ ns) h = (tt, goals_true names ns h)
 
 -- ---- definitions in the order of the text, and as they are listed
 
@@ -61,14 +60,14 @@ each_holds (d ∷ ds) h =
     let others : List Obligation = joined (map (λ d. obligations_in (from_nothing d)) ds) in
     (held_front first others h, each_holds ds (held_behind first others h))
 
-each_true : (ds : List Definition) → Each DefinitionHolds ds → EachOf GoalFits ds → EachOf GoalIsTrue ds
-each_true [] h fit = tt
-each_true (d ∷ ds) h fit = (
-  goals_true (names_of (from_nothing d).next (from_nothing d).notes) (from_nothing d).notes h.0 fit.0,
-  each_true ds h.1 fit.1,
+each_true : (ds : List Definition) → Each DefinitionHolds ds → EachOf GoalIsTrue ds
+each_true [] h = tt
+each_true (d ∷ ds) h = (
+  goals_true (names_of (from_nothing d).next (from_nothing d).notes) (from_nothing d).notes h.0,
+  each_true ds h.1,
 )
 
 pub goals_hold : GoalsHold
-goals_hold m h fit =
+goals_hold m h =
     let ds : List Definition = listed m (around_of m) in
-    each_true ds (as_listed DefinitionHolds ds (each_holds (in_order ds) h)) fit
+    each_true ds (as_listed DefinitionHolds ds (each_holds (in_order ds) h))

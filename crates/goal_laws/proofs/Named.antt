@@ -17,8 +17,8 @@ use Rattle.sail_types.specs.declared.numbers.Con.TheOpen as C
 use Rattle.sail_types.specs.declared.numbers.Num.{Num, roll-Num}
 use Rattle.sail_types.specs.declared.numbers.Term.{Term, roll-Term}
 use Rattle.sail_types.proofs.SumNumbers.{weights, number_num, number_term}
+use Rattle.obligations.specs.Naming.{any_of, atom_has, atom_names, form_numbers, has_number, number_has, sum_names, term_has, term_names}
 use Rattle.value_laws.specs.Belonging.{Integers, standing}
-use Rattle.goal_laws.specs.Named.{any_of, atom_has, atom_names, form_numbers, has_number, number_has, sum_names, term_has, term_names}
 
 pub same_nat : (i : ℕ) → nat_eq i i ≡ true
 same_nat i = eq-eqb i i refl

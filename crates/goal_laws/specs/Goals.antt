@@ -1,18 +1,16 @@
 -- Where every obligation of a model holds, each goal of the walks over its definitions is true, whatever integers their variables stand for
 -- with which all is true that is in force there.
-use Rattle.std.specs.Prelude.{◌≡◌, ℕ, Bool, true, false, List, [], ◌∷◌}
+use Rattle.std.specs.Prelude.{◌≡◌, true, List, [], ◌∷◌}
 use Rattle.sail_types.specs.Numbers.{Positive, true_in}
-use Rattle.sail_types.specs.declared.numbers.Con.{Con}
 use Rattle.sail_core.specs.declared.model.CoreModel.{CoreModel}
 use Rattle.linear.specs.laws.Entailment.{IsImplied}
 use Rattle.obligations.specs.declared.obligation.Obligation.{Obligation}
 use Rattle.obligations.specs.Owed.{problem_of}
-use Rattle.value_indices.specs.Steps.{Note, goal_note, conditions}
+use Rattle.value_indices.specs.Steps.{Note, goal_note}
 use Rattle.constraint_gen.specs.Models.{Definition, around_of, from_nothing, listed}
 use Rattle.constraint_gen.specs.Obligations.{obligations}
 use Rattle.value_laws.specs.Belonging.{Integers, standing}
 use Rattle.value_laws.specs.Known.{InForce}
-use Rattle.goal_laws.specs.Named.{has_number, has_truth, some_has}
 
 -- an assignment that makes the facts of an obligation true makes its goal true
 abbrev pub AllHold : List Obligation → Type 0
@@ -20,14 +18,6 @@ AllHold [] = Unit {0}
 AllHold (o ∷ os) = IsImplied (problem_of o) × AllHold os
 
 -- ---- goals where they stand
-
--- no variable is a truth and a number
-abbrev pub KindsFit : List Con → Type 0
-KindsFit cs = (v : ℕ) → some_has has_truth v cs ≡ true → some_has has_number v cs ≡ false
-
-abbrev pub GoalFits : Note → Type 0
-GoalFits (goal_note facts place goal) = KindsFit (goal ∷ conditions facts)
-GoalFits note = Unit {0}
 
 abbrev pub GoalIsTrue : Note → Type 0
 GoalIsTrue (goal_note facts place goal) =
@@ -45,5 +35,4 @@ EachOf P [] = Unit {0}
 EachOf P (d ∷ ds) = EachNote P (from_nothing d).notes × EachOf P ds
 
 abbrev pub GoalsHold : Type 0
-GoalsHold =
-    (m : CoreModel) → AllHold (obligations m) → EachOf GoalFits (listed m (around_of m)) → EachOf GoalIsTrue (listed m (around_of m))
+GoalsHold = (m : CoreModel) → AllHold (obligations m) → EachOf GoalIsTrue (listed m (around_of m))

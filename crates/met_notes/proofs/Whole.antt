@@ -120,10 +120,10 @@ measured : (around : Around) (f : Function) (measure : Core) → f.measure ≡ S
 measured around f measure is h = (subst (λ o. EachOf GoalIsTrue (measure_definition around f o)) is h.1).0
 
 pub notes_met : NotesAreMet
-notes_met m held fit =
+notes_met m held =
     let around : Around = around_of m in
     let notes : HasNotes around = bodies_have around in
-    let goals : EachOf GoalIsTrue (listed m around) = goals_hold m held fit in
+    let goals : EachOf GoalIsTrue (listed m around) = goals_hold m held in
     record {
       function = λ i f at. met_where (function_read around f [] 0).notes (function_walk around f [] 0).notes (of_function m goals i f at).0 (notes.function f);
       measure = λ i f at measure is. met_where (measure_read around f measure [] 0).notes (measure_walk around f measure [] 0).notes

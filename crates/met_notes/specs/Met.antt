@@ -10,10 +10,10 @@ use Rattle.value_indices.specs.Steps.{Note}
 use Rattle.pattern_leaves.specs.Settings.{Around}
 use Rattle.expression_steps.specs.Expressions.{part}
 use Rattle.function_notes.specs.Functions.{function_walk, mapping_walk, measure_walk}
-use Rattle.constraint_gen.specs.Models.{around_of, listed, opening_walk}
+use Rattle.constraint_gen.specs.Models.{around_of, opening_walk}
 use Rattle.constraint_gen.specs.Obligations.{obligations}
 use Rattle.size_notes.specs.Bodies.{function_read, mapping_read, measure_read, opening_read}
-use Rattle.goal_laws.specs.Goals.{AllHold, EachOf, GoalFits}
+use Rattle.goal_laws.specs.Goals.{AllHold}
 use Rattle.note_laws.specs.Notes.{EachNote, OfOthers}
 use Rattle.checked_meaning.specs.Checked.{Cases}
 use Rattle.soundness_steps.specs.Works.{Setting, Work}
@@ -44,4 +44,4 @@ pub record WalksAreMet (m : CoreModel) (around : Around) : Type 0 where
       → MetWhere (opening_read around o [] 0).notes (opening_walk around o.place o.kind (part o.value) [] 0).notes
 
 abbrev pub NotesAreMet : Type 0
-NotesAreMet = (m : CoreModel) → AllHold (obligations m) → EachOf GoalFits (listed m (around_of m)) → WalksAreMet m (around_of m)
+NotesAreMet = (m : CoreModel) → AllHold (obligations m) → WalksAreMet m (around_of m)

@@ -51,12 +51,12 @@ terms_alone j (t ∷ []) h =
     two (int_eq (out-Term t).coefficient (pos 1)) (atom_is j (out-Atom (out-Term t).atom)) both.0 (atom_alone j (out-Atom (out-Term t).atom) both.1)
 terms_alone j (t ∷ u ∷ ts) h = no h
 
-alone : (j : ℕ) (n : Num) → is_alone j n ≡ true → is_variable j n ≡ true
+pub alone : (j : ℕ) (n : Num) → is_alone j n ≡ true → is_variable j n ≡ true
 alone j n h =
     let both = and_parts (int_eq (constant_of n) (pos 0)) (are_once j (terms_of n)) h in
     two (int_eq (out-Num n).constant (pos 0)) (terms_are j (out-Num n).terms) both.0 (terms_alone j (terms_of n) both.1)
 
-holds : (j : ℕ) (x : Con-F Con) → holds_alone j x ≡ true → form_is j x ≡ true
+pub holds : (j : ℕ) (x : Con-F Con) → holds_alone j x ≡ true → form_is j x ≡ true
 holds j (C.Holds i) h = turned j i h
 holds j x h = no h
 

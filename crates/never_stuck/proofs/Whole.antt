@@ -143,8 +143,8 @@ module _ (m : CoreModel) (walks : WalksAreMet m (around_of m)) (past : Positive)
   }
 
 pub never : NeverStuck
-never m past hart covered k rank held fit s state ok =
-    let walks : WalksAreMet m (around_of m) = notes_met m held fit in
+never m past hart covered k rank held s state ok =
+    let walks : WalksAreMet m (around_of m) = notes_met m held in
     let set : Setting = setting_in m past hart covered in
     let events = events_sound set m k rank (of_model m walks past hart covered k) (all_covered m walks past hart covered k rank s) state ok in
     (events.0 s.step, λ entry. events.1 entry (s.reset entry))

@@ -13,13 +13,13 @@ use Rattle.sail_core.specs.declared.model.Function.{Function}
 use Rattle.sail_core.specs.declared.tree.Core.{Core}
 use Rattle.size_values.specs.declared.sized.Sized.{Sized}
 use Rattle.value_indices.specs.Steps.{Note}
-use Rattle.constraint_gen.specs.Models.{around_of, listed}
+use Rattle.constraint_gen.specs.Models.{around_of}
 use Rattle.constraint_gen.specs.Obligations.{obligations}
 use Rattle.size_notes.specs.Bodies.{function_read, mapping_read, measure_read}
 use Rattle.checked_meaning.specs.Checked.{Cases, Checks, checking}
 use Rattle.checked_meaning.specs.Items.{Item}
 use Rattle.value_laws.specs.Belonging.{Integers}
-use Rattle.goal_laws.specs.Goals.{AllHold, EachOf, GoalFits}
+use Rattle.goal_laws.specs.Goals.{AllHold}
 use Rattle.note_laws.specs.Notes.{EachNote, OfOthers}
 use Rattle.met_notes.specs.Met.{Pair, pairs}
 use Rattle.soundness_steps.specs.Works.{Setting, Work, nobody}
@@ -99,7 +99,7 @@ pub record Stands (set : Setting) (m : CoreModel) (k : Checks) (rank : ℕ → �
 -- where all obligations hold, `step` and `reset` aren't stuck, and registers belong to their types where they end
 abbrev pub NeverStuck : Type 0
 NeverStuck = (m : CoreModel) (past : Positive) (hart : ℕ) (covered : Work → Bool) (k : Checks) (rank : ℕ → ℕ) → AllHold (obligations m)
-    → EachOf GoalFits (listed m (around_of m)) → Stands (setting_in m past hart covered) m k rank
+    → Stands (setting_in m past hart covered) m k rank
     → (state : RunState) → StateBelongs (setting_in m past hart covered) state
     → EndsRight (setting_in m past hart covered) (step_ran (checking (checks_of m k)) m hart state)
     × ((entry : ℕ) → EndsRight (setting_in m past hart covered) (reset_ran (checking (checks_of m k)) m hart entry state))

@@ -32,7 +32,7 @@ use Rattle.call_arguments.specs.declared.aims.Aim.TheVariants as Aims
 use Rattle.expression_steps.specs.Expressions.{part}
 use Rattle.expression_steps.specs.Parts.{Part}
 use Rattle.expression_steps.specs.Statements.{natural_type}
-use Rattle.function_notes.specs.Functions.{arm_of, arms_walk, body_of, body_walk, both_walk, clause_arms, clause_walk, clauses_walk, constrained}
+use Rattle.function_notes.specs.Functions.{arm_of, arms_walk, body_part, body_walk, both_walk, clause_arms, clause_walk, clauses_walk, constrained}
 use Rattle.function_notes.specs.Functions.{direction_walk}
 use Rattle.function_notes.specs.Functions.{function_walk, mapping_walk, measure_walk}
 use Rattle.function_notes.specs.Functions.{in_clause, in_function, inside_function, kind_clauses, last_made, measured_walk, own_indices}
@@ -168,8 +168,8 @@ module _ (P : Note → Type 0) where
           let one = written_walk place entry around ts once aim declared arm c in_force n in
           let own = read_notes arm c n (without_sizes bs inside.notes (front (notes_with bs inside.notes) _ h)) in
           let same : inside.next ≡ one.next =
-          read_next arm c n ∙ sym (clause_next once (arm_of declared arm) (part (body_of declared c)) in_force n) in
-          join one.notes _ (clause_others once (arm_of declared arm) (part (body_of declared c)) in_force n own)
+          read_next arm c n ∙ sym (clause_next once (arm_of declared arm) (body_part declared c) in_force n) in
+          join one.notes _ (clause_others once (arm_of declared arm) (body_part declared c) in_force n own)
           (clauses_others [] arms cs facts one.next
           (subst (λ n. EachNote P (arms_read con place entry around ts aim declared arms cs facts n).notes) same (back (notes_with bs inside.notes) _ h)))
 
@@ -181,7 +181,7 @@ module _ (P : Note → Type 0) where
       clauses_end once [] (c ∷ cs) facts n = refl
       clauses_end once (arm ∷ arms) [] facts n = refl
       clauses_end once (arm ∷ arms) (c ∷ cs) facts n =
-          let same = read_next arm c n ∙ sym (clause_next once (arm_of declared arm) (part (body_of declared c)) in_force n) in
+          let same = read_next arm c n ∙ sym (clause_next once (arm_of declared arm) (body_part declared c) in_force n) in
           (λ j. (arms_read con place entry around ts aim declared arms cs facts (same j)).next)
           ∙ clauses_end [] arms cs facts (written_walk place entry around ts once aim declared arm c in_force n).next
 

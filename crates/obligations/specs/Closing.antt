@@ -1,5 +1,5 @@
 -- The facts that close an obligation: of each power of two whose exponent isn't constant, then of each Bool variable.
-use Rattle.std.specs.Prelude.{ℤ, pos, List, [], ◌∷◌, ◌++◌, map, if◌then◌else◌}
+use Rattle.std.specs.Prelude.{ℤ, pos, Bool, true, ◌||◌, List, [], ◌∷◌, ◌++◌, map, if◌then◌else◌}
 use Rattle.std.specs.List.{fold}
 use Rattle.sail_types.specs.Sums.{constant, is_constant, of_atom}
 use Rattle.sail_types.specs.declared.numbers.Atom.{Atom, out-Atom}
@@ -13,6 +13,7 @@ use Rattle.sail_types.specs.declared.numbers.Term.{Term}
 use Rattle.row_types.specs.Formulas.{at_most, most}
 use Rattle.linear.specs.Choices.{joined, with_atom}
 use Rattle.linear.specs.Cases.{variables_of}
+use Rattle.obligations.specs.Naming.{any_number, has_number}
 
 -- a variable is from one integer to another
 abbrev pub between : ℤ → Atom → ℤ → List Con
@@ -44,6 +45,17 @@ truths_in = fold-Con (List Atom) truths_form
 abbrev pub truths_of : List Con → Con → List Atom
 truths_of facts goal = fold with_atom [] (joined (map truths_in facts) ++ truths_in goal)
 
+-- whether a number of facts or a goal names a variable; a power is a number
+abbrev pub is_numbered : List Con → Con → Atom-F Atom Num Term → Bool
+is_numbered facts goal (A.Variable i) = any_number i facts || has_number i goal
+is_numbered facts goal (A.Power t) = true
+
+-- of Bool variables those that no number names, which are all of them where each variable is of one kind
+abbrev pub unnumbered : List Con → Con → List Atom → List Atom
+unnumbered facts goal [] = []
+unnumbered facts goal (a ∷ atoms) =
+    if is_numbered facts goal (out-Atom a) then unnumbered facts goal atoms else a ∷ unnumbered facts goal atoms
+
 -- a Bool variable is an integer from 0 to 1
 abbrev pub truth_facts : List Atom → List Con
 truth_facts [] = []
@@ -51,4 +63,4 @@ truth_facts (p ∷ ps) = between (pos 0) p (pos 1) ++ truth_facts ps
 
 abbrev pub with_closing : List Con → Con → List Con
 with_closing facts goal =
-    facts ++ power_facts (variables_of (record { facts = facts; goal = goal })) ++ truth_facts (truths_of facts goal)
+    facts ++ power_facts (variables_of (record { facts = facts; goal = goal })) ++ truth_facts (unnumbered facts goal (truths_of facts goal))

@@ -8,6 +8,7 @@ ghost use Rattle.linear.specs.Cases.{variables_of};
 ghost use Rattle.row_types.specs.Formulas as formulas;
 ghost use Rattle.obligations.specs.Closing as spec;
 
+use crate::naming::{any_number, has_number};
 use linear::push_variables;
 use sail_base::Items;
 use sail_types::{Atom, Comparison, Con, Num, copy_atom};
@@ -141,14 +142,43 @@ fn truths(alloc: Global, facts: &[Con], goal: &Con) -> Result<Items<Atom>, Alloc
     Ok(atoms)
 }
 
+/// Whether a number of facts or a goal names a variable; a power is a number.
+fn is_numbered(facts: &[Con], goal: &Con, atom: &Atom) -> bool
+    ensures { result ≡ spec.is_numbered facts.now goal.now (out-Atom atom.now) }
+{
+    match atom {
+        Atom::Variable(variable) => any_number(*variable, facts) || has_number(*variable, goal),
+        Atom::Power(_) => true,
+    }
+}
+
+/// Of Bool variables those that no number of facts or a goal names. It fails where memory is wanting.
+fn unnumbered(
+    alloc: Global,
+    facts: &[Con],
+    goal: &Con,
+    atoms: &[Atom],
+) -> Result<Items<Atom>, AllocError>
+    ensures { IfOk result (λ made. made ≡ spec.unnumbered facts.now goal.now atoms.now) }
+{
+    let mut made = Items::new(alloc);
+    for atom in atoms {
+        if !is_numbered(facts, goal, atom) {
+            made.push(copy_atom(alloc, atom)?)?;
+        }
+    }
+    Ok(made)
+}
+
 /// Facts with those that close an obligation of them and a goal. It fails where memory is wanting.
 pub fn with_closing(alloc: Global, facts: Items<Con>, goal: &Con) -> Result<Items<Con>, AllocError>
     ensures { IfOk result (λ made. made ≡ spec.with_closing facts goal.now) }
 {
     let atoms = variables(alloc, facts.as_slice(), goal)?;
     let truths = truths(alloc, facts.as_slice(), goal)?;
+    let bits = unnumbered(alloc, facts.as_slice(), goal, truths.as_slice())?;
     let mut made = facts;
     push_powers(alloc, &mut made, atoms.as_slice())?;
-    push_truth_facts(alloc, &mut made, truths.as_slice())?;
+    push_truth_facts(alloc, &mut made, bits.as_slice())?;
     Ok(made)
 }

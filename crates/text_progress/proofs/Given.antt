@@ -109,11 +109,11 @@ terms_there nu j (t ∷ []) h k =
     (ap (over_atom nu) (roll-out-Atom (out-Term t).atom) ∙ sym (term_parts nu t) ∙ own.0)
 terms_there nu j (t ∷ u ∷ ts) h k = no h
 
-variable_there : (nu : Givens) (j : ℕ) (n : Num) → is_variable j n ≡ true → given_in nu n ≡ true → is_there (given_int (slice_get nu j)) ≡ true
+pub variable_there : (nu : Givens) (j : ℕ) (n : Num) → is_variable j n ≡ true → given_in nu n ≡ true → is_there (given_int (slice_get nu j)) ≡ true
 variable_there nu j n h k =
     terms_there nu j (terms_of n) (and_parts (int_eq (out-Num n).constant (pos 0)) (terms_are j (out-Num n).terms) h).1 (sym (given_parts nu n) ∙ k)
 
-holds_there : (nu : Givens) (j : ℕ) (x : Con-F Con) → form_is j x ≡ true → truth_given nu (roll-Con x) ≡ true
+pub holds_there : (nu : Givens) (j : ℕ) (x : Con-F Con) → form_is j x ≡ true → truth_given nu (roll-Con x) ≡ true
     → is_there (given_bool (slice_get nu j)) ≡ true
 holds_there nu j (C.Holds i) h k =
     subst (λ m. is_there (given_bool (slice_get nu m)) ≡ true) (equal i j h) (sym (fold-roll-Con Bool (con_given nu) (C.Holds i)) ∙ k)
@@ -240,7 +240,7 @@ own_scope [] name = λ found e. none e
 own_scope (v ∷ variables) name =
     one_behind v.kind (bytes_eq v.name name) (variable_of name variables) (stand_ins variables) (own_scope variables name)
 
-below_length : (nu : Givens) (i : ℕ) (f : Option Given → Bool) → f None ≡ false → f (slice_get nu i) ≡ true → nat_lt i (length nu) ≡ true
+pub below_length : (nu : Givens) (i : ℕ) (f : Option Given → Bool) → f None ≡ false → f (slice_get nu i) ≡ true → nat_lt i (length nu) ≡ true
 below_length [] i f nothing h = no (sym nothing ∙ h)
 below_length (g ∷ nu) zero f nothing h = grind (arith, nat_tests)
 below_length (g ∷ nu) (suc i) f nothing h = same_test i (length nu) ∙ below_length nu i f nothing h

@@ -1,11 +1,12 @@
 use Rattle.std.proofs.Common.{sym}
 use Rattle.value_indices.specs.Walking.{seen}
 use Rattle.pattern_leaves.specs.Settings.{around_of}
+use Rattle.call_arguments.specs.declared.aims.Aim.TheVariants as Aims
 use Rattle.expression_forms.specs.Scopes.{scope_of}
 use Rattle.sail_core.specs.declared.tree.Core.{out-Core}
 use Rattle.expression_steps.specs.Parts.{Part}
 use Rattle.expression_steps.specs.Expressions.{part}
-use Rattle.function_notes.specs.Functions.{bare_cast}
+use Rattle.function_notes.specs.Functions.{bare_part}
 use Rattle.function_notes.proofs.Bodies.{behind_walk, cast_value, cast_walked}
 use Rattle.function_notes.proofs.clauses.walk_behind.Goals as goal
 
@@ -17,7 +18,7 @@ returns-in_ok-value-in-Some-clause-value c =
     let aim = c.args.aim.now in
     let core = c.in-Some.core.now in
     let value = c.in_ok-value-in-Some.ensures in
-    cast_value (Part.walk (part core) around scope aim) (Part.walk (part (bare_cast body)) around scope aim) (out-Core body).number aim
+    cast_value (Part.walk (part core) around scope aim) (Part.walk (bare_part body) around scope aim) (out-Core body).number Aims.Free
     (behind_walk body around scope aim core (sym c.in-Some.ensures)) c.in_ok-value-in-Some.value (seen c.args.walking.now)
     (seen c.walk_expression.new.walking) value.value value.walked c.cast_given.result c.cast_given.ensures.value
 
@@ -29,6 +30,6 @@ returns-in_ok-value-in-Some-clause-walked c =
     let aim = c.args.aim.now in
     let core = c.in-Some.core.now in
     let value = c.in_ok-value-in-Some.ensures in
-    cast_walked (Part.walk (part core) around scope aim) (Part.walk (part (bare_cast body)) around scope aim) (out-Core body).number aim
+    cast_walked (Part.walk (part core) around scope aim) (Part.walk (bare_part body) around scope aim) (out-Core body).number Aims.Free
     (behind_walk body around scope aim core (sym c.in-Some.ensures)) c.in_ok-value-in-Some.value (seen c.args.walking.now)
     (seen c.walk_expression.new.walking) value.value value.walked c.cast_given.result (seen c.cast_given.new.walking) c.cast_given.ensures.walked

@@ -4,8 +4,7 @@ use Rattle.value_indices.specs.Walking.{seen}
 use Rattle.pattern_leaves.specs.Settings.{Scope, around_of}
 use Rattle.expression_forms.specs.Scopes.{scope_of}
 use Rattle.expression_steps.specs.Parts.{Part}
-use Rattle.expression_steps.specs.Expressions.{part}
-use Rattle.function_notes.specs.Functions.{bare_cast, body_of}
+use Rattle.function_notes.specs.Functions.{bare_part, body_part}
 use Rattle.function_notes.proofs.Bodies.{body_walk, cast_value, cast_walked}
 use Rattle.function_notes.proofs.clauses.walk_body.Goals as goal
 
@@ -19,8 +18,8 @@ returns-in_ok-value-in-Some-clause-value c =
     let inside = c.in-Some.inside.now in
     let names = c.with-scope.ensures ∙ (ap (λ (l : Scope). found ++ l) c.empty-outer.ensures ∙ append-nil found) in
     let value = c.in_ok-value-in-Some.ensures in
-    cast_value (Part.walk (part (bare_cast inside)) around within common.aim.now)
-    (Part.walk (part (body_of common.is_declared body)) around found common.aim.now) (out-Core body).number common.aim.now
+    cast_value (Part.walk (bare_part inside) around within common.aim.now)
+    (Part.walk (body_part common.is_declared body) around found common.aim.now) (out-Core body).number common.aim.now
     (body_walk body around found common.aim.now common.is_declared inside within c.if-common.false (sym c.in-Some.ensures) names)
     c.in_ok-value-in-Some.value (seen c.args.walking.now) (seen c.walk_behind.new.walking) value.value value.walked c.cast_given.result
     c.cast_given.ensures.value
@@ -35,8 +34,8 @@ returns-in_ok-value-in-Some-clause-walked c =
     let inside = c.in-Some.inside.now in
     let names = c.with-scope.ensures ∙ (ap (λ (l : Scope). found ++ l) c.empty-outer.ensures ∙ append-nil found) in
     let value = c.in_ok-value-in-Some.ensures in
-    cast_walked (Part.walk (part (bare_cast inside)) around within common.aim.now)
-    (Part.walk (part (body_of common.is_declared body)) around found common.aim.now) (out-Core body).number common.aim.now
+    cast_walked (Part.walk (bare_part inside) around within common.aim.now)
+    (Part.walk (body_part common.is_declared body) around found common.aim.now) (out-Core body).number common.aim.now
     (body_walk body around found common.aim.now common.is_declared inside within c.if-common.false (sym c.in-Some.ensures) names)
     c.in_ok-value-in-Some.value (seen c.args.walking.now) (seen c.walk_behind.new.walking) value.value value.walked c.cast_given.result
     (seen c.cast_given.new.walking) c.cast_given.ensures.walked

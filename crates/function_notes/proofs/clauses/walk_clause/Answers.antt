@@ -4,8 +4,7 @@ use Rattle.value_indices.specs.Walking.{got, run, seen}
 use Rattle.pattern_leaves.specs.Settings.{around_of, exponents_owed}
 use Rattle.pattern_notes.specs.Patterns.{look, looks, arm_match}
 use Rattle.expression_steps.specs.Parts.{Part}
-use Rattle.expression_steps.specs.Expressions.{part}
-use Rattle.function_notes.specs.Functions.{parameters_entered, in_clause, body_of}
+use Rattle.function_notes.specs.Functions.{parameters_entered, in_clause, body_part}
 use Rattle.function_notes.proofs.Chained.{chained_run, chained_got}
 use Rattle.function_notes.proofs.clauses.walk_clause.Goals as goal
 
@@ -18,7 +17,7 @@ returns-clause-value c =
     let v = seen c.remember.new.self in
     chained_got (parameters_entered common.entry (looks arm) around.numbers common.types.now) (exponents_owed around c.args.once.now)
     (λ is. arm_match common.place arm around in_clause is)
-    (λ found. Part.walk (part (body_of common.is_declared c.args.body.now)) around found common.aim.now)
+    (λ found. Part.walk (body_part common.is_declared c.args.body.now) around found common.aim.now)
     (seen c.args.walking.now) v (seen c.enter_parameters.new.walking) (seen c.owe_exponents.new.walking) (seen c.match_arm.new.walking)
     c.as_slice.result.now c.as_slice-2.result.now c.in_ok-remember.ensures
     (c.as_slice.ensures ∙ (c.in_ok-values.ensures.value ∙ ap (λ ps. got (first ps) v) c.patterns_of.ensures))
@@ -35,7 +34,7 @@ returns-clause-walked c =
     let v = seen c.remember.new.self in
     chained_run (parameters_entered common.entry (looks arm) around.numbers common.types.now) (exponents_owed around c.args.once.now)
     (λ is. arm_match common.place arm around in_clause is)
-    (λ found. Part.walk (part (body_of common.is_declared c.args.body.now)) around found common.aim.now)
+    (λ found. Part.walk (body_part common.is_declared c.args.body.now) around found common.aim.now)
     (seen c.args.walking.now) v (seen c.enter_parameters.new.walking) (seen c.owe_exponents.new.walking) (seen c.match_arm.new.walking)
     c.as_slice.result.now c.as_slice-2.result.now c.in_ok-remember.ensures
     (c.as_slice.ensures ∙ (c.in_ok-values.ensures.value ∙ ap (λ ps. got (first ps) v) c.patterns_of.ensures))

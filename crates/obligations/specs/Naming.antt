@@ -1,5 +1,5 @@
--- Which variables conditions name: as numbers, and as truths.
-use Rattle.std.specs.Prelude.{ℕ, nat_eq, Bool, true, false, ◌||◌, List}
+-- Which variables conditions name as numbers, in exponents too.
+use Rattle.std.specs.Prelude.{ℕ, nat_eq, Bool, false, ◌||◌, List, map}
 use Rattle.std.specs.List.{list_any}
 use Rattle.sail_types.specs.declared.numbers.Atom.{Atom}
 use Rattle.sail_types.specs.declared.numbers.Atom.TheOpen as N
@@ -12,8 +12,6 @@ use Rattle.sail_types.specs.declared.numbers.Term.{Term}
 
 abbrev pub any_of : List Bool → Bool
 any_of bs = list_any (λ b. b) bs
-
--- ---- as a number, in exponents too
 
 abbrev pub atom_names : ℕ → Atom-F Bool Bool Bool → Bool
 atom_names v (N.Variable i) = nat_eq i v
@@ -47,20 +45,6 @@ form_numbers v (C.Any bs) = any_of bs
 abbrev pub has_number : ℕ → Con → Bool
 has_number v = fold-Con Bool (form_numbers v)
 
--- ---- as a truth
-
-abbrev pub form_truths : ℕ → Con-F Bool → Bool
-form_truths v (C.Truth b) = false
-form_truths v (C.Holds i) = nat_eq i v
-form_truths v (C.Compare how t u) = false
-form_truths v (C.OneOf t zs) = false
-form_truths v (C.Not b) = b
-form_truths v (C.All bs) = any_of bs
-form_truths v (C.Any bs) = any_of bs
-
-abbrev pub has_truth : ℕ → Con → Bool
-has_truth v = fold-Con Bool (form_truths v)
-
--- of some of these
-abbrev pub some_has : (ℕ → Con → Bool) → ℕ → List Con → Bool
-some_has has v cs = list_any (has v) cs
+-- whether one of these does
+abbrev pub any_number : ℕ → List Con → Bool
+any_number v cs = any_of (map (has_number v) cs)
