@@ -1,5 +1,5 @@
 -- Ways into values, and parts that are read (Sail language manual, "Structs", "Vectors", "Bitvectors").
-use Rattle.std.specs.Prelude.{Bool, List, None, Option, Some, if◌then◌else◌, map, nat_eq, pos, slice_get, ℕ, [], ◌++◌, ◌∷◌}
+use Rattle.std.specs.Prelude.{Bool, List, None, Option, Some, if◌then◌else◌, length, map, nat_eq, pos, slice_get, ℕ, [], ◌&&◌, ◌++◌, ◌∷◌}
 use Rattle.sail_base.specs.declared.place.Place.{Place}
 use Rattle.sail_types.specs.Named.{fields}
 use Rattle.sail_types.specs.Sums.{and_then, constant, difference, sum, zero_num}
@@ -20,7 +20,9 @@ use Rattle.value_indices.specs.declared.indices.Reading.{Reading}
 use Rattle.value_indices.specs.declared.indices.Reading.TheVariants as R
 use Rattle.value_fits.specs.Fitting.{also, owe_fit, says}
 use Rattle.value_fits.specs.declared.fitted.Fitted.{Fitted}
+use Rattle.wide_types.specs.Widening.{parameters_of}
 use Rattle.pattern_leaves.specs.Settings.{Around}
+use Rattle.call_arguments.specs.Callees.{type_parameters}
 use Rattle.call_notes.specs.Ends.{fits_unless, is_never, never_value, opened_at, wrong_value}
 use Rattle.call_notes.specs.Noted.{made_opened, node_given}
 use Rattle.expression_forms.specs.declared.ways.Ends.{Ends}
@@ -75,13 +77,21 @@ ends high low width = record { high = high; low = low; width = width }
 abbrev pub with_width : Num → Num → Walk (Option Ends)
 with_width high low = bind (number_or_fresh (slice_width high low)) (λ w. give (Some (ends high low w)))
 
+-- how many Type variables the named type of this place in the table has
+abbrev pub types_in : Around → ℕ → ℕ
+types_in around u = type_parameters (parameters_of (slice_get around.types.definitions u))
+
+-- whether a value of the named type `v` with these Type arguments is of the struct `u`
+abbrev pub is_struct : Around → ℕ → ℕ → List Reading → Bool
+is_struct around u v rs = nat_eq u v && nat_eq (length rs) (types_in around u)
+
 abbrev pub field_reached : List Typ → List Index → List Reading → Option Reached
 field_reached (t ∷ ts) is rs = reached [] [] (R.Of t is rs)
 field_reached [] is rs = None
 
 -- of a value of its own struct
 abbrev pub into_field : Around → ℕ → ℕ → Indices-F Indices Reading → Option Reached
-into_field around u k (W.Named v is rs) = if nat_eq u v then field_reached (fields_of around u (k ∷ [])) is rs else None
+into_field around u k (W.Named v is rs) = if is_struct around u v rs then field_reached (fields_of around u (k ∷ [])) is rs else None
 into_field around u k form = None
 
 abbrev pub into_item : Num → Indices-F Indices Reading → Option Reached

@@ -25,6 +25,6 @@ pub use sizes::{constraint, size};
 pub use spots::Spot;
 pub use truths::{and_right, claim_of, negated, or_right, truth_of};
 pub use ways::{
-    Ends, Reached, fields_of, if_never_value, into_field, into_item, into_slice, owe_part,
-    read_suffix, update_operands, with_width,
+    Ends, Reached, fields_of, if_never_value, into_field, into_item, into_slice, is_struct,
+    owe_part, read_suffix, update_operands, with_width,
 };

@@ -9,6 +9,7 @@ ghost use Rattle.value_indices.specs.declared.indices.Indices.TheVariants as I;
 ghost use Rattle.value_indices.specs.declared.indices.Reading.TheVariants as R;
 ghost use Rattle.expression_forms.specs.Ways as ways;
 
+use call_arguments::type_parameters;
 use call_notes::{fits_unless, is_never, made_opened, node_given, opened_at, under, wrong_value};
 use pattern_leaves::Around;
 use sail_base::{Boxed, Items, Place};
@@ -19,6 +20,7 @@ use value_fits::{Fitted, Wanted, owe_fit};
 use value_indices::{
     Indices, Reading, Walking, at_most, copy_indices, copy_reading, number_or_fresh, zero_num,
 };
+use wide_types::parameters_of;
 
 /// A part of a value that a way reaches.
 #[derive(Drop)]
@@ -186,6 +188,14 @@ fn field_reached(
     }
 }
 
+/// Whether a value of a named type, by its place in the table and its Type arguments, is of the struct at the first place: it has as many of them
+/// as that has Type variables.
+pub fn is_struct(around: &Around<'_>, named: u32, own: u32, readings: &[Reading]) -> bool
+    ensures { result ≡ ways.is_struct (around_of around.now) named own readings.now }
+{
+    named == own && readings.len() == type_parameters(parameters_of(around.types, named))
+}
+
 /// A field of a value, by the struct's place in the table and its own in the struct; none where there is no such field, and of a value of another
 /// type. It fails where memory is wanting.
 pub fn into_field(
@@ -199,7 +209,7 @@ pub fn into_field(
 {
     match value {
         Indices::Named(own, indices, readings) => {
-            if named == *own {
+            if is_struct(around, named, *own, readings.as_slice()) {
                 let types = fields_of(alloc, around, named, &[field])?;
                 field_reached(
                     alloc,
