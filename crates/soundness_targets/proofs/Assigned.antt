@@ -33,9 +33,11 @@ use Rattle.expression_steps.specs.Parts.{Part}
 use Rattle.expression_steps.specs.Targets.{value_for}
 use Rattle.checked_meaning.specs.Checked.{checked}
 use Rattle.checked_meaning.specs.Items.{Item}
-use Rattle.value_laws.specs.Known.{Point, Later}
-use Rattle.value_laws.proofs.Steps.{agree_on, later_on, no_later, same}
+use Rattle.value_laws.specs.Known.{Point}
+use Rattle.value_laws.proofs.Steps.{same}
 use Rattle.fitting_laws.proofs.Holes.{of_full}
+use Rattle.soundness_steps.specs.Points.{Later}
+use Rattle.soundness_steps.proofs.Points.{agree_on, later_on, no_later}
 use Rattle.soundness_steps.specs.Works.{Kept, Scene, here, is_value, is_var}
 use Rattle.soundness_steps.specs.States.{AreRegisters, nothing_stands, registers_of}
 use Rattle.soundness_steps.specs.Steps.{Beside, EndsWell, well_given}

@@ -20,7 +20,8 @@ use Rattle.expression_steps.specs.Expressions.{kind_walk}
 use Rattle.expression_steps.specs.Parts.{Part}
 use Rattle.expression_steps.specs.Targets.{Spotting, assigned, assigned_to, kind_spot, spotted, spotting, then_assigned, value_for}
 use Rattle.checked_meaning.specs.Items.{Item}
-use Rattle.value_laws.specs.Known.{Point, Later}
+use Rattle.value_laws.specs.Known.{Point}
+use Rattle.soundness_steps.specs.Points.{Later}
 use Rattle.soundness_steps.specs.Works.{Scene, here}
 use Rattle.soundness_steps.specs.Steps.{Beside, Walks}
 use Rattle.soundness_steps.specs.Values.{AimSteady, Comes, Is}

@@ -14,7 +14,8 @@ use Rattle.checked_meaning.specs.Checked.{Noted}
 use Rattle.checked_meaning.specs.Items.{Item}
 use Rattle.value_laws.specs.Belonging.{standing}
 use Rattle.value_laws.specs.Known.{AllTrue, Point}
-use Rattle.value_laws.proofs.Steps.{agree_on, same}
+use Rattle.value_laws.proofs.Steps.{same}
+use Rattle.soundness_steps.proofs.Points.{agree_on}
 use Rattle.soundness_steps.specs.Works.{Scene}
 use Rattle.soundness_steps.specs.Noted.{with_given}
 use Rattle.soundness_steps.specs.Steps.{AllMet, Beside, Stands}

@@ -21,9 +21,10 @@ use Rattle.expression_forms.specs.Nodes.{form_made, put}
 use Rattle.expression_forms.specs.Spots.{Wrote, named_spot, owed_answer, written_by, wrote}
 use Rattle.checked_meaning.specs.Checked.{Noted, checked}
 use Rattle.checked_meaning.specs.Items.{Item}
-use Rattle.value_laws.specs.Known.{Point, Later}
-use Rattle.value_laws.proofs.Steps.{later_on}
+use Rattle.value_laws.specs.Known.{Point}
 use Rattle.fitting_laws.proofs.Joining.{says_so}
+use Rattle.soundness_steps.specs.Points.{Later}
+use Rattle.soundness_steps.proofs.Points.{later_on}
 use Rattle.soundness_steps.specs.Works.{Scene, here}
 use Rattle.soundness_steps.specs.Noted.{variables_given, with_given}
 use Rattle.soundness_steps.specs.Steps.{AllMet, Beside, Stands, Walks}
