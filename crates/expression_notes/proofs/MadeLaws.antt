@@ -66,12 +66,15 @@ module _ (place : Place) (k u : ℕ) (ks : List ℕ) (a : Core) (cs : List Core)
   behind x = with_behind place k u ks (each_part (others cs)) around scope x
 
   abbrev after : Indices → Walk Indices
-  after x = behind x (with_aims around u ks (out-Indices x))
+  after x = behind x (with_aims around u ks (length (each_part (others cs))) (out-Indices x))
 
-  pub without : (asked : Option (List Aim)) → asked ≡ with_aims around u ks (out-Indices i) → asked ≡ None
+  counted : with_aims around u ks (length (others cs)) (out-Indices i) ≡ with_aims around u ks (length (each_part (others cs))) (out-Indices i)
+  counted = sym (λ j. with_aims around u ks (length-map (others cs) part j) (out-Indices i))
+
+  pub without : (asked : Option (List Aim)) → asked ≡ with_aims around u ks (length (others cs)) (out-Indices i) → asked ≡ None
       → Alike (got (no_struct place (out-Indices i)) v) (got (whole cs) w) (run (no_struct place (out-Indices i)) v) (run (whole cs) w)
   without asked asks none =
-      let opens = ap (behind i) (sym none ∙ asks) in
+      let opens = ap (behind i) (sym none ∙ asks ∙ counted) in
       record {
         value = ap (λ (x : Walk Indices). got x v) opens ∙ then_got first after w v i is was ∙ sym (ap (λ (xs : List Core). got (whole xs) w) parts);
         walked = ap (λ (x : Walk Indices). run x v) opens ∙ then_run first after w v i is was ∙ sym (ap (λ (xs : List Core). run (whole xs) w) parts);
@@ -81,12 +84,12 @@ module _ (place : Place) (k u : ℕ) (ks : List ℕ) (a : Core) (cs : List Core)
   ended = with_ended around place k u ks i
 
   pub with_values : (asked : Option (List Aim)) (aims wants : List Aim) (firsts : List Core) (values : List Indices) (z : Written)
-      → asked ≡ with_aims around u ks (out-Indices i) → asked ≡ Some aims → firsts ≡ take (length aims) (others cs) → wants ≡ aims
+      → asked ≡ with_aims around u ks (length (others cs)) (out-Indices i) → asked ≡ Some aims → firsts ≡ take (length aims) (others cs) → wants ≡ aims
       → values ≡ got (each_walk (each_part firsts) around scope wants) v → z ≡ run (each_walk (each_part firsts) around scope wants) v
       → Alike (got (ended values) z) (got (whole cs) w) (run (ended values) z) (run (whole cs) w)
   with_values asked aims wants firsts values z asks some taken wanted gave went =
       let second = each_walk (take (length aims) (each_part (others cs))) around scope aims in
-      let opens = ap (behind i) (sym some ∙ asks) in
+      let opens = ap (behind i) (sym some ∙ asks ∙ counted) in
       let same = sym (parts_taken (others cs) (length aims) firsts taken) in
       let found : values ≡ got second v = gave ∙ (λ j. got (each_walk (same j) around scope (wanted j)) v) in
       let walked : z ≡ run second v = went ∙ (λ j. run (each_walk (same j) around scope (wanted j)) v) in

@@ -1,6 +1,6 @@
 -- Ways into a value, by the parts that are left of an expression.
 use Rattle.std.proofs.Common.{◌≡◌, ◌∙◌, ◌≤◌, ◌<◌, ◌+◌, ap, refl, sym, arith, ℕ, Bool, None, Some, Option, Result, Ok, Err, IfOk, OnOk}
-use Rattle.std.proofs.Common.{false, List, [], ◌∷◌, ◌++◌, length, drop, take, get_or, if◌then◌else◌, drop-drop, lt-ltb, le-ltb}
+use Rattle.std.proofs.Common.{false, List, [], ◌∷◌, ◌++◌, ◌≢◌, length, drop, take, get_or, if◌then◌else◌, nat_eq, suc, zero, drop-drop, lt-ltb, le-ltb}
 use Rattle.std.proofs.lemmas.List.{drop-map, length-map, take-map}
 use Rattle.sail_base.specs.declared.place.Place.{Place}
 use Rattle.sail_types.specs.declared.numbers.Num.{Num}
@@ -16,13 +16,14 @@ use Rattle.value_indices.proofs.Walks.{got_give, run_give}
 use Rattle.pattern_leaves.specs.Settings.{Around, Scope}
 use Rattle.pattern_leaves.proofs.Walked.{made_got, made_run, then_got, then_run}
 use Rattle.call_arguments.specs.declared.aims.Aim.TheVariants as Aims
-use Rattle.expression_forms.specs.Ways.{suffix_read}
+use Rattle.expression_forms.specs.Ways.{if_never_value, suffix_read}
 use Rattle.expression_forms.specs.declared.ways.Reached.{Reached}
 use Rattle.expression_steps.specs.Coded.{each_part, left_behind, passed_in, taken_in, value_passed}
 use Rattle.expression_steps.specs.Expressions.{part}
 use Rattle.expression_steps.specs.Parts.{Part, numbers_walk}
-use Rattle.expression_steps.specs.Values.{Passed, Taken, indexes_of, no_way, numbers_updated, part_walk, passed, reached_by, read_taken, suffix_walk}
-use Rattle.expression_steps.specs.Values.{suffixes_walk, taken, then_on, update_forms, update_walk, updated, value_on, way_taken, way_walk}
+use Rattle.expression_steps.specs.Values.{Passed, Taken, indexes_of, left_after, no_way, numbers_updated, part_walk, passed, reached_by}
+use Rattle.expression_steps.specs.Values.{read_taken, suffix_walk, suffixed, suffixes_walk, taken, then_on, update_forms, update_walk, updated, value_on}
+use Rattle.expression_steps.specs.Values.{way_taken, way_walk}
 use Rattle.expression_steps.proofs.Onward.{given_got, given_run, then_got_in, then_run_in}
 use Rattle.expression_steps.proofs.Walked.{suffixes_end, suffixes_more}
 use Rattle.expression_notes.proofs.Alike.{Alike}
@@ -249,7 +250,8 @@ value_given : (ps : List Core) (f : Option (Indices × ℕ)) → value_on (passe
 value_given ps None = refl
 value_given ps (Some x) = refl
 
-module _ (around : Around) (scope : Scope) (ss : List Suffix) (a : Core) (qs : List Core) (i : Indices) (f : Option (Indices × ℕ)) (w v u : Written) where
+-- no more indexes than its suffixes take, or more
+module _ (place : Place) (around : Around) (scope : Scope) (ss : List Suffix) (a : Core) (qs : List Core) (i : Indices) where
   abbrev base : Walk Indices
   base = (part a).walk around scope Aims.Free
 
@@ -257,23 +259,40 @@ module _ (around : Around) (scope : Scope) (ss : List Suffix) (a : Core) (qs : L
   further = suffixes_walk false ss around scope (each_part qs)
 
   abbrev onward : Indices → Walk Indices
-  onward j = bind (further j) value_on
+  onward = suffixed place ss (each_part qs) around scope
 
-  part_value : i ≡ got base w → v ≡ run base w → passed_in qs f ≡ got (further i) v → u ≡ run (further i) v
-      → value_passed f ≡ got (part_walk ss (part a) (each_part qs) around scope) w
-  part_value is was found did =
-      given_got (further i) value_on (onward i) v u (passed_in qs f) (value_passed f) refl found did (value_given qs f)
-      ∙ then_got base onward w v i is was
+  abbrev chosen : ℕ → Walk Indices
+  chosen n = if nat_eq n 0 then bind (further i) value_on else if_never_value place i
 
-  part_went : i ≡ got base w → v ≡ run base w → passed_in qs f ≡ got (further i) v → u ≡ run (further i) v
-      → u ≡ run (part_walk ss (part a) (each_part qs) around scope) w
-  part_went is was found did =
-      given_run (further i) value_on (onward i) v u (passed_in qs f) (value_passed f) refl found did (value_given qs f)
-      ∙ then_run base onward w v i is was
+  as_counted : onward i ≡ chosen (left_after ss (length qs))
+  as_counted = λ j. chosen (left_after ss (length-map qs part j))
 
-  pub part_alike : i ≡ got base w → v ≡ run base w → passed_in qs f ≡ got (further i) v → u ≡ run (further i) v
-      → Alike (value_passed f) (got (part_walk ss (part a) (each_part qs) around scope) w) u (run (part_walk ss (part a) (each_part qs) around scope) w)
-  part_alike is was found did = record { value = part_value is was found did; walked = part_went is was found did }
+  more_left : (n : ℕ) → n ≢ 0 → chosen n ≡ if_never_value place i
+  more_left zero some = absurd (some refl)
+  more_left (suc n) some = refl
+
+  module _ (w v : Written) (is : i ≡ got base w) (was : v ≡ run base w) where
+    pub part_left : left_after ss (length qs) ≢ 0
+        → Alike (got (if_never_value place i) v) (got (part_walk place ss (part a) (each_part qs) around scope) w)
+        (run (if_never_value place i) v) (run (part_walk place ss (part a) (each_part qs) around scope) w)
+    part_left some = let opens = sym (as_counted ∙ more_left (left_after ss (length qs)) some) in record {
+      value = (λ j. got (opens j) v) ∙ then_got base onward w v i is was;
+      walked = (λ j. run (opens j) v) ∙ then_run base onward w v i is was;
+    }
+
+    module _ (f : Option (Indices × ℕ)) (u : Written) (none : left_after ss (length qs) ≡ 0) (found : passed_in qs f ≡ got (further i) v)
+        (did : u ≡ run (further i) v) where
+      opened : onward i ≡ bind (further i) value_on
+      opened = as_counted ∙ ap chosen none
+
+      pub part_alike : Alike (value_passed f) (got (part_walk place ss (part a) (each_part qs) around scope) w) u
+          (run (part_walk place ss (part a) (each_part qs) around scope) w)
+      part_alike = record {
+        value = given_got (further i) value_on (onward i) v u (passed_in qs f) (value_passed f) opened found did (value_given qs f)
+            ∙ then_got base onward w v i is was;
+        walked = given_run (further i) value_on (onward i) v u (passed_in qs f) (value_passed f) opened found did (value_given qs f)
+            ∙ then_run base onward w v i is was;
+      }
 
 -- ---- a value of which a part is replaced
 

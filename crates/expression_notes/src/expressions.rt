@@ -153,7 +153,15 @@ fn walk_parted(
             )
         }
         Kind::Part(suffixes) => {
-            walk_part(alloc, walking, around, scope, suffixes.as_slice(), parts)
+            walk_part(
+                alloc,
+                walking,
+                around,
+                scope,
+                place,
+                suffixes.as_slice(),
+                parts,
+            )
         }
         Kind::WithItem => {
             walk_update(

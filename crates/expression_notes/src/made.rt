@@ -75,7 +75,7 @@ pub(crate) fn walk_with(
         [] => wrong_value(alloc, walking, place),
         [base, others @ ..] => {
             let value = walk_expression(alloc, walking, around, scope, base, &Aim::Free)?;
-            match with_aims(alloc, around, named, fields, &value)? {
+            match with_aims(alloc, around, named, fields, others.len(), &value)? {
                 None => no_struct(alloc, walking, place, &value),
                 Some(aims) => {
                     let others = first_parts(others, aims.len());

@@ -13,8 +13,8 @@ use crate::parts::walk_numbers;
 use call_notes::{Aim, wrong_value};
 use expression_forms::{Reached, Scope, if_never_value, read_suffix};
 use expression_steps::{
-    behind, first_parts, indexes_of, is_nested, left_at, no_way, put_aim, put_ended, reach,
-    value_of, way_reached,
+    behind, first_parts, indexes_of, is_nested, left_after, left_at, no_way, put_aim, put_ended,
+    reach, value_of, way_reached,
 };
 use pattern_leaves::Around;
 use sail_base::Place;
@@ -106,7 +106,7 @@ pub(crate) fn walk_suffixes(
     Ok(Some((value, at)))
 }
 
-/// `e.f[i]`, by its parts. It fails where memory is wanting, and where variables are too many.
+/// `e.f[i]`, by its parts: no more indexes than the suffixes take, unless the value never ends. It fails where memory is wanting, and where variables are too many.
 #[cycle(walk)]
 #[tactic(auto, using(value_indices::proofs::Walks::walks))]
 pub(crate) fn walk_part(
@@ -114,18 +114,23 @@ pub(crate) fn walk_part(
     walking: &mut Walking,
     around: &Around<'_>,
     scope: &Scope<'_>,
+    place: Place,
     suffixes: &[Suffix],
     parts: &[Core],
 ) -> Result<Indices, AllocError>
-    ensures value { IfOk result (λ made. made ≡ walk.got (value_spec.part_forms suffixes.now (coded.each_part parts.now) (around_of around.now)
-        (scope_of scope.now)) (walk.seen walking.old)) }
-    ensures walked { OnOk result (walk.seen walking.new ≡ walk.run (value_spec.part_forms suffixes.now (coded.each_part parts.now)
+    ensures value { IfOk result (λ made. made ≡ walk.got (value_spec.part_forms place suffixes.now (coded.each_part parts.now)
+        (around_of around.now) (scope_of scope.now)) (walk.seen walking.old)) }
+    ensures walked { OnOk result (walk.seen walking.new ≡ walk.run (value_spec.part_forms place suffixes.now (coded.each_part parts.now)
         (around_of around.now) (scope_of scope.now)) (walk.seen walking.old)) }
 {
     match parts {
-        [] => Ok(Indices::Never),
+        [] => wrong_value(alloc, walking, place),
         [base, indexes @ ..] => {
             let value = walk_expression(alloc, walking, around, scope, base, &Aim::Free)?;
+            let left = left_after(suffixes, indexes.len());
+            if left != 0 {
+                return if_never_value(alloc, walking, place, &value);
+            }
             let found = walk_suffixes(
                 alloc, walking, around, scope, false, suffixes, indexes, 0, value,
             )?;

@@ -8,6 +8,7 @@ ghost use Rattle.expression_steps.specs.Values as value_spec;
 
 use crate::expressions::walk_expression;
 use crate::parts::walk_each;
+use call_arguments::without_holes;
 use call_notes::Aim;
 use expression_forms::Scope;
 use expression_steps::{
@@ -46,8 +47,8 @@ fn walk_like(
     Ok(made)
 }
 
-/// Items of which no type is wanted, behind the widened type of the first, which each owes. It fails where memory is wanting, and where
-/// variables are too many.
+/// Items of which no type is wanted, behind the widened type of the first, which each owes: of a hole in it is only what never ends. It fails
+/// where memory is wanting, and where variables are too many.
 #[cycle(walk)]
 #[tactic(auto, using(value_indices::proofs::Walks::walks, expression_steps::proofs::Masses::weights))]
 fn walk_first(
@@ -68,9 +69,10 @@ fn walk_first(
         [first, others @ ..] => {
             let value = walk_expression(alloc, walking, around, scope, first, &Aim::Free)?;
             let reading = filled_here(alloc, walking, around, shape, &value)?;
-            owe_item(alloc, walking, around, place_of(first), &reading, &value)?;
+            let allowed = without_holes(alloc, &reading)?;
+            owe_item(alloc, walking, around, place_of(first), &allowed, &value)?;
             let one = first_item(alloc, value)?;
-            let values = walk_like(alloc, walking, around, scope, one, others, &reading)?;
+            let values = walk_like(alloc, walking, around, scope, one, others, &allowed)?;
             Ok((reading, values))
         }
     }

@@ -16,9 +16,9 @@ use Rattle.expression_steps.specs.Coded.{each_part}
 use Rattle.expression_steps.specs.Expressions.{part}
 
 module _ (around : Around) (k u m : ℕ) (args : List Core) (aim : Aim) (is : List Indices) (known : Option (List Reading)) (types : List Typ)
-    (knows : known ≡ known_arguments aim) (typed : types ≡ constructor_types around u m (length args)) where
+    (knows : known ≡ known_arguments around u aim) (typed : types ≡ constructor_types around u m (length args)) where
   abbrev made : Walk Indices
-  made = named_made around u (each_part args) (known_arguments aim) (constructor_types around u m (length (each_part args))) is
+  made = named_made around u (each_part args) (known_arguments around u aim) (constructor_types around u m (length (each_part args))) is
 
   same : named_made around u (each_part args) known types is ≡ made
   same = λ j. named_made around u (each_part args) (knows j) ((typed ∙ ap (constructor_types around u m) (sym (length-map args part))) j) is

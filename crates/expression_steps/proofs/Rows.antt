@@ -13,6 +13,7 @@ use Rattle.value_indices.proofs.Walks.{got_bind, got_give, run_bind, run_give}
 use Rattle.pattern_leaves.specs.Settings.{Around, Scope}
 use Rattle.pattern_leaves.proofs.Walked.{made_got, made_run, then_got, then_run}
 use Rattle.call_arguments.specs.Aims.{aimed, is_hole_form}
+use Rattle.call_arguments.specs.Holes.{without_holes}
 use Rattle.call_arguments.specs.declared.aims.Aim.{Aim}
 use Rattle.call_arguments.specs.declared.aims.Aim.TheVariants as Aims
 use Rattle.expression_steps.specs.Parts.{Part, each_walk}
@@ -48,13 +49,14 @@ module _ (a : Part) (around : Around) (scope : Scope) (r : Reading) (place : Pla
 
 -- ---- a first item, and the others
 
-module _ (a : Part) (ps : List Part) (around : Around) (scope : Scope) (shape : Shape) (place : Place) (w0 w1 w2 w3 w4 : Written) (i : Indices) (r : Reading)
-    (one values : List Indices) (begun : one ≡ i ∷ []) (here : place ≡ a.place) (found : i ≡ got (a.walk around scope Aims.Free) w0)
+module _ (a : Part) (ps : List Part) (around : Around) (scope : Scope) (shape : Shape) (place : Place) (w0 w1 w2 w3 w4 : Written) (i : Indices)
+    (r allowed : Reading) (one values : List Indices) (allows : allowed ≡ without_holes r) (begun : one ≡ i ∷ []) (here : place ≡ a.place)
+    (found : i ≡ got (a.walk around scope Aims.Free) w0)
     (was : w1 ≡ run (a.walk around scope Aims.Free) w0) (fills : r ≡ got (filled_here around shape i) w1)
-    (filled : w2 ≡ run (filled_here around shape i) w1) (owes : w3 ≡ run (item_owed around place r i) w2)
-    (others : values ≡ one ++ got (items_like ps around scope r) w3) (went : w4 ≡ run (items_like ps around scope r) w3) where
+    (filled : w2 ≡ run (filled_here around shape i) w1) (owes : w3 ≡ run (item_owed around place allowed i) w2)
+    (others : values ≡ one ++ got (items_like ps around scope allowed) w3) (went : w4 ≡ run (items_like ps around scope allowed) w3) where
   abbrev owed : Walk (Unit {0})
-  owed = item_owed around a.place r i
+  owed = item_owed around a.place (without_holes r) i
 
   abbrev row : List Indices → Row
   row xs = (r, xs)
@@ -62,23 +64,29 @@ module _ (a : Part) (ps : List Part) (around : Around) (scope : Scope) (shape : 
   abbrev onto : List Indices → Row
   onto xs = row (i ∷ xs)
 
-  abbrev like : Walk Row
-  like = bind (items_like ps around scope r) (λ xs. give (onto xs))
+  abbrev others_like : Walk (List Indices)
+  others_like = items_like ps around scope (without_holes r)
 
-  values_are : values ≡ i ∷ got (items_like ps around scope r) w3
-  values_are = others ∙ ap (λ (xs : List Indices). xs ++ got (items_like ps around scope r) w3) begun
+  abbrev like : Walk Row
+  like = bind others_like (λ xs. give (onto xs))
+
+  values_are : values ≡ i ∷ got others_like w3
+  values_are = others ∙ (λ j. (begun j) ++ got (items_like ps around scope (allows j)) w3)
+
+  went_on : w4 ≡ run others_like w3
+  went_on = went ∙ (λ j. run (items_like ps around scope (allows j)) w3)
 
   came : w3 ≡ run owed w2
-  came = owes ∙ ap (λ (p : Place). run (item_owed around p r i) w2) here
+  came = owes ∙ (λ j. run (item_owed around (here j) (allows j) i) w2)
 
   last_got : row values ≡ got (first_like ps around scope a.place i r) w2
   last_got =
       ap row values_are
-      ∙ made_got (items_like ps around scope r) onto w3 (got (items_like ps around scope r) w3) refl
+      ∙ made_got others_like onto w3 (got others_like w3) refl
       ∙ then_got owed (λ t. like) w2 w3 (got owed w2) refl came
 
   last_run : w4 ≡ run (first_like ps around scope a.place i r) w2
-  last_run = made_run (items_like ps around scope r) onto w3 w4 went ∙ then_run owed (λ t. like) w2 w3 (got owed w2) refl came
+  last_run = made_run others_like onto w3 w4 went_on ∙ then_run owed (λ t. like) w2 w3 (got owed w2) refl came
 
   abbrev rest : Indices → Walk Row
   rest k = bind (filled_here around shape k) (first_like ps around scope a.place k)

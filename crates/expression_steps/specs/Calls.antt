@@ -1,5 +1,5 @@
 -- Calls whose arguments are walked (Sail language manual, "Functions", "Unions").
-use Rattle.std.specs.Prelude.{Bool, List, None, Option, length, map, slice_get, take, ℕ}
+use Rattle.std.specs.Prelude.{Bool, List, None, Option, Some, if◌then◌else◌, length, map, nat_eq, slice_get, take, ℕ}
 use Rattle.sail_base.specs.declared.place.Place.{Place}
 use Rattle.sail_types.specs.Named.{payload}
 use Rattle.sail_types.specs.declared.types.Typ.{Typ}
@@ -15,6 +15,7 @@ use Rattle.call_arguments.specs.Callees.{argument_aim, part_aim, payload_types}
 use Rattle.call_notes.specs.Calls.{called, callee_types, made_named}
 use Rattle.call_notes.specs.Noted.{node_ended}
 use Rattle.call_arguments.specs.declared.aims.Aim.{Aim}
+use Rattle.expression_forms.specs.Ways.{types_in}
 use Rattle.expression_steps.specs.Parts.{Part, each_walk}
 
 -- ---- arguments: what is wanted of them, and whether they owe it further in
@@ -41,9 +42,14 @@ abbrev pub named_made : Around → ℕ → List Part → Option (List Reading) �
 named_made around u args known ts is =
     made_named around u (parameters_of (slice_get around.types.definitions u)) (places_of args) known ts is
 
--- the Type arguments of the union that is wanted
-abbrev pub known_arguments : Aim → Option (List Reading)
-known_arguments aim = of_wanted None type_arguments (wanted aim)
+-- types, if they are so many
+abbrev pub so_many : ℕ → Option (List Reading) → Option (List Reading)
+so_many n None = None
+so_many n (Some rs) = if nat_eq (length rs) n then Some rs else None
+
+-- the Type arguments of the type that is wanted, where a union has as many Type variables
+abbrev pub known_arguments : Around → ℕ → Aim → Option (List Reading)
+known_arguments around u aim = so_many (types_in around u) (of_wanted None type_arguments (wanted aim))
 
 -- the types of so many arguments of a constructor
 abbrev pub constructor_types : Around → ℕ → ℕ → ℕ → List Typ
@@ -52,7 +58,7 @@ constructor_types around u c n = payload_types n (payload around.types u c)
 -- ---- calls: what is wanted of so many arguments, how many of them are walked, and what is made of their values
 
 abbrev pub call_aims : Around → Callee → ℕ → Aim → List Aim
-call_aims around (D.Constructor u c) n aim = part_aims (known_arguments aim) (constructor_types around u c n)
+call_aims around (D.Constructor u c) n aim = part_aims (known_arguments around u aim) (constructor_types around u c n)
 call_aims around callee n aim = argument_aims (callee_types around callee)
 
 abbrev pub call_count : Around → Callee → ℕ → ℕ
@@ -61,7 +67,7 @@ call_count around callee n = n
 
 abbrev pub constructed : Around → ℕ → ℕ → ℕ → List Part → Aim → List Indices → Walk Indices
 constructed around k u c args aim is =
-    bind (named_made around u args (known_arguments aim) (constructor_types around u c (length args)) is) (node_ended k is)
+    bind (named_made around u args (known_arguments around u aim) (constructor_types around u c (length args)) is) (node_ended k is)
 
 abbrev pub call_made : Around → Place → ℕ → Callee → List Part → Aim → List Indices → Walk Indices
 call_made around place k (D.Constructor u c) args aim is = constructed around k u c args aim is

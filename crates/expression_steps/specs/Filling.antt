@@ -1,6 +1,6 @@
 -- Holes in the type of a value that is there, which new values of its parts fill (Sail language manual, "Structs", "Vectors").
 use Rattle.std.specs.List.{list_any}
-use Rattle.std.specs.Prelude.{Bool, List, None, Option, Some, false, if◌then◌else◌, length, map, ℕ, [], ◌∷◌}
+use Rattle.std.specs.Prelude.{Bool, List, None, Option, Some, false, if◌then◌else◌, length, map, ℕ, [], ◌∷◌, ◌||◌}
 use Rattle.sail_base.specs.declared.place.Place.{Place}
 use Rattle.sail_types.specs.declared.numbers.Index.{Index}
 use Rattle.sail_types.specs.declared.numbers.Num.{Num}
@@ -48,11 +48,12 @@ each_filled (r ∷ rs) (q ∷ qs) = filled_at r (Some q) ∷ each_filled rs qs
 abbrev pub types_behind : ℕ → List Typ → List Reading → List Indices → List Reading
 types_behind m ts rs is = each_filled rs (types_from m 0 (length rs) ts is)
 
--- the values are of the fields' types, and what the struct was is of the type that it has with them
+-- the values are of the fields' types, and what the struct was is of the type that it has with them: in a hole that is left is only what
+-- never ends
 abbrev pub refilled : Around → Place → List Typ → Indices → ℕ → List Index → List Reading → List Indices → Walk Indices
 refilled around place ts i v js qs is =
     bind (owe_fit place (fits around.types (I.Tuple is) (R.Of (Y.Tuple ts) js (types_without_holes qs)))) (λ t.
-    bind (owe_fit place (fits around.types i (R.Widened (I.Named v js qs)))) (λ u. give (I.Named v js qs)))
+    bind (owe_fit place (fits around.types i (R.Widened (I.Named v js (types_without_holes qs))))) (λ u. give (I.Named v js qs)))
 
 abbrev pub with_filled : Around → Place → List Typ → Indices → List Indices → Indices-F Indices Reading → Walk Indices
 with_filled around place ts i is (W.Named v js rs) = bind next_variable (λ m. refilled around place ts i v js (types_behind m ts rs is) is)
@@ -77,11 +78,11 @@ with_ended around place k u ks i is = bind (with_made around place u ks i is) (n
 abbrev pub put_aim : Reading → Aim
 put_aim r = if has_hole r then Aims.Free else aimed Aims.Given r
 
--- items that are all of this type
+-- items that are all of this type, which is what the new one says where it had a hole
 abbrev pub items_filled : Around → Place → Indices → Num → Indices → Reading → Walk Indices
 items_filled around place i n j q =
     bind (owe_fit place (fits around.types j (without_holes q))) (λ t.
-    bind (owe_fit place (fits around.types i (R.Widened (I.Vector n q)))) (λ u. give (I.Vector n q)))
+    bind (owe_fit place (fits around.types i (R.Widened (I.Vector n (without_holes q))))) (λ u. give (I.Vector n q)))
 
 abbrev pub part_holed : Around → Place → Indices → Reading → Indices → Indices-F Indices Reading → Walk Indices
 part_holed around place i r j (W.Vector n s) = items_filled around place i n j (filled_or r (widened j))
@@ -90,9 +91,9 @@ part_holed around place i r j form = bind (owe_fit place (fits around.types j (w
 abbrev pub part_behind : Around → Place → Indices → Reading → Indices → Walk Indices
 part_behind around place i r j = if has_hole r then part_holed around place i r j (out-Indices i) else give i
 
--- a value, in which this one is put at such a part
+-- a value, in which this one is put at such a part: what has a hole isn't owed as it is
 abbrev pub part_put : Around → Place → Bool → Indices → Reached → Indices → Walk Indices
-part_put around place is_nested i x j = bind (owe_part around place x is_nested j) (λ t. part_behind around place i x.typ j)
+part_put around place is_nested i x j = bind (owe_part around place x (has_hole x.typ || is_nested) j) (λ t. part_behind around place i x.typ j)
 
 -- which the node of a number makes of these
 abbrev pub put_ended : Around → Place → ℕ → Bool → Indices → Reached → Indices → Walk Indices

@@ -1,6 +1,6 @@
 -- Values that are made of parts, and parts of values (Sail language manual, "Vectors", "Lists", "Structs", "Bitvectors").
 use Rattle.std.specs.Prelude.{Bool, List, None, Option, Some, drop, false, if◌then◌else◌, length, map, nat_eq, nat_lt, pos, replicate, suc}
-use Rattle.std.specs.Prelude.{take, zero, ℕ, [], ◌∷◌}
+use Rattle.std.specs.Prelude.{take, zero, ℕ, [], ◌&&◌, ◌∷◌, ◌-◌}
 use Rattle.sail_base.specs.declared.place.Place.{Place}
 use Rattle.sail_types.specs.Sums.{constant}
 use Rattle.sail_types.specs.declared.numbers.Index.{Index}
@@ -21,12 +21,12 @@ use Rattle.value_fits.specs.Fitting.{fits, item_fits, owe_fit}
 use Rattle.wide_types.specs.Widening.{filled}
 use Rattle.pattern_leaves.specs.Settings.{Around, Scope}
 use Rattle.call_arguments.specs.Aims.{aimed, each_under, item_type, of_wanted, part_types, wanted}
-use Rattle.call_arguments.specs.Holes.{has_hole}
+use Rattle.call_arguments.specs.Holes.{has_hole, without_holes}
 use Rattle.call_notes.specs.Ends.{any_never, never_value, sized, wrong_value}
 use Rattle.call_notes.specs.Noted.{node_ended}
 use Rattle.call_arguments.specs.declared.aims.Aim.{Aim}
 use Rattle.call_arguments.specs.declared.aims.Aim.TheVariants as Aims
-use Rattle.expression_forms.specs.Ways.{fields_of, if_never_value, into_field, into_item, into_slice, suffix_read, with_width}
+use Rattle.expression_forms.specs.Ways.{fields_of, if_never_value, into_field, into_item, into_slice, is_struct, suffix_read, with_width}
 use Rattle.expression_forms.specs.declared.ways.Ends.{Ends}
 use Rattle.expression_forms.specs.declared.ways.Reached.{Reached}
 use Rattle.expression_steps.specs.Calls.{named_made, part_aims}
@@ -65,7 +65,7 @@ abbrev pub items_like : List Part → Around → Scope → Reading → Walk (Lis
 items_like [] around scope r = give []
 items_like (a ∷ items) around scope r = bind (item_like a around scope r) (λ i. bind (items_like items around scope r) (λ is. give (i ∷ is)))
 
--- holes in it take what the literal's shape says
+-- holes in it take what the literal's shape says; in one that is left is only what never ends
 abbrev pub filled_here : Around → Shape → Indices → Walk Reading
 filled_here around shape i = bind next_variable (λ m. filled around.types m shape i)
 
@@ -75,7 +75,7 @@ Row = Reading × List Indices
 
 abbrev pub first_like : List Part → Around → Scope → Place → Indices → Reading → Walk Row
 first_like items around scope place i r =
-    bind (item_owed around place r i) (λ t. bind (items_like items around scope r) (λ is. give (r, i ∷ is)))
+    bind (item_owed around place (without_holes r) i) (λ t. bind (items_like items around scope (without_holes r)) (λ is. give (r, i ∷ is)))
 
 abbrev pub first_free : Part → List Part → Around → Scope → Shape → Walk Row
 first_free a items around scope shape =
@@ -132,11 +132,11 @@ cons_due k a b around scope r =
     bind (b.walk around scope (Aims.Due (R.Widened (I.List r)))) (λ j. node_ended k (i ∷ j ∷ []) (I.List r)))
 
 abbrev pub list_owing : Around → Place → Indices → Reading → Walk Indices
-list_owing around place i r = bind (item_owed around place r i) (λ t. give (I.List r))
+list_owing around place i r = bind (item_owed around place (without_holes r) i) (λ t. give (I.List r))
 
 -- of that type, which the items of a list owe too
 abbrev pub list_like : Around → Place → Indices → Reading → Reading → Walk Indices
-list_like around place i r q = bind (owe_fit place (item_fits (fits around.types) r q)) (λ t. list_owing around place i q)
+list_like around place i r q = bind (owe_fit place (item_fits (fits around.types) r (without_holes q))) (λ t. list_owing around place i q)
 
 -- a hole in the type of the items is filled by what stands before them, and by the shape
 abbrev pub cons_filled : Around → Shape → Place → Indices → Reading → Walk Indices
@@ -187,12 +187,19 @@ due_aims rs = map (aimed Aims.Due) rs
 abbrev pub new_aims : List Typ → List Index → List Reading → List Aim
 new_aims ts is rs = if any_holed rs then part_aims None ts else due_aims (each_under is rs ts)
 
--- if the value is of this struct
-abbrev pub with_aims : Around → ℕ → List ℕ → Indices-F Indices Reading → Option (List Aim)
-with_aims around u ks (W.Named v is rs) = if nat_eq u v then Some (new_aims (fields_of around u ks) is rs) else None
-with_aims around u ks form = None
+-- whether each of these fields is there, of these types, and one of so many values for it
+abbrev pub one_for_each : List ℕ → List Typ → ℕ → Bool
+one_for_each ks ts n = nat_eq (length ks) (length ts) && nat_eq n (length ts)
 
--- what a value gives that is not of this struct
+abbrev pub some_aims : List ℕ → List Typ → ℕ → List Index → List Reading → Option (List Aim)
+some_aims ks ts n is rs = if one_for_each ks ts n then Some (new_aims ts is rs) else None
+
+-- of so many, if the value is of this struct
+abbrev pub with_aims : Around → ℕ → List ℕ → ℕ → Indices-F Indices Reading → Option (List Aim)
+with_aims around u ks n (W.Named v is rs) = if is_struct around u v rs then some_aims ks (fields_of around u ks) n is rs else None
+with_aims around u ks n form = None
+
+-- what a value gives that is not of this struct, or not with so many values
 abbrev pub no_struct : Place → Indices-F Indices Reading → Walk Indices
 no_struct place W.Never = never_value
 no_struct place form = wrong_value place
@@ -204,7 +211,7 @@ with_behind place k u ks parts around scope i (Some aims) =
 
 abbrev pub with_walk : Place → ℕ → ℕ → List ℕ → Part → List Part → Around → Scope → Walk Indices
 with_walk place k u ks a parts around scope =
-    bind (a.walk around scope Aims.Free) (λ i. with_behind place k u ks parts around scope i (with_aims around u ks (out-Indices i)))
+    bind (a.walk around scope Aims.Free) (λ i. with_behind place k u ks parts around scope i (with_aims around u ks (length parts) (out-Indices i)))
 
 -- ---- ways into a value
 
@@ -281,13 +288,22 @@ abbrev pub value_on : Option Passed → Walk Indices
 value_on None = never_value
 value_on (Some w) = give w.value
 
-abbrev pub part_walk : List Suffix → Part → List Part → Around → Scope → Walk Indices
-part_walk ss a parts around scope =
-    bind (a.walk around scope Aims.Free) (λ i. bind (suffixes_walk false ss around scope parts i) value_on)
+-- how many of so many indexes are left behind those that suffixes take
+abbrev pub left_after : List Suffix → ℕ → ℕ
+left_after [] n = n
+left_after (s ∷ ss) n = left_after ss (n - indexes_of s.way)
 
-abbrev pub part_forms : List Suffix → List Part → Around → Scope → Walk Indices
-part_forms ss [] around scope = never_value
-part_forms ss (a ∷ parts) around scope = part_walk ss a parts around scope
+-- a value has no more indexes than its suffixes take, unless it never ends
+abbrev pub suffixed : Place → List Suffix → List Part → Around → Scope → Indices → Walk Indices
+suffixed place ss parts around scope i =
+    if nat_eq (left_after ss (length parts)) 0 then bind (suffixes_walk false ss around scope parts i) value_on else if_never_value place i
+
+abbrev pub part_walk : Place → List Suffix → Part → List Part → Around → Scope → Walk Indices
+part_walk place ss a parts around scope = bind (a.walk around scope Aims.Free) (suffixed place ss parts around scope)
+
+abbrev pub part_forms : Place → List Suffix → List Part → Around → Scope → Walk Indices
+part_forms place ss [] around scope = wrong_value place
+part_forms place ss (a ∷ parts) around scope = part_walk place ss a parts around scope
 
 -- ---- `[v with i = e]`, `[v with h .. l = e]`
 

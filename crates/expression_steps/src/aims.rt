@@ -1,16 +1,18 @@
 //! What is wanted of the parts of an expression, and the names that it binds.
-ghost use Rattle.std.specs.Prelude.{◌≡◌, [], ◌∷◌, map, replicate, IfOk};
+ghost use Rattle.std.specs.Prelude.{◌≡◌, [], ◌∷◌, map, replicate, None, IfOk};
 ghost use Rattle.std.specs.Option.{option_copied};
 ghost use Rattle.value_indices.specs.declared.indices.Indices.TheVariants as I;
 ghost use Rattle.value_indices.specs.declared.indices.Reading.TheVariants as R;
 ghost use Rattle.pattern_leaves.specs.Settings.{around_of};
 ghost use Rattle.call_arguments.specs.Aims.{aimed, each_under, is_hole as is_hole_of, of_wanted, part_types as part_types_of};
+ghost use Rattle.call_arguments.specs.Aims.{type_arguments as type_arguments_of};
 ghost use Rattle.call_arguments.specs.declared.aims.Aim.TheVariants as Aims;
 ghost use Rattle.expression_steps.specs.Calls as call_spec;
 ghost use Rattle.expression_steps.specs.Expressions as spec;
 ghost use Rattle.expression_steps.specs.Statements as statement_spec;
 ghost use Rattle.expression_steps.specs.Values as value_spec;
 
+use call_arguments::type_parameters;
 use call_notes::{Aim, argument_aim, item_type, part_aim, part_types, type_arguments, under};
 use pattern_leaves::{Around, Bound, written_in};
 use sail_base::{Boxed, Items};
@@ -18,6 +20,7 @@ use sail_core::Written;
 use sail_types::{Index, Num, Typ};
 use std::alloc::{AllocError, Global};
 use value_indices::{Indices, Reading, copy_reading, largest_num};
+use wide_types::parameters_of;
 
 /// What is wanted of arguments for parameters of these types. It fails where memory is wanting, and where binders are too many.
 pub fn argument_aims(alloc: Global, types: &[Typ]) -> Result<Items<Aim>, AllocError>
@@ -46,17 +49,48 @@ pub(crate) fn part_aims(
     Ok(made)
 }
 
-/// The Type arguments of the union that is wanted; none where none is. It fails where memory is wanting.
-pub(crate) fn known_arguments(
+/// The Type arguments of a type that is wanted; none where none is. It fails where memory is wanting.
+fn wanted_arguments(
     alloc: Global,
-    aim: &Aim,
+    wanted: Option<&Reading>,
 ) -> Result<Option<Items<Reading>>, AllocError>
-    ensures { IfOk result (λ made. made ≡ call_spec.known_arguments aim.now) }
+    ensures { IfOk result (λ made. made ≡ of_wanted None type_arguments_of (option_copied wanted.entry)) }
 {
-    match aim.wanted() {
+    match wanted {
         None => Ok(None),
         Some(wanted) => type_arguments(alloc, wanted),
     }
+}
+
+/// These types, if they are so many.
+fn so_many(count: usize, known: Option<Items<Reading>>) -> Option<Items<Reading>>
+    ensures { result ≡ call_spec.so_many count known }
+{
+    match known {
+        None => None,
+        Some(readings) => {
+            if readings.len() == count {
+                Some(readings)
+            } else {
+                None
+            }
+        }
+    }
+}
+
+/// The Type arguments of the type that is wanted, where a union, by its place in the table, has as many Type variables; else none. It fails
+/// where memory is wanting.
+pub(crate) fn known_arguments(
+    alloc: Global,
+    around: &Around<'_>,
+    union: u32,
+    aim: &Aim,
+) -> Result<Option<Items<Reading>>, AllocError>
+    ensures { IfOk result (λ made. made ≡ call_spec.known_arguments (around_of around.now) union aim.now) }
+{
+    let known = wanted_arguments(alloc, aim.wanted())?;
+    let count = type_parameters(parameters_of(around.types, union));
+    Ok(so_many(count, known))
 }
 
 /// The types of the parts of a tuple that is wanted. It fails where memory is wanting.

@@ -40,7 +40,7 @@ pub(crate) fn call_aims(
 {
     match callee {
         Callee::Constructor(union, constructor) => {
-            let known = known_arguments(alloc, aim)?;
+            let known = known_arguments(alloc, around, union, aim)?;
             let types = constructor_types(around, union, constructor, count);
             part_aims(alloc, &known, types)
         }
@@ -110,7 +110,7 @@ fn constructed(
     ensures walked { OnOk result (walk.seen walking.new ≡ walk.run (call_spec.constructed (around_of around.now) number union constructor
         (coded.each_part parts.now) aim.now values.now) (walk.seen walking.old)) }
 {
-    let known = known_arguments(alloc, aim)?;
+    let known = known_arguments(alloc, around, union, aim)?;
     let types = constructor_types(around, union, constructor, parts.len());
     let value = named_made(alloc, walking, around, union, parts, &known, types, values)?;
     node_ended(alloc, walking, number, values, value)

@@ -13,7 +13,7 @@ ghost use Rattle.expression_steps.specs.Statements as statement_spec;
 ghost use Rattle.expression_steps.specs.Targets as target_spec;
 ghost use Rattle.expression_steps.specs.Values as value_spec;
 
-use call_arguments::has_hole;
+use call_arguments::{has_hole, without_holes};
 use call_notes::{
     any_never, node_ended, node_given, note_numbers, note_value, owe_value, part_owed, wrong_value,
 };
@@ -206,7 +206,8 @@ pub fn first_item(alloc: Global, value: Indices) -> Result<Items<Indices>, Alloc
     Ok(items)
 }
 
-/// A list of items of this type, which an item owes at its place. It fails where memory is wanting, and where variables are too many.
+/// A list of items of this type, which an item owes at its place; of a hole in it is only what never ends. It fails where memory is
+/// wanting, and where variables are too many.
 #[tactic(auto, using(value_indices::proofs::Walks::walks))]
 fn list_owing(
     alloc: Global,
@@ -221,7 +222,8 @@ fn list_owing(
     ensures walked { OnOk result (walk.seen walking.new
         ≡ walk.run (value_spec.list_owing (around_of around.now) place value.now reading) (walk.seen walking.old)) }
 {
-    owe_item(alloc, walking, around, place, &reading, value)?;
+    let allowed = without_holes(alloc, &reading)?;
+    owe_item(alloc, walking, around, place, &allowed, value)?;
     list_indices(alloc, reading)
 }
 
@@ -242,7 +244,8 @@ fn list_like(
     ensures walked { OnOk result (walk.seen walking.new
         ≡ walk.run (value_spec.list_like (around_of around.now) place value.now item.now reading) (walk.seen walking.old)) }
 {
-    let wanted = Wanted::lent(&reading);
+    let allowed = without_holes(alloc, &reading)?;
+    let wanted = Wanted::lent(&allowed);
     let made = item_fits(alloc, around.types, item, &wanted, walking.next())?;
     owe_fit(alloc, walking, place, made)?;
     list_owing(alloc, walking, around, place, value, reading)

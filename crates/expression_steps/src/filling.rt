@@ -112,10 +112,10 @@ fn refilled(
     let fields = Indices::Tuple(values);
     let wanted = Wanted::Of(&typ, numbers, allowed.as_slice());
     owe_value(alloc, walking, around.types, place, &fields, &wanted)?;
-    let made = Indices::Named(named, copy_numbers(alloc, numbers)?, readings);
-    let wanted = Wanted::Widened(&made);
+    let whole = Indices::Named(named, copy_numbers(alloc, numbers)?, allowed);
+    let wanted = Wanted::Widened(&whole);
     owe_value(alloc, walking, around.types, place, value, &wanted)?;
-    Ok(made)
+    Ok(Indices::Named(named, copy_numbers(alloc, numbers)?, readings))
 }
 
 /// A struct whose type has a hole inside, with new values of fields of these types.
@@ -250,10 +250,10 @@ fn items_filled(
 {
     let allowed = without_holes(alloc, &reading)?;
     owe_item(alloc, walking, around, place, &allowed, new)?;
-    let made = Indices::Vector(copy_num(alloc, length)?, Boxed::new(alloc, reading)?);
-    let wanted = Wanted::Widened(&made);
+    let whole = Indices::Vector(copy_num(alloc, length)?, Boxed::new(alloc, allowed)?);
+    let wanted = Wanted::Widened(&whole);
     owe_value(alloc, walking, around.types, place, value, &wanted)?;
-    Ok(made)
+    Ok(Indices::Vector(copy_num(alloc, length)?, Boxed::new(alloc, reading)?))
 }
 
 /// A value in which a new one is put at a part of this type, which has a hole inside.
@@ -327,7 +327,8 @@ fn part_put(
     ensures walked { OnOk result (walk.seen walking.new
         ≡ walk.run (filling.part_put (around_of around.now) place is_nested value reached.now new.now) (walk.seen walking.old)) }
 {
-    owe_part(alloc, walking, around, place, reached, is_nested, new)?;
+    let owes_later = has_hole(&reached.typ) || is_nested;
+    owe_part(alloc, walking, around, place, reached, owes_later, new)?;
     part_behind(alloc, walking, around, place, value, &reached.typ, new)
 }
 

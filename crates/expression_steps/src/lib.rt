@@ -37,7 +37,7 @@ pub use found::{call_found, part_found, spot_name, spot_register, tuple_found};
 pub use joining::{joined, under_or_not};
 pub use knowing::{goes_inward, is_made, is_nested, makes_value, never_ends, place_of};
 pub use making::{made_aims, made_count, made_end};
-pub use reached::{indexes_of, reach, value_of, way_reached};
+pub use reached::{indexes_of, left_after, reach, value_of, way_reached};
 pub use slices::{behind, first_parts, left_at};
 pub use structs::{no_struct, with_aims};
 pub use ways::{

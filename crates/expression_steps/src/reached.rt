@@ -8,7 +8,7 @@ ghost use Rattle.expression_steps.specs.Values as value_spec;
 
 use expression_forms::{Ends, Reached, into_field, into_item, into_slice, with_width};
 use pattern_leaves::Around;
-use sail_core::Way;
+use sail_core::{Suffix, Way};
 use sail_types::{Num, copy_num};
 use std::alloc::{AllocError, Global};
 use value_indices::{Indices, Walking};
@@ -22,6 +22,17 @@ pub fn indexes_of(way: Way) -> usize
         Way::Item => 1,
         Way::Slice => 2,
     }
+}
+
+/// How many of so many indexes are left behind those that suffixes take.
+pub fn left_after(suffixes: &[Suffix], count: usize) -> usize
+    ensures { result ≡ value_spec.left_after suffixes.now count }
+{
+    let mut left = count;
+    for suffix in suffixes {
+        left = left.saturating_sub(indexes_of(suffix.way));
+    }
+    left
 }
 
 /// The slice of a value between two ends, if there is such a part. It fails where memory is wanting, and where variables are too many.

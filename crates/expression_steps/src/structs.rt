@@ -10,7 +10,7 @@ use crate::aims::{field_aims, part_aims};
 use crate::calls::named_made;
 use crate::filling::any_holed;
 use call_notes::{Aim, node_ended, wrong_value};
-use expression_forms::fields_of;
+use expression_forms::{fields_of, is_struct};
 use pattern_leaves::Around;
 use sail_base::{Items, Place};
 use sail_core::Core;
@@ -93,28 +93,55 @@ fn new_aims(
     }
 }
 
-/// What is wanted of new values of fields of a struct; none of a value that is not of this struct. It fails where memory is wanting, and where
-/// binders are too many.
+/// Whether each of these fields is there, of these types, and one of so many values for it.
+fn one_for_each(fields: &[u32], types: &[Typ], count: usize) -> bool
+    ensures { result ≡ value_spec.one_for_each fields.now types.now count }
+{
+    fields.len() == types.len() && count == types.len()
+}
+
+/// What is wanted of so many new values of these fields, of these types; none where there isn't one for each.
+fn some_aims(
+    alloc: Global,
+    fields: &[u32],
+    types: &[Typ],
+    count: usize,
+    indices: &[Index],
+    readings: &[Reading],
+) -> Result<Option<Items<Aim>>, AllocError>
+    ensures { IfOk result (λ made. made ≡ value_spec.some_aims fields.now types.now count indices.now readings.now) }
+{
+    if one_for_each(fields, types, count) {
+        Ok(Some(new_aims(alloc, types, indices, readings)?))
+    } else {
+        Ok(None)
+    }
+}
+
+/// What is wanted of so many new values of fields of a struct; none of a value that is not of this struct, and where there isn't one for each
+/// field. It fails where memory is wanting, and where binders are too many.
 pub fn with_aims(
     alloc: Global,
     around: &Around<'_>,
     named: u32,
     fields: &[u32],
+    count: usize,
     value: &Indices,
 ) -> Result<Option<Items<Aim>>, AllocError>
-    ensures { IfOk result (λ made. made ≡ value_spec.with_aims (around_of around.now) named fields.now (out-Indices value.now)) }
+    ensures { IfOk result (λ made. made ≡ value_spec.with_aims (around_of around.now) named fields.now count (out-Indices value.now)) }
 {
     match value {
         Indices::Named(own, indices, readings) => {
-            if named == *own {
+            if is_struct(around, named, *own, readings.as_slice()) {
                 let types = fields_of(alloc, around, named, fields)?;
-                let aims = new_aims(
+                some_aims(
                     alloc,
+                    fields,
                     types.as_slice(),
+                    count,
                     indices.as_slice(),
                     readings.as_slice(),
-                )?;
-                Ok(Some(aims))
+                )
             } else {
                 Ok(None)
             }

@@ -25,7 +25,7 @@ use Rattle.value_indices.specs.declared.indices.Indices.TheVariants as I
 use Rattle.value_indices.specs.declared.indices.Reading.{Reading}
 use Rattle.value_indices.specs.declared.indices.Reading.TheVariants as R
 use Rattle.pattern_leaves.specs.Settings.{Around}
-use Rattle.expression_forms.specs.Ways.{field_reached, fields_at, fields_of, into_field, one_typ}
+use Rattle.expression_forms.specs.Ways.{field_reached, fields_at, fields_of, into_field, is_struct, one_typ}
 use Rattle.expression_forms.specs.declared.ways.Reached.{Reached}
 use Rattle.value_laws.specs.Belonging.{asked, closed, closeds, form_holds, has}
 use Rattle.value_laws.proofs.Basics.{no, two}
@@ -193,7 +193,7 @@ module _ (around : Around) (mu : Assignment) (own : List Closed) (u k : ℕ) (is
 
   pub fields_there : into_field around u k (W.Named u is qs) ≡ Some x → There
   fields_there some =
-      by_fields (fields around.types u) refl (own_struct (nat_eq u u) (field_reached (fields_of around u (k ∷ [])) is qs) some)
+      by_fields (fields around.types u) refl (own_struct (is_struct around u u qs) (field_reached (fields_of around u (k ∷ [])) is qs) some)
 
 pub fields_are_there : FieldsAreThere
 fields_are_there around mu own u k is qs v x h some reads = fields_there around mu own u k is qs v x h reads some

@@ -46,7 +46,7 @@ use Rattle.expression_steps.proofs.Rows.{item_got, item_run, items_got, items_ru
 use Rattle.expression_steps.proofs.Spots.{call_got, call_run, one_assigned, call_alone, of_any, part_opens}
 use Rattle.expression_notes.proofs.Spotted.{last_there, none_within_got, spots_onward, spots_stop, none_within_run, part_got, part_run, last_is, kind_opens}
 use Rattle.expression_notes.proofs.Spotted.{absent_alike, spots_ended, stopped_alike}
-use Rattle.expression_notes.proofs.Taken.{never_alike, part_alike, step_alike, stop_alike, taken_got, reached_got, reached_run, updated_got, updated_run}
+use Rattle.expression_notes.proofs.Taken.{never_alike, part_alike, part_left, step_alike, stop_alike, taken_got, reached_got, reached_run, updated_got, updated_run}
 use Rattle.expression_notes.proofs.Taken.{way_opens, few_way, no_way_got, one_value, suffixes_ended, uncounted}
 use Rattle.expression_steps.proofs.Turns.{alone_run, tested_run, turns_got, turns_run}
 use Rattle.expression_steps.proofs.Walked.{each_end, each_more, like_end, like_more}
@@ -162,9 +162,10 @@ pub values::walk_first-returns-in_ok-values-in-len1-up : goal.values::walk_first
 values::walk_first-returns-in_ok-values-in-len1-up t c = let a = c.first-item.result in let is = first_of _ _ c.in-len1-up.len_at_least c.first-item.is in
     let z = c.in_ok-value-in-len1-up.ensures in let r = c.in_ok-reading-in-len1-up.ensures in let owed = c.in_ok-owe_item-in-len1-up.ensures in
     let like = c.in_ok-values-in-len1-up.ensures in let one = c.in_ok-one-in-len1-up.ensures in let here = c.place_of.ensures in
+    let allows = c.in_ok-allowed-in-len1-up.ensures in
     record {
-      value = rw is (items_got (part a) _ _ _ _ _ _ _ _ _ _ _ _ _ _ one here z.value z.walked r.value r.walked owed like.value like.walked);
-      walked = rw is (items_run (part a) _ _ _ _ _ _ _ _ _ _ _ _ _ _ one here z.value z.walked r.value r.walked owed like.value like.walked);
+      value = rw is (items_got (part a) _ _ _ _ _ _ _ _ _ _ _ _ _ _ _ allows one here z.value z.walked r.value r.walked owed like.value like.walked);
+      walked = rw is (items_run (part a) _ _ _ _ _ _ _ _ _ _ _ _ _ _ _ allows one here z.value z.walked r.value r.walked owed like.value like.walked);
     }
 
 pub values::walk_row-returns-in_ok-row : goal.values::walk_row-returns-in_ok-row
@@ -252,14 +253,23 @@ reading::walk_suffixes-returns t c = let same = suffixes_ended (around_of c.args
     record { value = same.value ∙ c.loop-suffix.invariant.value; walked = same.walked ∙ c.loop-suffix.invariant.walked }
 
 pub reading::walk_part-returns-in-empty : goal.reading::walk_part-returns-in-empty
-reading::walk_part-returns-in-empty t c = let none = none_of _ c.in-empty.len_below in let v = seen c.args.walking.now in
-    record { value = rw none (sym (got_give I.Never v)); walked = rw none (sym (run_give {A = Indices} I.Never v)) }
+reading::walk_part-returns-in-empty t c = let none = none_of _ c.in-empty.len_below in
+    record { value = rw none c.wrong_value.ensures.value; walked = rw none c.wrong_value.ensures.walked }
+
+pub reading::walk_part-returns-in_ok-value-in-len1-up : goal.reading::walk_part-returns-in_ok-value-in-len1-up
+reading::walk_part-returns-in_ok-value-in-len1-up t c = let first = first_of _ _ c.in-len1-up.len_at_least c.base-item.is in
+    let same = part_left c.args.place (around_of c.args.around.now) (scope_of c.args.scope.now) c.args.suffixes.now c.base-item.result _ _ _ _
+    c.in_ok-value-in-len1-up.ensures.value c.in_ok-value-in-len1-up.ensures.walked (λ e. c.if-left.true (c.left_after.ensures ∙ e)) in
+    record {
+      value = rw first (value_same _ _ _ same.value c.if_never_value.ensures.value);
+      walked = rw first (walked_same _ _ _ _ same.walked c.if_never_value.ensures.walked);
+    }
 
 pub reading::walk_part-returns-in_ok-found-in-len1-up : goal.reading::walk_part-returns-in_ok-found-in-len1-up
 reading::walk_part-returns-in_ok-found-in-len1-up t c = let first = first_of _ _ c.in-len1-up.len_at_least c.base-item.is in
-    let same = part_alike (around_of c.args.around.now) (scope_of c.args.scope.now) c.args.suffixes.now c.base-item.result _ _ _ _ _ _
-    c.in_ok-value-in-len1-up.ensures.value c.in_ok-value-in-len1-up.ensures.walked c.in_ok-found-in-len1-up.ensures.value
-    c.in_ok-found-in-len1-up.ensures.walked in
+    let same = part_alike c.args.place (around_of c.args.around.now) (scope_of c.args.scope.now) c.args.suffixes.now c.base-item.result _ _ _ _
+    c.in_ok-value-in-len1-up.ensures.value c.in_ok-value-in-len1-up.ensures.walked _ _ (sym c.left_after.ensures ∙ c.if-left.false)
+    c.in_ok-found-in-len1-up.ensures.value c.in_ok-found-in-len1-up.ensures.walked in
     record { value = rw first (c.value_of.ensures ∙ same.value); walked = rw first same.walked }
 
 pub reading::walk_update-returns-in-None : goal.reading::walk_update-returns-in-None
