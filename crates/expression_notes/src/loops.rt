@@ -10,9 +10,9 @@ ghost use Rattle.expression_steps.specs.Statements as statement_spec;
 
 use crate::expressions::walk_expression;
 use crate::parts::{walk_numbers, walk_truth};
-use call_notes::{Aim, wrong_value};
+use call_notes::{Aim, integer_number, wrong_value};
 use expression_forms::Scope;
-use expression_steps::{begin_turn, bounds_of, first_parts, natural_aim};
+use expression_steps::{begin_turn, bounds_of, first_parts, natural_aim, place_of};
 use pattern_leaves::Around;
 use sail_base::{Place, Text};
 use sail_core::{Core, Counting};
@@ -54,6 +54,27 @@ pub(crate) fn walk_foreach(
         }
         _ => wrong_value(alloc, walking, place),
     }
+}
+
+/// A measure, which has to be an integer and not negative, with an end of its own. It fails where memory is wanting, and where variables are
+/// too many.
+#[cycle(walk)]
+fn walk_measure(
+    alloc: Global,
+    walking: &mut Walking,
+    around: &Around<'_>,
+    scope: &Scope<'_>,
+    core: &Core,
+) -> Result<(), AllocError>
+    ensures { OnOk result (walk.seen walking.new ≡ walk.run (statement_spec.measure_walk (part core.now) (around_of around.now)
+        (scope_of scope.now)) (walk.seen walking.old)) }
+{
+    let aim = natural_aim(alloc);
+    walking.remember()?;
+    let value = walk_expression(alloc, walking, around, scope, core, &aim)?;
+    integer_number(alloc, walking, place_of(core), &value)?;
+    walking.restore()?;
+    Ok(())
 }
 
 /// The condition or the body of a turn, with an end of its own; the condition has to be a truth. It fails where memory is wanting, and
@@ -102,10 +123,7 @@ pub(crate) fn walk_loop(
 {
     match parts {
         [measure, first, second] => {
-            let aim = natural_aim(alloc);
-            walking.remember()?;
-            walk_expression(alloc, walking, around, scope, measure, &aim)?;
-            walking.restore()?;
+            walk_measure(alloc, walking, around, scope, measure)?;
             walk_turn(alloc, walking, around, scope, is_while, first)?;
             walk_turn(alloc, walking, around, scope, !is_while, second)?;
             Ok(Indices::Unit)

@@ -13,11 +13,14 @@ use Rattle.value_indices.proofs.Walks.{got_bind, got_give, run_bind, run_give}
 use Rattle.pattern_leaves.specs.Settings.{Around, Scope, bound}
 use Rattle.pattern_leaves.specs.declared.names.Bound.{Bound}
 use Rattle.pattern_leaves.proofs.Walked.{made_got, made_run, then_got, then_run}
+use Rattle.call_arguments.specs.declared.aims.Aim.{Aim}
 use Rattle.call_arguments.specs.declared.aims.Aim.TheVariants as Aims
+use Rattle.call_notes.specs.Ends.{integer_number}
 use Rattle.expression_steps.specs.Coded.{each_part}
 use Rattle.expression_steps.specs.Expressions.{part}
 use Rattle.expression_steps.specs.Parts.{four, numbers_walk, truth_walk}
-use Rattle.expression_steps.specs.Statements.{bounds_of, counted, foreach_walk, step_owed, turn_begun, turn_named, turn_part, turn_walk, turns_walk}
+use Rattle.expression_steps.specs.Statements.{bounds_of, counted, foreach_walk, measure_walk, measured, natural_type, step_owed, turn_begun, turn_named}
+use Rattle.expression_steps.specs.Statements.{turn_part, turn_walk, turns_walk}
 use Rattle.expression_steps.specs.declared.counting.Bounds.{Bounds}
 use Rattle.expression_steps.proofs.Conditions.{scoped_run}
 
@@ -41,21 +44,34 @@ module _ {A B C : Type 0} (a : Walk A) (b : Walk B) (c : Walk C) where
       ∙ sym (run_bind a (λ i. later) v ∙ run_bind b (λ j. last) (run a v) ∙ run_bind c (λ k. give I.Unit) (run b (run a v))
       ∙ run_give I.Unit (run c (run b (run a v))))
 
--- ---- the condition and the body of a turn
+-- ---- the measure, the condition and the body of a turn
+
+-- a walk with an end of its own, of which nothing is kept
+alone : {A : Type 0} (w : Walk A) (v w1 w2 w3 : Written) → w1 ≡ remembering v → w2 ≡ run w w1 → w3 ≡ restored w2
+    → w3 ≡ run (scoped (bind w (λ x. give tt))) v
+alone w v w1 w2 w3 one two three = scoped_run (bind w (λ x. give tt)) v w1 w2 w3 one (made_run w (λ x. tt) w1 w2 two) three
 
 module _ (around : Around) (scope : Scope) (core : Core) (is_condition : Bool) (v w1 w2 w3 : Written) (one : w1 ≡ remembering v)
     (three : w3 ≡ restored w2) where
   pub tested_run : is_condition ≡ true → w2 ≡ run (truth_walk (part core) around scope) w1 → w3 ≡ run (turn_part is_condition (part core) around scope) v
   tested_run is two =
-      scoped_run (bind (truth_walk (part core) around scope) (λ c. give tt)) v w1 w2 w3 one
-      (made_run (truth_walk (part core) around scope) (λ c. tt) w1 w2 two) three
+      alone (truth_walk (part core) around scope) v w1 w2 w3 one two three
       ∙ ap (λ (b : Bool). run (turn_part b (part core) around scope) v) (sym is)
 
   pub alone_run : is_condition ≡ false → w2 ≡ run ((part core).walk around scope Aims.Free) w1 → w3 ≡ run (turn_part is_condition (part core) around scope) v
   alone_run is two =
-      made_run (scoped ((part core).walk around scope Aims.Free)) (λ i. tt) v w3
-      (scoped_run ((part core).walk around scope Aims.Free) v w1 w2 w3 one two three)
+      alone ((part core).walk around scope Aims.Free) v w1 w2 w3 one two three
       ∙ ap (λ (b : Bool). run (turn_part b (part core) around scope) v) (sym is)
+
+module _ (around : Around) (scope : Scope) (core : Core) (aim : Aim) (due : aim ≡ Aims.Due natural_type) (place : Place) (at : place ≡ (part core).place)
+    (i : Indices) (v w1 w2 w3 w4 : Written) where
+  pub measured_run : w1 ≡ remembering v → i ≡ got ((part core).walk around scope aim) w1 → w2 ≡ run ((part core).walk around scope aim) w1
+      → w3 ≡ run (integer_number place i) w2 → w4 ≡ restored w3 → w4 ≡ run (measure_walk (part core) around scope) v
+  measured_run one is two three four =
+      alone (measured (part core) around scope) v w1 w3 w4 one
+      (three ∙ ap (λ (p : Place). run (integer_number p i) w2) at
+      ∙ then_run ((part core).walk around scope (Aims.Due natural_type)) (integer_number (part core).place) w1 w2 i
+      (is ∙ ap (λ (d : Aim). got ((part core).walk around scope d) w1) due) (two ∙ ap (λ (d : Aim). run ((part core).walk around scope d) w1) due)) four
 
 -- ---- two of them, of whatever they give
 

@@ -26,7 +26,7 @@ use Rattle.pattern_leaves.specs.Settings.{Around, Scope, bound, declared, expone
 use Rattle.pattern_leaves.specs.declared.names.Bound.{Bound}
 use Rattle.call_arguments.specs.Aims.{aimed, branch_aim, inner_aim, wanted}
 use Rattle.call_arguments.specs.Holes.{without_holes}
-use Rattle.call_notes.specs.Ends.{never_value, settled, wrong_value}
+use Rattle.call_notes.specs.Ends.{integer_number, never_value, settled, wrong_value}
 use Rattle.call_notes.specs.Noted.{made_opened, node_ended, node_given, numbers_noted}
 use Rattle.call_arguments.specs.declared.aims.Aim.{Aim}
 use Rattle.call_arguments.specs.declared.aims.Aim.TheVariants as Aims
@@ -330,8 +330,13 @@ foreach_walk place name way a b c body around scope =
 abbrev pub natural_type : Reading
 natural_type = R.Of (Y.Range zero_num largest_num) [] []
 
-abbrev pub measure_walk : Part → Around → Scope → Walk Indices
-measure_walk a around scope = scoped (a.walk around scope (Aims.Due natural_type))
+-- a measure, which has to be an integer and not negative
+abbrev pub measured : Part → Around → Scope → Walk (Option Num)
+measured a around scope = bind (a.walk around scope (Aims.Due natural_type)) (integer_number a.place)
+
+-- with an end of its own
+abbrev pub measure_walk : Part → Around → Scope → Walk (Unit {0})
+measure_walk a around scope = scoped (bind (measured a around scope) (λ o. give tt))
 
 -- a condition, which has to be a truth, with an end of its own
 abbrev pub tested_walk : Part → Around → Scope → Walk (Unit {0})
@@ -339,7 +344,7 @@ tested_walk a around scope = scoped (bind (truth_walk a around scope) (λ c. giv
 
 -- a body, of which nothing is wanted, with an end of its own
 abbrev pub alone_walk : Part → Around → Scope → Walk (Unit {0})
-alone_walk a around scope = bind (scoped (a.walk around scope Aims.Free)) (λ i. give tt)
+alone_walk a around scope = scoped (bind (a.walk around scope Aims.Free) (λ i. give tt))
 
 abbrev pub turn_part : Bool → Part → Around → Scope → Walk (Unit {0})
 turn_part is_condition a around scope = if is_condition then tested_walk a around scope else alone_walk a around scope

@@ -1,12 +1,14 @@
 //! Ways that meet others: what each makes known, and what is owed and made where they meet.
-ghost use Rattle.std.specs.Prelude.{◌≡◌, ◌∷◌, [], ◌++◌, is_none, length, take, IfOk, OnOk};
+ghost use Rattle.std.specs.Prelude.{◌≡◌, ◌∷◌, [], ◌++◌, None, is_none, length, take, IfOk, OnOk};
 ghost use Rattle.std.specs.Option.{option_copied};
 ghost use Rattle.value_indices.specs.Walking as walk;
+ghost use Rattle.value_indices.specs.declared.indices.Indices.TheVariants as I;
 ghost use Rattle.pattern_leaves.specs.Settings as settings;
 ghost use Rattle.pattern_leaves.specs.Settings.{around_of};
 ghost use Rattle.call_arguments.specs.Aims.{branch_aim, wanted as wanted_by};
 ghost use Rattle.call_arguments.specs.declared.aims.Aim as aims;
 ghost use Rattle.call_notes.specs.Ends as ends;
+ghost use Rattle.call_notes.specs.Noted as noted;
 ghost use Rattle.expression_steps.specs.Coded as coded;
 ghost use Rattle.expression_steps.specs.Expressions.{part};
 ghost use Rattle.expression_steps.specs.Parts.{Part};
@@ -21,7 +23,7 @@ use sail_base::{Items, Place};
 use sail_core::{Arm, Core};
 use sail_types::{Con, Shape, copy_con};
 use std::alloc::{AllocError, Global};
-use value_indices::{Indices, Walking};
+use value_indices::{Indices, Reading, Walking};
 
 /// A way that meets others.
 #[derive(Clone, Copy)]
@@ -240,9 +242,62 @@ pub fn is_free(aim: &Aim) -> bool
     }
 }
 
-/// The value where ways of this shape meet, of which this is wanted, by the first that ends normally; the node of a number makes it of `()`.
-/// It fails where memory is wanting, and where variables are too many.
+/// The value where ways of this shape meet of which no type is wanted, by the first that ends normally; the node of a number makes it of
+/// `()`. It fails where memory is wanting, and where variables are too many.
 #[tactic(auto, using(value_indices::proofs::Walks::walks))]
+fn made_freely(
+    alloc: Global,
+    walking: &mut Walking,
+    around: &Around<'_>,
+    place: Place,
+    number: u32,
+    shape: &Shape,
+    before: u32,
+    first: Option<&Indices>,
+) -> Result<Indices, AllocError>
+    ensures value { IfOk result (λ made. made ≡ walk.got (statement_spec.met_made (around_of around.now) place number shape.now None before
+        (option_copied first.entry)) (walk.seen walking.old)) }
+    ensures walked { OnOk result (walk.seen walking.new ≡ walk.run (statement_spec.met_made (around_of around.now) place number shape.now None
+        before (option_copied first.entry)) (walk.seen walking.old)) }
+{
+    let nothing = Indices::Unit;
+    let value = met_ways(alloc, walking, around, place, before, shape, first)?;
+    node_ended(
+        alloc,
+        walking,
+        number,
+        std::slice::from_ref(&nothing),
+        value,
+    )
+}
+
+/// The value where ways meet of which this type is wanted, opened; the node of a number makes it of `()`. It fails where memory is wanting,
+/// and where variables are too many.
+#[tactic(auto, using(value_indices::proofs::Walks::walks))]
+fn made_wanted(
+    alloc: Global,
+    walking: &mut Walking,
+    place: Place,
+    number: u32,
+    wanted: &Reading,
+) -> Result<Indices, AllocError>
+    ensures value { IfOk result (λ made. made ≡ walk.got (noted.made_opened place number (I.Unit ∷ []) wanted.now) (walk.seen walking.old)) }
+    ensures walked { OnOk result (walk.seen walking.new ≡ walk.run (noted.made_opened place number (I.Unit ∷ []) wanted.now)
+        (walk.seen walking.old)) }
+{
+    let nothing = Indices::Unit;
+    made_opened(
+        alloc,
+        walking,
+        place,
+        number,
+        std::slice::from_ref(&nothing),
+        wanted,
+    )
+}
+
+/// The value where ways of this shape meet, of which this is wanted, by the first that ends normally, as the node of a number makes it. It
+/// fails where memory is wanting, and where variables are too many.
 fn met_made(
     alloc: Global,
     walking: &mut Walking,
@@ -260,11 +315,8 @@ fn met_made(
         (wanted_by aim.now) before (option_copied first.entry)) (walk.seen walking.old)) }
 {
     match aim.wanted() {
-        None => {
-            let value = met_ways(alloc, walking, around, place, before, shape, first)?;
-            node_ended(alloc, walking, number, &[Indices::Unit], value)
-        }
-        Some(wanted) => made_opened(alloc, walking, place, number, &[Indices::Unit], wanted),
+        None => made_freely(alloc, walking, around, place, number, shape, before, first),
+        Some(wanted) => made_wanted(alloc, walking, place, number, wanted),
     }
 }
 

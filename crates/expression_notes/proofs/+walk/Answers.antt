@@ -27,11 +27,11 @@ use Rattle.expression_steps.specs.Calls.{argument_aims}
 use Rattle.expression_steps.specs.Coded.{aim_or_free, each_part, left_behind, spotted_in, ways_seen, taken_in}
 use Rattle.expression_steps.specs.Expressions.{part}
 use Rattle.expression_steps.specs.Parts.{three, under}
-use Rattle.expression_steps.specs.Statements.{measure_walk, natural_type, joined_under, turn_part}
+use Rattle.expression_steps.specs.Statements.{measure_walk, joined_under, turn_part}
 use Rattle.expression_steps.specs.Targets.{spotting, part_of, tuple_spotted, assigned, assigned_one}
 use Rattle.expression_steps.specs.Values.{Row, taken, no_way}
 use Rattle.expression_notes.proofs.Bindings.{names_alike}
-use Rattle.expression_steps.proofs.Conditions.{value_same, walked_same, scoped_run}
+use Rattle.expression_steps.proofs.Conditions.{value_same, walked_same}
 use Rattle.expression_notes.proofs.JoinLaws.{guarded_alike, joined_alike, none_alike}
 use Rattle.expression_notes.proofs.LeftMasses.{ends_masses, only_target, taken_mass, between, ends_are, cased_masses, tried_masses}
 use Rattle.expression_notes.proofs.MadeLaws.{made_ends, with_values, without}
@@ -48,7 +48,7 @@ use Rattle.expression_notes.proofs.Spotted.{last_there, none_within_got, spots_o
 use Rattle.expression_notes.proofs.Spotted.{absent_alike, spots_ended, stopped_alike}
 use Rattle.expression_notes.proofs.Taken.{never_alike, part_alike, part_left, step_alike, stop_alike, taken_got, reached_got, reached_run, updated_got, updated_run}
 use Rattle.expression_notes.proofs.Taken.{way_opens, few_way, no_way_got, one_value, suffixes_ended, uncounted}
-use Rattle.expression_steps.proofs.Turns.{alone_run, tested_run, turns_got, turns_run}
+use Rattle.expression_steps.proofs.Turns.{alone_run, measured_run, tested_run, turns_got, turns_run}
 use Rattle.expression_steps.proofs.Walked.{each_end, each_more, like_end, like_more}
 use Rattle.expression_notes.proofs.RowLaws.{row_due, row_free}
 use Rattle.expression_notes.proofs.+walk.Goals as goal
@@ -643,6 +643,11 @@ loops::walk_foreach-returns-in_ok-restore-in-Some t c = let n = c.in_ok-numbers-
     c.in_ok-found-in-Some.ensures.walked inside c.in_ok-walk_expression-in-Some.ensures.walked c.in_ok-restore-in-Some.ensures in
     record { value = same.value; walked = same.walked }
 
+pub loops::walk_measure-returns-in_ok-restore : goal.loops::walk_measure-returns-in_ok-restore
+loops::walk_measure-returns-in_ok-restore t c = let value = c.in_ok-value.ensures in
+    measured_run _ _ c.args.core.now _ c.natural_aim-aim.ensures _ c.place_of.ensures _ _ _ _ _ _ c.in_ok-remember.ensures value.value value.walked
+    c.in_ok-integer_number.ensures.walked c.in_ok-restore.ensures
+
 pub loops::walk_turn-returns-in_ok-restore : goal.loops::walk_turn-returns-in_ok-restore
 loops::walk_turn-returns-in_ok-restore t c =
     tested_run _ _ _ _ _ _ _ _ c.in_ok-remember.ensures c.in_ok-restore.ensures c.if-is_condition.true c.in_ok-walk_truth.ensures.walked
@@ -656,12 +661,10 @@ loops::walk_loop-returns-in_ok-walk_turn-in-len3-2 t c = let around = around_of 
     let v = seen c.args.walking.now in let is_while = c.args.is_while in
     let parts = three_of _ _ _ _ c.in-len3.len_at_least c.in-len3.len_below c.measure-item.is c.first-item.is c.second-item.is in
     let m = part c.measure-item.result in let a = part c.first-item.result in let b = part c.second-item.result in
-    let due : seen c.walk_expression.new.walking ≡ run (m.walk around scope (Aims.Due natural_type)) (seen c.remember.new.self) =
-    c.in_ok-walk_expression-in-len3.ensures.walked ∙ ap (λ (aim : Aim). run (m.walk around scope aim) (seen c.remember.new.self)) c.natural_aim-aim.ensures in
-    let one = scoped_run _ _ _ _ _ c.in_ok-remember-in-len3.ensures due c.in_ok-restore-in-len3.ensures in
     record {
       value = rw parts (turns_got (measure_walk m around scope) (turn_part is_while a around scope) (turn_part (not is_while) b around scope) v);
-      walked = rw parts (turns_run _ _ _ _ _ _ _ one c.in_ok-walk_turn-in-len3.ensures c.in_ok-walk_turn-in-len3-2.ensures);
+      walked = rw parts (turns_run _ _ _ _ _ _ _ c.in_ok-walk_measure-in-len3.ensures c.in_ok-walk_turn-in-len3.ensures
+          c.in_ok-walk_turn-in-len3-2.ensures);
     }
 
 -- ---- what calls require: that there is less to walk over

@@ -106,6 +106,9 @@ decreases-branches::walk_cases l = masses l.parts.now + 40
 abbrev pub decreases-loops::walk_foreach : goal.decreases-loops::walk_foreach
 decreases-loops::walk_foreach l = masses l.parts.now + 40
 
+abbrev pub decreases-loops::walk_measure : goal.decreases-loops::walk_measure
+decreases-loops::walk_measure l = mass l.core.now + 4
+
 abbrev pub decreases-loops::walk_turn : goal.decreases-loops::walk_turn
 decreases-loops::walk_turn l = mass l.core.now + 4
 

@@ -11,31 +11,31 @@ use Rattle.expression_steps.proofs.ways.met_made.Goals as goal
 pub returns-in-None-clause-value : goal.returns-in-None-clause-value
 returns-in-None-clause-value c =
     let is : wanted c.args.aim.now ≡ None = sym c.wanted.ensures ∙ ap option_copied c.in-None.is in
-    value_same c.met_ways.result _ _
+    value_same c.made_freely.result _ _
     (ap (λ (r : Option Reading). got (met_made (around_of c.args.around.now) c.args.place c.args.number c.args.shape.now r c.args.before (option_copied
     c.args.first)) (seen c.args.walking.now)) (sym is))
-    c.met_ways.ensures.value
+    c.made_freely.ensures.value
 
 pub returns-in-None-clause-walked : goal.returns-in-None-clause-walked
 returns-in-None-clause-walked c =
     let is : wanted c.args.aim.now ≡ None = sym c.wanted.ensures ∙ ap option_copied c.in-None.is in
-    walked_same c.met_ways.result _ _ _
+    walked_same c.made_freely.result _ _ _
     (ap (λ (r : Option Reading). run (met_made (around_of c.args.around.now) c.args.place c.args.number c.args.shape.now r c.args.before (option_copied
     c.args.first)) (seen c.args.walking.now)) (sym is))
-    c.met_ways.ensures.walked
+    c.made_freely.ensures.walked
 
 pub returns-in-Some-clause-value : goal.returns-in-Some-clause-value
 returns-in-Some-clause-value c =
     let is : wanted c.args.aim.now ≡ Some c.in-Some.wanted.now = sym c.wanted.ensures ∙ ap option_copied c.in-Some.is in
-    value_same c.opened_at.result _ _
+    value_same c.made_wanted.result _ _
     (ap (λ (r : Option Reading). got (met_made (around_of c.args.around.now) c.args.place c.args.number c.args.shape.now r c.args.before (option_copied
     c.args.first)) (seen c.args.walking.now)) (sym is))
-    c.opened_at.ensures.value
+    c.made_wanted.ensures.value
 
 pub returns-in-Some-clause-walked : goal.returns-in-Some-clause-walked
 returns-in-Some-clause-walked c =
     let is : wanted c.args.aim.now ≡ Some c.in-Some.wanted.now = sym c.wanted.ensures ∙ ap option_copied c.in-Some.is in
-    walked_same c.opened_at.result _ _ _
+    walked_same c.made_wanted.result _ _ _
     (ap (λ (r : Option Reading). run (met_made (around_of c.args.around.now) c.args.place c.args.number c.args.shape.now r c.args.before (option_copied
     c.args.first)) (seen c.args.walking.now)) (sym is))
-    c.opened_at.ensures.walked
+    c.made_wanted.ensures.walked
