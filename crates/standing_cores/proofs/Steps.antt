@@ -79,7 +79,7 @@ module _ (within : Within) where
 
   -- ---- cases
 
-  guarded_body : (guard : Option Part) (body : Core) (place : Place) → MaybeFine within guard → Fine body
+  pub guarded_body : (guard : Option Part) (body : Core) (place : Place) → MaybeFine within guard → Fine body
       → (setting : Setting) (ok : Reads within setting) (locals : Locals)
       → is_body (places (guarded_core guard setting locals (cast body place))) ≡ true
   guarded_body None body place h one setting ok locals = cast_body body place one

@@ -1,0 +1,4 @@
+pub mod Numbered
+pub mod Sides
+pub mod Clauses
+pub mod Models
