@@ -21,7 +21,8 @@ use Rattle.fitting_laws.proofs.Counted.{Counts, FitCounts, fits_count, item_coun
 use Rattle.fitting_laws.proofs.Counting.{le_on, le_self}
 use Rattle.call_arguments.specs.Callees.{is_closed}
 use Rattle.call_arguments.specs.Holes.{types_without_holes}
-use Rattle.call_arguments.specs.Placing.{PlaceFit, Placing, TypeFit, ValueForm, also_placing, are_as_many, argument_fits, arguments_fit, arguments_owe, at_place, bits_placed}
+use Rattle.call_arguments.specs.Placing.{PlaceFit, Placing, TypeFit, ValueForm, also_placing, are_as_many, argument_fits, arguments_fit}
+use Rattle.call_arguments.specs.Placing.{arguments_owe, at_place, bits_placed}
 use Rattle.call_arguments.specs.Placing.{bool_placed}
 use Rattle.call_arguments.specs.Placing.{call_conditions, constraint_of, each_placing, form_placing, form_variable, gives_number, int_placed, items_placed}
 use Rattle.call_arguments.specs.Placing.{number_placed, parameter_fits, placing, truth_placed, tuple_placed, type_fits, variable_in, vector_placed}

@@ -36,7 +36,7 @@ use Rattle.text_progress.proofs.TextsGiven.{behind_kind}
 use Rattle.text_progress.proofs.Told.{same_count, signed_kinded}
 use Rattle.call_fits.specs.Calls.{EachHasPlace, among_as, is_bool, placed_as}
 use Rattle.variable_places.specs.Places.{VariablesHavePlaces}
-use Rattle.variable_places.proofs.Kinds.{KindAs, among_kinds, none_past}
+use Rattle.variable_places.proofs.Placed.{KindAs, among_kinds, none_past}
 use Rattle.variable_places.proofs.Told.{told_among}
 
 -- ---- the Int and Bool variables, beside what they stand for

@@ -1,3 +1,3 @@
-pub mod Kinds
+pub mod Placed
 pub mod Told
 pub mod Functions
