@@ -256,10 +256,10 @@ pub reading::walk_part-returns-in-empty : goal.reading::walk_part-returns-in-emp
 reading::walk_part-returns-in-empty t c = let none = none_of _ c.in-empty.len_below in
     record { value = rw none c.wrong_value.ensures.value; walked = rw none c.wrong_value.ensures.walked }
 
-pub reading::walk_part-returns-in_ok-value-in-len1-up : goal.reading::walk_part-returns-in_ok-value-in-len1-up
-reading::walk_part-returns-in_ok-value-in-len1-up t c = let first = first_of _ _ c.in-len1-up.len_at_least c.base-item.is in
+pub reading::walk_part-returns-then-left-ne0 : goal.reading::walk_part-returns-then-left-ne0
+reading::walk_part-returns-then-left-ne0 t c = let first = first_of _ _ c.in-len1-up.len_at_least c.base-item.is in
     let same = part_left c.args.place (around_of c.args.around.now) (scope_of c.args.scope.now) c.args.suffixes.now c.base-item.result _ _ _ _
-    c.in_ok-value-in-len1-up.ensures.value c.in_ok-value-in-len1-up.ensures.walked (λ e. c.if-left.true (c.left_after.ensures ∙ e)) in
+    c.in_ok-value-in-len1-up.ensures.value c.in_ok-value-in-len1-up.ensures.walked (λ e. c.if-left-ne0.true (c.left_after-left.ensures ∙ e)) in
     record {
       value = rw first (value_same _ _ _ same.value c.if_never_value.ensures.value);
       walked = rw first (walked_same _ _ _ _ same.walked c.if_never_value.ensures.walked);
@@ -268,7 +268,7 @@ reading::walk_part-returns-in_ok-value-in-len1-up t c = let first = first_of _ _
 pub reading::walk_part-returns-in_ok-found-in-len1-up : goal.reading::walk_part-returns-in_ok-found-in-len1-up
 reading::walk_part-returns-in_ok-found-in-len1-up t c = let first = first_of _ _ c.in-len1-up.len_at_least c.base-item.is in
     let same = part_alike c.args.place (around_of c.args.around.now) (scope_of c.args.scope.now) c.args.suffixes.now c.base-item.result _ _ _ _
-    c.in_ok-value-in-len1-up.ensures.value c.in_ok-value-in-len1-up.ensures.walked _ _ (sym c.left_after.ensures ∙ c.if-left.false)
+    c.in_ok-value-in-len1-up.ensures.value c.in_ok-value-in-len1-up.ensures.walked _ _ (sym c.left_after-left.ensures ∙ c.if-left-ne0.false)
     c.in_ok-found-in-len1-up.ensures.value c.in_ok-found-in-len1-up.ensures.walked in
     record { value = rw first (c.value_of.ensures ∙ same.value); walked = rw first same.walked }
 
