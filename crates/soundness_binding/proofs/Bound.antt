@@ -1,5 +1,5 @@
 -- `let`, `var` and blocks, beside their runs.
-use Rattle.std.proofs.Common.{◌≡◌, ℕ, Bool, true, false, ◌&&◌, List, [], ◌∷◌, ◌++◌, Option, Some, None, if◌then◌else◌, refl, sym, subst, append_assoc}
+use Rattle.std.proofs.Common.{◌≡◌, ℕ, pos, Bool, true, false, ◌&&◌, List, [], ◌∷◌, ◌++◌, Option, Some, None, if◌then◌else◌, refl, sym, subst, append_assoc}
 use Rattle.sail_base.specs.declared.place.Place.{Place}
 use Rattle.sail_types.specs.Belongs.{Reading as Closed, belongs}
 use Rattle.sail_types.specs.declared.numbers.Con.{Con}
@@ -18,6 +18,8 @@ use Rattle.value_indices.specs.declared.indices.Reading.{Reading}
 use Rattle.value_indices.specs.declared.notes.Fact.{Fact}
 use Rattle.value_indices.specs.declared.notes.Fact.TheVariants as Y
 use Rattle.value_indices.specs.Steps.{Walk, bind, give, went}
+use Rattle.fitting_laws.proofs.Holes.{first_full}
+use Rattle.call_fits.proofs.Filled.{filled_full}
 use Rattle.pattern_leaves.specs.Settings.{Around, Scope, declared, exponents_owed, written_in}
 use Rattle.pattern_leaves.specs.declared.names.Bound.{Bound}
 use Rattle.pattern_notes.specs.Patterns.{arm_written}
@@ -159,20 +161,25 @@ module _ (q : Scene) (w : World Item) where
 
   -- ---- `var`
 
+  -- a type in which no hole is left
+  no_hole_left : (r : Reading) → has_hole (without_holes r) ≡ false
+  no_hole_left r =
+      (first_full (without_holes r) [] (filled_full q.set.around.types (standing q.set.past (λ i. pos 0)) q.work.types (r ∷ []))).0
+
   abbrev IsType : {n : ℕ} → Point n → Reading → Closed → Type 0
   IsType f r t = (g : Integers) → Agree f g → closed q.set.around.types (standing q.set.past g) q.work.types r ≡ t
 
   -- a value under the name of a `var`
   var_runs : {n : ℕ} {f : Point n} {facts : List Fact} (names : List Kept) (falls : Bool) (scope : Scope) (name : List ℕ) (r : Reading) (t : Closed) (x : Item)
-      → Surrounds (at q w names falls) w f scope → IsType f r t → belongs q.set.around.types x.val t ≡ true → {A : Type 0} (k : List Bound → Walk A)
-      (c : Run Item Item) {Holds : (m : ℕ) → Point m → A → Item → Type 0}
+      → Surrounds (at q w names falls) w f scope → IsType f r t → has_hole r ≡ false → belongs q.set.around.types x.val t ≡ true → {A : Type 0}
+      (k : List Bound → Walk A) (c : Run Item Item) {Holds : (m : ℕ) → Point m → A → Item → Type 0}
       → (Surrounds (at q w (is_var name t ∷ names) falls) w f (declared name r ∷ scope)
       → Beside (at q w (is_var name t ∷ names) falls) n f facts (k (declared name r ∷ [])) c Holds)
       → Beside (at q w names falls) n f facts (bind (give (declared name r ∷ [])) k) (within (local name x ∷ []) c) Holds
-  var_runs {n} {f} {facts} names falls scope name r t x there typ is k c next =
+  var_runs {n} {f} {facts} names falls scope name r t x there typ whole is k c next =
       given_then (declared name r ∷ []) k
       (under_names (is_var name t ∷ []) (local name x ∷ []) ((refl, is), tt)
-      (next (surrounds_more (at q w names falls) w f scope (declared name r ∷ []) (is_var name t ∷ []) ((refl, typ), tt) there)))
+      (next (surrounds_more (at q w names falls) w f scope (declared name r ∷ []) (is_var name t ∷ []) ((refl, (typ, whole)), tt) there)))
 
   -- a value that is due at a type
   due_belongs : {n : ℕ} {f : Point n} (cast nested never_ends : Bool) (r : Reading) (i : Indices) (x : Item) → has_hole r ≡ false
@@ -193,7 +200,8 @@ module _ (q : Scene) (w : World Item) where
       (ha.walks names falls no_guard n f facts scope Aims.Free there tt)
       (λ m g fs i x l h.
       let typ = vars_widen q.set q.work m g i x.val h.has in
-      var_runs names falls scope name (without_holes (widened i)) typ.0 x (surrounds_on (at q w names falls) w scope l there) typ.2 typ.1 k c
+      var_runs names falls scope name (without_holes (widened i)) typ.0 x (surrounds_on (at q w names falls) w scope l there) typ.2
+      (no_hole_left (widened i)) typ.1 k c
       (λ there2. next m g fs (without_holes (widened i)) typ.0 l h.ends there2)))
   var_bound {n} {f} {facts} names falls scope name (Some wr) a ra cast ha k c there next =
       let r = written_in (here q) wr in
@@ -208,7 +216,7 @@ module _ (q : Scene) (w : World Item) where
       (λ m2 g2 fs2 i x l2 h.
       let steady = wanted_on q.set q.work r l2 (wanted_on q.set q.work r l wanted) in
       let typ = closed q.set.around.types (standing q.set.past g2.integers) q.work.types r in
-      var_runs names falls scope name r typ x (surrounds_on (at q w names falls) w scope l2 (surrounds_on (at q w names falls) w scope l there)) steady.0
+      var_runs names falls scope name r typ x (surrounds_on (at q w names falls) w scope l2 (surrounds_on (at q w names falls) w scope l there)) steady.0 wanted.1
       (due_belongs cast a.is_nested a.never_ends r i x wanted.1 h g2.integers (same g2)) k c
       (λ there2. next m2 g2 fs2 r typ (later_on l l2) h.ends there2)))))
 

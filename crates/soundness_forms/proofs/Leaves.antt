@@ -107,7 +107,7 @@ module _ (fit : FitsSuffice) (q : Scene) (w : World Item) {n : ℕ} (f : Point n
       (runs_then (named_read place k name r) (λ x. (checked q.set.around.types q.cases).make k [] x.val)
       (needed (λ now. R.held_in name now.locals) {P = λ x. (t : Closed) × (belongs q.set.around.types x.val t ≡ true) × HeldVar q.set q.work f (H.Var r) t}
       (λ now ok. let h = found now ok in (h.0, h.2, (h.1, h.3, h.4))))
-      (λ g x l h. opened_name place k name r x.val h.0 h.1 (λ j a. h.2 j (agree_on l a))))
+      (λ g x l h. opened_name place k name r x.val h.0 h.1 (λ j a. h.2.0 j (agree_on l a))))
 
   pub variable_fine : (name : List ℕ)
       → Beside q n f facts (kind_walk place k (K.Variable name) [] (here q) scope aim)

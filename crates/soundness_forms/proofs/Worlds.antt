@@ -26,7 +26,7 @@ module _ (set : Setting) (work : Work) {n m : ℕ} {f : Point n} {g : Point m} (
 
   var_on : (held : Held) (t : Closed) → HeldVar set work f held t → HeldVar set work g held t
   var_on (H.Value i) t h = h
-  var_on (H.Var r) t h = λ k a. h k (agree_on l a)
+  var_on (H.Var r) t h = ((λ k a. h.0 k (agree_on l a)), h.1)
 
   held_on : (b : Bound) (k : Kept) → IsHeld set work f b k → IsHeld set work g b k
   held_on b (is_value name x) h = (h.0, value_on b.held x h.1)

@@ -111,7 +111,7 @@ module _ (set : Setting) (work : Work) {n : ℕ} (f : Point n) where
 
   abbrev pub HeldVar : Held → Closed → Type 0
   HeldVar (H.Value i) t = ⊥
-  HeldVar (H.Var r) t = (g : Integers) → Agree f g → closed set.around.types (standing set.past g) work.types r ≡ t
+  HeldVar (H.Var r) t = ((g : Integers) → Agree f g → closed set.around.types (standing set.past g) work.types r ≡ t) × (has_hole r ≡ false)
 
   abbrev pub IsHeld : Bound → Kept → Type 0
   IsHeld b (is_value name x) = (name ≡ b.name) × HeldValue b.held x

@@ -126,7 +126,7 @@ module _ (fit : FitsSuffice) (q : Scene) (w : World Item) (place : Place) (p : P
     variable_set {m} {g} {fs} r scope is there y is_so = record {
       run = λ now stands met ok.
           let c = changes q.set q.work g r y
-          (λ t h. ap (belongs q.set.around.types y.val) (sym (h g.integers (same g))) ∙ is_so g.integers (same g)) name scope q.names now.locals there.names
+          (λ t h. ap (belongs q.set.around.types y.val) (sym (h.0 g.integers (same g))) ∙ is_so g.integers (same g)) name scope q.names now.locals there.names
           ok.names is in
           subst (λ o. EndsWell q g m fs (λ b u. Is q.set q.work b I.Unit u) (set_locals (checked q.set.around.types q.cases) now o)) (sym c.1)
           (well_given unit (record now { locals = c.0 }) (record { point = g; later = no_later g; stands = stands; holds = unit_is g })
@@ -140,7 +140,7 @@ module _ (fit : FitsSuffice) (q : Scene) (w : World Item) (place : Place) (p : P
         (λ m g j u. Is q.set q.work g j u)
     held_fine {f} scope there whole (Some (H.Var r)) is h =
         value_fine at k name r (set_variable (checked q.set.around.types q.cases) name) scope there
-        ((λ g a. h.1 g a ∙ sym (h.1 f.integers (same f))), whole r is) (λ m g fs y l b. variable_set r scope is (surrounds_on q w scope l there) y b)
+        ((λ g a. h.1.0 g a ∙ sym (h.1.0 f.integers (same f))), whole r is) (λ m g fs y l b. variable_set r scope is (surrounds_on q w scope l there) y b)
     held_fine scope there whole None is h = wrong_fine at (λ x. made (checked q.set.around.types q.cases) k (x ∷ []) x.val
         then set_variable (checked q.set.around.types q.cases) name) scope there
     held_fine scope there whole (Some (H.Value i)) is h = wrong_fine at (λ x. made (checked q.set.around.types q.cases) k (x ∷ []) x.val
