@@ -53,7 +53,7 @@ use Rattle.soundness_forms.proofs.Basics.{has_there, wrong_alone}
 
 -- ---- the types of truths and integers
 
-truth_sized : (types : Types) (own : List Sized) (g : Integers) (c : Con) → sized types own g (I.Truth c) ≡ S.Bool
+pub truth_sized : (types : Types) (own : List Sized) (g : Integers) (c : Con) → sized types own g (I.Truth c) ≡ S.Bool
 truth_sized types own g c = ap (sized types own g) (sym (I.rolls-Truth c))
     ∙ fold-roll-Indices Sized Sized (indices_sized types own (known g)) (form_reading_sized types own (known g)) (W.Truth c)
 

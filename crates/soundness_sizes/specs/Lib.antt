@@ -1,0 +1,3 @@
+pub mod Own
+pub mod Kinds
+pub mod Laws
