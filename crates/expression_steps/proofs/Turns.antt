@@ -48,8 +48,8 @@ module _ {A B C : Type 0} (a : Walk A) (b : Walk B) (c : Walk C) where
 
 -- a walk with an end of its own, of which nothing is kept
 alone : {A : Type 0} (w : Walk A) (v w1 w2 w3 : Written) → w1 ≡ remembering v → w2 ≡ run w w1 → w3 ≡ restored w2
-    → w3 ≡ run (scoped (bind w (λ x. give tt))) v
-alone w v w1 w2 w3 one two three = scoped_run (bind w (λ x. give tt)) v w1 w2 w3 one (made_run w (λ x. tt) w1 w2 two) three
+    → w3 ≡ run (scoped (bind w (λ x. give (tt {0})))) v
+alone w v w1 w2 w3 one two three = scoped_run (bind w (λ x. give (tt {0}))) v w1 w2 w3 one (made_run w (λ x. tt {0}) w1 w2 two) three
 
 module _ (around : Around) (scope : Scope) (core : Core) (is_condition : Bool) (v w1 w2 w3 : Written) (one : w1 ≡ remembering v)
     (three : w3 ≡ restored w2) where
