@@ -6,12 +6,13 @@ use Rattle.sail_types.specs.declared.numbers.Con.{Con, fold-roll-Con}
 use Rattle.sail_types.specs.declared.numbers.Con.TheOpen as F
 use Rattle.sail_types.specs.declared.numbers.Con.TheVariants as C
 use Rattle.sail_types.specs.declared.shapes.Shape.{Shape}
-use Rattle.sail_core.specs.Making.{World, truth}
-use Rattle.sail_core.specs.Meaning.{kind_meaning}
-use Rattle.sail_core.specs.Run.{Run, if_so, ◌then◌}
+use Rattle.sail_core.specs.Making.{World, made, nothing, truth}
+use Rattle.sail_core.specs.Meaning.{kind_meaning, met_at}
+use Rattle.sail_core.specs.Run.{Run, goes_on, if_so, ◌then◌}
 use Rattle.sail_core.specs.declared.tree.Kind.TheVariants as K
+use Rattle.value_indices.specs.declared.indices.Indices.{Indices}
 use Rattle.value_indices.specs.declared.notes.Fact.{Fact}
-use Rattle.value_indices.specs.Steps.{assume, give}
+use Rattle.value_indices.specs.Steps.{Walk, assume, give}
 use Rattle.pattern_leaves.specs.Settings.{Scope}
 use Rattle.call_arguments.specs.Aims.{branch_aim}
 use Rattle.call_arguments.specs.declared.aims.Aim.{Aim}
@@ -28,14 +29,14 @@ use Rattle.soundness_steps.proofs.Points.{agree_on}
 use Rattle.soundness_steps.specs.Works.{Scene, here}
 use Rattle.soundness_steps.specs.Steps.{Beside, Grows}
 use Rattle.soundness_steps.specs.Values.{AimSteady, Comes, IsTrue}
-use Rattle.soundness_steps.proofs.Steps.{assumes, binds, given_back, means, regrouped, walks_then}
+use Rattle.soundness_steps.proofs.Steps.{assumes, binds, given_back, means, runs_as, walks_then}
 use Rattle.soundness_forms.specs.Forms.{Fine}
-use Rattle.soundness_forms.specs.Joins.{FreeJoining}
+use Rattle.soundness_forms.specs.Joins.{FreeJoining, LeaveNoHole}
 use Rattle.soundness_forms.specs.Worlds.{Surrounds}
 use Rattle.soundness_forms.proofs.Basics.{aim_on, then_walks}
 use Rattle.soundness_forms.proofs.Casts.{comes_is, no_guard}
 use Rattle.soundness_forms.proofs.Growth.{grows_assume, grows_bind}
-use Rattle.soundness_forms.proofs.Joins.{behind_others, joined, joining}
+use Rattle.soundness_forms.proofs.Joins.{behind_others, joined, joining, met_behind_all, then_then, z}
 use Rattle.soundness_forms.proofs.Tests.{TruthIs, truths}
 use Rattle.soundness_forms.proofs.Worlds.{surrounds_on}
 
@@ -74,51 +75,75 @@ and_second : (a b : Bool) → b ≡ false → (a && b) ≡ false
 and_second true b e = e
 and_second false b e = refl
 
-module _ (free : FreeJoining) (q : Scene) (w : World Item) (scope : Scope) (place : Place) (shape : Shape) (a b : Part) (ra rb : Run Item Item)
-    (ha : Fine q w true false a ra) (hb : Fine q w true false b rb) where
-  branches : {n : ℕ} {f : Point n} {facts : List Fact} (aim : Aim) (c : Con) (t : Bool) → Surrounds q w f scope → AimSteady q.set q.work f aim
-      → TruthIs q f (Some c) t
-      → Beside q n f facts (if_under place shape a b (here q) scope aim c)
-      (if_so ((checked q.set.around.types q.cases).inside ra) ((checked q.set.around.types q.cases).inside rb) t)
-      (λ m g i x. Comes q.set q.work g false true (a.never_ends && b.never_ends) aim i x)
-  branches {n} {f} aim c true there st is =
-      let k = joining free q n aim in
-      joined q aim k place shape (if_ways a b (here q) scope aim c) ((checked q.set.around.types q.cases).inside ra) (a.never_ends && b.never_ends) st
-      (means (λ m g o x l e. (e.0, and_first a.never_ends b.never_ends e.1))
-      (behind_others q n aim k a.is_nested [] (way_of a (here q) scope aim c) (way_of b (here q) scope aim (C.Not c) ∷ []) ra None (omega arith) tt
-      (under_grows q w scope b rb true hb (C.Not c) (branch_aim aim), tt) (λ j g l.
-      under_runs q w scope a ra true ha c (branch_aim aim) (surrounds_on q w scope l there) (aim_on q.set q.work (branch_aim aim) l (branch_steady q f aim st))
-      (λ h d. is h (agree_on l d)))))
-  branches {n} {f} aim c false there st is =
-      let k = joining free q n aim in
-      joined q aim k place shape (if_ways a b (here q) scope aim c) ((checked q.set.around.types q.cases).inside rb) (a.never_ends && b.never_ends) st
-      (means (λ m g o x l e. (e.0, and_second a.never_ends b.never_ends e.1))
-      (behind_others q n aim k b.is_nested (way_of a (here q) scope aim c ∷ []) (way_of b (here q) scope aim (C.Not c)) [] rb None (omega arith)
-      (under_grows q w scope a ra true ha c (branch_aim aim), tt) tt (λ j g l.
-      under_runs q w scope b rb true hb (C.Not c) (branch_aim aim) (surrounds_on q w scope l there)
-      (aim_on q.set q.work (branch_aim aim) l (branch_steady q f aim st)) (λ h d. not_is (standing q.set.past h) c ∙ ap not (is h (agree_on l d))))))
+-- the way that is taken
+abbrev pub sides : Scene → Run Item Item → Run Item Item → Bool → Run Item Item
+sides q ra rb = if_so ((z q).inside ra) ((z q).inside rb)
 
-  either_runs : {n : ℕ} {f : Point n} {facts : List Fact} (aim : Aim) (o : Option Con) (t : Bool) → Surrounds q w f scope → AimSteady q.set q.work f aim
+-- behind a condition
+pub tested_first : {q : Scene} {n : ℕ} {f : Point n} {facts : List Fact} {A : Type 0} {v : Walk A} (k : ℕ) (rc ra rb : Run Item Item)
+    {Holds : (m : ℕ) → Point m → A → Item → Type 0}
+    → Beside q n f facts v ((rc then truth (z q)) then λ t. met_at (z q) k (sides q ra rb t)) Holds
+    → Beside q n f facts v (met_at (z q) k (rc then λ x. truth (z q) x then sides q ra rb)) Holds
+tested_first {q} k rc ra rb b =
+    runs_as (λ now. ap (λ d. goes_on d (λ x. made (z q) k (nothing (z q) ∷ []) x.val)) (then_then (rc now) (truth (z q)) (sides q ra rb)))
+    (met_behind_all k (rc then truth (z q)) (sides q ra rb) b)
+
+module _ (free : FreeJoining) (q : Scene) (w : World Item) (scope : Scope) (place : Place) (k : ℕ) (shape : Shape) (a b : Part) (ra rb : Run Item Item)
+    (ha : Fine q w true false a ra) (hb : Fine q w true false b rb) (aim : Aim)
+    (known : (c : Con) → LeaveNoHole q aim (if_ways a b (here q) scope aim c)) where
+  pub then_runs : {n : ℕ} {f : Point n} {facts : List Fact} (c : Con) → Surrounds q w f scope → AimSteady q.set q.work f aim → TruthIs q f (Some c) true
+      → Beside q n f facts (if_under place k shape a b (here q) scope aim c) (met_at (z q) k ((z q).inside ra))
+      (λ m g i x. Comes q.set q.work g false true a.never_ends aim i x)
+  then_runs {n} {f} {facts} c there st is =
+      let join = joining free q n aim in
+      joined q aim join place k shape (if_ways a b (here q) scope aim c) ((z q).inside ra) a.never_ends st
+      (behind_others q n aim join a.is_nested [] (way_of a (here q) scope aim c) (way_of b (here q) scope aim (C.Not c) ∷ []) ra None (omega arith) tt
+      (under_grows q w scope b rb true hb (C.Not c) (branch_aim aim), tt) (known c facts n) (λ j g l.
+      under_runs q w scope a ra true ha c (branch_aim aim) (surrounds_on q w scope l there) (aim_on q.set q.work (branch_aim aim) l (branch_steady q f aim st))
+      (λ h d. is h (agree_on l d))))
+
+  pub else_runs : {n : ℕ} {f : Point n} {facts : List Fact} (c : Con) → Surrounds q w f scope → AimSteady q.set q.work f aim → TruthIs q f (Some c) false
+      → Beside q n f facts (if_under place k shape a b (here q) scope aim c) (met_at (z q) k ((z q).inside rb))
+      (λ m g i x. Comes q.set q.work g false true b.never_ends aim i x)
+  else_runs {n} {f} {facts} c there st is =
+      let join = joining free q n aim in
+      joined q aim join place k shape (if_ways a b (here q) scope aim c) ((z q).inside rb) b.never_ends st
+      (behind_others q n aim join b.is_nested (way_of a (here q) scope aim c ∷ []) (way_of b (here q) scope aim (C.Not c)) [] rb None (omega arith)
+      (under_grows q w scope a ra true ha c (branch_aim aim), tt) tt (known c facts n) (λ j g l.
+      under_runs q w scope b rb true hb (C.Not c) (branch_aim aim) (surrounds_on q w scope l there)
+      (aim_on q.set q.work (branch_aim aim) l (branch_steady q f aim st)) (λ h d. not_is (standing q.set.past h) c ∙ ap not (is h (agree_on l d)))))
+
+  -- the node ends where a branch does
+  ends_so : {n : ℕ} {f : Point n} (one both : Bool) (i : Indices) (x : Item) → Comes q.set q.work f false true one aim i x → both ≡ false
+      → Comes q.set q.work f false true both aim i x
+  ends_so one both i x e h = record { has = e.has; typ = e.typ; met = e.met; ends = h }
+
+  branches : {n : ℕ} {f : Point n} {facts : List Fact} (c : Con) (t : Bool) → Surrounds q w f scope → AimSteady q.set q.work f aim
+      → TruthIs q f (Some c) t → Beside q n f facts (if_under place k shape a b (here q) scope aim c) (met_at (z q) k (sides q ra rb t))
+      (λ m g i x. Comes q.set q.work g false true (a.never_ends && b.never_ends) aim i x)
+  branches c true there st is = means (λ m g i x l e. ends_so a.never_ends (a.never_ends && b.never_ends) i x e (and_first a.never_ends b.never_ends e.ends))
+      (then_runs c there st is)
+  branches c false there st is = means (λ m g i x l e. ends_so b.never_ends (a.never_ends && b.never_ends) i x e (and_second a.never_ends b.never_ends e.ends))
+      (else_runs c there st is)
+
+  either_runs : {n : ℕ} {f : Point n} {facts : List Fact} (o : Option Con) (t : Bool) → Surrounds q w f scope → AimSteady q.set q.work f aim
       → TruthIs q f o t
-      → Beside q n f facts (either_met place shape a b (here q) scope aim o)
-      (if_so ((checked q.set.around.types q.cases).inside ra) ((checked q.set.around.types q.cases).inside rb) t)
+      → Beside q n f facts (either_met place k shape a b (here q) scope aim o) (met_at (z q) k (sides q ra rb t))
       (λ m g e x. Comes q.set q.work g false true (a.never_ends && b.never_ends) aim (value_met e) x)
-  either_runs aim None t there st is = absurd is
-  either_runs aim (Some c) t there st is = then_walks (λ i. give (Some (c, i))) (branches aim c t there st is) (λ m g fs i x l e.
+  either_runs None t there st is = absurd is
+  either_runs (Some c) t there st is = then_walks (λ i. give (Some (c, i))) (branches c t there st is) (λ m g fs i x l e.
       given_back (Some (c, i)) e)
 
-  pub if_fine : {n : ℕ} {f : Point n} {facts : List Fact} (k : ℕ) (aim : Aim) (c : Part) (rc : Run Item Item) → Fine q w false false c rc
+  pub if_fine : {n : ℕ} {f : Point n} {facts : List Fact} (c : Part) (rc : Run Item Item) → Fine q w false false c rc
       → Surrounds q w f scope → AimSteady q.set q.work f aim
       → Beside q n f facts (kind_walk place k (K.If shape) (c ∷ a ∷ b ∷ []) (here q) scope aim)
-      (kind_meaning (checked q.set.around.types q.cases) w place k (K.If shape) (rc ∷ ra ∷ rb ∷ []))
+      (kind_meaning (z q) w place k (K.If shape) (rc ∷ ra ∷ rb ∷ []))
       (λ m g i x. Comes q.set q.work g false true (a.never_ends && b.never_ends) aim i x)
-  if_fine k aim c rc hc there st =
+  if_fine c rc hc there st =
       then_walks (λ i. give i)
       (then_walks (λ e. give (value_met e))
-      (regrouped rc (truth (checked q.set.around.types q.cases))
-      (if_so ((checked q.set.around.types q.cases).inside ra) ((checked q.set.around.types q.cases).inside rb))
-      (binds (either_met place shape a b (here q) scope aim)
-      (if_so ((checked q.set.around.types q.cases).inside ra) ((checked q.set.around.types q.cases).inside rb)) (truth_runs q w scope c rc hc there)
-      (λ m g fs o t l is. either_runs aim o t (surrounds_on q w scope l there) (aim_on q.set q.work aim l st) is)))
+      (tested_first k rc ra rb
+      (binds (either_met place k shape a b (here q) scope aim) (λ t. met_at (z q) k (sides q ra rb t)) (truth_runs q w scope c rc hc there)
+      (λ m g fs o t l is. either_runs o t (surrounds_on q w scope l there) (aim_on q.set q.work aim l st) is)))
       (λ m g fs e x l d. given_back (value_met e) d))
       (λ m g fs i x l d. given_back i d)

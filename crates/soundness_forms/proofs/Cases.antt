@@ -5,13 +5,13 @@ use Rattle.sail_base.specs.declared.place.Place.{Place}
 use Rattle.sail_types.specs.declared.shapes.Shape.{Shape}
 use Rattle.model_state.specs.declared.cause.Cause.TheVariants.{MatchFailure}
 use Rattle.sail_core.specs.Making.{World}
-use Rattle.sail_core.specs.Meaning.{arm_taken, first_of, kind_meaning}
+use Rattle.sail_core.specs.Meaning.{arm_taken, first_of, kind_meaning, met_at}
 use Rattle.sail_core.specs.Run.{Now, Run, stops, within, ◌then◌}
 use Rattle.sail_core.specs.declared.patterns.Arm.{Arm}
 use Rattle.sail_core.specs.declared.tree.Kind.TheVariants as K
 use Rattle.value_indices.specs.declared.indices.Indices.{Indices}
 use Rattle.value_indices.specs.declared.notes.Fact.{Fact}
-use Rattle.value_indices.specs.Steps.{give}
+use Rattle.value_indices.specs.Steps.{bind, give, scoped}
 use Rattle.pattern_leaves.specs.Settings.{Scope}
 use Rattle.pattern_notes.specs.Patterns.{arm_match}
 use Rattle.call_arguments.specs.Aims.{branch_aim, wanted}
@@ -30,14 +30,14 @@ use Rattle.soundness_steps.specs.Values.{AimSteady, Comes, Is}
 use Rattle.soundness_steps.proofs.Scenes.{falling, or_well, under_names}
 use Rattle.soundness_steps.proofs.Steps.{binds, given_back, means}
 use Rattle.soundness_forms.specs.Forms.{Fine}
-use Rattle.soundness_forms.specs.Joins.{AllGrow, FreeJoining, Joining}
+use Rattle.soundness_forms.specs.Joins.{AllGrow, FreeJoining, Joining, LeaveNoHole, Whole}
 use Rattle.soundness_forms.specs.Patterns.{AllMatch, ArmMatches}
 use Rattle.soundness_forms.specs.Worlds.{Surrounds}
 use Rattle.soundness_forms.proofs.Basics.{aim_on, is_on, then_walks}
 use Rattle.soundness_forms.proofs.Branches.{branch_steady}
 use Rattle.soundness_forms.proofs.Casts.{free_is, no_guard}
 use Rattle.soundness_forms.proofs.Growth.{grows_bind}
-use Rattle.soundness_forms.proofs.Joins.{joined, joining, runs_over}
+use Rattle.soundness_forms.proofs.Joins.{joined, joining, met_behind_all, runs_over, z}
 use Rattle.soundness_forms.proofs.Worlds.{surrounds_falling, surrounds_more, surrounds_on}
 
 module _ (q : Scene) (w : World Item) where
@@ -88,22 +88,25 @@ module _ (q : Scene) (w : World Item) (grows : ArmsGrow q w) (scope : Scope) (pl
   -- the first case that is taken
   pub cases_run : (m : ℕ) (k : Joining q m aim) (none : Run Item Item) → NoneEnds none
       → (arms : List Arm) (ps : List Part) (rs : List (Run Item Item)) → AllMatch (falling q) w arms → Bodies q w arms ps rs
-      → {n : ℕ} {f : Point n} {facts : List Fact} (first : Option Indices) → m ≤ n → Surrounds q w f scope → AimSteady q.set q.work f aim
-      → Is q.set q.work f i x
+      → {n : ℕ} {f : Point n} {facts : List Fact} (first : Option Indices) → m ≤ n
+      → Whole aim (each_way (here q) (is_none (wanted aim)) m (case_ways place arms ps (here q) scope aim i) first facts n).value
+      → Surrounds q w f scope → AimSteady q.set q.work f aim → Is q.set q.work f i x
       → Beside q n f facts (each_way (here q) (is_none (wanted aim)) m (case_ways place arms ps (here q) scope aim i) first)
       (first_of (checked q.set.around.types q.cases) w arms rs none (x ∷ [])) (λ j g o y. k.Met j g o y × (false ≡ false))
-  cases_run m k none ends [] [] [] ms h {n} {f} {facts} first le there st is =
+  unfolding bind scoped give
+  cases_run m k none ends [] [] [] ms h {n} {f} {facts} first le known there st is =
       record { run = λ now stands met ok. ends now ok n f _ _ _ }
-  cases_run m k none ends (arm ∷ arms) (p ∷ ps) (r ∷ rs) ms h {n} {f} {facts} first le there st is =
+  cases_run m k none ends (arm ∷ arms) (p ∷ ps) (r ∷ rs) ms h {n} {f} {facts} first le known there st is =
       let z = checked q.set.around.types q.cases in
       let one = k.taken true p.is_nested (case_way place arm p (here q) scope aim i) (case_ways place arms ps (here q) scope aim i)
-      (arm_taken z w arm r (x ∷ [])) first n f facts le (cases_grow arms ps rs h.1) (case_runs arm p r h.0.0 ms.0 h.0.1 there st is) in
+      (arm_taken z w arm r (x ∷ [])) first n f facts le (cases_grow arms ps rs h.1) known (case_runs arm p r h.0.0 ms.0 h.0.1 there st is) in
       let more = runs_over {q = q} (each_way (here q) (is_none (wanted aim)) m (case_ways place arms ps (here q) scope aim i))
       (λ d. first_behind (is_none (wanted aim)) p.never_ends first d)
       (way_behind (here q) (is_none (wanted aim)) m (case_way place arm p (here q) scope aim i) first)
       (k.grows (case_way place arm p (here q) scope aim i) first (case_grows arm p r true h.0.0 h.0.1))
-      (λ j g o l. cases_run m k none ends arms ps rs ms.1 h.1 o (let on = l.onward in omega (arith, le, on))
-      (surrounds_on q w scope l there) (aim_on q.set q.work aim l st) (is_on l is)) in
+      (λ g l. cases_run m k none ends arms ps rs ms.1 h.1 (first_behind (is_none (wanted aim)) p.never_ends first
+      (way_behind (here q) (is_none (wanted aim)) m (case_way place arm p (here q) scope aim i) first facts n).value)
+      (let on = l.onward in omega (arith, le, on)) known (surrounds_on q w scope l there) (aim_on q.set q.work aim l st) (is_on l is)) in
       record {
         run = λ now stands met ok.
             or_well (λ after. first_of z w arms rs none (x ∷ []) (record after { opened = now.opened }))
@@ -111,28 +114,29 @@ module _ (q : Scene) (w : World Item) (grows : ArmsGrow q w) (scope : Scope) (pl
             { state = ok.state; names = ok.names }))
             (λ after ok2. more.run (record after { opened = now.opened }) stands met (record { state = ok2.state; names = ok2.names }));
       }
-  cases_run m k none ends [] [] (r ∷ rs) ms h first le there st is = absurd h
-  cases_run m k none ends [] (p ∷ ps) rs ms h first le there st is = absurd h
-  cases_run m k none ends (arm ∷ arms) [] rs ms h first le there st is = absurd h
-  cases_run m k none ends (arm ∷ arms) (p ∷ ps) [] ms h first le there st is = absurd h
+  cases_run m k none ends [] [] (r ∷ rs) ms h first le known there st is = absurd h
+  cases_run m k none ends [] (p ∷ ps) rs ms h first le known there st is = absurd h
+  cases_run m k none ends (arm ∷ arms) [] rs ms h first le known there st is = absurd h
+  cases_run m k none ends (arm ∷ arms) (p ∷ ps) [] ms h first le known there st is = absurd h
 
 -- ---- `match`
 
 module _ (free : FreeJoining) (q : Scene) (w : World Item) (grows : ArmsGrow q w) (scope : Scope) (place : Place) (shape : Shape) where
   pub match_fine : {n : ℕ} {f : Point n} {facts : List Fact} (k : ℕ) (aim : Aim) (arms : List Arm) (a : Part) (ra : Run Item Item) (ps : List Part)
       (rs : List (Run Item Item)) (cast : Bool) → Fine q w cast false a ra → AllMatch (falling q) w arms → Bodies q w arms ps rs
-      → Surrounds q w f scope → AimSteady q.set q.work f aim
+      → ((i : Indices) → LeaveNoHole q aim (case_ways place arms ps (here q) scope aim i)) → Surrounds q w f scope → AimSteady q.set q.work f aim
       → Beside q n f facts (kind_walk place k (K.Match arms shape) (a ∷ ps) (here q) scope aim)
-      (kind_meaning (checked q.set.around.types q.cases) w place k (K.Match arms shape) (ra ∷ rs))
+      (kind_meaning (z q) w place k (K.Match arms shape) (ra ∷ rs))
       (λ m g i x. Comes q.set q.work g false true false aim i x)
-  match_fine {n} {f} {facts} k aim arms a ra ps rs cast ha ms hs there st =
+  match_fine {n} {f} {facts} k aim arms a ra ps rs cast ha ms hs known there st =
       then_walks (λ i. give i)
-      (binds (match_under place shape arms ps (here q) scope aim)
-      (λ x. first_of (checked q.set.around.types q.cases) w arms rs (stops (MatchFailure place)) (x ∷ []))
+      (met_behind_all k ra (λ x. first_of (z q) w arms rs (stops (MatchFailure place)) (x ∷ []))
+      (binds (match_under place k shape arms ps (here q) scope aim)
+      (λ x. met_at (z q) k (first_of (z q) w arms rs (stops (MatchFailure place)) (x ∷ [])))
       (ha.walks q.names q.may_fall no_guard n f facts scope Aims.Free there tt)
-      (λ m g fs i x l c. joined q aim (joining free q m aim) place shape (case_ways place arms ps (here q) scope aim i)
-      (first_of (checked q.set.around.types q.cases) w arms rs (stops (MatchFailure place)) (x ∷ [])) false (aim_on q.set q.work aim l st)
+      (λ m g fs i x l c. joined q aim (joining free q m aim) place k shape (case_ways place arms ps (here q) scope aim i)
+      (first_of (z q) w arms rs (stops (MatchFailure place)) (x ∷ [])) false (aim_on q.set q.work aim l st)
       (cases_run q w grows scope place i x aim m (joining free q m aim) (stops (MatchFailure place)) (λ now ok j h d es holds.
-      well_stopped (MatchFailure place) now) arms ps rs ms hs None (omega arith) (surrounds_on q w scope l there) (aim_on q.set q.work aim l st)
-      (free_is cast a.is_nested a.never_ends i x c))))
+      well_stopped (MatchFailure place) now) arms ps rs ms hs None (omega arith) (known i fs m) (surrounds_on q w scope l there) (aim_on q.set q.work aim l st)
+      (free_is cast a.is_nested a.never_ends i x c)))))
       (λ m g fs i x l d. given_back i d)

@@ -6,6 +6,7 @@ use Rattle.sail_base.specs.declared.place.Place.{Place}
 use Rattle.sail_types.specs.declared.shapes.Shape.{Shape}
 use Rattle.sail_types.specs.declared.table.Types.{Types}
 use Rattle.value_indices.specs.declared.indices.Indices.{Indices}
+use Rattle.value_indices.specs.declared.indices.Indices.TheVariants as I
 use Rattle.value_indices.specs.declared.indices.Naming.TheVariants as M
 use Rattle.value_indices.specs.declared.indices.Reading.{Reading}
 use Rattle.value_indices.specs.declared.notes.Made.TheVariants as Makes
@@ -15,16 +16,16 @@ use Rattle.fitting_laws.proofs.Counted.{Counts}
 use Rattle.wide_types.specs.Widening.{met}
 use Rattle.pattern_leaves.specs.Settings.{Around}
 use Rattle.call_notes.specs.Ends.{opened_at, sized, sized_by}
+use Rattle.call_notes.specs.Noted.{node_ended, node_given, node_made}
 use Rattle.expression_forms.specs.Meeting.{agrees_unless, gives_none, met_ways}
-use Rattle.expression_steps.specs.Statements.{Way, each_way, first_behind, meeting, meeting_from, met_value, one_way, owed_of_first, way_behind}
+use Rattle.expression_steps.specs.Statements.{Way, each_way, first_behind, meeting, meeting_from, met_made, met_value, one_way, owed_of_first}
+use Rattle.expression_steps.specs.Statements.{way_behind}
 use Rattle.soundness_steps.specs.Steps.{Grows}
-use Rattle.soundness_forms.specs.Joins.{AllGrow}
-use Rattle.soundness_forms.proofs.Growth.{grows_bind, grows_give, grows_note, grows_opening, grows_owe_fit, grows_scoped}
+use Rattle.soundness_forms.specs.Joins.{AllGrow, MetGrows}
+use Rattle.soundness_forms.proofs.Growth.{grows_bind, grows_ended, grows_give, grows_given, grows_made, grows_note, grows_opening, grows_owe_fit}
+use Rattle.soundness_forms.proofs.Growth.{grows_scoped}
 
--- what is taken of what is kept of a first way, and of what another owes of it
-abbrev pub MetGrows : Type 0
-MetGrows = (types : Types) (m : ℕ) (shape : Shape) (i : Indices) → Grows (met types m shape i)
-
+-- of what another way owes of a first one
 abbrev pub AgreementCounts : Type 0
 AgreementCounts = (types : Types) (m : ℕ) (none : Bool) (first i : Indices) → Counts (agrees_unless none types m first i)
 
@@ -63,10 +64,13 @@ module _ (met_grows : MetGrows) (agree : AgreementCounts) (around : Around) wher
       (λ j.
       grows_bind (sized place j) (λ t. give j) (grows_note (λ facts. size_note facts place (Makes.ByIndices j))) (λ t. grows_give j))
 
-  value_grows : (place : Place) (shape : Shape) (r : Option Reading) (m : ℕ) (o : Option Indices) → Grows (met_value around place shape r m o)
-  value_grows place shape None m o = met_ways_grow place m shape o
-  value_grows place shape (Some r) m o = opened_grows place r
+  made_grows : (place : Place) (k : ℕ) (shape : Shape) (r : Option Reading) (m : ℕ) (o : Option Indices) → Grows (met_made around place k shape r m o)
+  made_grows place k shape None m o = grows_bind (met_ways around place m shape o) (node_ended k (I.Unit ∷ [])) (met_ways_grow place m shape o)
+      (grows_ended k (I.Unit ∷ []))
+  made_grows place k shape (Some r) m o = grows_bind (node_made k (I.Unit ∷ []) (Makes.ByType r)) (λ t. opened_at place r)
+      (grows_made k (I.Unit ∷ []) (Makes.ByType r)) (λ t. opened_grows place r)
 
-  pub meeting_grows : (place : Place) (shape : Shape) (r : Option Reading) (ws : List Way) → AllGrow ws → Grows (meeting around place shape r ws)
-  meeting_grows place shape r ws h = grows_bind next_variable (meeting_from around place shape r ws) grows_next (λ m.
-      grows_bind (each_way around (is_none r) m ws None) (met_value around place shape r m) (ways_grow (is_none r) m ws None h) (value_grows place shape r m))
+  pub meeting_grows : (place : Place) (k : ℕ) (shape : Shape) (r : Option Reading) (ws : List Way) → AllGrow ws → Grows (meeting around place k shape r ws)
+  meeting_grows place k shape r ws h = grows_bind next_variable (meeting_from around place k shape r ws) grows_next (λ m.
+      grows_bind (each_way around (is_none r) m ws None) (met_value around place k shape r m) (ways_grow (is_none r) m ws None h) (λ o.
+      grows_bind (met_made around place k shape r m o) (node_given k) (made_grows place k shape r m o) (grows_given k)))

@@ -1,10 +1,15 @@
--- Where ways meet: one of them runs, and its value is opened behind all of them.
-use Rattle.std.proofs.Common.{◌≡◌, ◌≤◌, ℕ, Bool, true, false, List, [], ◌∷◌, ◌++◌, Option, None, arith}
+-- Where ways meet: one of them runs, and behind all of them the node makes its value anew.
+use Rattle.std.proofs.Common.{◌≡◌, ◌≤◌, ℕ, Bool, true, false, List, [], ◌∷◌, ◌++◌, Option, None, arith, refl, sym, subst}
 use Rattle.std.specs.Prelude.{is_none}
 use Rattle.sail_base.specs.declared.place.Place.{Place}
 use Rattle.sail_types.specs.declared.shapes.Shape.{Shape}
-use Rattle.sail_core.specs.Run.{Run}
+use Rattle.sail_core.specs.Making.{Making, made, nothing}
+use Rattle.sail_core.specs.Meaning.{met_at}
+use Rattle.sail_core.specs.Run as R
+use Rattle.sail_core.specs.Run.{Ended, Run, gives, goes_on, ◌then◌}
+use Rattle.sail_core.specs.declared.patterns.Literal.TheVariants as L
 use Rattle.value_indices.specs.declared.indices.Indices.{Indices}
+use Rattle.value_indices.specs.declared.indices.Indices.TheVariants as I
 use Rattle.value_indices.specs.declared.indices.Naming.TheVariants as M
 use Rattle.value_indices.specs.declared.indices.Reading.{Reading}
 use Rattle.value_indices.specs.declared.notes.Fact.{Fact}
@@ -15,6 +20,7 @@ use Rattle.call_arguments.specs.Aims.{branch_aim, wanted}
 use Rattle.call_arguments.specs.declared.aims.Aim.{Aim}
 use Rattle.call_arguments.specs.declared.aims.Aim.TheVariants as Aims
 use Rattle.call_notes.specs.Ends.{opened_at}
+use Rattle.call_notes.specs.Noted.{made_opened}
 use Rattle.expression_steps.specs.Statements.{Way, each_way, first_behind, meeting, meeting_from, met_value, one_way, way_behind}
 use Rattle.checked_meaning.specs.Items.{Item}
 use Rattle.checked_meaning.specs.Checked.{checked}
@@ -24,23 +30,34 @@ use Rattle.soundness_steps.proofs.Points.{agree_on, later_on, no_later}
 use Rattle.soundness_steps.specs.Works.{Scene, here}
 use Rattle.soundness_steps.specs.Steps.{Beside, Grows, Walks}
 use Rattle.soundness_steps.specs.Values.{AimSteady, Belongs, Comes, Is, IsMadeAs, IsMet, IsWanted}
-use Rattle.soundness_steps.proofs.Steps.{given_back, grown, grown_later, met_behind, next_is, notes}
-use Rattle.soundness_steps.proofs.Steps.{scopes, stands_on, walks_mean, walks_on, walks_over, well_on}
-use Rattle.soundness_forms.specs.Joins.{AllGrow, FreeJoining, Joining}
+use Rattle.soundness_steps.proofs.Steps.{binds, given_back, grown, grown_later, makes, means, met_behind, next_is, notes, runs_as}
+use Rattle.soundness_steps.proofs.Steps.{scopes, stands_on, walks_on, walks_over, well_on}
+use Rattle.soundness_forms.specs.Joins.{AllGrow, FreeJoining, Joining, LeaveNoHole, Whole}
 use Rattle.soundness_forms.proofs.Basics.{aim_on, opens, then_walks, wanted_on}
+use Rattle.soundness_forms.proofs.Constants.{literal_has, literal_sized}
 use Rattle.soundness_forms.proofs.Growth.{grows_bind, grows_give}
+use Rattle.soundness_forms.proofs.Nodes.{ends_node}
 
 -- a scope that isn't run, and what is given behind it
 pub runs_over : {q : Scene} {n : ℕ} {f : Point n} {facts : List Fact} {A B C D : Type 0} (k : B → Walk C) (h : A → B) {d : Run Item D}
-    {Then : (m : ℕ) → Point m → C → D → Type 0} (w : Walk A) → Grows w → ((m : ℕ) (g : Point m) (b : B) → Later f g → Beside q m g facts (k b) d Then)
+    {Then : (m : ℕ) → Point m → C → D → Type 0} (w : Walk A) → Grows w
+    → ((g : Point (w facts n).next) → Later f g → Beside q (w facts n).next g facts (k (h (w facts n).value)) d Then)
     → Beside q n f facts (bind (bind (scoped w) (λ a. give (h a))) k) d Then
 unfolding bind scoped give
 runs_over {q} {n} {f} {facts} k h w gr next = record {
   run = λ now stands met ok.
       let l = grown_later f (gr.onward facts n) in
-      well_on l ((next (w facts n).next (grown f (gr.onward facts n)) (h (w facts n).value) l).run now (stands_on l stands)
+      well_on l ((next (grown f (gr.onward facts n)) l).run now (stands_on l stands)
       (met_behind q ((w facts n).notes ++ []) _ met) ok);
 }
+
+-- how nodes make values there
+abbrev pub z : Scene → Making Item
+z q = checked q.set.around.types q.cases
+
+-- `()` is of its type
+pub unit_is : (q : Scene) {n : ℕ} (f : Point n) → Is q.set q.work f I.Unit (nothing (z q))
+unit_is q f = record { has = literal_has q.set q.work f L.Unit refl; typ = λ g a. literal_sized q.set.around.types q.work.own g L.Unit }
 
 -- ---- of which a type is wanted
 
@@ -113,6 +130,19 @@ module _ (q : Scene) (m : ℕ) where
             };
       })
 
+  -- the node makes it of `()`, at that type
+  wanted_made : (r : Reading) (place : Place) (k : ℕ) (o : Option Indices) (x : Item) (n : ℕ) (f : Point n) (facts : List Fact)
+      → IsWanted q.set q.work f r → CameTo r n f o x
+      → Beside q n f facts (made_opened place k (I.Unit ∷ []) r) ((z q).make k (nothing (z q) ∷ []) x.val)
+      (λ j g i y. Is q.set q.work g i y × Belongs q.set q.work g r y.val)
+  wanted_made r place k o x n f facts st h =
+      then_walks (λ t. opened_at place r)
+      (makes k (I.Unit ∷ []) (Makes.ByType r) (nothing (z q) ∷ []) x.val ((unit_is q f).typ, tt) h.0) (λ j g fs t y l e.
+      wanted_opened r place o y j g fs (wanted_on q.set q.work r l st) (
+        subst (λ v. Belongs q.set q.work g r v) (sym e.0) (λ i a. h.0 i (agree_on l a)),
+        subst (λ v. IsMadeAs q.set q.work g (Makes.ByType r) v y.typ) (sym e.0) e.1,
+      ))
+
 -- ---- of either kind
 
 pub joining : FreeJoining → (q : Scene) (m : ℕ) (aim : Aim) → Joining q m aim
@@ -120,20 +150,20 @@ joining free q m Aims.Free = free q m
 joining free q m (Aims.Given r) = record {
   grows = behind_grows q m;
   Met = CameTo q m r;
-  taken = λ falls nested w after c first n f facts le. wanted_taken (record q { may_fall = falls }) m r nested w after c first n f facts;
-  opened = λ place shape o x n f facts le st h. wanted_opened q m r place o x n f facts st h;
+  taken = λ falls nested w after c first n f facts le h known. wanted_taken (record q { may_fall = falls }) m r nested w after c first n f facts h;
+  made = λ place k shape o x n f facts le st h. wanted_made q m r place k o x n f facts st h;
 }
 joining free q m (Aims.PartOf r) = record {
   grows = behind_grows q m;
   Met = CameTo q m r;
-  taken = λ falls nested w after c first n f facts le. wanted_taken (record q { may_fall = falls }) m r nested w after c first n f facts;
-  opened = λ place shape o x n f facts le st h. walks_mean (λ j g i y. (y.0, tt)) (wanted_opened q m r place o x n f facts st h);
+  taken = λ falls nested w after c first n f facts le h known. wanted_taken (record q { may_fall = falls }) m r nested w after c first n f facts h;
+  made = λ place k shape o x n f facts le st h. means (λ j g i y l e. (e.0, tt)) (wanted_made q m r place k o x n f facts st h);
 }
 joining free q m (Aims.Due r) = record {
   grows = behind_grows q m;
   Met = CameTo q m r;
-  taken = λ falls nested w after c first n f facts le. wanted_taken (record q { may_fall = falls }) m r nested w after c first n f facts;
-  opened = λ place shape o x n f facts le st h. wanted_opened q m r place o x n f facts st h;
+  taken = λ falls nested w after c first n f facts le h known. wanted_taken (record q { may_fall = falls }) m r nested w after c first n f facts h;
+  made = λ place k shape o x n f facts le st h. wanted_made q m r place k o x n f facts st h;
 }
 
 -- what ways come to, once they are joined
@@ -144,26 +174,54 @@ came q (Aims.Given r) never_ends i x h b e = record { has = h.has; typ = h.typ; 
 came q (Aims.PartOf r) never_ends i x h b e = record { has = h.has; typ = h.typ; met = b; ends = e }
 came q (Aims.Due r) never_ends i x h b e = record { has = h.has; typ = h.typ; met = b; ends = e }
 
-pub joined : (q : Scene) {n : ℕ} {f : Point n} {facts : List Fact} (aim : Aim) (k : Joining q n aim) (place : Place) (shape : Shape) (ws : List Way)
-    (c : Run Item Item)
-    (never_ends : Bool) → AimSteady q.set q.work f aim
-    → Beside q n f facts (each_way (here q) (is_none (wanted aim)) n ws None) c (λ j g o x. k.Met j g o x × (never_ends ≡ false))
-    → Beside q n f facts (meeting (here q) place shape (wanted aim) ws) c (λ m g i x. Comes q.set q.work g false true never_ends aim i x)
-joined q {n} aim k place shape ws c never_ends st h =
-    next_is (meeting_from (here q) place shape (wanted aim) ws)
-    (then_walks (met_value (here q) place shape (wanted aim) n) h (λ m g fs o x l e.
-    walks_mean (λ j p i d. came q aim never_ends i x d.0 d.1 e.1) (k.opened place shape o x m g fs l.onward (aim_on q.set q.work aim l st) e.0)))
+pub joined : (q : Scene) {n : ℕ} {f : Point n} {facts : List Fact} (aim : Aim) (join : Joining q n aim) (place : Place) (k : ℕ) (shape : Shape)
+    (ws : List Way) (c : Run Item Item) (never_ends : Bool) → AimSteady q.set q.work f aim
+    → Beside q n f facts (each_way (here q) (is_none (wanted aim)) n ws None) c (λ j g o x. join.Met j g o x × (never_ends ≡ false))
+    → Beside q n f facts (meeting (here q) place k shape (wanted aim) ws) (met_at (z q) k c)
+    (λ m g i x. Comes q.set q.work g false true never_ends aim i x)
+joined q {n} aim join place k shape ws c never_ends st h =
+    next_is (meeting_from (here q) place k shape (wanted aim) ws)
+    (binds (met_value (here q) place k shape (wanted aim) n) (λ x. made (z q) k (nothing (z q) ∷ []) x.val) h (λ m g fs o x l e.
+    ends_node k (gives x) (λ y. nothing (z q) ∷ []) (λ y. y.val) false true never_ends aim
+    (means (λ j p i y l2 d. came q aim never_ends i y d.0 d.1 e.1)
+    (join.made place k shape o x m g fs l.onward (aim_on q.set q.work aim l st) e.0))))
+
+-- three pieces one behind the other
+pub then_then : {A B C : Type 0} (e : Ended Item A) (k : A → Run Item B) (l : B → Run Item C) → goes_on (goes_on e k) l ≡ goes_on e (λ x. k x then l)
+then_then (R.Gives x now) k l = refl
+then_then (R.No now) k l = refl
+then_then (R.Returns v now) k l = refl
+then_then (R.Throws v now) k l = refl
+then_then (R.Stops cause now) k l = refl
+then_then R.Stuck k l = refl
+
+-- where pieces one behind the other lead to ways, what the node makes is behind the last
+module _ {q : Scene} {n : ℕ} {f : Point n} {facts : List Fact} {A B : Type 0} {w : Walk A} (k : ℕ) (c : Run Item B) (next : B → Run Item Item)
+    {Holds : (m : ℕ) → Point m → A → Item → Type 0} where
+  pub met_behind_all : Beside q n f facts w (c then λ b. met_at (z q) k (next b)) Holds → Beside q n f facts w (met_at (z q) k (c then next)) Holds
+  met_behind_all b = runs_as (λ now. sym (then_then (c now) next (λ x. made (z q) k (nothing (z q) ∷ []) x.val))) b
 
 -- the way that runs, behind others that don't
 pub behind_others : (q : Scene) (m : ℕ) (aim : Aim) (k : Joining q m aim) (nested : Bool) (before : List Way) (w : Way) (after : List Way) (c : Run Item Item)
     {n : ℕ} {f : Point n} {facts : List Fact} (first : Option Indices)
     → m ≤ n → AllGrow before → AllGrow after
+    → Whole aim (each_way (here q) (is_none (wanted aim)) m (before ++ w ∷ after) first facts n).value
     → ((j : ℕ) (g : Point j) → Later f g → Beside q j g facts w.walk c (λ i p d x. Comes q.set q.work p true nested w.never_ends (branch_aim aim) d x))
     → Beside q n f facts (each_way (here q) (is_none (wanted aim)) m (before ++ w ∷ after) first) ((checked q.set.around.types q.cases).inside c)
     (λ j g o x. k.Met j g o x × (w.never_ends ≡ false))
-behind_others q m aim k nested [] w after c {n} {f} {facts} first le h a run =
-    k.taken q.may_fall nested w after c first n f facts le a (run n f (no_later f))
-behind_others q m aim k nested (v ∷ before) w after c first le h a run =
+unfolding bind scoped give
+behind_others q m aim k nested [] w after c {n} {f} {facts} first le h a known run =
+    k.taken q.may_fall nested w after c first n f facts le a known (run n f (no_later f))
+behind_others q m aim k nested (v ∷ before) w after c {n} {f} {facts} first le h a known run =
     runs_over (each_way (here q) (is_none (wanted aim)) m (before ++ w ∷ after)) (λ i. first_behind (is_none (wanted aim)) v.never_ends first i)
-    (way_behind (here q) (is_none (wanted aim)) m v first) (k.grows v first h.0) (λ j g o l.
-    behind_others q m aim k nested before w after c o (let on = l.onward in omega (arith, le, on)) h.1 a (λ i p l2. run i p (later_on l l2)))
+    (way_behind (here q) (is_none (wanted aim)) m v first) (k.grows v first h.0) (λ g l.
+    behind_others q m aim k nested before w after c
+    (first_behind (is_none (wanted aim)) v.never_ends first (way_behind (here q) (is_none (wanted aim)) m v first facts n).value)
+    (let on = l.onward in omega (arith, le, on)) h.1 a known (λ i p l2. run i p (later_on l l2)))
+
+-- what is asked of ways where no type is wanted
+pub any_aim : (q : Scene) (ways : Aim → List Way) → LeaveNoHole q Aims.Free (ways Aims.Free) → (aim : Aim) → LeaveNoHole q aim (ways aim)
+any_aim q ways h Aims.Free = h
+any_aim q ways h (Aims.Given r) = λ facts n. tt
+any_aim q ways h (Aims.PartOf r) = λ facts n. tt
+any_aim q ways h (Aims.Due r) = λ facts n. tt
