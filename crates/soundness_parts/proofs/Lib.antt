@@ -4,8 +4,14 @@ pub mod Indexes
 pub mod Steps
 pub mod Slices
 pub mod SliceSteps
+pub mod NamedTypes
+pub mod FieldSteps
 pub mod Suffixed
 pub mod Updates
+pub mod HoledItems
 pub mod Updated
 pub mod PartGrowth
 pub mod PartKinds
+pub mod WithFields
+pub mod WithFilled
+pub mod WithKinds

@@ -1,5 +1,5 @@
 -- Walks over parts of values: what was in force still is, and variables are counted on.
-use Rattle.std.proofs.Common.{◌∙◌, if◌then◌else◌, ◌++◌, ℕ, zero, suc, Bool, true, false, List, [], ◌∷◌, take, drop, length, nat_lt, Option, Some, None, ap, arith}
+use Rattle.std.proofs.Common.{◌∙◌, if◌then◌else◌, ◌++◌, ℕ, zero, suc, Bool, true, false, List, [], ◌∷◌, take, drop, length, nat_eq, nat_lt, Option, Some, None, ap, arith, ◌||◌}
 use Rattle.std.proofs.lemmas.List.{append_assoc}
 use Rattle.sail_base.specs.declared.place.Place.{Place}
 use Rattle.sail_types.specs.Sums.{variable}
@@ -30,13 +30,13 @@ use Rattle.call_arguments.specs.declared.aims.Aim.{Aim}
 use Rattle.call_arguments.specs.declared.aims.Aim.TheVariants as Aims
 use Rattle.call_notes.specs.Ends.{integer_number, is_never, never_value, number_form, opened_at, sized_by, wrong_value}
 use Rattle.call_notes.specs.Noted.{made_opened, node_ended, node_given, node_made}
-use Rattle.expression_forms.specs.Ways.{ends, indexed, owe_part, part_fits, part_made, slice_width, suffix_read, taken_out, update_operands, with_width}
+use Rattle.expression_forms.specs.Ways.{ends, if_never_value, indexed, owe_part, part_fits, part_made, slice_width, suffix_read, taken_out, update_operands, with_width}
 use Rattle.expression_forms.specs.declared.ways.Ends.{Ends}
 use Rattle.expression_forms.specs.declared.ways.Reached.{Reached}
 use Rattle.expression_steps.specs.Filling.{filled_or, items_filled, part_behind, part_holed, part_put, put_aim, put_ended}
 use Rattle.expression_steps.specs.Parts.{Part, number_before, number_walk, numbers_behind, numbers_walk}
-use Rattle.expression_steps.specs.Values.{Passed, Taken, indexes_of, no_way, numbers_updated, part_walk, passed, reached_by, read_taken}
-use Rattle.expression_steps.specs.Values.{slice_reached, suffix_walk, suffixes_walk, taken, then_on, update_walk, updated, value_on, way_taken, way_walk}
+use Rattle.expression_steps.specs.Values.{Passed, Taken, indexes_of, left_after, no_way, numbers_updated, part_walk, passed, reached_by, read_taken}
+use Rattle.expression_steps.specs.Values.{slice_reached, suffix_walk, suffixed, suffixes_walk, taken, then_on, update_walk, updated, value_on, way_taken, way_walk}
 use Rattle.soundness_steps.specs.Steps.{Grows}
 use Rattle.soundness_forms.proofs.Growth.{grows_assume, grows_bind, grows_ended, grows_fits, grows_give, grows_given, grows_made, grows_note, grows_opening, grows_owe, grows_owe_fit}
 use Rattle.soundness_forms.proofs.Growth.{grows_wrong}
@@ -240,20 +240,25 @@ module _ (around : Around) (scope : Scope) where
   value_on_grows None = grows_give I.Never
   value_on_grows (Some t) = grows_give t.value
 
-  pub part_grows : (ss : List Suffix) (p : Part) (ps : List Part) → AllGrow around scope (p ∷ ps) → Grows (part_walk ss p ps around scope)
-  part_grows ss p ps h =
-      grows_bind (p.walk around scope Aims.Free) (λ i. bind (suffixes_walk false ss around scope ps i) value_on) h.0 (λ i.
-      grows_bind (suffixes_walk false ss around scope ps i) value_on (suffixes_grow ss ps i h.1) value_on_grows)
+  pub part_grows : (place : Place) (ss : List Suffix) (p : Part) (ps : List Part) → AllGrow around scope (p ∷ ps)
+      → Grows (part_walk place ss p ps around scope)
+  part_grows place ss p ps h =
+      grows_bind (p.walk around scope Aims.Free) (suffixed place ss ps around scope) h.0 (λ i. by i (nat_eq (left_after ss (length ps)) 0))
+    where
+      by : (i : Indices) (b : Bool) → Grows (if b then bind (suffixes_walk false ss around scope ps i) value_on else if_never_value place i)
+      by i true = grows_bind (suffixes_walk false ss around scope ps i) value_on (suffixes_grow ss ps i h.1) value_on_grows
+      by i false = if_never_grows place (is_never i)
 
 -- ---- values with another part
 
 module _ (around : Around) (place : Place) where
   filled_grows : (i : Indices) (n : Num) (j : Indices) (r : Reading) → Grows (items_filled around place i n j r)
   filled_grows i n j r =
-      grows_bind (owe_fit place (fits around.types j (without_holes r))) (λ t.
-      bind (owe_fit place (fits around.types i (R.Widened (I.Vector n r)))) (λ u. give (I.Vector n r))) (grows_fits place around.types j (without_holes r))
-      (λ t. grows_bind (owe_fit place (fits around.types i (R.Widened (I.Vector n r)))) (λ u. give (I.Vector n r))
-      (grows_fits place around.types i (R.Widened (I.Vector n r))) (λ u. grows_give (I.Vector n r)))
+      let whole = R.Widened (I.Vector n (without_holes r)) in
+      grows_bind (owe_fit place (fits around.types j (without_holes r))) (λ t. bind (owe_fit place (fits around.types i whole)) (λ u. give (I.Vector n r)))
+      (grows_fits place around.types j (without_holes r)) (λ t.
+      grows_bind (owe_fit place (fits around.types i whole)) (λ u. give (I.Vector n r)) (grows_fits place around.types i whole) (λ u.
+      grows_give (I.Vector n r)))
 
   like_grows : (i : Indices) (r : Reading) (j : Indices) → Grows (bind (owe_fit place (fits around.types j (without_holes r))) (λ t. give i))
   like_grows i r j = grows_bind (owe_fit place (fits around.types j (without_holes r))) (λ t. give i) (grows_fits place around.types j (without_holes r))
@@ -285,8 +290,9 @@ module _ (around : Around) (place : Place) where
   put_grows : (k : ℕ) (nested : Bool) (i : Indices) (x : Reached) (j : Indices) → Grows (put_ended around place k nested i x j)
   put_grows k nested i x j =
       grows_bind (part_put around place nested i x j) (node_ended k (update_operands i x j))
-      (grows_bind (owe_part around place x nested j) (λ t. part_behind around place i x.typ j)
-      (grows_owe_fit place (part_fits around x nested j) (owed_counts x nested j)) (λ t. part_behind_grows i x.typ j (has_hole x.typ)))
+      (grows_bind (owe_part around place x (has_hole x.typ || nested) j) (λ t. part_behind around place i x.typ j)
+      (grows_owe_fit place (part_fits around x (has_hole x.typ || nested) j) (owed_counts x (has_hole x.typ || nested) j))
+      (λ t. part_behind_grows i x.typ j (has_hole x.typ)))
       (grows_ended k (update_operands i x j))
 
   module _ (scope : Scope) (k : ℕ) (c : Part) (h : (aim : Aim) → Grows (c.walk around scope aim)) where

@@ -36,7 +36,6 @@ use Rattle.way_laws.specs.Laws.{AreTrue, HasPart}
 use Rattle.way_laws.proofs.Conditions.{natural_inside, slice_inside}
 use Rattle.way_laws.proofs.Parts.{bits_in, bits_type}
 use Rattle.way_laws.proofs.Slices.{slice_there}
-use Rattle.soundness_steps.proofs.Points.{agree_on}
 use Rattle.soundness_steps.specs.Works.{Scene}
 use Rattle.soundness_steps.specs.Steps.{Beside, Walks}
 use Rattle.soundness_steps.specs.Values.{Is, IsSteady}

@@ -1,8 +1,10 @@
 -- All suffixes behind a value, and the node that they are of.
-use Rattle.std.proofs.Common.{◌≡◌, ℕ, true, false, List, [], ◌∷◌, if◌then◌else◌, length, take, drop, nat_lt, Option, Some, refl, sym, ap, subst, arith}
+use Rattle.std.proofs.Common.{◌≡◌, ◌∙◌, ℕ, Bool, true, false, List, [], ◌∷◌, if◌then◌else◌, length, take, drop, nat_eq, nat_lt, Option, Some, refl}
+use Rattle.std.proofs.Common.{sym, ap, subst, arith}
 use Rattle.std.specs.List.{list_all}
 use Rattle.std.proofs.lemmas.Bool.{and_parts}
-use Rattle.std.proofs.lemmas.Bool.Decides.{nat_tests}
+use Rattle.std.proofs.lemmas.Bool.Decides.{Decides-eqb, nat_tests}
+use Rattle.std.proofs.lemmas.List.{length-drop}
 use Rattle.sail_base.specs.declared.place.Place.{Place}
 use Rattle.sail_core.specs.Making.{World}
 use Rattle.sail_core.specs.Meaning.{kind_meaning, suffix_then, suffixes_of, taken as taken_run}
@@ -19,11 +21,12 @@ use Rattle.pattern_leaves.specs.Settings.{Scope}
 use Rattle.call_arguments.specs.declared.aims.Aim.{Aim}
 use Rattle.call_arguments.specs.declared.aims.Aim.TheVariants as Aims
 use Rattle.call_notes.specs.Ends.{settled}
-use Rattle.expression_forms.specs.Ways.{into_field}
+use Rattle.expression_forms.specs.Ways.{if_never_value, into_field}
 use Rattle.expression_forms.specs.declared.ways.Reached.{Reached as Reach}
 use Rattle.expression_steps.specs.Expressions.{kind_walk, node_end}
 use Rattle.expression_steps.specs.Parts.{Part, numbers_walk}
-use Rattle.expression_steps.specs.Values.{Passed, Taken, indexes_of, no_way, part_walk, passed, read_taken, suffixes_walk, taken, then_on, value_on, way_taken, way_walk}
+use Rattle.expression_steps.specs.Values.{Passed, Taken, indexes_of, left_after, no_way, part_walk, passed, read_taken, suffixed, suffixes_walk, taken}
+use Rattle.expression_steps.specs.Values.{then_on, value_on, way_taken, way_walk}
 use Rattle.checked_meaning.specs.Items.{Item}
 use Rattle.value_laws.specs.Known.{Point}
 use Rattle.soundness_steps.specs.Points.{Later}
@@ -39,10 +42,24 @@ use Rattle.soundness_forms.proofs.Basics.{aim_on, is_on, settles, then_walks, wr
 use Rattle.soundness_forms.proofs.Casts.{comes_is, no_guard}
 use Rattle.soundness_forms.proofs.PlainKinds.{value_fine}
 use Rattle.soundness_forms.proofs.Worlds.{surrounds_on}
-use Rattle.soundness_parts.specs.Suffixes.{FieldsFine, NotMore}
+use Rattle.soundness_values.specs.Named.{TypesNarrow}
+use Rattle.soundness_parts.proofs.FieldSteps.{field_fine}
 use Rattle.soundness_parts.proofs.SliceSteps.{slice_step}
 use Rattle.soundness_parts.proofs.Steps.{item_step}
+use Rattle.soundness_parts.proofs.Suffixes.{unreached}
 use Rattle.soundness_parts.proofs.Taken.{z}
+
+-- ---- no more indexes than the suffixes take
+
+abbrev NotMore : List Suffix → List Part → Type 0
+NotMore [] [] = Unit {0}
+NotMore [] (p ∷ ps) = ⊥
+NotMore (s ∷ ss) ps = NotMore ss (drop (indexes_of s.way) ps)
+
+not_more : (ss : List Suffix) (ps : List Part) → left_after ss (length ps) ≡ 0 → NotMore ss ps
+not_more [] [] e = tt
+not_more [] (p ∷ ps) e = absurd (omega (arith, e))
+not_more (s ∷ ss) ps e = not_more ss (drop (indexes_of s.way) ps) (ap (left_after ss) (length-drop (indexes_of s.way) ps) ∙ e)
 
 -- ---- fewer parts than a suffix takes are wrong
 
@@ -64,7 +81,7 @@ module _ (q : Scene) (w : World Item) (scope : Scope) where
 
   -- ---- a field
 
-  module _ (place : Place) (k : ℕ) (i : Indices) (x : Item) (u c : ℕ) (fields : FieldsFine q) where
+  module _ (place : Place) (k : ℕ) (i : Indices) (x : Item) (u c : ℕ) (narrow : TypesNarrow q.set.around.types) where
     abbrev FieldIs : {n : ℕ} → Point n → List Part → Option Taken → Type 0
     FieldIs g ps o = o ≡ taken (into_field (here q) u c (out-Indices i)) ps
 
@@ -92,12 +109,13 @@ module _ (q : Scene) (w : World Item) (scope : Scope) where
         (walks_then (read_taken false place k i) (field_reached ps) (λ m g fs o l e.
         subst (λ s. Beside q m g fs (read_taken false place k i s) (taken_run (z q) k (field_way u c) x []) (λ j d r v. (b : Indices) × (r ≡ passed ps b) × Is q.set q.work d b v))
         (sym e)
-        (then_walks (λ j. give (passed ps j)) (fields m g fs place k i x u c (is_on l h)) (λ j d gs b v l2 is. given_back (passed ps b) (b, refl, is)))))
+        (then_walks (λ j. give (passed ps j)) (field_fine q fs narrow place k i x u c (is_on l h)) (λ j d gs b v l2 is.
+        given_back (passed ps b) (b, refl, is)))))
         (λ m g fs o v l e. subst (λ s. Beside q m g fs (then_on more s) (runs v) Then) (sym e.1) (next m g fs e.0 v l e.2))
 
   -- ---- suffix after suffix
 
-  module _ (fields : FieldsFine q) where
+  module _ (narrow : TypesNarrow q.set.around.types) where
     -- those behind one
     abbrev Behind : {n : ℕ} → Point n → List Suffix → List Part → List (Run Item Item) → Type 0
     Behind f ss ps rs = (m : ℕ) (g : Point m) (fs : List Fact) (j : Indices) (v : Item) → Later f g → Is q.set q.work g j v
@@ -110,7 +128,7 @@ module _ (q : Scene) (w : World Item) (scope : Scope) where
         (bind (bind (way_walk s.place ps (here q) scope i way) (read_taken false s.place s.number i)) (then_on (suffixes_walk false ss (here q) scope)))
         (suffix_then (z q) s.number way rs x (suffixes_of (z q) ss)) (λ m g o v. Reached g o v)
     suffix_fine s (Y.Field u c) ss ps rs i x fine there h next =
-        field_step s.place s.number i x u c fields ps h (suffixes_walk false ss (here q) scope) (suffixes_of (z q) ss rs) (next rs fine)
+        field_step s.place s.number i x u c narrow ps h (suffixes_walk false ss (here q) scope) (suffixes_of (z q) ss rs) (next rs fine)
     suffix_fine s Y.Item ss (p ∷ ps) (r ∷ rs) i x fine there h next =
         item_step q w scope s.place s.number i x p ps r fine.0 there h (suffixes_walk false ss (here q) scope) (suffixes_of (z q) ss rs) (next rs fine.1)
     suffix_fine s Y.Slice ss (p ∷ b ∷ ps) (r ∷ t ∷ rs) i x fine there h next =
@@ -136,16 +154,26 @@ module _ (q : Scene) (w : World Item) (scope : Scope) where
         suffix_fine s s.way ss ps rs i x fine there h (λ us fines m g fs j v l is.
         suffixes_fine ss (drop (indexes_of s.way) ps) us j v fines few (surrounds_on q w scope l there) is)
 
+    -- behind a value that never ends nothing is asked
+    suffixed_fine : {n : ℕ} {f : Point n} {facts : List Fact} (place : Place) (ss : List Suffix) (ps : List Part) (rs : List (Run Item Item)) (i : Indices)
+        (x : Item) → AllFine q w ps rs → Surrounds q w f scope → Is q.set q.work f i x → (b : Bool) → nat_eq (left_after ss (length ps)) 0 ≡ b
+        → Beside q n f facts (if b then bind (suffixes_walk false ss (here q) scope ps i) value_on else if_never_value place i) (suffixes_of (z q) ss rs x)
+        (λ m g j y. Is q.set q.work g j y)
+    suffixed_fine place ss ps rs i x fines there h true e =
+        let none : left_after ss (length ps) ≡ 0 = (Decides-eqb (left_after ss (length ps)) 0).0 e in
+        then_walks value_on (suffixes_fine ss ps rs i x fines (not_more ss ps none) there h) (λ j d gs o v l2 r.
+        subst (λ s. Walks q j d gs (value_on s) (λ y b u. Is q.set q.work b u v)) (sym r.1) (given_back r.0 r.2))
+    suffixed_fine place ss ps rs i x fines there h false e = unreached place 0 i x h (suffixes_of (z q) ss rs x)
+
     -- a value, and the suffixes behind it
-    pub part_fine : {n : ℕ} {f : Point n} {facts : List Fact} (ss : List Suffix) (p : Part) (ps : List Part) (r : Run Item Item) (rs : List (Run Item Item))
-        → Fine q w false false p r → AllFine q w ps rs → NotMore ss ps → Surrounds q w f scope
-        → Beside q n f facts (part_walk ss p ps (here q) scope) (r then suffixes_of (z q) ss rs) (λ m g i x. Is q.set q.work g i x)
-    part_fine {n} {f} {facts} ss p ps r rs fine fines few there =
-        binds (λ i. bind (suffixes_walk false ss (here q) scope ps i) value_on) (suffixes_of (z q) ss rs)
+    pub part_fine : {n : ℕ} {f : Point n} {facts : List Fact} (place : Place) (ss : List Suffix) (p : Part) (ps : List Part) (r : Run Item Item)
+        (rs : List (Run Item Item)) → Fine q w false false p r → AllFine q w ps rs → Surrounds q w f scope
+        → Beside q n f facts (part_walk place ss p ps (here q) scope) (r then suffixes_of (z q) ss rs) (λ m g i x. Is q.set q.work g i x)
+    part_fine {n} {f} {facts} place ss p ps r rs fine fines there =
+        binds (suffixed place ss ps (here q) scope) (suffixes_of (z q) ss rs)
         (fine.walks q.names q.may_fall no_guard n f facts scope Aims.Free there tt) (λ m g fs i x l c.
-        then_walks value_on
-        (suffixes_fine ss ps rs i x fines few (surrounds_on q w scope l there) (comes_is p.is_nested p.never_ends Aims.Free i x c)) (λ j d gs o v l2 e.
-        subst (λ s. Walks q j d gs (value_on s) (λ y b u. Is q.set q.work b u v)) (sym e.1) (given_back e.0 e.2)))
+        suffixed_fine place ss ps rs i x fines (surrounds_on q w scope l there) (comes_is p.is_nested p.never_ends Aims.Free i x c)
+        (nat_eq (left_after ss (length ps)) 0) refl)
 
 -- ---- as a node
 
@@ -160,13 +188,13 @@ all_values q w [] (p ∷ ps) rs h right = absurd h
 all_values q w (s ∷ ss) [] rs h right = absurd h
 all_values q w (s ∷ ss) (p ∷ ps) [] h right = absurd h
 
-module _ (fit : FitsSuffice) (q : Scene) (w : World Item) (fields : FieldsFine q) where
+module _ (fit : FitsSuffice) (q : Scene) (w : World Item) (narrow : TypesNarrow q.set.around.types) where
   pub part_node : (place : Place) (k : ℕ) (ss : List Suffix) (p : Part) (ps : List Part) (r : Run Item Item) (rs : List (Run Item Item))
-      → Fine q w false false p r → AllFine q w ps rs → NotMore ss ps → {n : ℕ} {f : Point n} {facts : List Fact} (scope : Scope) (aim : Aim)
+      → Fine q w false false p r → AllFine q w ps rs → {n : ℕ} {f : Point n} {facts : List Fact} (scope : Scope) (aim : Aim)
       → Surrounds q w f scope → AimSteady q.set q.work f aim
       → Beside q n f facts (kind_walk place k (K.Part ss) (p ∷ ps) (here q) scope aim) (kind_meaning (z q) w place k (K.Part ss) (r ∷ rs))
       (λ m g i x. Comes q.set q.work g false false false aim i x)
-  part_node place k ss p ps r rs fine fines few scope aim there st =
+  part_node place k ss p ps r rs fine fines scope aim there st =
       then_walks (node_end k false)
-      (then_walks (settled (here q) place aim) (part_fine q w scope fields ss p ps r rs fine fines few there) (λ m g fs i x l h.
+      (then_walks (settled (here q) place aim) (part_fine q w scope narrow place ss p ps r rs fine fines there) (λ m g fs i x l h.
       settles fit place aim i x (aim_on q.set q.work aim l st) h)) (λ m g fs i x l h. given_back i h)

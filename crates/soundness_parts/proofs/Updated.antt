@@ -1,5 +1,5 @@
 -- `[v with i = e]` and `[v with h .. l = e]` beside their runs.
-use Rattle.std.proofs.Common.{◌≡◌, ◌∙◌, ℕ, ℤ, Bool, false, List, [], ◌∷◌, Option, Some, None, refl, sym, ap, subst}
+use Rattle.std.proofs.Common.{◌≡◌, ◌∙◌, ℕ, ℤ, Bool, true, false, List, [], ◌∷◌, Option, Some, None, refl, sym, ap, subst}
 use Rattle.sail_base.specs.declared.place.Place.{Place}
 use Rattle.sail_types.specs.declared.numbers.Num.{Num}
 use Rattle.sail_types.specs.declared.values.Value.{Value}
@@ -40,7 +40,7 @@ use Rattle.soundness_forms.proofs.Basics.{is_on}
 use Rattle.soundness_forms.proofs.Casts.{comes_is, no_guard}
 use Rattle.soundness_forms.proofs.Nodes.{settled_node}
 use Rattle.soundness_forms.proofs.Worlds.{surrounds_on}
-use Rattle.soundness_parts.specs.Suffixes.{ItemsFull}
+use Rattle.soundness_parts.proofs.HoledItems.{item_updated}
 use Rattle.soundness_parts.proofs.Slices.{slice_part, slice_reached, slice_steady}
 use Rattle.soundness_parts.proofs.SliceSteps.{OneTested, Ranges, Tests, TwoTested, one_test, pairs, pairs_then, range_walks, tests_on, two_tests, under}
 use Rattle.soundness_parts.proofs.Suffixes.{bit_reached, bit_part, bit_steady, item_part, item_reached, items_steady, unreached}
@@ -142,7 +142,7 @@ module _ (fit : FitsSuffice) (q : Scene) (w : World Item) (place : Place) (k : �
 
   -- ---- an item
 
-  module _ (full : ItemsFull q) (p b d : Part) (rp rb rd : Run Item Item) (hp : Fine q w false false p rp) (hb : Fine q w false false b rb)
+  module _ (p b d : Part) (rp rb rd : Run Item Item) (hp : Fine q w false false p rp) (hb : Fine q w false false b rb)
       (hd : Fine q w false false d rd) where
     abbrev new_then : {A : Type 0} → (Made → Run Item A) → Item → Item → ℤ → Run Item A
     new_then g x y index = rd then λ new. needs ((item_way index).put_in x.val new.val) then λ v. g (made_of (x ∷ y ∷ new ∷ []) v)
@@ -168,15 +168,25 @@ module _ (fit : FitsSuffice) (q : Scene) (w : World Item) (place : Place) (k : �
         subst (λ r. Beside q n f facts (updated place k d (here q) scope i r) (index_then make_item x y) (λ m g j v. Is q.set q.work g j v)) (sym same)
         (runs_as (λ now. ap (λ a. goes_on a (new_then make_item x y)) (e.test now)) (by (out-Indices i) (roll-out-Indices i)))
       where
+        by_item : (m : Num) (r : Reading) → roll-Indices (W.Vector m r) ≡ i → (b : Bool) → has_hole r ≡ b
+            → Beside q n f facts (updated place k d (here q) scope i (into_item t (W.Vector m r))) (new_then make_item x y e.integer_there)
+            (λ m g j v. Is q.set q.work g j v)
+        by_item m r is false whole =
+            update_fine q w scope d rd hd place k i x h (item_reached t m r) (item_way e.integer_there) (y ∷ []) (e.counts.is_integer.typ, tt)
+            (item_part q i x h t e.integer_there e.counts.same m r is) (items_steady q i x m r is h, whole) there
+        by_item m r is true holed =
+            subst (λ j. Beside q n f facts (updated place k d (here q) scope j (into_item t (W.Vector m r))) (new_then make_item x y e.integer_there)
+            (λ m g j v. Is q.set q.work g j v)) (sym (I.rolls-Vector m r) ∙ is)
+            (item_updated fit q place k m r holed x t e.integer_there y w scope d rd hd
+            (subst (λ j. Is q.set q.work f j x) (sym is ∙ I.rolls-Vector m r) h) e.counts.is_integer e.counts.same there)
+
         by : (form : Indices-F Indices Reading) → roll-Indices form ≡ i
             → Beside q n f facts (updated place k d (here q) scope i (into_item t form)) (new_then make_item x y e.integer_there)
             (λ m g j v. Is q.set q.work g j v)
         by (W.Bits m) is =
             update_fine q w scope d rd hd place k i x h (bit_reached t m) (item_way e.integer_there) (y ∷ []) (e.counts.is_integer.typ, tt)
             (bit_part q i x h t e.integer_there e.counts.same m is) (bit_steady q, bit_whole) there
-        by (W.Vector m r) is =
-            update_fine q w scope d rd hd place k i x h (item_reached t m r) (item_way e.integer_there) (y ∷ []) (e.counts.is_integer.typ, tt)
-            (item_part q i x h t e.integer_there e.counts.same m r is) (items_steady q i x m r is h, full n f i x m r h is) there
+        by (W.Vector m r) is = by_item m r is (has_hole r) refl
         by form is = unreached place k i x h (new_then make_item x y e.integer_there)
 
     item_numbers : {n : ℕ} {f : Point n} {facts : List Fact} (scope : Scope) (i : Indices) (x : Item) (o : Option (List Num)) (y : Item)

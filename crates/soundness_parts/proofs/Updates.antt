@@ -1,5 +1,5 @@
 -- A value with another part beside its run: what is put there belongs to the part's type, and the value has its indices as before.
-use Rattle.std.proofs.Common.{◌≡◌, ◌∙◌, ℕ, Bool, true, false, List, [], ◌∷◌, ◌++◌, if◌then◌else◌, Some, None, option_map, refl, sym, ap, subst}
+use Rattle.std.proofs.Common.{◌≡◌, ◌∙◌, ℕ, Bool, true, false, ◌||◌, List, [], ◌∷◌, ◌++◌, if◌then◌else◌, Some, None, option_map, refl, sym, ap, subst}
 use Rattle.std.specs.List.{list_all}
 use Rattle.std.specs.Prelude.{map, unwrap_or}
 use Rattle.sail_base.specs.declared.place.Place.{Place}
@@ -11,7 +11,7 @@ use Rattle.sail_types.specs.declared.values.Value.{Value}
 use Rattle.sail_core.specs.Making.{World}
 use Rattle.sail_core.specs.Run.{Run, goes_on, needs, ◌then◌}
 use Rattle.sail_core.specs.Values.{Into}
-use Rattle.value_indices.specs.Steps.{Conditions, give}
+use Rattle.value_indices.specs.Steps.{Conditions, bind, give}
 use Rattle.value_indices.specs.declared.indices.Indices.{Indices, out-Indices}
 use Rattle.value_indices.specs.declared.notes.Fact.{Fact}
 use Rattle.pattern_leaves.specs.Settings.{Scope}
@@ -22,7 +22,7 @@ use Rattle.call_notes.specs.Ends.{fits_unless}
 use Rattle.call_notes.specs.Noted.{node_ended}
 use Rattle.expression_forms.specs.Ways.{indexed, owe_part, part_fits, update_operands}
 use Rattle.expression_forms.specs.declared.ways.Reached.{Reached}
-use Rattle.expression_steps.specs.Filling.{part_behind, part_holed, put_aim, put_ended}
+use Rattle.expression_steps.specs.Filling.{part_holed, put_aim, put_ended}
 use Rattle.expression_steps.specs.Parts.{Part}
 use Rattle.expression_steps.specs.Values.{part_updated}
 use Rattle.checked_meaning.specs.Items.{Item}
@@ -112,14 +112,16 @@ module _ (q : Scene) {n : ℕ} {f : Point n} (place : Place) (k : ℕ) (i : Indi
       → Beside q n f facts (put_ended (here q) place k nested i r j) (put_run new) (λ m g u y. Is q.set q.work g u y)
   put_fine {facts} nested j new is_new met =
       walks_then (node_ended k (update_operands i r j))
-      (walks_on (λ t. part_behind (here q) place i r.typ j) (part_owed_fits q r j new.val is_new.has wanted place nested met) (λ m g fs t l s.
-      behind m g fs l s (has_hole r.typ) wanted.1)) (λ m g fs u l e.
+      (behind (has_hole r.typ) wanted.1) (λ m g fs u l e.
       subst (λ w. Beside q m g fs (node_ended k (update_operands i r j) w) (put_run new) (λ d p v y. Is q.set q.work p v y)) (sym e.0) (ends m g fs l e.1))
     where
-      behind : (m : ℕ) (g : Point m) (fs : List Fact) → Later f g → FitsThere g new → (b : Bool) → b ≡ false
-          → Walks q m g fs (if b then part_holed (here q) place i r.typ j (out-Indices i) else give i) (λ d p u. (u ≡ i) × FitsThere p new)
-      behind m g fs l s true e = absurd (cc)
-      behind m g fs l s false e = given_back i (refl, s)
+      behind : (b : Bool) → b ≡ false
+          → Walks q n f facts (bind (owe_part (here q) place r (b || nested) j) (λ t.
+          if b then part_holed (here q) place i r.typ j (out-Indices i) else give i))
+          (λ d p u. (u ≡ i) × FitsThere p new)
+      behind true e = absurd (cc)
+      behind false e =
+          walks_on (λ t. give i) (part_owed_fits q r j new.val is_new.has wanted place nested met) (λ m g fs t l s. given_back i (refl, s))
 
       ends : (m : ℕ) (g : Point m) (fs : List Fact) → Later f g → FitsThere g new
           → Beside q m g fs (node_ended k (update_operands i r j) i) (put_run new) (λ d p v y. Is q.set q.work p v y)

@@ -1,2 +1,1 @@
-pub mod Suffixes
 pub mod Laws

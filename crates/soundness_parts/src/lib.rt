@@ -3,4 +3,4 @@
 
 mod laws;
 
-pub use laws::{parts_are_fine, updates_are_fine};
+pub use laws::{parts_are_fine, updates_are_fine, withs_are_fine};

@@ -29,7 +29,7 @@ use Rattle.value_indices.specs.declared.notes.Fact.{Fact}
 use Rattle.value_indices.specs.Steps.{bind, give}
 use Rattle.pattern_leaves.specs.Settings.{Scope}
 use Rattle.call_arguments.specs.Aims.{aimed}
-use Rattle.call_arguments.specs.Holes.{has_hole, value_has_hole}
+use Rattle.call_arguments.specs.Holes.{has_hole, value_has_hole, without_holes}
 use Rattle.call_arguments.specs.declared.aims.Aim.{Aim}
 use Rattle.call_arguments.specs.declared.aims.Aim.TheVariants as Aims
 use Rattle.call_notes.specs.Ends.{is_never_form}
@@ -37,7 +37,7 @@ use Rattle.call_notes.specs.Noted.{node_ended}
 use Rattle.expression_steps.specs.Expressions.{kind_walk}
 use Rattle.expression_steps.specs.Parts.{Part}
 use Rattle.expression_steps.specs.Values as E
-use Rattle.expression_steps.specs.Values.{cons_before, cons_due, cons_filled, cons_found, cons_free, filled_here, list_like, list_owing, wanted_item}
+use Rattle.expression_steps.specs.Values.{cons_before, cons_due, cons_filled, cons_found, cons_free, list_like, list_owing, wanted_item}
 use Rattle.checked_meaning.specs.Checked.{checked}
 use Rattle.checked_meaning.specs.Items.{Item, vals}
 use Rattle.value_laws.specs.Belonging.{Integers, closed, closeds, form_holds, meant, nowhere, plain, standing}
@@ -60,13 +60,13 @@ use Rattle.soundness_forms.proofs.Casts.{comes_is, no_guard}
 use Rattle.soundness_forms.proofs.Nodes.{node_ends}
 use Rattle.soundness_forms.proofs.Parts.{not_never}
 use Rattle.soundness_forms.proofs.Worlds.{surrounds_on}
-use Rattle.soundness_values.specs.Filling.{FillingSuffices, FillsPart}
 use Rattle.soundness_values.specs.Likeness.{LikenessSuffices}
-use Rattle.soundness_values.proofs.Items.{AllOf, filled_whole, of_on, owed_item, part_filled}
-use Rattle.soundness_values.proofs.Knowing.{knows}
+use Rattle.soundness_values.proofs.Filling.{filling_steady}
+use Rattle.soundness_values.proofs.Items.{AllOf, of_on, owed_item}
 use Rattle.soundness_values.proofs.Lists.{due_is, list_has, no_hole}
 use Rattle.soundness_values.proofs.Made.{parts_node}
 use Rattle.soundness_values.proofs.Seen.{hole_in, item_steady, value_hole_in}
+use Rattle.soundness_values.proofs.Unholed.{whole_belongs, whole_wanted}
 
 -- ---- a list whose items belong to a type
 
@@ -169,7 +169,7 @@ two_then b m R.Stuck = refl
 
 -- ---- the node
 
-module _ (fit : FitsSuffice) (fill : FillingSuffices) (like : LikenessSuffices) (q : Scene) (w : World Item) (scope : Scope) (k : ℕ) where
+module _ (fit : FitsSuffice) (like : LikenessSuffices) (q : Scene) (w : World Item) (scope : Scope) (k : ℕ) where
   abbrev making : List Item → Run Item Item
   making xs = needs (cons_of (vals xs)) then λ v. (checked q.set.around.types q.cases).make k xs v
 
@@ -193,13 +193,14 @@ module _ (fit : FitsSuffice) (fill : FillingSuffices) (like : LikenessSuffices) 
 
   -- the item owes the type of the others
   owing : {n : ℕ} {f : Point n} {facts : List Fact} (place : Place) (i : Indices) (r : Reading) (x : Item) (vs : List Value) → Is q.set q.work f i x
-      → IsWanted q.set q.work f r → AllOf q.set q.work f r vs → Walks q n f facts (list_owing (here q) place i r) (λ m g z. ListIs g x vs z)
-  owing place i r x vs a st h =
-      walks_on (λ t. give (I.List r)) (owed_item fit fill q w scope place i r x a st) (λ m g fs t l c. given_back (I.List r) (record {
+      → IsSteady q.set q.work f r → AllOf q.set q.work f r vs → Walks q n f facts (list_owing (here q) place i r) (λ m g z. ListIs g x vs z)
+  owing {f = f} place i r x vs a steady h =
+      walks_on (λ t. give (I.List r)) (owed_item fit q w scope place i (without_holes r) x a (whole_wanted q.set q.work f r steady)) (λ m g fs t l c.
+      given_back (I.List r) (record {
         of_type = r;
         is = refl;
-        steady = steady_on q.set q.work r l st.0;
-        first = c;
+        steady = steady_on q.set q.work r l steady;
+        first = whole_belongs q.set q.work g r x.val c;
         others = of_on q.set q.work r vs l h;
       }))
 
@@ -208,45 +209,43 @@ module _ (fit : FitsSuffice) (fill : FillingSuffices) (like : LikenessSuffices) 
   like_each g g2 r s [] c h = tt
   like_each g g2 r s (v ∷ vs) c h = (c v h.0, like_each g g2 r s vs c h.1)
 
-  -- what is filled by this shape has no hole
-  abbrev LeavesNone : Shape → Indices → Type 0
-  LeavesNone shape i = (later : List Fact) (m : ℕ) → has_hole (filled_here (here q) shape i later m).value ≡ false
-
   -- where the type of the others has a hole, it is filled first
   onto : {n : ℕ} {f : Point n} {facts : List Fact} (shape : Shape) (place : Place) (i : Indices) (r : Reading) (x : Item) (vs : List Value)
-      → Is q.set q.work f i x → IsSteady q.set q.work f r → AllOf q.set q.work f r vs → LeavesNone shape i → (b : Bool) → has_hole r ≡ b
+      → Is q.set q.work f i x → IsSteady q.set q.work f r → AllOf q.set q.work f r vs → (b : Bool)
       → Walks q n f facts (if b then cons_filled (here q) shape place i r else list_owing (here q) place i r) (λ m g z. ListIs g x vs z)
-  onto shape place i r x vs a steady h fills false e = owing place i r x vs a (steady, e) h
-  onto {n} {f} {facts} shape place i r x vs a steady h fills true e =
-      walks_on (list_like (here q) place i r) (filled_whole fit fill q w scope shape i x a fills) (λ m g fs s l st.
-      walks_on (λ t. list_owing (here q) place i s) (like q m g fs place r s (steady_on q.set q.work r l steady) st) (λ m2 g2 fs2 t l2 c.
-      owing place i s x vs (is_on (later_on l l2) a) (wanted_on q.set q.work s l2 st) (like_each g g2 r s vs c (of_on q.set q.work r vs l h))))
+  onto shape place i r x vs a steady h false = owing place i r x vs a steady h
+  onto {n} {f} {facts} shape place i r x vs a steady h true =
+      walks_on (list_like (here q) place i r) (filling_steady q f facts shape i) (λ m g fs s l st.
+      walks_on (λ t. list_owing (here q) place i s)
+      (like q m g fs place r (without_holes s) (steady_on q.set q.work r l steady) (whole_wanted q.set q.work g s st)) (λ m2 g2 fs2 t l2 c.
+      owing place i s x vs (is_on (later_on l l2) a) (steady_on q.set q.work s l2 st)
+      (like_each g g2 r s vs (λ v b. whole_belongs q.set q.work g2 s v (c v b)) (of_on q.set q.work r vs l h))))
 
   -- what a list of which no type is wanted gives
   found : {n : ℕ} {f : Point n} {facts : List Fact} (shape : Shape) (place : Place) (i j : Indices) (x y : Item) → Is q.set q.work f i x
-      → Is q.set q.work f j y → LeavesNone shape i → (form : Indices-F Indices Reading) → out-Indices j ≡ form
+      → Is q.set q.work f j y → (form : Indices-F Indices Reading) → out-Indices j ≡ form
       → Beside q n f facts (bind (cons_before (here q) shape place i form) (node_ended k (i ∷ j ∷ []))) (making (x ∷ y ∷ [])) (λ m g z u. Is q.set q.work g z u)
-  found {n} {f} {facts} shape place i j x y a b fills (W.List r) e =
+  found {n} {f} {facts} shape place i j x y a b (W.List r) e =
       let h = has_list q.set q.work f j r y.val e b.has in
-      walks_then (node_ended k (i ∷ j ∷ [])) (onto shape place i r x h.items a (list_steady q.set q.work f j r y.val e b.has) h.belong fills (has_hole r) refl)
+      walks_then (node_ended k (i ∷ j ∷ [])) (onto shape place i r x h.items a (list_steady q.set q.work f j r y.val e b.has) h.belong (has_hole r))
       (λ m g fs z l o.
       subst (λ u. Beside q m g fs (node_ended k (i ∷ j ∷ []) u) (making (x ∷ y ∷ [])) (λ m2 d v t. Is q.set q.work d v t)) (sym o.is)
       (cons_ends i j o.of_type x y ((is_on l a).typ, ((is_on l b).typ, tt)) o.steady o.first (record { items = h.items; is = h.is; belong = o.others })))
-  found shape place i j x y a b fills W.Never e = no (sym (not_never q.set q.work j y.val b.has) ∙ ap is_never_form e)
-  found shape place i j x y a b fills form e = walks_then (node_ended k (i ∷ j ∷ [])) (wrong_walks place) (λ m g fs z l h. absurd h)
+  found shape place i j x y a b W.Never e = no (sym (not_never q.set q.work j y.val b.has) ∙ ap is_never_form e)
+  found shape place i j x y a b form e = walks_then (node_ended k (i ∷ j ∷ [])) (wrong_walks place) (λ m g fs z l h. absurd h)
 
   module _ {n : ℕ} (f : Point n) (facts : List Fact) (there : Surrounds q w f scope) (p s : Part) (a b : Run Item Item)
       (fine : AllFine q w (p ∷ s ∷ []) (a ∷ b ∷ [])) where
-    free_beside : (shape : Shape) → FillsPart q w shape p
+    free_beside : (shape : Shape)
         → Beside q n f facts (cons_free k shape p s (here q) scope) (a then λ x. b then λ y. making (x ∷ y ∷ []))
         (λ m g z u. Is q.set q.work g z u)
-    free_beside shape fills =
+    free_beside shape =
         binds (λ i. bind (s.walk (here q) scope Aims.Free) (cons_found (here q) shape p.place k i)) (λ x. b then λ y. making (x ∷ y ∷ []))
-        (knows (fine.0.walks q.names q.may_fall no_guard n f facts scope Aims.Free there tt)) (λ m g fs i x l c.
+        (fine.0.walks q.names q.may_fall no_guard n f facts scope Aims.Free there tt) (λ m g fs i x l c.
         binds (cons_found (here q) shape p.place k i) (λ y. making (x ∷ y ∷ []))
         (fine.1.0.walks q.names q.may_fall no_guard m g fs scope Aims.Free (surrounds_on q w scope l there) tt) (λ m2 g2 fs2 j y l2 d.
-        found shape p.place i j x y (is_on l2 (comes_is p.is_nested p.never_ends Aims.Free i x c.0)) (comes_is s.is_nested s.never_ends Aims.Free j y d)
-        (part_filled fit fill q w scope f facts shape p fills there i c.1) (out-Indices j) refl))
+        found shape p.place i j x y (is_on l2 (comes_is p.is_nested p.never_ends Aims.Free i x c)) (comes_is s.is_nested s.never_ends Aims.Free j y d)
+        (out-Indices j) refl))
 
     due_beside : (r : Reading) → aimed Aims.Due r ≡ Aims.Due r → IsWanted q.set q.work f r
         → Beside q n f facts (cons_due k p s (here q) scope r) (a then λ x. b then λ y. making (x ∷ y ∷ [])) (λ m g z u. Is q.set q.work g z u)
@@ -272,19 +271,19 @@ module _ (fit : FitsSuffice) (fill : FillingSuffices) (like : LikenessSuffices) 
     by_form shape r st (W.Widened i) e = due_beside r (due_is r (W.Widened i) e refl) st
     by_form shape r st (W.Parts qs) e = due_beside r (due_is r (W.Parts qs) e refl) st
 
-    by_wanted : (shape : Shape) → FillsPart q w shape p → (r : Reading) → (r ≡ Q.Hole) ⊎ IsWanted q.set q.work f r
+    by_wanted : (shape : Shape) (r : Reading) → (r ≡ Q.Hole) ⊎ IsWanted q.set q.work f r
         → Beside q n f facts (E.cons_of k shape p s (here q) scope (out-Reading r) r) (a then λ x. b then λ y. making (x ∷ y ∷ []))
         (λ m g z u. Is q.set q.work g z u)
-    by_wanted shape fills r (inl e) =
+    by_wanted shape r (inl e) =
         subst (λ x. Beside q n f facts (E.cons_of k shape p s (here q) scope x r) (a then λ x. b then λ y. making (x ∷ y ∷ []))
         (λ m g z u. Is q.set q.work g z u))
-        (sym (ap out-Reading (e ∙ sym Q.rolls-Hole) ∙ out-roll-Reading W.Hole)) (free_beside shape fills)
-    by_wanted shape fills r (inr st) = by_form shape r st (out-Reading r) refl
+        (sym (ap out-Reading (e ∙ sym Q.rolls-Hole) ∙ out-roll-Reading W.Hole)) (free_beside shape)
+    by_wanted shape r (inr st) = by_form shape r st (out-Reading r) refl
 
-    pub cons_fine : (place : Place) (aim : Aim) → AimSteady q.set q.work f aim → (shape : Shape) → FillsPart q w shape p
+    pub cons_fine : (place : Place) (aim : Aim) → AimSteady q.set q.work f aim → (shape : Shape)
         → Beside q n f facts (kind_walk place k (K.Cons shape) (p ∷ s ∷ []) (here q) scope aim)
         (kind_meaning (checked q.set.around.types q.cases) w place k (K.Cons shape) (a ∷ b ∷ []))
         (λ m g i x. Comes q.set q.work g false false false aim i x)
-    cons_fine place aim st shape fills =
+    cons_fine place aim st shape =
         parts_node fit place k aim (in_turn (a ∷ b ∷ [])) (λ xs. needs (cons_of (vals xs))) st
-        (runs_as (λ now. two_then b making (a now)) (by_wanted shape fills (wanted_item aim) (item_steady q.set q.work f aim st)))
+        (runs_as (λ now. two_then b making (a now)) (by_wanted shape (wanted_item aim) (item_steady q.set q.work f aim st)))

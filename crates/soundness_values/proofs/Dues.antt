@@ -18,14 +18,14 @@ use Rattle.value_laws.specs.Known.{Point}
 use Rattle.soundness_steps.specs.Works.{Setting, Work}
 use Rattle.soundness_steps.specs.Values.{AimSteady, IsMet, IsWanted}
 use Rattle.soundness_forms.proofs.Parts.{AllSteady, EachIs, other_aims}
-use Rattle.soundness_values.specs.Calls.{AsMany}
 use Rattle.soundness_values.proofs.Mappings.{nameless_wanted}
 use Rattle.soundness_values.proofs.Named.{AllDue, SameMany, known_types}
 use Rattle.soundness_values.proofs.Seen.{KnownWanted, known_part}
+use Rattle.soundness_values.proofs.Stands.{AsMany}
 
-pub types_long : (k count : ℕ) (ts : List Typ) (is : List Indices) → length (types_from k count ts is) ≡ count
-types_long k zero ts is = refl
-types_long k (suc count) ts is = ap suc (types_long (suc k) count ts is)
+pub types_long : (m k count : ℕ) (ts : List Typ) (is : List Indices) → length (types_from m k count ts is) ≡ count
+types_long m k zero ts is = refl
+types_long m k (suc count) ts is = ap suc (types_long m (suc k) count ts is)
 
 -- ---- what is wanted of a part
 

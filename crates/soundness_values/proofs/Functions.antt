@@ -1,6 +1,8 @@
 -- Calls of functions as a kind of node.
-use Rattle.std.proofs.Common.{◌≡◌, ℕ, Bool, true, false, List, [], ◌∷◌, length, slice_get, take, Option, Some, None, refl, sym, subst}
+use Rattle.std.proofs.Common.{◌≡◌, ℕ, Bool, true, false, List, [], ◌∷◌, length, slice_get, take, Option, Some, None, refl, sym, ap, ◌∙◌, subst}
 use Rattle.std.proofs.Common.{if◌then◌else◌}
+use Rattle.std.specs.List.{list_all}
+use Rattle.std.proofs.lemmas.Bool.{and_parts}
 use Rattle.sail_base.specs.declared.place.Place.{Place}
 use Rattle.sail_types.specs.declared.numbers.Index.{Index}
 use Rattle.sail_types.specs.declared.types.Typ.{Typ}
@@ -42,8 +44,9 @@ use Rattle.soundness_steps.specs.Steps.{Beside, Grows}
 use Rattle.soundness_steps.specs.Values.{AimSteady, Comes, Is, IsMet}
 use Rattle.soundness_steps.proofs.Steps.{binds, next_is, runs_as}
 use Rattle.soundness_forms.specs.Calls.{ArgumentMet, ArgumentsAre, CallsFit}
-use Rattle.soundness_forms.specs.EachKind.{node}
+use Rattle.soundness_forms.specs.EachKind.{KindFine, node}
 use Rattle.soundness_forms.specs.Forms.{AllFine, Fine, FitsSuffice, at, z}
+use Rattle.soundness_forms.specs.Standing.{has_arguments, is_value}
 use Rattle.soundness_forms.specs.Worlds.{Surrounds}
 use Rattle.soundness_forms.proofs.Basics.{wrong_walks}
 use Rattle.soundness_forms.proofs.Called.{function_fine}
@@ -51,12 +54,12 @@ use Rattle.soundness_forms.proofs.Growth.{grows_bind, grows_give, grows_made, gr
 use Rattle.soundness_forms.proofs.JoinGrowth.{grows_next}
 use Rattle.soundness_forms.proofs.Parts.{EachIs, all_have, are_typed, each_fine, none_never}
 use Rattle.soundness_forms.proofs.PlainKinds.{fine_by, settled_grows}
-use Rattle.soundness_values.specs.Calls.{AsMany, CountStands}
 use Rattle.soundness_values.proofs.Made.{parts_node}
-use Rattle.soundness_values.proofs.MadeKinds.{all_at, each_grow}
+use Rattle.soundness_values.proofs.MadeKinds.{all_at, all_values, each_grow}
 use Rattle.soundness_values.proofs.Mappings.{arguments_steady, given_aim, none_beside}
 use Rattle.soundness_values.proofs.Placings.{conditions_count}
 use Rattle.soundness_values.proofs.RowCalls.{taken_all}
+use Rattle.soundness_values.proofs.Stands.{AsMany, CountStands, count_stands, parts_stand}
 
 -- ---- arguments that have been walked
 
@@ -168,3 +171,10 @@ module _ (fit : FitsSuffice) (suffice : CallsFit) (q : Scene) (w : World Item) w
       (subst (λ ys. Grows (each_walk ys around scope (argument_aims (parameter_types (slice_get around.functions i))))) (sym (taken_all ps))
       (each_grow q w ps rs fine around scope (argument_aims (parameter_types (slice_get around.functions i)))))
       (λ is. call_grows around place k i (slice_get around.functions i) (nestings ps) is)))
+
+  pub function_kind : (i : ℕ) → KindFine q w (K.Call (D.Function i))
+  function_kind i place k ss ps rs h right =
+      let o = slice_get q.set.around.functions i in
+      let both = and_parts (has_arguments (length ss) o) (list_all is_value ss) right in
+      function_node i place k ps rs (all_values q w ss ps rs both.1 h)
+      (count_stands ps o (ap (λ n. has_arguments n o) (sym (parts_stand q w ss ps rs h)) ∙ both.0))

@@ -1,5 +1,5 @@
 -- The items of a vector or a list beside their runs: each belongs to one type.
-use Rattle.std.proofs.Common.{ap, false, ◌≡◌, ℕ, zero, suc, List, [], ◌∷◌, length, replicate, sym, ◌∙◌, subst}
+use Rattle.std.proofs.Common.{◌≡◌, ℕ, zero, suc, List, [], ◌∷◌, length, replicate, sym, ◌∙◌, subst}
 use Rattle.sail_base.specs.declared.place.Place.{Place}
 use Rattle.sail_types.specs.declared.shapes.Shape.{Shape}
 use Rattle.sail_types.specs.declared.values.Value.{Value}
@@ -13,7 +13,7 @@ use Rattle.value_indices.specs.declared.notes.Fact.{Fact}
 use Rattle.value_indices.specs.Steps.{bind, give}
 use Rattle.pattern_leaves.specs.Settings.{Scope}
 use Rattle.call_arguments.specs.Aims.{aimed}
-use Rattle.call_arguments.specs.Holes.{has_hole}
+use Rattle.call_arguments.specs.Holes.{without_holes}
 use Rattle.call_arguments.specs.declared.aims.Aim.{Aim}
 use Rattle.call_arguments.specs.declared.aims.Aim.TheVariants as Aims
 use Rattle.expression_steps.specs.Parts.{Part}
@@ -28,15 +28,15 @@ use Rattle.soundness_steps.proofs.Points.{agree_on, later_on}
 use Rattle.soundness_steps.specs.Works.{Scene, Setting, Work, here}
 use Rattle.soundness_steps.specs.Steps.{Beside, Walks}
 use Rattle.soundness_steps.specs.Values.{AimSteady, AllTyped, Belongs, Is, IsSteady, IsWanted}
-use Rattle.soundness_steps.proofs.Steps.{binds, given_back, rests, walks_mean, walks_on, walks_then}
+use Rattle.soundness_steps.proofs.Steps.{binds, given_back, rests, walks_on, walks_then}
 use Rattle.soundness_forms.specs.Forms.{AllFine, FitsSuffice}
 use Rattle.soundness_forms.specs.Worlds.{Surrounds}
 use Rattle.soundness_forms.proofs.Basics.{is_on, steady_on, then_walks, wanted_on}
 use Rattle.soundness_forms.proofs.Casts.{comes_is, no_guard}
 use Rattle.soundness_forms.proofs.Parts.{AllSteady, EachIs, are_typed, each_fine}
 use Rattle.soundness_forms.proofs.Worlds.{surrounds_on}
-use Rattle.soundness_values.specs.Filling.{FillingSuffices, FillsPart, FillsWhole}
-use Rattle.soundness_values.proofs.Knowing.{knows, walks_know}
+use Rattle.soundness_values.proofs.Filling.{filling_steady}
+use Rattle.soundness_values.proofs.Unholed.{whole_belongs, whole_wanted}
 
 -- ---- values of one type
 
@@ -71,7 +71,7 @@ due_of set work f r [] [] (x ∷ xs) h = absurd h
 due_of set work f r (p ∷ ps) [] xs h = absurd h
 due_of set work f r (p ∷ ps) (i ∷ is) [] h = absurd h
 
-module _ (fit : FitsSuffice) (fill : FillingSuffices) (q : Scene) (w : World Item) (scope : Scope) where
+module _ (fit : FitsSuffice) (q : Scene) (w : World Item) (scope : Scope) where
   -- of a type that is no hole what is wanted is the type
   pub wanted_row : {n : ℕ} {f : Point n} {facts : List Fact} (ps : List Part) (rs : List (Run Item Item)) → AllFine q w ps rs → Surrounds q w f scope
       → (r : Reading) → aimed Aims.Due r ≡ Aims.Due r → IsWanted q.set q.work f r
@@ -123,17 +123,24 @@ module _ (fit : FitsSuffice) (fill : FillingSuffices) (q : Scene) (w : World Ite
   like_all [] (a ∷ rs) fine there r st = absurd fine
   like_all (p ∷ ps) [] fine there r st = absurd fine
 
+  -- of a type in whose holes is only what never ends
+  whole_all : {n : ℕ} (f : Point n) (r : Reading) (vs : List Value) → AllOf q.set q.work f (without_holes r) vs → AllOf q.set q.work f r vs
+  whole_all f r [] h = tt
+  whole_all f r (v ∷ vs) h = (whole_belongs q.set q.work f r v h.0, whole_all f r vs h.1)
+
   first_row : {n : ℕ} {f : Point n} {facts : List Fact} (ps : List Part) (rs : List (Run Item Item)) → AllFine q w ps rs → Surrounds q w f scope
-      → (place : Place) (i : Indices) (x : Item) → Is q.set q.work f i x → (r : Reading) → IsWanted q.set q.work f r
+      → (place : Place) (i : Indices) (x : Item) → Is q.set q.work f i x → (r : Reading) → IsSteady q.set q.work f r
       → Beside q n f facts (first_like ps (here q) scope place i r) (in_turn rs then λ xs. gives (x ∷ xs)) (λ m g row xs. RowIs q.set q.work g row xs)
-  first_row ps rs fine there place i x h r st =
-      walks_then (λ t. bind (items_like ps (here q) scope r) (λ is. give (r, i ∷ is))) (owed_item place i r x h st) (λ m g fs t l b.
+  first_row {f = f} ps rs fine there place i x h r steady =
+      let s = without_holes r in
+      let st = whole_wanted q.set q.work f r steady in
+      walks_then (λ t. bind (items_like ps (here q) scope s) (λ is. give (r, i ∷ is))) (owed_item place i s x h st) (λ m g fs t l b.
       binds (λ is. give (r, i ∷ is)) (λ xs. gives (x ∷ xs))
-      (like_all ps rs fine (surrounds_on q w scope l there) r (wanted_on q.set q.work r l st)) (λ m2 g2 fs2 is xs l2 k.
+      (like_all ps rs fine (surrounds_on q w scope l there) s (wanted_on q.set q.work s l st)) (λ m2 g2 fs2 is xs l2 k.
       rests (x ∷ xs) (given_back (r, i ∷ is) (record {
         typed = ((is_on (later_on l l2) h).typ, k.0);
-        of_type = ((λ d a. b d (agree_on l2 a)), k.1);
-        steady = steady_on q.set q.work r (later_on l l2) st.0;
+        of_type = (whole_belongs q.set q.work g2 r x.val (λ d a. b d (agree_on l2 a)), whole_all g2 r (vals xs) k.1);
+        steady = steady_on q.set q.work r (later_on l l2) steady;
       }))))
 
   hole_steady : {n : ℕ} (f : Point n) → IsSteady q.set q.work f R.Hole
@@ -141,28 +148,14 @@ module _ (fit : FitsSuffice) (fill : FillingSuffices) (q : Scene) (w : World Ite
       closed_is q.set.around.types (standing q.set.past g) q.work.types R.Hole W.Hole R.rolls-Hole
       ∙ sym (closed_is q.set.around.types (standing q.set.past f.integers) q.work.types R.Hole W.Hole R.rolls-Hole)
 
-  -- what is filled in a type, where nothing of it is left open
-  pub filled_whole : {n : ℕ} {f : Point n} {facts : List Fact} (shape : Shape) (i : Indices) (x : Item) → Is q.set q.work f i x
-      → ((later : List Fact) (m : ℕ) → has_hole (filled_here (here q) shape i later m).value ≡ false)
-      → Walks q n f facts (filled_here (here q) shape i) (λ m g r. IsWanted q.set q.work g r)
-  filled_whole {n} {f} {facts} shape i x h e =
-      walks_mean (λ m g r k. (k.0, ap has_hole k.1 ∙ e facts n)) (walks_know (fill q n f facts shape i x.val h.has))
-
-  pub part_filled : {n : ℕ} (f : Point n) (facts : List Fact) (shape : Shape) (p : Part) → FillsPart q w shape p → Surrounds q w f scope → (i : Indices)
-      → i ≡ (p.walk (here q) scope Aims.Free facts n).value → (later : List Fact) (m : ℕ)
-      → has_hole (filled_here (here q) shape i later m).value ≡ false
-  part_filled {n} f facts shape p fills there i e later m =
-      ap (λ j. has_hole (filled_here (here q) shape j later m).value) e ∙ fills q.names q.may_fall n f facts scope there later m
-
-  pub free_row : {n : ℕ} {f : Point n} {facts : List Fact} (shape : Shape) (ps : List Part) (rs : List (Run Item Item)) → FillsWhole q w shape ps
-      → AllFine q w ps rs → Surrounds q w f scope
-      → Beside q n f facts (items_free ps (here q) scope shape) (in_turn rs) (λ m g row xs. RowIs q.set q.work g row xs)
-  free_row {f} shape [] [] fills fine there = rests [] (given_back (R.Hole, []) (record { typed = tt; of_type = tt; steady = hole_steady f }))
-  free_row {n} {f} {facts} shape (p ∷ ps) (a ∷ rs) fills fine there =
+  pub free_row : {n : ℕ} {f : Point n} {facts : List Fact} (shape : Shape) (ps : List Part) (rs : List (Run Item Item)) → AllFine q w ps rs
+      → Surrounds q w f scope → Beside q n f facts (items_free ps (here q) scope shape) (in_turn rs) (λ m g row xs. RowIs q.set q.work g row xs)
+  free_row {f = f} shape [] [] fine there = rests [] (given_back (R.Hole, []) (record { typed = tt; of_type = tt; steady = hole_steady f }))
+  free_row {n} {f} {facts} shape (p ∷ ps) (a ∷ rs) fine there =
       binds (λ i. bind (filled_here (here q) shape i) (first_like ps (here q) scope p.place i)) (λ x. in_turn rs then λ xs. gives (x ∷ xs))
-      (knows (fine.0.walks q.names q.may_fall no_guard n f facts scope Aims.Free there tt)) (λ m g fs i x l c.
-      let h = comes_is p.is_nested p.never_ends Aims.Free i x c.0 in
-      walks_then (first_like ps (here q) scope p.place i) (filled_whole shape i x h (part_filled f facts shape p fills there i c.1)) (λ m2 g2 fs2 r l2 st.
-      first_row ps rs fine.1 (surrounds_on q w scope (later_on l l2) there) p.place i x (is_on l2 h) r st))
-  free_row shape [] (a ∷ rs) fills fine there = absurd fine
-  free_row shape (p ∷ ps) [] fills fine there = absurd fine
+      (fine.0.walks q.names q.may_fall no_guard n f facts scope Aims.Free there tt) (λ m g fs i x l c.
+      let h = comes_is p.is_nested p.never_ends Aims.Free i x c in
+      walks_then (first_like ps (here q) scope p.place i) (filling_steady q g fs shape i) (λ m2 g2 fs2 r l2 steady.
+      first_row ps rs fine.1 (surrounds_on q w scope (later_on l l2) there) p.place i x (is_on l2 h) r steady))
+  free_row shape [] (a ∷ rs) fine there = absurd fine
+  free_row shape (p ∷ ps) [] fine there = absurd fine

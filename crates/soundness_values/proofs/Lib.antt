@@ -3,7 +3,8 @@ pub mod Rows
 pub mod RowCalls
 pub mod Seen
 pub mod Tuples
-pub mod Knowing
+pub mod Unholed
+pub mod Filling
 pub mod Items
 pub mod Lists
 pub mod Cons
@@ -15,6 +16,7 @@ pub mod Mappings
 pub mod Placings
 pub mod Functions
 pub mod Narrow
+pub mod Stands
 pub mod Unions
 pub mod Structs
 pub mod Numbered

@@ -63,7 +63,6 @@ use Rattle.soundness_forms.specs.Forms.{AllFine, FitsSuffice}
 use Rattle.soundness_forms.specs.Worlds.{Surrounds}
 use Rattle.soundness_forms.proofs.Basics.{has_on}
 use Rattle.soundness_forms.proofs.Nodes.{node_ends, typed_on}
-use Rattle.soundness_values.specs.Filling.{FillingSuffices, FillsWhole}
 use Rattle.soundness_values.proofs.Items.{AllOf, RowIs, free_row, wanted_row}
 use Rattle.soundness_values.proofs.Made.{parts_node}
 use Rattle.soundness_values.proofs.Seen.{hole_in, item_steady}
@@ -204,35 +203,35 @@ no_hole r e h = absurd (wrong (sym hole ∙ h))
 pub due_is : (r : Reading) (x : Reading-F Indices Reading) → out-Reading r ≡ x → is_hole_form x ≡ false → aimed Aims.Due r ≡ Aims.Due r
 due_is r x e h = ap (λ b. if b then Aims.Free else Aims.Due r) (ap is_hole_form e ∙ h)
 
-module _ (fit : FitsSuffice) (fill : FillingSuffices) (q : Scene) (w : World Item) (scope : Scope) where
+module _ (fit : FitsSuffice) (q : Scene) (w : World Item) (scope : Scope) where
   by_form : {n : ℕ} {f : Point n} {facts : List Fact} (shape : Shape) (ps : List Part) (rs : List (Run Item Item)) → AllFine q w ps rs → Surrounds q w f scope
       → (r : Reading) → IsWanted q.set q.work f r → (x : Reading-F Indices Reading) → out-Reading r ≡ x
       → Beside q n f facts (items_of ps (here q) scope shape x r) (in_turn rs) (λ m g row xs. RowIs q.set q.work g row xs)
   by_form shape ps rs fine there r st W.Hole e = no_hole r e st.1
-  by_form shape ps rs fine there r st (W.Of t is qs) e = wanted_row fit fill q w scope ps rs fine there r (due_is r (W.Of t is qs) e refl) st
-  by_form shape ps rs fine there r st (W.Widened i) e = wanted_row fit fill q w scope ps rs fine there r (due_is r (W.Widened i) e refl) st
-  by_form shape ps rs fine there r st (W.Parts qs) e = wanted_row fit fill q w scope ps rs fine there r (due_is r (W.Parts qs) e refl) st
+  by_form shape ps rs fine there r st (W.Of t is qs) e = wanted_row fit q w scope ps rs fine there r (due_is r (W.Of t is qs) e refl) st
+  by_form shape ps rs fine there r st (W.Widened i) e = wanted_row fit q w scope ps rs fine there r (due_is r (W.Widened i) e refl) st
+  by_form shape ps rs fine there r st (W.Parts qs) e = wanted_row fit q w scope ps rs fine there r (due_is r (W.Parts qs) e refl) st
 
-  row_items : {n : ℕ} {f : Point n} {facts : List Fact} (shape : Shape) (ps : List Part) (rs : List (Run Item Item)) → FillsWhole q w shape ps
-      → AllFine q w ps rs → Surrounds q w f scope → (r : Reading) → (r ≡ Q.Hole) ⊎ IsWanted q.set q.work f r
+  row_items : {n : ℕ} {f : Point n} {facts : List Fact} (shape : Shape) (ps : List Part) (rs : List (Run Item Item)) → AllFine q w ps rs
+      → Surrounds q w f scope → (r : Reading) → (r ≡ Q.Hole) ⊎ IsWanted q.set q.work f r
       → Beside q n f facts (items_walk ps (here q) scope shape r) (in_turn rs) (λ m g row xs. RowIs q.set q.work g row xs)
-  row_items {n} {f} {facts} shape ps rs fills fine there r (inl e) =
+  row_items {n} {f} {facts} shape ps rs fine there r (inl e) =
       subst (λ x. Beside q n f facts (items_of ps (here q) scope shape x r) (in_turn rs) (λ m g row xs. RowIs q.set q.work g row xs))
-      (sym (ap out-Reading (e ∙ sym Q.rolls-Hole) ∙ out-roll-Reading W.Hole)) (free_row fit fill q w scope shape ps rs fills fine there)
-  row_items shape ps rs fills fine there r (inr st) = by_form shape ps rs fine there r st (out-Reading r) refl
+      (sym (ap out-Reading (e ∙ sym Q.rolls-Hole) ∙ out-roll-Reading W.Hole)) (free_row fit q w scope shape ps rs fine there)
+  row_items shape ps rs fine there r (inr st) = by_form shape ps rs fine there r st (out-Reading r) refl
 
   module _ {n : ℕ} (f : Point n) (facts : List Fact) (place : Place) (k : ℕ) (aim : Aim) (there : Surrounds q w f scope) (st : AimSteady q.set q.work f aim)
-      (shape : Shape) (ps : List Part) (rs : List (Run Item Item)) (fills : FillsWhole q w shape ps) (fine : AllFine q w ps rs) where
+      (shape : Shape) (ps : List Part) (rs : List (Run Item Item)) (fine : AllFine q w ps rs) where
     pub list_fine : Beside q n f facts (kind_walk place k (K.List shape) ps (here q) scope aim)
         (kind_meaning (checked q.set.around.types q.cases) w place k (K.List shape) rs) (λ m g i x. Comes q.set q.work g false false false aim i x)
     list_fine =
         parts_node fit place k aim (in_turn rs) (λ xs. gives (V.List (vals xs))) st
         (binds (E.list_of place k) (λ xs. gives (V.List (vals xs)) then λ v. (checked q.set.around.types q.cases).make k xs v)
-        (row_items shape ps rs fills fine there (wanted_item aim) (item_steady q.set q.work f aim st)) (λ m g fs row xs l h. list_made q place k row xs h))
+        (row_items shape ps rs fine there (wanted_item aim) (item_steady q.set q.work f aim st)) (λ m g fs row xs l h. list_made q place k row xs h))
 
     pub vector_fine : Beside q n f facts (kind_walk place k (K.Vector shape) ps (here q) scope aim)
         (kind_meaning (checked q.set.around.types q.cases) w place k (K.Vector shape) rs) (λ m g i x. Comes q.set q.work g false false false aim i x)
     vector_fine =
         parts_node fit place k aim (in_turn rs) (λ xs. needs (vector_of (vals xs))) st
         (binds (E.vector_of place k) (λ xs. needs (vector_of (vals xs)) then λ v. (checked q.set.around.types q.cases).make k xs v)
-        (row_items shape ps rs fills fine there (wanted_item aim) (item_steady q.set q.work f aim st)) (λ m g fs row xs l h. vector_made q place k row xs h))
+        (row_items shape ps rs fine there (wanted_item aim) (item_steady q.set q.work f aim st)) (λ m g fs row xs l h. vector_made q place k row xs h))

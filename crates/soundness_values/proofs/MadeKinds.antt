@@ -26,7 +26,7 @@ use Rattle.value_fits.specs.Fitting.{fits, item_fits, owe_fit}
 use Rattle.fitting_laws.proofs.Counted.{fits_count, item_counts}
 use Rattle.pattern_leaves.specs.Settings.{Around, Scope}
 use Rattle.call_arguments.specs.Aims.{aimed}
-use Rattle.call_arguments.specs.Holes.{has_hole}
+use Rattle.call_arguments.specs.Holes.{has_hole, without_holes}
 use Rattle.call_arguments.specs.declared.aims.Aim.{Aim}
 use Rattle.call_arguments.specs.declared.aims.Aim.TheVariants as Aims
 use Rattle.call_notes.specs.Calls.{row_called}
@@ -36,7 +36,7 @@ use Rattle.call_notes.specs.Rows.{row_call}
 use Rattle.expression_steps.specs.Calls.{call_walk}
 use Rattle.expression_steps.specs.Parts.{Part, each_walk}
 use Rattle.expression_steps.specs.Values as E
-use Rattle.expression_steps.specs.Values.{Row, cons_before, cons_due, cons_filled, cons_found, cons_free, cons_onto, cons_walk, filled_here, first_like}
+use Rattle.expression_steps.specs.Values.{cons_before, cons_due, cons_filled, cons_found, cons_free, cons_onto, cons_walk, filled_here, first_like}
 use Rattle.expression_steps.specs.Values.{item_like, item_owed, items_due, items_free, items_like, items_of, items_walk, items_wanted, list_like, list_owing}
 use Rattle.expression_steps.specs.Values.{list_walk, tuple_aims, tuple_indices, tuple_of, tuple_walk, vector_walk, wanted_item}
 use Rattle.checked_meaning.specs.Items.{Item}
@@ -47,14 +47,13 @@ use Rattle.soundness_forms.specs.Forms.{AllFine, FitsSuffice, at, z}
 use Rattle.soundness_forms.specs.Standing.{Standing, is_value}
 use Rattle.soundness_forms.proofs.Growth.{grows_bind, grows_ended, grows_fits, grows_give, grows_note, grows_owe_fit, grows_wrong}
 use Rattle.soundness_forms.proofs.PlainKinds.{fine_at, fine_by, settled_grows, value_fine, wrong_fine}
-use Rattle.soundness_values.specs.Filling.{FillingSuffices, FillsWhole, LiteralFine}
-use Rattle.soundness_values.specs.Likeness.{LikenessSuffices}
 use Rattle.soundness_values.specs.Widening.{WideningSuffices}
 use Rattle.soundness_values.proofs.Cons.{cons_fine}
 use Rattle.soundness_values.proofs.Filled.{filled_grows}
 use Rattle.soundness_values.proofs.Lists.{list_fine, vector_fine}
 use Rattle.soundness_values.proofs.RowCalls.{row_call_fine, taken_all}
 use Rattle.soundness_values.proofs.RowGrowth.{row_call_grows}
+use Rattle.soundness_values.proofs.Taken.{likeness}
 use Rattle.soundness_values.proofs.Tuples.{tuple_fine}
 
 -- ---- parts that are values
@@ -102,8 +101,9 @@ module _ (q : Scene) (w : World Item) where
   free_grows [] [] h around scope shape = grows_give (R.Hole, [])
   free_grows (p ∷ ps) (a ∷ rs) h around scope shape = grows_bind (p.walk around scope Aims.Free) _ (h.0.grows around scope Aims.Free) (λ i.
       grows_bind (filled_here around shape i) (first_like ps around scope p.place i) (filled_grows around shape i) (λ r.
-      grows_bind (item_owed around p.place r i) _ (grows_fits p.place around.types i r) (λ t.
-      grows_bind (items_like ps around scope r) _ (like_grows ps rs h.1 around scope r) (λ is. grows_give (r, i ∷ is)))))
+      grows_bind (item_owed around p.place (without_holes r) i) _ (grows_fits p.place around.types i (without_holes r)) (λ t.
+      grows_bind (items_like ps around scope (without_holes r)) _ (like_grows ps rs h.1 around scope (without_holes r)) (λ is.
+      grows_give (r, i ∷ is)))))
   free_grows [] (a ∷ rs) h around scope shape = absurd h
   free_grows (p ∷ ps) [] h around scope shape = absurd h
 
@@ -130,7 +130,8 @@ module _ (q : Scene) (w : World Item) where
   -- ---- `a :: b`
 
   owing_grows : (around : Around) (place : Place) (i : Indices) (r : Reading) → Grows (list_owing around place i r)
-  owing_grows around place i r = grows_bind (item_owed around place r i) _ (grows_fits place around.types i r) (λ t. grows_give (I.List r))
+  owing_grows around place i r =
+      grows_bind (item_owed around place (without_holes r) i) _ (grows_fits place around.types i (without_holes r)) (λ t. grows_give (I.List r))
 
   onto_grows : (around : Around) (shape : Shape) (place : Place) (i : Indices) (r : Reading) → Grows (cons_onto around shape place i r)
   onto_grows around shape place i r = by (has_hole r)
@@ -138,8 +139,9 @@ module _ (q : Scene) (w : World Item) where
       by : (b : Bool) → Grows (if b then cons_filled around shape place i r else list_owing around place i r)
       by false = owing_grows around place i r
       by true = grows_bind (filled_here around shape i) (list_like around place i r) (filled_grows around shape i) (λ s.
-          grows_bind (owe_fit place (item_fits (fits around.types) r s)) _
-          (grows_owe_fit place (item_fits (fits around.types) r s) (item_counts around.types (fits around.types) (fits_count around.types deepest) r s)) (λ t.
+          let owed = item_fits (fits around.types) r (without_holes s) in
+          grows_bind (owe_fit place owed) _
+          (grows_owe_fit place owed (item_counts around.types (fits around.types) (fits_count around.types deepest) r (without_holes s))) (λ t.
           owing_grows around place i s))
 
   before_grows : (around : Around) (shape : Shape) (place : Place) (i : Indices) (form : Indices-F Indices Reading)
@@ -169,12 +171,6 @@ module _ (q : Scene) (w : World Item) where
         by (W.Widened i) = cons_due_grows (wanted_item aim)
         by (W.Parts qs) = cons_due_grows (wanted_item aim)
 
--- a literal whose first item leaves nothing open
-fills_at : (q : Scene) (w : World Item) (names : List Kept) (falls : Bool) (shape : Shape) (ps : List Part) → FillsWhole q w shape ps
-    → FillsWhole (at q w names falls) w shape ps
-fills_at q w names falls shape [] h = tt
-fills_at q w names falls shape (p ∷ ps) h = h
-
 -- ---- the kinds
 
 module _ (fit : FitsSuffice) (q : Scene) (w : World Item) where
@@ -201,52 +197,49 @@ module _ (fit : FitsSuffice) (q : Scene) (w : World Item) where
       (λ t.
       grows_bind (row_call around.types place row is) (node_ended k is) (row_call_grows around.types place row is) (grows_ended k is)))))
 
-  module _ (fill : FillingSuffices) where
-    pub list_kind : (shape : Shape) → LiteralFine q w shape (K.List shape)
-    list_kind shape place k ss ps rs fills h right =
-        let fine = all_values q w ss ps rs right h in
-        fine_by q w false false (node q w place k (K.List shape) ps) (kind_meaning (z q w) w place k (K.List shape) rs) (λ around scope. refl)
-        (λ names falls g n f facts scope aim there st.
-        list_fine fit fill (at q w names falls) w scope f facts place k aim there st shape ps rs
-        (fills_at q w names falls shape ps fills) (all_at q w names falls ps rs fine))
-        (λ around scope aim. settled_grows around place k aim (list_walk place k shape ps around scope aim)
-        (grows_bind (items_walk ps around scope shape (wanted_item aim)) (E.list_of place k) (items_grow q w ps rs fine around scope shape (wanted_item aim))
-        (λ x. sized_grows q w place k x.1 (I.List x.0))))
+  pub list_kind : (shape : Shape) → KindFine q w (K.List shape)
+  list_kind shape place k ss ps rs h right =
+      let fine = all_values q w ss ps rs right h in
+      fine_by q w false false (node q w place k (K.List shape) ps) (kind_meaning (z q w) w place k (K.List shape) rs) (λ around scope. refl)
+      (λ names falls g n f facts scope aim there st.
+      list_fine fit (at q w names falls) w scope f facts place k aim there st shape ps rs (all_at q w names falls ps rs fine))
+      (λ around scope aim. settled_grows around place k aim (list_walk place k shape ps around scope aim)
+      (grows_bind (items_walk ps around scope shape (wanted_item aim)) (E.list_of place k) (items_grow q w ps rs fine around scope shape (wanted_item aim))
+      (λ x. sized_grows q w place k x.1 (I.List x.0))))
 
-    pub vector_kind : (shape : Shape) → LiteralFine q w shape (K.Vector shape)
-    vector_kind shape place k ss ps rs fills h right =
-        let fine = all_values q w ss ps rs right h in
-        fine_by q w false false (node q w place k (K.Vector shape) ps) (kind_meaning (z q w) w place k (K.Vector shape) rs) (λ around scope. refl)
-        (λ names falls g n f facts scope aim there st.
-        vector_fine fit fill (at q w names falls) w scope f facts place k aim there st shape ps rs
-        (fills_at q w names falls shape ps fills) (all_at q w names falls ps rs fine))
-        (λ around scope aim. settled_grows around place k aim (vector_walk place k shape ps around scope aim)
-        (grows_bind (items_walk ps around scope shape (wanted_item aim)) (E.vector_of place k)
-        (items_grow q w ps rs fine around scope shape (wanted_item aim))
-        (λ x. sized_grows q w place k x.1 (I.Vector (constant (pos (length x.1))) x.0))))
+  pub vector_kind : (shape : Shape) → KindFine q w (K.Vector shape)
+  vector_kind shape place k ss ps rs h right =
+      let fine = all_values q w ss ps rs right h in
+      fine_by q w false false (node q w place k (K.Vector shape) ps) (kind_meaning (z q w) w place k (K.Vector shape) rs) (λ around scope. refl)
+      (λ names falls g n f facts scope aim there st.
+      vector_fine fit (at q w names falls) w scope f facts place k aim there st shape ps rs (all_at q w names falls ps rs fine))
+      (λ around scope aim. settled_grows around place k aim (vector_walk place k shape ps around scope aim)
+      (grows_bind (items_walk ps around scope shape (wanted_item aim)) (E.vector_of place k)
+      (items_grow q w ps rs fine around scope shape (wanted_item aim))
+      (λ x. sized_grows q w place k x.1 (I.Vector (constant (pos (length x.1))) x.0))))
 
-    pub cons_kind : LikenessSuffices → (shape : Shape) → LiteralFine q w shape (K.Cons shape)
-    cons_kind like shape place k ss [] rs fills h right =
-        wrong_fine q w false false true place k (node q w place k (K.Cons shape) [])
-        (kind_meaning (z q w) w place k (K.Cons shape) rs) (λ around scope. refl) (λ around scope aim. refl)
-    cons_kind like shape place k ss (p ∷ []) rs fills h right =
-        wrong_fine q w false false true place k (node q w place k (K.Cons shape) (p ∷ []))
-        (kind_meaning (z q w) w place k (K.Cons shape) rs) (λ around scope. refl) (λ around scope aim. refl)
-    cons_kind like shape place k ss (p ∷ s ∷ u ∷ ps) rs fills h right =
-        wrong_fine q w false false true place k (node q w place k (K.Cons shape) (p ∷ s ∷ u ∷ ps))
-        (kind_meaning (z q w) w place k (K.Cons shape) rs) (λ around scope. refl) (λ around scope aim. refl)
-    cons_kind like shape place k (c ∷ d ∷ []) (p ∷ s ∷ []) (a ∷ b ∷ []) fills h right =
-        let fine = all_values q w (c ∷ d ∷ []) (p ∷ s ∷ []) (a ∷ b ∷ []) right h in
-        fine_by q w false false (node q w place k (K.Cons shape) (p ∷ s ∷ [])) (kind_meaning (z q w) w place k (K.Cons shape) (a ∷ b ∷ []))
-        (λ around scope. refl)
-        (λ names falls g n f facts scope aim there st.
-        cons_fine fit fill like (at q w names falls) w scope k f facts there p s a b
-        (all_at q w names falls (p ∷ s ∷ []) (a ∷ b ∷ []) fine) place aim st shape fills)
-        (λ around scope aim. settled_grows around place k aim (cons_walk k shape p s around scope aim)
-        (cons_grows q w p s a b fine k around scope shape aim))
-    cons_kind like shape place k [] (p ∷ s ∷ []) rs fills h right = absurd h
-    cons_kind like shape place k (c ∷ ss) (p ∷ s ∷ []) [] fills h right = absurd h
-    cons_kind like shape place k (c ∷ []) (p ∷ s ∷ []) (a ∷ rs) fills h right = absurd h.1
-    cons_kind like shape place k (c ∷ d ∷ ss) (p ∷ s ∷ []) (a ∷ []) fills h right = absurd h.1
-    cons_kind like shape place k (c ∷ d ∷ e ∷ ss) (p ∷ s ∷ []) (a ∷ b ∷ rs) fills h right = absurd h.1.1
-    cons_kind like shape place k (c ∷ d ∷ []) (p ∷ s ∷ []) (a ∷ b ∷ r ∷ rs) fills h right = absurd h.1.1
+  pub cons_kind : (shape : Shape) → KindFine q w (K.Cons shape)
+  cons_kind shape place k ss [] rs h right =
+      wrong_fine q w false false true place k (node q w place k (K.Cons shape) [])
+      (kind_meaning (z q w) w place k (K.Cons shape) rs) (λ around scope. refl) (λ around scope aim. refl)
+  cons_kind shape place k ss (p ∷ []) rs h right =
+      wrong_fine q w false false true place k (node q w place k (K.Cons shape) (p ∷ []))
+      (kind_meaning (z q w) w place k (K.Cons shape) rs) (λ around scope. refl) (λ around scope aim. refl)
+  cons_kind shape place k ss (p ∷ s ∷ u ∷ ps) rs h right =
+      wrong_fine q w false false true place k (node q w place k (K.Cons shape) (p ∷ s ∷ u ∷ ps))
+      (kind_meaning (z q w) w place k (K.Cons shape) rs) (λ around scope. refl) (λ around scope aim. refl)
+  cons_kind shape place k (c ∷ d ∷ []) (p ∷ s ∷ []) (a ∷ b ∷ []) h right =
+      let fine = all_values q w (c ∷ d ∷ []) (p ∷ s ∷ []) (a ∷ b ∷ []) right h in
+      fine_by q w false false (node q w place k (K.Cons shape) (p ∷ s ∷ [])) (kind_meaning (z q w) w place k (K.Cons shape) (a ∷ b ∷ []))
+      (λ around scope. refl)
+      (λ names falls g n f facts scope aim there st.
+      cons_fine fit likeness (at q w names falls) w scope k f facts there p s a b
+      (all_at q w names falls (p ∷ s ∷ []) (a ∷ b ∷ []) fine) place aim st shape)
+      (λ around scope aim. settled_grows around place k aim (cons_walk k shape p s around scope aim)
+      (cons_grows q w p s a b fine k around scope shape aim))
+  cons_kind shape place k [] (p ∷ s ∷ []) rs h right = absurd h
+  cons_kind shape place k (c ∷ ss) (p ∷ s ∷ []) [] h right = absurd h
+  cons_kind shape place k (c ∷ []) (p ∷ s ∷ []) (a ∷ rs) h right = absurd h.1
+  cons_kind shape place k (c ∷ d ∷ ss) (p ∷ s ∷ []) (a ∷ []) h right = absurd h.1
+  cons_kind shape place k (c ∷ d ∷ e ∷ ss) (p ∷ s ∷ []) (a ∷ b ∷ rs) h right = absurd h.1.1
+  cons_kind shape place k (c ∷ d ∷ []) (p ∷ s ∷ []) (a ∷ b ∷ r ∷ rs) h right = absurd h.1.1

@@ -32,7 +32,7 @@ use Rattle.soundness_steps.specs.Values.{AllHave, Belongs, Has, IsWanted}
 use Rattle.soundness_steps.proofs.Steps.{given_back, walks_mean, walks_on}
 use Rattle.soundness_forms.specs.Forms.{FitsSuffice}
 use Rattle.soundness_forms.proofs.Basics.{has_on}
-use Rattle.soundness_values.specs.Named.{AllNarrow, TypesStay}
+use Rattle.soundness_values.specs.Named.{AllNarrow}
 use Rattle.soundness_values.specs.Narrow.{is_narrow}
 use Rattle.soundness_values.proofs.Mappings.{beyonds_same}
 use Rattle.soundness_values.proofs.Narrow.{own_behind}
@@ -48,6 +48,11 @@ known_types (Some rs) = rs
 module _ (set : Setting) (work : Work) {n : ℕ} (f : Point n) where
   abbrev pub NumbersStay : List Index → Type 0
   NumbersStay js = (g : Integers) → Agree f g → assigned (standing set.past g) js ≡ assigned (standing set.past f.integers) js
+
+  -- of Type parameters
+  abbrev pub TypesStay : List Reading → Type 0
+  TypesStay qs = (g : Integers) → Agree f g → map (closed set.around.types (standing set.past g) work.types) qs
+      ≡ map (closed set.around.types (standing set.past f.integers) work.types) qs
 
   -- what was owed of a part further in, under the Type arguments that are known
   abbrev pub AllDue : Option (List Reading) → List Typ → List Value → Type 0
@@ -101,7 +106,7 @@ module _ (fit : FitsSuffice) (q : Scene) (js : List Index) (qs : List Reading) {
       (filled_same q.set.around.types (standing q.set.past g) q.work.types qs)
       ∙ (λ j. reading t (numbers g a j) (closeds (types_or_own (stays g a j) q.work.types)))
 
-  part_wanted : {m : ℕ} (p : Point m) → Later f p → (t : Typ) → IsWanted q.set q.work p (Q.Of t js (types_without_holes qs))
+  pub part_wanted : {m : ℕ} (p : Point m) → Later f p → (t : Typ) → IsWanted q.set q.work p (Q.Of t js (types_without_holes qs))
   part_wanted p l t = (
     λ g a. part_is g (agree_on l a) t ∙ sym (part_is p.integers (agree_on l (same p)) t),
     of_full t js (types_without_holes qs) (filled_full q.set.around.types (standing q.set.past p.integers) q.work.types qs),

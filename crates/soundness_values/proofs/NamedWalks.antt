@@ -1,5 +1,5 @@
 -- The walk over a value of a named type, where no Type arguments are wanted: its parts belong to the types of the definition.
-use Rattle.std.proofs.Common.{◌≡◌, ℕ, pos, true, List, [], ◌∷◌, map, length, Option, Some, refl, sym, ap, ◌∙◌, subst, if◌then◌else◌}
+use Rattle.std.proofs.Common.{◌≡◌, ℕ, pos, false, true, List, [], ◌∷◌, map, length, Option, Some, None, refl, sym, ap, ◌∙◌, subst, if◌then◌else◌}
 use Rattle.sail_base.specs.declared.place.Place.{Place}
 use Rattle.sail_types.specs.Belongs.{Reading as Closed, assigned}
 use Rattle.sail_types.specs.Numbers.{Assignment}
@@ -12,9 +12,11 @@ use Rattle.value_indices.specs.declared.indices.Indices.TheOpen as W
 use Rattle.value_indices.specs.declared.indices.Indices.TheVariants as I
 use Rattle.value_indices.specs.declared.indices.Reading.{Reading}
 use Rattle.value_indices.specs.declared.notes.Fact.{Fact}
-use Rattle.value_indices.specs.Steps.{bind, give}
-use Rattle.call_arguments.specs.Callees.{indices_from, number_parameters, type_parameters, types_from, types_or}
-use Rattle.call_notes.specs.Calls.{made_named, parts_owed}
+use Rattle.value_indices.specs.Steps.{bind, give, next_variable}
+use Rattle.call_arguments.specs.Callees.{number_parameters, type_parameters, types_from, types_or}
+use Rattle.call_fits.specs.Calls.{AreArguments}
+use Rattle.call_fits.proofs.Types.{types_steady}
+use Rattle.call_notes.specs.Calls.{made_named, named_with, parts_owed}
 use Rattle.call_notes.specs.Ends.{never_value}
 use Rattle.fitting_laws.proofs.Standing.{EachHad}
 use Rattle.value_laws.specs.Belonging.{Integers, Meant, closed, closeds, has, index_there, meant, standing}
@@ -32,9 +34,11 @@ use Rattle.soundness_steps.specs.Values.{AllHave, Has}
 use Rattle.soundness_steps.proofs.Steps.{given_back, known_walk, walks_on}
 use Rattle.soundness_forms.specs.Forms.{FitsSuffice}
 use Rattle.soundness_forms.proofs.Parts.{none_never}
-use Rattle.soundness_values.specs.Named.{AllNarrow, TypesStay}
-use Rattle.soundness_values.proofs.Named.{AllDue, NumbersStay, SameMany, all_due_on, have_later, parts_are}
+use Rattle.soundness_values.specs.Named.{AllNarrow}
+use Rattle.soundness_values.proofs.Filling.{walks_next}
+use Rattle.soundness_values.proofs.Named.{AllDue, NumbersStay, SameMany, TypesStay, all_due_on, have_later, parts_are}
 use Rattle.soundness_values.proofs.Numbered.{all_go}
+use Rattle.soundness_values.proofs.Seen.{KnownWanted, known_stay}
 use Rattle.soundness_values.proofs.Taken.{walks_later}
 use Rattle.soundness_values.proofs.Unions.{AllOfTypes}
 
@@ -84,13 +88,41 @@ module _ (set : Setting) (work : Work) where
         ∙ sym (meant_is set.around.types (mu_at p.integers) work.types (I.Named u js qs) (W.Named u js qs) (I.rolls-Named u js qs));
   }
 
+-- parts, as arguments none of which owes further in
+pub arguments_are : (q : Scene) {n : ℕ} (f : Point n) (places : List Place) (ts : List Typ) (is : List Indices) (vs : List Value)
+    → SameMany places ts is → AllHave q.set q.work f is vs
+    → AreArguments q.set.around.types q.set.past q.work.types f (map (λ (t : Typ). false) ts) ts is vs
+arguments_are q f [] [] [] [] many have = tt
+arguments_are q f (place ∷ places) (t ∷ ts) (i ∷ is) (v ∷ vs) many have = (
+  record {
+    steady = λ g a. have.0.steady g a ∙ sym (have.0.steady f.integers (same f));
+    is_so = ap (λ (m : Meant). m.holds v) (have.0.steady f.integers (same f)) ∙ have.0.is_so;
+  },
+  tt,
+  arguments_are q f places ts is vs many have.1,
+)
+arguments_are q f [] [] [] (v ∷ vs) many have = absurd have
+arguments_are q f (place ∷ places) (t ∷ ts) (i ∷ is) [] many have = absurd have
+arguments_are q f [] (t ∷ ts) is vs many have = absurd many
+arguments_are q f [] [] (i ∷ is) vs many have = absurd many
+arguments_are q f (place ∷ places) [] is vs many have = absurd many
+arguments_are q f (place ∷ places) (t ∷ ts) [] vs many have = absurd many
+
 module _ (fit : FitsSuffice) (q : Scene) {n : ℕ} (f : Point n) (u : ℕ) (ps : List Parameter) (places : List Place)
     (known : Option (List Reading)) (ts : List Typ) (is : List Indices) (vs : List Value) where
   abbrev qs : List Reading
-  qs = types_or known (types_from 0 (type_parameters ps) ts is)
+  qs = types_or known (types_from n 0 (type_parameters ps) ts is)
 
   as_known : (rs : List Reading) → known ≡ Some rs → rs ≡ qs
-  as_known rs e = sym (ap (λ o. types_or o (types_from 0 (type_parameters ps) ts is)) e)
+  as_known rs e = sym (ap (λ o. types_or o (types_from n 0 (type_parameters ps) ts is)) e)
+
+  -- what the parts give the Type parameters, where no wanted type does
+  found_stay : (o : Option (List Reading)) → KnownWanted q.set q.work f o → SameMany places ts is → AllHave q.set q.work f is vs
+      → TypesStay q.set q.work f (types_or o (types_from n 0 (type_parameters ps) ts is))
+  found_stay None h many have =
+      types_steady q.set.around.types q.set.past q.work.types f (map (λ (t : Typ). false) ts) (type_parameters ps) 0 ts is vs
+      (arguments_are q f places ts is vs many have)
+  found_stay (Some rs) h many have = known_stay q.set q.work f rs h
 
   -- what the walk gives
   pub record NamedIs {m : ℕ} (g : Point m) (i : Indices) : Type 0 where
@@ -101,11 +133,13 @@ module _ (fit : FitsSuffice) (q : Scene) {n : ℕ} (f : Point n) (u : ℕ) (ps :
     pub belong : AllOfTypes q.set.around.types (assigned (standing q.set.past g.integers) numbers) (closeds (types_at q.set q.work qs g.integers)) ts vs
 
   pub named_walks : {facts : List Fact} → SameMany places ts is → AllHave q.set q.work f is vs → AllDue q.set q.work f known ts vs → AllNarrow (length qs) ts
-      → TypesStay q.set q.work f qs → Walks q n f facts (made_named (here q) u ps places known ts is) (λ m g i. NamedIs g i)
-  named_walks {facts} many have due narrow stays =
-      subst (λ b. Walks q n f facts (if b then never_value else bind (indices_from 0 (number_parameters ps) ts is) (λ js.
-      bind (parts_owed (here q) places known ts is js qs) (λ x. give (I.Named u js qs)))) (λ m g i. NamedIs g i))
+      → KnownWanted q.set q.work f known → Walks q n f facts (made_named (here q) u ps places known ts is) (λ m g i. NamedIs g i)
+  named_walks {facts} many have due narrow wanted =
+      let stays : TypesStay q.set q.work f qs = found_stay known wanted many have in
+      subst (λ b. Walks q n f facts (if b then never_value else bind next_variable (λ m.
+      named_with (here q) u ps places known ts is (types_or known (types_from m 0 (type_parameters ps) ts is)))) (λ m g i. NamedIs g i))
       (sym (none_never q.set q.work f is vs have))
+      (walks_next (λ m. named_with (here q) u ps places known ts is (types_or known (types_from m 0 (type_parameters ps) ts is)))
       (walks_on (λ js. bind (parts_owed (here q) places known ts is js qs) (λ x. give (I.Named u js qs)))
       (walks_later (known_walk (all_go q.set.around.types q.set.past q.work.types f ts is vs (all_had q.set q.work f is vs have) (Knowing.no_later f) 0
       (number_parameters ps)))) (λ m g fs js l k.
@@ -124,4 +158,4 @@ module _ (fit : FitsSuffice) (q : Scene) {n : ℕ} (f : Point n) (u : ℕ) (ps :
             (sym (numbers_stay q.set q.work g js indices g2.integers (agree_on l2 (same g2))))
             (subst (λ cs. AllOfTypes q.set.around.types (assigned (standing q.set.past g.integers) js) (closeds cs) ts vs)
             (sym (types g2.integers (agree_on l2 (same g2)))) h.1);
-      }))))
+      })))))

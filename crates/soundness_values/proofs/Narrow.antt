@@ -26,7 +26,7 @@ use Rattle.value_laws.proofs.Basics.{fronts, no}
 use Rattle.value_laws.proofs.Values.{answer, questions, inner, form_asked, belongs_out, belongs_form, inner_is}
 use Rattle.soundness_values.specs.Narrow.{form_narrow, is_narrow}
 
-narrow_as : (count : ℕ) (x : Typ-F Typ) (t : Typ) → roll-Typ x ≡ t → is_narrow count t ≡ form_narrow count (map-Typ Typ Bool (is_narrow count) x)
+pub narrow_as : (count : ℕ) (x : Typ-F Typ) (t : Typ) → roll-Typ x ≡ t → is_narrow count t ≡ form_narrow count (map-Typ Typ Bool (is_narrow count) x)
 narrow_as count x t e = ap (is_narrow count) (sym e) ∙ fold-roll-Typ Bool (form_narrow count) x
 
 module _ (types : Types) (count : ℕ) where

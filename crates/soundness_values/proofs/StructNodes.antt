@@ -39,10 +39,11 @@ use Rattle.soundness_forms.specs.Forms.{AllFine, FitsSuffice}
 use Rattle.soundness_forms.specs.Worlds.{Surrounds}
 use Rattle.soundness_forms.proofs.Nodes.{node_ends, typed_on}
 use Rattle.soundness_forms.proofs.Parts.{EachIs, all_have, are_typed, each_fine}
-use Rattle.soundness_values.specs.Named.{AllBelow, AllNarrow, StructStands, TypesFromStay}
+use Rattle.soundness_values.specs.Named.{AllNarrow}
 use Rattle.soundness_values.proofs.Dues.{parts_aimed, parts_due, taken_as, types_long}
 use Rattle.soundness_values.proofs.Made.{parts_node}
 use Rattle.soundness_values.proofs.NamedWalks.{named_has, named_walks}
+use Rattle.soundness_values.proofs.Stands.{AllBelow, StructStands}
 use Rattle.soundness_values.proofs.Structs.{AllGiven, struct_made}
 use Rattle.soundness_values.proofs.Unions.{AllOfTypes}
 
@@ -79,7 +80,7 @@ module _ (types : Types) (mu : Assignment) (rs : Closeds) (fs : List Field) (u :
 
 -- ---- the node
 
-module _ (fit : FitsSuffice) (stay : TypesFromStay) (q : Scene) (w : World Item) (scope : Scope) (place : Place) (k u : ℕ) (ks : List ℕ) (ps : List Part)
+module _ (fit : FitsSuffice) (q : Scene) (w : World Item) (scope : Scope) (place : Place) (k u : ℕ) (ks : List ℕ) (ps : List Part)
     (stands : StructStands q u ks ps) where
   abbrev ts : List Typ
   ts = fields_of (here q) u ks
@@ -96,22 +97,22 @@ module _ (fit : FitsSuffice) (stay : TypesFromStay) (q : Scene) (w : World Item)
       let due = parts_due q.set q.work f None ps ts is xs stands.parts e in
       walks_then (node_ended k is)
       (named_walks fit q f u parameters (places_of ps) None ts is (vals xs) due.1 have due.0
-      (subst (λ count. AllNarrow count ts) (sym (types_long 0 (type_parameters parameters) ts is)) stands.narrow)
-      (stay q n f (type_parameters parameters) ts is (vals xs) have)) (λ m g fs i l h.
-      let made = struct_made q.set.around.types (standing q.set.past g.integers) q.work.types u h.numbers (types_from 0 (type_parameters parameters) ts is)
+      (subst (λ count. AllNarrow count ts) (sym (types_long n 0 (type_parameters parameters) ts is)) stands.narrow)
+      tt) (λ m g fs i l h.
+      let made = struct_made q.set.around.types (standing q.set.past g.integers) q.work.types u h.numbers (types_from n 0 (type_parameters parameters) ts is)
       stands.all_fields ks (vals xs) stands.is_struct stands.as_long stands.each
       (given_of q.set.around.types (assigned (standing q.set.past g.integers) h.numbers)
-      (closeds (map (closed q.set.around.types (standing q.set.past g.integers) q.work.types) (types_from 0 (type_parameters parameters) ts is)))
+      (closeds (map (closed q.set.around.types (standing q.set.past g.integers) q.work.types) (types_from n 0 (type_parameters parameters) ts is)))
       stands.all_fields u ks (vals xs) stands.below
       (subst (λ o. AllOfTypes q.set.around.types (assigned (standing q.set.past g.integers) h.numbers)
-      (closeds (map (closed q.set.around.types (standing q.set.past g.integers) q.work.types) (types_from 0 (type_parameters parameters) ts is)))
+      (closeds (map (closed q.set.around.types (standing q.set.past g.integers) q.work.types) (types_from n 0 (type_parameters parameters) ts is)))
       (fields_at ks o) (vals xs)) stands.is_struct h.belong)) in
       subst (λ o. Beside q m g fs (node_ended k is i) (needs o then λ v. (checked q.set.around.types q.cases).make k xs v) (λ m2 d j y. Is q.set q.work d j y))
       (sym made.is)
       (subst (λ j. Beside q m g fs (node_ended k is j) ((checked q.set.around.types q.cases).make k xs made.value) (λ m2 d j2 y. Is q.set q.work d j2 y))
       (sym h.is_it)
-      (node_ends k is (I.Named u h.numbers (types_from 0 (type_parameters parameters) ts is)) xs made.value (typed_on q.set q.work is xs l typed)
-      (named_has q.set q.work g u h.numbers (types_from 0 (type_parameters parameters) ts is) made.value h.indices_stay h.types_stay made.has_it))))
+      (node_ends k is (I.Named u h.numbers (types_from n 0 (type_parameters parameters) ts is)) xs made.value (typed_on q.set q.work is xs l typed)
+      (named_has q.set q.work g u h.numbers (types_from n 0 (type_parameters parameters) ts is) made.value h.indices_stay h.types_stay made.has_it))))
 
   pub struct_fine : {n : ℕ} (f : Point n) (facts : List Fact) (aim : Aim) → Surrounds q w f scope → AimSteady q.set q.work f aim → (rs : List (Run Item Item))
       → AllFine q w ps rs

@@ -25,7 +25,7 @@ use Rattle.value_laws.specs.Belonging.{closed, closeds, form_holds, has}
 use Rattle.value_laws.proofs.Alike.{asks}
 use Rattle.value_laws.proofs.Basics.{no, two}
 use Rattle.value_laws.proofs.Values.{has_form}
-use Rattle.soundness_values.specs.Named.{is_in}
+use Rattle.soundness_values.proofs.Stands.{is_in}
 use Rattle.soundness_values.proofs.Unions.{AllOfTypes, each_of_types, same_nat, set_here, set_long, set_there}
 
 neither : (a b : Bool) → a ≡ false → b ≡ false → (a || b) ≡ false

@@ -34,12 +34,12 @@ pub fn functions_are_fine()
     ensures { FunctionsAreFine }
 {}
 
-/// So does a struct whose fields are each given once.
+/// So does a struct.
 pub fn structs_are_fine()
     ensures { StructsAreFine }
 {}
 
-/// So does a constructor on an argument for each part of its payload.
+/// So does a constructor.
 pub fn constructors_are_fine()
     ensures { ConstructorsAreFine }
 {}
