@@ -24,7 +24,7 @@ use Rattle.soundness_forms.specs.Forms.{AllFine, Fine, FitsSuffice, z}
 use Rattle.soundness_forms.specs.Worlds.{Surrounds}
 use Rattle.soundness_values.specs.Calls.{CountStands}
 use Rattle.soundness_values.specs.Filling.{FillingSuffices, LiteralFine}
-use Rattle.soundness_values.specs.Mappings.{MappingsClosed}
+use Rattle.soundness_forms.specs.Mappings.{MappingsClosed}
 use Rattle.soundness_values.specs.Named.{ConstructorStands, KnownCount, StructStands, TypesFromStay}
 
 -- tuples

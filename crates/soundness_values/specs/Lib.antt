@@ -1,7 +1,6 @@
 pub mod Widening
 pub mod Filling
 pub mod Likeness
-pub mod Mappings
 pub mod Calls
 pub mod Narrow
 pub mod Named
