@@ -41,7 +41,6 @@ use Rattle.fitting_laws.proofs.Deep.{fitting}
 use Rattle.fitting_laws.proofs.Holes.{of_full}
 use Rattle.pattern_laws.specs.Beside.{AllMet, Stands, Ends, OfSizes, Behind, Beside}
 use Rattle.pattern_laws.specs.Typing.{Typing, Bears, HeldBears, NamesBear}
-use Rattle.pattern_laws.specs.Standing.{Standing, given_stands}
 use Rattle.pattern_laws.specs.Grounds.{IsGiven, Ways}
 use Rattle.pattern_laws.proofs.Conditions.{goals_said, true_both, given_both}
 use Rattle.pattern_laws.proofs.Growing.{item_grows}
@@ -172,8 +171,8 @@ module _ (around : Around) (past : Positive) (own : List Closed) {fit : OfSizes}
   names_written f form r (b ∷ bs) (l ∷ ls) h =
       let one = one_written f form r b l (h.0, h.1) in (one.0, one.1, names_written f form r bs ls h.2)
 
-  pub typed_beside : {n : ℕ} {f : Point n} {facts : List Fact} (place : Place) (wr : Written) (how : Matching) (a : Look) (m : Matcher Item) (k : Standing)
-      → Well around past own y q cases w a m k → (i : Indices) (x : Item) → Has f i x → Good f → k x.typ ≡ true
+  pub typed_beside : {n : ℕ} {f : Point n} {facts : List Fact} (place : Place) (wr : Written) (how : Matching) (a : Look) (m : Matcher Item) (k : Bool)
+      → Well around past own y q cases w a m k → (i : Indices) (x : Item) → Has f i x → Good f → k ≡ true
       → Beside q past n f facts (typed_met place wr a around how i) (m x) Found
   typed_beside {n} {f} {facts} place wr how a m k h i x b s t =
       then_gives (map (written_at (out-Naming a.naming) (written_in around wr)))
@@ -210,8 +209,8 @@ module _ (around : Around) (past : Positive) (own : List Closed) {fit : OfSizes}
   }
 
   maps_on : {n : ℕ} {f : Point n} {facts : List Fact} → Ways around past own y q w → (place : Place) (how : Matching) (d : ℕ) (a : Look) (m : Matcher Item)
-      (k : Standing) → Well around past own y q cases w a m k → (i : Indices) (x : Item) → Has f i x → Good f → (o : Option Direction)
-      → slice_get around.directions d ≡ o → given_stands around.types k o ≡ true
+      (k : Bool) → Well around past own y q cases w a m k → (i : Indices) (x : Item) → Has f i x → Good f → (o : Option Direction)
+      → slice_get around.directions d ≡ o → k ≡ true
       → Beside q past n f facts (direction_met place d o result_of a around how i) (w.way d x then m) Found
   maps_on ways place how d a m k h i x b s None e t = wrongs place
   maps_on {n} {f} {facts} ways place how d a m k h i x b s (Some dir) e t =
@@ -221,14 +220,12 @@ module _ (around : Around) (past : Positive) (own : List Closed) {fit : OfSizes}
       taken_by place dir i x b inner (item_grows around place how a h.grows (result_of dir)) met stands)
       (λ takes. first_runs (ways d dir x reached e takes) (λ v given.
       after_beside (parameter_owed around place dir i)
-      (item_beside around past own y q cases w place how a m k h (result_of dir) v (given_of dir.result v given) s
-      (subst (λ typ. k typ ≡ true) (sym given.typ) t))
+      (item_beside around past own y q cases w place how a m k h (result_of dir) v (given_of dir.result v given) s t)
       (λ m k p g bs ls l n. names_on around.types past own y bs ls l n)
       (λ m g fs l stands. fit_quiet facts place i dir.parameter [] x (fit_of i dir.parameter [] x (bears_on around.types past own y l b)
       (λ j c. plain_same j g.integers dir.parameter)) stands)))))
 
   pub maps_beside : {n : ℕ} {f : Point n} {facts : List Fact} → Ways around past own y q w → (place : Place) (how : Matching) (d : ℕ) (a : Look)
-      (m : Matcher Item) (k : Standing) → Well around past own y q cases w a m k → (i : Indices) (x : Item) → Has f i x → Good f
-      → given_stands around.types k (slice_get around.directions d) ≡ true
+      (m : Matcher Item) (k : Bool) → Well around past own y q cases w a m k → (i : Indices) (x : Item) → Has f i x → Good f → k ≡ true
       → Beside q past n f facts (direction_met place d (slice_get around.directions d) result_of a around how i) (w.way d x then m) Found
   maps_beside ways place how d a m k h i x b s t = maps_on ways place how d a m k h i x b s (slice_get around.directions d) refl t

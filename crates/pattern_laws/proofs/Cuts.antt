@@ -1,8 +1,7 @@
 -- Concatenations in patterns: the parts of the value have the widths that the walk gives them.
-use Rattle.std.proofs.Common.{◌≡◌, ℕ, zero, suc, ◌+◌, ◌-◌, ◌≤◌, ◌^◌, min, nat_eq, ℤ, pos, negsuc, ◌+ℤ◌, ◌-ℤ◌, int_le, Bool, true, false, ◌&&◌, List, [], ◌∷◌}
+use Rattle.std.proofs.Common.{◌≡◌, ℕ, zero, suc, ◌+◌, ◌-◌, ◌≤◌, ◌^◌, min, nat_eq, pos, ◌+ℤ◌, ◌-ℤ◌, int_le, Bool, true, false, ◌&&◌, List, [], ◌∷◌}
 use Rattle.std.proofs.Common.{map, length, take, drop, Option, Some, None, option_map, if◌then◌else◌, refl, sym, ap, ◌∙◌, subst, arith, length-take}
 use Rattle.std.proofs.Common.{length-drop}
-use Rattle.std.specs.List.{list_all}
 use Rattle.std.specs.Ordering.{int_eq}
 use Rattle.std.proofs.lemmas.Bool.{and_parts, leb-true, le-leb}
 use Rattle.std.proofs.lemmas.Bool.Decides.{Decides-eqb, Decides-int_eq}
@@ -15,7 +14,6 @@ use Rattle.sail_types.specs.Numbers.{Assignment, Positive, number}
 use Rattle.sail_types.specs.Sums.{and_then, constant, difference, read, sum, zero_num}
 use Rattle.sail_types.proofs.SumNumbers.{some_same, then_parts, sum_number_is, difference_number}
 use Rattle.sail_types.proofs.Substituted.{number_constant}
-use Rattle.sail_types.specs.declared.table.Types.{Types}
 use Rattle.sail_types.specs.declared.numbers.Con.TheVariants as C
 use Rattle.sail_types.specs.declared.numbers.Num.{Num}
 use Rattle.sail_types.specs.declared.values.Value.{Value, Value-F, out-Value}
@@ -46,7 +44,7 @@ use Rattle.pattern_notes.specs.Patterns.{Look, cut_parts, cut_met}
 use Rattle.value_laws.specs.Belonging.{Integers, standing, form_holds}
 use Rattle.value_laws.specs.Known.{Point, Agree, Later, Goes}
 use Rattle.value_laws.proofs.Basics.{no, two}
-use Rattle.value_laws.proofs.Steps.{same, agree_on, gives, goes_on, goes_then}
+use Rattle.value_laws.proofs.Steps.{same, agree_on, gives, goes_as, goes_on, goes_then}
 use Rattle.value_laws.proofs.Numbers.{at_most_is, number_read, truth_is}
 use Rattle.value_laws.proofs.Values.{meant_is}
 use Rattle.value_laws.proofs.Meanings.{bits_same}
@@ -54,14 +52,15 @@ use Rattle.value_laws.proofs.Knowing.{form_meant, number_goes}
 use Rattle.pattern_laws.specs.Beside.{AllMet, Stands, Ends, OfSizes, Behind, Beside}
 use Rattle.fitting_laws.specs.Fitting.{Said}
 use Rattle.pattern_laws.specs.Typing.{Typing, Bears}
-use Rattle.pattern_laws.specs.Standing.{Standing, is_there, is_known, widths_stand, at_widths}
+use Rattle.pattern_laws.specs.Standing.{each_stands, is_number, number_owns, width_stands, widths_stand}
 use Rattle.pattern_laws.proofs.Conditions.{equal_numbers, goals_said, met_behind, met_front}
 use Rattle.pattern_laws.proofs.Steps.{walks, knowing, after_beside, owed_quiet, met_after}
 use Rattle.pattern_laws.proofs.KnownNumbers.{known_number}
+use Rattle.pattern_laws.proofs.OwnNumbers.{number_is, own_known}
 use Rattle.pattern_laws.proofs.Literals.{pos_same}
 use Rattle.pattern_laws.proofs.Values.{bits_had, wide_as}
 use Rattle.pattern_laws.proofs.Points.{Kept, Is, EachIs, EachSuits, all_bear, names_on, note_goes}
-use Rattle.pattern_laws.proofs.Parts.{reads, Grounds, grounds_on, Names, AllWell, EachStands, parts_beside, seen_parts}
+use Rattle.pattern_laws.proofs.Parts.{reads, Grounds, grounds_on, Names, AllWell, all_stand, parts_beside, seen_parts}
 use Rattle.pattern_laws.proofs.Heads.{as_many_stand}
 
 -- ---- the widths of a run
@@ -84,26 +83,6 @@ EachKnown nu [] [] = Unit {0}
 EachKnown nu (None ∷ ws) (None ∷ ns) = EachKnown nu ws ns
 EachKnown nu (Some t ∷ ws) (Some n ∷ ns) = (known nu t ≡ Some (pos n)) × EachKnown nu ws ns
 EachKnown nu ws ns = ⊥
-
-natural_known : (o : Option ℤ) → is_there (and_then o natural_of) ≡ true → (n : ℕ) × (o ≡ Some (pos n))
-natural_known None h = no h
-natural_known (Some (pos n)) h = (n, refl)
-natural_known (Some (negsuc n)) h = no h
-
-widths_known : (nu : Givens) (ws : List (Option Num)) → widths_stand nu ws ≡ true
-    → (ns : List (Option ℕ)) × (widths_of nu ws ≡ Some ns) × EachKnown nu ws ns
-widths_known nu [] h = ([], refl, tt)
-widths_known nu (Some t ∷ ws) h =
-    let both = and_parts (is_known nu t) (widths_stand nu ws) h in
-    let n = natural_known (known nu t) both.0 in
-    let more = widths_known nu ws both.1 in (
-      Some n.0 ∷ more.0,
-      (λ j. and_then (option_map Some (and_then (n.1 j) natural_of)) (λ m. option_map (λ ns. m ∷ ns) (more.1 j))),
-      (n.1, more.2),
-    )
-widths_known nu (None ∷ ws) h =
-    let more = widths_known nu ws h in
-    (None ∷ more.0, ap (λ o. and_then (Some None) (λ m. option_map (λ ns. m ∷ ns) o)) more.1, more.2)
 
 known_long : (nu : Givens) (ws : List (Option Num)) (ns : List (Option ℕ)) → EachKnown nu ws ns → length ns ≡ length ws
 known_long nu [] [] h = refl
@@ -142,22 +121,7 @@ used_up width ns fits = by (rests ns) refl
         omega (arith, l, s)
     by (suc (suc k)) e = let l : rests ns ≤ 1 = fits.2 in absurd (omega (arith, l, e))
 
--- at bits of each width
-width_by : (p : Sized → Bool) (types : Types) (m n : ℕ) (b : Bool) → nat_eq n (suc m) ≡ b → n ≤ suc m → p (fixed_typ types (bits_typ (suc m))) ≡ true
-    → (n ≤ m → p (fixed_typ types (bits_typ n)) ≡ true) → p (fixed_typ types (bits_typ n)) ≡ true
-width_by p types m n true e l h k = subst (λ i. p (fixed_typ types (bits_typ i)) ≡ true) (sym ((Decides-eqb n (suc m)).0 e)) h
-width_by p types m n false e l h k = let differs : n ≡ suc m → ⊥ = λ s. no (sym e ∙ (Decides-eqb n (suc m)).1 s) in k (omega (arith, l, differs))
-
-at_width : (p : Sized → Bool) (types : Types) (m n : ℕ) → n ≤ m → at_widths types m p ≡ true → p (fixed_typ types (bits_typ n)) ≡ true
-at_width p types zero n l h = subst (λ k. p (fixed_typ types (bits_typ k)) ≡ true) (none_below n l) h
-  where
-    none_below : (n : ℕ) → n ≤ 0 → 0 ≡ n
-    none_below n l = omega arith
-at_width p types (suc m) n l h =
-    let both = and_parts (p (fixed_typ types (bits_typ (suc m)))) (at_widths types m p) h in
-    width_by p types m n (nat_eq n (suc m)) refl l both.0 (λ k. at_width p types m n k both.1)
-
-small_width : (n : ℕ) → n ≤ 128 → is_small (pos n) ≡ true
+pub small_width : (n : ℕ) → n ≤ 128 → is_small (pos n) ≡ true
 unfolding largest
 small_width n l = le-leb n (2 ^ 126) (omega (arith, l))
 
@@ -273,6 +237,71 @@ module _ (around : Around) (past : Positive) (own : List Closed) {fit : OfSizes}
       (goes_then (widths_go place rest os ks behind (stands_behind first stands) (gives_on rest os ks first.goes.later h.1)) (λ m2 g2 fs2 is l2 e2.
       gives (i ∷ is) (λ j c. (first.goes.holds j (agree_on l2 c), e2 j c))))
 
+  -- ---- widths that are written are known: their sizes are noted
+
+  number_quiet : {n : ℕ} {f : Point n} {facts : List Fact} (o : Option Num) → Goes past n f facts (number_or_fresh o) (λ g t. Unit {0})
+  unfolding number_or_fresh
+  number_quiet (Some u) = gives u (λ g a. tt)
+  number_quiet None =
+      goes_as (number_goes around.types past own None (pos 0) (small_width 0 (omega arith)) (λ u e. absurd (cc))) (λ g t e. tt)
+
+  part_quiet : {n : ℕ} {f : Point n} {facts : List Fact} (place : Place) (o : Option Num) → Goes past n f facts (bits_part place o) (λ g i. Unit {0})
+  part_quiet place o =
+      goes_then (number_quiet o) (λ m g fs u l e.
+      goes_then (note_goes (λ here. size_note here place (Makes.ByIndices (I.Bits u)))) (λ m2 g2 fs2 t l2 e2. gives (I.Bits u) (λ i c. tt)))
+
+  -- the size of a number that is said, where it is noted
+  part_sized : {n : ℕ} {f : Point n} {facts : List Fact} (place : Place) (t : Num) → AllMet q past (bits_part place (Some t) facts n).notes
+      → Stands q past f facts → fit f.integers (Makes.ByIndices (I.Bits t))
+  unfolding number_or_fresh give bind note
+  part_sized {f = f} place t met stands = met.0 f.integers (stands.there f.integers (same f)) (stands.so f.integers (same f))
+
+  abbrev Widths : List (Option Num) → Type 0
+  Widths ws = (ns : List (Option ℕ)) × (widths_of w.numbers ws ≡ Some ns) × EachKnown w.numbers ws ns
+
+  width_found : {n : ℕ} {f : Point n} {facts : List Fact} (place : Place) (t : Num) → Good f → width_stands around.numbers t ≡ true
+      → AllMet q past (bits_part place (read around.numbers t) facts n).notes → Stands q past f facts → (k : ℕ) × (known w.numbers t ≡ Some (pos k))
+  width_found {n} {f} {facts} place t s h met stands =
+      let both = and_parts (number_owns around.numbers t) (is_number t (read around.numbers t)) h in
+      let size = part_sized {n = n} {f = f} {facts = facts} place t
+      (subst (λ o. AllMet q past (bits_part place o facts n).notes) (number_is t (read around.numbers t) both.1) met) stands in
+      let k = y.kept.width f.integers t size in
+      (k.0, own_known past around.numbers w.numbers f.integers (s.given f.integers (same f)) t both.0 ∙ k.1)
+
+  widths_found : (place : Place) (rest : Option Num) (ws : List (Option Num)) → widths_stand around.numbers ws ≡ true → {n : ℕ} {f : Point n}
+      {facts : List Fact} → Good f → AllMet q past (each (cut_width place rest) (known_widths around ws) facts n).notes → Stands q past f facts → Widths ws
+  unfolding bind
+  widths_found place rest [] h s met stands = ([], refl, tt)
+  widths_found place rest (None ∷ ws) h {n} {f} {facts} s met stands =
+      let one = bits_part place rest in
+      let others = each (cut_width place rest) (known_widths around ws) in
+      let quiet : Goes past n f facts one (λ g i. Unit {0}) = part_quiet place rest in
+      let behind = met_front q past (others (one facts n).facts (one facts n).next).notes _ (met_behind q past (one facts n).notes _ met) in
+      let more = widths_found place rest ws h (grounds_on around past own y q cases w quiet.goes.later s) behind (stands_behind quiet stands) in
+      (None ∷ more.0, ap (λ o. and_then (Some None) (λ m. option_map (λ ns. m ∷ ns) o)) more.1, more.2)
+  widths_found place rest (Some t ∷ ws) h {n} {f} {facts} s met stands =
+      let both = and_parts (width_stands around.numbers t) (widths_stand around.numbers ws) h in
+      let one = bits_part place (read around.numbers t) in
+      let others = each (cut_width place rest) (known_widths around ws) in
+      let quiet : Goes past n f facts one (λ g i. Unit {0}) = part_quiet place (read around.numbers t) in
+      let behind = met_front q past (others (one facts n).facts (one facts n).next).notes _ (met_behind q past (one facts n).notes _ met) in
+      let first = width_found {n = n} {f = f} {facts = facts} place t s both.0 (met_front q past (one facts n).notes _ met) stands in
+      let more = widths_found place rest ws both.1 (grounds_on around past own y q cases w quiet.goes.later s) behind (stands_behind quiet stands) in (
+        Some first.0 ∷ more.0,
+        (λ j. and_then (option_map Some (and_then (first.1 j) natural_of)) (λ m. option_map (λ ns. m ∷ ns) (more.1 j))),
+        (first.1, more.2),
+      )
+
+  cut_found : {n : ℕ} {f : Point n} {facts : List Fact} (place : Place) (how : Matching) (looks : List Look) (ws : List (Option Num)) (t : Num)
+      → widths_stand around.numbers ws ≡ true → Good f → AllMet q past (cut_met place looks around how (known_widths around ws) t facts n).notes
+      → Stands q past f facts → Widths ws
+  unfolding bind
+  cut_found {n} {f} {facts} place how looks ws t h s met stands =
+      let os = known_widths around ws in
+      let rest = and_then (first_sum os) (difference t) in
+      let parts = (met_after q past n facts (cut_parts place looks around how os rest) (cut_owed place os t) met).0 in
+      widths_found place rest ws h s (met_front q past (each (cut_width place rest) os facts n).notes _ parts) stands
+
   -- ---- the run's parts
 
   -- parts of these widths
@@ -307,23 +336,6 @@ module _ (around : Around) (past : Positive) (own : List Closed) {fit : OfSizes}
         (subst (λ (i : Item). (bits_kept n).0.holds i.val ≡ true) (sym h.0.1) (bits_hold n h.0.0 h.0.2 (omega (arith, le))), ap (λ (i : Item). i.typ) h.0.1),
         bits_suit ns xs (omega (arith, le)) h.1,
       )
-
-  bits_stand : (ns : List ℕ) (xs : List Item) (ss : List Standing) → all ns ≤ 128 → EachBits ns xs → length ss ≡ length ns
-      → list_all (at_widths around.types 128) ss ≡ true → EachStands around past own y q cases w ss xs
-  bits_stand [] [] [] l h e t = tt
-  bits_stand [] [] (s ∷ ss) l h e t = absurd (cc)
-  bits_stand [] (x ∷ xs) ss l h e t = absurd h
-  bits_stand (n ∷ ns) [] ss l h e t = absurd h
-  bits_stand (n ∷ ns) (x ∷ xs) [] l h e t = absurd (cc)
-  bits_stand (n ∷ ns) (x ∷ xs) (s ∷ ss) l h e t =
-      let le : n + all ns ≤ 128 = l in
-      let both = and_parts (at_widths around.types 128 s) (list_all (at_widths around.types 128) ss) t in (
-        subst (λ (i : Item). s i.typ ≡ true) (sym h.0.1) (at_width s around.types 128 n (omega (arith, le)) both.0),
-        bits_stand ns xs ss (omega (arith, le)) h.1 (suc_same e) both.1,
-      )
-    where
-      suc_same : {i j : ℕ} → suc i ≡ suc j → i ≡ j
-      suc_same k = cc
 
   bits_long : (ns : List ℕ) (xs : List Item) → EachBits ns xs → length xs ≡ length ns
   bits_long [] [] h = refl
@@ -460,26 +472,26 @@ module _ (around : Around) (past : Positive) (own : List Closed) {fit : OfSizes}
       widths_go place rest os ks (met_front q past (each (cut_width place rest) os facts n).notes _ met) stands h
 
   pub cut_beside : {n : ℕ} {f : Point n} {facts : List Fact} (place : Place) (how : Matching) (looks : List Look) (ms : List (Matcher Item))
-      (ss : List Standing) → AllWell around past own y q cases w looks ms ss → (ws : List (Option Num)) (t : Num) (x : Item)
+      (ss : List Bool) → AllWell around past own y q cases w looks ms ss → (ws : List (Option Num)) (t : Num) (x : Item)
       → Bears around.types past own y f (I.Bits t) x → Good f
-      → ((nat_eq (length ws) (length ss) && widths_stand w.numbers ws) && list_all (at_widths around.types 128) ss) ≡ true
+      → ((nat_eq (length ws) (length ss) && widths_stand around.numbers ws) && each_stands ss) ≡ true
       → (v : Value-F Value) → out-Value x.val ≡ v
       → Beside q past n f facts (cut_met place looks around how (known_widths around ws) t)
       (as_run (so_many (length ms) (opened z w.numbers (H.Cut ws) (length ms) x v)) then run_parts ms) Found
   cut_beside {n} {f} {facts} place how looks ms ss fine ws t x b s d (V.Bits bs) e =
-      let one = and_parts (nat_eq (length ws) (length ss) && widths_stand w.numbers ws) (list_all (at_widths around.types 128) ss) d in
-      let both = and_parts (nat_eq (length ws) (length ss)) (widths_stand w.numbers ws) one.0 in
-      let found = widths_known w.numbers ws both.1 in
-      let ns = found.0 in
+      let one = and_parts (nat_eq (length ws) (length ss) && widths_stand around.numbers ws) (each_stands ss) d in
+      let both = and_parts (nat_eq (length ws) (length ss)) (widths_stand around.numbers ws) one.0 in
       let held : (g : Integers) → Agree f g → form_holds around.types (there g) own (W.Bits t) (V.Bits bs) ≡ true =
       λ g a. ap (form_holds around.types (there g) own (W.Bits t)) (sym e) ∙ bits_had around.types past own g t x.val (b.has_it g a) in
       let wide : (g : Integers) → Agree f g → number (there g) t ≡ pos (length bs) = λ g a. wide_as around.types past own g t bs (held g a) in
       let few : length bs ≤ 128 =
       leb-true (length bs) 128 (and_parts (int_eq (pos (length bs)) (number (there f.integers) t)) (is_width (length bs)) (held f.integers (same f))).1 in
-      knowing (cut_fits s place how looks ws ns found.2 t (length bs) (wide f.integers (same f))) (λ fit.
+      knowing (cut_found place how looks ws t both.1 s) (λ found.
+      let ns = found.0 in
+      knowing (cut_fits s place how looks ws ns found.2 t (length bs) (wide f.integers (same f))) (λ fits.
       let left = length bs - known_sum ns in
       let widths = map (solved left) ns in
-      let up : all widths ≡ length bs = used_up (length bs) ns fit in
+      let up : all widths ≡ length bs = used_up (length bs) ns fits in
       let parts = cut_gives widths bs up in
       let enough : all widths ≤ 128 = omega (arith, up, few) in
       let many : length widths ≡ length ss =
@@ -492,12 +504,12 @@ module _ (around : Around) (past : Positive) (own : List Closed) {fit : OfSizes}
       (bits_long widths parts.0 parts.2 ∙ many ∙ as_many_stand around past own y q cases w looks ms ss fine)
       (after_beside (cut_owed place (known_widths around ws) t)
       (knowing (parts_go place how looks rest (known_widths around ws) widths
-      (each_said f s rest ws ns left found.2 enough (rest_is s ws ns found.2 t (length bs) wide fit.0))) (λ go. walks go
+      (each_said f s rest ws ns left found.2 enough (rest_is s ws ns found.2 t (length bs) wide fits.0))) (λ go. walks go
       (λ m g fs is l is_so. parts_beside around past own y q cases w place how looks ms ss fine is parts.0
       (all_bear around.types past own y is (map bits_kept widths) parts.0 (bits_suit widths parts.0 enough parts.2) is_so)
-      (grounds_on around past own y q cases w l s) (bits_stand widths parts.0 ss enough parts.2 (sym many) one.1))))
+      (grounds_on around past own y q cases w l s) (all_stand around past own y q cases w ss one.1))))
       (λ m k p g bs ls l h. names_on around.types past own y bs ls l h)
-      (λ m g fs l stands. owed_quiet facts place _ stands))))
+      (λ m g fs l stands. owed_quiet facts place _ stands)))))
   cut_beside {f = f} place how looks ms ss fine ws t x b s d v e =
       no (ap (form_holds around.types (there f.integers) own (W.Bits t)) (sym e)
       ∙ bits_had around.types past own f.integers t x.val (b.has_it f.integers (same f)))

@@ -1,7 +1,6 @@
 -- Patterns that open tuples, vectors and lists.
 use Rattle.std.proofs.Common.{◌≡◌, ℕ, suc, nat_eq, pos, Bool, true, false, ◌&&◌, List, [], ◌∷◌, ◌++◌, map, length, reverse, Some, refl, sym, ap, ◌∙◌, subst}
-use Rattle.std.proofs.Common.{append-nil}
-use Rattle.std.specs.List.{list_all}
+use Rattle.std.proofs.Common.{append-nil, if◌then◌else◌}
 use Rattle.std.proofs.lemmas.List.{length-reverse, length-map}
 use Rattle.std.proofs.lemmas.Bool.{and_parts}
 use Rattle.std.proofs.lemmas.Bool.Decides.{Decides-eqb}
@@ -14,9 +13,8 @@ use Rattle.sail_types.specs.declared.numbers.Num.{Num}
 use Rattle.sail_types.specs.declared.values.Value.{Value, Value-F, out-Value}
 use Rattle.sail_types.specs.declared.values.Value.TheOpen as V
 use Rattle.sail_types.specs.declared.values.Value.TheVariants as VV
-use Rattle.size_values.specs.declared.sized.Sized.{out-Sized}
 use Rattle.sail_core.specs.Run.{Local, Run, gives, ◌then◌}
-use Rattle.sail_core.specs.Making.{Making, World, component, one_item}
+use Rattle.sail_core.specs.Making.{Making, World, one_item}
 use Rattle.sail_core.specs.declared.patterns.Head.TheVariants as H
 use Rattle.sail_core.specs.Patterns.{Parts, parts_if, components, items, opened, so_many, as_run, Matcher, parts_match as run_parts}
 use Rattle.value_indices.specs.declared.indices.Indices.{Indices}
@@ -29,23 +27,24 @@ use Rattle.value_indices.specs.Opening.{equal}
 use Rattle.checked_meaning.specs.Items.{Item, item, part_typ}
 use Rattle.checked_meaning.specs.Checked.{Cases}
 use Rattle.pattern_leaves.specs.declared.names.Bound.{Bound}
+use Rattle.pattern_leaves.specs.Literals.{wrong_pattern}
 use Rattle.pattern_leaves.specs.Settings.{Around}
 use Rattle.pattern_notes.specs.declared.matching.Matching.{Matching}
-use Rattle.pattern_notes.specs.Patterns.{Look, inside, parts_match, items_met, cons_met, vector_met, length_owed}
+use Rattle.pattern_notes.specs.Patterns.{Look, inside, each_match, parts_match, items_met, cons_met, vector_met, length_owed}
 use Rattle.value_laws.specs.Belonging.{Integers, standing, Meant, meant, closed, has, form_holds, each_holds}
 use Rattle.value_laws.specs.Known.{Point, Agree}
 use Rattle.value_laws.proofs.Basics.{no}
 use Rattle.value_laws.proofs.Steps.{same, agree_on}
 use Rattle.pattern_laws.specs.Beside.{AllMet, Stands, Ends, OfSizes, Behind, Beside}
-use Rattle.pattern_laws.specs.Typing.{Typing, Bears, AllBear, EachFits, NamesBear, tuple_size}
-use Rattle.pattern_laws.specs.Standing.{Standing, is_size, parts_stand}
+use Rattle.pattern_laws.specs.Typing.{Typing, Bears, AllBear, EachFits, NamesBear}
+use Rattle.pattern_laws.specs.Standing.{each_stands}
 use Rattle.pattern_laws.proofs.Conditions.{equal_numbers, goals_said}
-use Rattle.pattern_laws.proofs.Steps.{knowing, falling, ends_as, after_beside, owed_quiet, met_after}
+use Rattle.pattern_laws.proofs.Steps.{wrongs, knowing, falling, ends_as, after_beside, owed_quiet, met_after}
 use Rattle.pattern_laws.proofs.Literals.{pos_same}
 use Rattle.pattern_laws.proofs.Values.{list_had, list_has, vector_had, tuple_had, long_as, vector_items, all_reversed, AllWide, list_wide, vector_wide}
 use Rattle.pattern_laws.proofs.Values.{tuple_wide}
 use Rattle.pattern_laws.proofs.Points.{names_on, AllOf, all_of}
-use Rattle.pattern_laws.proofs.Parts.{reads, Grounds, grounds_on, Names, Well, AllWell, EachStands, also_beside, parts_beside, item_beside, items_beside}
+use Rattle.pattern_laws.proofs.Parts.{reads, Grounds, grounds_on, Names, Well, AllWell, all_stand, also_beside, parts_beside, item_beside, items_beside}
 use Rattle.pattern_laws.proofs.Parts.{as_many, seen_parts}
 
 module _ (around : Around) (past : Positive) (own : List Closed) {fit : OfSizes} (y : Typing around.types past own fit) (q : Ends fit) (cases : Cases)
@@ -56,7 +55,7 @@ module _ (around : Around) (past : Positive) (own : List Closed) {fit : OfSizes}
   abbrev Good : {n : ℕ} → Point n → Type 0
   Good f = Grounds around past own y q cases w f
 
-  abbrev Fine : List Look → List (Matcher Item) → List Standing → Type 0
+  abbrev Fine : List Look → List (Matcher Item) → List Bool → Type 0
   Fine looks ms ss = AllWell around past own y q cases w looks ms ss
 
   abbrev Has : {n : ℕ} → Point n → Indices → Item → Type 0
@@ -65,8 +64,8 @@ module _ (around : Around) (past : Positive) (own : List Closed) {fit : OfSizes}
   abbrev z : Making Item
   z = reads around past own y q cases w
 
-  -- as many standings as patterns
-  pub as_many_stand : (looks : List Look) (ms : List (Matcher Item)) (ss : List Standing) → Fine looks ms ss → length ss ≡ length ms
+  -- as many tests as patterns
+  pub as_many_stand : (looks : List Look) (ms : List (Matcher Item)) (ss : List Bool) → Fine looks ms ss → length ss ≡ length ms
   as_many_stand [] [] [] h = refl
   as_many_stand [] [] (k ∷ ss) h = absurd h
   as_many_stand [] (m ∷ ms) ss h = absurd h
@@ -85,18 +84,6 @@ module _ (around : Around) (past : Positive) (own : List Closed) {fit : OfSizes}
   pub components_long : (x : Item) (k : ℕ) (vs : List Value) → length (components z x k vs) ≡ length vs
   components_long x k [] = refl
   components_long x k (v ∷ vs) = ap suc (components_long x (suc k) vs)
-
-  pub components_stand : (ss : List Standing) (x : Item) (k : ℕ) (vs : List Value) → length vs ≡ length ss
-      → parts_stand around.types ss k x.typ ≡ true → EachStands around past own y q cases w ss (components z x k vs)
-  components_stand [] x k [] e h = tt
-  components_stand [] x k (v ∷ vs) e h = absurd (cc)
-  components_stand (s ∷ ss) x k [] e h = absurd (cc)
-  components_stand (s ∷ ss) x k (v ∷ vs) e h =
-      let both = and_parts (s (part_typ around.types (component k) x.typ)) (parts_stand around.types ss (suc k) x.typ) h in
-      (both.0, components_stand ss x (suc k) vs (suc_same e) both.1)
-    where
-      suc_same : {i j : ℕ} → suc i ≡ suc j → i ≡ j
-      suc_same k = cc
 
   components_bear : {n : ℕ} {f : Point n} (x : Item) (k : ℕ) (is : List Indices) (vs : List Value)
       → ((g : Integers) → Agree f g → each_holds (map (meant around.types (standing past g) own) is) vs ≡ true)
@@ -119,27 +106,37 @@ module _ (around : Around) (past : Positive) (own : List Closed) {fit : OfSizes}
         components_bear x (suc k) is vs (λ g a. (parts g a).1) (λ g a. (e g a).1) (λ g a. (t g a).1),
       )
 
+  -- as many patterns as parts, or false is owed
+  pub by_count : {n : ℕ} {f : Point n} {facts : List Fact} (place : Place) (how : Matching) (looks : List Look) (is : List Indices)
+      {c : Run Item (List (Local Item))} → (length looks ≡ length is → Beside q past n f facts (parts_match place looks around how is) c Found)
+      → Beside q past n f facts (parts_match place looks around how is) c Found
+  by_count {n} {f} {facts} place how looks is {c} next = by (nat_eq (length looks) (length is)) refl
+    where
+      by : (b : Bool) → nat_eq (length looks) (length is) ≡ b → Beside q past n f facts (parts_match place looks around how is) c Found
+      by true e = next ((Decides-eqb (length looks) (length is)).0 e)
+      by false e =
+          subst (λ b. Beside q past n f facts (if b then each_match place looks around how is else wrong_pattern place) c Found) (sym e) (wrongs place)
+
   pub tuple_beside : {n : ℕ} {f : Point n} {facts : List Fact} (place : Place) (how : Matching) (looks : List Look) (ms : List (Matcher Item))
-      (ss : List Standing) → Fine looks ms ss → (is : List Indices) (x : Item) → Has f (I.Tuple is) x → Good f
-      → (is_size (length ss) (tuple_size (out-Sized x.typ)) && parts_stand around.types ss 0 x.typ) ≡ true → (v : Value-F Value) → out-Value x.val ≡ v
+      (ss : List Bool) → Fine looks ms ss → (is : List Indices) (x : Item) → Has f (I.Tuple is) x → Good f → each_stands ss ≡ true
+      → (v : Value-F Value) → out-Value x.val ≡ v
       → Beside q past n f facts (parts_match place looks around how is)
       (as_run (so_many (length ms) (opened z w.numbers H.Tuple (length ms) x v)) then run_parts ms) Found
   tuple_beside {f = f} place how looks ms ss fine is x b s t (V.Tuple vs) e =
       let held : (g : Integers) → Agree f g → each_holds (map (meant around.types (standing past g) own) is) vs ≡ true =
       λ g a. ap (form_holds around.types (standing past g) own (W.Tuple (map (meant around.types (standing past g) own) is))) (sym e)
       ∙ tuple_had around.types past own g is x.val (b.has_it g a) in
-      let both = and_parts (is_size (length ss) (tuple_size (out-Sized x.typ))) (parts_stand around.types ss 0 x.typ) t in
-      let sized : length is ≡ length ss = (Decides-eqb (length is) (length ss)).0
-      (ap (is_size (length ss)) (sym (y.kept.size f.integers is x.typ (b.typed f.integers (same f)))) ∙ both.0) in
+      by_count place how looks is (λ count.
       let long : length vs ≡ length is =
       holds_long (map (meant around.types (standing past f.integers) own) is) vs (held f.integers (same f))
       ∙ length-map is (meant around.types (standing past f.integers) own) in
-      seen_parts around past own y q cases w ms (components z x 0 vs) (components_long x 0 vs ∙ long ∙ sized ∙ as_many_stand looks ms ss fine)
+      seen_parts around past own y q cases w ms (components z x 0 vs)
+      (components_long x 0 vs ∙ long ∙ sym count ∙ sym (as_many around past own y q cases w looks ms ss fine))
       (parts_beside around past own y q cases w place how looks ms ss fine is (components z x 0 vs)
       (components_bear x 0 is vs held
       (λ g a. tuple_wide around.types past own g f.integers is (b.is_wide g a ∙ sym (b.is_wide f.integers (same f))))
       (λ g a. y.kept.parts g is x.typ (b.typed g a)))
-      s (components_stand ss x 0 vs (long ∙ sized) both.1))
+      s (all_stand around past own y q cases w ss t)))
   tuple_beside {f = f} place how looks ms ss fine is x b s t v e =
       no (ap (form_holds around.types (standing past f.integers) own (W.Tuple (map (meant around.types (standing past f.integers) own) is))) (sym e)
       ∙ tuple_had around.types past own f.integers is x.val (b.has_it f.integers (same f)))
@@ -163,8 +160,8 @@ module _ (around : Around) (past : Positive) (own : List Closed) {fit : OfSizes}
   if_so k ms xs false h = falling
 
   pub list_beside : {n : ℕ} {f : Point n} {facts : List Fact} (place : Place) (how : Matching) (looks : List Look) (ms : List (Matcher Item))
-      (ss : List Standing) → Fine looks ms ss → (r : Reading) (x : Item) → Has f (I.List r) x → Good f
-      → list_all (λ k. k (part_typ around.types one_item x.typ)) ss ≡ true → (v : Value-F Value) → out-Value x.val ≡ v
+      (ss : List Bool) → Fine looks ms ss → (r : Reading) (x : Item) → Has f (I.List r) x → Good f
+      → each_stands ss ≡ true → (v : Value-F Value) → out-Value x.val ≡ v
       → Beside q past n f facts (items_met place looks around how r)
       (as_run (so_many (length ms) (opened z w.numbers H.List (length ms) x v)) then run_parts ms) Found
   list_beside place how looks ms ss fine r x b s t (V.List vs) e =
@@ -172,7 +169,7 @@ module _ (around : Around) (past : Positive) (own : List Closed) {fit : OfSizes}
       let long : length vs ≡ length ms = (Decides-eqb (length vs) (length ms)).0 c in
       seen_parts around past own y q cases w ms (items z x vs) (length-map vs (item (part_typ around.types one_item x.typ)) ∙ long)
       (items_beside around past own y q cases w place how looks ms ss fine r (part_typ around.types one_item x.typ) vs
-      (long ∙ as_many around past own y q cases w looks ms ss fine) (list_of r x b vs e) s t))
+      (long ∙ as_many around past own y q cases w looks ms ss fine) (list_of r x b vs e) s (all_stand around past own y q cases w ss t)))
   list_beside {f = f} place how looks ms ss fine r x b s t v e =
       no (ap (form_holds around.types (standing past f.integers) own (W.List (closed around.types (standing past f.integers) own r))) (sym e)
       ∙ list_had around.types past own f.integers r x.val (b.has_it f.integers (same f)))
@@ -182,14 +179,14 @@ module _ (around : Around) (past : Positive) (own : List Closed) {fit : OfSizes}
       → Beside q past n f facts walk (c then λ found. gives (found ++ [])) Found
   alone b = ends_as (λ found. found ++ []) b (λ m p bs ls l h. subst (λ ks. NamesBear around.types past own y m p bs ks) (sym (append-nil ls)) h)
 
-  pub cons_beside : {n : ℕ} {f : Point n} {facts : List Fact} (place : Place) (how : Matching) (a b : Look) (m k : Matcher Item) (s t : Standing)
+  pub cons_beside : {n : ℕ} {f : Point n} {facts : List Fact} (place : Place) (how : Matching) (a b : Look) (m k : Matcher Item) (s t : Bool)
       → Well around past own y q cases w a m s → Well around past own y q cases w b k t → (r : Reading) (x : Item) → Has f (I.List r) x → Good f
-      → (s (part_typ around.types one_item x.typ) && t x.typ) ≡ true → (v : Value-F Value) → out-Value x.val ≡ v
+      → (s && t) ≡ true → (v : Value-F Value) → out-Value x.val ≡ v
       → Beside q past n f facts (cons_met place (a ∷ b ∷ []) around how r)
       (as_run (so_many 2 (opened z w.numbers H.Cons 2 x v)) then run_parts (m ∷ k ∷ [])) Found
   cons_beside place how a b m k s t fine good r x h g d (V.List []) e = falling
   cons_beside {f = f} place how a b m k s t fine good r x h g d (V.List (v ∷ vs)) e =
-      let both = and_parts (s (part_typ around.types one_item x.typ)) (t x.typ) d in
+      let both = and_parts s t d in
       let all = list_of r x h (v ∷ vs) e in
       also_beside around past own y q cases w (item_beside around past own y q cases w place how a m s fine r _ all.0 g both.0) (λ m2 p fs l.
       alone (good.beside (inside how) (I.List r) (item x.typ (VV.List vs)) m2 p fs (record {
@@ -217,8 +214,8 @@ module _ (around : Around) (past : Positive) (own : List Closed) {fit : OfSizes}
       ∙ equal_numbers (standing past f.integers) (constant (pos (length looks))) t said.0 ∙ e))
 
   pub vector_beside : {n : ℕ} {f : Point n} {facts : List Fact} (place : Place) (how : Matching) (looks : List Look) (ms : List (Matcher Item))
-      (ss : List Standing) → Fine looks ms ss → (t : Num) (r : Reading) (x : Item) → Has f (I.Vector t r) x → Good f
-      → list_all (λ k. k (part_typ around.types one_item x.typ)) ss ≡ true → (v : Value-F Value) → out-Value x.val ≡ v
+      (ss : List Bool) → Fine looks ms ss → (t : Num) (r : Reading) (x : Item) → Has f (I.Vector t r) x → Good f
+      → each_stands ss ≡ true → (v : Value-F Value) → out-Value x.val ≡ v
       → Beside q past n f facts (vector_met place looks around how t r)
       (as_run (so_many (length ms) (opened z w.numbers H.Vector (length ms) x v)) then run_parts ms) Found
   vector_beside {f = f} place how looks ms ss fine t r x b s d (V.Vector vs) e =
@@ -235,7 +232,8 @@ module _ (around : Around) (past : Positive) (own : List Closed) {fit : OfSizes}
       (all_of around.types past own y r typ c (reverse vs)
       (λ g a. vector_wide around.types past own g f.integers t r (b.is_wide g a ∙ sym (b.is_wide f.integers (same f))))
       (λ g a. y.kept.vector_item g t r x.typ (b.typed g a))
-      (all_reversed (λ v. belongs around.types v c) vs (vector_items around.types past own f.integers t c vs held))) s d)
+      (all_reversed (λ v. belongs around.types v c) vs (vector_items around.types past own f.integers t c vs held))) s
+      (all_stand around past own y q cases w ss d))
       (λ m k p g bs ls l h. names_on around.types past own y bs ls l h)
       (λ m g fs l stands. owed_quiet _ place _ stands)))
   vector_beside {f = f} place how looks ms ss fine t r x b s d v e =

@@ -1,5 +1,6 @@
 pub mod Conditions
 pub mod KnownNumbers
+pub mod OwnNumbers
 pub mod Steps
 pub mod Values
 pub mod Steady

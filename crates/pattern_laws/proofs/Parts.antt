@@ -2,7 +2,6 @@
 use Rattle.std.proofs.Common.{◌≡◌, ℕ, suc, nat_eq, Bool, true, false, List, [], ◌∷◌, ◌++◌, map, length, refl, sym, ap, subst, if◌then◌else◌}
 use Rattle.std.proofs.lemmas.Bool.{and_parts}
 use Rattle.std.proofs.lemmas.Bool.Decides.{Decides-eqb}
-use Rattle.std.specs.List.{list_all}
 use Rattle.sail_base.specs.declared.place.Place.{Place}
 use Rattle.sail_types.specs.Belongs.{Reading as Closed}
 use Rattle.sail_types.specs.Numbers.{Positive}
@@ -31,7 +30,7 @@ use Rattle.fitting_laws.proofs.Counting.{Grows}
 use Rattle.pattern_laws.specs.Beside.{AllMet, Stands, Ends, OfSizes, Behind, Beside}
 use Rattle.pattern_laws.specs.Typing.{Typing, Bears, AllBear, NamesBear}
 use Rattle.pattern_laws.specs.Grounds.{Grounded}
-use Rattle.pattern_laws.specs.Standing.{Standing}
+use Rattle.pattern_laws.specs.Standing.{each_stands}
 use Rattle.pattern_laws.proofs.Steps.{binds, knowing, walks, rests, wrongs}
 use Rattle.pattern_laws.proofs.Points.{all_on, names_on, names_both, one_bears, ItemOf, AllOf, of_each, takes}
 
@@ -48,28 +47,35 @@ module _ (around : Around) (past : Positive) (own : List Closed) {fit : OfSizes}
   Grounds f = Grounded past around w.numbers f
 
   pub grounds_on : {n m : ℕ} {f : Point n} {g : Point m} → Later f g → Grounds f → Grounds g
-  grounds_on {f} {g} l s = record { still = still_later past f g around.numbers l s.still; says = λ h a. s.says h (agree_on l a) }
+  grounds_on {f} {g} l s = record {
+    still = still_later past f g around.numbers l s.still;
+    given = λ h a. s.given h (agree_on l a);
+    says = λ h a. s.says h (agree_on l a);
+  }
 
   -- the names of a pattern
   abbrev pub Names : Behind (List Bound) (List (Local Item))
   Names m p bs ls = NamesBear around.types past own y m p bs ls
 
   -- a pattern: its walk beside its run
-  pub record Well (look : Look) (matcher : Matcher Item) (stands : Standing) : Type 0 where
+  pub record Well (look : Look) (matcher : Matcher Item) (stands : Bool) : Type 0 where
     pub beside : (how : Matching) (i : Indices) (x : Item) (n : ℕ) (f : Point n) (facts : List Fact) → Bears around.types past own y f i x → Grounds f
-        → stands x.typ ≡ true → Beside q past n f facts (look.match_with around how i) (matcher x) Names
+        → stands ≡ true → Beside q past n f facts (look.match_with around how i) (matcher x) Names
     pub grows : (how : Matching) (i : Indices) → Grows (look.match_with around how i)
 
-  abbrev pub AllWell : List Look → List (Matcher Item) → List Standing → Type 0
+  abbrev pub AllWell : List Look → List (Matcher Item) → List Bool → Type 0
   AllWell [] [] [] = Unit {0}
   AllWell (a ∷ looks) (m ∷ ms) (s ∷ ss) = Well a m s × AllWell looks ms ss
   AllWell looks ms ss = ⊥
 
-  -- what is matched stands where it does
-  abbrev pub EachStands : List Standing → List Item → Type 0
-  EachStands [] [] = Unit {0}
-  EachStands (s ∷ ss) (x ∷ xs) = (s x.typ ≡ true) × EachStands ss xs
-  EachStands ss xs = ⊥
+  -- each stands
+  abbrev pub AllStand : List Bool → Type 0
+  AllStand [] = Unit {0}
+  AllStand (s ∷ ss) = (s ≡ true) × AllStand ss
+
+  pub all_stand : (ss : List Bool) → each_stands ss ≡ true → AllStand ss
+  all_stand [] h = tt
+  all_stand (s ∷ ss) h = let both = and_parts s (each_stands ss) h in (both.0, all_stand ss both.1)
 
   -- the names of a first part, and those of the others
   abbrev pub both_found : Run Item (List (Local Item)) → Run Item (List (Local Item)) → Run Item (List (Local Item))
@@ -87,8 +93,8 @@ module _ (around : Around) (past : Positive) (own : List Closed) {fit : OfSizes}
   -- ---- parts from left to right
 
   in_order_beside : {n : ℕ} {f : Point n} {facts : List Fact} (place : Place) (how : Matching) (looks : List Look) (ms : List (Matcher Item))
-      (ss : List Standing) → AllWell looks ms ss → (is : List Indices) (xs : List Item) → AllBear around.types past own y f is xs → Grounds f
-      → EachStands ss xs → Beside q past n f facts (each_match place looks around how is) (run_parts ms xs) Names
+      (ss : List Bool) → AllWell looks ms ss → (is : List Indices) (xs : List Item) → AllBear around.types past own y f is xs → Grounds f
+      → AllStand ss → Beside q past n f facts (each_match place looks around how is) (run_parts ms xs) Names
   in_order_beside place how [] [] [] h [] [] b s t = rests [] [] tt
   in_order_beside place how [] [] [] h [] (x ∷ xs) b s t = absurd b
   in_order_beside place how [] [] [] h (i ∷ is) xs b s t = wrongs place
@@ -103,8 +109,8 @@ module _ (around : Around) (past : Positive) (own : List Closed) {fit : OfSizes}
       in_order_beside place how looks ms ss h.1 is xs (all_on around.types past own y is xs l b.1) (grounds_on l s) t.1)
 
   pub parts_beside : {n : ℕ} {f : Point n} {facts : List Fact} (place : Place) (how : Matching) (looks : List Look) (ms : List (Matcher Item))
-      (ss : List Standing) → AllWell looks ms ss → (is : List Indices) (xs : List Item) → AllBear around.types past own y f is xs → Grounds f
-      → EachStands ss xs → Beside q past n f facts (parts_match place looks around how is) (run_parts ms xs) Names
+      (ss : List Bool) → AllWell looks ms ss → (is : List Indices) (xs : List Item) → AllBear around.types past own y f is xs → Grounds f
+      → AllStand ss → Beside q past n f facts (parts_match place looks around how is) (run_parts ms xs) Names
   parts_beside {n} {f} {facts} place how looks ms ss h is xs b s t = by (nat_eq (length looks) (length is))
     where
       by : (c : Bool) → Beside q past n f facts (if c then each_match place looks around how is else wrong_pattern place) (run_parts ms xs) Names
@@ -113,8 +119,8 @@ module _ (around : Around) (past : Positive) (own : List Closed) {fit : OfSizes}
 
   -- ---- items
 
-  pub item_beside : {n : ℕ} {f : Point n} {facts : List Fact} (place : Place) (how : Matching) (a : Look) (m : Matcher Item) (k : Standing) → Well a m k
-      → (r : Reading) (x : Item) → ItemOf around.types past own y f r x → Grounds f → k x.typ ≡ true
+  pub item_beside : {n : ℕ} {f : Point n} {facts : List Fact} (place : Place) (how : Matching) (a : Look) (m : Matcher Item) (k : Bool) → Well a m k
+      → (r : Reading) (x : Item) → ItemOf around.types past own y f r x → Grounds f → k ≡ true
       → Beside q past n f facts (item_met place a around how r) (m x) Names
   unfolding bind note
   item_beside {n} {f} {facts} place how a m k h r x o s t =
@@ -126,8 +132,8 @@ module _ (around : Around) (past : Positive) (own : List Closed) {fit : OfSizes}
       h.beside (inside how) i x m2 g fs (one_bears around.types past own y (made.0, x.typ) x (made.1, refl) is) (grounds_on l s) t))
 
   pub items_beside : {n : ℕ} {f : Point n} {facts : List Fact} (place : Place) (how : Matching) (looks : List Look) (ms : List (Matcher Item))
-      (ss : List Standing) → AllWell looks ms ss → (r : Reading) (s : Sized) (vs : List Value) → length vs ≡ length looks
-      → AllOf around.types past own y f r s vs → Grounds f → list_all (λ k. k s) ss ≡ true
+      (ss : List Bool) → AllWell looks ms ss → (r : Reading) (s : Sized) (vs : List Value) → length vs ≡ length looks
+      → AllOf around.types past own y f r s vs → Grounds f → AllStand ss
       → Beside q past n f facts (items_met place looks around how r) (run_parts ms (map (item s) vs)) Names
   items_beside place how [] [] [] h r s [] e o g t = rests [] [] tt
   items_beside place how [] [] [] h r s (v ∷ vs) e o g t = absurd (cc)
@@ -137,15 +143,14 @@ module _ (around : Around) (past : Positive) (own : List Closed) {fit : OfSizes}
   items_beside place how (a ∷ looks) (m ∷ ms) [] h r s vs e o g t = absurd h
   items_beside place how (a ∷ looks) (m ∷ ms) (k ∷ ss) h r s [] e o g t = absurd (cc)
   items_beside {n} {f} {facts} place how (a ∷ looks) (m ∷ ms) (k ∷ ss) h r s (v ∷ vs) e o g t =
-      let both = and_parts (k s) (list_all (λ j. j s) ss) t in
-      also_beside (item_beside place how a m k h.0 r (item s v) o.0 g both.0) (λ m2 g2 fs l.
-      items_beside place how looks ms ss h.1 r s vs (suc_same e) (of_each around.types past own y r s vs l o.1) (grounds_on l g) both.1)
+      also_beside (item_beside place how a m k h.0 r (item s v) o.0 g t.0) (λ m2 g2 fs l.
+      items_beside place how looks ms ss h.1 r s vs (suc_same e) (of_each around.types past own y r s vs l o.1) (grounds_on l g) t.1)
     where
       suc_same : {i j : ℕ} → suc i ≡ suc j → i ≡ j
       suc_same k = cc
 
   -- as many
-  pub as_many : (looks : List Look) (ms : List (Matcher Item)) (ss : List Standing) → AllWell looks ms ss → length ms ≡ length looks
+  pub as_many : (looks : List Look) (ms : List (Matcher Item)) (ss : List Bool) → AllWell looks ms ss → length ms ≡ length looks
   as_many [] [] [] h = refl
   as_many [] [] (k ∷ ss) h = absurd h
   as_many [] (m ∷ ms) ss h = absurd h

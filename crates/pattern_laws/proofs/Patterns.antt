@@ -1,7 +1,8 @@
 -- Patterns, form by form, and arms.
-use Rattle.std.proofs.Common.{◌≡◌, ℕ, suc, Bool, true, false, ◌&&◌, List, [], ◌∷◌, ◌++◌, map, length, refl, sym, ap, ◌∙◌, subst, if◌then◌else◌}
+use Rattle.std.proofs.Common.{◌≡◌, ℕ, suc, Bool, true, List, [], ◌∷◌, ◌++◌, map, length, refl, sym, ap, ◌∙◌, subst, if◌then◌else◌}
 use Rattle.std.proofs.lemmas.Bool.Decides.{Decides-eqb}
 use Rattle.std.proofs.lemmas.Bool.{and_parts}
+use Rattle.std.proofs.lemmas.List.{length-map}
 use Rattle.sail_base.specs.declared.place.Place.{Place}
 use Rattle.sail_types.specs.Belongs.{Reading as Closed}
 use Rattle.sail_types.specs.Numbers.{Positive}
@@ -24,7 +25,7 @@ use Rattle.value_indices.specs.declared.indices.Indices.TheViews.{roll-out-Indic
 use Rattle.value_indices.specs.declared.indices.Reading.{Reading}
 use Rattle.value_indices.specs.declared.notes.Fact.{Fact}
 use Rattle.value_indices.specs.Steps.{Walk}
-use Rattle.checked_meaning.specs.Items.{Item, typs}
+use Rattle.checked_meaning.specs.Items.{Item}
 use Rattle.checked_meaning.specs.Checked.{Cases}
 use Rattle.pattern_leaves.specs.declared.names.Bound.{Bound}
 use Rattle.pattern_leaves.specs.Settings.{Around, bound}
@@ -36,16 +37,16 @@ use Rattle.value_laws.proofs.Basics.{no}
 use Rattle.value_laws.proofs.Steps.{same}
 use Rattle.pattern_laws.specs.Beside.{Ends, OfSizes, Behind, Beside}
 use Rattle.pattern_laws.specs.Typing.{Typing, Bears, AllBear}
-use Rattle.pattern_laws.specs.Standing.{Standing, form_stands, head_stands, stands, each_stands, arm_stands}
+use Rattle.pattern_laws.specs.Standing.{each_stands, form_stands, head_stands, stands, arm_stands}
 use Rattle.pattern_laws.specs.Grounds.{Ways}
 use Rattle.pattern_laws.specs.Laws.{PatternIsSound, ArmIsSound, LetIsSound, ends_of, typing_of, PatternsAreSound, ArmsAreSound, LetsAreSound}
 use Rattle.pattern_laws.proofs.Growing.{AllGrow, form_grows}
 use Rattle.pattern_laws.proofs.Steps.{rests, wrongs, binds}
 use Rattle.pattern_laws.proofs.Values.{never_had}
 use Rattle.pattern_laws.proofs.Points.{bears_on, names_both}
-use Rattle.pattern_laws.proofs.Parts.{reads, Grounds, Names, Well, AllWell, EachStands, parts_beside}
+use Rattle.pattern_laws.proofs.Parts.{reads, Grounds, Names, Well, AllWell, all_stand, parts_beside}
 use Rattle.pattern_laws.proofs.Literals.{literal_beside}
-use Rattle.pattern_laws.proofs.Heads.{alone, tuple_beside, list_beside, cons_beside, vector_beside}
+use Rattle.pattern_laws.proofs.Heads.{alone, by_count, tuple_beside, list_beside, cons_beside, vector_beside}
 use Rattle.pattern_laws.proofs.Unions.{union_beside}
 use Rattle.pattern_laws.proofs.Cuts.{cut_beside}
 use Rattle.pattern_laws.proofs.Annotated.{typed_beside, maps_beside}
@@ -62,13 +63,13 @@ module _ (around : Around) (past : Positive) (own : List Closed) {fit : OfSizes}
   abbrev Has : {n : ℕ} → Point n → Indices → Item → Type 0
   Has f i x = Bears around.types past own y f i x
 
-  abbrev Fine : List Look → List (Matcher Item) → List Standing → Type 0
+  abbrev Fine : List Look → List (Matcher Item) → List Bool → Type 0
   Fine ps ms ss = AllWell around past own y q cases w ps ms ss
 
   abbrev z : Making Item
   z = reads around past own y q cases w
 
-  all_grow : (ps : List Look) (ms : List (Matcher Item)) (ss : List Standing) → Fine ps ms ss → AllGrow around ps
+  all_grow : (ps : List Look) (ms : List (Matcher Item)) (ss : List Bool) → Fine ps ms ss → AllGrow around ps
   all_grow [] [] [] h = tt
   all_grow [] [] (k ∷ ss) h = absurd h
   all_grow [] (m ∷ ms) ss h = absurd h
@@ -86,8 +87,8 @@ module _ (around : Around) (past : Positive) (own : List Closed) {fit : OfSizes}
   moved {f = f} x e b = subst (λ k. Has f k x) e b
 
   -- a first item, and the others
-  cons_of : {n : ℕ} {f : Point n} {facts : List Fact} (place : Place) (how : Matching) (ps : List Look) (ms : List (Matcher Item)) (ss : List Standing)
-      → Fine ps ms ss → (r : Reading) (x : Item) → Has f (I.List r) x → Good f → head_stands around.types w.numbers H.Cons ss x.typ ≡ true
+  cons_of : {n : ℕ} {f : Point n} {facts : List Fact} (place : Place) (how : Matching) (ps : List Look) (ms : List (Matcher Item)) (ss : List Bool)
+      → Fine ps ms ss → (r : Reading) (x : Item) → Has f (I.List r) x → Good f → head_stands around.types around.numbers H.Cons ss ≡ true
       → Opens n f facts place H.Cons how ps ms x (W.List r)
   cons_of place how ps ms [] h r x b s t = no t
   cons_of place how ps ms (p ∷ []) h r x b s t = no t
@@ -105,7 +106,7 @@ module _ (around : Around) (past : Positive) (own : List Closed) {fit : OfSizes}
   cons_of place how (a ∷ c ∷ d ∷ ps) (m ∷ k ∷ l ∷ ms) (p ∷ p2 ∷ []) h r x b s t = absurd h.1.1
 
   head_beside : {n : ℕ} {f : Point n} {facts : List Fact} (place : Place) (head : Head) (how : Matching) (ps : List Look) (ms : List (Matcher Item))
-      (ss : List Standing) → Fine ps ms ss → (i : Indices) (x : Item) → Has f i x → Good f → head_stands around.types w.numbers head ss x.typ ≡ true
+      (ss : List Bool) → Fine ps ms ss → (i : Indices) (x : Item) → Has f i x → Good f → head_stands around.types around.numbers head ss ≡ true
       → (form : Indices-F Indices Reading) → roll-Indices form ≡ i → Opens n f facts place head how ps ms x form
   head_beside {f = f} place head how ps ms ss h i x b s t W.Never e =
       let held = subst (λ j. has around.types (standing past f.integers) own j x.val ≡ true) (sym e ∙ I.rolls-Never) (b.has_it f.integers (same f)) in
@@ -141,8 +142,8 @@ module _ (around : Around) (past : Positive) (own : List Closed) {fit : OfSizes}
   Walks n f facts place form how ps ms i x = Beside q past n f facts (form_match place form ps around how i) (pattern_meaning z w form ms x) Found
 
   form_beside : {n : ℕ} {f : Point n} {facts : List Fact} (place : Place) (form : Form) (how : Matching) (ps : List Look) (ms : List (Matcher Item))
-      (ss : List Standing) → Fine ps ms ss → (i : Indices) (x : Item) → Has f i x → Good f
-      → form_stands around.types around.directions w.numbers form ss x.typ ≡ true → Walks n f facts place form how ps ms i x
+      (ss : List Bool) → Fine ps ms ss → (i : Indices) (x : Item) → Has f i x → Good f
+      → form_stands around.types around.numbers form ss ≡ true → Walks n f facts place form how ps ms i x
   form_beside place (F.Opens head) how ps ms ss h i x b s t = head_beside place head how ps ms ss h i x b s t (out-Indices i) (roll-out-Indices i)
   form_beside place F.Any how [] [] [] h i x b s t = rests [] [] tt
   form_beside place (F.Binds name) how [] [] [] h i x b s t = rests (bound name i ∷ []) (named name x) (refl, b, tt)
@@ -183,8 +184,8 @@ module _ (around : Around) (past : Positive) (own : List Closed) {fit : OfSizes}
 
   -- ---- patterns
 
-  abbrev standing_of : Pattern → Standing
-  standing_of p = stands around.types around.directions w.numbers p
+  abbrev standing_of : Pattern → Bool
+  standing_of p = stands around.types around.numbers p
 
   Such : Pattern → Type 0
   Such p = Well around past own y q cases w (look p) (matcher z w p) (standing_of p)
@@ -202,7 +203,7 @@ module _ (around : Around) (past : Positive) (own : List Closed) {fit : OfSizes}
       let parts : List Pattern = map (λ q. q.0) p.parts in
       let fine = such_parts p.parts in
       let made : Well around past own y q cases w (look_form (map-Pattern Pattern Look look bare)) (pattern_meaning z w p.form (map (matcher z w) parts))
-      (form_stands around.types around.directions w.numbers p.form (map standing_of parts)) = record {
+      (form_stands around.types around.numbers p.form (map standing_of parts)) = record {
         beside = λ how i x n f facts b s t. form_beside p.place p.form how (map look parts) (map (matcher z w) parts) (map standing_of parts) fine i x b s t;
         grows = λ how i. form_grows around p.place p.form how (map look parts)
             (all_grow (map look parts) (map (matcher z w) parts) (map standing_of parts) fine) i;
@@ -212,7 +213,7 @@ module _ (around : Around) (past : Positive) (own : List Closed) {fit : OfSizes}
       (subst (λ m. Well around past own y q cases w (look_form (map-Pattern Pattern Look look bare)) m (standing_of (roll-Pattern bare)))
       (sym (fold-roll-Pattern (Matcher Item) (λ p. pattern_meaning z w p.form p.parts) bare))
       (subst (λ k. Well around past own y q cases w (look_form (map-Pattern Pattern Look look bare)) (pattern_meaning z w p.form (map (matcher z w) parts)) k)
-      (sym (fold-roll-Pattern Standing (λ p. form_stands around.types around.directions w.numbers p.form p.parts) bare)) made))
+      (sym (fold-roll-Pattern Bool (λ p. form_stands around.types around.numbers p.form p.parts) bare)) made))
 
   such : (p : Pattern) → Such p
   such = ind-Pattern Such (λ e p is. subst (λ d. Such (roll-Pattern d)) is (such_form p))
@@ -227,17 +228,11 @@ module _ (around : Around) (past : Positive) (own : List Closed) {fit : OfSizes}
   patterns_well [] = tt
   patterns_well (p ∷ ps) = (pattern_well p, patterns_well ps)
 
-  all_stand : (ps : List Standing) (xs : List Item) → each_stands ps (typs xs) ≡ true → EachStands around past own y q cases w ps xs
-  all_stand [] [] h = tt
-  all_stand [] (x ∷ xs) h = no h
-  all_stand (p ∷ ps) [] h = no h
-  all_stand (p ∷ ps) (x ∷ xs) h = let both = and_parts (p x.typ) (each_stands ps (typs xs)) h in (both.0, all_stand ps xs both.1)
-
-  so_long : (ps : List Pattern) (xs : List Item) → each_stands (map standing_of ps) (typs xs) ≡ true → length xs ≡ length ps
-  so_long [] [] h = refl
-  so_long [] (x ∷ xs) h = no h
-  so_long (p ∷ ps) [] h = no h
-  so_long (p ∷ ps) (x ∷ xs) h = ap suc (so_long ps xs (and_parts (standing_of p x.typ) (each_stands (map standing_of ps) (typs xs)) h).1)
+  all_long : {n : ℕ} (f : Point n) (is : List Indices) (xs : List Item) → AllBear around.types past own y f is xs → length xs ≡ length is
+  all_long f [] [] h = refl
+  all_long f [] (x ∷ xs) h = absurd h
+  all_long f (i ∷ is) [] h = absurd h
+  all_long f (i ∷ is) (x ∷ xs) h = ap suc (all_long f is xs h.1)
 
   as_counted : {n : ℕ} {f : Point n} {facts : List Fact} {walk : Walk (List Bound)} {c : Run Item (List (Local Item))} (k : ℕ) (xs : List Item) → length xs ≡ k
       → Beside q past n f facts walk c Found → Beside q past n f facts walk (counted k xs c) Found
@@ -245,27 +240,24 @@ module _ (around : Around) (past : Positive) (own : List Closed) {fit : OfSizes}
       subst (λ t. Beside q past n f facts walk (if t then c else stuck) Found) (sym ((Decides-eqb (length xs) k).1 e)) b
 
   pub arm_beside : {n : ℕ} {f : Point n} {facts : List Fact} (place : Place) (arm : Arm) (how : Matching) (is : List Indices) (xs : List Item)
-      → AllBear around.types past own y f is xs → Good f → arm_stands around.types around.directions w.numbers arm (typs xs) ≡ true
+      → AllBear around.types past own y f is xs → Good f → arm_stands around.types around.numbers arm ≡ true
       → Beside q past n f facts (arm_match place arm around how is) (arm_meaning z w arm xs) Found
-  arm_beside place (A.Nested ps) how is xs b s t =
-      as_counted (length ps) xs (so_long ps xs t)
+  arm_beside {f = f} place (A.Nested ps) how is xs b s t =
+      by_count around past own y q cases w place how (map look ps) is (λ count.
+      as_counted (length ps) xs (all_long f is xs b ∙ sym count ∙ length-map ps look)
       (parts_beside around past own y q cases w place how (map look ps) (map (matcher z w) ps) (map standing_of ps) (patterns_well ps) is xs b s
-      (all_stand (map standing_of ps) xs t))
+      (all_stand around past own y q cases w (map standing_of ps) t)))
   arm_beside place (A.Flat count steps) how is xs b s t = no t
 
   pub let_beside : {n : ℕ} {f : Point n} {facts : List Fact} (place : Place) (arm : Arm) (how : Matching) (i : Indices) (x : Item)
-      → Has f i x → Good f → arm_stands around.types around.directions w.numbers arm (x.typ ∷ []) ≡ true
+      → Has f i x → Good f → arm_stands around.types around.numbers arm ≡ true
       → Beside q past n f facts (one_match place (looks arm) around how i) (arm_meaning z w arm (x ∷ [])) Found
   let_beside place (A.Flat count steps) how i x b s t = no t
-  let_beside place (A.Nested []) how i x b s t = no t
+  let_beside place (A.Nested []) how i x b s t = wrongs place
   let_beside {n} {f} {facts} place (A.Nested (p ∷ [])) how i x b s t =
-      let both = and_parts (standing_of p x.typ) (each_stands [] []) t in
+      let both = and_parts (standing_of p) (each_stands []) t in
       alone around past own y q cases w ((pattern_well p).beside how i x n f facts b s both.0)
-  let_beside place (A.Nested (p ∷ p2 ∷ ps)) how i x b s t = no (sym (never (standing_of p x.typ)) ∙ t)
-    where
-      never : (c : Bool) → (c && false) ≡ false
-      never true = refl
-      never false = refl
+  let_beside place (A.Nested (p ∷ p2 ∷ ps)) how i x b s t = wrongs place
 
 pub pattern_is_sound : (around : Around) (past : Positive) (own : List Closed) {fit : OfSizes} (y : Typing around.types past own fit) (q : Ends fit)
     → PatternIsSound around past own y q

@@ -43,14 +43,14 @@ use Rattle.value_laws.proofs.Arguments.{assigned_there}
 use Rattle.fitting_laws.proofs.Within.{AllWithin, belongs_within}
 use Rattle.pattern_laws.specs.Beside.{AllMet, Stands, Ends, OfSizes, Behind, Beside}
 use Rattle.pattern_laws.specs.Typing.{Typing, Bears, EachReads}
-use Rattle.pattern_laws.specs.Standing.{Standing, is_size, size_of, parts_stand, payload_stands, union_stands, constructor_stands}
+use Rattle.pattern_laws.specs.Standing.{each_stands, is_size, size_of, payload_stands, union_stands, constructor_stands}
 use Rattle.pattern_laws.proofs.Conditions.{met_behind, met_front}
 use Rattle.pattern_laws.proofs.Steps.{walks, falling, knowing, wrongs}
 use Rattle.pattern_laws.proofs.Tables.{union_alone, not_below_none}
 use Rattle.pattern_laws.proofs.Values.{named_had, named_types, named_numbers}
 use Rattle.pattern_laws.proofs.Points.{Kept, EachIs, EachSuits, all_bear, ItemOf, of_on, takes}
-use Rattle.pattern_laws.proofs.Parts.{reads, Grounds, grounds_on, Names, AllWell, EachStands, parts_beside, seen_parts, as_many}
-use Rattle.pattern_laws.proofs.Heads.{components_stand, components_long, as_many_stand}
+use Rattle.pattern_laws.proofs.Parts.{reads, Grounds, grounds_on, Names, AllWell, AllStand, all_stand, parts_beside, seen_parts, as_many}
+use Rattle.pattern_laws.proofs.Heads.{components_long, as_many_stand}
 
 module _ (around : Around) (past : Positive) (own : List Closed) {fit : OfSizes} (y : Typing around.types past own fit) (q : Ends fit) (cases : Cases)
     (w : World Item) where
@@ -60,7 +60,7 @@ module _ (around : Around) (past : Positive) (own : List Closed) {fit : OfSizes}
   abbrev Good : {n : ℕ} → Point n → Type 0
   Good f = Grounds around past own y q cases w f
 
-  abbrev Fine : List Look → List (Matcher Item) → List Standing → Type 0
+  abbrev Fine : List Look → List (Matcher Item) → List Bool → Type 0
   Fine looks ms ss = AllWell around past own y q cases w looks ms ss
 
   abbrev z : Making Item
@@ -123,8 +123,8 @@ module _ (around : Around) (past : Positive) (own : List Closed) {fit : OfSizes}
       suc_same k = cc
 
   met_beside : {n : ℕ} {f : Point n} {facts : List Fact} (place : Place) (how : Matching) (looks : List Look) (ms : List (Matcher Item))
-      (ss : List Standing) → Fine looks ms ss → (rs : List Reading) (xs : List Item) → length rs ≡ length looks → EachOf f rs xs → Good f
-      → EachStands around past own y q cases w ss xs → Beside q past n f facts (constructor_met place looks around how rs) (run_parts ms xs) Found
+      (ss : List Bool) → Fine looks ms ss → (rs : List Reading) (xs : List Item) → length rs ≡ length looks → EachOf f rs xs → Good f
+      → AllStand around past own y q cases w ss → Beside q past n f facts (constructor_met place looks around how rs) (run_parts ms xs) Found
   unfolding bind
   met_beside {n} {f} {facts} place how looks ms ss fine rs xs e h s t =
       let told : AllMet q past (constructor_met place looks around how rs facts n).notes → Stands q past f facts
@@ -223,8 +223,8 @@ module _ (around : Around) (past : Positive) (own : List Closed) {fit : OfSizes}
       (b : Bears around.types past own y f (I.Named u is rs) x) (s : Good f) (t : Typ) (there_is : payload_type around.types u c ≡ Some t) (v : Value)
       (held : belongs around.types v (reading t (assigned (there f.integers) is) (stood f.integers rs)) ≡ true) where
     -- as many parts as patterns
-    several : (looks : List Look) (ms : List (Matcher Item)) (ss : List Standing) → Fine looks ms ss → (ts : List Typ) → out-Typ t ≡ T.Tuple ts
-        → length ts ≡ length ss → parts_stand around.types ss 0 (union_item u c x v).typ ≡ true
+    several : (looks : List Look) (ms : List (Matcher Item)) (ss : List Bool) → Fine looks ms ss → (ts : List Typ) → out-Typ t ≡ T.Tuple ts
+        → length ts ≡ length ss → AllStand around past own y q cases w ss
         → Beside q past n f facts (constructor_met place looks around how (payload_readings ts is rs))
         (as_run (so_many (length ms) (parts_or_wrong (option_map (components z (union_item u c x v) 0) (parts_in v)))) then run_parts ms) Found
     several looks ms ss fine ts e long d =
@@ -241,8 +241,7 @@ module _ (around : Around) (past : Positive) (own : List Closed) {fit : OfSizes}
         (as_run (so_many (length ms) (parts_or_wrong (option_map (components z (union_item u c x v) 0) (form_parts o)))) then run_parts ms) Found) (sym tuple.1)
         (seen_parts around past own y q cases w ms (components z (union_item u c x v) 0 vs)
         (components_long around past own y q cases w (union_item u c x v) 0 vs ∙ many ∙ long ∙ as_many_stand around past own y q cases w looks ms ss fine)
-        (met_beside place how looks ms ss fine (payload_readings ts is rs) (components z (union_item u c x v) 0 vs) readings parts s
-        (components_stand around past own y q cases w ss (union_item u c x v) 0 vs (many ∙ long) d)))
+        (met_beside place how looks ms ss fine (payload_readings ts is rs) (components z (union_item u c x v) 0 vs) readings parts s d))
       where
         belong_long : (vs : List Value) (ts : List Typ)
             → each_belongs (asks around.types vs) (assigned (there f.integers) is) (stood f.integers rs) ts ≡ true → length vs ≡ length ts
@@ -257,31 +256,30 @@ module _ (around : Around) (past : Positive) (own : List Closed) {fit : OfSizes}
         Beside q past n f facts (constructor_met place looks around how (payload_readings (payload_types (length looks) (Some t)) is rs))
         (as_run (so_many (length ms) (parts_or_wrong (payload_parts z (length ms) (union_item u c x v)))) then run_parts ms) Found
 
-    parts_by : (looks : List Look) (ms : List (Matcher Item)) (ss : List Standing) → Fine looks ms ss → (form : Typ-F Typ) → out-Typ t ≡ form
-        → (is_size (length ss) (size_of form) && parts_stand around.types ss 0 (union_item u c x v).typ) ≡ true
+    parts_by : (looks : List Look) (ms : List (Matcher Item)) (ss : List Bool) → Fine looks ms ss → (form : Typ-F Typ) → out-Typ t ≡ form
+        → is_size (length ss) (size_of form) ≡ true → AllStand around past own y q cases w ss
         → Beside q past n f facts (constructor_met place looks around how (payload_readings (part_types t form) is rs))
         (as_run (so_many (length ms) (parts_or_wrong (option_map (components z (union_item u c x v) 0) (parts_in v)))) then run_parts ms) Found
-    parts_by looks ms ss fine (T.Tuple ts) e d =
-        let both = and_parts (is_size (length ss) (size_of (T.Tuple ts))) (parts_stand around.types ss 0 (union_item u c x v).typ) d in
-        several looks ms ss fine ts e ((Decides-eqb (length ts) (length ss)).0 both.0) both.1
-    parts_by looks ms ss fine form e d = no d
+    parts_by looks ms ss fine (T.Tuple ts) e d a = several looks ms ss fine ts e ((Decides-eqb (length ts) (length ss)).0 d) a
+    parts_by looks ms ss fine form e d a = no d
 
-    payload_beside : (looks : List Look) (ms : List (Matcher Item)) (ss : List Standing) → Fine looks ms ss
-        → payload_stands around.types ss t (union_item u c x v).typ ≡ true → Payload looks ms
-    payload_beside [] [] [] fine d = parts_by [] [] [] fine (out-Typ t) refl d
-    payload_beside (a ∷ []) (m ∷ []) (k ∷ []) fine d =
+    payload_beside : (looks : List Look) (ms : List (Matcher Item)) (ss : List Bool) → Fine looks ms ss → payload_stands (length ss) t ≡ true
+        → AllStand around past own y q cases w ss → Payload looks ms
+    payload_beside [] [] [] fine d all = parts_by [] [] [] fine (out-Typ t) refl d all
+    payload_beside (a ∷ []) (m ∷ []) (k ∷ []) fine d all =
         seen_parts around past own y q cases w (m ∷ []) ((union_item u c x v) ∷ []) refl
         (met_beside place how (a ∷ []) (m ∷ []) (k ∷ []) fine (R.Of t is rs ∷ []) ((union_item u c x v) ∷ []) refl
-        (of_union u c is rs t x v there_is b held, tt) s (d, tt))
-    payload_beside (a ∷ a2 ∷ looks) (m ∷ m2 ∷ ms) (k ∷ k2 ∷ ss) fine d = parts_by (a ∷ a2 ∷ looks) (m ∷ m2 ∷ ms) (k ∷ k2 ∷ ss) fine (out-Typ t) refl d
-    payload_beside [] [] (k ∷ ss) fine d = absurd fine
-    payload_beside [] (m ∷ ms) ss fine d = absurd fine
-    payload_beside (a ∷ looks) [] ss fine d = absurd fine
-    payload_beside (a ∷ looks) (m ∷ ms) [] fine d = absurd fine
-    payload_beside (a ∷ []) (m ∷ []) (k ∷ k2 ∷ ss) fine d = absurd fine.1
-    payload_beside (a ∷ []) (m ∷ m2 ∷ ms) (k ∷ ss) fine d = absurd fine.1
-    payload_beside (a ∷ a2 ∷ looks) (m ∷ []) (k ∷ ss) fine d = absurd fine.1
-    payload_beside (a ∷ a2 ∷ looks) (m ∷ m2 ∷ ms) (k ∷ []) fine d = absurd fine.1
+        (of_union u c is rs t x v there_is b held, tt) s all)
+    payload_beside (a ∷ a2 ∷ looks) (m ∷ m2 ∷ ms) (k ∷ k2 ∷ ss) fine d all =
+        parts_by (a ∷ a2 ∷ looks) (m ∷ m2 ∷ ms) (k ∷ k2 ∷ ss) fine (out-Typ t) refl d all
+    payload_beside [] [] (k ∷ ss) fine d all = absurd fine
+    payload_beside [] (m ∷ ms) ss fine d all = absurd fine
+    payload_beside (a ∷ looks) [] ss fine d all = absurd fine
+    payload_beside (a ∷ looks) (m ∷ ms) [] fine d all = absurd fine
+    payload_beside (a ∷ []) (m ∷ []) (k ∷ k2 ∷ ss) fine d all = absurd fine.1
+    payload_beside (a ∷ []) (m ∷ m2 ∷ ms) (k ∷ ss) fine d all = absurd fine.1
+    payload_beside (a ∷ a2 ∷ looks) (m ∷ []) (k ∷ ss) fine d all = absurd fine.1
+    payload_beside (a ∷ a2 ∷ looks) (m ∷ m2 ∷ ms) (k ∷ []) fine d all = absurd fine.1
 
   -- ---- whichever constructor it is
 
@@ -309,33 +307,34 @@ module _ (around : Around) (past : Positive) (own : List Closed) {fit : OfSizes}
       (as_run (so_many (length ms) (opened z w.numbers (H.Constructor u c) (length ms) x v)) then run_parts ms) Found
 
   of_its_own : {n : ℕ} {f : Point n} {facts : List Fact} (place : Place) (how : Matching) (u c : ℕ) (is : List Index) (rs : List Reading) (x : Item)
-      → Bears around.types past own y f (I.Named u is rs) x → Good f → (looks : List Look) (ms : List (Matcher Item)) (ss : List Standing)
-      → Fine looks ms ss → (t : Typ) → payload_type around.types u c ≡ Some t
-      → payload_stands around.types ss t (part_typ around.types (payload u c) x.typ) ≡ true → (v : Value-F Value)
+      → Bears around.types past own y f (I.Named u is rs) x → Good f → (looks : List Look) (ms : List (Matcher Item)) (ss : List Bool)
+      → Fine looks ms ss → (t : Typ) → payload_type around.types u c ≡ Some t → payload_stands (length ss) t ≡ true
+      → AllStand around past own y q cases w ss → (v : Value-F Value)
       → form_holds around.types (there f.integers) own (W.Named u is (map (closed around.types (there f.integers) own) rs)) v ≡ true
       → Union n f facts place how u c is rs x looks ms (Some t) v
-  of_its_own {f = f} {facts = facts} place how u c is rs x b s looks ms ss fine t e d (V.Union j k v) h =
+  of_its_own {f = f} {facts = facts} place how u c is rs x b s looks ms ss fine t e d all (V.Union j k v) h =
       constructs (length ms) ms (nat_eq j u && nat_eq k c) _ (λ same_one.
-      payload_beside facts place how u c is rs x b s t e v (union_held u c is rs t f.integers e j k v h same_one) looks ms ss fine d)
-  of_its_own {f = f} place how u c is rs x b s looks ms ss fine t e d (V.Struct j vs) h =
+      payload_beside facts place how u c is rs x b s t e v (union_held u c is rs t f.integers e j k v h same_one) looks ms ss fine d
+      all)
+  of_its_own {f = f} place how u c is rs x b s looks ms ss fine t e d all (V.Struct j vs) h =
       let cs = map (closed around.types (there f.integers) own) rs in
       let of = fields_belong (asks around.types vs) (assigned (there f.integers) is) (closeds cs) in
       let both = and_parts (nat_eq j u) (of (fields around.types j)) h in
       no (sym (ap of (ap (fields around.types) ((Decides-eqb j u).0 both.0) ∙ (union_alone around.types u c t e).0)) ∙ both.1)
-  of_its_own {f = f} place how u c is rs x b s looks ms ss fine t e d (V.Member j k) h =
+  of_its_own {f = f} place how u c is rs x b s looks ms ss fine t e d all (V.Member j k) h =
       let both = and_parts (nat_eq j u) (nat_lt k (length (members around.types j))) h in
       not_below_none k (ap (λ (l : List (List ℕ)). nat_lt k (length l)) (sym (ap (members around.types) ((Decides-eqb j u).0 both.0)
       ∙ (union_alone around.types u c t e).1)) ∙ both.1)
-  of_its_own place how u c is rs x b s looks ms ss fine t e d v h = no h
+  of_its_own place how u c is rs x b s looks ms ss fine t e d all v h = no h
 
   of_union_of : {n : ℕ} {f : Point n} {facts : List Fact} (place : Place) (how : Matching) (u c : ℕ) (is : List Index) (rs : List Reading) (x : Item)
-      → Bears around.types past own y f (I.Named u is rs) x → Good f → (looks : List Look) (ms : List (Matcher Item)) (ss : List Standing)
-      → Fine looks ms ss → (o : Option Typ) → payload_type around.types u c ≡ o
-      → union_stands around.types ss o (part_typ around.types (payload u c) x.typ) ≡ true
+      → Bears around.types past own y f (I.Named u is rs) x → Good f → (looks : List Look) (ms : List (Matcher Item)) (ss : List Bool)
+      → Fine looks ms ss → (o : Option Typ) → payload_type around.types u c ≡ o → union_stands (length ss) o ≡ true
+      → AllStand around past own y q cases w ss
       → Union n f facts place how u c is rs x looks ms o (out-Value x.val)
-  of_union_of place how u c is rs x b s looks ms ss fine None e d = no d
-  of_union_of {f = f} place how u c is rs x b s looks ms ss fine (Some t) e d =
-      of_its_own place how u c is rs x b s looks ms ss fine t e d (out-Value x.val)
+  of_union_of place how u c is rs x b s looks ms ss fine None e d all = no d
+  of_union_of {f = f} place how u c is rs x b s looks ms ss fine (Some t) e d all =
+      of_its_own place how u c is rs x b s looks ms ss fine t e d all (out-Value x.val)
       (named_had around.types past own f.integers u is rs x.val (b.has_it f.integers (same f)))
 
   -- the value may be of another union
@@ -345,8 +344,8 @@ module _ (around : Around) (past : Positive) (own : List Closed) {fit : OfSizes}
   of_own place false walk h = wrongs place
 
   pub union_beside : {n : ℕ} {f : Point n} {facts : List Fact} (place : Place) (how : Matching) (u c v : ℕ) (is : List Index) (rs : List Reading) (x : Item)
-      → Bears around.types past own y f (I.Named v is rs) x → Good f → (looks : List Look) (ms : List (Matcher Item)) (ss : List Standing)
-      → Fine looks ms ss → constructor_stands around.types u c ss x.typ ≡ true
+      → Bears around.types past own y f (I.Named v is rs) x → Good f → (looks : List Look) (ms : List (Matcher Item)) (ss : List Bool)
+      → Fine looks ms ss → (constructor_stands around.types u c (length ss) && each_stands ss) ≡ true
       → Beside q past n f facts (union_met place (nat_eq u v)
       (constructor_met place looks around how (payload_readings (payload_types (length looks) (payload_type around.types u c)) is rs)))
       (as_run (so_many (length ms) (opened z w.numbers (H.Constructor u c) (length ms) x (out-Value x.val))) then run_parts ms) Found
@@ -354,5 +353,6 @@ module _ (around : Around) (past : Positive) (own : List Closed) {fit : OfSizes}
       of_own place (nat_eq u v)
       (constructor_met place looks around how (payload_readings (payload_types (length looks) (payload_type around.types u c)) is rs)) (λ e.
       let its_own : v ≡ u = sym ((Decides-eqb u v).0 e) in
+      let both = and_parts (constructor_stands around.types u c (length ss)) (each_stands ss) d in
       of_union_of place how u c is rs x (subst (λ j. Bears around.types past own y f (I.Named j is rs) x) its_own b) s looks ms ss fine
-      (payload_type around.types u c) refl d)
+      (payload_type around.types u c) refl both.0 (all_stand around past own y q cases w ss both.1))

@@ -3,29 +3,32 @@ use Rattle.std.specs.Prelude.{◌≡◌, ℕ, ℤ, true, List, [], slice_get, So
 use Rattle.sail_types.specs.Belongs.{Reading as Closed, assigned}
 use Rattle.sail_types.specs.Numbers.{Positive, number}
 use Rattle.sail_types.specs.Sums.{number_at}
+use Rattle.sail_types.specs.declared.numbers.Index.TheVariants as N
+use Rattle.sail_types.specs.declared.numbers.Num.{Num}
 use Rattle.sail_types.specs.declared.types.Typ.{Typ}
 use Rattle.sail_core.specs.declared.model.Direction.{Direction}
 use Rattle.sail_core.specs.Making.{World}
 use Rattle.sail_core.specs.Numbers.{Givens, given_int}
 use Rattle.sail_core.specs.Run.{Now}
 use Rattle.value_indices.specs.declared.indices.Reading.TheVariants as R
-use Rattle.checked_meaning.specs.Items.{Item, fixed_typ}
+use Rattle.checked_meaning.specs.Items.{Item}
 use Rattle.pattern_leaves.specs.Settings.{Around}
 use Rattle.value_laws.specs.Belonging.{Integers, standing, is_of}
 use Rattle.value_laws.specs.Known.{Point, Agree}
 use Rattle.pattern_laws.specs.Beside.{Ends, OfSizes, EndsWell}
 use Rattle.pattern_laws.specs.Typing.{Typing}
 
--- what the type variables of the function stand for hangs on fixed variables alone, and is what they stand for in the run
+-- what the type variables of the function stand for hangs on fixed variables alone, and is what they stand for in the run, which has all of them
 pub record Grounded (past : Positive) (around : Around) (nu : Givens) {n : ℕ} (f : Point n) : Type 0 where
   pub still : (g : Integers) → Agree f g → assigned (standing past g) around.numbers ≡ assigned (standing past f.integers) around.numbers
+  pub given : (g : Integers) → Agree f g → (i : ℕ) (t : Num) → slice_get around.numbers i ≡ Some (N.Number t)
+      → given_int (slice_get nu i) ≡ Some (number (standing past g) t)
   pub says : (g : Integers) → Agree f g → (i : ℕ) (z : ℤ) → given_int (slice_get nu i) ≡ Some z → number (standing past g) (number_at around.numbers i) ≡ z
 
 module _ (around : Around) (past : Positive) (own : List Closed) {fit : OfSizes} (y : Typing around.types past own fit) where
   -- a value of a type that names no variable, as a direction gives it
   pub record IsGiven (t : Typ) (v : Item) : Type 0 where
     pub belongs_to : (g : Integers) → is_of around.types (standing past g) own (R.Of t [] []) v.val ≡ true
-    pub typ : v.typ ≡ fixed_typ around.types t
     pub reads : (g : Integers) → y.reads g (R.Of t [] []) v.typ
 
   -- on a value of what it takes a direction that patterns go through ends well, and gives a value of what it gives

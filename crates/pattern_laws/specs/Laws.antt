@@ -15,7 +15,7 @@ use Rattle.value_indices.specs.declared.indices.Indices.{Indices}
 use Rattle.value_indices.specs.declared.indices.Reading.{Reading}
 use Rattle.value_indices.specs.declared.notes.Fact.{Fact}
 use Rattle.value_indices.specs.declared.notes.Made.{Made}
-use Rattle.checked_meaning.specs.Items.{Item, typs}
+use Rattle.checked_meaning.specs.Items.{Item}
 use Rattle.checked_meaning.specs.Checked.{Cases, checked}
 use Rattle.pattern_leaves.specs.Settings.{Around}
 use Rattle.pattern_notes.specs.declared.matching.Matching.{Matching}
@@ -28,27 +28,27 @@ use Rattle.pattern_laws.specs.Standing.{arm_stands, stands}
 use Rattle.pattern_laws.specs.Grounds.{Grounded, Ways}
 
 module _ (around : Around) (past : Positive) (own : List Closed) {fit : OfSizes} (y : Typing around.types past own fit) (q : Ends fit) where
-  -- a pattern that is matched with a value of the indices that the walk knows: where what is in force is true and its obligations hold, its run is
+  -- a pattern that stands, matched with a value of the indices that the walk knows: where what is in force is true and its obligations hold, its run is
   -- never stuck; where it matches, the names are those of the walk, their values have the indices that the walk gives them, and all that came into
   -- force is true
   abbrev pub PatternIsSound : Type 0
   PatternIsSound = (cases : Cases) (w : World Item) → Ways around past own y q w → (p : Pattern) (how : Matching) (i : Indices) (x : Item) (n : ℕ)
       (f : Point n) (facts : List Fact) → Bears around.types past own y f i x → Grounded past around w.numbers f
-      → stands around.types around.directions w.numbers p x.typ ≡ true
+      → stands around.types around.numbers p ≡ true
       → Beside q past n f facts (matched p around how i) (matcher (checked around.types cases) w p x) (NamesBear around.types past own y)
 
   -- so is an arm that looks at several values
   abbrev pub ArmIsSound : Type 0
   ArmIsSound = (cases : Cases) (w : World Item) → Ways around past own y q w → (place : Place) (arm : Arm) (how : Matching) (is : List Indices)
       (xs : List Item) (n : ℕ) (f : Point n) (facts : List Fact) → AllBear around.types past own y f is xs → Grounded past around w.numbers f
-      → arm_stands around.types around.directions w.numbers arm (typs xs) ≡ true
+      → arm_stands around.types around.numbers arm ≡ true
       → Beside q past n f facts (arm_match place arm around how is) (arm_meaning (checked around.types cases) w arm xs) (NamesBear around.types past own y)
 
   -- and one that looks at one value, what its type owes being owed already or not
   abbrev pub LetIsSound : Type 0
   LetIsSound = (cases : Cases) (w : World Item) → Ways around past own y q w → (place : Place) (arm : Arm) (how : Matching) (i : Indices) (x : Item) (n : ℕ)
       (f : Point n) (facts : List Fact) → Bears around.types past own y f i x → Grounded past around w.numbers f
-      → arm_stands around.types around.directions w.numbers arm (x.typ ∷ []) ≡ true
+      → arm_stands around.types around.numbers arm ≡ true
       → Beside q past n f facts (one_match place (looks arm) around how i) (arm_meaning (checked around.types cases) w arm (x ∷ []))
       (NamesBear around.types past own y)
 

@@ -1,5 +1,5 @@
 -- What a value of some indices is at a point, and what the types are that values carry in the checked meaning.
-use Rattle.std.specs.Prelude.{◌≡◌, ℕ, suc, pos, true, List, [], ◌∷◌, length, Option, Some, None}
+use Rattle.std.specs.Prelude.{◌≡◌, ℕ, suc, pos, true, List, [], ◌∷◌, Some}
 use Rattle.sail_types.specs.Belongs.{Reading as Closed}
 use Rattle.sail_types.specs.Named.{payload as payload_type}
 use Rattle.sail_types.specs.Numbers.{Positive, number}
@@ -9,8 +9,9 @@ use Rattle.sail_types.specs.declared.table.Types.{Types}
 use Rattle.sail_types.specs.declared.types.Typ.{Typ, out-Typ}
 use Rattle.sail_types.specs.declared.types.Typ.TheOpen as T
 use Rattle.sail_types.specs.declared.values.Value.{Value}
-use Rattle.size_values.specs.declared.sized.Sized.{Sized, Sized-F, out-Sized}
-use Rattle.size_values.specs.declared.sized.Sized.TheOpen as Z
+use Rattle.size_values.specs.Numbers.{value_of}
+use Rattle.size_values.specs.declared.constants.Constant.TheVariants as C
+use Rattle.size_values.specs.declared.sized.Sized.{Sized}
 use Rattle.sail_core.specs.Run.{Local}
 use Rattle.sail_core.specs.Making.{component, payload, one_item}
 use Rattle.sail_core.specs.Values.{bits_typ}
@@ -31,16 +32,6 @@ use Rattle.value_laws.specs.Belonging.{Integers, standing, meant, has}
 use Rattle.pattern_laws.specs.Beside.{OfSizes}
 use Rattle.value_laws.specs.Known.{Point, Agree}
 
--- the parts of a tuple's type, where it is one
-abbrev pub tuple_size : Sized-F Sized → Option ℕ
-tuple_size (Z.Tuple ss) = Some (length ss)
-tuple_size s = None
-
--- the place of a named type in the table
-abbrev pub named_place : Sized-F Sized → Option ℕ
-named_place (Z.Named u zs ss) = Some u
-named_place s = None
-
 -- the parts of a tuple from this one on, and parts of these types
 abbrev pub EachFits : Types → (Indices → Sized → Type 0) → Sized → ℕ → List Indices → Type 0
 EachFits types fits s k [] = Unit {0}
@@ -58,16 +49,15 @@ pub record IsKept (types : Types) (past : Positive) (own : List Closed) (fit : O
       → fit g (Makes.ByType r) → has types (standing past g) own (opened_for naming r facts n).value v ≡ true → reads g r s
       → fits g (opened_for naming r facts n).value s
   -- the parts of a tuple, items, payloads, and parts of payloads
-  pub size : (g : Integers) (is : List Indices) (s : Sized) → fits g (I.Tuple is) s → tuple_size (out-Sized s) ≡ Some (length is)
   pub parts : (g : Integers) (is : List Indices) (s : Sized) → fits g (I.Tuple is) s → EachFits types (fits g) s 0 is
   pub list_item : (g : Integers) (r : Reading) (s : Sized) → fits g (I.List r) s → reads g r (part_typ types one_item s)
   pub vector_item : (g : Integers) (t : Num) (r : Reading) (s : Sized) → fits g (I.Vector t r) s → reads g r (part_typ types one_item s)
-  pub named : (g : Integers) (u : ℕ) (is : List Index) (rs : List Reading) (s : Sized) → fits g (I.Named u is rs) s → named_place (out-Sized s) ≡ Some u
   pub of_union : (g : Integers) (u c : ℕ) (is : List Index) (rs : List Reading) (s : Sized) (t : Typ) → payload_type types u c ≡ Some t
       → fits g (I.Named u is rs) s → reads g (R.Of t is rs) (part_typ types (payload u c) s)
   pub of_tuple : (g : Integers) (t : Typ) (ts : List Typ) (is : List Index) (rs : List Reading) (s : Sized) → out-Typ t ≡ T.Tuple ts
       → reads g (R.Of t is rs) s → EachReads types (reads g) s 0 (payload_readings ts is rs)
-  -- a part of bits whose size fits
+  -- a part of bits whose size fits: that is a number from 0 on, none past the limits on the way to it
+  pub width : (g : Integers) (t : Num) → fit g (Makes.ByIndices (I.Bits t)) → (k : ℕ) × (value_of (λ v. C.Number (g v)) t ≡ Some (pos k))
   pub cut : (g : Integers) (t : Num) (k : ℕ) → fit g (Makes.ByIndices (I.Bits t)) → number (standing past g) t ≡ pos k
       → fits g (I.Bits t) (fixed_typ types (bits_typ k))
 

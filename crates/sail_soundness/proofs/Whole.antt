@@ -11,7 +11,8 @@ use Rattle.soundness_steps.specs.Works.{Scene}
 use Rattle.soundness_forms.specs.Forms.{Fine, z}
 use Rattle.soundness_forms.specs.Standing.{Standing, node_standing, standing}
 use Rattle.soundness_forms.specs.EachKind.{PartsFine}
-use Rattle.sail_soundness.specs.Whole.{EachFine, EachFollows, NodeFine, TypesClosed, is_proved, joined, nodes, nodes_over}
+use Rattle.soundness_binding.specs.Patterned.{patterns_stand}
+use Rattle.sail_soundness.specs.Whole.{EachFine, EachFollows, ModelStands, NodeFine, is_proved, joined, nodes, nodes_over}
 use Rattle.sail_soundness.proofs.Nodes.{proved}
 
 -- ---- nodes
@@ -31,20 +32,21 @@ nodes_are d =
     ∷ joined (map (λ (p : Core × List (Core-F Core)). p.1) (map (λ c. (c, nodes c)) d.parts))) (firsts d.parts)
     ∙ ap (λ ns. d ∷ ns) (nexts d.parts)
 
-module _ (q : Scene) (w : World Item) (model : TypesClosed q.set) where
+module _ (q : Scene) (w : World Item) (model : ModelStands q.set q.work) where
   front : (ns ms : List (Core-F Core)) → EachFine q w (ns ++ ms) → EachFine q w ns
   front [] ms h = tt
-  front (c ∷ ns) ms h = (h.0, front ns ms h.1)
+  front (c ∷ ns) ms h = (h.0, h.1, front ns ms h.2)
 
   behind : (ns ms : List (Core-F Core)) → EachFine q w (ns ++ ms) → EachFine q w ms
   behind [] ms h = h
-  behind (c ∷ ns) ms h = behind ns ms h.1
+  behind (c ∷ ns) ms h = behind ns ms h.2
 
-  each : (d : Core-F Core) → (is_proved d.kind ≡ false → NodeFine q w d) → NodeFine q w d
-  each d left = by_kind (is_proved d.kind) refl
+  each : (d : Core-F Core) → (is_proved d.kind ≡ false → NodeFine q w d) → patterns_stand q.set.around.types q.numbers d.kind ≡ true → NodeFine q w d
+  each d left stand = by_kind (is_proved d.kind) refl
     where
       by_kind : (b : Bool) → is_proved d.kind ≡ b → NodeFine q w d
-      by_kind true e = proved q w model d.kind e d.place d.number (map (standing q.set.around) d.parts) (map part d.parts) (map (meaning (z q w) w) d.parts)
+      by_kind true e =
+          proved q w model d.kind e stand d.place d.number (map (standing q.set.around) d.parts) (map part d.parts) (map (meaning (z q w) w) d.parts)
       by_kind false e = left e
 
   -- ---- an expression with its part, its run and how it stands
@@ -77,7 +79,7 @@ module _ (q : Scene) (w : World Item) (model : TypesClosed q.set) where
       (kind_meaning (z q w) w d.place d.number d.kind (map (meaning (z q w) w) d.parts))) (sym p)
       (subst (λ t. Fine q w t.cast t.guard (core_part (map-Core Core Part part d))
       (kind_meaning (z q w) w d.place d.number d.kind (map (meaning (z q w) w) d.parts))) (sym s)
-      (each d here.0 (parts_fine y.parts here.1) (sym (ap (λ t. t.right) s) ∙ right))))
+      (each d here.0 here.1 (parts_fine y.parts here.2) (sym (ap (λ t. t.right) s) ∙ right))))
 
   fine : (c : Core) → Such c
   fine = ind-Core Such (λ c y e. subst (λ d. Such (roll-Core d)) e (node_fine y))

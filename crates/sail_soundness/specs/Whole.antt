@@ -8,15 +8,16 @@ use Rattle.sail_core.specs.declared.tree.Kind.{Kind}
 use Rattle.sail_core.specs.declared.tree.Kind.TheVariants as K
 use Rattle.expression_steps.specs.Expressions.{part}
 use Rattle.checked_meaning.specs.Items.{Item}
-use Rattle.soundness_steps.specs.Works.{Scene, Setting}
+use Rattle.soundness_steps.specs.Works.{Scene, Setting, Work}
 use Rattle.soundness_forms.specs.EachKind.{PartsFine, node}
 use Rattle.soundness_forms.specs.Forms.{Fine, z}
 use Rattle.soundness_forms.specs.Registers.{RegistersClosed}
 use Rattle.soundness_forms.specs.Standing.{is_cast, is_guard, kind_right, standing}
-use Rattle.soundness_values.specs.Mappings.{MappingsClosed}
+use Rattle.soundness_binding.specs.Patterned.{patterns_stand}
+use Rattle.soundness_binding.specs.Scenes.{ModelFits}
 
 -- kinds of nodes that are fine: literals, names in scope, of top-level lets and registers, calls of builtins and of mappings, `&` and `|`, casts,
--- tuples, updates of slices, `var`, guards, `foreach` and what leaves; and those that stand in no expression of a resolved core
+-- tuples, updates of slices, `let`, `var`, blocks, guards, `foreach` and what leaves; and those that stand in no expression of a resolved core
 abbrev pub is_proved : Kind → Bool
 is_proved (K.Constant literal) = true
 is_proved (K.Local name) = true
@@ -31,6 +32,8 @@ is_proved K.Or = true
 is_proved (K.Cast written) = true
 is_proved K.Tuple = true
 is_proved K.WithSlice = true
+is_proved (K.Block statements) = true
+is_proved (K.Let arm) = true
 is_proved (K.Var name written) = true
 is_proved (K.Clauses arms) = true
 is_proved K.When = true
@@ -54,10 +57,10 @@ nodes_over c = record { place = c.place; number = c.number; kind = c.kind; parts
 abbrev pub nodes : Core → List (Core-F Core)
 nodes = para-Core (List (Core-F Core)) nodes_over
 
--- types of registers and mappings name no variable
-pub record TypesClosed (set : Setting) : Type 0 where
+-- types of registers name no variable, nor do those of mappings, and the table of types passes the tests that patterns ask for
+pub record ModelStands (set : Setting) (work : Work) : Type 0 where
   pub registers : RegistersClosed set
-  pub mappings : MappingsClosed set
+  pub fits : ModelFits set work
 
 module _ (q : Scene) (w : World Item) where
   -- a node is fine where its own parts are, as they stand
@@ -69,13 +72,14 @@ module _ (q : Scene) (w : World Item) where
 
   abbrev pub EachFine : List (Core-F Core) → Type 0
   EachFine [] = Unit {0}
-  EachFine (c ∷ cs) = (is_proved c.kind ≡ false → NodeFine c) × EachFine cs
+  EachFine (c ∷ cs) = (is_proved c.kind ≡ false → NodeFine c) × (patterns_stand q.set.around.types q.numbers c.kind ≡ true) × EachFine cs
 
-  -- nodes of the other kinds are, in a model whose registers and mappings are as the resolver has them
+  -- nodes of the other kinds are, and patterns stand, in a model whose registers, mappings and types are as the resolver has them
   abbrev pub OthersFine : List (Core-F Core) → Type 0
-  OthersFine cs = TypesClosed q.set × EachFine cs
+  OthersFine cs = ModelStands q.set q.work × EachFine cs
 
--- an expression in which casts, guards and literals stand as the resolver puts them is fine, where those of its nodes are that aren't of a proved kind
+-- an expression in which casts, guards, literals and patterns stand as the resolver puts them is fine, where those of its nodes are that aren't of a
+-- proved kind
 abbrev pub EachFollows : Type 0
 EachFollows = (q : Scene) (w : World Item) (c : Core) → (standing q.set.around c).right ≡ true → OthersFine q w (nodes c)
     → Fine q w (standing q.set.around c).cast (standing q.set.around c).guard (part c) (meaning (z q w) w c)

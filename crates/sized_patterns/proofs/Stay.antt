@@ -1,37 +1,49 @@
 -- The types that values carry in patterns stay those of their indices, part by part.
-use Rattle.std.proofs.Common.{◌≡◌, ℕ, zero, suc, ◌+◌, false, List, [], ◌∷◌, map, length, slice_get, Some, refl, sym, ap, ◌∙◌, subst, arith}
-use Rattle.std.proofs.lemmas.List.{length-map}
+use Rattle.std.proofs.Common.{◌≡◌, ◌≤◌, ℕ, zero, suc, ◌+◌, ℤ, pos, ◌+ℤ◌, Bool, false, List, [], ◌∷◌, map, slice_get, Option, Some, None}
+use Rattle.std.proofs.Common.{refl, sym, ap, ◌∙◌, subst, if◌then◌else◌, arith}
+use Rattle.std.proofs.lemmas.Int.{ints}
+use Rattle.sail_types.specs.Numbers.{Positive, number}
+use Rattle.sail_types.specs.Sums.{constant}
+use Rattle.sail_types.specs.declared.numbers.Atom.TheFolds.{fold-roll-Num}
 use Rattle.sail_types.specs.declared.numbers.Index.{Index}
+use Rattle.sail_types.specs.declared.numbers.Num.{Num}
 use Rattle.sail_types.specs.declared.table.Types.{Types}
 use Rattle.sail_types.specs.declared.types.Typ.{Typ, out-Typ, roll-Typ}
 use Rattle.sail_types.specs.declared.types.Typ.TheOpen as T
+use Rattle.sail_types.specs.declared.types.Typ.TheVariants as U
 use Rattle.sail_types.specs.declared.types.Typ.TheViews.{roll-out-Typ}
 use Rattle.sail_types.proofs.SumNumbers.{some_same}
 use Rattle.sail_core.specs.Making.{component, payload, one_item}
-use Rattle.value_indices.specs.declared.indices.Indices.{Indices}
+use Rattle.sail_core.specs.Values.{bits_typ}
+use Rattle.value_indices.specs.declared.indices.Indices.{Indices, out-Indices}
 use Rattle.value_indices.specs.declared.indices.Indices.TheOpen as W
 use Rattle.value_indices.specs.declared.indices.Indices.TheVariants as I
+use Rattle.value_indices.specs.declared.indices.Indices.TheViews.{out-roll-Indices}
 use Rattle.value_indices.specs.declared.indices.Naming.{Naming}
 use Rattle.value_indices.specs.declared.indices.Reading.{Reading}
 use Rattle.value_indices.specs.declared.indices.Reading.TheVariants as R
 use Rattle.value_indices.specs.declared.notes.Fact.{Fact}
 use Rattle.value_indices.specs.declared.notes.Made.TheVariants as Makes
 use Rattle.value_indices.specs.Opening.{opened_for}
+use Rattle.size_values.specs.Numbers.{argument_of, atom_value, constant_under, number_in, small, sum_value, term_value, value_of}
 use Rattle.size_values.specs.declared.constants.Constant.{Constant}
-use Rattle.size_values.specs.declared.sized.Sized.{Sized, out-Sized}
-use Rattle.size_values.specs.declared.sized.Sized.TheOpen as Z
+use Rattle.size_values.specs.declared.constants.Constant.TheVariants as C
+use Rattle.size_values.specs.declared.sized.Sized.{Sized}
 use Rattle.size_values.specs.declared.sized.Sized.TheVariants as S
-use Rattle.size_values.specs.Sized.{UnderConstants, each_sized, named_numbers, reading_sized, typ_sized, value_sized}
+use Rattle.size_values.specs.Sized.{UnderConstants, each_sized, integer_of, typ_sized}
 use Rattle.size_laws.specs.Known.{all_numbers}
 use Rattle.size_laws.specs.Settled.{constants, stood}
 use Rattle.size_laws.proofs.Forms.{of_is, typ_is, value_is}
+use Rattle.size_laws.proofs.Numbers.{known_constant, known_number}
 use Rattle.size_laws.proofs.Opening.{opening_keeps_sizes}
-use Rattle.size_laws.proofs.Parts.{component_of, out_is, parts_keep_sizes}
-use Rattle.checked_meaning.specs.Items.{part_typ}
+use Rattle.size_laws.proofs.Parts.{component_of, parts_keep_sizes}
+use Rattle.checked_meaning.specs.Items.{fixed_typ, part_typ}
 use Rattle.pattern_leaves.specs.Payloads.{payload_readings}
-use Rattle.value_laws.specs.Belonging.{Integers}
-use Rattle.pattern_laws.specs.Typing.{EachFits, EachReads, named_place, tuple_size}
-use Rattle.sized_patterns.specs.Laws.{AreSettled, Fits, PartsStaySized, Reads}
+use Rattle.value_laws.specs.Belonging.{Integers, standing}
+use Rattle.pattern_laws.specs.Typing.{EachFits, EachReads}
+use Rattle.pattern_laws.proofs.Cuts.{small_width}
+use Rattle.pattern_laws.proofs.Literals.{pos_same}
+use Rattle.sized_patterns.specs.Laws.{Fits, FormFits, IsWidth, PartsStaySized, Reads, SizesFit}
 
 -- an item of the types of a tuple's parts
 typed_at : (fs : List UnderConstants) (cs : List Constant) (k : ℕ) (f : UnderConstants) → slice_get fs k ≡ Some f → slice_get (each_sized fs cs) k ≡ Some (f cs)
@@ -40,21 +52,6 @@ typed_at (h ∷ fs) cs zero f e = ap (λ (g : UnderConstants). Some (g cs)) (som
 typed_at (h ∷ fs) cs (suc k) f e = typed_at fs cs k f e
 
 module _ (types : Types) (own : List Sized) where
-  opens : (g : Integers) (r : Reading) (s : Sized) (naming : Naming) (facts : List Fact) (n : ℕ) → AreSettled types own g (Makes.ByType r)
-      → Reads types own g r s → Fits types own g (opened_for naming r facts n).value s
-  unfolding opened_for
-  opens g r s naming facts n settled e = e ∙ sym (opening_keeps_sizes types own (all_numbers g) r settled false naming facts n)
-
-  tuple_is : (g : Integers) (is : List Indices) → value_sized types own (all_numbers g) (I.Tuple is) ≡ S.Tuple (map (value_sized types own (all_numbers g)) is)
-  tuple_is g is = value_is types own (all_numbers g) (I.Tuple is) (W.Tuple is) (I.rolls-Tuple is)
-
-  size : (g : Integers) (is : List Indices) (s : Sized) → Fits types own g (I.Tuple is) s → tuple_size (out-Sized s) ≡ Some (length is)
-  size g is s e =
-      let ss : List Sized = map (value_sized types own (all_numbers g)) is in
-      ap (λ (u : Sized). tuple_size (out-Sized u)) (e ∙ tuple_is g is)
-      ∙ ap tuple_size (out_is (S.Tuple ss) (Z.Tuple ss) (S.rolls-Tuple ss))
-      ∙ ap Some (length-map is (value_sized types own (all_numbers g)))
-
   -- parts from one on
   each_fits : (fits : Indices → Sized → Type 0) (s : Sized) (k : ℕ) (is : List Indices)
       → ((j : ℕ) (i : Indices) → slice_get is j ≡ Some i → fits i (part_typ types (component (k + j)) s)) → EachFits types fits s k is
@@ -78,13 +75,6 @@ module _ (types : Types) (own : List Sized) where
       each_fits (Fits types own g) s 0 is (λ j i found. subst (λ m. Fits types own g i (part_typ types (component m) s)) (omega arith)
       (ap (part_typ types (component j)) e ∙ (parts_keep_sizes types own (all_numbers g)).of_tuple is j i found))
 
-  named : (g : Integers) (u : ℕ) (is : List Index) (rs : List Reading) (s : Sized) → Fits types own g (I.Named u is rs) s → named_place (out-Sized s) ≡ Some u
-  named g u is rs s e =
-      let zs = named_numbers types u (constants types own (all_numbers g) is) in
-      let ss : List Sized = map (reading_sized types own (all_numbers g)) rs in
-      ap (λ (x : Sized). named_place (out-Sized x)) (e ∙ value_is types own (all_numbers g) (I.Named u is rs) (W.Named u is rs) (I.rolls-Named u is rs))
-      ∙ ap named_place (out_is (S.Named u zs ss) (Z.Named u zs ss) (S.rolls-Named u zs ss))
-
   map_at : (f : Typ → UnderConstants) (ts : List Typ) (k : ℕ) (t : Typ) → slice_get ts k ≡ Some t → slice_get (map f ts) k ≡ Some (f t)
   map_at f [] k t e = absurd (cc)
   map_at f (u ∷ ts) zero t e = ap (λ (x : Typ). Some (f x)) (some_same u t e)
@@ -105,15 +95,57 @@ module _ (types : Types) (own : List Sized) where
       (map_at (typ_sized types ss) ts j x found))
       ∙ sym (of_is types own (all_numbers g) x is rs)))
 
+-- ---- bits
+
+plus_zero : (z : ℤ) → pos 0 +ℤ z ≡ z
+plus_zero z = omega (arith, ints)
+
+-- a constant is its number, whatever variables are
+constant_is : (past : Positive) (k : ℕ) → k ≤ 128 → constant_under (argument_of []) (constant (pos k)) ≡ C.Number (pos k)
+constant_is past k l =
+    known_constant (argument_of []) (standing past (λ i. pos 0)) (λ i z h. some_same (pos 0) z h) (constant (pos k)) (pos k)
+    (fold-roll-Num (Option ℤ) (Option ℤ) (Option ℤ) (atom_value (argument_of [])) sum_value term_value (record { terms = []; constant = pos k })
+    ∙ ap small (plus_zero (pos k)) ∙ ap (λ (b : Bool). if b then Some (pos k) else None) (small_width k l))
+
+module _ (types : Types) (past : Positive) (own : List Sized) where
+  -- bits whose size is noted
+  bits_fit : (g : Integers) (t : Num) → SizesFit types own g (Makes.ByIndices (I.Bits t)) → IsWidth g t
+  bits_fit g t h = subst (FormFits types own g) (ap out-Indices (sym (I.rolls-Bits t)) ∙ out-roll-Indices (W.Bits t)) h
+
+  width : (g : Integers) (t : Num) → SizesFit types own g (Makes.ByIndices (I.Bits t)) → (k : ℕ) × (value_of (all_numbers g) t ≡ Some (pos k))
+  width g t h = let fit = bits_fit g t h in (fit.width, fit.is_so)
+
+  variable_says : (g : Integers) (i : ℕ) (z : ℤ) → number_in (all_numbers g i) ≡ Some z → (standing past g).int i ≡ z
+  variable_says g i z h = some_same (g i) z h
+
+  cut : (g : Integers) (t : Num) (k : ℕ) → SizesFit types own g (Makes.ByIndices (I.Bits t)) → number (standing past g) t ≡ pos k
+      → Fits types own g (I.Bits t) (fixed_typ types (bits_typ k))
+  cut g t k h e =
+      let fit = bits_fit g t h in
+      let of = all_numbers g in
+      let same : pos fit.width ≡ pos k = sym (known_number of (standing past g) (variable_says g) t (pos fit.width) fit.is_so).0 ∙ e in
+      let most : k ≤ 128 = subst (λ n. n ≤ 128) (pos_same same) fit.most in
+      typ_is types own of [] (bits_typ k) (T.Bits (constant (pos k))) [] (U.rolls-Bits (constant (pos k)))
+      ∙ ap (λ c. S.Bits (integer_of c)) (constant_is past k most ∙ ap C.Number (sym same)
+      ∙ sym (known_constant of (standing past g) (variable_says g) t (pos fit.width) fit.is_so))
+      ∙ sym (value_is types own of (I.Bits t) (W.Bits t) (I.rolls-Bits t))
+
+  -- ---- where a value is opened
+
+  opens : (g : Integers) (r : Reading) (s : Sized) (naming : Naming) (facts : List Fact) (n : ℕ) → SizesFit types own g (Makes.ByType r)
+      → Reads types own g r s → Fits types own g (opened_for naming r facts n).value s
+  unfolding opened_for
+  opens g r s naming facts n settled e = e ∙ sym (opening_keeps_sizes types own (all_numbers g) r settled false naming facts n)
+
 pub parts_stay_sized : PartsStaySized
-parts_stay_sized types own hang = record {
-  opens = opens types own;
-  size = size types own;
+parts_stay_sized types past closed own hang = record {
+  opens = λ g r s naming facts n v fit has e. opens types past own g r s naming facts n fit e;
   parts = parts types own;
   list_item = λ g r s e. ap (part_typ types one_item) e ∙ (parts_keep_sizes types own (all_numbers g)).of_list r;
   vector_item = λ g t r s e. ap (part_typ types one_item) e ∙ (parts_keep_sizes types own (all_numbers g)).of_vector t r;
-  named = named types own;
   of_union = λ g u c is rs s t there e.
       ap (part_typ types (payload u c)) e ∙ (parts_keep_sizes types own (all_numbers g)).of_union u c is rs t there (hang g u c is rs t there);
   of_tuple = of_tuple types own;
+  width = width types past own;
+  cut = cut types past own;
 }

@@ -1,7 +1,7 @@
 //! Laws of forms that bind names: each function's contract is one, and it does nothing.
-ghost use Rattle.soundness_binding.specs.Laws.{BlocksAreFine, LetsAreFine, PatternsStand, VarsAreFine};
+ghost use Rattle.soundness_binding.specs.Laws.{BlocksAreFine, LetsAreFine, PatternsMatch, VarsAreFine};
 
-/// A `let` ends well beside its walk, where its value and its body do.
+/// A `let` whose pattern stands ends well beside its walk, where its value and its body do.
 pub fn lets_are_fine()
     ensures { LetsAreFine }
 {}
@@ -11,12 +11,12 @@ pub fn vars_are_fine()
     ensures { VarsAreFine }
 {}
 
-/// So does a block, where its statements do.
+/// So does a block in which the pattern of each `let` stands, where its statements do.
 pub fn blocks_are_fine()
     ensures { BlocksAreFine }
 {}
 
-/// Patterns end well beside their walks wherever expressions do.
-pub fn patterns_stand()
-    ensures { PatternsStand }
+/// Patterns that stand match wherever expressions do.
+pub fn patterns_match()
+    ensures { PatternsMatch }
 {}

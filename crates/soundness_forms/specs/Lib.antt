@@ -6,4 +6,5 @@ pub mod Calls
 pub mod Patterns
 pub mod Joins
 pub mod Registers
+pub mod Mappings
 pub mod Laws

@@ -71,7 +71,7 @@ use Rattle.soundness_forms.proofs.Growth.{grows_bind, grows_give, grows_made, gr
 use Rattle.soundness_forms.proofs.Nodes.{made_opens}
 use Rattle.soundness_forms.proofs.Parts.{AllSteady, EachIs, all_have, each_fine, none_never}
 use Rattle.soundness_forms.proofs.PlainKinds.{fine_by, settled_grows}
-use Rattle.soundness_values.specs.Mappings.{MappingsClosed}
+use Rattle.soundness_forms.specs.Mappings.{MappingsClosed}
 use Rattle.soundness_values.proofs.Made.{parts_node}
 use Rattle.soundness_values.proofs.MadeKinds.{all_at, all_values, each_grow}
 use Rattle.soundness_values.proofs.RowCalls.{taken_all}

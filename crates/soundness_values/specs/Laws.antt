@@ -10,7 +10,7 @@ use Rattle.soundness_steps.specs.Works.{Scene}
 use Rattle.soundness_forms.specs.Calls.{CallsFit}
 use Rattle.soundness_forms.specs.EachKind.{KindFine}
 use Rattle.soundness_forms.specs.Forms.{FitsSuffice}
-use Rattle.soundness_values.specs.Mappings.{MappingsClosed}
+use Rattle.soundness_forms.specs.Mappings.{MappingsClosed}
 use Rattle.soundness_values.specs.Named.{TypesNarrow}
 
 -- tuples

@@ -1,6 +1,5 @@
 pub mod Widening
 pub mod Likeness
-pub mod Mappings
 pub mod Narrow
 pub mod Named
 pub mod Laws

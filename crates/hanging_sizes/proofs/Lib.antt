@@ -1,0 +1,4 @@
+pub mod Numbers
+pub mod Types
+pub mod Counts
+pub mod Payloads

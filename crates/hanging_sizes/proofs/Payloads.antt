@@ -1,0 +1,140 @@
+-- What a union's type notes suffices for the sizes in its payloads.
+use Rattle.std.proofs.Common.{◌≡◌, ℕ, zero, suc, ◌+◌, ◌<◌, ℤ, Bool, true, List, [], ◌∷◌, length, map, slice_get, Option, Some, None}
+use Rattle.std.proofs.Common.{refl, sym, ap, ◌∙◌, subst, arith}
+use Rattle.std.specs.List.{list_all}
+use Rattle.std.proofs.lemmas.Bool.{and_parts}
+use Rattle.sail_types.specs.Named.{form_constructors, in_form, payload as payload_type, typ_of}
+use Rattle.sail_types.proofs.SumNumbers.{some_same}
+use Rattle.sail_types.specs.declared.numbers.Index.{Index}
+use Rattle.sail_types.specs.declared.numbers.Index.TheVariants as I
+use Rattle.sail_types.specs.declared.numbers.Num.{Num}
+use Rattle.sail_types.specs.declared.table.Definition.{Definition}
+use Rattle.sail_types.specs.declared.table.Field.{Field}
+use Rattle.sail_types.specs.declared.table.Types.{Types}
+use Rattle.sail_types.specs.declared.types.Typ.{Typ}
+use Rattle.value_indices.specs.declared.indices.Reading.{Reading}
+use Rattle.size_values.specs.declared.constants.Constant.{Constant}
+use Rattle.size_values.specs.declared.constants.Constant.TheVariants as C
+use Rattle.size_values.specs.declared.sized.Sized.{Sized}
+use Rattle.size_values.specs.Numbers.{argument_of, constant_under, first_free, index_under, unless_free, value_of}
+use Rattle.size_values.specs.Sized.{hangs_on, integer_of, named_numbers, number_where, numbers_from, reading_sized, typ_sized}
+use Rattle.checked_meaning.specs.Items.{constant_of}
+use Rattle.size_laws.specs.Known.{all_numbers}
+use Rattle.size_laws.specs.Settled.{constants, stood}
+use Rattle.call_arguments.specs.Callees.{is_typeless}
+use Rattle.value_laws.specs.Belonging.{Integers}
+use Rattle.value_laws.proofs.Basics.{no}
+use Rattle.hanging_sizes.specs.Hanging.{all_hang, definition_hangs, hanging, is_alone, payload_hangs, payloads_alone, table_hangs}
+use Rattle.hanging_sizes.specs.Laws.{PayloadsDo}
+use Rattle.hanging_sizes.proofs.Counts.{hangs_same}
+use Rattle.hanging_sizes.proofs.Numbers.{AllSame, free_there}
+use Rattle.hanging_sizes.proofs.Types.{typ_same, typeless_same}
+
+-- ---- arguments are constants
+
+abbrev AllNumbers : List Constant → Type 0
+AllNumbers [] = Unit {0}
+AllNumbers (c ∷ cs) = ((z : ℤ) × (c ≡ C.Number z)) × AllNumbers cs
+
+module _ (g : Integers) where
+  size_number : (t : Num) → (z : ℤ) × (constant_under (all_numbers g) t ≡ C.Number z)
+  size_number t = by (first_free (all_numbers g) t) refl
+    where
+      by : (o : Option ℕ) → first_free (all_numbers g) t ≡ o → (z : ℤ) × (unless_free (all_numbers g) o (value_of (all_numbers g) t) ≡ C.Number z)
+      by None e = (_, refl)
+      by (Some j) e = no (free_there (all_numbers g) t j e)
+
+  all_numbers_there : (is : List Index) → AllNumbers (map (index_under (all_numbers g)) is)
+  all_numbers_there [] = tt
+  all_numbers_there (I.Number t ∷ is) = (size_number t, all_numbers_there is)
+  all_numbers_there (I.Truth c ∷ is) = ((_, refl), all_numbers_there is)
+
+-- ---- what is noted of them, where a size hangs on it
+
+module _ (types : Types) (u : ℕ) where
+  noted : (m k : ℕ) (cs : List Constant) → AllNumbers cs → (i : ℕ) → (i < length cs → hangs_on types u m (k + i) ≡ true)
+      → argument_of (map constant_of (numbers_from types u m k cs)) i ≡ argument_of cs i
+  noted m k [] all i h = refl
+  noted m k (c ∷ cs) all zero h =
+      let e : hangs_on types u m k ≡ true = subst (λ j. hangs_on types u m j ≡ true) (omega arith) (h (omega arith)) in
+      ap (λ b. constant_of (number_where b c)) e ∙ ap (λ d. C.Number (integer_of d)) all.0.1 ∙ sym all.0.1
+  noted m k (c ∷ cs) all (suc i) h =
+      noted m (suc k) cs all.1 i (λ l. subst (λ j. hangs_on types u m j ≡ true) (omega arith) (h (omega (arith, l))))
+
+  all_noted : (cs : List Constant) → AllNumbers cs → (is : List ℕ) → list_all (λ i. hangs_on types u (suc i) i) is ≡ true
+      → AllSame (argument_of (map constant_of (named_numbers types u cs))) (argument_of cs) is
+  all_noted cs all [] h = tt
+  all_noted cs all (i ∷ is) h =
+      let both = and_parts (hangs_on types u (suc i) i) (list_all (λ i. hangs_on types u (suc i) i) is) h in (
+        noted (length cs) 0 cs all i (λ l. subst (λ j. hangs_on types u (length cs) j ≡ true) (omega arith)
+            (hangs_same types u (length cs) (suc i) i l (omega arith) ∙ both.0)),
+        all_noted cs all is both.1,
+      )
+
+-- ---- a payload is one of those that were tested
+
+module _ (test : Typ → Bool) where
+  in_fields : (fs : List Field) (c : ℕ) (t : Typ) → list_all (λ f. test f.typ) fs ≡ true → typ_of (slice_get fs c) ≡ Some t → test t ≡ true
+  in_fields [] c t h e = absurd (cc)
+  in_fields (f ∷ fs) zero t h e =
+      subst (λ x. test x ≡ true) (some_same f.typ t e) (and_parts (test f.typ) (list_all (λ x. test x.typ) fs) h).0
+  in_fields (f ∷ fs) (suc c) t h e = in_fields fs c t (and_parts (test f.typ) (list_all (λ x. test x.typ) fs) h).1 e
+
+-- of a definition in the table
+found_payload : (ds : List Definition) (u c : ℕ) (t : Typ) → typ_of (slice_get (in_form [] form_constructors (slice_get ds u)) c) ≡ Some t
+    → (d : Definition) × (slice_get ds u ≡ Some d) × (typ_of (slice_get (form_constructors d.form) c) ≡ Some t)
+found_payload ds u c t e = by (slice_get ds u) e
+  where
+    by : (o : Option Definition) → typ_of (slice_get (in_form [] form_constructors o) c) ≡ Some t
+        → (d : Definition) × (o ≡ Some d) × (typ_of (slice_get (form_constructors d.form) c) ≡ Some t)
+    by None k = absurd (cc)
+    by (Some d) k = (d, refl, k)
+
+hang_there : (types : Types) (k u : ℕ) (ds : List Definition) (d : Definition) → all_hang types k ds ≡ true → slice_get ds u ≡ Some d
+    → definition_hangs types (k + u) d ≡ true
+hang_there types k u [] d h e = absurd (cc)
+hang_there types k zero (x ∷ ds) d h e =
+    let both = and_parts (definition_hangs types k x) (all_hang types (suc k) ds) h in
+    subst (λ j. definition_hangs types j d ≡ true) (omega arith) (subst (λ y. definition_hangs types k y ≡ true) (some_same x d e) both.0)
+hang_there types k (suc u) (x ∷ ds) d h e =
+    let both = and_parts (definition_hangs types k x) (all_hang types (suc k) ds) h in
+    subst (λ j. definition_hangs types j d ≡ true) (omega arith) (hang_there types (suc k) u ds d both.1 e)
+
+alone_there : (ds : List Definition) (u : ℕ) (d : Definition) → list_all is_alone ds ≡ true → slice_get ds u ≡ Some d → is_alone d ≡ true
+alone_there [] u d h e = absurd (cc)
+alone_there (x ∷ ds) zero d h e = subst (λ y. is_alone y ≡ true) (some_same x d e) (and_parts (is_alone x) (list_all is_alone ds) h).0
+alone_there (x ∷ ds) (suc u) d h e = alone_there ds u d (and_parts (is_alone x) (list_all is_alone ds) h).1 e
+
+module _ (types : Types) (own : List Sized) where
+  -- ---- what the Type variables of the union stand for
+
+  stood_same : (alone : payloads_alone types own ≡ true) (g : Integers) (u c : ℕ) (rs : List Reading) (t : Typ) (cs : List Constant)
+      → payload_type types u c ≡ Some t
+      → typ_sized types (map (reading_sized types own (all_numbers g)) rs) t cs ≡ typ_sized types (stood types own (all_numbers g) rs) t cs
+  stood_same alone g u c (r ∷ rs) t cs e = refl
+  stood_same alone g u c [] t cs e = by own alone
+    where
+      by : (ss : List Sized) → payloads_alone types ss ≡ true → typ_sized types [] t cs ≡ typ_sized types ss t cs
+      by [] h = refl
+      by (s ∷ ss) h =
+          let d = found_payload types.definitions u c t e in
+          typeless_same types [] (s ∷ ss) t
+          (in_fields is_typeless (form_constructors d.0.form) c t (alone_there types.definitions u d.0 h d.1) d.2) cs
+
+  pub hang : table_hangs types ≡ true → payloads_alone types own ≡ true → (g : Integers) (u c : ℕ) (is : List Index) (rs : List Reading) (t : Typ)
+      → payload_type types u c ≡ Some t
+      → typ_sized types (map (reading_sized types own (all_numbers g)) rs) t
+      (map constant_of (named_numbers types u (constants types own (all_numbers g) is)))
+      ≡ typ_sized types (stood types own (all_numbers g) rs) t (constants types own (all_numbers g) is)
+  hang tables alone g u c is rs t e =
+      let cs = constants types own (all_numbers g) is in
+      let d = found_payload types.definitions u c t e in
+      let there : definition_hangs types u d.0 ≡ true =
+      subst (λ j. definition_hangs types j d.0 ≡ true) (omega arith) (hang_there types 0 u types.definitions d.0 tables d.1) in
+      let tested : payload_hangs types u t ≡ true = in_fields (payload_hangs types u) (form_constructors d.0.form) c t there d.2 in
+      typ_same types (map (reading_sized types own (all_numbers g)) rs) t (map constant_of (named_numbers types u cs)) cs
+      (all_noted types u cs (all_numbers_there g is) (hanging types t) tested)
+      ∙ stood_same alone g u c rs t cs e
+
+pub payloads_hang : PayloadsDo
+payloads_hang types own tables alone = hang types own tables alone
