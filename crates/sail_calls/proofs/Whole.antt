@@ -2,24 +2,26 @@
 use Rattle.std.proofs.Common.{ℕ, true, List, [], ◌∷◌}
 use Rattle.sail_base.specs.declared.place.Place.{Place}
 use Rattle.sail_core.specs.Making.{World}
+use Rattle.sail_core.specs.Meaning.{meaning}
 use Rattle.sail_core.specs.Run.{stuck}
 use Rattle.sail_core.specs.declared.model.Direction.{Direction}
 use Rattle.sail_core.specs.declared.model.Function.{Function}
 use Rattle.sail_core.specs.declared.patterns.Arm.{Arm}
 use Rattle.sail_core.specs.declared.tree.Core.{Core}
+use Rattle.expression_steps.specs.Expressions.{part}
 use Rattle.expression_steps.specs.Statements.{natural_type}
 use Rattle.checked_meaning.specs.Checked.{Checks}
 use Rattle.checked_meaning.specs.Items.{Item}
 use Rattle.soundness_steps.specs.Works.{Scene, Setting, Work}
 use Rattle.soundness_forms.specs.Patterns.{AllMatch}
-use Rattle.soundness_forms.specs.Standing.{standing}
-use Rattle.soundness_calls.specs.Premises.{own_type}
+use Rattle.soundness_calls.specs.Premises.{own_type, read_as}
 use Rattle.soundness_calls.specs.Laws.{PartsHold, scene_of}
 use Rattle.soundness_calls.specs.Directions.{ArmsOf, BothHold, ClausesOf, CoveredDirection, Side, WaysAreSound, bodies_of, is_ahead, is_back, scene_across}
 use Rattle.soundness_arms.specs.Bodies.{BodiesStand}
 use Rattle.soundness_arms.specs.Laws.{clause_scene}
 use Rattle.soundness_arms.proofs.Arms.{arms_sound}
-use Rattle.soundness_arms.proofs.Bodies.{bodies_grow, body_fine, clauses_follow}
+use Rattle.soundness_arms.proofs.Behind.{body_fine}
+use Rattle.soundness_arms.proofs.Bodies.{bodies_grow, clauses_follow}
 use Rattle.soundness_arms.proofs.Grows.{all_count}
 use Rattle.sail_calls.specs.Models.{CallsFollow, DirectionStands, FunctionStands, Ways, WaysOf, own_arms}
 
@@ -49,14 +51,15 @@ any_world = record {
   way = λ d x. stuck;
 }
 
-ways_sound : (q : Scene) (w : World Item) (place : Place) (arms : List Arm) (cs : List Core) → BodiesStand q w true cs
+ways_sound : (q : Scene) (w : World Item) (place : Place) (arms : List Arm) (cs : List Core) → BodiesStand q w cs
     → AllMatch (clause_scene q w) w arms → WaysAreSound (clause_scene q w) w place arms cs
 ways_sound q w place [] cs h ms = tt
 ways_sound q w place (arm ∷ arms) [] h ms = tt
-ways_sound q w place (arm ∷ arms) (c ∷ cs) h ms = (
-  arms_sound q w place arm c (standing q.set.around c).guard ms.0 (body_fine q w true c h.0 h.1 h.2),
-  ways_sound q w place arms cs h.3 ms.1,
-)
+ways_sound q w place (arm ∷ arms) (c ∷ cs) h ms =
+    let fine = body_fine q w true c h.0 h.1 h.2 in (
+      arms_sound q w place arm (part c) (meaning (read_as q) w c) fine.0 ms.0 fine.1,
+      ways_sound q w place arms cs h.3 ms.1,
+    )
 
 both_hold : (q : Scene) (place : Place) (m n : Direction) → Ways q m n → BothHold q place m n
 both_hold q place m n s = record {

@@ -41,8 +41,8 @@ pub record Ways (q : Scene) (m n : Direction) : Type 0 where
   pub backs : List Arm
   pub ahead : (out-Core m.body).kind ≡ K.Clauses arms
   pub back : (out-Core n.body).kind ≡ K.Clauses backs
-  pub ahead_bodies : (w : World Item) → BodiesStand q w true (bodies_of m)
-  pub back_bodies : (w : World Item) → BodiesStand q w true (bodies_of n)
+  pub ahead_bodies : (w : World Item) → BodiesStand q w (bodies_of m)
+  pub back_bodies : (w : World Item) → BodiesStand q w (bodies_of n)
 
 abbrev pub WaysOf : Scene → Side → Direction → Type 0
 WaysOf q (is_ahead n) m = Ways q m n

@@ -25,7 +25,7 @@ nexts : (cs : List Core) → joined (map (λ (p : Core × List (Core-F Core)). p
 nexts [] = refl
 nexts (c ∷ cs) = ap (λ ns. nodes c ++ ns) (nexts cs)
 
-nodes_are : (d : Core-F Core) → nodes (roll-Core d) ≡ d ∷ joined (map nodes d.parts)
+pub nodes_are : (d : Core-F Core) → nodes (roll-Core d) ≡ d ∷ joined (map nodes d.parts)
 nodes_are d =
     para-roll-Core (List (Core-F Core)) nodes_over d
     ∙ ap (λ ps. record { place = d.place; number = d.number; kind = d.kind; parts = ps }

@@ -1,17 +1,14 @@
 -- The patterns of an arm, and its body under the names that they bind.
 use Rattle.std.proofs.Common.{◌≡◌, refl, subst, ap, true, List, [], ◌∷◌, ◌++◌}
-use Rattle.sail_core.specs.Meaning.{meaning}
 use Rattle.sail_core.specs.Run.{within}
 use Rattle.pattern_leaves.specs.declared.names.Bound.{Bound}
 use Rattle.call_arguments.specs.declared.aims.Aim.TheVariants as Aims
-use Rattle.expression_steps.specs.Expressions.{part}
 use Rattle.soundness_steps.specs.Works.{here}
 use Rattle.soundness_steps.proofs.Scenes.{naming, under_names}
 use Rattle.soundness_steps.proofs.Steps.{binds, means}
 use Rattle.soundness_forms.specs.Worlds.{Surrounds}
 use Rattle.soundness_forms.proofs.Basics.{aim_on}
 use Rattle.soundness_forms.proofs.Worlds.{surrounds_more, surrounds_on}
-use Rattle.soundness_calls.specs.Premises.{read_as}
 use Rattle.soundness_arms.specs.Laws.{ArmsAreSound, clause_scene}
 
 nothing_behind : (bs : List Bound) → bs ++ [] ≡ bs
@@ -19,9 +16,9 @@ nothing_behind [] = refl
 nothing_behind (b ∷ bs) = ap (λ cs. b ∷ cs) (nothing_behind bs)
 
 pub arms_sound : ArmsAreSound
-arms_sound q w place arm core guard matches h = λ n p there facts how r wanted is xs are.
+arms_sound q w place arm body run guard matches h = λ n p there facts how r wanted is xs are.
     let s = clause_scene q w in
-    binds (λ found. (part core).walk (here q) found (Aims.Due r)) (λ found. within found (meaning (read_as q) w core))
+    binds (λ found. body.walk (here q) found (Aims.Due r)) (λ found. within found run)
     (matches n p facts [] place how is xs there are) (λ m g fs found ls l b.
     let known = subst (λ scope. Surrounds (naming b.names s) w g scope) (nothing_behind found)
     (surrounds_more s w g [] found b.names b.in_scope (surrounds_on s w [] l there)) in

@@ -23,7 +23,7 @@ use Rattle.call_arguments.specs.declared.aims.Aim.TheVariants as Aims
 use Rattle.call_notes.specs.Noted.{numbers_given}
 use Rattle.expression_steps.specs.Expressions.{part}
 use Rattle.expression_steps.specs.Parts.{Part}
-use Rattle.function_notes.specs.Functions.{arm_of, body_of, clause_walk, entered_at, in_clause, other_looks, parameter_naming, parameter_opened}
+use Rattle.function_notes.specs.Functions.{arm_of, body_part, clause_walk, entered_at, in_clause, other_looks, parameter_naming, parameter_opened}
 use Rattle.function_notes.specs.Functions.{parameters_entered, parameters_opened, reading_under}
 use Rattle.soundness_steps.specs.Works.{Scene, here}
 use Rattle.soundness_steps.specs.Noted.{variables_given}
@@ -83,16 +83,16 @@ clause_grows place entry around ts once aim arm body h =
 -- ---- clauses of functions, and of directions of mappings
 
 clauses_grow : (q : Scene) (place : Place) (entry : ℕ) (ts : List Typ) (r : Reading) (declared : Bool) (arms : List Arm) (bodies : List Core)
-    → EachGrows (body_of declared) bodies → ClausesGrow q place entry ts r declared arms bodies
+    → EachGrows (body_part declared) bodies → ClausesGrow q place entry ts r declared arms bodies
 clauses_grow q place entry ts r declared [] bodies h = tt
 clauses_grow q place entry ts r declared (arm ∷ arms) [] h = tt
 clauses_grow q place entry ts r declared (arm ∷ arms) (body ∷ bodies) h = (
   λ once facts n.
-      (clause_grows place (Some entry) (here q) ts once (Aims.Due r) (arm_of declared arm) (part (body_of declared body)) h.0).onward facts n,
+      (clause_grows place (Some entry) (here q) ts once (Aims.Due r) (arm_of declared arm) (body_part declared body) h.0).onward facts n,
   clauses_grow q place entry ts r declared arms bodies h.1,
 )
 
-ways_grow : (q : Scene) (place : Place) (m : Direction) (arms : List Arm) (bodies : List Core) → EachGrows (λ c. c) bodies → WaysGrow q place m arms bodies
+ways_grow : (q : Scene) (place : Place) (m : Direction) (arms : List Arm) (bodies : List Core) → EachGrows part bodies → WaysGrow q place m arms bodies
 ways_grow q place m [] bodies h = tt
 ways_grow q place m (arm ∷ arms) [] h = tt
 ways_grow q place m (arm ∷ arms) (body ∷ bodies) h = (

@@ -1,3 +1,4 @@
 pub mod Arms
+pub mod Behind
 pub mod Bodies
 pub mod Grows

@@ -6,7 +6,7 @@ use Rattle.sail_core.specs.declared.patterns.Arm.{Arm}
 use Rattle.sail_core.specs.declared.tree.Core.{Core, out-Core}
 use Rattle.sail_core.specs.declared.tree.Kind.TheVariants as K
 use Rattle.value_indices.specs.declared.indices.Reading.{Reading}
-use Rattle.function_notes.specs.Functions.{arm_of, body_of}
+use Rattle.function_notes.specs.Functions.{arm_of}
 use Rattle.checked_meaning.specs.Items.{Item}
 use Rattle.soundness_steps.specs.Works.{Scene}
 use Rattle.soundness_forms.specs.Patterns.{AllMatch}
@@ -16,17 +16,16 @@ use Rattle.sail_soundness.specs.Whole.{OthersFine, nodes}
 use Rattle.soundness_arms.specs.Laws.{clause_scene}
 
 -- each comes to the result and stands as the resolver puts it, and its nodes that aren't of a proved kind are fine
-abbrev pub BodiesStand : Scene → World Item → Bool → List Core → Type 0
-BodiesStand q w declared [] = Unit {0}
-BodiesStand q w declared (c ∷ cs) =
-    ((standing q.set.around (body_of declared c)).cast ≡ true) × ((standing q.set.around (body_of declared c)).right ≡ true)
-    × OthersFine q w (nodes (body_of declared c)) × BodiesStand q w declared cs
+abbrev pub BodiesStand : Scene → World Item → List Core → Type 0
+BodiesStand q w [] = Unit {0}
+BodiesStand q w (c ∷ cs) =
+    ((standing q.set.around c).cast ≡ true) × ((standing q.set.around c).right ≡ true) × OthersFine q w (nodes c) × BodiesStand q w cs
 
 pub record Clauses (q : Scene) (w : World Item) (declared : Bool) (core : Core) : Type 0 where
   pub first : Arm
   pub others : List Arm
   pub kind : (out-Core core).kind ≡ K.Clauses (first ∷ others)
-  pub bodies : BodiesStand q w declared (out-Core core).parts
+  pub bodies : BodiesStand q w (out-Core core).parts
   pub matches : AllMatch (clause_scene q w) w (map (arm_of declared) (first ∷ others))
 
 -- so what calls take of a function's clauses holds

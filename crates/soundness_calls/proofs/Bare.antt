@@ -1,20 +1,16 @@
--- What is left out of the patterns and bodies of a function without a `val` means nothing to a run.
-use Rattle.std.proofs.Common.{◌≡◌, ◌∙◌, ap, sym, refl, subst, suc, Bool, true, false, List, [], ◌∷◌, map, length, Some, None}
+-- What is left out of the patterns of a function without a `val` means nothing to a run.
+use Rattle.std.proofs.Common.{◌≡◌, ◌∙◌, ap, sym, refl, subst, suc, Bool, true, false, List, [], ◌∷◌, map, length, None}
 use Rattle.sail_base.specs.declared.place.Place.{Place}
 use Rattle.sail_core.specs.declared.patterns.Arm.{Arm}
 use Rattle.sail_core.specs.declared.patterns.Arm.TheVariants as A
 use Rattle.sail_core.specs.declared.patterns.Form.{Form}
 use Rattle.sail_core.specs.declared.patterns.Form.TheVariants as F
 use Rattle.sail_core.specs.declared.patterns.Pattern.{Pattern, Pattern-F, roll-Pattern, map-Pattern, fold-roll-Pattern, ind-Pattern}
-use Rattle.sail_core.specs.declared.tree.Core.{Core, Core-F, roll-Core, out-Core, fold-roll-Core, roll-out-Core}
-use Rattle.sail_core.specs.declared.tree.Kind.{Kind}
-use Rattle.sail_core.specs.declared.tree.Kind.TheVariants as K
 use Rattle.sail_core.specs.Making.{Making, World}
-use Rattle.sail_core.specs.Meaning.{arm_taken, kind_meaning, meaning}
+use Rattle.sail_core.specs.Meaning.{arm_taken}
 use Rattle.sail_core.specs.Patterns.{Matcher, arm_meaning, counted, matcher, parts_match, pattern_meaning}
 use Rattle.sail_core.specs.Run.{Run, within, ◌then◌}
-use Rattle.function_notes.specs.Functions.{arm_of, bare_arm, bare_by, bare_cast, bare_form, bare_of, bare_pattern, body_of}
-use Rattle.function_notes.specs.Functions.{comes_to_result, comes_to_written, is_typed, only, wanted_cast}
+use Rattle.function_notes.specs.Functions.{arm_of, bare_arm, bare_form, bare_of, bare_pattern, is_typed, only}
 
 no_only : {A : Type 0} (xs : List A) → only false xs ≡ None
 no_only [] = refl
@@ -81,45 +77,6 @@ module _ {X : Type 0} (z : Making X) (w : World X) where
   arm_same true arm xs = refl
   arm_same false arm xs = bare_arm_same arm xs
 
-  -- ---- bodies: the type that is written before one is of no matter to a run
-
-  core_is : (y : Core-F Core) → meaning z w (roll-Core y) ≡ kind_meaning z w y.place y.number y.kind (map (meaning z w) y.parts)
-  core_is y = fold-roll-Core (Run X X) (λ c. kind_meaning z w c.place c.number c.kind c.parts) y
-
-  core_out : (c : Core) → meaning z w c ≡ kind_meaning z w (out-Core c).place (out-Core c).number (out-Core c).kind (map (meaning z w) (out-Core c).parts)
-  core_out c = ap (meaning z w) (sym (roll-out-Core c)) ∙ core_is (out-Core c)
-
-  -- a cast without a type, over the same part
-  cast_means : (c : Core) (kind : Kind) (parts : List Core) (b : Bool) → comes_to_written kind ≡ b → (out-Core c).kind ≡ kind → (out-Core c).parts ≡ parts
-      → meaning z w (wanted_cast c (only b parts)) ≡ meaning z w c
-  cast_means c kind parts false e k p = ap (λ o. meaning z w (wanted_cast c o)) (no_only parts)
-  cast_means c kind [] true e k p = refl
-  cast_means c kind (a ∷ b ∷ parts) true e k p = refl
-  cast_means c (K.Cast (Some written)) (a ∷ []) true e k p =
-      core_is (record (out-Core c) { kind = K.Cast None; parts = a ∷ [] })
-      ∙ (λ j. kind_meaning z w (out-Core c).place (out-Core c).number (sym k j) (map (meaning z w) (sym p j)))
-      ∙ sym (core_out c)
-  cast_means c kind (a ∷ []) true e k p = let h : false ≡ true = e in absurd (cc)
-
-  cast_same : (c : Core) → meaning z w (bare_cast c) ≡ meaning z w c
-  cast_same c = cast_means c (out-Core c).kind (out-Core c).parts (comes_to_written (out-Core c).kind) refl refl refl
-
-  result_means : (y : Core-F Core) (parts : List Core) (b : Bool) → y.parts ≡ parts → meaning z w (bare_by y (only b parts)) ≡ meaning z w (roll-Core y)
-  result_means y parts false p = ap (λ o. meaning z w (bare_by y o)) (no_only parts)
-  result_means y [] true p = refl
-  result_means y (a ∷ b ∷ parts) true p = refl
-  result_means y (a ∷ []) true p =
-      core_is (record y { parts = bare_cast a ∷ [] })
-      ∙ (λ j. kind_meaning z w y.place y.number y.kind (cast_same a j ∷ []))
-      ∙ (λ j. kind_meaning z w y.place y.number y.kind (map (meaning z w) (sym p j)))
-      ∙ sym (core_is y)
-
-  body_same : (declared : Bool) (body : Core) → meaning z w (body_of declared body) ≡ meaning z w body
-  body_same true body = refl
-  body_same false body =
-      result_means (out-Core body) (out-Core body).parts (comes_to_result (out-Core body).kind) refl ∙ ap (meaning z w) (roll-out-Core body)
-
   -- an arm with its body, as it is walked
-  pub taken_same : (declared : Bool) (arm : Arm) (body : Core) (xs : List X)
-      → arm_taken z w (arm_of declared arm) (meaning z w (body_of declared body)) xs ≡ arm_taken z w arm (meaning z w body) xs
-  taken_same declared arm body xs = λ j. arm_same declared arm xs j then λ found. within found (body_same declared body j)
+  pub taken_same : (declared : Bool) (arm : Arm) (body : Run X X) (xs : List X) → arm_taken z w (arm_of declared arm) body xs ≡ arm_taken z w arm body xs
+  taken_same declared arm body xs = λ j. arm_same declared arm xs j then λ found. within found body

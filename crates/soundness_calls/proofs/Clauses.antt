@@ -30,8 +30,7 @@ use Rattle.pattern_notes.specs.Patterns.{Look, looks}
 use Rattle.call_arguments.specs.declared.aims.Aim.{Aim}
 use Rattle.call_arguments.specs.declared.aims.Aim.TheVariants as Aims
 use Rattle.expression_steps.specs.Parts.{Part}
-use Rattle.expression_steps.specs.Expressions.{part}
-use Rattle.function_notes.specs.Functions.{arm_of, body_of, clause_walk, clauses_walk, in_clause, parameters_entered, parameters_opened, written_walk}
+use Rattle.function_notes.specs.Functions.{arm_of, body_part, clause_walk, clauses_walk, in_clause, parameters_entered, parameters_opened, written_walk}
 use Rattle.checked_meaning.specs.Checked.{Noted}
 use Rattle.checked_meaning.specs.Items.{Item, vals}
 use Rattle.value_laws.specs.Belonging.{Integers, standing}
@@ -189,20 +188,21 @@ entering_on {q} {f = f} {r = r} {xs = xs} l h = record {
 }
 
 clause_ends : {q : Scene} {w : World Item} {f : Function} {n : ℕ} {p : Point n} {facts : List Fact} {r : Reading} {xs : List Item} {more : Noted}
-    (place : Place) (once : List WrittenNumber) (arm : Arm) (body : Core) → Entering q w f p facts r xs more → ArmIsSound q w place arm body
-    → AllMet q (clause_walk place (Some f.entry) (here q) f.parameters once (Aims.Due r) arm (part body) facts n).notes
+    (place : Place) (once : List WrittenNumber) (arm : Arm) (body : Part) (run : Run Item Item) → Entering q w f p facts r xs more
+    → ArmIsSound q w place arm body run
+    → AllMet q (clause_walk place (Some f.entry) (here q) f.parameters once (Aims.Due r) arm body facts n).notes
     → (now : Now Item) → now.opened ≡ more → Sound q now
-    → EndsWell q p (clause_walk place (Some f.entry) (here q) f.parameters once (Aims.Due r) arm (part body) facts n).next facts (λ g x. Results q g r x)
-    ((read_as q).inside (arm_taken (read_as q) w arm (meaning (read_as q) w body) xs) now)
+    → EndsWell q p (clause_walk place (Some f.entry) (here q) f.parameters once (Aims.Due r) arm body facts n).next facts (λ g x. Results q g r x)
+    ((read_as q).inside (arm_taken (read_as q) w arm run xs) now)
 unfolding bind scoped
-clause_ends {q} {w} {f} {n} {p} {facts} {r} {xs} {more} place once arm body h sound met now opened ok =
+clause_ends {q} {w} {f} {n} {p} {facts} {r} {xs} {more} place once arm body run h sound met now opened ok =
     let enter = parameters_entered (Some f.entry) (looks arm) q.numbers f.parameters in
     let first = enter facts n in
     let to = subst (λ is. Enter q p facts more (parameters_entered (Some f.entry) (looks arm) is f.parameters) (λ m g is. AllAre q.set q.work g is xs))
     (sym h.numbers) (entered f f.entry (looks arm) f.parameters xs (vals xs) refl h.all h.noted) in
     let a = to.go h.stands (met_front q first.notes _ met) in
     let rest : Beside q first.next a.point first.facts (bind (exponents_owed (here q) once) (λ t. arm_walk place arm (here q) in_clause first.value body
-    (Aims.Due r))) (arm_taken (read_as q) w arm (meaning (read_as q) w body) xs) (λ m g i x. Results q g r x) =
+    (Aims.Due r))) (arm_taken (read_as q) w arm run xs) (λ m g i x. Results q g r x) =
     walks_then _ (exponents (here q) once) (λ m g fs t l u. sound m g (world_on (later_on a.later l) h.world) fs in_clause r
     (wanted_on q.set q.work r (later_on a.later l) h.wanted) first.value xs (all_are_on q.set q.work first.value xs l a.holds)) in
     inside_well now.opened (renoted now.opened h.none h.stands)
@@ -301,10 +301,11 @@ module _ (q : Scene) (w : World Item) (f : Function) (r : Reading) (xs : List It
       let next : ℕ = (first_from once a b facts n).next in
       subst (λ k. EndsWell q p k facts (λ g x. Results q g r x) (run_of (a ∷ arms) (b ∷ bodies) now)) (split_next once a b arms bodies facts n)
       (next_clause q {p = p} {facts = facts} {r = r} next (clauses_from [] arms bodies facts next).next
-      (arm_taken (read_as q) w (arm_of declared a) (meaning (read_as q) w (body_of declared b)) xs) (arm_taken (read_as q) w a (meaning (read_as q) w b) xs)
-      (run_of arms bodies) (taken_same (read_as q) w declared a b xs) (grow.0 once facts n)
+      (arm_taken (read_as q) w (arm_of declared a) (meaning (read_as q) w b) xs) (arm_taken (read_as q) w a (meaning (read_as q) w b) xs)
+      (run_of arms bodies) (taken_same (read_as q) w declared a (meaning (read_as q) w b) xs) (grow.0 once facts n)
       (clauses_next q place f.entry f.parameters [] r declared arms bodies grow.1 facts next) now
-      (clause_ends place once (arm_of declared a) (body_of declared b) h sound.0 (split_front once a b arms bodies facts n met) now opened ok)
+      (clause_ends place once (arm_of declared a) (body_part declared b) (meaning (read_as q) w b) h sound.0 (split_front once a b arms bodies facts n met)
+      now opened ok)
       (λ g after l s. others [] next g facts (entering_on l h) sound.1 grow.1 (split_behind once a b arms bodies facts n met)
       ((read_as q).back now after) opened (record { state = s.state; names = s.names })))
 

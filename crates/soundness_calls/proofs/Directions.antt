@@ -110,7 +110,7 @@ crossing_on {q} {m = m} l h = record {
 }
 
 way_ends : (q : Scene) {w : World Item} {n : ℕ} {p : Point n} {facts : List Fact} {m : Direction} {x : Item} {more : Noted} (place : Place) (arm : Arm)
-    (body : Core) → Crossing q w p facts m x more → ArmIsSound q w place arm body
+    (body : Core) → Crossing q w p facts m x more → ArmIsSound q w place arm (part body) (meaning (read_as q) w body)
     → Beside q n p facts (direction_walk place (here q) m arm body)
     ((read_as q).inside (arm_taken (read_as q) w arm (meaning (read_as q) w body) (x ∷ []))) (λ j g i y. Results q g (bare_type m.result) y)
 way_ends q {w} {n} {p} {facts} {m} {x} place arm body h sound =

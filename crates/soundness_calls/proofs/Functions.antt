@@ -32,9 +32,8 @@ use Rattle.pattern_leaves.specs.Settings.{Around}
 use Rattle.call_arguments.specs.Placing.{is_trivial_form}
 use Rattle.call_arguments.specs.declared.aims.Aim.{Aim}
 use Rattle.call_notes.specs.Noted.{numbers_given, numbers_noted}
-use Rattle.expression_steps.specs.Expressions.{part}
 use Rattle.expression_steps.specs.Statements.{natural_type}
-use Rattle.function_notes.specs.Functions.{arm_of, body_of, body_walk, clauses_of, clauses_walk, constrained, in_function, inside_function, kind_clauses}
+use Rattle.function_notes.specs.Functions.{arm_of, body_part, body_walk, clauses_of, clauses_walk, constrained, in_function, inside_function, kind_clauses}
 use Rattle.function_notes.specs.Functions.{last_made, last_of, measured_walk, own_indices, written_walk}
 use Rattle.checked_meaning.specs.Checked.{Cases, Checks, Noted, checked, noting}
 use Rattle.checked_meaning.specs.Items.{Item, item, items_of, typs, vals}
@@ -368,7 +367,7 @@ module _ (set : Setting) (k : Checks) (lets : List Value) (x : Work) (f : Functi
         by [] m = absurd (wrong_never q form.place stands m)
         by (b ∷ bodies) m =
             let first = written_walk form.place (Some f.entry) (here q) f.parameters once (Aims.Due r) declared arm b cf (own_next 0 f.variables) in
-            entry_noted q f form.place once (Aims.Due r) (arm_of declared arm) (part (body_of declared b)) xs (vals xs) refl refl all stands
+            entry_noted q f form.place once (Aims.Due r) (arm_of declared arm) (body_part declared b) xs (vals xs) refl refl all stands
             (met_front q first.notes _ m)
     first_noted active kind hold met = let no : ⊥ = hold in absurd no
 

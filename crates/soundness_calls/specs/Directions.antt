@@ -8,11 +8,13 @@ use Rattle.sail_core.specs.declared.patterns.Arm.{Arm}
 use Rattle.sail_core.specs.declared.tree.Core.{Core, out-Core}
 use Rattle.sail_core.specs.declared.tree.Kind.TheVariants as K
 use Rattle.sail_core.specs.Making.{World}
+use Rattle.sail_core.specs.Meaning.{meaning}
 use Rattle.size_values.specs.declared.sized.Sized.{Sized}
 use Rattle.value_indices.specs.declared.indices.Reading.{Reading}
 use Rattle.value_indices.specs.declared.indices.Reading.TheVariants as R
 use Rattle.value_indices.specs.declared.notes.Fact.{Fact}
 use Rattle.value_indices.specs.Steps.{Walk}
+use Rattle.expression_steps.specs.Expressions.{part}
 use Rattle.function_notes.specs.Functions.{direction_walk, mapping_walk}
 use Rattle.checked_meaning.specs.Checked.{Cases, Checks}
 use Rattle.checked_meaning.specs.Items.{Item}
@@ -21,7 +23,7 @@ use Rattle.soundness_steps.specs.Works.{Scene, Setting, nobody, here}
 use Rattle.soundness_steps.specs.Noted.{OpensAs}
 use Rattle.soundness_steps.specs.Covers.{AreMet}
 use Rattle.soundness_steps.specs.Calls.{IsOf}
-use Rattle.soundness_calls.specs.Premises.{ArmIsSound}
+use Rattle.soundness_calls.specs.Premises.{ArmIsSound, read_as}
 
 -- a type that names no variable of a definition
 abbrev pub bare_type : Typ → Reading
@@ -53,7 +55,8 @@ nowhere_scene set = scene_within set (λ d. false) (record { makes = λ k is v n
 abbrev pub WaysAreSound : Scene → World Item → Place → List Arm → List Core → Type 0
 WaysAreSound q w place [] bodies = Unit {0}
 WaysAreSound q w place (arm ∷ arms) [] = Unit {0}
-WaysAreSound q w place (arm ∷ arms) (body ∷ bodies) = ArmIsSound q w place arm body × WaysAreSound q w place arms bodies
+WaysAreSound q w place (arm ∷ arms) (body ∷ bodies) =
+    ArmIsSound q w place arm (part body) (meaning (read_as q) w body) × WaysAreSound q w place arms bodies
 
 -- a clause that isn't run only adds variables
 abbrev pub WaysGrow : Scene → Place → Direction → List Arm → List Core → Type 0

@@ -12,6 +12,7 @@ use Rattle.sail_core.specs.declared.tree.Core.{Core, Core-F, out-Core}
 use Rattle.sail_core.specs.declared.tree.Kind.{Kind}
 use Rattle.sail_core.specs.declared.tree.Kind.TheVariants as K
 use Rattle.sail_core.specs.Making.{Making, World}
+use Rattle.sail_core.specs.Run.{Run}
 use Rattle.sail_core.specs.Meaning.{arm_taken, meaning}
 use Rattle.sail_core.specs.Numbers.{Givens, all_agree}
 use Rattle.size_values.specs.declared.sized.Sized.{Sized}
@@ -26,8 +27,8 @@ use Rattle.pattern_notes.specs.Patterns.{arm_match}
 use Rattle.pattern_notes.specs.declared.matching.Matching.{Matching}
 use Rattle.call_arguments.specs.declared.aims.Aim.{Aim}
 use Rattle.call_arguments.specs.declared.aims.Aim.TheVariants as Aims
-use Rattle.expression_steps.specs.Expressions.{part}
-use Rattle.function_notes.specs.Functions.{arm_of, body_of, function_walk, measure_walk, written_walk}
+use Rattle.expression_steps.specs.Parts.{Part}
+use Rattle.function_notes.specs.Functions.{arm_of, body_part, function_walk, measure_walk, written_walk}
 use Rattle.checked_meaning.specs.Checked.{Checks, checked}
 use Rattle.checked_meaning.specs.Items.{Item}
 use Rattle.value_laws.specs.Belonging.{Integers, standing}
@@ -59,21 +60,20 @@ pub record Results (q : Scene) {n : ℕ} (p : Point n) (r : Reading) (x : Item) 
   pub belongs : Belongs q.set q.work p r x.val
   pub typ : IsMadeAs q.set q.work p (Makes.ByType r) x.val x.typ
 
-abbrev pub arm_walk : Place → Arm → Around → Matching → List Indices → Core → Aim → Walk Indices
-arm_walk place arm around how is core aim = bind (arm_match place arm around how is) (λ found. (part core).walk around found aim)
+abbrev pub arm_walk : Place → Arm → Around → Matching → List Indices → Part → Aim → Walk Indices
+arm_walk place arm around how is body aim = bind (arm_match place arm around how is) (λ found. body.walk around found aim)
 
 -- values that have these indices are matched, and the body comes to what is due; or the pattern doesn't match, or the guard is false
-abbrev pub ArmIsSound : Scene → World Item → Place → Arm → Core → Type 0
-ArmIsSound q w place arm core = (n : ℕ) (p : Point n) → Surrounds q w p [] → (facts : List Fact) (how : Matching) (r : Reading) → IsWanted q.set q.work p r
+abbrev pub ArmIsSound : Scene → World Item → Place → Arm → Part → Run Item Item → Type 0
+ArmIsSound q w place arm body run = (n : ℕ) (p : Point n) → Surrounds q w p [] → (facts : List Fact) (how : Matching) (r : Reading) → IsWanted q.set q.work p r
     → (is : List Indices) (xs : List Item) → AllAre q.set q.work p is xs
-    → Beside q n p facts (arm_walk place arm (here q) how is core (Aims.Due r)) (arm_taken (read_as q) w arm (meaning (read_as q) w core) xs)
-    (λ m g i x. Results q g r x)
+    → Beside q n p facts (arm_walk place arm (here q) how is body (Aims.Due r)) (arm_taken (read_as q) w arm run xs) (λ m g i x. Results q g r x)
 
 abbrev pub ArmsAreSound : Scene → World Item → Place → Bool → List Arm → List Core → Type 0
 ArmsAreSound q w place declared [] bodies = Unit {0}
 ArmsAreSound q w place declared (arm ∷ arms) [] = Unit {0}
 ArmsAreSound q w place declared (arm ∷ arms) (body ∷ bodies) =
-    ArmIsSound q w place (arm_of declared arm) (body_of declared body) × ArmsAreSound q w place declared arms bodies
+    ArmIsSound q w place (arm_of declared arm) (body_part declared body) (meaning (read_as q) w body) × ArmsAreSound q w place declared arms bodies
 
 -- and a clause that isn't run only adds variables
 abbrev pub ClausesGrow : Scene → Place → ℕ → List Typ → Reading → Bool → List Arm → List Core → Type 0
