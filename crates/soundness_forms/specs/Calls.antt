@@ -47,9 +47,9 @@ module _ (set : Setting) (work : Work) {n : ℕ} (f : Point n) where
   ArgumentsAre (b ∷ bs) (t ∷ ts) (i ∷ is) (v ∷ vs) = Has set work f i v × ArgumentMet b t v × ArgumentsAre bs ts is vs
   ArgumentsAre bs ts is vs = ⊥
 
--- of a function of the model
-abbrev pub CallsFit : Type 0
-CallsFit = (q : Scene) (n : ℕ) (f : Point n) (facts : List Fact) (place : Place) (fn : Function) (bs : List Bool) (is : List Indices) (vs : List Value)
+-- of this function
+abbrev pub CallsFit : Function → Type 0
+CallsFit fn = (q : Scene) (n : ℕ) (f : Point n) (facts : List Fact) (place : Place) (bs : List Bool) (is : List Indices) (vs : List Value)
     → ArgumentsAre q.set q.work f bs fn.parameters is vs
     → Walks q n f facts (owe_fit place (call_conditions (fits q.set.around.types) fn (numbers_from 0 fn.variables fn.parameters is)
     (types_from n 0 (length fn.type_variables) fn.parameters is) bs is))
