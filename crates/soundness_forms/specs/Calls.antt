@@ -1,5 +1,5 @@
 -- What the conditions of a call suffice for: the arguments belong to the parameters, for numbers that the call gives.
-use Rattle.std.specs.Prelude.{◌≡◌, ℕ, Bool, true, false, List, [], ◌∷◌, length, map, Some}
+use Rattle.std.specs.Prelude.{◌≡◌, ℕ, Bool, true, false, List, [], ◌∷◌, length, map, slice_get, Some}
 use Rattle.sail_base.specs.declared.place.Place.{Place}
 use Rattle.sail_types.specs.Belongs.{Reading as Closed, assigned}
 use Rattle.sail_types.specs.Numbers.{true_in}
@@ -54,3 +54,7 @@ CallsFit fn = (q : Scene) (n : ℕ) (f : Point n) (facts : List Fact) (place : P
     → Walks q n f facts (owe_fit place (call_conditions (fits q.set.around.types) fn (numbers_from 0 fn.variables fn.parameters is)
     (types_from n 0 (length fn.type_variables) fn.parameters is) bs is))
     (λ m g t. CallFits q.set q.work g fn (numbers_from 0 fn.variables fn.parameters is) (types_from n 0 (length fn.type_variables) fn.parameters is) vs)
+
+-- of the one that stands there
+abbrev pub CalleeFits : Setting → ℕ → Type 0
+CalleeFits set i = (fn : Function) → slice_get set.around.functions i ≡ Some fn → CallsFit fn
