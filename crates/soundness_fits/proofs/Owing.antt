@@ -147,7 +147,7 @@ belong_same types mu rs (t ∷ ts) [] h = absurd h
 belong_same types mu rs (t ∷ ts) (v ∷ vs) h = (h.0, belong_same types mu rs ts vs h.1)
 
 pub calls_fit_standing : StandingCallsFit
-calls_fit_standing q n f facts place fn bs is vs places arguments =
+calls_fit_standing fn places q n f facts place bs is vs arguments =
     let types = q.set.around.types in
     let past = q.set.past in
     let own = q.work.types in

@@ -131,7 +131,7 @@ module _ (q : Scene) (w : World Item) (place : Place) (k i : ℕ) (fn : Function
       closed_is q.set.around.types (standing q.set.past g) q.work.types (R'.Of fn.result js qs) (W.Of fn.result js qs) (R'.rolls-Of fn.result js qs)
       ∙ (λ j. reading fn.result (fits.same g a j) (closeds (fits.same_types g a j)))
 
-  pub function_fine : CallsFit → {f : Point next} {facts : List Fact} (bs : List Bool) → ArgumentsAre q.set q.work f bs fn.parameters is (vals xs)
+  pub function_fine : CallsFit fn → {f : Point next} {facts : List Fact} (bs : List Bool) → ArgumentsAre q.set q.work f bs fn.parameters is (vals xs)
       → AllTyped q.set q.work f is xs
       → Beside q next f facts (function_called (here q) place k i fn js qs bs is)
       (((checked q.set.around.types q.cases).calls k xs then λ awaited. w.call place i awaited (vals xs)) then λ v.
@@ -140,7 +140,7 @@ module _ (q : Scene) (w : World Item) (place : Place) (k i : ℕ) (fn : Function
   unfolding opened
   function_fine fit {f} {facts} bs args typed =
       walks_then (λ t. bind (noted_call place k is (D.Function i) js qs) (λ u. made_opened place k is (R'.Of fn.result js qs)))
-      (fit q next f facts place fn bs is (vals xs) args) (λ m g fs t l fits.
+      (fit q next f facts place bs is (vals xs) args) (λ m g fs t l fits.
       binds (λ u. made_opened place k is (R'.Of fn.result js qs)) (λ v. (checked q.set.around.types q.cases).make k xs v)
       (call_runs (typed_on q.set q.work is xs l typed) fits) (λ m2 g2 fs2 u v l2 h.
       made_opens place k is (R'.Of fn.result js qs) false M.Unnamed xs v (typed_on q.set q.work is xs (later_on l l2) typed)

@@ -1,5 +1,5 @@
 -- What the conditions of a call suffice for: the arguments belong to the parameters, for numbers that the call gives.
-use Rattle.std.specs.Prelude.{◌≡◌, ℕ, Bool, true, false, List, [], ◌∷◌, length, map, Some}
+use Rattle.std.specs.Prelude.{◌≡◌, ℕ, Bool, true, false, List, [], ◌∷◌, length, map, slice_get, Some}
 use Rattle.sail_base.specs.declared.place.Place.{Place}
 use Rattle.sail_types.specs.Belongs.{Reading as Closed, assigned}
 use Rattle.sail_types.specs.Numbers.{true_in}
@@ -47,10 +47,14 @@ module _ (set : Setting) (work : Work) {n : ℕ} (f : Point n) where
   ArgumentsAre (b ∷ bs) (t ∷ ts) (i ∷ is) (v ∷ vs) = Has set work f i v × ArgumentMet b t v × ArgumentsAre bs ts is vs
   ArgumentsAre bs ts is vs = ⊥
 
--- of a function of the model
-abbrev pub CallsFit : Type 0
-CallsFit = (q : Scene) (n : ℕ) (f : Point n) (facts : List Fact) (place : Place) (fn : Function) (bs : List Bool) (is : List Indices) (vs : List Value)
+-- of this function
+abbrev pub CallsFit : Function → Type 0
+CallsFit fn = (q : Scene) (n : ℕ) (f : Point n) (facts : List Fact) (place : Place) (bs : List Bool) (is : List Indices) (vs : List Value)
     → ArgumentsAre q.set q.work f bs fn.parameters is vs
     → Walks q n f facts (owe_fit place (call_conditions (fits q.set.around.types) fn (numbers_from 0 fn.variables fn.parameters is)
     (types_from n 0 (length fn.type_variables) fn.parameters is) bs is))
     (λ m g t. CallFits q.set q.work g fn (numbers_from 0 fn.variables fn.parameters is) (types_from n 0 (length fn.type_variables) fn.parameters is) vs)
+
+-- of the one that stands there
+abbrev pub CalleeFits : Setting → ℕ → Type 0
+CalleeFits set i = (fn : Function) → slice_get set.around.functions i ≡ Some fn → CallsFit fn

@@ -37,7 +37,7 @@ LeavingIsFine = FitsSuffice → (q : Scene) (w : World Item) → KindFine q w K.
 
 -- a call of a function on arguments that are there: it leads to an instance, and what it gives has the indices of the result
 abbrev pub CallsAreFine : Type 0
-CallsAreFine = CallsFit → (q : Scene) (w : World Item) (place : Place) (k i : ℕ) (fn : Function) → slice_get q.set.around.functions i ≡ Some fn
+CallsAreFine = (q : Scene) (w : World Item) (place : Place) (k i : ℕ) (fn : Function) → CallsFit fn → slice_get q.set.around.functions i ≡ Some fn
     → SoundCalls q.set q.reached w → (n : ℕ) (f : Point n) (facts : List Fact) (bs : List Bool) (is : List Indices) (xs : List Item)
     → ArgumentsAre q.set q.work f bs fn.parameters is (vals xs) → AllTyped q.set q.work f is xs
     → Beside q n f facts (function_called (here q) place k i fn (numbers_from 0 fn.variables fn.parameters is)

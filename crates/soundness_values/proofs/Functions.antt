@@ -43,7 +43,7 @@ use Rattle.soundness_steps.specs.Works.{Scene, Setting, Work, here}
 use Rattle.soundness_steps.specs.Steps.{Beside, Grows}
 use Rattle.soundness_steps.specs.Values.{AimSteady, Comes, Is, IsMet}
 use Rattle.soundness_steps.proofs.Steps.{binds, next_is, runs_as}
-use Rattle.soundness_forms.specs.Calls.{ArgumentMet, ArgumentsAre, CallsFit}
+use Rattle.soundness_forms.specs.Calls.{ArgumentMet, ArgumentsAre, CalleeFits}
 use Rattle.soundness_forms.specs.EachKind.{KindFine, node}
 use Rattle.soundness_forms.specs.Forms.{AllFine, Fine, FitsSuffice, at, z}
 use Rattle.soundness_forms.specs.Standing.{has_arguments, is_value}
@@ -89,7 +89,7 @@ regroups m l (R.Throws v now) = refl
 regroups m l (R.Stops cause now) = refl
 regroups m l R.Stuck = refl
 
-module _ (q : Scene) (w : World Item) (scope : Scope) (place : Place) (k i : ℕ) (fit : FitsSuffice) (suffice : CallsFit) where
+module _ (q : Scene) (w : World Item) (scope : Scope) (place : Place) (k i : ℕ) (fit : FitsSuffice) (suffice : CalleeFits q.set i) where
   abbrev calling : List Item → Run Item Value
   calling xs = (checked q.set.around.types q.cases).calls k xs then λ awaited. w.call place i awaited (vals xs)
 
@@ -110,7 +110,7 @@ module _ (q : Scene) (w : World Item) (scope : Scope) (place : Place) (k i : ℕ
       subst (λ b. Ends f facts (if b then never_value else bind next_variable (numbered_call (here q) place k i fn (nestings ps) is)) xs)
       (sym (none_never q.set q.work f is (vals xs) (all_have q.set q.work f ps (argument_aims fn.parameters) is xs h)))
       (next_is (numbered_call (here q) place k i fn (nestings ps) is)
-      (function_fine q w place k i fn e calls is xs n suffice (nestings ps) (arguments_are q.set q.work f ps fn.parameters is xs c h)
+      (function_fine q w place k i fn e calls is xs n (suffice fn e) (nestings ps) (arguments_are q.set q.work f ps fn.parameters is xs c h)
       (are_typed q.set q.work f ps (argument_aims fn.parameters) is xs h)))
 
   abbrev types_there : List Typ
@@ -155,13 +155,13 @@ call_grows around place k i (Some fn) bs is = by (any_never is)
 
 -- ---- the node
 
-module _ (fit : FitsSuffice) (suffice : CallsFit) (q : Scene) (w : World Item) where
+module _ (fit : FitsSuffice) (q : Scene) (w : World Item) (i : ℕ) (suffice : CalleeFits q.set i) where
   -- of as many arguments as the function has parameters
-  pub function_node : (i : ℕ) (place : Place) (k : ℕ) (ps : List Part) (rs : List (Run Item Item)) → AllFine q w ps rs
+  pub function_node : (place : Place) (k : ℕ) (ps : List Part) (rs : List (Run Item Item)) → AllFine q w ps rs
       → CountStands ps (slice_get q.set.around.functions i)
       → Fine q w false false (node q w place k (K.Call (D.Function i)) ps)
       (kind_meaning (checked q.set.around.types q.cases) w place k (K.Call (D.Function i)) rs)
-  function_node i place k ps rs fine count =
+  function_node place k ps rs fine count =
       fine_by q w false false (node q w place k (K.Call (D.Function i)) ps) (kind_meaning (z q w) w place k (K.Call (D.Function i)) rs) (λ around scope. refl)
       (λ names falls g n f facts scope aim there st.
       called_fine (at q w names falls) w scope place k i fit suffice f facts aim there st ps rs (all_at q w names falls ps rs fine) count)
@@ -172,9 +172,9 @@ module _ (fit : FitsSuffice) (suffice : CallsFit) (q : Scene) (w : World Item) w
       (each_grow q w ps rs fine around scope (argument_aims (parameter_types (slice_get around.functions i)))))
       (λ is. call_grows around place k i (slice_get around.functions i) (nestings ps) is)))
 
-  pub function_kind : (i : ℕ) → KindFine q w (K.Call (D.Function i))
-  function_kind i place k ss ps rs h right =
+  pub function_kind : KindFine q w (K.Call (D.Function i))
+  function_kind place k ss ps rs h right =
       let o = slice_get q.set.around.functions i in
       let both = and_parts (has_arguments (length ss) o) (list_all is_value ss) right in
-      function_node i place k ps rs (all_values q w ss ps rs both.1 h)
+      function_node place k ps rs (all_values q w ss ps rs both.1 h)
       (count_stands ps o (ap (λ n. has_arguments n o) (sym (parts_stand q w ss ps rs h)) ∙ both.0))

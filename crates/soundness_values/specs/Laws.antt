@@ -7,7 +7,7 @@ use Rattle.sail_core.specs.declared.tree.Callee.TheVariants as D
 use Rattle.sail_core.specs.declared.tree.Kind.TheVariants as K
 use Rattle.checked_meaning.specs.Items.{Item}
 use Rattle.soundness_steps.specs.Works.{Scene}
-use Rattle.soundness_forms.specs.Calls.{CallsFit}
+use Rattle.soundness_forms.specs.Calls.{CalleeFits}
 use Rattle.soundness_forms.specs.EachKind.{KindFine}
 use Rattle.soundness_forms.specs.Forms.{FitsSuffice}
 use Rattle.soundness_forms.specs.Mappings.{MappingsClosed}
@@ -30,7 +30,7 @@ abbrev pub MappingsAreFine : Type 0
 MappingsAreFine = FitsSuffice → (q : Scene) (w : World Item) → MappingsClosed q.set → (d : ℕ) → KindFine q w (K.Call (D.Converts d))
 
 abbrev pub FunctionsAreFine : Type 0
-FunctionsAreFine = FitsSuffice → CallsFit → (q : Scene) (w : World Item) (i : ℕ) → KindFine q w (K.Call (D.Function i))
+FunctionsAreFine = FitsSuffice → (q : Scene) (w : World Item) (i : ℕ) → CalleeFits q.set i → KindFine q w (K.Call (D.Function i))
 
 -- structs and constructors
 abbrev pub StructsAreFine : Type 0

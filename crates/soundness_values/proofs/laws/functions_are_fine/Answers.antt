@@ -2,4 +2,4 @@ use Rattle.soundness_values.proofs.Functions.{function_kind}
 use Rattle.soundness_values.proofs.laws.functions_are_fine.Goals as goal
 
 pub returns : goal.returns
-returns c = λ fit suffice q w i. function_kind fit suffice q w i
+returns c = λ fit q w i suffice. function_kind fit q w i suffice
