@@ -9,10 +9,10 @@ use Rattle.sail_types.specs.declared.types.Typ.TheOpen as T
 use Rattle.sail_types.specs.declared.types.Typ.TheVariants as U
 use Rattle.sail_types.specs.declared.values.Value.{Value, Value-F, out-Value}
 use Rattle.sail_types.specs.declared.values.Value.TheOpen as V
-use Rattle.sail_core.specs.Making.{World, made}
-use Rattle.sail_core.specs.Meaning.{first_of, kind_meaning}
+use Rattle.sail_core.specs.Making.{World, made, nothing}
+use Rattle.sail_core.specs.Meaning.{first_of, kind_meaning, met_at}
 use Rattle.sail_core.specs.Run as R
-use Rattle.sail_core.specs.Run.{Now, Ended, Run, caught, gives, throws, ◌then◌}
+use Rattle.sail_core.specs.Run.{Now, Ended, Run, caught, gives, goes_on, throws, ◌then◌}
 use Rattle.sail_core.specs.declared.patterns.Arm.{Arm}
 use Rattle.sail_core.specs.declared.tree.Kind.TheVariants as K
 use Rattle.value_indices.specs.declared.indices.Indices.{Indices}
@@ -21,7 +21,7 @@ use Rattle.value_indices.specs.declared.indices.Indices.TheOpen as W
 use Rattle.value_indices.specs.declared.indices.Indices.TheVariants as I
 use Rattle.value_indices.specs.declared.notes.Fact.{Fact}
 use Rattle.value_indices.specs.declared.notes.Made.TheVariants as Makes
-use Rattle.value_indices.specs.Steps.{given_note, give, made_note, went}
+use Rattle.value_indices.specs.Steps.{bind, given_note, give, made_note, scoped, went}
 use Rattle.pattern_leaves.specs.Settings.{Scope}
 use Rattle.pattern_notes.specs.Patterns.{arm_match}
 use Rattle.call_arguments.specs.Aims.{branch_aim, wanted}
@@ -43,12 +43,12 @@ use Rattle.soundness_steps.proofs.Points.{no_later}
 use Rattle.soundness_steps.specs.Works.{Scene, here}
 use Rattle.soundness_steps.specs.Noted.{form_gives, type_gives, variables_given, with_given}
 use Rattle.soundness_steps.specs.States.{IsThrown, Sound, nothing_stands}
-use Rattle.soundness_steps.specs.Steps.{Beside, EndsWell, Reach, Walks, well_given, well_no, well_returned, well_stopped, well_thrown}
+use Rattle.soundness_steps.specs.Steps.{Beside, EndsWell, Reach, Walks, well_thrown}
 use Rattle.soundness_steps.specs.Values.{AimSteady, Comes, Has, Is}
 use Rattle.soundness_steps.proofs.Scenes.{falling}
 use Rattle.soundness_steps.proofs.Steps.{binds, given_back, gives_numbers, makes, means, notes, rests, runs_as, walks_on, walks_then}
 use Rattle.soundness_forms.specs.Forms.{Fine}
-use Rattle.soundness_forms.specs.Joins.{AllGrow, FreeJoining}
+use Rattle.soundness_forms.specs.Joins.{AllGrow, FreeJoining, LeaveNoHole, try_ways}
 use Rattle.soundness_forms.specs.Patterns.{AllMatch}
 use Rattle.soundness_forms.specs.Worlds.{Surrounds}
 use Rattle.soundness_forms.proofs.Basics.{aim_on, ended_alike, has_on, has_there, is_on, then_walks}
@@ -57,7 +57,7 @@ use Rattle.soundness_forms.proofs.Cases.{ArmsGrow, Bodies, cases_run}
 use Rattle.soundness_forms.proofs.Casts.{no_guard}
 use Rattle.soundness_forms.proofs.Giving.{gives_all}
 use Rattle.soundness_forms.proofs.Growth.{grows_bind}
-use Rattle.soundness_forms.proofs.Joins.{joined, joining, runs_over}
+use Rattle.soundness_forms.proofs.Joins.{joined, joining, met_behind_all, runs_over, z}
 use Rattle.soundness_forms.proofs.Worlds.{surrounds_on}
 use Rattle.soundness_joins.proofs.Pieces.{then_runs}
 
@@ -124,20 +124,28 @@ module _ (q : Scene) where
       (gives_numbers k j x.val (numbers_given j) (gives_all j) (has_there (subst (λ e. Has q.set q.work g e x.val) (sym d.0) d.1.has)))
       (λ m2 g2 fs2 a u l2 b. rests x (given_back tt (is_on l2 d.1)))))
 
-catches : {q : Scene} {n : ℕ} {f : Point n} {m : ℕ} {fs : List Fact} {Holds : Point m → Item → Type 0} {e : Ended Item Item} (catch : Value → Run Item Item)
-    → EndsWell q f m fs Holds e → ((v : Value) (now : Now Item) → IsThrown q.set q.set.around.exception v → Sound q now → EndsWell q f m fs Holds (catch v now))
-    → EndsWell q f m fs Holds (caught e catch)
-catches catch (well_given x now r s) k = well_given x now r s
-catches catch (well_no now a s) k = well_no now a s
-catches catch (well_returned v now b s) k = well_returned v now b s
-catches catch (well_thrown v now b s) k = k v now b s
-catches catch (well_stopped cause now) k = well_stopped cause now
+thrown_well : {q : Scene} {n : ℕ} {f : Point n} {m : ℕ} {fs : List Fact} {B : Type 0} {Holds : Point m → B → Type 0} {v : Value} {now : Now Item}
+    → EndsWell q f m fs Holds (R.Throws v now) → IsThrown q.set q.set.around.exception v × Sound q now
+thrown_well (well_thrown v now b s) = (b, s)
+
+-- what goes on behind a piece, or behind what catches what it throws
+catches : {q : Scene} {n : ℕ} {f : Point n} {m : ℕ} {fs : List Fact} {Holds : Point m → Item → Type 0} (e : Ended Item Item) (catch : Value → Run Item Item)
+    (next : Item → Run Item Item) → EndsWell q f m fs Holds (goes_on e next)
+    → ((v : Value) (now : Now Item) → IsThrown q.set q.set.around.exception v → Sound q now → EndsWell q f m fs Holds (goes_on (catch v now) next))
+    → EndsWell q f m fs Holds (goes_on (caught e catch) next)
+catches (R.Gives x now) catch next h k = h
+catches (R.No now) catch next h k = h
+catches (R.Returns v now) catch next h k = h
+catches (R.Throws v now) catch next h k = let is = thrown_well h in k v now is.0 is.1
+catches (R.Stops cause now) catch next h k = h
+catches R.Stuck catch next h k = h
 
 -- ---- the whole
 
-module _ (free : FreeJoining) (q : Scene) (w : World Item) (grows : ArmsGrow q w) (scope : Scope) (place : Place)
+module _ (free : FreeJoining) (q : Scene) (w : World Item) (grows : ArmsGrow q w) (scope : Scope) (place : Place) (k : ℕ)
     (shape : Shape) (arms : List Arm) (a : Part) (ra : Run Item Item) (ps : List Part) (rs : List (Run Item Item))
-    (ha : Fine q w true false a ra) (ms : AllMatch (falling q) w arms) (hs : Bodies q w arms ps rs) (aim : Aim) where
+    (ha : Fine q w true false a ra) (ms : AllMatch (falling q) w arms) (hs : Bodies q w arms ps rs) (aim : Aim)
+    (known : LeaveNoHole q aim (try_ways q arms place a ps scope aim)) where
   abbrev over : Indices
   over = thrown q.set.around.exception
 
@@ -156,51 +164,54 @@ module _ (free : FreeJoining) (q : Scene) (w : World Item) (grows : ArmsGrow q w
 
   -- the first way, where nothing is thrown
   first_runs : {n : ℕ} {f : Point n} {facts : List Fact} → Surrounds q w f scope → AimSteady q.set q.work f aim
-      → Beside q n f facts (try_over place shape arms a ps (here q) scope aim over) ((checked q.set.around.types q.cases).inside ra)
+      → Beside q n f facts (try_over place k shape arms a ps (here q) scope aim over) (met_at (z q) k ((z q).inside ra))
       (λ m g i x. Comes q.set q.work g false true false aim i x)
   first_runs {n} {f} {facts} there st =
-      let k = joining free q n aim in
-      joined q aim k place shape (try_way a (here q) scope aim ∷ case_ways place arms ps (here q) scope aim over)
-      ((checked q.set.around.types q.cases).inside ra) false st
+      let join = joining free q n aim in
+      joined q aim join place k shape (try_way a (here q) scope aim ∷ case_ways place arms ps (here q) scope aim over) ((z q).inside ra) false st
       (means (λ m g o y l e. (e.0, refl))
-      (k.taken q.may_fall a.is_nested (try_way a (here q) scope aim) (case_ways place arms ps (here q) scope aim over) ra None n f facts (omega arith)
-      (ways_grow arms ps rs hs)
+      (join.taken q.may_fall a.is_nested (try_way a (here q) scope aim) (case_ways place arms ps (here q) scope aim over) ra None n f facts (omega arith)
+      (ways_grow arms ps rs hs) (known facts n)
       (ha.walks q.names q.may_fall no_guard n f facts scope (branch_aim aim) there (branch_steady q f aim st))))
 
   -- what is thrown is matched; what no case takes is thrown on
   catch_runs : {n : ℕ} {f : Point n} {facts : List Fact} (v : Value) (x : Item) → IsThrown q.set q.set.around.exception v → Surrounds q w f scope
       → AimSteady q.set q.work f aim → Is q.set q.work f over x
-      → Beside q n f facts (try_over place shape arms a ps (here q) scope aim over)
-      (first_of (checked q.set.around.types q.cases) w arms rs (throws v) (x ∷ []))
+      → Beside q n f facts (try_over place k shape arms a ps (here q) scope aim over) (met_at (z q) k (first_of (z q) w arms rs (throws v) (x ∷ [])))
       (λ m g i y. Comes q.set q.work g false true false aim i y)
+  unfolding bind scoped give
   catch_runs {n} {f} {facts} v x is there st h =
-      let k = joining free q n aim in
-      joined q aim k place shape (try_way a (here q) scope aim ∷ case_ways place arms ps (here q) scope aim over)
-      (first_of (checked q.set.around.types q.cases) w arms rs (throws v) (x ∷ [])) false st
+      let join = joining free q n aim in
+      joined q aim join place k shape (try_way a (here q) scope aim ∷ case_ways place arms ps (here q) scope aim over)
+      (first_of (z q) w arms rs (throws v) (x ∷ [])) false st
       (runs_over {q = q} (each_way (here q) (is_none (wanted aim)) n (case_ways place arms ps (here q) scope aim over))
       (λ d. first_behind (is_none (wanted aim)) a.never_ends None d)
       (way_behind (here q) (is_none (wanted aim)) n (try_way a (here q) scope aim) None)
-      (k.grows (try_way a (here q) scope aim) None (ha.grows (here q) scope (branch_aim aim)))
-      (λ j g o l. cases_run q w grows scope place over x aim n k (throws v) (λ now ok i e m fs Holds. well_thrown v now is ok) arms ps rs ms hs o
-      (let on = l.onward in omega (arith, on))
+      (join.grows (try_way a (here q) scope aim) None (ha.grows (here q) scope (branch_aim aim)))
+      (λ g l. cases_run q w grows scope place over x aim n join (throws v) (λ now ok i e m fs Holds. well_thrown v now is ok) arms ps rs ms hs
+      (first_behind (is_none (wanted aim)) a.never_ends None
+      (way_behind (here q) (is_none (wanted aim)) n (try_way a (here q) scope aim) None facts n).value)
+      (let on = l.onward in omega (arith, on)) (known facts n)
       (surrounds_on q w scope l there) (aim_on q.set q.work aim l st) (is_on l h)))
 
-  pub try_fine : {n : ℕ} {f : Point n} {facts : List Fact} (k : ℕ) → Surrounds q w f scope → AimSteady q.set q.work f aim
+  pub try_fine : {n : ℕ} {f : Point n} {facts : List Fact} → Surrounds q w f scope → AimSteady q.set q.work f aim
       → Beside q n f facts (kind_walk place k (K.Try arms shape) (a ∷ ps) (here q) scope aim)
-      (kind_meaning (checked q.set.around.types q.cases) w place k (K.Try arms shape) (ra ∷ rs))
+      (kind_meaning (z q) w place k (K.Try arms shape) (ra ∷ rs))
       (λ m g i x. Comes q.set q.work g false true false aim i x)
-  try_fine {n} {f} {facts} k there st =
-      let z = checked q.set.around.types q.cases in
+  try_fine {n} {f} {facts} there st =
       then_walks (λ i. give i)
       (record {
         run = λ now stands met ok.
-            catches (λ v after. (made z k [] v then λ x. first_of z w arms rs (throws v) (x ∷ [])) (z.back now after))
-            ((walks_then (λ t. try_over place shape arms a ps (here q) scope aim over) (catch_passes q k q.set.around.exception) (λ m g fs t l e.
+            catches ((z q).inside ra now) (λ v after. (made (z q) k [] v then λ x. first_of (z q) w arms rs (throws v) (x ∷ [])) ((z q).back now after))
+            (λ x. made (z q) k (nothing (z q) ∷ []) x.val)
+            ((walks_then (λ t. try_over place k shape arms a ps (here q) scope aim over) (catch_passes q k q.set.around.exception) (λ m g fs t l e.
             first_runs (surrounds_on q w scope l there) (aim_on q.set q.work aim l st))).run now stands met ok)
             (λ v after is ok2.
-            (binds (λ t. try_over place shape arms a ps (here q) scope aim over) (λ x. first_of z w arms rs (throws v) (x ∷ []))
+            (met_behind_all k (made (z q) k [] v) (λ x. first_of (z q) w arms rs (throws v) (x ∷ []))
+            (binds (λ t. try_over place k shape arms a ps (here q) scope aim over)
+            (λ x. met_at (z q) k (first_of (z q) w arms rs (throws v) (x ∷ [])))
             (catch_made q k over v (thrown_has q f q.set.around.exception v is)) (λ m g fs t x l h.
-            catch_runs v x is (surrounds_on q w scope l there) (aim_on q.set q.work aim l st) h)).run (z.back now after) stands met
+            catch_runs v x is (surrounds_on q w scope l there) (aim_on q.set q.work aim l st) h))).run ((z q).back now after) stands met
             (record { state = ok2.state; names = ok2.names }));
       })
       (λ m g fs i x l d. given_back i d)

@@ -1,5 +1,5 @@
 -- Operators on truths, loops and `try`, as kinds of nodes.
-use Rattle.std.proofs.Common.{◌≡◌, ℕ, true, false, List, [], ◌∷◌, ◌++◌, map, Option, Some, None, refl}
+use Rattle.std.proofs.Common.{◌≡◌, ℕ, Bool, true, false, not, List, [], ◌∷◌, ◌++◌, map, Option, Some, None, refl}
 use Rattle.std.proofs.lemmas.Bool.{and_parts}
 use Rattle.std.specs.List.{list_all}
 use Rattle.sail_base.specs.declared.place.Place.{Place}
@@ -12,7 +12,7 @@ use Rattle.sail_core.specs.Run.{Run}
 use Rattle.sail_core.specs.declared.tree.Counting.{Counting}
 use Rattle.sail_core.specs.declared.tree.Kind.{Kind}
 use Rattle.sail_core.specs.declared.tree.Kind.TheVariants as K
-use Rattle.value_indices.specs.Steps.{Walk, assume, bind, give, wrong}
+use Rattle.value_indices.specs.Steps.{Walk, assume, bind, give}
 use Rattle.value_indices.specs.declared.indices.Indices.{Indices, out-Indices}
 use Rattle.value_indices.specs.declared.indices.Indices.TheOpen as W
 use Rattle.value_indices.specs.declared.indices.Indices.TheOpen.{Indices-F}
@@ -20,11 +20,11 @@ use Rattle.value_indices.specs.declared.indices.Indices.TheVariants as I
 use Rattle.value_indices.specs.declared.indices.Reading.{Reading}
 use Rattle.pattern_leaves.specs.Settings.{Around, Scope}
 use Rattle.call_arguments.specs.declared.aims.Aim.TheVariants as Aims
-use Rattle.call_notes.specs.Ends.{integer_number, number_form}
+use Rattle.call_notes.specs.Ends.{integer_number}
 use Rattle.expression_forms.specs.Truths.{both, either, right_form, then_truth, truth_of}
 use Rattle.expression_steps.specs.Parts.{Part, condition_walk, given_that, number_before, number_walk, numbers_behind, numbers_walk, truth_walk, under}
-use Rattle.expression_steps.specs.Statements.{alone_walk, and_under, and_walk, bounds_of, foreach_walk, loop_walk, measure_walk, natural_type}
-use Rattle.expression_steps.specs.Statements.{or_under, or_walk, step_owed, turn_begun, turn_walk, turns_walk}
+use Rattle.expression_steps.specs.Statements.{and_under, and_walk, bounds_of, foreach_walk, loop_walk, measure_walk, measured, natural_type}
+use Rattle.expression_steps.specs.Statements.{or_under, or_walk, step_owed, turn_begun, turn_part, turn_walk, turns_walk}
 use Rattle.expression_steps.specs.declared.counting.Bounds.{Bounds}
 use Rattle.checked_meaning.specs.Items.{Item}
 use Rattle.soundness_steps.specs.Works.{Scene}
@@ -36,27 +36,26 @@ use Rattle.soundness_forms.proofs.Growth.{grows_assume, grows_bind, grows_give, 
 use Rattle.soundness_forms.proofs.LeavingKinds.{leaving_grows}
 use Rattle.soundness_forms.proofs.PlainKinds.{fine_at, fine_by, value_fine, wrong_fine}
 use Rattle.soundness_forms.proofs.Throwing.{truth_grows}
-use Rattle.soundness_joins.specs.Laws.{KindFineOver}
-use Rattle.soundness_joins.specs.Parts.{RepeatParts, WhileParts}
 use Rattle.soundness_joins.proofs.Counting.{foreach_fine, turn_grows}
 use Rattle.soundness_joins.proofs.Loops.{repeat_fine, while_fine}
+use Rattle.soundness_joins.proofs.Numbered.{number_grows}
 use Rattle.soundness_joins.proofs.Operators.{and_fine, or_fine}
 
 -- ---- a node's parts, one by one
 
-abbrev Row : Type 0
+abbrev pub Row : Type 0
 Row = Standing × Part × Run Item Item
 
-abbrev standings : List Row → List Standing
+abbrev pub standings : List Row → List Standing
 standings ts = map (λ t. t.0) ts
 
-abbrev parts : List Row → List Part
+abbrev pub parts : List Row → List Part
 parts ts = map (λ t. t.1) ts
 
-abbrev runs : List Row → List (Run Item Item)
+abbrev pub runs : List Row → List (Run Item Item)
 runs ts = map (λ t. t.2) ts
 
-by_rows : (q : Scene) (w : World Item) (P : List Standing → List Part → List (Run Item Item) → Type 0)
+pub by_rows : (q : Scene) (w : World Item) (P : List Standing → List Part → List (Run Item Item) → Type 0)
     → ((ts : List Row) → PartsFine q w (standings ts) (parts ts) (runs ts) → P (standings ts) (parts ts) (runs ts))
     → (ss : List Standing) (ps : List Part) (rs : List (Run Item Item)) → PartsFine q w ss ps rs → P ss ps rs
 by_rows q w P k [] [] [] h = k [] h
@@ -83,23 +82,6 @@ right_grows place join alone c (W.Tuple is) = grows_wrong place
 right_grows place join alone c (W.Named u is rs) = grows_wrong place
 right_grows place join alone c (W.Variable k) = grows_wrong place
 
-wrong_grows : (place : Place) → Grows (bind (wrong place) (λ t. give {A = Option Num} None))
-wrong_grows place = grows_bind (wrong place) (λ t. give None) (grows_owe place (Some (C.Truth false) ∷ [])) (λ t. grows_give None)
-
-number_grows : (place : Place) (x : Indices-F Indices Reading) → Grows (number_form place x)
-number_grows place (W.Integer t) = grows_give (Some t)
-number_grows place W.Never = grows_give None
-number_grows place W.Unit = wrong_grows place
-number_grows place W.Bit = wrong_grows place
-number_grows place (W.Bits t) = wrong_grows place
-number_grows place (W.Truth c) = wrong_grows place
-number_grows place W.String = wrong_grows place
-number_grows place (W.List r) = wrong_grows place
-number_grows place (W.Vector t r) = wrong_grows place
-number_grows place (W.Tuple is) = wrong_grows place
-number_grows place (W.Named u is rs) = wrong_grows place
-number_grows place (W.Variable k) = wrong_grows place
-
 module _ (around : Around) (scope : Scope) where
   condition_grows : (a : Part) → Grows (a.walk around scope Aims.Free) → (next : Con → Walk Indices) → ((c : Con) → Grows (next c))
       → Grows (condition_walk a around scope next)
@@ -123,13 +105,27 @@ module _ (around : Around) (scope : Scope) where
       grows_bind (given_that (C.Not c) b around scope Aims.Free) (λ j. right_form b.place either (C.Truth true) c (out-Indices j)) (given_grows b k (C.Not c))
       (λ j. right_grows b.place either (C.Truth true) c (out-Indices j)))
 
-  loop_grows : (measure a b : Part) → Grows (measure.walk around scope (Aims.Due natural_type)) → Grows (a.walk around scope Aims.Free)
-      → Grows (b.walk around scope Aims.Free) → Grows (loop_walk measure a b around scope)
-  loop_grows measure a b h k l =
-      grows_bind (measure_walk measure around scope) (λ i. bind (alone_walk a around scope) (λ j. bind (alone_walk b around scope) (λ u. give I.Unit)))
-      (grows_scoped (measure.walk around scope (Aims.Due natural_type)) h) (λ i.
-      grows_bind (alone_walk a around scope) (λ j. bind (alone_walk b around scope) (λ u. give I.Unit)) (grows_scoped (a.walk around scope Aims.Free) k) (λ j.
-      grows_bind (alone_walk b around scope) (λ u. give I.Unit) (grows_scoped (b.walk around scope Aims.Free) l) (λ u. grows_give I.Unit)))
+  turn_grows_on : (is_condition : Bool) (a : Part) → Grows (a.walk around scope Aims.Free) → Grows (turn_part is_condition a around scope)
+  turn_grows_on true a h = grows_scoped (bind (truth_walk a around scope) (λ c. give tt))
+      (grows_bind (truth_walk a around scope) (λ c. give tt)
+      (grows_bind (a.walk around scope Aims.Free) (truth_of a.place) h (λ i. truth_grows a.place i (out-Indices i))) (λ c. grows_give tt))
+  turn_grows_on false a h = grows_scoped (bind (a.walk around scope Aims.Free) (λ i. give tt))
+      (grows_bind (a.walk around scope Aims.Free) (λ i. give tt) h (λ i. grows_give tt))
+
+  measure_grows : (a : Part) → Grows (a.walk around scope (Aims.Due natural_type)) → Grows (measure_walk a around scope)
+  measure_grows a h = grows_scoped (bind (measured a around scope) (λ o. give tt))
+      (grows_bind (measured a around scope) (λ o. give tt)
+      (grows_bind (a.walk around scope (Aims.Due natural_type)) (integer_number a.place) h (λ i. number_grows a.place (out-Indices i))) (λ o. grows_give tt))
+
+  loop_grows : (is_while : Bool) (measure a b : Part) → Grows (measure.walk around scope (Aims.Due natural_type)) → Grows (a.walk around scope Aims.Free)
+      → Grows (b.walk around scope Aims.Free) → Grows (loop_walk is_while measure a b around scope)
+  loop_grows is_while measure a b h k l =
+      grows_bind (measure_walk measure around scope) (λ i.
+      bind (turn_part is_while a around scope) (λ j. bind (turn_part (not is_while) b around scope) (λ u. give I.Unit)))
+      (measure_grows measure h) (λ i.
+      grows_bind (turn_part is_while a around scope) (λ j. bind (turn_part (not is_while) b around scope) (λ u. give I.Unit))
+      (turn_grows_on is_while a k) (λ j.
+      grows_bind (turn_part (not is_while) b around scope) (λ u. give I.Unit) (turn_grows_on (not is_while) b l) (λ u. grows_give I.Unit)))
 
   before_grows : (t : Num) (o : Option (List Num)) → Grows (number_before t o)
   before_grows t None = grows_give None
@@ -256,9 +252,9 @@ module _ (fit : FitsSuffice) (q : Scene) (w : World Item) where
   pub foreach_kind : (name : List ℕ) (way : Counting) → KindFine q w (K.Foreach name way)
   foreach_kind name way place k ss ps rs h = by_rows q w (RowsFine (K.Foreach name way) place k) (foreach_rows name way place k) ss ps rs h
 
-  while_rows : (place : Place) (k : ℕ) (ts : List Row) → PartsFine q w (standings ts) (parts ts) (runs ts) → WhileParts q (parts ts)
+  while_rows : (place : Place) (k : ℕ) (ts : List Row) → PartsFine q w (standings ts) (parts ts) (runs ts)
       → RowsFine K.While place k (standings ts) (parts ts) (runs ts)
-  while_rows place k (a ∷ b ∷ c ∷ []) h known right =
+  while_rows place k (a ∷ b ∷ c ∷ []) h right =
       let one = first_right a.0 (b.0 ∷ c.0 ∷ []) right in
       let two = first_right b.0 (c.0 ∷ []) one.1 in
       let three = first_right c.0 [] two.1 in
@@ -268,26 +264,25 @@ module _ (fit : FitsSuffice) (q : Scene) (w : World Item) where
       fine_by q w false false (node q w place k K.While (a.1 ∷ b.1 ∷ c.1 ∷ [])) _ (λ around scope. refl)
       (λ names falls g n f facts scope aim there st.
       while_fine (at q w names falls) w scope place a.1 b.1 c.1 a.2 b.2 c.2 (fine_at q w names falls ha) (fine_at q w names falls hb)
-      (fine_at q w names falls hc) (known scope).0 n f facts there fit k aim st (known scope).1)
-      (λ around scope aim. leaving_grows around place k aim (loop_walk a.1 b.1 c.1 around scope)
-      (loop_grows around scope a.1 b.1 c.1 (ha.grows around scope (Aims.Due natural_type)) (hb.grows around scope Aims.Free)
+      (fine_at q w names falls hc) n f facts there fit k aim st)
+      (λ around scope aim. leaving_grows around place k aim (loop_walk true a.1 b.1 c.1 around scope)
+      (loop_grows around scope true a.1 b.1 c.1 (ha.grows around scope (Aims.Due natural_type)) (hb.grows around scope Aims.Free)
       (hc.grows around scope Aims.Free)))
-  while_rows place k [] h known right =
+  while_rows place k [] h right =
       wrong_fine q w false false false place k (node q w place k K.While []) _ (λ around scope. refl) (λ around scope aim. refl)
-  while_rows place k (a ∷ []) h known right =
+  while_rows place k (a ∷ []) h right =
       wrong_fine q w false false false place k (node q w place k K.While (parts (a ∷ []))) _ (λ around scope. refl) (λ around scope aim. refl)
-  while_rows place k (a ∷ b ∷ []) h known right =
+  while_rows place k (a ∷ b ∷ []) h right =
       wrong_fine q w false false false place k (node q w place k K.While (parts (a ∷ b ∷ []))) _ (λ around scope. refl) (λ around scope aim. refl)
-  while_rows place k (a ∷ b ∷ c ∷ d ∷ ts) h known right =
+  while_rows place k (a ∷ b ∷ c ∷ d ∷ ts) h right =
       wrong_fine q w false false false place k (node q w place k K.While (parts (a ∷ b ∷ c ∷ d ∷ ts))) _ (λ around scope. refl) (λ around scope aim. refl)
 
-  pub while_kind : KindFineOver q w (WhileParts q) K.While
-  while_kind place k ss ps rs known h =
-      by_rows q w (λ xs ys zs. WhileParts q ys → RowsFine K.While place k xs ys zs) (while_rows place k) ss ps rs h known
+  pub while_kind : KindFine q w K.While
+  while_kind place k ss ps rs h = by_rows q w (RowsFine K.While place k) (while_rows place k) ss ps rs h
 
-  repeat_rows : (place : Place) (k : ℕ) (ts : List Row) → PartsFine q w (standings ts) (parts ts) (runs ts) → RepeatParts q (parts ts)
+  repeat_rows : (place : Place) (k : ℕ) (ts : List Row) → PartsFine q w (standings ts) (parts ts) (runs ts)
       → RowsFine K.Repeat place k (standings ts) (parts ts) (runs ts)
-  repeat_rows place k (a ∷ b ∷ c ∷ []) h known right =
+  repeat_rows place k (a ∷ b ∷ c ∷ []) h right =
       let one = first_right a.0 (b.0 ∷ c.0 ∷ []) right in
       let two = first_right b.0 (c.0 ∷ []) one.1 in
       let three = first_right c.0 [] two.1 in
@@ -297,19 +292,18 @@ module _ (fit : FitsSuffice) (q : Scene) (w : World Item) where
       fine_by q w false false (node q w place k K.Repeat (a.1 ∷ b.1 ∷ c.1 ∷ [])) _ (λ around scope. refl)
       (λ names falls g n f facts scope aim there st.
       repeat_fine (at q w names falls) w scope place a.1 b.1 c.1 a.2 b.2 c.2 (fine_at q w names falls ha) (fine_at q w names falls hb)
-      (fine_at q w names falls hc) (known scope).0 n f facts there fit k aim st (known scope).1)
-      (λ around scope aim. leaving_grows around place k aim (loop_walk a.1 b.1 c.1 around scope)
-      (loop_grows around scope a.1 b.1 c.1 (ha.grows around scope (Aims.Due natural_type)) (hb.grows around scope Aims.Free)
+      (fine_at q w names falls hc) n f facts there fit k aim st)
+      (λ around scope aim. leaving_grows around place k aim (loop_walk false a.1 b.1 c.1 around scope)
+      (loop_grows around scope false a.1 b.1 c.1 (ha.grows around scope (Aims.Due natural_type)) (hb.grows around scope Aims.Free)
       (hc.grows around scope Aims.Free)))
-  repeat_rows place k [] h known right =
+  repeat_rows place k [] h right =
       wrong_fine q w false false false place k (node q w place k K.Repeat []) _ (λ around scope. refl) (λ around scope aim. refl)
-  repeat_rows place k (a ∷ []) h known right =
+  repeat_rows place k (a ∷ []) h right =
       wrong_fine q w false false false place k (node q w place k K.Repeat (parts (a ∷ []))) _ (λ around scope. refl) (λ around scope aim. refl)
-  repeat_rows place k (a ∷ b ∷ []) h known right =
+  repeat_rows place k (a ∷ b ∷ []) h right =
       wrong_fine q w false false false place k (node q w place k K.Repeat (parts (a ∷ b ∷ []))) _ (λ around scope. refl) (λ around scope aim. refl)
-  repeat_rows place k (a ∷ b ∷ c ∷ d ∷ ts) h known right =
+  repeat_rows place k (a ∷ b ∷ c ∷ d ∷ ts) h right =
       wrong_fine q w false false false place k (node q w place k K.Repeat (parts (a ∷ b ∷ c ∷ d ∷ ts))) _ (λ around scope. refl) (λ around scope aim. refl)
 
-  pub repeat_kind : KindFineOver q w (RepeatParts q) K.Repeat
-  repeat_kind place k ss ps rs known h =
-      by_rows q w (λ xs ys zs. RepeatParts q ys → RowsFine K.Repeat place k xs ys zs) (repeat_rows place k) ss ps rs h known
+  pub repeat_kind : KindFine q w K.Repeat
+  repeat_kind place k ss ps rs h = by_rows q w (RowsFine K.Repeat place k) (repeat_rows place k) ss ps rs h

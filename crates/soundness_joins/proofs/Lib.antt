@@ -2,6 +2,7 @@ pub mod Pieces
 pub mod Operators
 pub mod Caught
 pub mod Turns
+pub mod Numbered
 pub mod Loops
 pub mod Counting
 pub mod JoinedKinds
@@ -9,3 +10,5 @@ pub mod TryKind
 pub mod AgreementCounts
 pub mod Wholes
 pub mod Meeting
+pub mod FreeJoins
+pub mod IfKind

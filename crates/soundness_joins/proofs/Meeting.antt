@@ -1,7 +1,7 @@
 -- Where ways meet of which no type is wanted: the value of the one that ran has what is kept of the first.
 use Rattle.std.proofs.Common.{◌≡◌, ℕ, Bool, true, false, ◌&&◌, ◌||◌, List, [], ◌∷◌, Option, Some, None, refl, sym, ap, ◌∙◌, subst, arith}
 use Rattle.std.specs.Prelude.{◌≤◌, nat_lt, if◌then◌else◌}
-use Rattle.std.proofs.lemmas.Bool.{ltb-true, lt-ltb}
+use Rattle.std.proofs.lemmas.Bool.{and_parts, ltb-true, lt-ltb}
 use Rattle.std.proofs.lemmas.List.{append-nil}
 use Rattle.sail_base.specs.declared.place.Place.{Place}
 use Rattle.sail_types.specs.Numbers.{Assignment, form_true, true_in}
@@ -12,7 +12,7 @@ use Rattle.sail_types.specs.declared.numbers.Con.TheVariants as C
 use Rattle.sail_types.specs.declared.shapes.Shape.{Shape}
 use Rattle.sail_types.specs.declared.values.Value.{Value}
 use Rattle.sail_core.specs.Run.{Run}
-use Rattle.value_indices.specs.Steps.{Conditions, Walk, bind, conditions, conjunction, give}
+use Rattle.value_indices.specs.Steps.{Conditions, Walk, bind, conditions, conjunction, give, scoped}
 use Rattle.value_indices.specs.declared.indices.Indices.{Indices, out-Indices}
 use Rattle.value_indices.specs.declared.indices.Indices.TheOpen as W
 use Rattle.value_indices.specs.declared.indices.Indices.TheOpen.{Indices-F}
@@ -44,21 +44,18 @@ use Rattle.soundness_steps.specs.Values.{Belongs, Comes, Has, Is, IsTrue}
 use Rattle.soundness_steps.proofs.Points.{agree_on, later_on, later_whole, no_later, whole}
 use Rattle.soundness_steps.proofs.Steps.{given_back, known_walk, scopes, stands_on, walks_mean, walks_on, walks_over}
 use Rattle.soundness_forms.specs.Forms.{FitsSuffice}
-use Rattle.soundness_forms.specs.Joins.{AllGrow}
+use Rattle.soundness_forms.specs.Joins.{AllGrow, MetGrows, is_whole_first}
 use Rattle.soundness_forms.proofs.Basics.{has_on, has_there, then_walks}
-use Rattle.soundness_forms.proofs.JoinGrowth.{AgreementCounts, MetGrows, behind_grows}
+use Rattle.soundness_forms.proofs.JoinGrowth.{AgreementCounts, behind_grows}
 use Rattle.soundness_forms.proofs.Tests.{never_value}
 use Rattle.soundness_joins.proofs.Wholes.{no_hole_widened}
-
--- what is owed of a later way that is compared with a first that has a hole comes into force, as far as it does
-abbrev pub HoledFits : Type 0
-HoledFits = (q : Scene) (n : ℕ) (f : Point n) (facts : List Fact) (place : Place) (i first : Indices) (v : Value) → Has q.set q.work f i v
-    → is_value_whole first ≡ false
-    → Walks q n f facts (owe_fit place (fits q.set.around.types i (R.Widened first))) (λ m g t. Unit {0})
 
 -- no type inside the first way's is a hole, nor is one where that is spelled out
 abbrev pub IsWhole : Indices → Type 0
 IsWhole first = (is_value_whole first ≡ true) × (is_value_whole (value_spelled first) ≡ true)
+
+pub whole_first : (first : Indices) → is_whole_first (Some first) ≡ true → IsWhole first
+whole_first first h = and_parts (is_value_whole first) (is_value_whole (value_spelled first)) h
 
 -- ---- the first point, of which every variable is fixed
 
@@ -139,11 +136,12 @@ module _ (q : Scene) (m : ℕ) where
 
   abbrev pub MetFree : (j : ℕ) → Point j → Option Indices → Item → Type 0
   MetFree j g None x = ⊥
-  MetFree j g (Some first) x = IsWhole first → Came g first x.val
+  MetFree j g (Some first) x = Came g first x.val
 
-  met_on : {n k : ℕ} {f : Point n} {g : Point k} (o : Option Indices) (x : Item) → Later f g → MetFree n f o x → MetFree k g o x
-  met_on None x l h = h
-  met_on (Some first) x l h = λ is. came_on first x.val l (h is)
+  -- what is known of a first way that is there
+  abbrev FirstWhole : Option Indices → Type 0
+  FirstWhole None = Unit {0}
+  FirstWhole (Some first) = IsWhole first
 
   -- ---- the value behind all ways
 
@@ -190,11 +188,11 @@ module _ (q : Scene) (m : ℕ) where
   gives_one never_ends i x e h = ap (λ b. b || is_never i) e ∙ never_not i x h (out-Indices i) refl
 
   never_walks : {n : ℕ} {f : Point n} {facts : List Fact} (place : Place) (first : Indices) (v : Value)
-      → Walks q n f facts (owe_fit place never) (λ j g t. IsWhole first → Came g first v)
-  never_walks place first v = walks_mean (λ j g t b is. no (sym (false_all (standing q.set.past g.integers)) ∙ b g.integers (same g)))
+      → Walks q n f facts (owe_fit place never) (λ j g t. Came g first v)
+  never_walks place first v = walks_mean (λ j g t b. no (sym (false_all (standing q.set.past g.integers)) ∙ b g.integers (same g)))
       (says_walks place (Some (C.Truth false) ∷ []))
 
-  module _ (typed : HasItsType) (fit : FitsSuffice) (holed : HoledFits) where
+  module _ (typed : HasItsType) (fit : FitsSuffice) where
     own_type : {n : ℕ} {f : Point n} (i : Indices) (v : Value) → Has q.set q.work f i v → Belongs q.set q.work f (R.Widened i) v
     own_type i v h g a = typed q.set.around.types q.set.past q.work.types g i v (has_there h g a)
 
@@ -223,54 +221,65 @@ module _ (q : Scene) (m : ℕ) where
           no_hole_widened first w,
         ))
 
-    as_first_by : {n : ℕ} {f : Point n} {facts : List Fact} (place : Place) (first i : Indices) (v : Value) (b holes w : Bool) → m ≤ n
+    as_first_by : {n : ℕ} {f : Point n} {facts : List Fact} (place : Place) (first i : Indices) (v : Value) (b holes w : Bool) → IsWhole first → m ≤ n
         → is_value_below m first ≡ b → is_value_whole first ≡ w → Has q.set q.work f i v
         → Walks q n f facts (owe_fit place (λ k. if (holes || w) && b then fits q.set.around.types i (R.Widened first) k else never k))
-        (λ j g t. IsWhole first → Came g first v)
-    as_first_by place first i v true true true le e u h = walks_mean (λ j g t b is. by_type b) (fits_first place i first v le u e h)
-    as_first_by place first i v true false true le e u h = walks_mean (λ j g t b is. by_type b) (fits_first place i first v le u e h)
-    as_first_by {n} {f} {facts} place first i v true true false le e u h =
-        walks_mean (λ j g t b is. no (sym u ∙ is.0)) (holed q n f facts place i first v h u)
-    as_first_by place first i v true false false le e u h = never_walks place first v
-    as_first_by place first i v false true true le e u h = never_walks place first v
-    as_first_by place first i v false true false le e u h = never_walks place first v
-    as_first_by place first i v false false true le e u h = never_walks place first v
-    as_first_by place first i v false false false le e u h = never_walks place first v
+        (λ j g t. Came g first v)
+    as_first_by place first i v true true true is le e u h = walks_mean (λ j g t b. by_type b) (fits_first place i first v le u e h)
+    as_first_by place first i v true false true is le e u h = walks_mean (λ j g t b. by_type b) (fits_first place i first v le u e h)
+    as_first_by place first i v true true false is le e u h = no (sym u ∙ is.0)
+    as_first_by place first i v true false false is le e u h = never_walks place first v
+    as_first_by place first i v false true true is le e u h = never_walks place first v
+    as_first_by place first i v false true false is le e u h = never_walks place first v
+    as_first_by place first i v false false true is le e u h = never_walks place first v
+    as_first_by place first i v false false false is le e u h = never_walks place first v
 
-    agrees_walks : {n : ℕ} {f : Point n} {facts : List Fact} (place : Place) (first i : Indices) (v : Value) (a b : Bool) → m ≤ n
+    agrees_walks : {n : ℕ} {f : Point n} {facts : List Fact} (place : Place) (first i : Indices) (v : Value) (a b : Bool) → IsWhole first → m ≤ n
         → Has q.set q.work f i v → is_value_told (value_spelled first) ≡ a → is_value_told (value_spelled i) ≡ b
         → Walks q n f facts (owe_fit place (λ k. if a && b then says (agrees_within deepest m (value_spelled first) (value_spelled i)) k
-        else as_first q.set.around.types m b first i k)) (λ j g t. IsWhole first → Came g first v)
-    agrees_walks {n} {f} place first i v true true le h t u = keeps (R.Widened i) v (own_type i v h)
-        (says_walks place (agrees_within deepest m (value_spelled first) (value_spelled i))) (λ j g x b c is. by_numbers i t u c b)
-    agrees_walks place first i v true false le h t u =
-        as_first_by place first i v (is_value_below m first) false (is_value_whole first) le refl refl h
-    agrees_walks place first i v false true le h t u =
-        as_first_by place first i v (is_value_below m first) true (is_value_whole first) le refl refl h
-    agrees_walks place first i v false false le h t u =
-        as_first_by place first i v (is_value_below m first) false (is_value_whole first) le refl refl h
+        else as_first q.set.around.types m b first i k)) (λ j g t. Came g first v)
+    agrees_walks {n} {f} place first i v true true is le h t u = keeps (R.Widened i) v (own_type i v h)
+        (says_walks place (agrees_within deepest m (value_spelled first) (value_spelled i))) (λ j g x b c. by_numbers i t u c b)
+    agrees_walks place first i v true false is le h t u =
+        as_first_by place first i v (is_value_below m first) false (is_value_whole first) is le refl refl h
+    agrees_walks place first i v false true is le h t u =
+        as_first_by place first i v (is_value_below m first) true (is_value_whole first) is le refl refl h
+    agrees_walks place first i v false false is le h t u =
+        as_first_by place first i v (is_value_below m first) false (is_value_whole first) is le refl refl h
 
     -- what a way owes of the first, where it gives a value
-    owed_walks : {n : ℕ} {f : Point n} {facts : List Fact} (place : Place) (never_ends : Bool) (first i : Indices) (x : Item) → m ≤ n → never_ends ≡ false
-        → Is q.set q.work f i x
-        → Walks q n f facts (like_first (here q) place never_ends m first i) (λ j g t. IsWhole first → Came g first x.val)
-    owed_walks {n} {f} {facts} place never_ends first i x le e h =
-        subst (λ b. Walks q n f facts (owe_fit place (agrees_unless b q.set.around.types m first i)) (λ j g t. IsWhole first → Came g first x.val))
+    owed_walks : {n : ℕ} {f : Point n} {facts : List Fact} (place : Place) (never_ends : Bool) (first i : Indices) (x : Item) → IsWhole first → m ≤ n
+        → never_ends ≡ false → Is q.set q.work f i x
+        → Walks q n f facts (like_first (here q) place never_ends m first i) (λ j g t. Came g first x.val)
+    owed_walks {n} {f} {facts} place never_ends first i x is le e h =
+        subst (λ b. Walks q n f facts (owe_fit place (agrees_unless b q.set.around.types m first i)) (λ j g t. Came g first x.val))
         (sym (gives_one never_ends i x e h))
-        (agrees_walks place first i x.val (is_value_told (value_spelled first)) (is_value_told (value_spelled i)) le h.has refl refl)
+        (agrees_walks place first i x.val (is_value_told (value_spelled first)) (is_value_told (value_spelled i)) is le h.has refl refl)
 
     first_is : (never_ends : Bool) (i : Indices) → gives_none never_ends i ≡ false → first_way never_ends i ≡ Some i
     first_is never_ends i e = ap (λ b. if b then None else Some i) e
 
-    way_walks : {n : ℕ} {f : Point n} {facts : List Fact} (w : Way) (first : Option Indices) (i : Indices) (x : Item) → m ≤ n → w.never_ends ≡ false
-        → Is q.set q.work f i x
+    way_walks : {n : ℕ} {f : Point n} {facts : List Fact} (w : Way) (first : Option Indices) (i : Indices) (x : Item) → FirstWhole first → m ≤ n
+        → w.never_ends ≡ false → Is q.set q.work f i x
         → Walks q n f facts (bind (owed_of_first (here q) true w.place w.never_ends m first i) (λ t. give i))
         (λ j g d. MetFree j g (first_behind true w.never_ends first d) x)
-    way_walks {n} {f} w None i x le e h = walks_on (λ t. give i) {Holds = λ j g t. MetFree j g (first_way w.never_ends i) x}
+    way_walks {n} {f} w None i x known le e h = walks_on (λ t. give i) {Holds = λ j g t. MetFree j g (first_way w.never_ends i) x}
         (given_back tt (subst (λ o. MetFree n f o x) (sym (first_is w.never_ends i (gives_one w.never_ends i x e h)))
-        (λ is. by_type (own_type i x.val h.has))))
+        (by_type (own_type i x.val h.has))))
         (λ j g fs t l d. given_back i d)
-    way_walks w (Some first) i x le e h = walks_on (λ t. give i) (owed_walks w.place w.never_ends first i x le e h) (λ j g fs t l d. given_back i d)
+    way_walks w (Some first) i x known le e h =
+        walks_on (λ t. give i) (owed_walks w.place w.never_ends first i x known le e h) (λ j g fs t l d. given_back i d)
+
+    -- a first way stays the first
+    kept_first : (ws : List Way) (first : Indices) (facts : List Fact) (n : ℕ) → (each_way (here q) true m ws (Some first) facts n).value ≡ Some first
+    unfolding bind scoped give
+    kept_first [] first facts n = refl
+    kept_first (w ∷ ws) first facts n = kept_first ws first facts (way_behind (here q) true m w (Some first) facts n).next
+
+    kept_whole : (ws : List Way) (first : Option Indices) (facts : List Fact) (n : ℕ)
+        → is_whole_first (each_way (here q) true m ws first facts n).value ≡ true → FirstWhole first
+    kept_whole ws None facts n h = tt
+    kept_whole ws (Some first) facts n h = whole_first first (sym (ap is_whole_first (kept_first ws first facts n)) ∙ h)
 
     -- ---- with ways behind it that aren't run
 
@@ -295,20 +304,22 @@ module _ (q : Scene) (m : ℕ) where
               later = d.later;
               stands = d.stands;
               holds = subst (λ o. MetFree (each_way (here q) true m ws (Some first) facts n).next d.point o x) (sym d.holds)
-                  (λ is. came_on first x.val d.later (k is));
+                  (came_on first x.val d.later k);
             };
       }
 
       pub taken_free : {n : ℕ} {f : Point n} {facts : List Fact} (nested : Bool) (w : Way) (after : List Way) (c : Run Item Item) (first : Option Indices)
-          → m ≤ n → AllGrow after → Beside q n f facts w.walk c (λ j g i x. Comes q.set q.work g true nested w.never_ends Aims.Free i x)
+          → m ≤ n → AllGrow after → is_whole_first (each_way (here q) true m (w ∷ after) first facts n).value ≡ true
+          → Beside q n f facts w.walk c (λ j g i x. Comes q.set q.work g true nested w.never_ends Aims.Free i x)
           → Beside q n f facts (each_way (here q) true m (w ∷ after) first) ((checked q.set.around.types q.cases).inside c)
           (λ j g o x. MetFree j g o x × (w.never_ends ≡ false))
-      taken_free nested w after c first le h b = then_walks (each_way (here q) true m after)
+      taken_free {n} {f} {facts} nested w after c first le h known b = then_walks (each_way (here q) true m after)
           {Holds = λ j g o x. MetFree j g o x × (w.never_ends ≡ false)}
           (then_walks (λ i. give (first_behind true w.never_ends first i))
           {Holds = λ j g i x. MetFree j g (first_behind true w.never_ends first i) x × (w.never_ends ≡ false)}
           (scopes (then_walks (λ i. bind (owed_of_first (here q) true w.place w.never_ends m first i) (λ t. give i)) b (λ j g fs i x l e.
           walks_mean (λ k p d a. (a, e.ends))
-          (way_walks w first i x (let on = l.onward in omega (arith, le, on)) e.ends (record { has = e.has; typ = e.typ })))))
+          (way_walks w first i x (kept_whole (w ∷ after) first facts n known) (let on = l.onward in omega (arith, le, on))
+          e.ends (record { has = e.has; typ = e.typ })))))
           (λ j g fs i x l e. given_back (first_behind true w.never_ends first i) e))
           (λ j g fs o x l e. walks_mean (λ k p d a. (a, e.1)) (over_others after o x h e.0))

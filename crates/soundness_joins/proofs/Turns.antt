@@ -5,7 +5,7 @@ use Rattle.sail_base.specs.declared.place.Place.{Place}
 use Rattle.sail_types.specs.declared.values.Value.{Value}
 use Rattle.model_state.specs.declared.cause.Cause.{Cause}
 use Rattle.model_state.specs.declared.cause.Cause.TheVariants.{Measure, WorkLimit}
-use Rattle.sail_core.specs.Making.{Making, natural, nothing, truth}
+use Rattle.sail_core.specs.Making.{Making, natural, nothing}
 use Rattle.sail_core.specs.Meaning.{condition_of, fallen, from_before, loop_measure, repeat_turns, while_turns}
 use Rattle.sail_core.specs.Run as R
 use Rattle.sail_core.specs.Run.{Now, Ended, Run, gives, goes_on, if_so, leaving, tick, tick_at, ◌then◌}
@@ -18,6 +18,7 @@ use Rattle.soundness_steps.specs.Points.{Later}
 use Rattle.soundness_steps.specs.Works.{Scene}
 use Rattle.soundness_steps.specs.States.{IsAnswer, IsThrown, Sound}
 use Rattle.soundness_steps.specs.Steps.{AllMet, Beside, EndsWell, Stands, well_given, well_no, well_returned, well_stopped, well_thrown}
+use Rattle.soundness_forms.proofs.Joins.{then_then}
 
 pub data Safe (q : Scene) {A : Type 0} (Good : A → Type 0) : Ended Item A → Type 0 where
   safe_given : (x : A) (now : Now Item) → Good x → Sound q now → Safe q Good (R.Gives x now)
@@ -69,16 +70,13 @@ module _ (q : Scene) where
   piece_safe before stands b met say now s =
       safe_of say (b.run (z.back before now) stands met (record { state = s.state; names = s.names }))
 
-  -- what tests give
+  -- what a measure's test gives
   abbrev pub Natural : Item → Type 0
   Natural x = (k : ℕ) × ((now : Now Item) → R.Gives k now ≡ natural z x now)
 
-  abbrev pub Tested : Item → Type 0
-  Tested x = (b : Bool) × ((now : Now Item) → R.Gives b now ≡ truth z x now)
-
   module _ (before : Now Item) (place : Place) (measure condition body : Run Item Item)
-      (measures : (now : Now Item) → Sound q now → Safe q Natural (from_before z before measure now))
-      (conditions : (now : Now Item) → Sound q now → Safe q Tested (from_before z before condition now))
+      (measures : (now : Now Item) → Sound q now → Safe q (λ k. Unit {0}) ((from_before z before measure then natural z) now))
+      (conditions : (now : Now Item) → Sound q now → Safe q (λ b. Unit {0}) (condition_of z before condition now))
       (bodies : (now : Now Item) → Sound q now → Safe q (λ x. Unit {0}) (from_before z before body now)) where
     fallen_by : (t : Bool) (last k : ℕ) (now : Now Item) → Sound q now
         → Safe q (λ n. Unit {0}) ((if t then gives k else R.stops (Measure place)) now)
@@ -90,12 +88,8 @@ module _ (q : Scene) where
     fallen_safe (Some last) k now s = fallen_by (nat_lt k last) last k now s
 
     measure_safe : (last : Option ℕ) (now : Now Item) → Sound q now → Safe q (λ n. Unit {0}) (loop_measure z before place measure last now)
-    measure_safe last now s = safe_then (λ x. natural z x then fallen place last) (measures now s) (λ x after g t.
-        subst (λ e. Safe q (λ n. Unit {0}) (goes_on e (fallen place last))) (g.1 after) (fallen_safe last g.0 after t))
-
-    condition_safe : (now : Now Item) → Sound q now → Safe q (λ b. Unit {0}) (condition_of z before condition now)
-    condition_safe now s = safe_then (truth z) (conditions now s) (λ x after g t.
-        subst (Safe q (λ b. Unit {0})) (g.1 after) (safe_given g.0 after tt t))
+    measure_safe last now s = subst (Safe q (λ n. Unit {0})) (then_then (from_before z before measure now) (natural z) (fallen place last))
+        (safe_then (fallen place last) (measures now s) (λ k after u t. fallen_safe last k after t))
 
     while_turn : (turns : ℕ) (last : Option ℕ)
         → ((n : ℕ) (now : Now Item) → Sound q now → Safe q (λ x. x ≡ nothing z) (while_turns z before turns place measure condition body (Some n) now))
@@ -109,7 +103,7 @@ module _ (q : Scene) where
     pub while_safe : (turns : ℕ) (last : Option ℕ) (now : Now Item) → Sound q now
         → Safe q (λ x. x ≡ nothing z) (while_turns z before turns place measure condition body last now)
     while_safe zero last now s = safe_stopped WorkLimit now
-    while_safe (suc turns) last now s = safe_then _ (condition_safe now s) (λ b now1 u s1.
+    while_safe (suc turns) last now s = safe_then _ (conditions now s) (λ b now1 u s1.
         while_turn turns last (λ n now2 s2. while_safe turns (Some n) now2 s2) b now1 s1)
 
     repeat_turn : (turns n : ℕ)
@@ -124,5 +118,5 @@ module _ (q : Scene) where
     repeat_safe zero last now s = safe_stopped WorkLimit now
     repeat_safe (suc turns) last now s =
         safe_then _ (tick_safe now.ticks now s) (λ t now1 u s1. safe_then _ (measure_safe last now1 s1) (λ n now2 u2 s2.
-        safe_then _ (bodies now2 s2) (λ x now3 u3 s3. safe_then _ (condition_safe now3 s3) (λ b now4 u4 s4.
+        safe_then _ (bodies now2 s2) (λ x now3 u3 s3. safe_then _ (conditions now3 s3) (λ b now4 u4 s4.
         repeat_turn turns n (λ now5 s5. repeat_safe turns (Some n) now5 s5) b now4 s4))))

@@ -1,5 +1,5 @@
-//! Laws of operators on truths and of loops: each function's contract is one, and it does nothing.
-ghost use Rattle.soundness_joins.specs.Laws.{CountingIsFine, LoopsAreFine, TruthsAreFine};
+//! Laws of operators on truths, of loops and of ways that meet: each function's contract is one, and it does nothing.
+ghost use Rattle.soundness_joins.specs.Laws.{CountingIsFine, JoinsAreFine, LoopsAreFine, TruthsAreFine};
 
 /// `&` and `|` end well beside their walks, where their operands do.
 pub fn truths_are_fine()
@@ -11,7 +11,12 @@ pub fn counting_is_fine()
     ensures { CountingIsFine }
 {}
 
-/// So do `while` and `repeat`, over a measure that is an integer and a condition that is a truth.
+/// So do `while` and `repeat`.
 pub fn loops_are_fine()
     ensures { LoopsAreFine }
+{}
+
+/// So do `if`, `match` and `try`, where the first of ways that meet without a wanted type leaves no hole, and the patterns of arms match.
+pub fn joins_are_fine()
+    ensures { JoinsAreFine }
 {}
