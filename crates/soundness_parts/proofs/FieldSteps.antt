@@ -29,6 +29,7 @@ use Rattle.soundness_steps.specs.Steps.{Beside}
 use Rattle.soundness_steps.specs.Values.{Has, Is}
 use Rattle.soundness_forms.proofs.Basics.{has_there}
 use Rattle.soundness_values.specs.Named.{TypesNarrow}
+use Rattle.soundness_values.proofs.Narrowed.{narrowed}
 use Rattle.soundness_values.specs.Narrow.{is_narrow}
 use Rattle.soundness_parts.proofs.NamedTypes.{field_narrow, type_closes, type_steady}
 use Rattle.soundness_parts.proofs.Suffixes.{unreached}
@@ -53,7 +54,7 @@ module _ (q : Scene) {n : ℕ} {f : Point n} (facts : List Fact) (narrow : Types
         → HasThere q f i x.val (at_field g) (field_way u c)
     there fs g defined stands d a met =
         let fits : is_narrow (length rs) g.typ ≡ true =
-        ap (λ m. is_narrow m g.typ) many ∙ field_narrow (types_in (here q) u) fs c g (narrow.of_fields u fs defined) stands in
+        ap (λ m. is_narrow m g.typ) many ∙ field_narrow (types_in (here q) u) fs c g ((narrowed q.set.around.types narrow).of_fields u fs defined) stands in
         subst (λ j. HasPart q.set.around.types (standing q.set.past d) q.work.types j x.val (R.Of g.typ is rs) (field_way u c)) rolls
         (field_there q.set.around.types (standing q.set.past d) q.work.types u is rs fs defined c g x.val stands
         (type_closes q.set q.work is rs g.typ fits d) (has_there named d a))

@@ -22,7 +22,7 @@ use Rattle.row_laws.proofs.Steady.{args_same, readings_of, same_lists, typ_of}
 use Rattle.way_laws.specs.Laws.{Closes}
 use Rattle.soundness_steps.specs.Works.{Setting, Work}
 use Rattle.soundness_steps.specs.Values.{Has, IsSteady}
-use Rattle.soundness_values.specs.Named.{AllNarrow}
+use Rattle.soundness_values.proofs.Narrowed.{AllNarrow}
 use Rattle.soundness_values.specs.Narrow.{is_narrow}
 use Rattle.soundness_values.proofs.Narrow.{own_behind}
 

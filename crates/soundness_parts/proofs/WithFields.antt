@@ -15,7 +15,7 @@ use Rattle.value_laws.specs.Belonging.{Integers, has, is_of, standing}
 use Rattle.way_laws.specs.Laws.{HasPart}
 use Rattle.way_laws.proofs.Fields.{field_there}
 use Rattle.soundness_steps.specs.Works.{Setting, Work}
-use Rattle.soundness_values.specs.Named.{AllNarrow}
+use Rattle.soundness_values.proofs.Narrowed.{AllNarrow}
 use Rattle.soundness_parts.proofs.NamedTypes.{field_narrow, type_closes}
 
 module _ (set : Setting) (work : Work) (is : List Index) (rs : List Reading) (g : Integers) where

@@ -61,7 +61,8 @@ use Rattle.soundness_forms.proofs.Nodes.{node_ends, typed_on}
 use Rattle.soundness_forms.proofs.Parts.{AllSteady, EachIs, all_have, are_typed, each_fine, not_never}
 use Rattle.soundness_forms.proofs.PlainKinds.{fine_at, fine_by, settled_grows, wrong_fine}
 use Rattle.soundness_forms.proofs.Worlds.{surrounds_on}
-use Rattle.soundness_values.specs.Named.{AllNarrow, TypesNarrow}
+use Rattle.soundness_values.specs.Named.{TypesNarrow}
+use Rattle.soundness_values.proofs.Narrowed.{AllNarrow, narrowed}
 use Rattle.soundness_values.proofs.Dues.{parts_aimed, parts_due, taken_as}
 use Rattle.soundness_values.proofs.Made.{parts_node}
 use Rattle.soundness_values.proofs.MadeKinds.{all_at, all_values, each_grow}
@@ -127,7 +128,7 @@ module _ (fit : FitsSuffice) (q : Scene) (w : World Item) (narrow : TypesNarrow 
     narrow_fields : (o : Option (List Field)) → fields q.set.around.types u ≡ o → (qs : List Reading) → length qs ≡ length rs → (fs : List Field)
         → o ≡ Some fs → AllNarrow (length qs) (field_types fs)
     narrow_fields o defined qs long fs e =
-        subst (λ count. AllNarrow count (field_types fs)) (sym (long ∙ many)) (narrow.of_fields u fs (defined ∙ e))
+        subst (λ count. AllNarrow count (field_types fs)) (sym (long ∙ many)) ((narrowed q.set.around.types narrow).of_fields u fs (defined ∙ e))
 
     ends : {n : ℕ} {f : Point n} {facts : List Fact} (is : List Indices) (xs : List Item) (i : Indices) → Is q.set q.work f old x
         → AllTyped q.set q.work f is xs → Filled fit q place u js rs ts x.val f (vals xs) i

@@ -41,7 +41,7 @@ use Rattle.soundness_forms.specs.Worlds.{Surrounds}
 use Rattle.soundness_forms.proofs.Basics.{aim_on}
 use Rattle.soundness_forms.proofs.Nodes.{node_ends, typed_on}
 use Rattle.soundness_forms.proofs.Parts.{EachIs, all_have, are_typed, each_fine}
-use Rattle.soundness_values.specs.Named.{AllNarrow, NoneAlone}
+use Rattle.soundness_values.proofs.Narrowed.{AllNarrow, NoneAlone}
 use Rattle.soundness_values.proofs.Dues.{parts_aimed, parts_due, parts_long, taken_as, types_long}
 use Rattle.soundness_values.proofs.Made.{parts_node}
 use Rattle.soundness_values.proofs.NamedWalks.{named_has, named_walks}

@@ -16,6 +16,7 @@ pub mod Mappings
 pub mod Placings
 pub mod Functions
 pub mod Narrow
+pub mod Narrowed
 pub mod Stands
 pub mod Unions
 pub mod Structs

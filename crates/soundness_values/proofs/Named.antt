@@ -32,7 +32,7 @@ use Rattle.soundness_steps.specs.Values.{AllHave, Belongs, Has, IsWanted}
 use Rattle.soundness_steps.proofs.Steps.{given_back, walks_mean, walks_on}
 use Rattle.soundness_forms.specs.Forms.{FitsSuffice}
 use Rattle.soundness_forms.proofs.Basics.{has_on}
-use Rattle.soundness_values.specs.Named.{AllNarrow}
+use Rattle.soundness_values.proofs.Narrowed.{AllNarrow}
 use Rattle.soundness_values.specs.Narrow.{is_narrow}
 use Rattle.soundness_values.proofs.Mappings.{beyonds_same}
 use Rattle.soundness_values.proofs.Narrow.{own_behind}

@@ -34,7 +34,7 @@ use Rattle.soundness_steps.specs.Values.{AllHave, Has}
 use Rattle.soundness_steps.proofs.Steps.{given_back, known_walk, walks_on}
 use Rattle.soundness_forms.specs.Forms.{FitsSuffice}
 use Rattle.soundness_forms.proofs.Parts.{none_never}
-use Rattle.soundness_values.specs.Named.{AllNarrow}
+use Rattle.soundness_values.proofs.Narrowed.{AllNarrow}
 use Rattle.soundness_values.proofs.Filling.{walks_next}
 use Rattle.soundness_values.proofs.Named.{AllDue, NumbersStay, SameMany, TypesStay, all_due_on, have_later, parts_are}
 use Rattle.soundness_values.proofs.Numbered.{all_go}

@@ -25,7 +25,8 @@ use Rattle.value_laws.proofs.Basics.{no}
 use Rattle.soundness_steps.specs.Works.{Scene, here}
 use Rattle.soundness_forms.specs.EachKind.{PartsFine}
 use Rattle.soundness_forms.specs.Standing.{Standing, each_given, has_arguments, has_fields, has_payload}
-use Rattle.soundness_values.specs.Named.{AllNarrow, NoneAlone, TypesNarrow, variables_of}
+use Rattle.soundness_values.specs.Named.{TypesNarrow}
+use Rattle.soundness_values.proofs.Narrowed.{AllNarrow, NoneAlone, variables_of, narrowed}
 use Rattle.soundness_values.specs.Narrow.{is_narrow}
 use Rattle.soundness_values.proofs.Narrow.{narrow_as}
 
@@ -146,7 +147,7 @@ struct_stands q narrow u ks ps (Some fs) e h =
       below = all_below (length fs) (length (field_types fs)) (sym some) ks c.1;
       parts = as_many ps (fields_of (here q) u ks) (many ∙ sym given ∙ sym long ∙ ap (λ o. length (fields_at ks o)) (sym e));
       narrow = subst (λ o. AllNarrow (variables_of q.set.around.types u) (fields_at ks o)) (sym e)
-          (fields_narrow fs (variables_of q.set.around.types u) ks (narrow.of_fields u fs e));
+          (fields_narrow fs (variables_of q.set.around.types u) ks ((narrowed q.set.around.types narrow).of_fields u fs e));
     }
 
 -- ---- constructors: an argument for each part of the payload
@@ -184,12 +185,12 @@ constructor_stands q narrow u c ps (Some t) e h =
     record {
       of_payload = t;
       is_payload = e;
-      none_alone = narrow.none_alone u c t e;
+      none_alone = (narrowed q.set.around.types narrow).none_alone u c t e;
       some = ltb-true 0 (length ps) a.0;
       parts = as_many ps (constructor_types (here q) u c (length ps))
           (same_count (length ps) (length (payload_types (length ps) (Some t))) a.1 ∙ ap (λ o. length (payload_types (length ps) o)) (sym e));
       narrow = subst (λ o. AllNarrow (variables_of q.set.around.types u) (payload_types (length ps) o)) (sym e)
-          (payload_narrow (variables_of q.set.around.types u) (length ps) t (narrow.of_payloads u c t e));
+          (payload_narrow (variables_of q.set.around.types u) (length ps) t ((narrowed q.set.around.types narrow).of_payloads u c t e));
     }
 
 -- what is known of a constructor's Type arguments is as many

@@ -19,7 +19,7 @@ use Rattle.value_indices.specs.declared.indices.Indices.TheOpen as W
 use Rattle.value_indices.specs.declared.indices.Indices.TheVariants as I
 use Rattle.value_indices.specs.declared.indices.Reading.{Reading}
 use Rattle.call_arguments.specs.Callees.{payload_form, payload_types}
-use Rattle.soundness_values.specs.Named.{NoneAlone}
+use Rattle.soundness_values.proofs.Narrowed.{NoneAlone}
 use Rattle.value_laws.specs.Belonging.{closed, closeds, form_holds, has}
 use Rattle.value_laws.proofs.Alike.{asks}
 use Rattle.value_laws.proofs.Basics.{fronts, two}

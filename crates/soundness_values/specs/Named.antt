@@ -1,28 +1,35 @@
--- What is asked of the table of named types: fields and payloads name no Type variables but those of their own type, and no tuple among payloads has
--- one part.
-use Rattle.std.specs.Prelude.{◌≡◌, ℕ, nat_eq, true, false, List, [], ◌∷◌, length, slice_get, Some}
-use Rattle.sail_types.specs.Named.{field_types, fields, payload}
-use Rattle.sail_types.specs.declared.table.Field.{Field}
+-- What is asked of the table of named types: fields and payloads name no Type variables but those of their own definition, and no tuple among payloads
+-- has one part.
+use Rattle.std.specs.List.{list_all}
+use Rattle.std.specs.Prelude.{◌≡◌, ℕ, nat_eq, Bool, true, not, ◌&&◌, length}
+use Rattle.sail_types.specs.declared.table.Definition.{Definition}
+use Rattle.sail_types.specs.declared.table.Form.{Form}
+use Rattle.sail_types.specs.declared.table.Form.TheVariants as F
 use Rattle.sail_types.specs.declared.table.Types.{Types}
-use Rattle.sail_types.specs.declared.types.Typ.{Typ, out-Typ}
+use Rattle.sail_types.specs.declared.types.Typ.{Typ, Typ-F, out-Typ}
 use Rattle.sail_types.specs.declared.types.Typ.TheOpen as T
-use Rattle.wide_types.specs.Widening.{parameters_of}
 use Rattle.call_arguments.specs.Callees.{type_parameters}
 use Rattle.soundness_values.specs.Narrow.{is_narrow}
 
-abbrev pub AllNarrow : ℕ → List Typ → Type 0
-AllNarrow count [] = Unit {0}
-AllNarrow count (t ∷ ts) = (is_narrow count t ≡ true) × AllNarrow count ts
+-- a type that is no tuple of one part
+abbrev pub is_apart : Typ-F Typ → Bool
+is_apart (T.Tuple ts) = not (nat_eq 1 (length ts))
+is_apart t = true
 
--- no tuple has one part
-abbrev pub NoneAlone : Typ → Type 0
-NoneAlone t = (ts : List Typ) → out-Typ t ≡ T.Tuple ts → nat_eq 1 (length ts) ≡ false
+abbrev pub payload_stands : ℕ → Typ → Bool
+payload_stands count t = is_narrow count t && is_apart (out-Typ t)
 
--- how many Type variables the named type of this place has
-abbrev pub variables_of : Types → ℕ → ℕ
-variables_of types u = type_parameters (parameters_of (slice_get types.definitions u))
+-- a struct or a union with so many Type variables
+abbrev pub form_stands : ℕ → Form → Bool
+form_stands count (F.Struct fs) = list_all (λ f. is_narrow count f.typ) fs
+form_stands count (F.Union fs) = list_all (λ f. payload_stands count f.typ) fs
+form_stands count form = true
 
-pub record TypesNarrow (types : Types) : Type 0 where
-  pub of_fields : (u : ℕ) (fs : List Field) → fields types u ≡ Some fs → AllNarrow (variables_of types u) (field_types fs)
-  pub of_payloads : (u c : ℕ) (t : Typ) → payload types u c ≡ Some t → is_narrow (variables_of types u) t ≡ true
-  pub none_alone : (u c : ℕ) (t : Typ) → payload types u c ≡ Some t → NoneAlone t
+abbrev pub definition_stands : Definition → Bool
+definition_stands d = form_stands (type_parameters d.parameters) d.form
+
+abbrev pub table_narrow : Types → Bool
+table_narrow types = list_all definition_stands types.definitions
+
+abbrev pub TypesNarrow : Types → Type 0
+TypesNarrow types = table_narrow types ≡ true

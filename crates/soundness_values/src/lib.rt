@@ -1,6 +1,6 @@
 //! Values that are made of parts, and calls, each beside its run: it ends well where its parts do.
 //!
-//! What is taken of mappings and of the table of types stands in `specs/Mappings` and `specs/Named`.
+//! What is taken of the table of types stands in `specs/Named`.
 #![tactic(auto)]
 
 mod laws;
