@@ -166,18 +166,27 @@ module _ (around : Around) (past : Positive) (own : List Closed) {fit : OfSizes}
   abbrev stood : Integers → List Reading → Closeds
   stood g rs = closeds (types_or_own (map (closed around.types (there g) own) rs) own)
 
+  -- a payload, under what the variables of the union stand for, and so with the function's Type variables behind them
+  abbrev Inside : Integers → List Index → List Reading → Typ → Value → Type 0
+  Inside g is rs t v = belongs around.types v (reading t (assigned (there g) is) (closeds (map (closed around.types (there g) own) rs))) ≡ true
+
+  outside : (is : List Index) (rs : List Reading) (t : Typ) (v : Value) (g : Integers) → Inside g is rs t v
+      → belongs around.types v (reading t (assigned (there g) is) (stood g rs)) ≡ true
+  outside is rs t v g h = wider v t (assigned (there g) is) (map (closed around.types (there g) own) rs) h
+
   -- what a constructor is over
   abbrev union_item : ℕ → ℕ → Item → Value → Item
   union_item u c x v = item (part_typ around.types (payload u c) x.typ) v
 
   of_union : {n : ℕ} {f : Point n} (u c : ℕ) (is : List Index) (rs : List Reading) (t : Typ) (x : Item) (v : Value) → payload_type around.types u c ≡ Some t
-      → Bears around.types past own y f (I.Named u is rs) x → belongs around.types v (reading t (assigned (there f.integers) is) (stood f.integers rs)) ≡ true
+      → Bears around.types past own y f (I.Named u is rs) x → ((g : Integers) → Agree f g → Inside g is rs t v)
       → Of f (R.Of t is rs) (item (part_typ around.types (payload u c) x.typ) v)
-  of_union {f = f} u c is rs t x v e b h = record {
+  of_union {f = f} u c is rs t x v e b inside = record {
     typ = closed around.types (there f.integers) own (R.Of t is rs);
     is_typ = steady_of u is rs x b t;
-    belongs_to = ap (belongs around.types v) (closed_is around.types (there f.integers) own (R.Of t is rs) (W.Of t is rs) (R.rolls-Of t is rs)) ∙ h;
-    reads = λ g a. y.kept.of_union g u c is rs x.typ t e (b.typed g a);
+    belongs_to = ap (belongs around.types v) (closed_is around.types (there f.integers) own (R.Of t is rs) (W.Of t is rs) (R.rolls-Of t is rs))
+        ∙ outside is rs t v f.integers (inside f.integers (same f));
+    reads = λ g a. y.kept.of_union g u c is rs x.typ t e (record { value = v; belongs_to = inside g a }) (b.typed g a);
   }
 
   -- the parts of one that is a tuple
@@ -221,14 +230,17 @@ module _ (around : Around) (past : Positive) (own : List Closed) {fit : OfSizes}
 
   module _ {n : ℕ} {f : Point n} (facts : List Fact) (place : Place) (how : Matching) (u c : ℕ) (is : List Index) (rs : List Reading) (x : Item)
       (b : Bears around.types past own y f (I.Named u is rs) x) (s : Good f) (t : Typ) (there_is : payload_type around.types u c ≡ Some t) (v : Value)
-      (held : belongs around.types v (reading t (assigned (there f.integers) is) (stood f.integers rs)) ≡ true) where
+      (inside : (g : Integers) → Agree f g → Inside g is rs t v) where
+    held : belongs around.types v (reading t (assigned (there f.integers) is) (stood f.integers rs)) ≡ true
+    held = outside is rs t v f.integers (inside f.integers (same f))
+
     -- as many parts as patterns
     several : (looks : List Look) (ms : List (Matcher Item)) (ss : List Bool) → Fine looks ms ss → (ts : List Typ) → out-Typ t ≡ T.Tuple ts
         → length ts ≡ length ss → AllStand around past own y q cases w ss
         → Beside q past n f facts (constructor_met place looks around how (payload_readings ts is rs))
         (as_run (so_many (length ms) (parts_or_wrong (option_map (components z (union_item u c x v) 0) (parts_in v)))) then run_parts ms) Found
     several looks ms ss fine ts e long d =
-        let of = of_union u c is rs t x v there_is b held in
+        let of = of_union u c is rs t x v there_is b inside in
         let tuple = tuple_value t ts (assigned (there f.integers) is) (stood f.integers rs) v e held (out-Value v) refl in
         let vs = tuple.0 in
         let parts = parts_of is rs ts (union_item u c x v) 0 vs (steady_of u is rs x b) tuple.2
@@ -269,7 +281,7 @@ module _ (around : Around) (past : Positive) (own : List Closed) {fit : OfSizes}
     payload_beside (a ∷ []) (m ∷ []) (k ∷ []) fine d all =
         seen_parts around past own y q cases w (m ∷ []) ((union_item u c x v) ∷ []) refl
         (met_beside place how (a ∷ []) (m ∷ []) (k ∷ []) fine (R.Of t is rs ∷ []) ((union_item u c x v) ∷ []) refl
-        (of_union u c is rs t x v there_is b held, tt) s all)
+        (of_union u c is rs t x v there_is b inside, tt) s all)
     payload_beside (a ∷ a2 ∷ looks) (m ∷ m2 ∷ ms) (k ∷ k2 ∷ ss) fine d all =
         parts_by (a ∷ a2 ∷ looks) (m ∷ m2 ∷ ms) (k ∷ k2 ∷ ss) fine (out-Typ t) refl d all
     payload_beside [] [] (k ∷ ss) fine d all = absurd fine
@@ -291,14 +303,14 @@ module _ (around : Around) (past : Positive) (own : List Closed) {fit : OfSizes}
 
   union_held : (u c : ℕ) (is : List Index) (rs : List Reading) (t : Typ) (g : Integers) → payload_type around.types u c ≡ Some t → (j k : ℕ) (v : Value)
       → form_holds around.types (there g) own (W.Named u is (map (closed around.types (there g) own) rs)) (V.Union j k v) ≡ true
-      → (nat_eq j u && nat_eq k c) ≡ true → belongs around.types v (reading t (assigned (there g) is) (stood g rs)) ≡ true
+      → (nat_eq j u && nat_eq k c) ≡ true → Inside g is rs t v
   union_held u c is rs t g e j k v h d =
       let both = and_parts (nat_eq j u) (nat_eq k c) d in
       let cs = map (closed around.types (there g) own) rs in
       let of = payload_belongs (belongs around.types v) (assigned (there g) is) (closeds cs) in
       let found : payload_type around.types j k ≡ Some t =
       (λ i. payload_type around.types ((Decides-eqb j u).0 both.0 i) ((Decides-eqb k c).0 both.1 i)) ∙ e in
-      wider v t (assigned (there g) is) cs (ap of (sym found) ∙ (and_parts (nat_eq j u) (of (payload_type around.types j k)) h).1)
+      ap of (sym found) ∙ (and_parts (nat_eq j u) (of (payload_type around.types j k)) h).1
 
   abbrev Union : (n : ℕ) → Point n → List Fact → Place → Matching → ℕ → ℕ → List Index → List Reading → Item → List Look → List (Matcher Item)
       → Option Typ → Value-F Value → Type 0
@@ -310,22 +322,21 @@ module _ (around : Around) (past : Positive) (own : List Closed) {fit : OfSizes}
       → Bears around.types past own y f (I.Named u is rs) x → Good f → (looks : List Look) (ms : List (Matcher Item)) (ss : List Bool)
       → Fine looks ms ss → (t : Typ) → payload_type around.types u c ≡ Some t → payload_stands (length ss) t ≡ true
       → AllStand around past own y q cases w ss → (v : Value-F Value)
-      → form_holds around.types (there f.integers) own (W.Named u is (map (closed around.types (there f.integers) own) rs)) v ≡ true
+      → ((g : Integers) → Agree f g → form_holds around.types (there g) own (W.Named u is (map (closed around.types (there g) own) rs)) v ≡ true)
       → Union n f facts place how u c is rs x looks ms (Some t) v
   of_its_own {f = f} {facts = facts} place how u c is rs x b s looks ms ss fine t e d all (V.Union j k v) h =
       constructs (length ms) ms (nat_eq j u && nat_eq k c) _ (λ same_one.
-      payload_beside facts place how u c is rs x b s t e v (union_held u c is rs t f.integers e j k v h same_one) looks ms ss fine d
-      all)
+      payload_beside facts place how u c is rs x b s t e v (λ g a. union_held u c is rs t g e j k v (h g a) same_one) looks ms ss fine d all)
   of_its_own {f = f} place how u c is rs x b s looks ms ss fine t e d all (V.Struct j vs) h =
       let cs = map (closed around.types (there f.integers) own) rs in
       let of = fields_belong (asks around.types vs) (assigned (there f.integers) is) (closeds cs) in
-      let both = and_parts (nat_eq j u) (of (fields around.types j)) h in
+      let both = and_parts (nat_eq j u) (of (fields around.types j)) (h f.integers (same f)) in
       no (sym (ap of (ap (fields around.types) ((Decides-eqb j u).0 both.0) ∙ (union_alone around.types u c t e).0)) ∙ both.1)
   of_its_own {f = f} place how u c is rs x b s looks ms ss fine t e d all (V.Member j k) h =
-      let both = and_parts (nat_eq j u) (nat_lt k (length (members around.types j))) h in
+      let both = and_parts (nat_eq j u) (nat_lt k (length (members around.types j))) (h f.integers (same f)) in
       not_below_none k (ap (λ (l : List (List ℕ)). nat_lt k (length l)) (sym (ap (members around.types) ((Decides-eqb j u).0 both.0)
       ∙ (union_alone around.types u c t e).1)) ∙ both.1)
-  of_its_own place how u c is rs x b s looks ms ss fine t e d all v h = no h
+  of_its_own {f = f} place how u c is rs x b s looks ms ss fine t e d all v h = no (h f.integers (same f))
 
   of_union_of : {n : ℕ} {f : Point n} {facts : List Fact} (place : Place) (how : Matching) (u c : ℕ) (is : List Index) (rs : List Reading) (x : Item)
       → Bears around.types past own y f (I.Named u is rs) x → Good f → (looks : List Look) (ms : List (Matcher Item)) (ss : List Bool)
@@ -335,7 +346,7 @@ module _ (around : Around) (past : Positive) (own : List Closed) {fit : OfSizes}
   of_union_of place how u c is rs x b s looks ms ss fine None e d all = no d
   of_union_of {f = f} place how u c is rs x b s looks ms ss fine (Some t) e d all =
       of_its_own place how u c is rs x b s looks ms ss fine t e d all (out-Value x.val)
-      (named_had around.types past own f.integers u is rs x.val (b.has_it f.integers (same f)))
+      (λ g a. named_had around.types past own g u is rs x.val (b.has_it g a))
 
   -- the value may be of another union
   of_own : {n : ℕ} {f : Point n} {facts : List Fact} {c : Run Item (List (Local Item))} (place : Place) (same_union : Bool) (walk : Walk (List Bound))

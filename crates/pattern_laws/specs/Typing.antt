@@ -1,6 +1,6 @@
 -- What a value of some indices is at a point, and what the types are that values carry in the checked meaning.
-use Rattle.std.specs.Prelude.{◌≡◌, ℕ, suc, pos, true, List, [], ◌∷◌, Some}
-use Rattle.sail_types.specs.Belongs.{Reading as Closed}
+use Rattle.std.specs.Prelude.{◌≡◌, ℕ, suc, pos, true, List, [], ◌∷◌, map, Some}
+use Rattle.sail_types.specs.Belongs.{Reading as Closed, assigned, belongs, reading}
 use Rattle.sail_types.specs.Named.{payload as payload_type}
 use Rattle.sail_types.specs.Numbers.{Positive, number}
 use Rattle.sail_types.specs.declared.numbers.Index.{Index}
@@ -28,7 +28,7 @@ use Rattle.pattern_leaves.specs.Payloads.{payload_readings}
 use Rattle.pattern_leaves.specs.declared.names.Bound.{Bound}
 use Rattle.pattern_leaves.specs.declared.names.Held.{Held}
 use Rattle.pattern_leaves.specs.declared.names.Held.TheVariants as H
-use Rattle.value_laws.specs.Belonging.{Integers, standing, meant, has}
+use Rattle.value_laws.specs.Belonging.{Integers, closed, closeds, standing, meant, has}
 use Rattle.pattern_laws.specs.Beside.{OfSizes}
 use Rattle.value_laws.specs.Known.{Point, Agree}
 
@@ -40,6 +40,11 @@ EachFits types fits s k (i ∷ is) = fits i (part_typ types (component k) s) × 
 abbrev pub EachReads : Types → (Reading → Sized → Type 0) → Sized → ℕ → List Reading → Type 0
 EachReads types reads s k [] = Unit {0}
 EachReads types reads s k (r ∷ rs) = reads r (part_typ types (component k) s) × EachReads types reads s (suc k) rs
+
+-- a value that belongs to a type under what the variables of a named type stand for
+pub record IsThere (types : Types) (past : Positive) (own : List Closed) (g : Integers) (t : Typ) (is : List Index) (rs : List Reading) : Type 0 where
+  pub value : Value
+  pub belongs_to : belongs types value (reading t (assigned (standing past g) is) (closeds (map (closed types (standing past g) own) rs))) ≡ true
 
 -- which types values carry, of indices and of types of the walk: parts keep it
 pub record IsKept (types : Types) (past : Positive) (own : List Closed) (fit : OfSizes) (fits : Integers → Indices → Sized → Type 0)
@@ -53,7 +58,7 @@ pub record IsKept (types : Types) (past : Positive) (own : List Closed) (fit : O
   pub list_item : (g : Integers) (r : Reading) (s : Sized) → fits g (I.List r) s → reads g r (part_typ types one_item s)
   pub vector_item : (g : Integers) (t : Num) (r : Reading) (s : Sized) → fits g (I.Vector t r) s → reads g r (part_typ types one_item s)
   pub of_union : (g : Integers) (u c : ℕ) (is : List Index) (rs : List Reading) (s : Sized) (t : Typ) → payload_type types u c ≡ Some t
-      → fits g (I.Named u is rs) s → reads g (R.Of t is rs) (part_typ types (payload u c) s)
+      → IsThere types past own g t is rs → fits g (I.Named u is rs) s → reads g (R.Of t is rs) (part_typ types (payload u c) s)
   pub of_tuple : (g : Integers) (t : Typ) (ts : List Typ) (is : List Index) (rs : List Reading) (s : Sized) → out-Typ t ≡ T.Tuple ts
       → reads g (R.Of t is rs) s → EachReads types (reads g) s 0 (payload_readings ts is rs)
   -- a part of bits whose size fits: that is a number from 0 on, none past the limits on the way to it
