@@ -43,21 +43,21 @@ use Rattle.soundness_forms.proofs.Growth.{grows_wrong}
 
 -- ---- behind a walk that gives what is known
 
-abbrev Gives : {A : Type 0} → (A → Type 0) → Walk A → Type 0
+abbrev pub Gives : {A : Type 0} → (A → Type 0) → Walk A → Type 0
 Gives P w = (facts : List Fact) (n : ℕ) → P (w facts n).value
 
-gives_back : {A : Type 0} (P : A → Type 0) (a : A) → P a → Gives P (give a)
+pub gives_back : {A : Type 0} (P : A → Type 0) (a : A) → P a → Gives P (give a)
 unfolding give
 gives_back P a h facts n = h
 
-gives_bind : {A B : Type 0} (P : A → Type 0) (T : B → Type 0) (w : Walk A) (k : A → Walk B) → Gives P w → ((a : A) → P a → Gives T (k a)) → Gives T (bind w k)
+pub gives_bind : {A B : Type 0} (P : A → Type 0) (T : B → Type 0) (w : Walk A) (k : A → Walk B) → Gives P w → ((a : A) → P a → Gives T (k a)) → Gives T (bind w k)
 unfolding bind
 gives_bind P T w k h next facts n = next (w facts n).value (h facts n) (w facts n).facts (w facts n).next
 
-any : {A : Type 0} (w : Walk A) → Gives (λ a. Unit {0}) w
+pub any : {A : Type 0} (w : Walk A) → Gives (λ a. Unit {0}) w
 any w facts n = tt
 
-grows_bind_at : {A B : Type 0} (P : A → Type 0) (w : Walk A) (k : A → Walk B) → Gives P w → Grows w → ((a : A) → P a → Grows (k a)) → Grows (bind w k)
+pub grows_bind_at : {A B : Type 0} (P : A → Type 0) (w : Walk A) (k : A → Walk B) → Gives P w → Grows w → ((a : A) → P a → Grows (k a)) → Grows (bind w k)
 unfolding bind
 grows_bind_at P w k p h next = record {
   onward = λ facts n.
@@ -85,7 +85,7 @@ width_grows : (high low : Num) → Grows (with_width high low)
 width_grows high low = grows_bind (number_or_fresh (slice_width high low)) (λ w. give (Some (ends high low w))) (number_or_fresh_grows (slice_width high low))
     (λ w. grows_give (Some (ends high low w)))
 
-none_grows : {A : Type 0} (place : Place) → Grows (bind (wrong place) (λ t. give {A = Option A} None))
+pub none_grows : {A : Type 0} (place : Place) → Grows (bind (wrong place) (λ t. give {A = Option A} None))
 none_grows place = grows_bind (wrong place) (λ t. give None) (grows_owe place (Some (C.Truth false) ∷ [])) (λ t. grows_give None)
 
 form_grows : (place : Place) (form : Indices-F Indices Reading) → Grows (number_form place form)
@@ -149,7 +149,7 @@ module _ (around : Around) (i : Indices) where
   reached_grows Y.Slice (n ∷ []) = grows_give None
   reached_grows Y.Slice (n ∷ m ∷ l ∷ ns) = grows_give None
 
-if_never_grows : (place : Place) (b : Bool) → Grows (if b then never_value else wrong_value place)
+pub if_never_grows : (place : Place) (b : Bool) → Grows (if b then never_value else wrong_value place)
 if_never_grows place true = grows_give I.Never
 if_never_grows place false = grows_wrong place
 
@@ -177,7 +177,7 @@ module _ (around : Around) (scope : Scope) where
   PassedGrow None = Unit {0}
   PassedGrow (Some t) = AllGrow around scope t.left
 
-  way_taken_grows : (i : Indices) (way : Way) (left : List Part) (o : Option (List Num)) → Grows (way_taken around i way left o)
+  pub way_taken_grows : (i : Indices) (way : Way) (left : List Part) (o : Option (List Num)) → Grows (way_taken around i way left o)
   way_taken_grows i way left None = grows_give None
   way_taken_grows i way left (Some ns) = grows_bind (reached_by around i way ns) (λ x. give (taken x left)) (reached_grows around i way ns) (λ x.
       grows_give (taken x left))
@@ -205,7 +205,7 @@ module _ (around : Around) (scope : Scope) where
         (any (numbers_walk (take (indexes_of way) parts) around scope)) (λ o u.
         way_taken_gives i way (drop (indexes_of way) parts) (left_grow around scope (indexes_of way) parts h) o)
 
-    way_grows : Grows (way_walk place parts around scope i way)
+    pub way_grows : Grows (way_walk place parts around scope i way)
     way_grows = by_grows (nat_lt (length parts) (indexes_of way))
 
     way_gives : Gives TakenGrow (way_walk place parts around scope i way)

@@ -11,6 +11,7 @@ use Rattle.sail_types.specs.declared.numbers.Num.{Num}
 use Rattle.sail_types.specs.declared.types.Typ.TheVariants as U
 use Rattle.sail_types.proofs.Substituted.{number_constant}
 use Rattle.sail_types.proofs.SumNumbers.{difference_number, sum_number_is, then_parts}
+use Rattle.sail_types.specs.declared.values.Value.{Value}
 use Rattle.sail_core.specs.Meaning.{taken}
 use Rattle.sail_core.specs.Values.{slice_way}
 use Rattle.value_indices.specs.declared.indices.Indices.{Indices, out-Indices, roll-Indices}
@@ -38,7 +39,7 @@ use Rattle.way_laws.proofs.Parts.{bits_in, bits_type}
 use Rattle.way_laws.proofs.Slices.{slice_there}
 use Rattle.soundness_steps.specs.Works.{Scene}
 use Rattle.soundness_steps.specs.Steps.{Beside, Walks}
-use Rattle.soundness_steps.specs.Values.{Is, IsSteady}
+use Rattle.soundness_steps.specs.Values.{Has, Is, IsSteady}
 use Rattle.soundness_steps.proofs.Steps.{given_back, known_walk, walks_mean, walks_on}
 use Rattle.soundness_forms.proofs.Basics.{has_there}
 use Rattle.soundness_parts.proofs.Indexes.{Counts}
@@ -115,10 +116,10 @@ small_width a b k low high few =
 is_at_most : (a b : ℕ) → nat_le a b ≡ true → a ≤ b
 is_at_most a b h = grind (arith, nat_tests)
 
-module _ (q : Scene) {n : ℕ} {f : Point n} (place : Place) (k : ℕ) (i : Indices) (x : Item) (h : Is q.set q.work f i x)
+module _ (q : Scene) {n : ℕ} {f : Point n} (i : Indices) (v : Value) (h : Has q.set q.work f i v)
     (high low width : Num) (y u : Item) (hi lo : ℤ) (is_high : Counts q f high y hi) (is_low : Counts q f low u lo) (wide : IsWide q f width (width_of hi lo)) where
-  pub slice_steady : IsSteady q.set q.work f (R.Widened (I.Bits width))
-  slice_steady g a =
+  pub found_steady : IsSteady q.set q.work f (R.Widened (I.Bits width))
+  found_steady g a =
       bits_type q.set.around.types (standing q.set.past g) q.work.types width
       ∙ ((λ j. plain (standing q.set.past g) (U.Bits (constant ((wide.same g a ∙ sym (wide.same f.integers (same f))) j))) [])
       ∙ sym (bits_type q.set.around.types (standing q.set.past f.integers) q.work.types width))
@@ -128,7 +129,7 @@ module _ (q : Scene) {n : ℕ} {f : Point n} (place : Place) (k : ℕ) (i : Indi
       → is_small (width_of hi lo) ≡ true
   right_width m is g a met =
       let mu = standing q.set.past g in
-      let held = bits_in q.set.around.types mu q.work.types i m x.val is (has_there h.has g a) in
+      let held = bits_in q.set.around.types mu q.work.types i m v is (has_there h g a) in
       let inside = slice_inside mu high low m met in
       let above = natural_inside (number mu high) (length held.0) (not_below (number mu low) (number mu high) inside.0 inside.1)
       (ap (int_lt (number mu high)) held.2 ∙ inside.2) in
@@ -137,17 +138,28 @@ module _ (q : Scene) {n : ℕ} {f : Point n} (place : Place) (k : ℕ) (i : Indi
       ∙ small_width above.0 under.0 (length held.0) under.2 above.2 (is_at_most (length held.0) 128 held.3)
 
   -- the part, of the type that the walk says
-  abbrev pub slice_reached : Num → Reached
-  slice_reached m = record { conditions = inside_slice high low m; numbers = high ∷ low ∷ []; typ = R.Widened (I.Bits width) }
+  abbrev pub found_reached : Num → Reached
+  found_reached m = record { conditions = inside_slice high low m; numbers = high ∷ low ∷ []; typ = R.Widened (I.Bits width) }
 
-  pub slice_part : (m : Num) → roll-Indices (W.Bits m) ≡ i → HasThere q f i x.val (slice_reached m) (slice_way hi lo)
-  slice_part m is = λ g a met.
+  pub slice_found : (m : Num) → roll-Indices (W.Bits m) ≡ i → HasThere q f i v (found_reached m) (slice_way hi lo)
+  slice_found m is = λ g a met.
       let mu = standing q.set.past g in
       let wide_there : number mu width ≡ (number mu high -ℤ number mu low) +ℤ pos 1 =
       wide.same g a ∙ (wide.right (right_width m is g a met) ∙ (λ j. width_of (sym (is_high.same g a) j) (sym (is_low.same g a) j))) in
-      subst (λ c. HasPart q.set.around.types mu q.work.types i x.val (R.Widened (I.Bits width)) (slice_way c lo)) (is_high.same g a)
-      (subst (λ c. HasPart q.set.around.types mu q.work.types i x.val (R.Widened (I.Bits width)) (slice_way (number mu high) c)) (is_low.same g a)
-      (slice_there q.set.around.types mu q.work.types i x.val high low width m wide_there is (has_there h.has g a) met))
+      subst (λ c. HasPart q.set.around.types mu q.work.types i v (R.Widened (I.Bits width)) (slice_way c lo)) (is_high.same g a)
+      (subst (λ c. HasPart q.set.around.types mu q.work.types i v (R.Widened (I.Bits width)) (slice_way (number mu high) c)) (is_low.same g a)
+      (slice_there q.set.around.types mu q.work.types i v high low width m wide_there is (has_there h g a) met))
+
+module _ (q : Scene) {n : ℕ} {f : Point n} (place : Place) (k : ℕ) (i : Indices) (x : Item) (h : Is q.set q.work f i x)
+    (high low width : Num) (y u : Item) (hi lo : ℤ) (is_high : Counts q f high y hi) (is_low : Counts q f low u lo) (wide : IsWide q f width (width_of hi lo)) where
+  pub slice_steady : IsSteady q.set q.work f (R.Widened (I.Bits width))
+  slice_steady = found_steady q i x.val h.has high low width y u hi lo is_high is_low wide
+
+  abbrev pub slice_reached : Num → Reached
+  slice_reached m = found_reached q i x.val h.has high low width y u hi lo is_high is_low wide m
+
+  pub slice_part : (m : Num) → roll-Indices (W.Bits m) ≡ i → HasThere q f i x.val (slice_reached m) (slice_way hi lo)
+  slice_part m is = slice_found q i x.val h.has high low width y u hi lo is_high is_low wide m is
 
   slice_by : {facts : List Fact} (w : Indices-F Indices Reading) → roll-Indices w ≡ i
       → Beside q n f facts (taken_out place k i (into_slice high low width w)) (taken (z q) k (slice_way hi lo) x (y ∷ u ∷ [])) (λ m g j v. Is q.set q.work g j v)

@@ -10,16 +10,15 @@ use Rattle.sail_core.specs.Values.{item_way, slice_way}
 use Rattle.sail_core.specs.declared.targets.Way.TheVariants as Y
 use Rattle.sail_core.specs.declared.tree.Kind.TheVariants as K
 use Rattle.value_indices.specs.Steps.{bind, give}
-use Rattle.value_indices.specs.declared.indices.Indices.{Indices, fold-roll-Indices, out-Indices, roll-Indices}
+use Rattle.value_indices.specs.declared.indices.Indices.{Indices, out-Indices, roll-Indices}
 use Rattle.value_indices.specs.declared.indices.Indices.TheOpen as W
 use Rattle.value_indices.specs.declared.indices.Indices.TheOpen.{Indices-F}
 use Rattle.value_indices.specs.declared.indices.Indices.TheVariants as I
 use Rattle.value_indices.specs.declared.indices.Indices.TheViews.{roll-out-Indices}
 use Rattle.value_indices.specs.declared.indices.Reading.{Reading}
-use Rattle.value_indices.specs.declared.indices.Reading.TheVariants as R
 use Rattle.value_indices.specs.declared.notes.Fact.{Fact}
 use Rattle.pattern_leaves.specs.Settings.{Scope}
-use Rattle.call_arguments.specs.Holes.{has_hole, type_holed, value_has_hole, value_holed}
+use Rattle.call_arguments.specs.Holes.{has_hole}
 use Rattle.call_arguments.specs.declared.aims.Aim.{Aim}
 use Rattle.call_arguments.specs.declared.aims.Aim.TheVariants as Aims
 use Rattle.expression_forms.specs.Ways.{into_item, into_slice}
@@ -29,7 +28,6 @@ use Rattle.expression_steps.specs.Parts.{Part, numbers_walk}
 use Rattle.expression_steps.specs.Values.{numbers_updated, update_walk, updated}
 use Rattle.checked_meaning.specs.Items.{Item}
 use Rattle.value_laws.specs.Known.{Point}
-use Rattle.fitting_laws.proofs.Holes.{widened_full}
 use Rattle.soundness_steps.specs.Works.{Scene, here}
 use Rattle.soundness_steps.specs.Steps.{Beside, Walks}
 use Rattle.soundness_steps.specs.Values.{AimSteady, Comes, Is}
@@ -43,17 +41,9 @@ use Rattle.soundness_forms.proofs.Worlds.{surrounds_on}
 use Rattle.soundness_parts.proofs.HoledItems.{item_updated}
 use Rattle.soundness_parts.proofs.Slices.{slice_part, slice_reached, slice_steady}
 use Rattle.soundness_parts.proofs.SliceSteps.{OneTested, Ranges, Tests, TwoTested, one_test, pairs, pairs_then, range_walks, tests_on, two_tests, under}
-use Rattle.soundness_parts.proofs.Suffixes.{bit_reached, bit_part, bit_steady, item_part, item_reached, items_steady, unreached}
+use Rattle.soundness_parts.proofs.Suffixes.{bit_part, bit_reached, bit_steady, bit_whole, bits_whole, item_part, item_reached, items_steady, unreached}
 use Rattle.soundness_parts.proofs.Taken.{z}
 use Rattle.soundness_parts.proofs.Updates.{update_fine}
-
--- ---- types of bits have no hole
-
-bits_whole : (t : Num) → has_hole (R.Widened (I.Bits t)) ≡ false
-bits_whole t = widened_full (I.Bits t) (ap value_has_hole (sym (I.rolls-Bits t)) ∙ fold-roll-Indices Bool Bool value_holed type_holed (W.Bits t))
-
-bit_whole : has_hole (R.Widened I.Bit) ≡ false
-bit_whole = widened_full I.Bit (ap value_has_hole (sym I.rolls-Bit) ∙ fold-roll-Indices Bool Bool value_holed type_holed W.Bit)
 
 -- ---- what a node makes of the values of its parts
 

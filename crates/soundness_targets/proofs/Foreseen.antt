@@ -9,6 +9,7 @@ use Rattle.value_indices.specs.declared.notes.Fact.{Fact}
 use Rattle.value_indices.specs.declared.notes.Fact.TheVariants as Y
 use Rattle.value_indices.specs.Steps.{Conditions, Walk, bind, conditions, goals_under}
 use Rattle.value_fits.specs.Fitting.{fits, owe_fit, owe_made}
+use Rattle.value_fits.specs.declared.fitted.Fitted.{Fitted}
 use Rattle.sail_core.specs.Run.{Run}
 use Rattle.checked_meaning.specs.Checked.{Noted}
 use Rattle.checked_meaning.specs.Items.{Item}
@@ -18,7 +19,7 @@ use Rattle.value_laws.proofs.Steps.{same}
 use Rattle.soundness_steps.proofs.Points.{agree_on}
 use Rattle.soundness_steps.specs.Works.{Scene}
 use Rattle.soundness_steps.specs.Noted.{with_given}
-use Rattle.soundness_steps.specs.Steps.{AllMet, Beside, Stands}
+use Rattle.soundness_steps.specs.Steps.{AllMet, Beside, Reach, Stands, Walks}
 use Rattle.soundness_steps.specs.Values.{Belongs, Has, IsWanted}
 use Rattle.soundness_steps.proofs.Steps.{met_behind}
 use Rattle.soundness_forms.specs.Forms.{FitsSuffice}
@@ -42,7 +43,7 @@ given_none : (vs : List ℕ) (gs : List Fact) → conditions (map Y.IsGiven vs +
 given_none [] gs = refl
 given_none (v ∷ vs) gs = given_none vs gs
 
-conditions_given : (fs : List Fact) (vs : List ℕ) (gs : List Fact) → conditions (with_given fs vs ++ gs) ≡ conditions (fs ++ gs)
+pub conditions_given : (fs : List Fact) (vs : List ℕ) (gs : List Fact) → conditions (with_given fs vs ++ gs) ≡ conditions (fs ++ gs)
 conditions_given [] vs gs = given_none vs gs
 conditions_given (Y.Holds c ∷ fs) vs gs = ap (λ cs. c ∷ cs) (conditions_given fs vs gs)
 conditions_given (Y.IsGiven v ∷ fs) vs gs = conditions_given fs vs gs
@@ -64,3 +65,13 @@ fits_before fit q {n} f facts place i r v vs has wanted noted stands met =
     λ g a. ap (belongs q.set.around.types v)
     (wanted.0 g a ∙ sym (wanted.0 reached.point.integers (agree_on reached.later (same reached.point))))
     ∙ reached.holds reached.point.integers (same reached.point)
+
+-- what is owed where more numbers are given, as before
+pub owed_before : (q : Scene) {n : ℕ} (f : Point n) (facts later : List Fact) (place : Place) (made : ℕ → Fitted) {Holds : (m : ℕ) → Point m → Type 0}
+    → ((more : List Fact) → conditions (later ++ more) ≡ conditions (facts ++ more)) → Walks q n f facts (owe_fit place made) (λ m g t. Holds m g)
+    → (noted : Noted) → Stands q.set q.work noted f facts → AllMet q (owe_fit place made later n).notes
+    → Reach q.set q.work noted f (made n).next (facts ++ (made n).facts) (λ p. Holds (made n).next p)
+unfolding owe_fit owe_made
+owed_before q {n} f facts later place made same_conditions walks noted stands met =
+    walks.go noted stands
+    (goals_alike q (later ++ (made n).facts) (facts ++ (made n).facts) place (made n).conditions (sym (same_conditions (made n).facts)) met)

@@ -1,18 +1,20 @@
 -- `x = e` and `R = e` beside their runs.
-use Rattle.std.proofs.Common.{◌≡◌, ℕ, Bool, true, false, List, [], ◌∷◌, refl, sym, ap, ◌∙◌, subst}
+use Rattle.std.proofs.Common.{◌≡◌, ℕ, Bool, true, false, List, [], ◌∷◌, if◌then◌else◌, refl, sym, ap, ◌∙◌, subst}
 use Rattle.sail_base.specs.declared.place.Place.{Place}
 use Rattle.sail_core.specs.Making.{made}
 use Rattle.sail_core.specs.Run.{Run, gives, ◌then◌}
 use Rattle.value_indices.specs.declared.indices.Indices.{Indices}
 use Rattle.value_indices.specs.declared.indices.Indices.TheOpen as W
-use Rattle.value_indices.specs.declared.indices.Indices.TheOpen.{Indices-F, Reading-F}
+use Rattle.value_indices.specs.declared.indices.Indices.TheOpen.{Reading-F}
 use Rattle.value_indices.specs.declared.indices.Indices.TheVariants as I
+use Rattle.value_indices.specs.declared.indices.Indices.TheViews.{out-roll-Reading, roll-out-Reading}
 use Rattle.value_indices.specs.declared.indices.Reading.{Reading, fold-roll-Reading, out-Reading, roll-Reading}
-use Rattle.value_indices.specs.declared.indices.Indices.TheViews.{roll-out-Reading}
+use Rattle.value_indices.specs.declared.indices.Reading.TheVariants as R
 use Rattle.value_indices.specs.declared.notes.Fact.{Fact}
 use Rattle.value_indices.specs.declared.notes.Made.TheVariants as Makes
 use Rattle.value_indices.specs.Steps.{Walk, bind, give, note}
 use Rattle.value_fits.specs.Fitting.{fits, owe_fit, says}
+use Rattle.call_arguments.specs.Aims.{aimed, is_hole_form}
 use Rattle.call_arguments.specs.Holes.{has_hole, type_holed, value_holed}
 use Rattle.call_arguments.specs.declared.aims.Aim.TheVariants as Aims
 use Rattle.call_notes.specs.Ends.{fits_unless}
@@ -37,7 +39,7 @@ use Rattle.soundness_fits.proofs.Owing.{suffices_walks}
 use Rattle.soundness_targets.proofs.Foreseen.{fits_before, foresees}
 
 -- a type without a hole is noted as it is
-hole_made : (r : Reading) (i : Indices) (x : Reading-F Indices Reading) → out-Reading r ≡ x → has_hole r ≡ false → form_made x r i ≡ Makes.ByType r
+pub hole_made : (r : Reading) (i : Indices) (x : Reading-F Indices Reading) → out-Reading r ≡ x → has_hole r ≡ false → form_made x r i ≡ Makes.ByType r
 hole_made r i (W.Of t is rs) e h = refl
 hole_made r i (W.Widened j) e h = refl
 hole_made r i (W.Parts rs) e h = refl
@@ -101,3 +103,7 @@ module _ (fit : FitsSuffice) (q : Scene) (place : Place) (k : ℕ) (name : List 
         subst (λ b. Beside q m g fs (owed_answer place b) (set y) (λ d p j u. Is q.set q.work p j u)) (sym e.0)
         (walks_then (λ t. give I.Unit) (owed_walks l) (λ d p gs t l2 u.
         sets d p gs y (later_on l l2) e.1 (subst (λ v. Belongs q.set q.work f r v) (sym e.1) is_so)))))
+
+-- nothing is wanted of no type
+pub none_aimed : aimed Aims.Given R.Hole ≡ Aims.Free
+none_aimed = ap (λ x. if is_hole_form x then Aims.Free else Aims.Given R.Hole) (ap out-Reading (sym R.rolls-Hole) ∙ out-roll-Reading W.Hole)

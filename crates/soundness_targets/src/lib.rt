@@ -3,4 +3,4 @@
 
 mod laws;
 
-pub use laws::{names_are_assigned, registers_are_assigned};
+pub use laws::assignments_are_fine;

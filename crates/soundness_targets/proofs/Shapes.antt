@@ -1,0 +1,85 @@
+-- Which targets are names and parts of names.
+use Rattle.std.proofs.Common.{◌≡◌, ℕ, List, [], ◌∷◌, map, refl, sym, subst}
+use Rattle.sail_base.specs.declared.place.Place.{Place}
+use Rattle.sail_core.specs.declared.targets.Suffix.{Suffix}
+use Rattle.sail_core.specs.declared.targets.Target.{Target, Target-F, fold-roll-Target, ind-Target, map-Target, roll-Target}
+use Rattle.sail_core.specs.declared.targets.TargetKind.{TargetKind}
+use Rattle.sail_core.specs.declared.targets.TargetKind.TheVariants as T
+use Rattle.soundness_targets.specs.Plain.{Shape, a_name, a_part, another, shape, shape_form}
+
+-- a target without targets inside it
+abbrev pub target : Place → ℕ → TargetKind → Target
+target place k kind = roll-Target (record { place = place; number = k; kind = kind; parts = [] })
+
+abbrev pub IsName : TargetKind → Type 0
+IsName (T.Variable name) = Unit {0}
+IsName (T.Register i) = Unit {0}
+IsName kind = ⊥
+
+-- a name
+pub record NameIs (t : Target) : Type 0 where
+  pub place : Place
+  pub number : ℕ
+  pub kind : TargetKind
+  pub is_name : IsName kind
+  pub same : t ≡ target place number kind
+
+-- a part of a name
+pub record PartIs (t : Target) : Type 0 where
+  pub place : Place
+  pub number : ℕ
+  pub suffixes : List Suffix
+  pub base : Target
+  pub is_name : NameIs base
+  pub same : t ≡ roll-Target (record { place = place; number = number; kind = T.Part suffixes; parts = base ∷ [] })
+
+-- what its shape says
+abbrev pub ShapeIs : Target → Shape → Type 0
+ShapeIs t a_name = NameIs t
+ShapeIs t a_part = PartIs t
+ShapeIs t another = Unit {0}
+
+abbrev Shaped : Target → Type 0
+Shaped t = ShapeIs t (shape t)
+
+abbrev Such : Type 0
+Such = (t : Target) × Shaped t
+
+abbrev targets_of : List Such → List Target
+targets_of ys = map (λ (y : Such). y.0) ys
+
+module _ (at : Place) (k : ℕ) where
+  abbrev made_of : TargetKind → List Such → Target
+  made_of kind ys = roll-Target (record { place = at; number = k; kind = kind; parts = targets_of ys })
+
+  part_by : (ss : List Suffix) (t : Target) (c : Shape) → ShapeIs t c
+      → ShapeIs (roll-Target (record { place = at; number = k; kind = T.Part ss; parts = t ∷ [] })) (shape_form (T.Part ss) (c ∷ []))
+  part_by ss t a_name h = record { place = at; number = k; suffixes = ss; base = t; is_name = h; same = refl }
+  part_by ss t a_part h = tt
+  part_by ss t another h = tt
+
+  -- of more than one target nothing is a part
+  more_by : (ss : List Suffix) (ts : List Target) (c d : Shape) (cs : List Shape)
+      → ShapeIs (roll-Target (record { place = at; number = k; kind = T.Part ss; parts = ts })) (shape_form (T.Part ss) (c ∷ d ∷ cs))
+  more_by ss ts a_name d cs = tt
+  more_by ss ts a_part d cs = tt
+  more_by ss ts another d cs = tt
+
+  form_by : (kind : TargetKind) (ys : List Such) → ShapeIs (made_of kind ys) (shape_form kind (map shape (targets_of ys)))
+  form_by (T.Variable name) [] = record { place = at; number = k; kind = T.Variable name; is_name = tt; same = refl }
+  form_by (T.Register i) [] = record { place = at; number = k; kind = T.Register i; is_name = tt; same = refl }
+  form_by (T.Part ss) (y ∷ []) = part_by ss y.0 (shape y.0) y.1
+  form_by (T.Part ss) [] = tt
+  form_by (T.Part ss) (y ∷ x ∷ ys) = more_by ss (y.0 ∷ x.0 ∷ targets_of ys) (shape y.0) (shape x.0) (map shape (targets_of ys))
+  form_by (T.Variable name) (y ∷ ys) = tt
+  form_by (T.Register i) (y ∷ ys) = tt
+  form_by T.Tuple ys = tt
+  form_by (T.Call count reader writer) ys = tt
+
+step : (y : Target-F Such) → Shaped (roll-Target (map-Target Such Target (λ p. p.0) y))
+step y =
+    subst (ShapeIs (made_of y.place y.number y.kind y.parts))
+    (sym (fold-roll-Target Shape (λ t. shape_form t.kind t.parts) (map-Target Such Target (λ p. p.0) y))) (form_by y.place y.number y.kind y.parts)
+
+pub shape_is : (t : Target) → ShapeIs t (shape t)
+shape_is = ind-Target Shaped (λ e y same_form. subst (λ d. Shaped (roll-Target d)) same_form (step y))
