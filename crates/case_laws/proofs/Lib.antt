@@ -1,3 +1,3 @@
 mod Taken
-mod Under
+pub mod Under
 mod Present

@@ -80,6 +80,7 @@ present_cases past f r facts noted operands made so whole =
     at.is_there at.are_there in
     record {
       picked = at.picked;
+      is_in = at.is_there;
       are = at.are;
       is_there = ap (present_case noted) (cases_as r operands made pss)
           ∙ (found.is_there ∙ ap (λ (c : Case). Some c) (case_is r operands made at.picked found.it found.is));
@@ -111,6 +112,7 @@ present_leads past f r list facts noted operands g js qs so whole =
     alike whole at.is_there at.are_there in
     record {
       picked = at.picked;
+      is_in = at.is_there;
       are = at.are;
       lead = found.it;
       is = found.is;

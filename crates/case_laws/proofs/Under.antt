@@ -53,7 +53,7 @@ chosen P true true x o y p more h = subst P (some_alike x y h) p
 chosen P true false x o y p more h = more h
 chosen P false c x o y p more h = none h
 
-present_is : {A : Type 0} (picks : A → List Picked) (noted : Noted) (P : A → Type 0) (xs : List A) (y : A) → Each P xs
+pub present_is : {A : Type 0} (picks : A → List Picked) (noted : Noted) (P : A → Type 0) (xs : List A) (y : A) → Each P xs
     → present picks noted xs ≡ Some y → P y
 present_is picks noted P [] y e h = none h
 present_is picks noted P (x ∷ xs) y e h =

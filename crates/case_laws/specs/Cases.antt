@@ -12,7 +12,7 @@ use Rattle.size_values.specs.declared.constants.Picked.{Picked}
 use Rattle.size_values.specs.Numbers.{known_of}
 use Rattle.value_laws.specs.Belonging.{Integers, standing}
 use Rattle.value_laws.specs.Known.{AllTrue}
-use Rattle.split_laws.specs.Counted.{Agrees, AreTaken}
+use Rattle.split_laws.specs.Counted.{Agrees, AreTaken, IsIn}
 use Rattle.monomorph.specs.declared.found.Instance.{Instance}
 use Rattle.monomorph.specs.Reading.{Inside}
 use Rattle.checked_meaning.specs.Checked.{Noted}
@@ -38,7 +38,9 @@ abbrev pub has_all_cases : Inside → List Fact → List Indices → Made → Bo
 has_all_cases r facts operands made = list_all (has_case r operands made) (combinations_at r facts)
 
 pub record HasPresentCase (r : Inside) (facts : List Fact) (operands : List Indices) (made : Made) (noted : Noted) (f : Integers) : Type 0 where
+  -- one of the combinations by which its cases are told apart
   pub picked : List Picked
+  pub is_in : IsIn picked (combinations_at r facts)
   pub are : AreTaken f picked
   pub is_there : present_case noted (node_cases r facts operands made) ≡ Some (case_of r operands made picked)
 
@@ -56,7 +58,9 @@ has_all_leads r list facts operands g js qs = list_all (has_lead r list operands
 
 pub record HasPresentLead (r : Inside) (list : List Instance) (facts : List Fact) (operands : List Indices) (g : ℕ) (js : List Index)
     (qs : List Reading) (noted : Noted) (f : Integers) : Type 0 where
+  -- one of the combinations by which its cases are told apart
   pub picked : List Picked
+  pub is_in : IsIn picked (combinations_at r facts)
   pub are : AreTaken f picked
   pub lead : Lead
   pub is : lead_under r list operands g js qs picked ≡ Some lead

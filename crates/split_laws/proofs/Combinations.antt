@@ -23,7 +23,7 @@ known_number : (o : Option ℤ) (v : ℕ) (z : ℤ) → number_in (or_open v o) 
 known_number None v z h = none h
 known_number (Some x) v z h = h
 
-at_agrees : (f : Integers) (k : Known) → Agrees k f → (v : ℕ) (z : ℤ) → number_in (known_at k v) ≡ Some z → f v ≡ z
+pub at_agrees : (f : Integers) (k : Known) → Agrees k f → (v : ℕ) (z : ℤ) → number_in (known_at k v) ≡ Some z → f v ≡ z
 at_agrees f k a v z h = a v z (known_number (k v) v z h)
 
 one_picked : (f : Integers) (p : Picked) (k : Known) (v : ℕ) (z : ℤ) (b : Bool) → nat_eq p.variable v ≡ b → f p.variable ≡ p.number
@@ -31,7 +31,7 @@ one_picked : (f : Integers) (p : Picked) (k : Known) (v : ℕ) (z : ℤ) (b : Bo
 one_picked f p k v z true e t more h = ap f (sym ((Decides-eqb p.variable v).0 e)) ∙ (t ∙ some_same p.number z h)
 one_picked f p k v z false e t more h = more h
 
-picked_agrees : (f : Integers) (k : Known) → Agrees k f → (ps : List Picked) → AreTaken f ps → Agrees (with_picked k ps) f
+pub picked_agrees : (f : Integers) (k : Known) → Agrees k f → (ps : List Picked) → AreTaken f ps → Agrees (with_picked k ps) f
 picked_agrees f k a [] t v z h = a v z h
 picked_agrees f k a (p ∷ ps) t v z h =
     one_picked f p (with_picked k ps) v z (nat_eq p.variable v) refl (t.0) (λ e. picked_agrees f k a ps (t.1) v z e) h

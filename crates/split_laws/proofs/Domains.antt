@@ -44,7 +44,7 @@ behind_one x (Some ws) zs h = (ws, refl, some_same (x ∷ ws) zs h)
 
 -- ---- ranges
 
-le_true : (x y : ℤ) → int_le x y ≡ true → x ≤ℤ y
+pub le_true : (x y : ℤ) → int_le x y ≡ true → x ≤ℤ y
 le_true x y h = omega (arith, ints, h)
 
 by_order : (w x : ℤ) (b : Bool) → int_lt x w ≡ b → x ≤ℤ w → (w ≡ x) ⊎ ((x +ℤ pos 1) ≤ℤ w)

@@ -1,0 +1,140 @@
+-- Arguments of a function at work come in at the types of its parameters.
+use Rattle.std.proofs.Common.{◌≡◌, ◌∙◌, ap, sym, refl, subst, ℕ, zero, suc, ◌+◌, ◌<◌, ℤ, true, ◌&&◌, List, [], ◌∷◌, map, length, arith}
+use Rattle.std.specs.Prelude.{Option, Some, None, option_map}
+use Rattle.std.specs.List.{list_all}
+use Rattle.std.proofs.lemmas.Bool.{and_parts}
+use Rattle.std.proofs.lemmas.Bool.Decides.{Decides-int_eq}
+use Rattle.sail_base.specs.declared.kind.Kind.{Kind}
+use Rattle.sail_base.specs.declared.kind.Kind.TheVariants as K
+use Rattle.sail_types.specs.Belongs.{assigned, belongs}
+use Rattle.sail_types.specs.Numbers.{Positive}
+use Rattle.sail_types.specs.Places.{an_int}
+use Rattle.sail_types.specs.declared.table.Parameter.{Parameter}
+use Rattle.sail_types.specs.declared.table.Types.{Types}
+use Rattle.sail_types.specs.declared.types.Typ.{Typ}
+use Rattle.sail_types.specs.declared.values.Value.{Value}
+use Rattle.sail_core.specs.Numbers.{agrees, all_agree}
+use Rattle.sail_core.specs.declared.model.Function.{Function}
+use Rattle.value_indices.specs.declared.indices.Indices.TheOpen as W
+use Rattle.value_indices.specs.declared.indices.Reading.TheVariants as R
+use Rattle.value_laws.specs.Belonging.{Integers, over, standing}
+use Rattle.value_laws.proofs.Basics.{no, two}
+use Rattle.value_laws.proofs.Values.{closed_is}
+use Rattle.size_values.specs.Numbers.{known_of, number_in, or_open}
+use Rattle.size_values.specs.Sized.{reading_sized, sized_eq}
+use Rattle.size_laws.proofs.Opening.{opening_keeps_sizes}
+use Rattle.sized_trees.specs.Trees.{all_sized_for, constants_of, sized_for}
+use Rattle.sized_meanings.specs.Fits.{all_have_sizes, has_sizes}
+use Rattle.soundness_steps.specs.Works.{Setting, Work}
+use Rattle.soundness_steps.specs.Noted.{OpensAs, known}
+use Rattle.soundness_steps.specs.Calls.{AllBelong, given_of, givens_at}
+use Rattle.soundness_calls.specs.Premises.{AllMade, OwnSame, own_of, own_type}
+use Rattle.exact_sizes.specs.Exact.{reading_passes, reading_settles}
+use Rattle.exact_sizes.specs.Laws.{More, Stands}
+use Rattle.exact_sizes.proofs.Equal.{sized_same}
+use Rattle.exact_sizes.proofs.Had.{values_fit}
+use Rattle.exact_sizes.proofs.Known.{none}
+use Rattle.exact_sizes.proofs.Settling.{types_settle}
+use Rattle.exact_sizes.proofs.Standing.{sizes_stand}
+use Rattle.covering_laws.specs.Covered.{known_in, parameter_tested}
+
+-- ---- the numbers of an instance are those of the function's variables
+
+one_given : (kind : Kind) (y z : ℤ) → agrees (Some (an_int y)) (given_of kind z) ≡ true → z ≡ y
+one_given K.Bool y z h = no h
+one_given kind y z h = sym ((Decides-int_eq y z).0 h)
+
+awaited_stand : (h : Integers) (k : ℕ) (zs : List (Option ℤ)) (ps : List Parameter) → all_agree (map (option_map an_int) zs) (givens_at h k ps) ≡ true
+    → (i : ℕ) (z : ℤ) → known_of zs i ≡ Some z → (h (k + i) ≡ z) × (i < length ps)
+awaited_stand h k [] ps a i z e = none e
+awaited_stand h k (o ∷ zs) [] a i z e = no a
+awaited_stand h k (None ∷ zs) (p ∷ ps) a zero z e = none e
+awaited_stand h k (Some y ∷ zs) (p ∷ ps) a zero z e =
+    let here : k + zero ≡ k = omega arith in
+    let q = and_parts (agrees (Some (an_int y)) (given_of p.kind (h k))) (all_agree (map (option_map an_int) zs) (givens_at h (suc k) ps)) a in
+    (ap h here ∙ one_given p.kind y (h k) q.0 ∙ cc e, omega arith)
+awaited_stand h k (o ∷ zs) (p ∷ ps) a (suc i) z e =
+    let further : k + suc i ≡ suc k + i = omega arith in
+    let q = and_parts (agrees (option_map an_int o) (given_of p.kind (h k))) (all_agree (map (option_map an_int) zs) (givens_at h (suc k) ps)) a in
+    let more = awaited_stand h (suc k) zs ps q.1 i z e in
+    let few : i < length ps = more.1 in
+    (ap h further ∙ more.0, omega arith)
+
+known_number : (o : Option ℤ) (v : ℕ) (z : ℤ) → number_in (or_open v o) ≡ Some z → o ≡ Some z
+known_number None v z h = none h
+known_number (Some x) v z h = h
+
+-- ---- parameters
+
+module _ (types : Types) (past : Positive) (x : Work) (f : Function) (zs : List (Option ℤ)) (h : Integers)
+    (awaited : all_agree (map (option_map an_int) zs) (givens_at h 0 f.variables) ≡ true) where
+  pub own_stands : (g : Integers) → OwnSame f h g → Stands (known_in zs) g
+  own_stands g same i z e =
+      let k = awaited_stand h 0 zs f.variables awaited i z (known_number (known_of zs i) i z e) in
+      let here : 0 + i ≡ i = omega arith in
+      sym (same i k.1) ∙ ap h (sym here) ∙ k.0
+
+  here_same : OwnSame f h h
+  here_same i less = refl
+
+  more_known : (g : Integers) → OwnSame f h g → More (known_in zs) (known g)
+  more_known g same i z e = ap (λ (y : ℤ). Some y) (own_stands g same i z e)
+
+  abbrev parts : (t : Typ) → parameter_tested types zs x.own f t ≡ true
+      → (sized_eq (sized_for types x.own (constants_of zs) t) (reading_sized types x.own (known_in zs) (own_type f t)) ≡ true)
+      × ((reading_passes types (known_in zs) (own_type f t) && reading_settles types (known_in zs) (own_type f t)) ≡ true)
+  parts t p =
+      and_parts (sized_eq (sized_for types x.own (constants_of zs) t) (reading_sized types x.own (known_in zs) (own_type f t)))
+      (reading_passes types (known_in zs) (own_type f t) && reading_settles types (known_in zs) (own_type f t)) p
+
+  abbrev sizes : (t : Typ) → parameter_tested types zs x.own f t ≡ true
+      → (reading_passes types (known_in zs) (own_type f t) ≡ true) × (reading_settles types (known_in zs) (own_type f t) ≡ true)
+  sizes t p = and_parts (reading_passes types (known_in zs) (own_type f t)) (reading_settles types (known_in zs) (own_type f t)) (parts t p).1
+
+  -- the type of the signature is the type of the walk
+  typ_is : (g : Integers) → OwnSame f h g → (t : Typ) → parameter_tested types zs x.own f t ≡ true
+      → sized_for types x.own (constants_of zs) t ≡ reading_sized types x.own (known g) (own_type f t)
+  typ_is g same t p =
+      sized_same (sized_for types x.own (constants_of zs) t) (reading_sized types x.own (known_in zs) (own_type f t)) (parts t p).0
+      ∙ (sizes_stand types x.own (known_in zs) (known g) (more_known g same)).1 (own_type f t) (sizes t p).0
+
+  one_fits : (t : Typ) → parameter_tested types zs x.own f t ≡ true → (v : Value)
+      → belongs types v (over (assigned (standing past h) (own_of f)) t x.types) ≡ true → has_sizes types v (sized_for types x.own (constants_of zs) t) ≡ true
+  one_fits t p v b =
+      ap (has_sizes types v) (typ_is h here_same t p)
+      ∙ (values_fit types past h x.types x.own (known_in zs) (own_stands h here_same)).1 (own_type f t) v (sizes t p).0
+      (ap (belongs types v) (closed_is types (standing past h) x.types (own_type f t) (W.Of t (own_of f) []) (R.rolls-Of t (own_of f) [])) ∙ b)
+
+  pub one_opens : (g : Integers) → OwnSame f h g → (t : Typ) → parameter_tested types zs x.own f t ≡ true → (v : Value)
+      → OpensAs types past x g (own_type f t) v (sized_for types x.own (constants_of zs) t)
+  one_opens g same t p v = record {
+    each = λ tells name facts n had. typ_is g same t p
+        ∙ sym (opening_keeps_sizes types x.own (known g) (own_type f t)
+        (types_settle types x.own g (known_in zs) (own_stands g same) (own_type f t) (sizes t p).1) tells name facts n);
+  }
+
+  pub all_fit_in : (ts : List Typ) → list_all (parameter_tested types zs x.own f) ts ≡ true → (vs : List Value)
+      → AllBelong types (assigned (standing past h) (own_of f)) x.types ts vs
+      → all_have_sizes types vs (all_sized_for types x.own (constants_of zs) ts) ≡ true
+  all_fit_in [] p [] b = refl
+  all_fit_in [] p (v ∷ vs) b = absurd b
+  all_fit_in (t ∷ ts) p [] b = absurd b
+  all_fit_in (t ∷ ts) p (v ∷ vs) b =
+      let q = and_parts (parameter_tested types zs x.own f t) (list_all (parameter_tested types zs x.own f) ts) p in
+      two (has_sizes types v (sized_for types x.own (constants_of zs) t)) (all_have_sizes types vs (all_sized_for types x.own (constants_of zs) ts))
+      (one_fits t q.0 v b.0) (all_fit_in ts q.1 vs b.1)
+
+-- each in a setting of these types
+pub all_made_in : (set : Setting) (types : Types) → set.around.types ≡ types → (x : Work) (f : Function) (zs : List (Option ℤ)) (h : Integers)
+    → all_agree (map (option_map an_int) zs) (givens_at h 0 f.variables) ≡ true → (g : Integers) → OwnSame f h g → (ts : List Typ)
+    → list_all (parameter_tested types zs x.own f) ts ≡ true → (vs : List Value) → AllBelong types (assigned (standing set.past h) (own_of f)) x.types ts vs
+    → AllMade set x f g ts vs (all_sized_for types x.own (constants_of zs) ts)
+all_made_in set types e x f zs h a g same [] p [] b = tt
+all_made_in set types e x f zs h a g same [] p (v ∷ vs) b = absurd b
+all_made_in set types e x f zs h a g same (t ∷ ts) p [] b = absurd b
+all_made_in set types e x f zs h a g same (t ∷ ts) p (v ∷ vs) b =
+    let q = and_parts (parameter_tested types zs x.own f t) (list_all (parameter_tested types zs x.own f) ts) p in (
+      subst (λ (ty : Types). OpensAs ty set.past x g (own_type f t) v (sized_for types x.own (constants_of zs) t)) (sym e)
+          (one_opens types set.past x f zs h a g same t q.0 v),
+      all_made_in set types e x f zs h a g same ts q.1 vs b.1,
+    )

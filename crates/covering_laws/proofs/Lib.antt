@@ -1,0 +1,9 @@
+pub mod Places
+pub mod Giving
+pub mod Notes
+pub mod Bodies
+pub mod Working
+pub mod Entering
+pub mod Joined
+pub mod Read
+pub mod Across

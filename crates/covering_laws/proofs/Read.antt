@@ -1,0 +1,208 @@
+-- A model whose accepted list is tested is read: its functions, directions and openings.
+use Rattle.std.proofs.Common.{◌≡◌, ◌∙◌, ap, sym, refl, subst, ℕ, ◌+◌, ℤ, Bool, true, false, inl, List, [], ◌∷◌, ◌++◌}
+use Rattle.std.proofs.Common.{map, slice_get, append-nil}
+use Rattle.std.specs.Prelude.{Option, Some, None, option_map}
+use Rattle.std.specs.List.{list_all}
+use Rattle.std.proofs.lemmas.Bool.{and_parts}
+use Rattle.std.proofs.lemmas.Option.{slice_get-map}
+use Rattle.sail_types.specs.Numbers.{Positive}
+use Rattle.sail_types.specs.Places.{an_int, only}
+use Rattle.sail_types.specs.Sums.{and_then}
+use Rattle.sail_types.specs.declared.table.Types.{Types}
+use Rattle.sail_types.specs.declared.values.Value.{Value}
+use Rattle.sail_core.specs.Numbers.{Givens, all_agree}
+use Rattle.sail_core.specs.declared.model.CoreModel.{CoreModel}
+use Rattle.sail_core.specs.declared.model.Function.{Function}
+use Rattle.sail_core.specs.declared.model.Opening.{Opening}
+use Rattle.sail_core.specs.declared.tree.Core.{Core}
+use Rattle.pattern_leaves.specs.Settings.{Around}
+use Rattle.pattern_leaves.specs.declared.names.TopLevel.{TopLevel}
+use Rattle.constraint_gen.specs.Models.{around_of, around_with, lets_behind, names_of}
+use Rattle.value_laws.specs.Belonging.{Integers}
+use Rattle.size_values.specs.declared.sized.Sized.{Sized}
+use Rattle.size_splits.specs.Bodies.{Body}
+use Rattle.size_notes.specs.Bodies.{bodies_of, body_of, function_bodies, function_read, measure_bodies, measure_read}
+use Rattle.split_laws.specs.Counted.{IsIn}
+use Rattle.split_laws.proofs.Basics.{in_back, in_front}
+use Rattle.monomorph.specs.declared.found.Instance.{Instance}
+use Rattle.monomorph.specs.Instances.{model_of, or_none}
+use Rattle.monomorph.specs.Lasts.{Model}
+use Rattle.sized_trees.specs.declared.trees.NodeSizes.{NodeSizes}
+use Rattle.sized_trees.specs.declared.trees.Signature.{Signature}
+use Rattle.sized_trees.specs.declared.trees.SizedInstance.{SizedInstance}
+use Rattle.sized_trees.specs.declared.trees.SizedCore.{SizedCore}
+use Rattle.sized_trees.specs.Bodies.{sized_body}
+use Rattle.sized_trees.specs.Trees.{all_sized_for, constants_of, sized_instance, sized_list, signature_of, signature_within}
+use Rattle.sized_trees.specs.Trees as Trees
+use Rattle.sized_meanings.specs.Fits.{all_have_sizes}
+use Rattle.sized_meanings.specs.Sized.{cases_of, checks_of, entered, entering, joined_nodes, nodes_for, numbers_of, signature_for}
+use Rattle.soundness_steps.specs.Works.{Work, nobody}
+use Rattle.soundness_steps.specs.Calls.{Enters, AllBelong, givens_at, inside}
+use Rattle.soundness_calls.specs.Premises.{EntersAs, all_reached}
+use Rattle.exact_sizes.proofs.Equal.{all_same}
+use Rattle.exact_sizes.proofs.Known.{none, some_there}
+use Rattle.covering_laws.specs.Covered.{AreRead, FunctionIsRead, body_tested, covered_by, function_tested, instance_tested, parameter_tested}
+use Rattle.covering_laws.specs.Covered.{at_work, setting_of}
+use Rattle.covering_laws.specs.Tested.{all_nodes, all_noted, bodies_tested}
+use Rattle.covering_laws.proofs.Bodies.{bodies_are_met}
+use Rattle.covering_laws.proofs.Entering.{all_fit_in, all_made_in}
+use Rattle.covering_laws.proofs.Joined.{mapped_there, nodes_joined, placed_there}
+use Rattle.covering_laws.proofs.Places.{all_in}
+use Rattle.covering_laws.proofs.Working.{awaited_are, covered_at, function_is, types_are, working}
+
+types_kept : (m : CoreModel) (lets : List TopLevel) (os : List Opening) → (lets_behind (around_with m lets) os).types ≡ m.types
+types_kept m lets [] = refl
+types_kept m lets (o ∷ os) = types_kept m (lets ++ names_of (around_with m lets) o o.kind) os
+
+functions_kept : (m : CoreModel) (lets : List TopLevel) (os : List Opening) → (lets_behind (around_with m lets) os).functions ≡ m.functions
+functions_kept m lets [] = refl
+functions_kept m lets (o ∷ os) = functions_kept m (lets ++ names_of (around_with m lets) o o.kind) os
+
+pub only_so : {A : Type 0} (b : Bool) (x : A) → b ≡ true → only b x ≡ Some x
+only_so true x h = refl
+only_so false x h = absurd (cc)
+
+module _ (core : CoreModel) (past : Positive) (hart : ℕ) (list : List Instance) where
+  abbrev pub around : Around
+  around = around_of core
+
+  abbrev pub model : Model
+  model = model_of core (bodies_of core)
+
+  abbrev pub sized : SizedCore
+  sized = sized_list model list
+
+  pub same_types : around.types ≡ core.types
+  same_types = types_kept core [] core.openings
+
+  -- bodies that are read together
+  pub read_in : (x : Work) (zs : List (Option ℤ)) → x.instance.numbers ≡ map (option_map an_int) zs → (reached : ℕ → Bool) (bs : List Body)
+      → bodies_tested core.types model.sizing zs x.own reached list bs ≡ true → (b : Body) → IsIn b bs
+      → AreRead (setting_of core past hart sized) x reached
+      (cases_of core.types sized.instances (all_nodes core.types model.sizing zs x.own list (all_noted bs))) b.notes
+  read_in x zs awaits reached bs h b i =
+      subst (λ (ty : Types). AreRead (setting_of core past hart sized) x reached
+      (cases_of ty sized.instances (all_nodes ty model.sizing zs x.own list (all_noted bs))) b.notes) same_types
+      (bodies_are_met (setting_of core past hart sized) x model.sizing zs awaits list sized.instances reached (placed_there model list) (covered_at sized) bs
+      (subst (λ (ty : Types). bodies_tested ty model.sizing zs x.own reached list bs ≡ true) (sym same_types) h) b i)
+
+  -- ---- functions
+
+  bodies_there : (i : ℕ) (f : Function) → slice_get core.functions i ≡ Some f → or_none (slice_get model.bodies.functions i) ≡ function_bodies around f
+  bodies_there i f e = ap or_none (slice_get-map (function_bodies around) core.functions i ∙ ap (option_map (function_bodies around)) e)
+
+  measure_there : (f : Function) (measure : Core) (o : Option Core) → o ≡ Some measure → IsIn (body_of (measure_read around f measure)) (measure_bodies around f o)
+  measure_there f measure None e = none e
+  measure_there f measure (Some c) e = inl (ap (λ (d : Core). body_of (measure_read around f d)) (sym (cc e)))
+
+  module _ (x : Work) (f : Function) (here : slice_get core.functions x.function ≡ Some f) (s : SizedInstance) (y : Instance) (is_in : IsIn y list)
+      (same : s ≡ sized_instance model list y) (function : s.instance.function ≡ x.function) (numbers : numbers_of s.instance ≡ x.instance.numbers)
+      (owns : x.own ≡ s.instance.types)
+      (entered_there : (nu : Givens) → all_agree x.instance.numbers nu ≡ true → entered sized.instances x.function x.instance.place nu ≡ Some s)
+      (tested : instance_tested model list y ≡ true) where
+    instance_is : s.instance ≡ y
+    instance_is = ap (λ (z : SizedInstance). z.instance) same
+
+    awaits : x.instance.numbers ≡ map (option_map an_int) y.numbers
+    awaits = sym numbers ∙ ap numbers_of instance_is
+
+    own_is : y.types ≡ x.own
+    own_is = sym (owns ∙ ap (λ (z : Instance). z.types) instance_is)
+
+    place_is : y.function ≡ x.function
+    place_is = ap (λ (z : Instance). z.function) (sym instance_is) ∙ function
+
+    bodies_are : or_none (slice_get model.bodies.functions y.function) ≡ function_bodies around f
+    bodies_are = ap (λ (i : ℕ). or_none (slice_get model.bodies.functions i)) place_is ∙ bodies_there x.function f here
+
+    function_there : slice_get core.functions y.function ≡ Some f
+    function_there = ap (slice_get core.functions) place_is ∙ here
+
+    abbrev tests : (bodies_tested core.types model.sizing y.numbers y.types all_reached list (or_none (slice_get model.bodies.functions y.function)) ≡ true)
+        × (function_tested core.types y (slice_get core.functions y.function) ≡ true)
+    tests =
+        and_parts (bodies_tested core.types model.sizing y.numbers y.types all_reached list (or_none (slice_get model.bodies.functions y.function)))
+        (function_tested core.types y (slice_get core.functions y.function)) tested
+
+    nodes_are : (nu : Givens) → all_agree x.instance.numbers nu ≡ true → nodes_for (entered sized.instances x.function x.instance.place nu)
+        ≡ all_nodes core.types model.sizing y.numbers x.own list (all_noted (function_bodies around f))
+    nodes_are nu a =
+        ap nodes_for (entered_there nu a)
+        ∙ ap (λ (z : SizedInstance). joined_nodes z.bodies) same
+        ∙ nodes_joined model list y.numbers y.types (or_none (slice_get model.bodies.functions y.function))
+        ∙ ap (λ (l : List Body). all_nodes core.types model.sizing y.numbers y.types list (all_noted l)) bodies_are
+        ∙ ap (λ (l : List Sized). all_nodes core.types model.sizing y.numbers l list (all_noted (function_bodies around f))) own_is
+
+    bodies_pass : bodies_tested core.types model.sizing y.numbers x.own all_reached list (function_bodies around f) ≡ true
+    bodies_pass =
+        subst (λ (l : List Sized). bodies_tested core.types model.sizing y.numbers l all_reached list (function_bodies around f) ≡ true) own_is
+        (subst (λ (l : List Body). bodies_tested core.types model.sizing y.numbers y.types all_reached list l ≡ true) bodies_are tests.0)
+
+    one_read : (nu : Givens) → all_agree x.instance.numbers nu ≡ true → (b : Body) → IsIn b (function_bodies around f)
+        → AreRead (setting_of core past hart sized) x all_reached ((checks_of core sized).function x.function x.instance.place nu) b.notes
+    one_read nu a b i =
+        subst (λ (l : List NodeSizes). AreRead (setting_of core past hart sized) x all_reached (cases_of core.types sized.instances l) b.notes)
+        (sym (nodes_are nu a)) (read_in x y.numbers awaits all_reached (function_bodies around f) bodies_pass b i)
+
+    signature_passes : (signature_within core.types (constants_of y.numbers) f ≡ true)
+        × (list_all (parameter_tested core.types y.numbers y.types f) f.parameters ≡ true)
+    signature_passes =
+        and_parts (signature_within core.types (constants_of y.numbers) f) (list_all (parameter_tested core.types y.numbers y.types f) f.parameters)
+        (subst (λ (o : Option Function). function_tested core.types y o ≡ true) function_there tests.1)
+
+    parameters_pass : list_all (parameter_tested core.types y.numbers x.own f) f.parameters ≡ true
+    parameters_pass = subst (λ (l : List Sized). list_all (parameter_tested core.types y.numbers l f) f.parameters ≡ true) own_is signature_passes.1
+
+    signature_is : s.signature ≡ Some (signature_of core.types x.own (constants_of y.numbers) f)
+    signature_is =
+        ap (λ (z : SizedInstance). z.signature) same
+        ∙ ap (Trees.signature_for core.types y) function_there
+        ∙ only_so (signature_within core.types (constants_of y.numbers) f) (signature_of core.types y.types (constants_of y.numbers) f) signature_passes.0
+        ∙ ap (λ (l : List Sized). Some (signature_of core.types l (constants_of y.numbers) f)) own_is
+
+    enters_as : (vs : List Value) (h : Integers) (e : Enters (setting_of core past hart sized) x f vs h)
+        → EntersAs (setting_of core past hart sized) (checks_of core sized) x f vs h e
+    enters_as vs h e =
+        let ss = all_sized_for core.types x.own (constants_of y.numbers) f.parameters in
+        let a : all_agree (map (option_map an_int) y.numbers) (givens_at h 0 f.variables) ≡ true =
+        subst (λ ns. all_agree ns (givens_at h 0 f.variables) ≡ true) awaits e.awaited in
+        let b : AllBelong core.types (inside (setting_of core past hart sized) f h) x.types f.parameters vs =
+        subst (λ (ty : Types). AllBelong ty (inside (setting_of core past hart sized) f h) x.types f.parameters vs) same_types e.belong in
+        record {
+          sizes = ss;
+          is_there = ap (λ (o : Option SizedInstance). and_then (signature_for o) (entering core.types vs)) (entered_there (givens_at h 0 f.variables) e.awaited)
+              ∙ ap (λ (o : Option Signature). and_then o (entering core.types vs)) signature_is
+              ∙ only_so (all_have_sizes core.types vs ss) ss (all_fit_in core.types past x f y.numbers h a f.parameters parameters_pass vs b);
+          are_right = λ g own. all_made_in (setting_of core past hart sized) core.types same_types x f y.numbers h a g own f.parameters parameters_pass vs b;
+        }
+
+    pub one_is_read : FunctionIsRead (setting_of core past hart sized) core (checks_of core sized) x f
+    one_is_read = record {
+      body = λ nu a. one_read nu a (body_of (function_read around f))
+          (in_back (body_of (function_read around f)) (measure_bodies around f f.measure) (body_of (function_read around f) ∷ []) (inl refl));
+      measure = λ nu a measure e. one_read nu a (body_of (measure_read around f measure))
+          (in_front (body_of (measure_read around f measure)) (measure_bodies around f f.measure) (body_of (function_read around f) ∷ [])
+          (measure_there f measure f.measure e));
+      enters = enters_as;
+    }
+
+  pub function_is_read : list_all (instance_tested model list) list ≡ true → (x : Work) (f : Function) → covered_by sized x ≡ true
+      → slice_get core.functions x.function ≡ Some f → FunctionIsRead (setting_of core past hart sized) core (checks_of core sized) x f
+  function_is_read h x f c here =
+      let found = some_there (at_work sized.instances x) c in
+      let s = found.0 in
+      let w = working sized.instances x s found.1 in
+      let y = mapped_there (sized_instance model list) list s w.is_in in
+      one_is_read x f here s y.0 y.1 y.2 (function_is x s w.is) (awaited_are x s w.is) (all_same x.own s.instance.types (types_are x s w.is)) w.entered_there
+      (all_in (instance_tested model list) list y.0 h y.1)
+
+  -- ---- bodies of no function
+
+  alone_there : (b : Body) → sized_body model list [] [] b ≡ all_nodes core.types model.sizing [] [] list (all_noted (b ∷ []))
+  alone_there b = sym (append-nil (sized_body model list [] [] b)) ∙ nodes_joined model list [] [] (b ∷ [])
+
+  pub alone_read : (reached : ℕ → Bool) (b : Body) → body_tested model list reached b ≡ true
+      → AreRead (setting_of core past hart sized) nobody reached (cases_of core.types sized.instances (sized_body model list [] [] b)) b.notes
+  alone_read reached b h =
+      subst (λ (l : List NodeSizes). AreRead (setting_of core past hart sized) nobody reached (cases_of core.types sized.instances l) b.notes)
+      (sym (alone_there b)) (read_in nobody [] refl reached (b ∷ []) h b (inl refl))

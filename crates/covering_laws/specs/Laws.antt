@@ -1,0 +1,32 @@
+-- What is tested of bodies suffices: their notes are met.
+use Rattle.std.specs.Prelude.{◌≡◌, ℕ, ℤ, Bool, true, List, map, slice_get, Option, Some, option_map}
+use Rattle.sail_types.specs.Places.{an_int}
+use Rattle.size_values.specs.Sized.{all_eq}
+use Rattle.size_splits.specs.Bodies.{Body}
+use Rattle.size_splits.specs.Sizing.{Sizing}
+use Rattle.monomorph.specs.declared.found.Instance.{Instance}
+use Rattle.sized_trees.specs.declared.trees.SizedInstance.{SizedInstance}
+use Rattle.sized_meanings.specs.Sized.{cases_of, numbers_of}
+use Rattle.split_laws.specs.Counted.{IsIn}
+use Rattle.note_laws.specs.Notes.{EachNote, OfOthers}
+use Rattle.soundness_steps.specs.Works.{Setting, Work}
+use Rattle.soundness_steps.specs.Covers.{IsMet}
+use Rattle.covering_laws.specs.Tested.{all_nodes, all_noted, bodies_tested}
+
+-- the instances of a list, each at its place
+abbrev pub ArePlaced : List Instance → List SizedInstance → Type 0
+ArePlaced list instances =
+    (i : ℕ) (y : Instance) → slice_get list i ≡ Some y → (s : SizedInstance) × (slice_get instances i ≡ Some s) × (s.instance ≡ y)
+
+-- a function at work for such an instance is covered
+abbrev pub AreCovered : Setting → List SizedInstance → Type 0
+AreCovered set instances =
+    (p : ℕ) (s : SizedInstance) (y : Work) → slice_get instances p ≡ Some s → s.instance.function ≡ y.function
+    → y.instance ≡ record { place = p; numbers = numbers_of s.instance } → all_eq y.own s.instance.types ≡ true → set.covered y ≡ true
+
+abbrev pub BodiesAreMet : Type 0
+BodiesAreMet = (set : Setting) (x : Work) (sizing : Sizing) (zs : List (Option ℤ)) → x.instance.numbers ≡ map (option_map an_int) zs
+    → (list : List Instance) (instances : List SizedInstance) (reached : ℕ → Bool) → ArePlaced list instances → AreCovered set instances
+    → (bs : List Body) → bodies_tested set.around.types sizing zs x.own reached list bs ≡ true → (b : Body) → IsIn b bs
+    → EachNote (OfOthers (IsMet set x reached
+    (cases_of set.around.types instances (all_nodes set.around.types sizing zs x.own list (all_noted bs))))) b.notes

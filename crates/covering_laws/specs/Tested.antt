@@ -1,0 +1,189 @@
+-- What is tested of bodies as they are read for an instance: under each combination of numbers that counts at a note, what the note asks of instances
+-- holds (Sail language manual, "Type variables").
+use Rattle.std.specs.Prelude.{ℕ, ℤ, pos, int_le, nat_eq, Bool, true, false, not, ◌&&◌, ◌||◌, List, [], ◌∷◌, ◌++◌, map, length, Option, Some, None}
+use Rattle.std.specs.List.{list_all, list_any}
+use Rattle.sail_types.specs.declared.numbers.Index.{Index}
+use Rattle.sail_types.specs.declared.table.Types.{Types}
+use Rattle.sail_core.specs.declared.tree.Callee.{Callee}
+use Rattle.sail_core.specs.declared.tree.Callee.TheVariants as D
+use Rattle.value_indices.specs.Steps.{Note, size_note, made_note, call_note, way_note, given_note}
+use Rattle.value_indices.specs.declared.indices.Indices.{Indices, fold-Indices, out-Indices}
+use Rattle.value_indices.specs.declared.indices.Indices.TheOpen as W
+use Rattle.value_indices.specs.declared.indices.Indices.TheOpen.{Indices-F, Reading-F}
+use Rattle.value_indices.specs.declared.indices.Reading.{Reading}
+use Rattle.value_indices.specs.declared.notes.Fact.{Fact}
+use Rattle.value_indices.specs.declared.notes.Made.{Made}
+use Rattle.value_indices.specs.declared.notes.Made.TheVariants as Makes
+use Rattle.call_arguments.specs.Placing.{variable_in}
+use Rattle.size_values.specs.declared.constants.Constant.{Constant}
+use Rattle.size_values.specs.declared.constants.Picked.{Picked}
+use Rattle.size_values.specs.declared.sized.Sized.{Sized}
+use Rattle.size_values.specs.Numbers.{known_of, value_of}
+use Rattle.size_splits.specs.Bodies.{Body}
+use Rattle.size_splits.specs.Sizing.{Sizing, flags_of}
+use Rattle.size_splits.specs.Splits.{counted}
+use Rattle.monomorph.specs.declared.found.Instance.{Instance}
+use Rattle.monomorph.specs.Reading.{Inside, reading_of, under}
+use Rattle.sized_trees.specs.declared.trees.NodeSizes.{NodeSizes}
+use Rattle.sized_trees.specs.Bodies.{at_note}
+use Rattle.sized_trees.specs.Combinations.{combinations_at, is_given}
+use Rattle.sized_meanings.specs.Present.{gives_at}
+use Rattle.soundness_steps.specs.Noted.{variables_given}
+use Rattle.exact_sizes.specs.Exact.{is_exact_index, only_if, reading_passes, reading_settles, value_passes}
+use Rattle.case_laws.specs.Cases.{has_all_cases, has_all_leads}
+
+-- ---- where these numbers are taken
+
+abbrev pub values_pass : Inside → List Picked → List Indices → Bool
+values_pass r ps is = list_all (value_passes r.types (under r ps)) is
+
+abbrev pub readings_pass : Inside → List Picked → List Reading → Bool
+readings_pass r ps qs = list_all (reading_passes r.types (under r ps)) qs
+
+-- ---- sizes: a width or length within its limit; those of a type stay what they are where it is opened
+
+abbrev pub in_limit : ℕ → Option ℤ → Bool
+in_limit largest None = false
+in_limit largest (Some z) = int_le (pos 0) z && int_le z (pos largest)
+
+abbrev pub form_in_limit : (ℕ → Constant) → Indices-F Indices Reading → Bool
+form_in_limit of (W.Bits t) = in_limit 128 (value_of of t)
+form_in_limit of (W.Vector t r) = in_limit 4096 (value_of of t)
+form_in_limit of form = true
+
+abbrev pub size_passes : Inside → Made → List Picked → Bool
+size_passes r (Makes.ByIndices i) ps = form_in_limit (under r ps) (out-Indices i)
+size_passes r (Makes.ByType q) ps = reading_settles r.types (under r ps) q
+
+abbrev pub size_tested : Inside → List Fact → Made → Bool
+size_tested r facts made = list_all (size_passes r made) (counted (known_of r.numbers) r.split facts [])
+
+-- ---- what nodes make: there is a case, in which all sizes are constants for certain
+
+abbrev pub made_passes : Inside → Made → List Picked → Bool
+made_passes r (Makes.ByIndices i) ps = value_passes r.types (under r ps) i
+made_passes r (Makes.ByType q) ps = reading_passes r.types (under r ps) q && reading_settles r.types (under r ps) q
+
+abbrev pub node_passes : Inside → List Indices → Made → List Picked → Bool
+node_passes r operands made ps = values_pass r ps operands && made_passes r made ps
+
+abbrev pub made_tested : Inside → List Fact → List Indices → Made → Bool
+made_tested r facts operands made = has_all_cases r facts operands made && list_all (node_passes r operands made) (combinations_at r facts)
+
+-- ---- calls of functions: each leads to an instance; what is given to size variables are numbers
+
+abbrev pub numbers_pass : (ℕ → Constant) → List Bool → List Index → Bool
+numbers_pass of [] [] = true
+numbers_pass of (b ∷ bs) (j ∷ js) = only_if b (is_exact_index of j) && numbers_pass of bs js
+numbers_pass of bs js = false
+
+abbrev pub lead_passes : Inside → List Indices → ℕ → List Index → List Reading → List Picked → Bool
+lead_passes r operands f js qs ps =
+    values_pass r ps operands && (readings_pass r ps qs && numbers_pass (under r ps) (flags_of r.sizing f) js)
+
+abbrev pub function_tested : Inside → List Instance → List Fact → List Indices → ℕ → List Index → List Reading → Bool
+function_tested r list facts operands f js qs =
+    has_all_leads r list facts operands f js qs && list_all (lead_passes r operands f js qs) (combinations_at r facts)
+
+abbrev pub call_tested : Inside → List Instance → List Fact → List Indices → Callee → List Index → List Reading → Bool
+call_tested r list facts operands (D.Function f) js qs = function_tested r list facts operands f js qs
+call_tested r list facts operands callee js qs = true
+
+-- ---- the numbers that a value gives: all that is said at its node gives one number to a variable that is noted by then, or that the note gives
+
+abbrev pub is_needed : List Fact → Indices → ℕ → Bool
+is_needed facts i v = is_given facts v || list_any (nat_eq v) (variables_given i)
+
+-- other indices of the same value
+abbrev pub Agreeing : Type 0
+Agreeing = Indices → Bool
+
+abbrev pub is_variable : Option ℕ → ℕ → Bool
+is_variable None v = false
+is_variable (Some w) v = nat_eq w v
+
+abbrev pub integer_is : Indices-F Indices Reading → ℕ → Bool
+integer_is (W.Integer t) v = is_variable (variable_in t) v
+integer_is form v = false
+
+abbrev pub integer_agrees : (ℕ → Bool) → Option ℕ → Indices-F Indices Reading → Bool
+integer_agrees needed None form = true
+integer_agrees needed (Some v) form = not (needed v) || integer_is form v
+
+abbrev pub each_agrees : List Agreeing → List Indices → Bool
+each_agrees [] [] = true
+each_agrees (f ∷ fs) (i ∷ is) = f i && each_agrees fs is
+each_agrees fs is = false
+
+abbrev pub form_agrees : (ℕ → Bool) → Indices-F Agreeing Agreeing → Indices-F Indices Reading → Bool
+form_agrees needed (W.Integer t) form = integer_agrees needed (variable_in t) form
+form_agrees needed (W.Tuple fs) (W.Tuple is) = each_agrees fs is
+form_agrees needed (W.Tuple fs) form = false
+form_agrees needed x form = true
+
+abbrev pub indices_agree : (ℕ → Bool) → Indices-F Agreeing Agreeing → Agreeing
+indices_agree needed x i = form_agrees needed x (out-Indices i)
+
+abbrev pub type_agrees : Reading-F Agreeing Agreeing → Agreeing
+type_agrees x i = true
+
+abbrev pub agrees_with : (ℕ → Bool) → Indices → Agreeing
+agrees_with needed = fold-Indices Agreeing Agreeing (indices_agree needed) type_agrees
+
+abbrev pub agrees_there : List Fact → Indices → Indices → Bool
+agrees_there facts i j = agrees_with (is_needed facts i) j i
+
+abbrev pub given_tested : List NodeSizes → List Fact → ℕ → Indices → Bool
+given_tested nodes facts k i = list_all (agrees_there facts i) (gives_at nodes k)
+
+-- ---- a note; a body goes through these directions of mappings
+
+abbrev pub note_tested : (ℕ → Bool) → List Instance → List NodeSizes → Inside → Note → Bool
+note_tested reached list nodes r (size_note facts place made) = size_tested r facts made
+note_tested reached list nodes r (made_note facts k operands made) = made_tested r facts operands made
+note_tested reached list nodes r (call_note facts place k operands callee js qs) = call_tested r list facts operands callee js qs
+note_tested reached list nodes r (way_note facts d) = reached d
+note_tested reached list nodes r (given_note facts k i) = given_tested nodes facts k i
+note_tested reached list nodes r note = true
+
+-- ---- the notes of several bodies, each with its body
+
+pub record NoteIn : Type 0 where
+  pub body : Body
+  pub note : Note
+
+abbrev pub note_in : Body → Note → NoteIn
+note_in b n = record { body = b; note = n }
+
+abbrev pub all_noted : List Body → List NoteIn
+all_noted [] = []
+all_noted (b ∷ bs) = map (note_in b) b.notes ++ all_noted bs
+
+-- nodes of one number that take as many operands, of which the first alone would be found
+abbrev pub are_alike : Note → Note → Bool
+are_alike (made_note facts k operands made) (made_note more j others value) = nat_eq j k && nat_eq (length operands) (length others)
+are_alike (call_note facts place k operands callee js qs) (call_note more spot j others called is rs) = nat_eq j k && nat_eq (length operands) (length others)
+are_alike n m = false
+
+abbrev pub is_apart : NoteIn → NoteIn → Bool
+is_apart x y = not (are_alike x.note y.note)
+
+abbrev pub are_apart : List NoteIn → Bool
+are_apart [] = true
+are_apart (x ∷ xs) = list_all (is_apart x) xs && are_apart xs
+
+module _ (types : Types) (sizing : Sizing) (zs : List (Option ℤ)) (own : List Sized) where
+  abbrev pub inside : Body → Inside
+  inside b = reading_of types sizing zs own b
+
+  abbrev pub all_nodes : List Instance → List NoteIn → List NodeSizes
+  all_nodes list [] = []
+  all_nodes list (x ∷ xs) = at_note (inside x.body) list x.note ++ all_nodes list xs
+
+  abbrev pub noted_tested : (ℕ → Bool) → List Instance → List NodeSizes → NoteIn → Bool
+  noted_tested reached list nodes x = note_tested reached list nodes (inside x.body) x.note
+
+  -- bodies that are read together, for these numbers and types
+  abbrev pub bodies_tested : (ℕ → Bool) → List Instance → List Body → Bool
+  bodies_tested reached list bs =
+      are_apart (all_noted bs) && list_all (noted_tested reached list (all_nodes list (all_noted bs))) (all_noted bs)

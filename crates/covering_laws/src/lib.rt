@@ -1,0 +1,17 @@
+//! Laws of what instances cover: where the bodies of an accepted list of instances are tested, all that their walks note, but goals, is met.
+//!
+//! `specs/Tested` and `specs/Covered` have the tests, `specs/Laws` and `specs/Covered` the laws.
+#![tactic(auto)]
+
+ghost use Rattle.covering_laws.specs.Covered.{ModelsAreRead};
+ghost use Rattle.covering_laws.specs.Laws.{BodiesAreMet};
+
+/// The notes of bodies that are tested are met. It does nothing.
+pub fn bodies_are_met()
+    ensures { BodiesAreMet }
+{}
+
+/// A model whose accepted list of instances is tested is read: its functions, mappings and openings. It does nothing.
+pub fn models_are_read()
+    ensures { ModelsAreRead }
+{}

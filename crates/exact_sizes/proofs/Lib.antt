@@ -1,0 +1,7 @@
+pub mod Known
+pub mod Alike
+pub mod Values
+pub mod Standing
+pub mod Had
+pub mod Settling
+pub mod Equal

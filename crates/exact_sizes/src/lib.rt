@@ -1,0 +1,22 @@
+//! Laws of sizes that are constants for certain: a value has the sizes of what it belongs to, and these stay what they are where more is known
+//! and where a value is opened.
+//!
+//! `specs/Exact` has the tests, `specs/Laws` the laws.
+#![tactic(auto)]
+
+ghost use Rattle.exact_sizes.specs.Laws.{SizesStand, TypesSettle, ValuesFit};
+
+/// Types under constants are the same where more is known. It does nothing.
+pub fn sizes_stand()
+    ensures { SizesStand }
+{}
+
+/// A value of some indices, or of a type, has their sizes. It does nothing.
+pub fn values_fit()
+    ensures { ValuesFit }
+{}
+
+/// The sizes of a type stay what they are where a value of it is opened. It does nothing.
+pub fn types_settle()
+    ensures { TypesSettle }
+{}
