@@ -1,5 +1,5 @@
 -- An `if` of another number of parts than two or three.
-use Rattle.std.proofs.Common.{◌≡◌, ◌∙◌, ◌≤◌, ◌<◌, ap, sym, refl, arith, List, [], ◌∷◌, length, Option, None}
+use Rattle.std.proofs.Common.{ℕ, ◌≡◌, ◌∙◌, ◌≤◌, ◌<◌, ap, sym, refl, arith, List, [], ◌∷◌, length, Option, None}
 use Rattle.sail_base.specs.declared.place.Place.{Place}
 use Rattle.sail_types.specs.declared.numbers.Con.{Con}
 use Rattle.sail_types.specs.declared.shapes.Shape.{Shape}

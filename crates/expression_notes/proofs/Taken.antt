@@ -1,5 +1,5 @@
 -- Ways into a value, by the parts that are left of an expression.
-use Rattle.std.proofs.Common.{◌≡◌, ◌∙◌, ◌≤◌, ◌<◌, ◌+◌, ap, refl, sym, arith, ℕ, Bool, None, Some, Option, Result, Ok, Err, IfOk, OnOk}
+use Rattle.std.proofs.Common.{◌≡◌, ◌∙◌, ◌≤◌, ◌<◌, ◌+◌, ap, refl, sym, arith, nat_tests, ℕ, Bool, None, Some, Option, Result, Ok, Err, IfOk, OnOk}
 use Rattle.std.proofs.Common.{false, List, [], ◌∷◌, ◌++◌, ◌≢◌, length, drop, take, get_or, if◌then◌else◌, nat_eq, suc, zero, drop-drop, lt-ltb, le-ltb}
 use Rattle.std.proofs.lemmas.List.{drop-map, length-map, take-map}
 use Rattle.sail_base.specs.declared.place.Place.{Place}
@@ -267,9 +267,12 @@ module _ (place : Place) (around : Around) (scope : Scope) (ss : List Suffix) (a
   as_counted : onward i ≡ chosen (left_after ss (length qs))
   as_counted = λ j. chosen (left_after ss (length-map qs part j))
 
+  is_more : (n : ℕ) → nat_eq (suc n) 0 ≡ false
+  is_more n = grind (arith, nat_tests)
+
   more_left : (n : ℕ) → n ≢ 0 → chosen n ≡ if_never_value place i
   more_left zero some = absurd (some refl)
-  more_left (suc n) some = refl
+  more_left (suc n) some = ap (λ b. if b then bind (further i) value_on else if_never_value place i) (is_more n)
 
   module _ (w v : Written) (is : i ≡ got base w) (was : v ≡ run base w) where
     pub part_left : left_after ss (length qs) ≢ 0

@@ -643,8 +643,8 @@ loops::walk_foreach-returns-in_ok-restore-in-Some t c = let n = c.in_ok-numbers-
     c.in_ok-found-in-Some.ensures.walked inside c.in_ok-walk_expression-in-Some.ensures.walked c.in_ok-restore-in-Some.ensures in
     record { value = same.value; walked = same.walked }
 
-pub loops::walk_measure-returns-in_ok-restore : goal.loops::walk_measure-returns-in_ok-restore
-loops::walk_measure-returns-in_ok-restore t c = let value = c.in_ok-value.ensures in
+pub loops::walk_measure-returns : goal.loops::walk_measure-returns
+loops::walk_measure-returns t c = let value = c.in_ok-value.ensures in
     measured_run _ _ c.args.core.now _ c.natural_aim-aim.ensures _ c.place_of.ensures _ _ _ _ _ _ c.in_ok-remember.ensures value.value value.walked
     c.in_ok-integer_number.ensures.walked c.in_ok-restore.ensures
 
@@ -652,9 +652,9 @@ pub loops::walk_turn-returns-in_ok-restore : goal.loops::walk_turn-returns-in_ok
 loops::walk_turn-returns-in_ok-restore t c =
     tested_run _ _ _ _ _ _ _ _ c.in_ok-remember.ensures c.in_ok-restore.ensures c.if-is_condition.true c.in_ok-walk_truth.ensures.walked
 
-pub loops::walk_turn-returns-in_ok-restore-else-is_condition : goal.loops::walk_turn-returns-in_ok-restore-else-is_condition
-loops::walk_turn-returns-in_ok-restore-else-is_condition t c =
-    alone_run _ _ _ _ _ _ _ _ c.in_ok-remember.ensures c.in_ok-restore-else-is_condition.ensures c.if-is_condition.false c.in_ok-walk_expression.ensures.walked
+pub loops::walk_turn-returns-in_ok-restore-2 : goal.loops::walk_turn-returns-in_ok-restore-2
+loops::walk_turn-returns-in_ok-restore-2 t c =
+    alone_run _ _ _ _ _ _ _ _ c.in_ok-remember.ensures c.in_ok-restore-2.ensures c.if-is_condition.false c.in_ok-walk_expression.ensures.walked
 
 pub loops::walk_loop-returns-in_ok-walk_turn-in-len3-2 : goal.loops::walk_loop-returns-in_ok-walk_turn-in-len3-2
 loops::walk_loop-returns-in_ok-walk_turn-in-len3-2 t c = let around = around_of c.args.around.now in let scope = scope_of c.args.scope.now in
