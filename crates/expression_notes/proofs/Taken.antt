@@ -1,6 +1,7 @@
 -- Ways into a value, by the parts that are left of an expression.
-use Rattle.std.proofs.Common.{◌≡◌, ◌∙◌, ◌≤◌, ◌<◌, ◌+◌, ap, refl, sym, arith, nat_tests, ℕ, Bool, None, Some, Option, Result, Ok, Err, IfOk, OnOk}
+use Rattle.std.proofs.Common.{◌≡◌, ◌∙◌, ◌≤◌, ◌<◌, ◌+◌, ap, refl, sym, arith, ℕ, Bool, None, Some, Option, Result, Ok, Err, IfOk, OnOk}
 use Rattle.std.proofs.Common.{false, List, [], ◌∷◌, ◌++◌, ◌≢◌, length, drop, take, get_or, if◌then◌else◌, nat_eq, suc, zero, drop-drop, lt-ltb, le-ltb}
+use Rattle.std.proofs.lemmas.Bool.Decides.{nat_tests}
 use Rattle.std.proofs.lemmas.List.{drop-map, length-map, take-map}
 use Rattle.sail_base.specs.declared.place.Place.{Place}
 use Rattle.sail_types.specs.declared.numbers.Num.{Num}
