@@ -1,4 +1,4 @@
--- Calls and events of a model, where the nodes of its bodies are fine and patterns match beside their walks.
+-- Calls and events of a model, where the nodes of its bodies are fine beside their walks, and patterns stand.
 use Rattle.std.specs.Prelude.{◌≡◌, ◌<◌, ℕ, true, List, [], length, slice_get, Some}
 use Rattle.sail_types.specs.declared.values.Value.{Value}
 use Rattle.sail_core.specs.Making.{World}
@@ -16,19 +16,20 @@ use Rattle.soundness_steps.specs.Works.{Scene, Setting, Work, nobody}
 use Rattle.soundness_steps.specs.Noted.{OpensAs}
 use Rattle.soundness_steps.specs.Covers.{AreMet}
 use Rattle.soundness_steps.specs.Calls.{IsOf}
-use Rattle.soundness_forms.specs.Patterns.{AllMatch}
 use Rattle.soundness_forms.specs.Worlds.{LetsAre}
 use Rattle.soundness_calls.specs.Premises.{Covered}
 use Rattle.soundness_calls.specs.Laws.{scene_of}
 use Rattle.soundness_calls.specs.Directions.{Side, bare_type, bodies_of, is_ahead, is_back, lower, mapping_of, scene_across}
 use Rattle.soundness_calls.specs.Calls.{CoveredModel}
+use Rattle.soundness_binding.specs.Patterned.{arms_stand}
+use Rattle.sail_soundness.specs.Whole as Whole
 use Rattle.soundness_arms.specs.Bodies.{BodiesStand, Clauses}
-use Rattle.soundness_arms.specs.Laws.{clause_scene}
 
 -- ---- a function under an instance
 
 pub record FunctionStands (set : Setting) (k : Checks) (x : Work) (f : Function) : Type 0 where
   pub covered : Covered set k x f
+  pub model : Whole.ModelStands set x
   pub body : (h : Integers) (nu : Givens) (w : World Item)
       → Clauses (scene_of set x f h (k.function x.function x.instance.place nu)) w f.is_declared f.body
   pub measure : (h : Integers) (nu : Givens) (w : World Item) (core : Core) → f.measure ≡ Some core
@@ -57,8 +58,9 @@ pub record DirectionStands (set : Setting) (rank : ℕ → ℕ) (k : Checks) (d 
   pub met : AreMet set nobody (lower rank (rank d)) (k.direction d) (mapping_of set side m [] 0).notes
   pub takes : (v : Value) → IsOf set m.parameter v → (s : Sized) × (k.takes d v ≡ Some s)
       × ((g : Integers) → OpensAs set.around.types set.past nobody g (bare_type m.parameter) v s)
+  pub model : Whole.ModelStands set nobody
   pub ways : WaysOf (scene_across set k rank d) side m
-  pub matches : (w : World Item) → AllMatch (clause_scene (scene_across set k rank d) w) w (own_arms (scene_across set k rank d) side m ways)
+  pub patterns : arms_stand set.around.types [] (own_arms (scene_across set k rank d) side m ways) ≡ true
 
 -- ---- a model
 

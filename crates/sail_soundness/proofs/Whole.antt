@@ -33,11 +33,11 @@ nodes_are d =
     ∙ ap (λ ns. d ∷ ns) (nexts d.parts)
 
 module _ (q : Scene) (w : World Item) (model : ModelStands q.set q.work) where
-  front : (ns ms : List (Core-F Core)) → EachFine q w (ns ++ ms) → EachFine q w ns
+  pub front : (ns ms : List (Core-F Core)) → EachFine q w (ns ++ ms) → EachFine q w ns
   front [] ms h = tt
   front (c ∷ ns) ms h = (h.0, h.1, front ns ms h.2)
 
-  behind : (ns ms : List (Core-F Core)) → EachFine q w (ns ++ ms) → EachFine q w ms
+  pub behind : (ns ms : List (Core-F Core)) → EachFine q w (ns ++ ms) → EachFine q w ms
   behind [] ms h = h
   behind (c ∷ ns) ms h = behind ns ms h.2
 

@@ -1,6 +1,6 @@
 -- The body of a function that no `val` declares: the node of the type that is written before it makes its value as what it is, and the node around that
 -- comes to the result.
-use Rattle.std.proofs.Common.{◌≡◌, ◌∙◌, ap, sym, refl, subst, ℕ, Bool, true, false, true≢false, ◌&&◌, List, [], ◌∷◌, ◌++◌, map, Some, None}
+use Rattle.std.proofs.Common.{◌≡◌, ◌∙◌, ap, sym, refl, subst, ℕ, Bool, true, false, true≢false, ◌&&◌, List, [], ◌∷◌, map, Some, None}
 use Rattle.std.specs.Prelude.{not}
 use Rattle.std.proofs.lemmas.Bool.{and_parts}
 use Rattle.sail_core.specs.Making.{World, made}
@@ -34,9 +34,9 @@ use Rattle.soundness_forms.proofs.Casts.{comes_is, no_guard}
 use Rattle.soundness_forms.proofs.Growth.{grows_bind, grows_give, grows_given, grows_made}
 use Rattle.soundness_forms.proofs.Nodes.{ends_node}
 use Rattle.soundness_forms.proofs.PlainKinds.{fine_by, value_fine}
-use Rattle.sail_soundness.specs.Whole.{EachFine, OthersFine, TypesClosed, joined, nodes}
+use Rattle.sail_soundness.specs.Whole.{EachFine, ModelStands, OthersFine, joined, nodes}
 use Rattle.sail_soundness.proofs.Nodes.{proved}
-use Rattle.sail_soundness.proofs.Whole.{nodes_are, whole}
+use Rattle.sail_soundness.proofs.Whole.{behind, front, nodes_are, whole}
 
 -- ---- a value that is made as what it is
 
@@ -95,16 +95,6 @@ module _ (q : Scene) (w : World Item) where
       ∙ sym (ap (λ (s : Standing). s.right) (fold-roll-Core Standing (node_standing q.set.around) (out-Core c)))
       ∙ ap (λ d. (standing q.set.around d).right) (roll-out-Core c) ∙ h
 
-  front : (ns ms : List (Core-F Core)) → EachFine q w (ns ++ ms) → EachFine q w ns
-  front [] ms h = tt
-  front (c ∷ ns) ms h = (h.0, front ns ms h.1)
-
-  node_others : (c : Core) (a : Core) → (out-Core c).parts ≡ a ∷ [] → EachFine q w (nodes c) → EachFine q w (nodes a)
-  node_others c a p h =
-      let here : EachFine q w (out-Core c ∷ joined (map nodes (out-Core c).parts)) =
-      subst (EachFine q w) (nodes_are (out-Core c)) (subst (λ d. EachFine q w (nodes d)) (sym (roll-out-Core c)) h) in
-      front (nodes a) [] (subst (λ cs. EachFine q w (joined (map nodes cs))) p here.1)
-
   no_only : {A : Type 0} (xs : List A) → only false xs ≡ None
   no_only [] = refl
   no_only (x ∷ []) = refl
@@ -112,7 +102,14 @@ module _ (q : Scene) (w : World Item) where
 
   -- ---- behind the type that is written
 
-  module _ (model : TypesClosed q.set) where
+  module _ (model : ModelStands q.set q.work) where
+    node_others : (c : Core) (a : Core) → (out-Core c).parts ≡ a ∷ [] → EachFine q w (nodes c) → EachFine q w (nodes a)
+    node_others c a p h =
+        let here : EachFine q w (out-Core c ∷ joined (map nodes (out-Core c).parts)) =
+        subst (EachFine q w) (nodes_are (out-Core c)) (subst (λ d. EachFine q w (nodes d)) (sym (roll-out-Core c)) h) in
+        let parts : EachFine q w (joined (map nodes (out-Core c).parts)) = behind q w model (out-Core c ∷ []) (joined (map nodes (out-Core c).parts)) here in
+        front q w model (nodes a) [] (subst (λ cs. EachFine q w (joined (map nodes cs))) p parts)
+
     -- a part that a value is made of
     a_value : (a : Core) → is_value (standing q.set.around a) ≡ true → EachFine q w (nodes a) → Fine q w false false (part a) (meaning (z q w) w a)
     a_value a is others =
@@ -159,7 +156,7 @@ module _ (q : Scene) (w : World Item) where
         let s : Standing = record { cast = false; guard = false; right = true } in (
           false,
           subst (Fine q w true false (cast_over (out-Core c) (bare_part a))) (node_means c (K.Cast None) (a ∷ []) k p)
-              (proved q w model (K.Cast None) refl (out-Core c).place (out-Core c).number (s ∷ []) (bare_part a ∷ []) (meaning (z q w) w a ∷ [])
+              (proved q w model (K.Cast None) refl refl (out-Core c).place (out-Core c).number (s ∷ []) (bare_part a ∷ []) (meaning (z q w) w a ∷ [])
               ((λ e. inner), tt) refl),
         )
     result_fine c is right others kind (a ∷ []) k p true e = absurd (true≢false (sym e))
