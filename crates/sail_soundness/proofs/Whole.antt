@@ -1,5 +1,6 @@
 -- An expression is fine where each of its nodes is.
 use Rattle.std.proofs.Common.{◌≡◌, Bool, true, false, List, [], ◌∷◌, ◌++◌, map, refl, sym, ap, ◌∙◌, subst}
+use Rattle.std.proofs.lemmas.Bool.{and_parts}
 use Rattle.sail_core.specs.Making.{World}
 use Rattle.sail_core.specs.Meaning.{kind_meaning, meaning}
 use Rattle.sail_core.specs.Run.{Run}
@@ -12,7 +13,8 @@ use Rattle.soundness_forms.specs.Forms.{Fine, z}
 use Rattle.soundness_forms.specs.Standing.{Standing, node_standing, standing}
 use Rattle.soundness_forms.specs.EachKind.{PartsFine}
 use Rattle.soundness_binding.specs.Patterned.{patterns_stand}
-use Rattle.sail_soundness.specs.Whole.{EachFine, EachFollows, ModelStands, NodeFine, is_proved, joined, nodes, nodes_over}
+use Rattle.soundness_sizes.specs.Kinds.{sizes_stand}
+use Rattle.sail_soundness.specs.Whole.{EachFine, EachFollows, ModelStands, NodeFine, is_proved, joined, kind_asks, nodes, nodes_over}
 use Rattle.sail_soundness.proofs.Nodes.{proved}
 
 -- ---- nodes
@@ -41,12 +43,20 @@ module _ (q : Scene) (w : World Item) (model : ModelStands q.set q.work) where
   behind [] ms h = h
   behind (c ∷ ns) ms h = behind ns ms h.2
 
-  each : (d : Core-F Core) → (is_proved d.kind ≡ false → NodeFine q w d) → patterns_stand q.set.around.types q.numbers d.kind ≡ true → NodeFine q w d
-  each d left stand = by_kind (is_proved d.kind) refl
+  -- those of a node's one part are among its own
+  pub part_fine : (d : Core-F Core) (c : Core) → d.parts ≡ c ∷ [] → EachFine q w (nodes (roll-Core d)) → EachFine q w (nodes c)
+  part_fine d c is h =
+      front (nodes c) [] (subst (λ cs. EachFine q w (joined (map nodes cs))) is (subst (EachFine q w) (nodes_are d) h).2)
+
+  each : (d : Core-F Core) → (is_proved d.kind ≡ false → NodeFine q w d) → kind_asks q.set.around.types q.numbers d.kind ≡ true → NodeFine q w d
+  each d left asks = by_kind (is_proved d.kind) refl
     where
+      both : (patterns_stand q.set.around.types q.numbers d.kind ≡ true) × (sizes_stand q.numbers d.kind ≡ true)
+      both = and_parts (patterns_stand q.set.around.types q.numbers d.kind) (sizes_stand q.numbers d.kind) asks
+
       by_kind : (b : Bool) → is_proved d.kind ≡ b → NodeFine q w d
-      by_kind true e =
-          proved q w model d.kind e stand d.place d.number (map (standing q.set.around) d.parts) (map part d.parts) (map (meaning (z q w) w) d.parts)
+      by_kind true e = proved q w model d.kind e both.0 both.1 d.place d.number (map (standing q.set.around) d.parts) (map part d.parts)
+          (map (meaning (z q w) w) d.parts)
       by_kind false e = left e
 
   -- ---- an expression with its part, its run and how it stands

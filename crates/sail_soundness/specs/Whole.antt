@@ -1,9 +1,12 @@
 -- Each expression of a core ends well beside its walk, where each of its nodes does.
 use Rattle.std.specs.Prelude.{◌≡◌, Bool, true, false, List, [], ◌∷◌, ◌++◌, map}
+use Rattle.std.specs.List.{list_all}
+use Rattle.sail_types.specs.declared.numbers.Index.{Index}
+use Rattle.sail_types.specs.declared.table.Types.{Types}
 use Rattle.sail_core.specs.Making.{World}
 use Rattle.sail_core.specs.Meaning.{kind_meaning, meaning}
 use Rattle.sail_core.specs.declared.tree.Callee.TheVariants as C
-use Rattle.sail_core.specs.declared.tree.Core.{Core, Core-F, para-Core}
+use Rattle.sail_core.specs.declared.tree.Core.{Core, Core-F, fold-Core, para-Core}
 use Rattle.sail_core.specs.declared.tree.Kind.{Kind}
 use Rattle.sail_core.specs.declared.tree.Kind.TheVariants as K
 use Rattle.expression_steps.specs.Expressions.{part}
@@ -15,9 +18,11 @@ use Rattle.soundness_forms.specs.Registers.{RegistersClosed}
 use Rattle.soundness_forms.specs.Standing.{is_cast, is_guard, kind_right, standing}
 use Rattle.soundness_binding.specs.Patterned.{patterns_stand}
 use Rattle.soundness_binding.specs.Scenes.{ModelFits}
+use Rattle.soundness_sizes.specs.Kinds.{sizes_stand}
 
 -- kinds of nodes that are fine: literals, names in scope, of top-level lets and registers, calls of builtins and of mappings, `&` and `|`, casts,
--- tuples, updates of slices, `let`, `var`, blocks, guards, `foreach` and what leaves; and those that stand in no expression of a resolved core
+-- tuples, updates of slices, `sizeof`, `constraint`, `let`, `var`, blocks, guards, `foreach` and what leaves; and those that stand in no expression of a
+-- resolved core
 abbrev pub is_proved : Kind → Bool
 is_proved (K.Constant literal) = true
 is_proved (K.Local name) = true
@@ -32,6 +37,8 @@ is_proved K.Or = true
 is_proved (K.Cast written) = true
 is_proved K.Tuple = true
 is_proved K.WithSlice = true
+is_proved (K.SizeOf t numbers) = true
+is_proved (K.Constraint c numbers) = true
 is_proved (K.Block statements) = true
 is_proved (K.Let arm) = true
 is_proved (K.Var name written) = true
@@ -44,6 +51,17 @@ is_proved K.Exit = true
 is_proved (K.Assert text) = true
 is_proved (K.Optional t) = true
 is_proved kind = false
+
+-- what a kind asks besides: its patterns stand, and numbers and conditions that it reads stand for themselves
+abbrev pub kind_asks : Types → List Index → Kind → Bool
+kind_asks types numbers kind = patterns_stand types numbers kind && sizes_stand numbers kind
+
+-- each node of an expression is of a proved kind, and what that asks holds
+abbrev pub node_fits : Types → List Index → Core-F Bool → Bool
+node_fits types numbers c = (is_proved c.kind && kind_asks types numbers c.kind) && list_all (λ b. b) c.parts
+
+abbrev pub core_fits : Types → List Index → Core → Bool
+core_fits types numbers = fold-Core Bool (node_fits types numbers)
 
 -- ---- nodes of an expression, each with its parts
 
@@ -72,9 +90,9 @@ module _ (q : Scene) (w : World Item) where
 
   abbrev pub EachFine : List (Core-F Core) → Type 0
   EachFine [] = Unit {0}
-  EachFine (c ∷ cs) = (is_proved c.kind ≡ false → NodeFine c) × (patterns_stand q.set.around.types q.numbers c.kind ≡ true) × EachFine cs
+  EachFine (c ∷ cs) = (is_proved c.kind ≡ false → NodeFine c) × (kind_asks q.set.around.types q.numbers c.kind ≡ true) × EachFine cs
 
-  -- nodes of the other kinds are, and patterns stand, in a model whose registers, mappings and types are as the resolver has them
+  -- nodes of the other kinds are, and what kinds ask holds, in a model whose registers, mappings and types are as the resolver has them
   abbrev pub OthersFine : List (Core-F Core) → Type 0
   OthersFine cs = ModelStands q.set q.work × EachFine cs
 
@@ -83,3 +101,7 @@ module _ (q : Scene) (w : World Item) where
 abbrev pub EachFollows : Type 0
 EachFollows = (q : Scene) (w : World Item) (c : Core) → (standing q.set.around c).right ≡ true → OthersFine q w (nodes c)
     → Fine q w (standing q.set.around c).cast (standing q.set.around c).guard (part c) (meaning (z q w) w c)
+
+-- where each node of an expression passes these tests, nothing is left to ask of its nodes but what is asked of the model
+abbrev pub CoresFit : Type 0
+CoresFit = (q : Scene) (w : World Item) (c : Core) → core_fits q.set.around.types q.numbers c ≡ true → ModelStands q.set q.work → OthersFine q w (nodes c)
