@@ -1,75 +1,114 @@
 -- Kinds of nodes that are fine.
-use Rattle.std.proofs.Common.{◌≡◌, true, Some, None}
+use Rattle.std.proofs.Common.{◌≡◌, true, false, List, [], ◌∷◌, Some, None, refl}
+use Rattle.sail_base.specs.declared.place.Place.{Place}
 use Rattle.sail_core.specs.Making.{World}
+use Rattle.sail_core.specs.declared.patterns.Arm.{Arm}
 use Rattle.sail_core.specs.declared.tree.Callee.{Callee}
 use Rattle.sail_core.specs.declared.tree.Callee.TheVariants as C
 use Rattle.sail_core.specs.declared.tree.Kind.{Kind}
 use Rattle.sail_core.specs.declared.tree.Kind.TheVariants as K
+use Rattle.fitting_laws.proofs.Counting as Counting
+use Rattle.pattern_notes.specs.Patterns.{arm_match}
+use Rattle.pattern_laws.proofs.Growing as Growing
+use Rattle.expression_steps.specs.Parts.{Part}
 use Rattle.checked_meaning.specs.Items.{Item}
-use Rattle.value_laws.proofs.Basics.{no}
-use Rattle.soundness_steps.specs.Works.{Scene}
-use Rattle.soundness_forms.specs.EachKind.{KindFine}
+use Rattle.soundness_steps.specs.Works.{Kept, Scene}
+use Rattle.soundness_forms.specs.EachKind.{KindFine, KindFineOver}
+use Rattle.soundness_forms.specs.Forms.{at}
+use Rattle.soundness_forms.specs.Joins.{AllArmsGrow, FreeJoining}
+use Rattle.soundness_forms.specs.Patterns.{AllMatch}
 use Rattle.soundness_forms.proofs.Guards.{applies_kind, clauses_kind, optional_kind, when_kind}
 use Rattle.soundness_forms.proofs.LeavingKinds.{exit_kind, return_kind, top_level_kind}
+use Rattle.soundness_forms.proofs.Matching.{match_kind}
 use Rattle.soundness_forms.proofs.PlainKinds.{cast_kind, constant_kind, local_kind, variable_kind, written_kind}
 use Rattle.soundness_forms.proofs.Registers.{register_kind}
 use Rattle.soundness_forms.proofs.Throwing.{assert_kind, throw_kind}
-use Rattle.soundness_binding.specs.Patterned.{patterns_stand}
+use Rattle.soundness_binding.specs.Patterned.{arms_stand, patterns_stand}
 use Rattle.soundness_binding.proofs.BindingKinds.{block_kind, let_kind, var_kind}
-use Rattle.soundness_binding.proofs.Matched.{all_lets_match, lets_match}
-use Rattle.soundness_fits.proofs.Owing.{fits_suffice}
-use Rattle.soundness_parts.proofs.PartKinds.{with_slice_kind}
-use Rattle.soundness_values.proofs.Filled.{filled_value}
-use Rattle.soundness_values.proofs.MadeKinds.{row_kind, tuple_kind}
+use Rattle.soundness_binding.proofs.Matched.{all_lets_match, all_match, lets_match}
+use Rattle.soundness_fits.proofs.Owing.{calls_fit_standing, fits_suffice}
+use Rattle.soundness_parts.proofs.PartKinds.{part_kind, with_item_kind, with_slice_kind}
+use Rattle.soundness_parts.proofs.WithKinds.{with_kind}
+use Rattle.soundness_targets.proofs.AssignKind.{assign_kind}
+use Rattle.soundness_sizes.specs.Kinds.{sizes_stand}
+use Rattle.soundness_sizes.proofs.SizeKinds.{constraint_kind, size_kind}
+use Rattle.soundness_values.proofs.Filled.{filled_value, met_grows}
+use Rattle.soundness_values.proofs.Functions.{function_kind}
+use Rattle.soundness_values.proofs.MadeKinds.{cons_kind, list_kind, row_kind, tuple_kind, vector_kind}
 use Rattle.soundness_values.proofs.Mappings.{converts_kind}
+use Rattle.soundness_values.proofs.NamedKinds.{constructor_kind, struct_kind}
 use Rattle.soundness_values.proofs.Taken.{widening}
-use Rattle.soundness_joins.proofs.JoinedKinds.{and_kind, foreach_kind, or_kind}
+use Rattle.soundness_joins.specs.Ways.{WaysStand}
+use Rattle.soundness_joins.proofs.AgreementCounts.{agreement_counts}
+use Rattle.soundness_joins.proofs.FreeJoins.{free_joining}
+use Rattle.soundness_joins.proofs.IfKind.{if_kind}
+use Rattle.soundness_joins.proofs.JoinedKinds.{and_kind, foreach_kind, or_kind, repeat_kind, while_kind}
+use Rattle.soundness_joins.proofs.TryKind.{try_kind}
 use Rattle.sail_soundness.specs.Whole.{ModelStands, is_proved}
 
-module _ (q : Scene) (w : World Item) (model : ModelStands q.set q.work) where
-  calls : (callee : Callee) → is_proved (K.Call callee) ≡ true → KindFine q w (K.Call callee)
-  calls (C.Applies d) e = applies_kind q w d
-  calls (C.Function i) e = no e
-  calls (C.Row row) e = row_kind fits_suffice q w widening row
-  calls (C.Constructor u k) e = no e
-  calls (C.Converts d) e = converts_kind fits_suffice q w model.fits.mappings d
+-- ---- ways that meet
 
-  pub proved : (kind : Kind) → is_proved kind ≡ true → patterns_stand q.set.around.types q.numbers kind ≡ true → KindFine q w kind
-  proved (K.Constant l) e p = constant_kind fits_suffice q w l
-  proved (K.Local name) e p = local_kind fits_suffice q w name
-  proved (K.Variable name) e p = variable_kind fits_suffice q w name
-  proved (K.TopLevel i) e p = top_level_kind (λ types s j. filled_value types 0 s j) fits_suffice q w i
-  proved (K.Register i) e p = register_kind fits_suffice q w model.registers i
-  proved (K.Call callee) e p = calls callee e
-  proved K.And e p = and_kind fits_suffice q w
-  proved K.Or e p = or_kind fits_suffice q w
-  proved (K.Cast None) e p = cast_kind fits_suffice q w
-  proved (K.Cast (Some written)) e p = written_kind fits_suffice q w written
-  proved K.Tuple e p = tuple_kind fits_suffice q w
-  proved (K.Vector shape) e p = no e
-  proved (K.List shape) e p = no e
-  proved (K.Cons shape) e p = no e
-  proved (K.Struct u fields) e p = no e
-  proved (K.With u fields) e p = no e
-  proved (K.Part suffixes) e p = no e
-  proved K.WithItem e p = no e
-  proved K.WithSlice e p = with_slice_kind q w fits_suffice
-  proved (K.SizeOf x numbers) e p = no e
-  proved (K.Constraint c numbers) e p = no e
-  proved (K.Assign targets) e p = no e
-  proved (K.Block statements) e p = block_kind q w fits_suffice statements (all_lets_match q w model.fits statements p)
-  proved (K.Let arm) e p = let_kind q w arm (lets_match q w model.fits arm p)
-  proved (K.Var name written) e p = var_kind q w name written
-  proved (K.If shape) e p = no e
-  proved (K.Match arms shape) e p = no e
-  proved (K.Try arms shape) e p = no e
-  proved (K.Clauses arms) e p = clauses_kind q w arms
-  proved K.When e p = when_kind q w
-  proved (K.Foreach name way) e p = foreach_kind fits_suffice q w name way
-  proved K.While e p = no e
-  proved K.Repeat e p = no e
-  proved K.Return e p = return_kind fits_suffice q w
-  proved K.Throw e p = throw_kind fits_suffice q w
-  proved K.Exit e p = exit_kind fits_suffice q w
-  proved (K.Assert text) e p = assert_kind fits_suffice q w text
-  proved (K.Optional x) e p = optional_kind q w x
+arms_grow : AllArmsGrow
+arms_grow around place arm i =
+    let h : Counting.Grows (arm_match place arm around (record { in_case = true; is_owed = false }) (i ∷ [])) =
+    Growing.arm_grows around place arm (record { in_case = true; is_owed = false }) (i ∷ []) in
+    record { onward = h.onward; more = h.more; extends = h.extends }
+
+joining : FreeJoining
+joining = free_joining fits_suffice met_grows
+
+module _ (q : Scene) (w : World Item) (model : ModelStands q.set q.work) where
+  calls : (callee : Callee) → KindFine q w (K.Call callee)
+  calls (C.Applies d) = applies_kind q w d
+  calls (C.Function i) = function_kind fits_suffice q w i (λ f is. calls_fit_standing f (model.places i f is))
+  calls (C.Row row) = row_kind fits_suffice q w widening row
+  calls (C.Constructor u c) = constructor_kind fits_suffice q w model.narrow u c
+  calls (C.Converts d) = converts_kind fits_suffice q w model.fits.mappings d
+
+  -- a kind of which nothing more has to be known
+  known : (kind : Kind) → KindFine q w kind → KindFineOver q w (WaysStand q kind) kind
+  known kind h place k ss ps rs so parts right = h place k ss ps rs parts right
+
+  arms : (cases : List Arm) → arms_stand q.set.around.types q.numbers cases ≡ true → (names : List Kept) → AllMatch (at q w names true) w cases
+  arms cases stand names = all_match (at q w names true) w model.fits refl cases stand
+
+  pub proved : (kind : Kind) → is_proved kind ≡ true → patterns_stand q.set.around.types q.numbers kind ≡ true → sizes_stand q.numbers kind ≡ true
+      → KindFineOver q w (WaysStand q kind) kind
+  proved (K.Constant l) e p s = known (K.Constant l) (constant_kind fits_suffice q w l)
+  proved (K.Local name) e p s = known (K.Local name) (local_kind fits_suffice q w name)
+  proved (K.Variable name) e p s = known (K.Variable name) (variable_kind fits_suffice q w name)
+  proved (K.TopLevel i) e p s = known (K.TopLevel i) (top_level_kind (λ types s j. filled_value types 0 s j) fits_suffice q w i)
+  proved (K.Register i) e p s = known (K.Register i) (register_kind fits_suffice q w model.registers i)
+  proved (K.Call callee) e p s = known (K.Call callee) (calls callee)
+  proved K.And e p s = known K.And (and_kind fits_suffice q w)
+  proved K.Or e p s = known K.Or (or_kind fits_suffice q w)
+  proved (K.Cast None) e p s = known (K.Cast None) (cast_kind fits_suffice q w)
+  proved (K.Cast (Some written)) e p s = known (K.Cast (Some written)) (written_kind fits_suffice q w written)
+  proved K.Tuple e p s = known K.Tuple (tuple_kind fits_suffice q w)
+  proved (K.Vector shape) e p s = known (K.Vector shape) (vector_kind fits_suffice q w shape)
+  proved (K.List shape) e p s = known (K.List shape) (list_kind fits_suffice q w shape)
+  proved (K.Cons shape) e p s = known (K.Cons shape) (cons_kind fits_suffice q w shape)
+  proved (K.Struct u fields) e p s = known (K.Struct u fields) (struct_kind fits_suffice q w model.narrow u fields)
+  proved (K.With u fields) e p s = known (K.With u fields) (with_kind fits_suffice q w model.narrow u fields)
+  proved (K.Part suffixes) e p s = known (K.Part suffixes) (part_kind q w fits_suffice model.narrow suffixes)
+  proved K.WithItem e p s = known K.WithItem (with_item_kind q w fits_suffice)
+  proved K.WithSlice e p s = known K.WithSlice (with_slice_kind q w fits_suffice)
+  proved (K.SizeOf t ns) e p s = known (K.SizeOf t ns) (size_kind fits_suffice q w t ns s)
+  proved (K.Constraint c ns) e p s = known (K.Constraint c ns) (constraint_kind fits_suffice q w c ns s)
+  proved (K.Assign targets) e p s = known (K.Assign targets) (assign_kind fits_suffice q w model.narrow model.registers targets e)
+  proved (K.Block statements) e p s = known (K.Block statements) (block_kind q w fits_suffice statements (all_lets_match q w model.fits statements p))
+  proved (K.Let arm) e p s = known (K.Let arm) (let_kind q w arm (lets_match q w model.fits arm p))
+  proved (K.Var name written) e p s = known (K.Var name written) (var_kind q w name written)
+  proved (K.If shape) e p s = if_kind fits_suffice joining met_grows agreement_counts q w shape
+  proved (K.Match cases shape) e p s = match_kind arms_grow q w joining met_grows agreement_counts cases shape (arms cases p)
+  proved (K.Try cases shape) e p s = try_kind arms_grow q w joining met_grows agreement_counts cases shape (arms cases p)
+  proved (K.Clauses cases) e p s = known (K.Clauses cases) (clauses_kind q w cases)
+  proved K.When e p s = known K.When (when_kind q w)
+  proved (K.Foreach name way) e p s = known (K.Foreach name way) (foreach_kind fits_suffice q w name way)
+  proved K.While e p s = known K.While (while_kind fits_suffice q w)
+  proved K.Repeat e p s = known K.Repeat (repeat_kind fits_suffice q w)
+  proved K.Return e p s = known K.Return (return_kind fits_suffice q w)
+  proved K.Throw e p s = known K.Throw (throw_kind fits_suffice q w)
+  proved K.Exit e p s = known K.Exit (exit_kind fits_suffice q w)
+  proved (K.Assert text) e p s = known (K.Assert text) (assert_kind fits_suffice q w text)
+  proved (K.Optional x) e p s = known (K.Optional x) (optional_kind q w x)

@@ -1,5 +1,6 @@
 -- An expression is fine where each of its nodes is.
 use Rattle.std.proofs.Common.{◌≡◌, Bool, true, false, List, [], ◌∷◌, ◌++◌, map, refl, sym, ap, ◌∙◌, subst}
+use Rattle.std.proofs.lemmas.Bool.{and_parts}
 use Rattle.sail_core.specs.Making.{World}
 use Rattle.sail_core.specs.Meaning.{kind_meaning, meaning}
 use Rattle.sail_core.specs.Run.{Run}
@@ -12,7 +13,8 @@ use Rattle.soundness_forms.specs.Forms.{Fine, z}
 use Rattle.soundness_forms.specs.Standing.{Standing, node_standing, standing}
 use Rattle.soundness_forms.specs.EachKind.{PartsFine}
 use Rattle.soundness_binding.specs.Patterned.{patterns_stand}
-use Rattle.sail_soundness.specs.Whole.{EachFine, EachFollows, ModelStands, NodeFine, is_proved, joined, nodes, nodes_over}
+use Rattle.soundness_sizes.specs.Kinds.{sizes_stand}
+use Rattle.sail_soundness.specs.Whole.{EachFine, EachFollows, ModelStands, NodeFine, NodeStands, is_proved, joined, nodes, nodes_over}
 use Rattle.sail_soundness.proofs.Nodes.{proved}
 
 -- ---- nodes
@@ -32,22 +34,35 @@ nodes_are d =
     ∷ joined (map (λ (p : Core × List (Core-F Core)). p.1) (map (λ c. (c, nodes c)) d.parts))) (firsts d.parts)
     ∙ ap (λ ns. d ∷ ns) (nexts d.parts)
 
-module _ (q : Scene) (w : World Item) (model : ModelStands q.set q.work) where
-  pub front : (ns ms : List (Core-F Core)) → EachFine q w (ns ++ ms) → EachFine q w ns
+-- ---- what is asked of them
+
+module _ (q : Scene) (w : World Item) where
+  front : (ns ms : List (Core-F Core)) → EachFine q w (ns ++ ms) → EachFine q w ns
   front [] ms h = tt
-  front (c ∷ ns) ms h = (h.0, h.1, front ns ms h.2)
+  front (c ∷ ns) ms h = (h.0, front ns ms h.1)
 
-  pub behind : (ns ms : List (Core-F Core)) → EachFine q w (ns ++ ms) → EachFine q w ms
+  behind : (ns ms : List (Core-F Core)) → EachFine q w (ns ++ ms) → EachFine q w ms
   behind [] ms h = h
-  behind (c ∷ ns) ms h = behind ns ms h.2
+  behind (c ∷ ns) ms h = behind ns ms h.1
 
-  each : (d : Core-F Core) → (is_proved d.kind ≡ false → NodeFine q w d) → patterns_stand q.set.around.types q.numbers d.kind ≡ true → NodeFine q w d
-  each d left stand = by_kind (is_proved d.kind) refl
+  -- those of a node's one part are among its own
+  pub part_fine : (d : Core-F Core) (c : Core) → d.parts ≡ c ∷ [] → EachFine q w (nodes (roll-Core d)) → EachFine q w (nodes c)
+  part_fine d c is h =
+      front (nodes c) [] (subst (λ cs. EachFine q w (joined (map nodes cs))) is (subst (EachFine q w) (nodes_are d) h).1)
+
+-- ---- each of them is fine
+
+module _ (q : Scene) (w : World Item) (model : ModelStands q.set q.work) where
+  each : (d : Core-F Core) → NodeStands q w d → NodeFine q w d
+  each d stands = by_kind (is_proved d.kind) refl
     where
+      both : (patterns_stand q.set.around.types q.numbers d.kind ≡ true) × (sizes_stand q.numbers d.kind ≡ true)
+      both = and_parts (patterns_stand q.set.around.types q.numbers d.kind) (sizes_stand q.numbers d.kind) stands.asks
+
       by_kind : (b : Bool) → is_proved d.kind ≡ b → NodeFine q w d
-      by_kind true e =
-          proved q w model d.kind e stand d.place d.number (map (standing q.set.around) d.parts) (map part d.parts) (map (meaning (z q w) w) d.parts)
-      by_kind false e = left e
+      by_kind true e = proved q w model d.kind e both.0 both.1 d.place d.number (map (standing q.set.around) d.parts) (map part d.parts)
+          (map (meaning (z q w) w) d.parts) stands.ways
+      by_kind false e = stands.others e
 
   -- ---- an expression with its part, its run and how it stands
 
@@ -65,7 +80,7 @@ module _ (q : Scene) (w : World Item) (model : ModelStands q.set q.work) where
       → PartsFine q w (map (standing q.set.around) (bare ys)) (map part (bare ys)) (map (meaning (z q w) w) (bare ys))
   parts_fine [] h = tt
   parts_fine (y ∷ ys) h =
-      (y.1 (front (nodes y.0) (joined (map nodes (bare ys))) h), parts_fine ys (behind (nodes y.0) (joined (map nodes (bare ys))) h))
+      (y.1 (front q w (nodes y.0) (joined (map nodes (bare ys))) h), parts_fine ys (behind q w (nodes y.0) (joined (map nodes (bare ys))) h))
 
   node_fine : (y : Core-F SuchCore) → Such (roll-Core (map-Core SuchCore Core (λ p. p.0) y))
   node_fine y others right =
@@ -79,7 +94,7 @@ module _ (q : Scene) (w : World Item) (model : ModelStands q.set q.work) where
       (kind_meaning (z q w) w d.place d.number d.kind (map (meaning (z q w) w) d.parts))) (sym p)
       (subst (λ t. Fine q w t.cast t.guard (core_part (map-Core Core Part part d))
       (kind_meaning (z q w) w d.place d.number d.kind (map (meaning (z q w) w) d.parts))) (sym s)
-      (each d here.0 here.1 (parts_fine y.parts here.2) (sym (ap (λ t. t.right) s) ∙ right))))
+      (each d here.0 (parts_fine y.parts here.1) (sym (ap (λ t. t.right) s) ∙ right))))
 
   fine : (c : Core) → Such c
   fine = ind-Core Such (λ c y e. subst (λ d. Such (roll-Core d)) e (node_fine y))

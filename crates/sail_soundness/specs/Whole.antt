@@ -1,11 +1,15 @@
 -- Each expression of a core ends well beside its walk, where each of its nodes does.
-use Rattle.std.specs.Prelude.{◌≡◌, Bool, true, false, List, [], ◌∷◌, ◌++◌, map}
+use Rattle.std.specs.Prelude.{◌≡◌, ◌&&◌, Bool, true, false, ℕ, List, [], ◌∷◌, ◌++◌, map, slice_get, Some}
+use Rattle.std.specs.List.{list_all}
+use Rattle.sail_types.specs.declared.numbers.Index.{Index}
+use Rattle.sail_types.specs.declared.table.Types.{Types}
 use Rattle.sail_core.specs.Making.{World}
 use Rattle.sail_core.specs.Meaning.{kind_meaning, meaning}
-use Rattle.sail_core.specs.declared.tree.Callee.TheVariants as C
-use Rattle.sail_core.specs.declared.tree.Core.{Core, Core-F, para-Core}
+use Rattle.sail_core.specs.declared.model.Function.{Function}
+use Rattle.sail_core.specs.declared.tree.Core.{Core, Core-F, fold-Core, para-Core}
 use Rattle.sail_core.specs.declared.tree.Kind.{Kind}
 use Rattle.sail_core.specs.declared.tree.Kind.TheVariants as K
+use Rattle.call_fits.specs.Calls.{EachHasPlace}
 use Rattle.expression_steps.specs.Expressions.{part}
 use Rattle.checked_meaning.specs.Items.{Item}
 use Rattle.soundness_steps.specs.Works.{Scene, Setting, Work}
@@ -15,35 +19,26 @@ use Rattle.soundness_forms.specs.Registers.{RegistersClosed}
 use Rattle.soundness_forms.specs.Standing.{is_cast, is_guard, kind_right, standing}
 use Rattle.soundness_binding.specs.Patterned.{patterns_stand}
 use Rattle.soundness_binding.specs.Scenes.{ModelFits}
+use Rattle.soundness_sizes.specs.Kinds.{sizes_stand}
+use Rattle.soundness_values.specs.Named.{TypesNarrow}
+use Rattle.soundness_targets.specs.Plain.{all_plain}
+use Rattle.soundness_joins.specs.Ways.{WaysStand}
 
--- kinds of nodes that are fine: literals, names in scope, of top-level lets and registers, calls of builtins and of mappings, `&` and `|`, casts,
--- tuples, updates of slices, `let`, `var`, blocks, guards, `foreach` and what leaves; and those that stand in no expression of a resolved core
+-- kinds of nodes that are fine: all but assignments to tuples and to calls
 abbrev pub is_proved : Kind → Bool
-is_proved (K.Constant literal) = true
-is_proved (K.Local name) = true
-is_proved (K.Variable name) = true
-is_proved (K.TopLevel i) = true
-is_proved (K.Register i) = true
-is_proved (K.Call (C.Row row)) = true
-is_proved (K.Call (C.Converts d)) = true
-is_proved (K.Call (C.Applies d)) = true
-is_proved K.And = true
-is_proved K.Or = true
-is_proved (K.Cast written) = true
-is_proved K.Tuple = true
-is_proved K.WithSlice = true
-is_proved (K.Block statements) = true
-is_proved (K.Let arm) = true
-is_proved (K.Var name written) = true
-is_proved (K.Clauses arms) = true
-is_proved K.When = true
-is_proved (K.Foreach name way) = true
-is_proved K.Return = true
-is_proved K.Throw = true
-is_proved K.Exit = true
-is_proved (K.Assert text) = true
-is_proved (K.Optional t) = true
-is_proved kind = false
+is_proved (K.Assign targets) = all_plain targets
+is_proved kind = true
+
+-- what a kind asks besides: its patterns stand, and numbers and conditions that it reads stand for themselves
+abbrev pub kind_asks : Types → List Index → Kind → Bool
+kind_asks types numbers kind = patterns_stand types numbers kind && sizes_stand numbers kind
+
+-- each node of an expression is of a proved kind, and what that asks holds
+abbrev pub node_fits : Types → List Index → Core-F Bool → Bool
+node_fits types numbers c = (is_proved c.kind && kind_asks types numbers c.kind) && list_all (λ b. b) c.parts
+
+abbrev pub core_fits : Types → List Index → Core → Bool
+core_fits types numbers = fold-Core Bool (node_fits types numbers)
 
 -- ---- nodes of an expression, each with its parts
 
@@ -57,9 +52,16 @@ nodes_over c = record { place = c.place; number = c.number; kind = c.kind; parts
 abbrev pub nodes : Core → List (Core-F Core)
 nodes = para-Core (List (Core-F Core)) nodes_over
 
--- types of registers name no variable, nor do those of mappings, and the table of types passes the tests that patterns ask for
+-- variables of functions have places among their parameters
+abbrev pub HavePlaces : Setting → Type 0
+HavePlaces set = (i : ℕ) (f : Function) → slice_get set.around.functions i ≡ Some f → EachHasPlace 0 f.variables f.parameters
+
+-- types of registers name no variable, nor do those of mappings; fields and payloads name no Type variables but those of their own type; and the table
+-- of types passes the tests that patterns ask for
 pub record ModelStands (set : Setting) (work : Work) : Type 0 where
   pub registers : RegistersClosed set
+  pub places : HavePlaces set
+  pub narrow : TypesNarrow set.around.types
   pub fits : ModelFits set work
 
 module _ (q : Scene) (w : World Item) where
@@ -70,11 +72,20 @@ module _ (q : Scene) (w : World Item) where
       → Fine q w (is_cast c.kind) (is_guard c.kind) (node q w c.place c.number c.kind (map part c.parts))
       (kind_meaning (z q w) w c.place c.number c.kind (map (meaning (z q w) w) c.parts))
 
+  -- what is asked of each node
+  pub record NodeStands (c : Core-F Core) : Type 0 where
+    -- one that isn't of a proved kind is fine
+    pub others : is_proved c.kind ≡ false → NodeFine c
+    -- what its kind asks besides
+    pub asks : kind_asks q.set.around.types q.numbers c.kind ≡ true
+    -- and of ways that meet, where no type is wanted
+    pub ways : WaysStand q c.kind c.place (map part c.parts)
+
   abbrev pub EachFine : List (Core-F Core) → Type 0
   EachFine [] = Unit {0}
-  EachFine (c ∷ cs) = (is_proved c.kind ≡ false → NodeFine c) × (patterns_stand q.set.around.types q.numbers c.kind ≡ true) × EachFine cs
+  EachFine (c ∷ cs) = NodeStands c × EachFine cs
 
-  -- nodes of the other kinds are, and patterns stand, in a model whose registers, mappings and types are as the resolver has them
+  -- nodes of the other kinds are, and what kinds ask holds, in a model whose registers, functions, mappings and types are as the resolver has them
   abbrev pub OthersFine : List (Core-F Core) → Type 0
   OthersFine cs = ModelStands q.set q.work × EachFine cs
 
@@ -83,3 +94,13 @@ module _ (q : Scene) (w : World Item) where
 abbrev pub EachFollows : Type 0
 EachFollows = (q : Scene) (w : World Item) (c : Core) → (standing q.set.around c).right ≡ true → OthersFine q w (nodes c)
     → Fine q w (standing q.set.around c).cast (standing q.set.around c).guard (part c) (meaning (z q w) w c)
+
+-- ways that meet in these nodes, where no type is wanted
+abbrev pub AllWaysStand : Scene → List (Core-F Core) → Type 0
+AllWaysStand q [] = Unit {0}
+AllWaysStand q (c ∷ cs) = WaysStand q c.kind c.place (map part c.parts) × AllWaysStand q cs
+
+-- where each node of an expression passes these tests, what is left to ask is of the model, and of ways that meet
+abbrev pub CoresFit : Type 0
+CoresFit = (q : Scene) (w : World Item) (c : Core) → core_fits q.set.around.types q.numbers c ≡ true → ModelStands q.set q.work
+    → AllWaysStand q (nodes c) → OthersFine q w (nodes c)

@@ -3,4 +3,4 @@
 
 mod laws;
 
-pub use laws::expressions_follow;
+pub use laws::{cores_fit, expressions_follow};

@@ -33,10 +33,10 @@ use Rattle.soundness_forms.proofs.Basics.{has_on, has_there, met_on, then_walks}
 use Rattle.soundness_forms.proofs.Casts.{comes_is, no_guard}
 use Rattle.soundness_forms.proofs.Growth.{grows_bind, grows_give, grows_given, grows_made}
 use Rattle.soundness_forms.proofs.Nodes.{ends_node}
-use Rattle.soundness_forms.proofs.PlainKinds.{fine_by, value_fine}
-use Rattle.sail_soundness.specs.Whole.{EachFine, ModelStands, OthersFine, joined, nodes}
-use Rattle.sail_soundness.proofs.Nodes.{proved}
-use Rattle.sail_soundness.proofs.Whole.{behind, front, nodes_are, whole}
+use Rattle.soundness_forms.proofs.PlainKinds.{cast_kind, fine_by, value_fine}
+use Rattle.soundness_fits.proofs.Owing.{fits_suffice}
+use Rattle.sail_soundness.specs.Whole.{EachFine, ModelStands, OthersFine, nodes}
+use Rattle.sail_soundness.proofs.Whole.{part_fine, whole}
 
 -- ---- a value that is made as what it is
 
@@ -95,6 +95,9 @@ module _ (q : Scene) (w : World Item) where
       ∙ sym (ap (λ (s : Standing). s.right) (fold-roll-Core Standing (node_standing q.set.around) (out-Core c)))
       ∙ ap (λ d. (standing q.set.around d).right) (roll-out-Core c) ∙ h
 
+  node_others : (c : Core) (a : Core) → (out-Core c).parts ≡ a ∷ [] → EachFine q w (nodes c) → EachFine q w (nodes a)
+  node_others c a p h = part_fine q w (out-Core c) a p (subst (λ d. EachFine q w (nodes d)) (sym (roll-out-Core c)) h)
+
   no_only : {A : Type 0} (xs : List A) → only false xs ≡ None
   no_only [] = refl
   no_only (x ∷ []) = refl
@@ -103,13 +106,6 @@ module _ (q : Scene) (w : World Item) where
   -- ---- behind the type that is written
 
   module _ (model : ModelStands q.set q.work) where
-    node_others : (c : Core) (a : Core) → (out-Core c).parts ≡ a ∷ [] → EachFine q w (nodes c) → EachFine q w (nodes a)
-    node_others c a p h =
-        let here : EachFine q w (out-Core c ∷ joined (map nodes (out-Core c).parts)) =
-        subst (EachFine q w) (nodes_are (out-Core c)) (subst (λ d. EachFine q w (nodes d)) (sym (roll-out-Core c)) h) in
-        let parts : EachFine q w (joined (map nodes (out-Core c).parts)) = behind q w model (out-Core c ∷ []) (joined (map nodes (out-Core c).parts)) here in
-        front q w model (nodes a) [] (subst (λ cs. EachFine q w (joined (map nodes cs))) p parts)
-
     -- a part that a value is made of
     a_value : (a : Core) → is_value (standing q.set.around a) ≡ true → EachFine q w (nodes a) → Fine q w false false (part a) (meaning (z q w) w a)
     a_value a is others =
@@ -156,7 +152,7 @@ module _ (q : Scene) (w : World Item) where
         let s : Standing = record { cast = false; guard = false; right = true } in (
           false,
           subst (Fine q w true false (cast_over (out-Core c) (bare_part a))) (node_means c (K.Cast None) (a ∷ []) k p)
-              (proved q w model (K.Cast None) refl refl (out-Core c).place (out-Core c).number (s ∷ []) (bare_part a ∷ []) (meaning (z q w) w a ∷ [])
+              (cast_kind fits_suffice q w (out-Core c).place (out-Core c).number (s ∷ []) (bare_part a ∷ []) (meaning (z q w) w a ∷ [])
               ((λ e. inner), tt) refl),
         )
     result_fine c is right others kind (a ∷ []) k p true e = absurd (true≢false (sym e))
