@@ -50,13 +50,13 @@ one_truth K.Bool x xs nu is h (suc i) = h i
 
 same_ints : (variables : List Variable) → SameInts (number_parameters variables) (stand_ins variables)
 same_ints [] i = refl
-same_ints (v ∷ variables) =
-    one_int v.kind (number_parameter v) (number_parameters variables) (stand_ins variables) refl (same_ints variables)
+same_ints (v ∷ variables) i =
+    one_int v.kind (number_parameter v) (number_parameters variables) (stand_ins variables) refl (same_ints variables) i
 
 same_truths : (variables : List Variable) → SameTruths (number_parameters variables) (stand_ins variables)
 same_truths [] i = refl
-same_truths (v ∷ variables) =
-    one_truth v.kind (number_parameter v) (number_parameters variables) (stand_ins variables) refl (same_truths variables)
+same_truths (v ∷ variables) i =
+    one_truth v.kind (number_parameter v) (number_parameters variables) (stand_ins variables) refl (same_truths variables) i
 
 -- ---- conditions
 

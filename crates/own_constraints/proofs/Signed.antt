@@ -1,5 +1,5 @@
 -- The constraint of a signature uses each type variable as what it stands for.
-use Rattle.std.proofs.Common.{◌≡◌, ℕ, List, [], map, sym, ◌∙◌, refl, subst, true, find, option_map}
+use Rattle.std.proofs.Common.{◌≡◌, ℕ, List, [], ◌∷◌, map, sym, ◌∙◌, refl, subst, true, find, option_map}
 use Rattle.std.specs.Prelude.{Option, Some, None}
 use Rattle.std.specs.Option.{option_or}
 use Rattle.sail_base.specs.declared.kind.Kind.TheVariants as K
