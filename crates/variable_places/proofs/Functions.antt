@@ -1,13 +1,10 @@
 -- The variables of the functions of an accepted text.
-use Rattle.std.proofs.Common.{◌≡◌, ◌≤◌, ◌<◌, ◌+◌, ℕ, zero, suc, List, [], ◌∷◌, ◌++◌, map, length, ap, sym, ◌∙◌, refl, subst, Bool, true, false, arith}
+use Rattle.std.proofs.Common.{◌≡◌, ◌≤◌, ◌<◌, ◌+◌, ℕ, suc, List, [], ◌∷◌, map, length, ap, sym, ◌∙◌, refl, subst, Bool, true, false, arith}
 use Rattle.std.proofs.Common.{if◌then◌else◌}
-use Rattle.std.specs.Prelude.{Option, Some, None, slice_get}
+use Rattle.std.specs.Prelude.{Option, Some, None}
 use Rattle.sail_base.specs.declared.kind.Kind.{Kind}
 use Rattle.sail_base.specs.declared.kind.Kind.TheVariants as K
-use Rattle.sail_base.specs.declared.place.Place.{Place}
 use Rattle.sail_syntax.specs.declared.definitions.Def.{Def}
-use Rattle.sail_syntax.specs.declared.definitions.Def.TheVariants as D
-use Rattle.sail_syntax.specs.declared.definitions.FunctionClause.{FunctionClause}
 use Rattle.sail_types.specs.Places.{Given, a_bool, an_int}
 use Rattle.sail_types.specs.declared.table.Parameter.{Parameter}
 use Rattle.sail_types.specs.declared.types.Typ.{Typ}
@@ -15,18 +12,13 @@ use Rattle.sail_kinds.specs.declared.scope.Variable.{Variable}
 use Rattle.sail_signatures.specs.declared.signature.Signature.{Signature}
 use Rattle.sail_tables.specs.Refused.{signature_in}
 use Rattle.sail_core.specs.Numbers.{Givens}
-use Rattle.sail_core.specs.declared.model.Function.{Function}
 use Rattle.type_definitions.specs.Defined.{types_of}
-use Rattle.shape_joins.proofs.JoinsLeast.{none, some_same}
 use Rattle.shape_joins.proofs.Order.{no}
 use Rattle.shape_rules.specs.Calls.{parameters_of}
-use Rattle.shape_rules.specs.Written.{joined}
 use Rattle.shape_models.specs.Models.{is_type_variable}
 use Rattle.shape_declarations.specs.Signatures.{number_parameter, number_parameters}
-use Rattle.shape_clauses.specs.Functions.{functions_if, functions_of}
 use Rattle.shapes.specs.Failures.{refusal}
 use Rattle.shapes.specs.Tabled.{tabled_of}
-use Rattle.text_models.specs.Whole.{setting_in}
 use Rattle.accepted_texts.specs.Accepted.{NothingFails}
 use Rattle.accepted_texts.proofs.Failures.{nothing_fails}
 use Rattle.text_progress.proofs.Given.{parameters_kinded, stand_ins}
@@ -37,15 +29,16 @@ use Rattle.text_progress.proofs.Told.{same_count, signed_kinded}
 use Rattle.call_fits.specs.Calls.{EachHasPlace, among_as, is_bool, placed_as}
 use Rattle.variable_places.specs.Places.{VariablesHavePlaces}
 use Rattle.variable_places.proofs.Placed.{KindAs, among_kinds, none_past}
+use Rattle.variable_places.proofs.Each.{each_function}
 use Rattle.variable_places.proofs.Told.{told_among}
 
 -- ---- the Int and Bool variables, beside what they stand for
 
-abbrev is_truth : Given → Bool
+abbrev pub is_truth : Given → Bool
 is_truth (an_int z) = false
 is_truth (a_bool b) = true
 
-abbrev Alike : List Parameter → Givens → Type 0
+abbrev pub Alike : List Parameter → Givens → Type 0
 Alike [] [] = Unit {0}
 Alike (p ∷ ps) (g ∷ nu) = (is_truth g ≡ is_bool p.kind) × Alike ps nu
 Alike ps nu = ⊥
@@ -56,7 +49,7 @@ one_alike K.Type x xs nu is h = h
 one_alike K.Int x xs nu is h = (ap is_bool (sym is), h)
 one_alike K.Bool x xs nu is h = (ap is_bool (sym is), h)
 
-alike : (variables : List Variable) → Alike (number_parameters variables) (stand_ins variables)
+pub alike : (variables : List Variable) → Alike (number_parameters variables) (stand_ins variables)
 alike [] = tt
 alike (v ∷ variables) = one_alike v.kind (number_parameter v) (number_parameters variables) (stand_ins variables) refl (alike variables)
 
@@ -117,9 +110,9 @@ module _ (ts : List Typ) where
             (λ i h. past i (behind j (length ps) i h)),
       )
 
--- ---- a signature of an accepted text, and its functions
+-- ---- a signature of an accepted text
 
-module _ (text : List Def) (cycle : List ℕ → Option ℕ) (clear : NothingFails text) (kept : refusal (tabled_of text) text ≡ None) where
+module _ (text : List Def) (clear : NothingFails text) (kept : refusal (tabled_of text) text ≡ None) where
   signature_placed : (name : List ℕ) (s : Signature) → signature_in text name ≡ Some s
       → EachHasPlace 0 (number_parameters s.variables) (parameters_of s.from)
   signature_placed name s signed =
@@ -139,36 +132,7 @@ module _ (text : List Def) (cycle : List ℕ → Option ℕ) (clear : NothingFai
       as_many : (n m i : ℕ) → m ≡ n → 0 + m ≤ i → n ≤ i
       as_many n m i same h = omega (arith, same, h)
 
-  abbrev ArePlaced : List Function → Type 0
-  ArePlaced [] = Unit {0}
-  ArePlaced (f ∷ fs) = EachHasPlace 0 f.variables f.parameters × ArePlaced fs
-
-  joined_placed : (fs gs : List Function) → ArePlaced fs → ArePlaced gs → ArePlaced (fs ++ gs)
-  joined_placed [] gs h k = k
-  joined_placed (f ∷ fs) gs h k = (h.0, joined_placed fs gs h.1 k)
-
-  if_placed : (place : Place) (name : List ℕ) (cs : List FunctionClause) (o : Option Signature) (c : Option ℕ) → signature_in text name ≡ o
-      → ArePlaced (functions_if (tabled_of text) text (setting_in (tabled_of text) text) place name cs o c)
-  if_placed place name cs None c is = tt
-  if_placed place name cs (Some s) c is = (signature_placed name s is, tt)
-
-  definition_placed : (d : Def) → ArePlaced (functions_of (tabled_of text) text (setting_in (tabled_of text) text) cycle d)
-  definition_placed (D.Function place extent name cs) = if_placed place name.text cs (signature_in text name.text) (cycle name.text) refl
-  definition_placed d = tt
-
-  all_placed : (ds : List Def) → ArePlaced (joined (map (functions_of (tabled_of text) text (setting_in (tabled_of text) text) cycle) ds))
-  all_placed [] = tt
-  all_placed (d ∷ ds) =
-      joined_placed (functions_of (tabled_of text) text (setting_in (tabled_of text) text) cycle d)
-      (joined (map (functions_of (tabled_of text) text (setting_in (tabled_of text) text) cycle) ds)) (definition_placed d) (all_placed ds)
-
-  placed_at : (fs : List Function) → ArePlaced fs → (i : ℕ) (f : Function) → slice_get fs i ≡ Some f → EachHasPlace 0 f.variables f.parameters
-  placed_at [] h i f e = none e
-  placed_at (x ∷ fs) h zero f e = subst (λ (y : Function). EachHasPlace 0 y.variables y.parameters) (some_same x f e) h.0
-  placed_at (x ∷ fs) h (suc i) f e = placed_at fs h.1 i f e
-
 pub variables_placed : VariablesHavePlaces
-variables_placed text end cycle accepted kept i f e =
-    let clear : NothingFails text = nothing_fails text end accepted in
-    placed_at text cycle clear kept (joined (map (functions_of (tabled_of text) text (setting_in (tabled_of text) text) cycle) text))
-    (all_placed text cycle clear kept text) i f e
+variables_placed text end cycle accepted kept =
+    each_function text cycle (λ f. EachHasPlace 0 f.variables f.parameters)
+    (λ place name cs s signed c. signature_placed text (nothing_fails text end accepted) kept name s signed)
