@@ -192,9 +192,11 @@ form_so : (y : Typ-F Such) (nu : Givens) (j : ℕ) (v : Value) (g : Given)
 form_so (T.Int n) nu j v g h e = int_place nu n j (out-Value v) g h e
 form_so (T.Truth c) nu j v g h e = truth_place nu c j (out-Value v) g h e
 form_so (T.Bits n) nu j v g h e = bits_place nu n j (out-Value v) g h e
-form_so (T.Vector n y) nu j v g h e = vector_place nu n (placed y.0) j (out-Value v) g h e
+form_so (T.Vector n y) nu j v g h e =
+    vector_place nu n (placed y.0) j (out-Value v) g (and_parts (given_in nu n) (typ_kinded nu y.0) h).0 e
 form_so (T.Tuple ys) nu j v g h e = tuple_place ys nu j (out-Value v) g h e
-form_so (T.Exists name c y) nu j v g h e = out_of nu j g (y.1 (inside nu) (suc j) v g h e)
+form_so (T.Exists name c y) nu j v g h e =
+    out_of nu j g (y.1 (inside nu) (suc j) v g (and_parts (truth_given (inside nu) c) (typ_kinded (inside nu) y.0) h).1 e)
 form_so y nu j v g h e = none e
 
 rolled_so : (y : Typ-F Such) → PlacedSo (roll-Typ (forms y))

@@ -99,7 +99,7 @@ pub function_scope : (text : List Def) (name : List ℕ) (s : Signature) → sig
     → givens_of (length (number_parameters s.variables)) (parameters_of s.from) args ≡ Some nu → ScopeGiven nu s.variables
 function_scope text name s e args nu gave =
     scope_given s.variables (parameters_of s.from) args nu
-    (parameters_kinded (stand_ins s.variables) s.from (signed_kinded (types_of text).named text name s e))
+    (parameters_kinded (stand_ins s.variables) s.from (signed_kinded (types_of text).named text name s e).0)
     (ap (λ n. givens_of n (parameters_of s.from) args) (sym (same_count s.variables)) ∙ gave)
 
 -- ---- of a text in which no failure is found

@@ -7,7 +7,7 @@ use Rattle.std.proofs.Math.Numerals.{add-one}
 use Rattle.std.proofs.lemmas.Bool.{and_parts, le-ltb}
 use Rattle.std.proofs.lemmas.Bool.Decides.{nat_tests}
 use Rattle.sail_types.specs.Places.{an_int}
-use Rattle.sail_types.specs.Readings.{form_read, read_con, read_indices, together, truth_at}
+use Rattle.sail_types.specs.Readings.{form_read, read_con, read_index, read_indices, together, truth_at}
 use Rattle.sail_types.specs.Sums.{and_then, num, read, term, variable}
 use Rattle.sail_types.specs.declared.numbers.Atom.{Atom, roll-Atom}
 use Rattle.sail_types.specs.declared.numbers.Atom.TheFolds.{fold-Atom, fold-Term, fold-roll-Atom, fold-roll-Num, fold-roll-Term, ind-Num}
@@ -50,13 +50,23 @@ inside nu = an_int (pos 0) ∷ nu
 abbrev pub Kinded : Type 0
 Kinded = Givens → Bool
 
+abbrev pub index_kinded : Givens → Index → Bool
+index_kinded nu (I.Number n) = given_in nu n
+index_kinded nu (I.Truth c) = truth_given nu c
+
+abbrev pub indices_kinded : Givens → List Index → Bool
+indices_kinded nu is = all_of (map (index_kinded nu) is)
+
 abbrev pub form_kinded : Typ-F Kinded → Kinded
 form_kinded (T.Truth c) nu = truth_given nu c
 form_kinded (T.Bits n) nu = given_in nu n
 form_kinded (T.Int n) nu = given_in nu n
-form_kinded (T.Vector n f) nu = given_in nu n
+form_kinded (T.Range low high) nu = given_in nu low && given_in nu high
+form_kinded (T.List f) nu = f nu
+form_kinded (T.Vector n f) nu = given_in nu n && f nu
 form_kinded (T.Tuple fs) nu = all_of (map (λ f. f nu) fs)
-form_kinded (T.Exists name c f) nu = f (inside nu)
+form_kinded (T.Named i is fs) nu = indices_kinded nu is && all_of (map (λ f. f nu) fs)
+form_kinded (T.Exists name c f) nu = truth_given (inside nu) c && f (inside nu)
 form_kinded form nu = true
 
 abbrev pub typ_kinded : Givens → Typ → Bool
@@ -64,13 +74,6 @@ typ_kinded nu t = fold-Typ Kinded form_kinded t nu
 
 abbrev pub all_kinded : Givens → List Typ → Bool
 all_kinded nu ts = all_of (map (typ_kinded nu) ts)
-
-abbrev pub index_kinded : Givens → Index → Bool
-index_kinded nu (I.Number n) = given_in nu n
-index_kinded nu (I.Truth c) = truth_given nu c
-
-abbrev pub indices_kinded : Givens → List Index → Bool
-indices_kinded nu is = all_of (map (index_kinded nu) is)
 
 abbrev pub opened : Givens → Typ-F Typ → Bool
 opened nu x = form_kinded (map-Typ Typ Kinded (λ t. fold-Typ Kinded form_kinded t) x) nu
@@ -350,6 +353,24 @@ read_truth nu is c d all e =
 
 -- ---- types one binder further in
 
+moved_one : (depth : ℕ) (mu nu : Givens) → Moves depth mu nu → (i j : Index) → index_kinded mu i ≡ true → moved_index depth i ≡ Some j
+    → index_kinded nu j ≡ true
+moved_one depth mu nu moves (I.Number n) j h e =
+    let p = map_parts I.Number (moved_num depth n) j e in
+    subst (λ x. index_kinded nu x ≡ true) p.2 (moved_given depth mu nu moves n p.0 p.1 h)
+moved_one depth mu nu moves (I.Truth c) j h e =
+    let p = map_parts I.Truth (moved_con depth c) j e in
+    subst (λ x. index_kinded nu x ≡ true) p.2 (moved_truth depth mu nu moves c p.0 p.1 h)
+
+moved_arguments : (depth : ℕ) (mu nu : Givens) → Moves depth mu nu → (is js : List Index) → indices_kinded mu is ≡ true
+    → moved_indices depth is ≡ Some js → indices_kinded nu js ≡ true
+moved_arguments depth mu nu moves [] js h e = subst (λ (xs : List Index). indices_kinded nu xs ≡ true) (nothing_made js e) refl
+moved_arguments depth mu nu moves (i ∷ is) js h e =
+    let own = and_parts (index_kinded mu i) (indices_kinded mu is) h in
+    let m = more_parts (moved_index depth i) (moved_indices depth is) js e in
+    subst (λ (xs : List Index). indices_kinded nu xs ≡ true) m.4
+    (two (index_kinded nu m.0) (indices_kinded nu m.1) (moved_one depth mu nu moves i m.0 own.0 m.2) (moved_arguments depth mu nu moves is m.1 own.1 m.3))
+
 abbrev KeptK : Typ → Type 0
 KeptK t = (depth : ℕ) (mu nu : Givens) → Moves depth mu nu → (u : Typ) → typ_kinded mu t ≡ true → moved_typ depth t ≡ Some u → typ_kinded nu u ≡ true
 
@@ -394,28 +415,39 @@ moved_opened (T.Int n) depth mu nu moves u h e =
 moved_opened (T.Range low high) depth mu nu moves u h e =
     let p = then_parts (moved_num depth low) (λ m. option_map (W.Range m) (moved_num depth high)) u e in
     let q = map_parts (W.Range p.0) (moved_num depth high) u p.2 in
-    made nu (T.Range p.0 q.0) u (W.rolls-Range p.0 q.0 ∙ q.2) refl
+    let own = and_parts (given_in mu low) (given_in mu high) h in
+    made nu (T.Range p.0 q.0) u (W.rolls-Range p.0 q.0 ∙ q.2)
+    (two (given_in nu p.0) (given_in nu q.0) (moved_given depth mu nu moves low p.0 p.1 own.0) (moved_given depth mu nu moves high q.0 q.1 own.1))
 moved_opened T.String depth mu nu moves u h e = made nu T.String u (W.rolls-String ∙ some_same W.String u e) refl
 moved_opened (T.List y) depth mu nu moves u h e =
-    let p = map_parts W.List (moved_typ depth y.0) u e in made nu (T.List p.0) u (W.rolls-List p.0 ∙ p.2) refl
+    let p = map_parts W.List (moved_typ depth y.0) u e in
+    made nu (T.List p.0) u (W.rolls-List p.0 ∙ p.2) (y.1 depth mu nu moves p.0 h p.1)
 moved_opened (T.Vector n y) depth mu nu moves u h e =
     let p = then_parts (moved_num depth n) (λ m. option_map (W.Vector m) (moved_typ depth y.0)) u e in
     let q = map_parts (W.Vector p.0) (moved_typ depth y.0) u p.2 in
-    made nu (T.Vector p.0 q.0) u (W.rolls-Vector p.0 q.0 ∙ q.2) (moved_given depth mu nu moves n p.0 p.1 h)
+    let own = and_parts (given_in mu n) (typ_kinded mu y.0) h in
+    made nu (T.Vector p.0 q.0) u (W.rolls-Vector p.0 q.0 ∙ q.2)
+    (two (given_in nu p.0) (typ_kinded nu q.0) (moved_given depth mu nu moves n p.0 p.1 own.0) (y.1 depth mu nu moves q.0 own.1 q.1))
 moved_opened (T.Tuple ys) depth mu nu moves u h e =
     let p = map_parts W.Tuple (moved_each ys depth) u e in
     made nu (T.Tuple p.0) u (W.rolls-Tuple p.0 ∙ p.2) (each_moved ys depth mu nu moves p.0 h p.1)
 moved_opened (T.Named i is ys) depth mu nu moves u h e =
     let p = then_parts (moved_indices depth is) (λ js. option_map (W.Named i js) (moved_each ys depth)) u e in
     let q = map_parts (W.Named i p.0) (moved_each ys depth) u p.2 in
-    made nu (T.Named i p.0 q.0) u (W.rolls-Named i p.0 q.0 ∙ q.2) refl
+    let own = and_parts (indices_kinded mu is) (all_of (map (λ f. f mu) (map (λ t. fold-Typ Kinded form_kinded t) (kept_types ys)))) h in
+    made nu (T.Named i p.0 q.0) u (W.rolls-Named i p.0 q.0 ∙ q.2)
+    (two (indices_kinded nu p.0) (all_of (map (λ f. f nu) (map (λ t. fold-Typ Kinded form_kinded t) q.0)))
+    (moved_arguments depth mu nu moves is p.0 own.0 p.1) (each_moved ys depth mu nu moves q.0 own.1 q.1))
 moved_opened (T.Variable i) depth mu nu moves u h e = made nu (T.Variable i) u (W.rolls-Variable i ∙ some_same (W.Variable i) u e) refl
 moved_opened (T.Exists name c y) depth mu nu moves u h e =
     let p = then_parts (next depth) (λ d. and_then (moved_con d c) (λ k. option_map (W.Exists name k) (moved_typ d y.0))) u e in
     let q = then_parts (moved_con p.0 c) (λ k. option_map (W.Exists name k) (moved_typ p.0 y.0)) u p.2 in
     let r = map_parts (W.Exists name q.0) (moved_typ p.0 y.0) u q.2 in
+    let further = moves_inside depth p.0 mu nu moves p.1 in
+    let own = and_parts (truth_given (inside mu) c) (typ_kinded (inside mu) y.0) h in
     made nu (T.Exists name q.0 r.0) u (W.rolls-Exists name q.0 r.0 ∙ r.2)
-    (y.1 p.0 (inside mu) (inside nu) (moves_inside depth p.0 mu nu moves p.1) r.0 h r.1)
+    (two (truth_given (inside nu) q.0) (typ_kinded (inside nu) r.0) (moved_truth p.0 (inside mu) (inside nu) further c q.0 q.1 own.0)
+    (y.1 p.0 (inside mu) (inside nu) further r.0 own.1 r.1))
 
 moved_rolled : (y : Typ-F SuchK) → KeptK (roll-Typ (kept_forms y))
 moved_rolled y depth mu nu moves u h e =
@@ -434,29 +466,28 @@ moved_all nu (t ∷ ts) us h e =
     (two (typ_kinded (inside nu) m.0) (all_kinded (inside nu) m.1) (moved_kinded t 0 nu (inside nu) (moves_out nu) m.0 own.0 m.2)
     (moved_all nu ts m.1 own.1 m.3))
 
-moved_one : (nu : Givens) (i j : Index) → index_kinded nu i ≡ true → moved_index 0 i ≡ Some j → index_kinded (inside nu) j ≡ true
-moved_one nu (I.Number n) j h e =
-    let p = map_parts I.Number (moved_num 0 n) j e in
-    subst (λ x. index_kinded (inside nu) x ≡ true) p.2 (moved_given 0 nu (inside nu) (moves_out nu) n p.0 p.1 h)
-moved_one nu (I.Truth c) j h e =
-    let p = map_parts I.Truth (moved_con 0 c) j e in
-    subst (λ x. index_kinded (inside nu) x ≡ true) p.2 (moved_truth 0 nu (inside nu) (moves_out nu) c p.0 p.1 h)
-
-moved_arguments : (nu : Givens) (is js : List Index) → indices_kinded nu is ≡ true → moved_indices 0 is ≡ Some js → indices_kinded (inside nu) js ≡ true
-moved_arguments nu [] js h e = subst (λ (xs : List Index). indices_kinded (inside nu) xs ≡ true) (nothing_made js e) refl
-moved_arguments nu (i ∷ is) js h e =
-    let own = and_parts (index_kinded nu i) (indices_kinded nu is) h in
-    let m = more_parts (moved_index 0 i) (moved_indices 0 is) js e in
-    subst (λ (xs : List Index). indices_kinded (inside nu) xs ≡ true) m.4
-    (two (index_kinded (inside nu) m.0) (indices_kinded (inside nu) m.1) (moved_one nu i m.0 own.0 m.2) (moved_arguments nu is m.1 own.1 m.3))
-
 inner_arguments : (nu : Givens) (is js : List Index) → indices_kinded nu is ≡ true → inside_indices is ≡ Some js → indices_kinded (inside nu) js ≡ true
 inner_arguments nu is js h e =
     let p = map_parts (λ ms. I.Number (variable 0) ∷ ms) (moved_indices 0 is) js e in
     subst (λ (xs : List Index). indices_kinded (inside nu) xs ≡ true) p.2
-    (two (given_in (inside nu) (variable 0)) (indices_kinded (inside nu) p.0) (variable_given (inside nu) 0 refl) (moved_arguments nu is p.0 h p.1))
+    (two (given_in (inside nu) (variable 0)) (indices_kinded (inside nu) p.0) (variable_given (inside nu) 0 refl)
+    (moved_arguments 0 nu (inside nu) (moves_out nu) is p.0 h p.1))
 
 -- ---- types under arguments in the place of their variables, whatever these are
+
+read_argument : (nu : Givens) (is : List Index) (i j : Index) → indices_kinded nu is ≡ true → read_index is i ≡ Some j → index_kinded nu j ≡ true
+read_argument nu is (I.Number n) j g e =
+    let p = map_parts I.Number (read is n) j e in
+    subst (λ x. index_kinded nu x ≡ true) p.2 (read_given nu is n p.0 (numbers_alone nu is g) p.1)
+read_argument nu is (I.Truth c) j g e =
+    let p = map_parts I.Truth (read_con is c) j e in subst (λ x. index_kinded nu x ≡ true) p.2 (read_truth nu is c p.0 g p.1)
+
+read_arguments : (nu : Givens) (is xs js : List Index) → indices_kinded nu is ≡ true → read_indices is xs ≡ Some js → indices_kinded nu js ≡ true
+read_arguments nu is [] js g e = subst (λ (ys : List Index). indices_kinded nu ys ≡ true) (nothing_made js e) refl
+read_arguments nu is (x ∷ xs) js g e =
+    let m = more_parts (read_index is x) (read_indices is xs) js e in
+    subst (λ (ys : List Index). indices_kinded nu ys ≡ true) m.4
+    (two (index_kinded nu m.0) (indices_kinded nu m.1) (read_argument nu is x m.0 g m.2) (read_arguments nu is xs m.1 g m.3))
 
 place_kinded : (nu : Givens) (ts : List Typ) (i : ℕ) → all_kinded nu ts ≡ true → typ_kinded nu (typ_at ts i) ≡ true
 place_kinded nu [] i h = made nu T.Unit W.Unit W.rolls-Unit refl
@@ -506,21 +537,26 @@ put_opened (T.Int n) nu is ts u g h e =
 put_opened (T.Range low high) nu is ts u g h e =
     let p = then_parts (read is low) (λ m. option_map (W.Range m) (read is high)) u e in
     let q = map_parts (W.Range p.0) (read is high) u p.2 in
-    made nu (T.Range p.0 q.0) u (W.rolls-Range p.0 q.0 ∙ q.2) refl
+    made nu (T.Range p.0 q.0) u (W.rolls-Range p.0 q.0 ∙ q.2)
+    (two (given_in nu p.0) (given_in nu q.0) (read_given nu is low p.0 (numbers_alone nu is g) p.1) (read_given nu is high q.0 (numbers_alone nu is g) q.1))
 put_opened T.String nu is ts u g h e = made nu T.String u (W.rolls-String ∙ some_same W.String u e) refl
 put_opened (T.List y) nu is ts u g h e =
-    let p = map_parts W.List (applied_typ is ts y.0) u e in made nu (T.List p.0) u (W.rolls-List p.0 ∙ p.2) refl
+    let p = map_parts W.List (applied_typ is ts y.0) u e in
+    made nu (T.List p.0) u (W.rolls-List p.0 ∙ p.2) (y.1 nu is ts p.0 g h p.1)
 put_opened (T.Vector n y) nu is ts u g h e =
     let p = then_parts (read is n) (λ m. option_map (W.Vector m) (applied_typ is ts y.0)) u e in
     let q = map_parts (W.Vector p.0) (applied_typ is ts y.0) u p.2 in
-    made nu (T.Vector p.0 q.0) u (W.rolls-Vector p.0 q.0 ∙ q.2) (read_given nu is n p.0 (numbers_alone nu is g) p.1)
+    made nu (T.Vector p.0 q.0) u (W.rolls-Vector p.0 q.0 ∙ q.2)
+    (two (given_in nu p.0) (typ_kinded nu q.0) (read_given nu is n p.0 (numbers_alone nu is g) p.1) (y.1 nu is ts q.0 g h q.1))
 put_opened (T.Tuple ys) nu is ts u g h e =
     let p = map_parts W.Tuple (parts_at ys is ts) u e in
     made nu (T.Tuple p.0) u (W.rolls-Tuple p.0 ∙ p.2) (each_put ys nu is ts p.0 g h p.1)
 put_opened (T.Named i indices ys) nu is ts u g h e =
     let p = then_parts (read_indices is indices) (λ js. option_map (W.Named i js) (parts_at ys is ts)) u e in
     let q = map_parts (W.Named i p.0) (parts_at ys is ts) u p.2 in
-    made nu (T.Named i p.0 q.0) u (W.rolls-Named i p.0 q.0 ∙ q.2) refl
+    made nu (T.Named i p.0 q.0) u (W.rolls-Named i p.0 q.0 ∙ q.2)
+    (two (indices_kinded nu p.0) (all_of (map (λ f. f nu) (map (λ t. fold-Typ Kinded form_kinded t) q.0))) (read_arguments nu is indices p.0 g p.1)
+    (each_put ys nu is ts q.0 g h q.1))
 put_opened (T.Variable i) nu is ts u g h e = subst (λ t. typ_kinded nu t ≡ true) (some_same (typ_at ts i) u e) (place_kinded nu ts i h)
 put_opened (T.Exists name c y) nu is ts u g h e =
     let inner : List Index → List Typ → Option Typ = λ js us. and_then (read_con js c) (λ d. option_map (W.Exists name d) (applied_typ js us y.0)) in
@@ -529,7 +565,8 @@ put_opened (T.Exists name c y) nu is ts u g h e =
     let r = then_parts (read_con p.0 c) (λ d. option_map (W.Exists name d) (applied_typ p.0 q.0 y.0)) u q.2 in
     let s = map_parts (W.Exists name r.0) (applied_typ p.0 q.0 y.0) u r.2 in
     made nu (T.Exists name r.0 s.0) u (W.rolls-Exists name r.0 s.0 ∙ s.2)
-    (y.1 (inside nu) p.0 q.0 s.0 (inner_arguments nu is p.0 g p.1) (moved_all nu ts q.0 h q.1) s.1)
+    (two (truth_given (inside nu) r.0) (typ_kinded (inside nu) s.0) (read_truth (inside nu) p.0 c r.0 (inner_arguments nu is p.0 g p.1) r.1)
+    (y.1 (inside nu) p.0 q.0 s.0 (inner_arguments nu is p.0 g p.1) (moved_all nu ts q.0 h q.1) s.1))
 
 put_rolled : (y : Typ-F SuchP) → Put (roll-Typ (put_forms y))
 put_rolled y nu is ts u g h e =

@@ -27,7 +27,7 @@ use Rattle.sail_types.specs.declared.numbers.Con.TheOpen as C
 use Rattle.sail_types.specs.declared.numbers.Con.TheVariants as V
 use Rattle.sail_types.specs.declared.numbers.Index.{Index}
 use Rattle.sail_types.specs.declared.numbers.Num.{Num}
-use Rattle.sail_types.specs.declared.types.Typ.{Typ, Typ-F, roll-Typ}
+use Rattle.sail_types.specs.declared.types.Typ.{Typ, Typ-F, fold-Typ, roll-Typ}
 use Rattle.sail_types.specs.declared.types.Typ.TheFolds.{map-Typ}
 use Rattle.sail_types.specs.declared.types.Typ.TheOpen as T
 use Rattle.sail_types.specs.declared.types.Typ.TheVariants as W
@@ -56,6 +56,7 @@ use Rattle.sail_kinds.specs.Scopes.{Within, binder, inside_binder, inside_list, 
 use Rattle.sail_core.specs.Numbers.{Givens, given_bool, given_int}
 use Rattle.shape_joins.proofs.JoinsLeast.{none, some_same}
 use Rattle.shape_joins.proofs.Order.{two}
+use Rattle.shape_meanings.specs.Whole.{all_of}
 use Rattle.shape_progress.specs.Conditions.{given_in, is_there, truth_given}
 use Rattle.text_progress.specs.GivenTypes.{all_typs_given, form_given, indices_given, typ_given}
 use Rattle.text_progress.proofs.GivenNumbers.{constant_given, power_given, read_given, sum_given}
@@ -319,7 +320,9 @@ module _ (nu : Givens) where
   meant_given place (M.Alias n) is ts g h = opened_given place (applied is ts n) (λ m e. normal_put n m is ts g h e)
   meant_given place (M.Defined i) is ts g h =
       given (N.Typ (W.Named i is ts)) (typ_both (T.Named i is ts) (W.Named i is ts) (W.rolls-Named i is ts)
-      (two (indices_given nu is) (all_typs_given nu ts) (numbers_alone nu is g) h.0) refl)
+      (two (indices_given nu is) (all_typs_given nu ts) (numbers_alone nu is g) h.0)
+      (two (indices_kinded nu is) (all_of (map (λ f. f nu) (map (λ t. fold-Typ Kinded.Kinded Kinded.form_kinded t) ts))) g
+      (Kinded.tuple_parts nu ts h.1)))
   meant_given place M.Unknown is ts g h = none_given
 
   -- ---- several parts
@@ -419,29 +422,37 @@ module _ (nu : Givens) where
       typ_picked (bytes_eq name (codes "bool")) W.Bool (look_up name ((codes "int", int) ∷ [])) t (typ_both T.Bool W.Bool W.rolls-Bool refl refl)
       (typ_picked (bytes_eq name (codes "int")) int None t
       (typ_both (T.Range (constant (neg_ℤ (pos largest))) (constant (pos largest))) int
-      (W.rolls-Range (constant (neg_ℤ (pos largest))) (constant (pos largest))) refl refl) none) e
+      (W.rolls-Range (constant (neg_ℤ (pos largest))) (constant (pos largest))) refl
+      (two (given_in nu (constant (neg_ℤ (pos largest)))) (given_in nu (constant (pos largest))) (constant_given nu (neg_ℤ (pos largest)))
+      (constant_given nu (pos largest)))) none) e
   bare_given name (p ∷ ps) t e = none e
 
 -- ---- binders
 
-existential_given : (names : List Name) (nu : Givens) (c : Con) (t : Typ) → BothWays (behind names nu) t → BothWays nu (existential names c t)
-existential_given [] nu c t h = h
-existential_given (name ∷ []) nu c t h = typ_both nu (T.Exists name.text c t) (W.Exists name.text c t) (W.rolls-Exists name.text c t) refl h.1
-existential_given (name ∷ other ∷ names) nu c t h =
+existential_given : (names : List Name) (nu : Givens) (c : Con) (t : Typ) → truth_given (behind names nu) c ≡ true → BothWays (behind names nu) t
+    → BothWays nu (existential names c t)
+existential_given [] nu c t k h = h
+existential_given (name ∷ []) nu c t k h =
+    typ_both nu (T.Exists name.text c t) (W.Exists name.text c t) (W.rolls-Exists name.text c t) refl
+    (two (truth_given (inside nu) c) (typ_kinded (inside nu) t) k h.1)
+existential_given (name ∷ other ∷ names) nu c t k h =
     let inner : Typ = existential (other ∷ names) c t in
     typ_both nu (T.Exists name.text (V.Truth true) inner) (W.Exists name.text (V.Truth true) inner) (W.rolls-Exists name.text (V.Truth true) inner) refl
-    (existential_given (other ∷ names) (inside nu) c t h).1
+    (two (truth_given (inside nu) (V.Truth true)) (typ_kinded (inside nu) inner) (truth_is (inside nu) true)
+    (existential_given (other ∷ names) (inside nu) c t k h).1)
 
-bound_given : (names : List Name) (nu : Givens) (c : Con) (t : Typ) → BothWays (behind names nu) t → IsGiven nu (bound names c t).normal
-bound_given names nu c t h =
+bound_given : (names : List Name) (nu : Givens) (c : Con) (t : Typ) → truth_given (behind names nu) c ≡ true → BothWays (behind names nu) t
+    → IsGiven nu (bound names c t).normal
+bound_given names nu c t k h =
     either nu (is_none_of (clashes names)) (stands_for (N.Typ (existential names c t))) nothing
-    (given nu (N.Typ (existential names c t)) (existential_given names nu c t h)) (none_given nu)
+    (given nu (N.Typ (existential names c t)) (existential_given names nu c t k h)) (none_given nu)
 
-exists_given : (names : List Name) (nu : Givens) (r : Reading Con) (p : Such nu) (w : Within) → ScopeGiven (behind names nu) (inside_binder names w).variables
+exists_given : (names : List Name) (nu : Givens) (r : Reading Con) → ((c : Con) → r.normal ≡ Some c → truth_given (behind names nu) c ≡ true)
+    → (p : Such nu) (w : Within) → ScopeGiven (behind names nu) (inside_binder names w).variables
     → IsGiven nu (both r (typ_part (inside_binder names w) (part p.0)) (bound names)).normal
-exists_given names nu r p w scope =
+exists_given names nu r k p w scope =
     both_given nu r.normal (typ_part (inside_binder names w) (part p.0)).normal (bound names)
-    (λ c t e f. bound_given names nu c t (typ_made (behind names nu) (part p.0) p.1 (inside_binder names w) scope t f))
+    (λ c t e f. bound_given names nu c t (k c e) (typ_made (behind names nu) (part p.0) p.1 (inside_binder names w) scope t f))
 
 -- ---- all forms
 
@@ -465,9 +476,13 @@ step (X.Tuple place ps) nu w scope = λ n e.
     let all = types_made nu w scope ps p.0 p.1 in
     subst (NormalGiven nu) p.2 (typ_both nu (T.Tuple p.0) (W.Tuple p.0) (W.rolls-Tuple p.0) all.0 (Kinded.tuple_parts nu p.0 all.1))
 step (X.Exists place names None p) nu w scope =
-    exists_given names nu (stands_for (V.Truth true)) p w (inner_scope names nu w.variables scope)
+    exists_given names nu (stands_for (V.Truth true))
+    (λ c e. subst (λ d. truth_given (behind names nu) d ≡ true) (some_same (V.Truth true) c e) (truth_is (behind names nu) true)) p w
+    (inner_scope names nu w.variables scope)
 step (X.Exists place names (Some c) p) nu w scope =
-    exists_given names nu (constraint_part (inside_binder names w) (part c.0)) p w (inner_scope names nu w.variables scope)
+    let scoped = inner_scope names nu w.variables scope in
+    exists_given names nu (constraint_part (inside_binder names w) (part c.0))
+    (λ d e. truth_made (behind names nu) (part c.0) c.1 (inside_binder names w) scoped d e) p w scoped
 
 rolled : (y : TyExp-F SuchText) → IsGivenPart (part (roll-TyExp (map-TyExp SuchText TyExp (λ p. p.0) y)))
 rolled y = subst IsGivenPart (sym (fold-roll-TyExp Part form_part (map-TyExp SuchText TyExp (λ p. p.0) y))) (step y)

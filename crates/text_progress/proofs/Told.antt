@@ -69,20 +69,23 @@ same_typ None = refl
 same_typ (Some n) = refl
 
 -- a type that is read in the scope of variables
-read_kinded : (nu : Givens) (w : Within) → ScopeGiven nu w.variables → (text : TyExp) (t : Typ) → typ_read w text ≡ Some t → typ_kinded nu t ≡ true
+pub read_kinded : (nu : Givens) (w : Within) → ScopeGiven nu w.variables → (text : TyExp) (t : Typ) → typ_read w text ≡ Some t → typ_kinded nu t ≡ true
 read_kinded nu w scope text t e = (typ_there nu w scope text t (sym (same_typ (reading_as K.Type text w).normal) ∙ e)).1
 
-signed_if : (variables : List Variable) (c : Option Con) (from to : Option Typ) (s : Signature)
-    → ((t : Typ) → from ≡ Some t → typ_kinded (stand_ins variables) t ≡ true) → signature_if variables c from to ≡ Some s
-    → typ_kinded (stand_ins s.variables) s.from ≡ true
-signed_if variables None from to s h e = none e
-signed_if variables (Some c) None to s h e = none e
-signed_if variables (Some c) (Some f) None s h e = none e
-signed_if variables (Some c) (Some f) (Some t) s h e =
-    subst (λ (x : Signature). typ_kinded (stand_ins x.variables) x.from ≡ true)
-    (some_same (record { variables = variables; constraint = c; from = f; to = t }) s e) (h f refl)
+-- what it takes and what it gives
+abbrev pub AreKinded : Signature → Type 0
+AreKinded s = (typ_kinded (stand_ins s.variables) s.from ≡ true) × (typ_kinded (stand_ins s.variables) s.to ≡ true)
 
-none_bound : ScopeGiven [] []
+signed_if : (variables : List Variable) (c : Option Con) (from to : Option Typ) (s : Signature)
+    → ((t : Typ) → from ≡ Some t → typ_kinded (stand_ins variables) t ≡ true) → ((t : Typ) → to ≡ Some t → typ_kinded (stand_ins variables) t ≡ true)
+    → signature_if variables c from to ≡ Some s → AreKinded s
+signed_if variables None from to s h k e = none e
+signed_if variables (Some c) None to s h k e = none e
+signed_if variables (Some c) (Some f) None s h k e = none e
+signed_if variables (Some c) (Some f) (Some t) s h k e =
+    subst AreKinded (some_same (record { variables = variables; constraint = c; from = f; to = t }) s e) (h f refl, k t refl)
+
+pub none_bound : ScopeGiven [] []
 none_bound name found e = none e
 
 written_kinded : (named : Named) (o : Option TyExp) (t : Typ) → typ_written (under named []) o ≡ Some t → typ_kinded [] t ≡ true
@@ -106,45 +109,42 @@ taken_kinded (t ∷ []) h = only_one (typ_kinded [] t) true h
 taken_kinded (t ∷ u ∷ ts) h =
     made [] (T.Tuple (t ∷ u ∷ ts)) (W.Tuple (t ∷ u ∷ ts)) (W.rolls-Tuple (t ∷ u ∷ ts)) (tuple_parts [] (t ∷ u ∷ ts) h)
 
-clause_signed : (named : Named) (c : FunctionClause) (s : Signature) → clause_signature named c ≡ Some s
-    → typ_kinded (stand_ins s.variables) s.from ≡ true
+clause_signed : (named : Named) (c : FunctionClause) (s : Signature) → clause_signature named c ≡ Some s → AreKinded s
 clause_signed named c s e =
     let takes : Option (List Typ) = together (map (typ_annotated (under named [])) c.parameters) in
     signed_if [] (Some (C.Truth true)) (option_map taken_together takes) (typ_written (under named []) c.result) s
     (λ t k.
     let p = map_parts taken_together takes t k in
-    subst (λ x. typ_kinded [] x ≡ true) p.2 (taken_kinded p.0 (all_annotated named c.parameters p.0 p.1))) e
+    subst (λ x. typ_kinded [] x ≡ true) p.2 (taken_kinded p.0 (all_annotated named c.parameters p.0 p.1)))
+    (λ t k. written_kinded named c.result t k) e
 
-body_signed : (named : Named) (extent : Extent) (cs : List FunctionClause) (s : Signature) → body_signature named extent cs ≡ Some s
-    → typ_kinded (stand_ins s.variables) s.from ≡ true
+body_signed : (named : Named) (extent : Extent) (cs : List FunctionClause) (s : Signature) → body_signature named extent cs ≡ Some s → AreKinded s
 body_signed named E.Whole [] s e = none e
 body_signed named E.Whole (c ∷ cs) s e = clause_signed named c s e
 body_signed named E.Gathered cs s e = none e
 
-sides_signed : (named : Named) (sides : Option Sides) (s : Signature) → maybe_sides_signature named sides ≡ Some s
-    → typ_kinded (stand_ins s.variables) s.from ≡ true
+sides_signed : (named : Named) (sides : Option Sides) (s : Signature) → maybe_sides_signature named sides ≡ Some s → AreKinded s
 sides_signed named None s e = none e
 sides_signed named (Some sides) s e =
     signed_if [] (Some (C.Truth true)) (typ_read (under named []) sides.left) (typ_read (under named []) sides.right) s
-    (λ t k. read_kinded [] (under named []) none_bound sides.left t k) e
+    (λ t k. read_kinded [] (under named []) none_bound sides.left t k) (λ t k. read_kinded [] (under named []) none_bound sides.right t k) e
 
-definition_signed : (named : Named) (d : Def) (s : Signature) → definition_signature named d ≡ Some s → typ_kinded (stand_ins s.variables) s.from ≡ true
+definition_signed : (named : Named) (d : Def) (s : Signature) → definition_signature named d ≡ Some s → AreKinded s
 definition_signed named (D.Val place own quantifier from arrow to) s e =
     let w : Within = under named quantifier.variables in
-    signed_if (variables_of quantifier.variables) (constraint_read w quantifier.constraint) (typ_read w from) (typ_read w to) s
-    (λ t k. read_kinded (stand_ins (variables_of quantifier.variables)) w (own_scope (variables_of quantifier.variables)) from t k) e
+    let vs : List Variable = variables_of quantifier.variables in
+    signed_if vs (constraint_read w quantifier.constraint) (typ_read w from) (typ_read w to) s
+    (λ t k. read_kinded (stand_ins vs) w (own_scope vs) from t k) (λ t k. read_kinded (stand_ins vs) w (own_scope vs) to t k) e
 definition_signed named (D.Function place extent own cs) s e = body_signed named extent cs s e
 definition_signed named (D.Mapping place own sides cs) s e = sides_signed named sides s e
 definition_signed named d s e = none e
 
-found_signed : (named : Named) (o : Option Def) (s : Signature) → and_then o (definition_signature named) ≡ Some s
-    → typ_kinded (stand_ins s.variables) s.from ≡ true
+found_signed : (named : Named) (o : Option Def) (s : Signature) → and_then o (definition_signature named) ≡ Some s → AreKinded s
 found_signed named None s e = none e
 found_signed named (Some d) s e = definition_signed named d s e
 
--- what a function takes uses each type variable as what it stands for
-pub signed_kinded : (named : Named) (text : List Def) (name : List ℕ) (s : Signature) → signature_of named text name ≡ Some s
-    → typ_kinded (stand_ins s.variables) s.from ≡ true
+-- what a function takes and gives uses each type variable as what it stands for
+pub signed_kinded : (named : Named) (text : List Def) (name : List ℕ) (s : Signature) → signature_of named text name ≡ Some s → AreKinded s
 signed_kinded named text name s e = found_signed named (option_or (find (is_val_of name) text) (find (is_body_of name) text)) s e
 
 -- ---- how many variables have a number

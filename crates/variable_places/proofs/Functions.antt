@@ -120,7 +120,7 @@ module _ (text : List Def) (clear : NothingFails text) (kept : refusal (tabled_o
       let ts : List Typ = parameters_of s.from in
       let nu : Givens = stand_ins s.variables in
       let kinded : all_kinded (stand_ins s.variables) (parameters_of s.from) ≡ true =
-      parameters_kinded nu s.from (signed_kinded (types_of text).named text name s signed) in
+      parameters_kinded nu s.from (signed_kinded (types_of text).named text name s signed).0 in
       each_placed ts ps nu (alike s.variables) 0
       (λ i low. let r = told_among i ts (function_tells text clear kept name s signed i low) in (r.0, ap (among_as (map placed_as ts)) (from_zero i) ∙ r.1))
       (λ i b e. among_kinds ts nu i b kinded (sym (ap (among_as (map placed_as ts)) (from_zero i)) ∙ e))

@@ -78,9 +78,10 @@ form_so : (y : Typ-F Such) (nu : Givens) (j : ℕ) (b : Bool)
 form_so (T.Int n) nu j b h e = number_place nu n j b h e
 form_so (T.Truth c) nu j b h e = truth_place nu c j b h e
 form_so (T.Bits n) nu j b h e = number_place nu n j b h e
-form_so (T.Vector n y) nu j b h e = number_place nu n j b h e
+form_so (T.Vector n y) nu j b h e = number_place nu n j b (and_parts (given_in nu n) (typ_kinded nu y.0) h).0 e
 form_so (T.Tuple ys) nu j b h e = among_so ys nu j b h e
-form_so (T.Exists name c y) nu j b h e = out_of nu j b (y.1 (inside nu) (suc j) b h e)
+form_so (T.Exists name c y) nu j b h e =
+    out_of nu j b (y.1 (inside nu) (suc j) b (and_parts (truth_given (inside nu) c) (typ_kinded (inside nu) y.0) h).1 e)
 form_so y nu j b h e = none e
 
 rolled_so : (y : Typ-F Such) → PlacedSo (roll-Typ (forms y))
