@@ -56,4 +56,4 @@ module _ (q : Scene) (w : World Item) where
   all_fit = ind-Core Such (λ c y e. subst (λ d. Such (roll-Core d)) e (node_fine y))
 
 pub fit : CoresFit
-fit q w c h model ways = (model, all_fit q w c h ways)
+fit q w c h ways = all_fit q w c h ways

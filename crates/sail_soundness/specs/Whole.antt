@@ -100,7 +100,6 @@ abbrev pub AllWaysStand : Scene → List (Core-F Core) → Type 0
 AllWaysStand q [] = Unit {0}
 AllWaysStand q (c ∷ cs) = WaysStand q c.kind c.place (map part c.parts) × AllWaysStand q cs
 
--- where each node of an expression passes these tests, what is left to ask is of the model, and of ways that meet
+-- where each node of an expression passes these tests, what is left to ask of them is of ways that meet
 abbrev pub CoresFit : Type 0
-CoresFit = (q : Scene) (w : World Item) (c : Core) → core_fits q.set.around.types q.numbers c ≡ true → ModelStands q.set q.work
-    → AllWaysStand q (nodes c) → OthersFine q w (nodes c)
+CoresFit = (q : Scene) (w : World Item) (c : Core) → core_fits q.set.around.types q.numbers c ≡ true → AllWaysStand q (nodes c) → EachFine q w (nodes c)
