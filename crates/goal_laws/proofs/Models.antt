@@ -1,11 +1,10 @@
 -- From the obligations of a model to the goals of its definitions.
-use Rattle.std.proofs.Common.{◌≡◌, refl, subst, ℕ, Bool, true, false, List, [], ◌∷◌, ◌++◌, map, if◌then◌else◌}
+use Rattle.std.proofs.Common.{ℕ, Bool, true, false, List, [], ◌∷◌, ◌++◌, map, if◌then◌else◌}
 use Rattle.linear.specs.Choices.{joined}
-use Rattle.sail_core.specs.declared.model.CoreModel.{CoreModel}
 use Rattle.obligations.specs.declared.obligation.Obligation.{Obligation}
 use Rattle.value_indices.specs.Steps.{Note, goal_note, size_note, made_note, call_note, way_note, given_note, name_note, conditions}
 use Rattle.constraint_gen.specs.Models.{Definition, around_of, from_nothing, in_order, is_before, listed, placed_among}
-use Rattle.constraint_gen.specs.Obligations.{goals_in, names_of, obligations, obligations_in}
+use Rattle.constraint_gen.specs.Obligations.{goals_in, names_of, obligations_in}
 use Rattle.goal_laws.specs.Goals.{AllHold, EachNote, EachOf, GoalIsTrue, GoalsHold}
 use Rattle.goal_laws.proofs.Closing.{goal_true}
 

@@ -1,5 +1,5 @@
 -- Numbers and truths hang on the variables that they name alone.
-use Rattle.std.proofs.Common.{◌≡◌, ◌∙◌, ap, sym, refl, subst, ℕ, nat_eq, ℤ, pos, int_le, Bool, true, false, ◌||◌, List, [], ◌∷◌, map}
+use Rattle.std.proofs.Common.{◌≡◌, ◌∙◌, ap, sym, refl, subst, ℕ, nat_eq, ℤ, pos, int_le, Bool, true, List, [], ◌∷◌, map}
 use Rattle.std.specs.Prelude.{◌+ℤ◌, ◌*ℤ◌, not, unwrap_or}
 use Rattle.std.specs.List.{list_all, list_any}
 use Rattle.std.specs.Ordering.{int_eq}
