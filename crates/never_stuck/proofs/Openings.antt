@@ -1,5 +1,5 @@
 -- What instances are read for covers the notes of an opening, so that it stands beside its walk.
-use Rattle.std.proofs.Common.{◌≡◌, ◌∙◌, sym, refl, subst, arith, ◌+◌, ℕ, suc, Bool, false, List, [], ◌∷◌, ◌++◌, append-nil, Some, slice_get}
+use Rattle.std.proofs.Common.{◌≡◌, ◌∙◌, sym, refl, subst, arith, ◌+◌, ℕ, suc, Bool, true, false, List, [], ◌∷◌, ◌++◌, append-nil, Some, slice_get}
 use Rattle.sail_types.specs.Numbers.{Positive}
 use Rattle.sail_types.specs.declared.values.Value.{Value}
 use Rattle.sail_types.proofs.SumNumbers.{some_same}
@@ -26,13 +26,16 @@ use Rattle.never_stuck.specs.Covers.{CoversOpenings}
 use Rattle.never_stuck.specs.Openings.{KindAlike, KindIsRight, Open, OpeningsAlike, OpeningsAreRight}
 
 -- a walk of which nothing is taken notes what it notes
-bare_notes : {A : Type 0} (w : Walk A) (facts : List Fact) (n : ℕ) → (bind w (λ x. give tt) facts n).notes ≡ (w facts n).notes
+bare_notes : {A : Type 0} (w : Walk A) (facts : List Fact) (n : ℕ) → (bind w (λ x. give (tt {0})) facts n).notes ≡ (w facts n).notes
 unfolding bind give
 bare_notes w facts n = append-nil (w facts n).notes
 
 pub registers_kept : (m : CoreModel) (lets : List TopLevel) (os : List Opening) → (lets_behind (around_with m lets) os).registers ≡ m.registers
 registers_kept m lets [] = refl
 registers_kept m lets (o ∷ os) = registers_kept m (lets ++ names_of (around_with m lets) o o.kind) os
+
+none_before : (j : ℕ) → j ≡ 0 + j
+none_before j = omega arith
 
 none_behind : (i : ℕ) → i + 0 ≡ i
 none_behind i = omega arith
@@ -64,8 +67,8 @@ module _ (m : CoreModel) (past : Positive) (covered : Work → Bool) (registers 
   kind_stands names vs cases o (O.Register r) alike right met =
       let there : slice_get (around_of m).registers r ≡ Some alike.register =
       subst (λ rs. slice_get rs r ≡ Some alike.register) (sym (registers_kept m [] m.openings)) alike.is_there in
-      let aimed_so : Met names cases (bind ((part o.value).walk (around_of m) [] (initial_aim alike.register.typ)) (λ i. give tt) [] 0).notes =
-      subst (λ x. Met names cases (bind ((part o.value).walk (around_of m) [] (register_aim x)) (λ i. give tt) [] 0).notes) there met in
+      let aimed_so : Met names cases (bind ((part o.value).walk (around_of m) [] (initial_aim alike.register.typ)) (λ i. give (tt {0})) [] 0).notes =
+      subst (λ x. Met names cases (bind ((part o.value).walk (around_of m) [] (register_aim x)) (λ i. give (tt {0})) [] 0).notes) there met in
       record {
         register = alike.register;
         is_it = λ x e. some_same x alike.register (sym (within r x e) ∙ alike.is_there);
@@ -91,4 +94,4 @@ module _ (m : CoreModel) (past : Positive) (covered : Work → Bool) (registers 
       → OpeningsStand m past covered registers k 0 [] m.openings
   openings_stand walks covers opens =
       all_stand (λ i o at names. walks.opening i o at (set names) nobody (λ d. false) (k.opening i) (covers i o at registers names)) 0 [] m.openings
-      (λ j o e. e) opens.alike opens.right
+      (λ j o e. subst (λ n. slice_get m.openings n ≡ Some o) (none_before j) e) opens.alike opens.right
