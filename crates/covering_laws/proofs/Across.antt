@@ -52,7 +52,8 @@ use Rattle.exact_sizes.proofs.Known.{none}
 use Rattle.exact_sizes.proofs.Settling.{types_settle}
 use Rattle.exact_sizes.proofs.Standing.{sizes_stand}
 use Rattle.covering_laws.specs.Covered.{AreRead, DirectionIsRead, ModelIsRead, ModelsAreRead, are_paired, bare_tested, body_tested, covered_by, direction_tested}
-use Rattle.covering_laws.specs.Covered.{events_tested, instance_of, instance_tested, mappings_tested, model_tested, none_reached, pair_of, reached_from, setting_of}
+use Rattle.covering_laws.specs.Covered.{events_tested, instance_of, instance_tested, mappings_tested, model_tested, none_reached, pair_of, reached_from}
+use Rattle.covering_laws.specs.Covered.{setting_of, side_at}
 use Rattle.covering_laws.proofs.Joined.{accepted}
 use Rattle.covering_laws.proofs.Places.{all_in}
 use Rattle.covering_laws.proofs.Read.{alone_read, function_is_read, only_so, same_types}
@@ -107,6 +108,7 @@ module _ (types : Types) (past : Positive) (t : Typ) (tested : bare_tested types
 
 pub record Placed (around : Around) (ms : List Direction) (d : ℕ) (n : Direction) : Type 0 where
   pub side : Side
+  pub is_its : side_at ms d ≡ Some side
   pub mapping : ℕ
   pub is_there : slice_get (pairs ms) mapping ≡ Some (pair_of side n)
   pub body_there : slice_get (mapping_bodies around ms) mapping
@@ -120,10 +122,26 @@ further d k (inr e) = inr (omega arith)
 
 module _ (around : Around) where
   first_placed : (m n : Direction) (ms : List Direction) → Placed around (m ∷ n ∷ ms) 0 m
-  first_placed m n ms = record { side = is_ahead n; mapping = 0; is_there = refl; body_there = refl; half = omega arith; double = inl (omega arith) }
+  first_placed m n ms = record {
+    side = is_ahead n;
+    is_its = refl;
+    mapping = 0;
+    is_there = refl;
+    body_there = refl;
+    half = omega arith;
+    double = inl (omega arith);
+  }
 
   second_placed : (m n : Direction) (ms : List Direction) → Placed around (m ∷ n ∷ ms) 1 n
-  second_placed m n ms = record { side = is_back m; mapping = 0; is_there = refl; body_there = refl; half = omega arith; double = inr (omega arith) }
+  second_placed m n ms = record {
+    side = is_back m;
+    is_its = refl;
+    mapping = 0;
+    is_there = refl;
+    body_there = refl;
+    half = omega arith;
+    double = inr (omega arith);
+  }
 
   pub direction_placed : (ms : List Direction) → are_paired ms ≡ true → (d : ℕ) (n : Direction) → slice_get ms d ≡ Some n → Placed around ms d n
   direction_placed [] p d n e = none e
@@ -139,6 +157,7 @@ module _ (around : Around) where
       let before : d / 2 ≡ more.mapping = more.half in
       record {
         side = more.side;
+        is_its = more.is_its;
         mapping = suc more.mapping;
         is_there = more.is_there;
         body_there = more.body_there;
@@ -230,6 +249,7 @@ module _ (core : CoreModel) (past : Positive) (hart : ℕ) (rank : ℕ → ℕ) 
       let s = fixed_typ core.types n.parameter in
       record {
         side = at.side;
+        is_its = at.is_its;
         mapping = at.mapping;
         is_there = at.is_there;
         read = subst (λ (l : List NodeSizes). AreRead set nobody (reached_from rank d) (cases_of core.types c.instances l) b.notes) (sym nodes)

@@ -1,5 +1,5 @@
 -- Which functions at work are covered by the instances of a model, what is tested of an accepted list, and what it gives.
-use Rattle.std.specs.Prelude.{◌≡◌, ◌*◌, ℕ, suc, ℤ, nat_eq, Bool, true, false, ◌&&◌, List, [], ◌∷◌, map, slice_get}
+use Rattle.std.specs.Prelude.{◌≡◌, ◌*◌, ℕ, zero, suc, ℤ, nat_eq, Bool, true, false, ◌&&◌, List, [], ◌∷◌, map, slice_get}
 use Rattle.std.specs.Prelude.{Option, Some, None, Ok, is_some, if◌then◌else◌}
 use Rattle.std.specs.List.{list_all}
 use Rattle.sail_types.specs.Numbers.{Positive}
@@ -175,9 +175,17 @@ pub record FunctionIsRead (set : Setting) (m : CoreModel) (k : Checks) (x : Work
       → AreRead set x all_reached (k.function x.function x.instance.place nu) (measure_read (around_of m) f core [] 0).notes
   pub enters : (vs : List Value) (h : Integers) (e : Enters set x f vs h) → EntersAs set k x f vs h e
 
+-- the side of each direction, of which two stand one behind the other
+abbrev pub side_at : List Direction → ℕ → Option Side
+side_at (m ∷ n ∷ ms) zero = Some (is_ahead n)
+side_at (m ∷ n ∷ ms) (suc zero) = Some (is_back m)
+side_at (m ∷ n ∷ ms) (suc (suc d)) = side_at ms d
+side_at ms d = None
+
 -- a direction of a mapping
 pub record DirectionIsRead (set : Setting) (m : CoreModel) (rank : ℕ → ℕ) (k : Checks) (d : ℕ) (n : Direction) : Type 0 where
   pub side : Side
+  pub is_its : side_at m.directions d ≡ Some side
   pub mapping : ℕ
   pub is_there : slice_get (pairs m.directions) mapping ≡ Some (pair_of side n)
   pub read : AreRead set nobody (reached_from rank d) (k.direction d)

@@ -61,18 +61,18 @@ pub as_held : (os : List Obligation) → Bidir.AllHold os → AllHold os
 as_held [] h = tt
 as_held (o ∷ os) h = (h.0, as_held os h.1)
 
+ok_same : (x y : Certification) → ◌≡◌ {A = Result Certification CheckError} (Ok x) (Ok y) → x ≡ y
+ok_same x y k = cc
+
+no_ok : (x : CheckError) (y : Certification) → ◌≡◌ {A = Result Certification CheckError} (Err x) (Ok y) → ⊥
+no_ok x y k = cc
+
 -- those that were checked are those of the core
 checked_are : (core : CoreModel) (os : List Obligation) (r : Result (List Cert) CheckError) (c : Certification) → B.certified_by core os r ≡ Ok c
     → c.obligations ≡ os
 checked_are core os (Ok certs) c e =
     ap (λ (x : Certification). x.obligations) (sym (ok_same (record { core = core; obligations = os; certificates = certs }) c e))
-  where
-    ok_same : (x y : Certification) → Ok x ≡ Ok y → x ≡ y
-    ok_same x y k = cc
 checked_are core os (Err error) c e = absurd (no_ok error c e)
-  where
-    no_ok : (x : CheckError) (y : Certification) → Err x ≡ Ok y → ⊥
-    no_ok x y k = cc
 
 -- ---- put together
 
