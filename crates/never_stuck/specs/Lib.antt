@@ -1,2 +1,4 @@
+pub mod Covers
 pub mod Never
+pub mod Openings
 pub mod Own

@@ -1,4 +1,4 @@
--- The value ends well beside its walk, where nothing is called, read of a hart or thrown.
+-- The value ends well beside its walk, where nothing is called or thrown.
 use Rattle.std.proofs.Common.{◌≡◌, ◌∙◌, ap, sym, refl, subst, ℕ, Bool, true, false, true≢false, List, [], Some, None}
 use Rattle.sail_types.specs.Belongs.{belongs}
 use Rattle.sail_types.specs.Numbers.{Positive}
@@ -7,7 +7,9 @@ use Rattle.sail_types.specs.declared.values.Value.{Value}
 use Rattle.sail_core.specs.Making.{World}
 use Rattle.sail_core.specs.Meaning.{meaning}
 use Rattle.sail_core.specs.Run.{Ended, goes_on}
-use Rattle.sail_core.specs.Start.{begun, nowhere, opening_kind, opening_world, set_all}
+use Rattle.model_state.specs.declared.state.Register.{Register}
+use Rattle.model_state.specs.RunState.{RunState}
+use Rattle.sail_core.specs.Start.{begun, opening_kind, opening_world, set_all}
 use Rattle.sail_core.specs.declared.model.CoreModel.{CoreModel}
 use Rattle.sail_core.specs.declared.model.OpeningKind.{OpeningKind}
 use Rattle.sail_core.specs.declared.model.OpeningKind.TheVariants as O
@@ -22,10 +24,10 @@ use Rattle.expression_steps.specs.Expressions.{part}
 use Rattle.checked_meaning.specs.Checked.{Cases, checked}
 use Rattle.checked_meaning.specs.Items.{Item}
 use Rattle.value_laws.proofs.Steps.{same}
-use Rattle.soundness_steps.specs.Works.{Scene, Setting, nobody}
+use Rattle.soundness_steps.specs.Works.{Scene, Setting, Work, nobody}
 use Rattle.soundness_steps.specs.Calls.{SoundCalls}
 use Rattle.soundness_steps.specs.Covers.{AreMet}
-use Rattle.soundness_steps.specs.States.{Sound}
+use Rattle.soundness_steps.specs.States.{Sound, StateBelongs}
 use Rattle.soundness_steps.specs.Steps.{EndsWell, well_given, well_no, well_returned, well_stopped, well_thrown}
 use Rattle.soundness_steps.specs.Values.{AimSteady, Comes}
 use Rattle.soundness_forms.specs.Standing.{standing}
@@ -36,9 +38,9 @@ use Rattle.soundness_calls.proofs.Directions.{bare_aim, bare_closed, bare_wanted
 use Rattle.soundness_openings.specs.Initials.{InitialsAreSound, OpeningEnds, RegisterAdds, ValueStands, opening_gives, opening_stops, pure_around}
 use Rattle.soundness_openings.specs.Initials.{pure_scene, pure_setting}
 
-module _ (m : CoreModel) (past : Positive) (lets : List TopLevel) (vs : List Value) (cases : Cases) where
+module _ (m : CoreModel) (past : Positive) (covered : Work → Bool) (registers : List Register) (lets : List TopLevel) (vs : List Value) (cases : Cases) where
   abbrev set : Setting
-  set = pure_setting m past lets
+  set = pure_setting m past covered registers lets
 
   abbrev q : Scene
   q = pure_scene set cases
@@ -57,19 +59,21 @@ module _ (m : CoreModel) (past : Positive) (lets : List TopLevel) (vs : List Val
   pub surrounds : LetsAre set nobody lets vs → Surrounds q w start_point []
   surrounds are = record { names = tt; numbers = tt; answer = tt; lets = are; hart = refl; calls = no_calls }
 
-  pub at_first : Sound q (begun 0 (nowhere m.types))
-  at_first = record { state = record { harts = tt; at_work = tt }; names = tt }
+  pub at_first : (state : RunState) → StateBelongs set state → Sound q (begun 0 state)
+  at_first state ok = record { state = ok; names = tt }
 
   -- the value
   value_ends : LetsAre set nobody lets vs → (c : Core) (aim : Aim) → ValueStands q w c → AimSteady set nobody start_point aim
-      → AreMet set nobody q.reached cases ((part c).walk (pure_around m lets) [] aim [] 0).notes
-      → EndsWell q start_point ((part c).walk (pure_around m lets) [] aim [] 0).next ((part c).walk (pure_around m lets) [] aim [] 0).facts
+      → AreMet set nobody q.reached cases ((part c).walk (pure_around m registers lets) [] aim [] 0).notes
+      → (state : RunState) → StateBelongs set state
+      → EndsWell q start_point ((part c).walk (pure_around m registers lets) [] aim [] 0).next
+      ((part c).walk (pure_around m registers lets) [] aim [] 0).facts
       (λ g x. Comes set nobody g (standing set.around c).cast (part c).is_nested (part c).never_ends aim
-      ((part c).walk (pure_around m lets) [] aim [] 0).value x) (meaning (checked m.types cases) w c (begun 0 (nowhere m.types)))
-  value_ends are c aim stands steady met =
+      ((part c).walk (pure_around m registers lets) [] aim [] 0).value x) (meaning (checked m.types cases) w c (begun 0 state))
+  value_ends are c aim stands steady met state ok =
       let h = whole q w c stands.right stands.others in
-      (h.walks [] false (λ e. sym stands.no_guard ∙ e) 0 start_point [] [] aim (surrounds are) steady).run (begun 0 (nowhere m.types))
-      (record { there = λ g a. record { numbers = tt; true_there = tt; given = tt } }) met at_first
+      (h.walks [] false (λ e. sym stands.no_guard ∙ e) 0 start_point [] [] aim (surrounds are) steady).run (begun 0 state)
+      (record { there = λ g a. record { numbers = tt; true_there = tt; given = tt } }) met (at_first state ok)
 
   -- ---- an initial value
 
@@ -85,13 +89,13 @@ module _ (m : CoreModel) (past : Positive) (lets : List TopLevel) (vs : List Val
   register_ends place r t cast nested never i e (well_stopped cause now) = opening_stops cause now
 
 pub initials_sound : InitialsAreSound
-initials_sound m past lets vs cases are o r t is stands met =
-    let set : Setting = pure_setting m past lets in
+initials_sound m past covered registers lets vs cases are o r t is stands met state ok =
+    let set : Setting = pure_setting m past covered registers lets in
     let c : Core = o.value in
-    let ended = value_ends m past lets vs cases are c (Aims.Due (bare_type t)) stands (bare_wanted set start_point t)
-    (subst (λ aim. AreMet set nobody (λ d. false) cases ((part c).walk (pure_around m lets) [] aim [] 0).notes) (bare_aim t) met) in
+    let ended = value_ends m past covered registers lets vs cases are c (Aims.Due (bare_type t)) stands (bare_wanted set start_point t)
+    (subst (λ aim. AreMet set nobody (λ d. false) cases ((part c).walk (pure_around m registers lets) [] aim [] 0).notes) (bare_aim t) met) state ok in
     subst (λ (kind : OpeningKind). OpeningEnds (RegisterAdds m.types past r t) (goes_on (meaning (checked m.types cases) (opening_world vs) c
-    (begun 0 (nowhere m.types))) (opening_kind (checked m.types cases) (opening_world vs) o.place kind))) (sym is)
-    (register_ends m past lets vs cases o.place r t (standing set.around c).cast (part c).is_nested (part c).never_ends
-    ((part c).walk (pure_around m lets) [] (Aims.Due (bare_type t)) [] 0).value
-    (meaning (checked m.types cases) (opening_world vs) c (begun 0 (nowhere m.types))) ended)
+    (begun 0 state)) (opening_kind (checked m.types cases) (opening_world vs) o.place kind))) (sym is)
+    (register_ends m past covered registers lets vs cases o.place r t (standing set.around c).cast (part c).is_nested (part c).never_ends
+    ((part c).walk (pure_around m registers lets) [] (Aims.Due (bare_type t)) [] 0).value
+    (meaning (checked m.types cases) (opening_world vs) c (begun 0 state)) ended)

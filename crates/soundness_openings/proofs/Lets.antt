@@ -1,5 +1,5 @@
 -- A let's value, and what its pattern binds: where it doesn't match, the run stops.
-use Rattle.std.proofs.Common.{◌≡◌, ◌∙◌, sym, refl, subst, ℕ, true, false, true≢false, ◌&&◌, List, [], ◌∷◌}
+use Rattle.std.proofs.Common.{◌≡◌, ◌∙◌, sym, refl, subst, ℕ, Bool, true, false, true≢false, ◌&&◌, List, [], ◌∷◌}
 use Rattle.sail_base.specs.declared.place.Place.{Place}
 use Rattle.sail_types.specs.Numbers.{Positive}
 use Rattle.sail_types.specs.declared.values.Value.{Value}
@@ -9,7 +9,8 @@ use Rattle.sail_core.specs.Meaning.{meaning}
 use Rattle.sail_core.specs.Patterns.{arm_meaning}
 use Rattle.sail_core.specs.Run as R
 use Rattle.sail_core.specs.Run.{Ended, Local, Now, Run, gives, goes_on, or_so, stops, ◌or_else◌, ◌then◌}
-use Rattle.sail_core.specs.Start.{begun, nowhere, opening_kind, opening_world, values_of}
+use Rattle.model_state.specs.declared.state.Register.{Register}
+use Rattle.sail_core.specs.Start.{begun, opening_kind, opening_world, values_of}
 use Rattle.sail_core.specs.declared.model.CoreModel.{CoreModel}
 use Rattle.sail_core.specs.declared.model.OpeningKind.{OpeningKind}
 use Rattle.sail_core.specs.declared.patterns.Arm.{Arm}
@@ -24,7 +25,7 @@ use Rattle.expression_steps.specs.Statements.{bind_names, is_written, let_names,
 use Rattle.checked_meaning.specs.Checked.{Cases, checked}
 use Rattle.checked_meaning.specs.Items.{Item}
 use Rattle.value_laws.specs.Known.{Point}
-use Rattle.soundness_steps.specs.Works.{Scene, Setting, here, nobody}
+use Rattle.soundness_steps.specs.Works.{Scene, Setting, Work, here, nobody}
 use Rattle.soundness_steps.specs.Steps.{Beside, EndsWell, well_given, well_no, well_returned, well_stopped, well_thrown}
 use Rattle.soundness_steps.proofs.Scenes.{falling}
 use Rattle.soundness_steps.proofs.Steps.{binds}
@@ -67,10 +68,10 @@ then_then (R.Throws v now) d k = refl
 then_then (R.Stops cause now) d k = refl
 then_then R.Stuck d k = refl
 
-module _ (m : CoreModel) (past : Positive) (lets : List TopLevel) (vs : List Value) (cases : Cases)
-    (are : LetsAre (pure_setting m past lets) nobody lets vs) where
+module _ (m : CoreModel) (past : Positive) (covered : Work → Bool) (registers : List Register) (lets : List TopLevel) (vs : List Value) (cases : Cases)
+    (are : LetsAre (pure_setting m past covered registers lets) nobody lets vs) where
   abbrev set : Setting
-  set = pure_setting m past lets
+  set = pure_setting m past covered registers lets
 
   abbrev q : Scene
   q = pure_scene set cases
@@ -87,10 +88,10 @@ module _ (m : CoreModel) (past : Positive) (lets : List TopLevel) (vs : List Val
       binds (bind_names place arm (here q) (is_written (arm_written arm) && (part c).is_nested))
       (λ x. arm_meaning (checked m.types cases) w arm (x ∷ []) or_else stops (MatchFailure place))
       (h.walks [] false (λ e. sym stands.no_guard ∙ e) 0 start_point [] [] (written_aim (here q) (arm_written arm))
-      (surrounds m past lets vs cases are) (bound_steady q w (arm_written arm) (surrounds m past lets vs cases are)))
+      (surrounds m past covered registers lets vs cases are) (bound_steady q w (arm_written arm) (surrounds m past covered registers lets vs cases are)))
       (λ j g fs i x l comes. or_stopped place (arm_meaning (checked m.types cases) w arm (x ∷ []))
       (matches j g fs [] place (record { in_case = false; is_owed = is_written (arm_written arm) && (part c).is_nested }) i x
-      (surrounds_falling q w g [] true (surrounds_on q w [] l (surrounds m past lets vs cases are)))
+      (surrounds_falling q w g [] true (surrounds_on q w [] l (surrounds m past covered registers lets vs cases are)))
       (bound_is set nobody g (here q) (arm_written arm) (standing q.set.around c).cast (part c).is_nested (part c).never_ends i x comes)))
 
   let_ends : {n : ℕ} {facts : List Fact} (found : List Bound) (e : Ended Item (List (Local Item)))
@@ -106,17 +107,17 @@ module _ (m : CoreModel) (past : Positive) (lets : List TopLevel) (vs : List Val
   let_ends found e (well_stopped cause now) = opening_stops cause now
 
 pub lets_end : LetsEndWell
-lets_end m past lets vs cases are o arm is stands matches met =
-    let set : Setting = pure_setting m past lets in
+lets_end m past covered registers lets vs cases are o arm is stands matches met state ok =
+    let set : Setting = pure_setting m past covered registers lets in
     let z = checked m.types cases in
     let w : World Item = opening_world vs in
-    let now : Now Item = begun 0 (nowhere m.types) in
-    let found = let_found m lets o arm [] 0 in
+    let now : Now Item = begun 0 state in
+    let found = let_found m registers lets o arm [] 0 in
     let ran = meaning z w o.value now in
     let bind_all : Item → Run Item (List (Local Item)) = λ x. arm_meaning z w arm (x ∷ []) or_else stops (MatchFailure o.place) in
-    let ended = (let_beside m past lets vs cases are o.place arm o.value stands matches).run now
-    (record { there = λ g a. record { numbers = tt; true_there = tt; given = tt } }) met (at_first m past lets vs cases) in
+    let ended = (let_beside m past covered registers lets vs cases are o.place arm o.value stands matches).run now
+    (record { there = λ g a. record { numbers = tt; true_there = tt; given = tt } }) met (at_first m past covered registers lets vs cases state ok) in
     subst (λ (kind : OpeningKind). OpeningEnds (LetAdds set found.next found.value) (goes_on ran (opening_kind z w o.place kind))) (sym is)
     (subst (OpeningEnds (LetAdds set found.next found.value))
     (then_then ran bind_all (λ locals. gives (record { values = values_of z locals; change = λ state. state })))
-    (let_ends m past lets vs cases are found.value (goes_on ran bind_all) ended))
+    (let_ends m past covered registers lets vs cases are found.value (goes_on ran bind_all) ended))

@@ -1,4 +1,5 @@
 pub mod Initials
 pub mod Lets
+pub mod States
 pub mod Told
 pub mod Whole

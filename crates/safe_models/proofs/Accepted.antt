@@ -1,0 +1,98 @@
+-- An accepted text and its core have the same registers; and what the program checked of the core is that its obligations hold.
+use Rattle.std.proofs.Common.{◌≡◌, sym, refl, subst, ap, ◌++◌, ℕ, List, [], ◌∷◌, map, Option, Some, None, Ok, Err, Result}
+use Rattle.sail_types.specs.declared.types.Typ.{Typ}
+use Rattle.sail_syntax.specs.declared.definitions.Def.{Def}
+use Rattle.sail_syntax.specs.declared.definitions.Def.TheVariants as D
+use Rattle.scattered.specs.Gathered.{gathered}
+use Rattle.sail_core.specs.declared.model.CoreModel.{CoreModel}
+use Rattle.farkas.specs.declared.certificate.Cert.{Cert}
+use Rattle.obligations.specs.declared.obligation.Obligation.{Obligation}
+use Rattle.constraint_gen.specs.Obligations.{obligations}
+use Rattle.bidir_check.specs.declared.error.CheckError.{CheckError}
+use Rattle.bidir_check.specs.Certification.{Certification}
+use Rattle.bidir_check.specs.Checking as B
+use Rattle.bidir_check.specs.laws.Holding as Bidir
+use Rattle.shape_rules.specs.Scopes.{Setting}
+use Rattle.shape_rules.specs.Written.{joined, typ_in}
+use Rattle.shape_models.specs.Models.{setting_of}
+use Rattle.shape_meanings.specs.Models.{register_shapes}
+use Rattle.shapes.specs.Failures.{all_lets, own_in}
+use Rattle.shapes.specs.Resolved as R
+use Rattle.shapes.specs.Tabled.{tabled_of}
+use Rattle.text_models.specs.Texts as T
+use Rattle.accepted_texts.specs.Accepted.{NothingFails, NothingOfItFails}
+use Rattle.known_texts.specs.Laws.{DefinitionsAreSigned}
+use Rattle.parsed_texts.specs.Laws.{ParsedTextsAreWritten}
+use Rattle.goal_laws.specs.Goals.{AllHold}
+use Rattle.text_progress.specs.Laws.{core_of}
+use Rattle.sail_top.specs.Checked.{no_cycle}
+use Rattle.sail_top.specs.Models as Models
+use Rattle.sail_top.specs.Models.{end_of_all}
+use Rattle.whole_runs.specs.Safe.{IsFoundThroughout, ModelsRunSafely}
+use Rattle.sail_top.specs.laws.Holding.{AcceptedHold}
+use Rattle.accepted_models.specs.Models.{AcceptedModelsMeanText}
+use Rattle.safe_models.specs.Safe.{AcceptedCoresRunSafely, AcceptedModelsRunSafely, Cycles, IsOfText, TextsRunSafely, meant_of}
+use Rattle.safe_models.proofs.Found.{found_throughout}
+
+-- ---- registers
+
+register_same : (name : List ℕ) (o : Option Typ) → T.register_if name o ≡ R.register_if name o
+register_same name None = refl
+register_same name (Some t) = refl
+
+module _ (text : List Def) (cycles : Cycles) where
+  abbrev setting : Setting
+  setting = setting_of (tabled_of text) (own_in (tabled_of text) text) text (all_lets (tabled_of text) text) []
+
+  one_same : (d : Def) → T.registers_by (tabled_of text) d ≡ R.register_of setting d
+  one_same (D.Register place name typ initial) = register_same name.text (typ_in setting.within typ)
+  one_same d = refl
+
+  all_same : (ds : List Def) → joined (map (T.registers_by (tabled_of text)) ds) ≡ joined (map (R.register_of setting) ds)
+  all_same [] = refl
+  all_same (d ∷ ds) = λ j. one_same d j ++ all_same ds j
+
+  pub of_text : IsOfText (meant_of text cycles) (core_of text cycles)
+  of_text = record { types = refl; registers = λ j. register_shapes (all_same text j) }
+
+-- ---- obligations
+
+pub as_held : (os : List Obligation) → Bidir.AllHold os → AllHold os
+as_held [] h = tt
+as_held (o ∷ os) h = (h.0, as_held os h.1)
+
+-- those that were checked are those of the core
+checked_are : (core : CoreModel) (os : List Obligation) (r : Result (List Cert) CheckError) (c : Certification) → B.certified_by core os r ≡ Ok c
+    → c.obligations ≡ os
+checked_are core os (Ok certs) c e =
+    ap (λ (x : Certification). x.obligations) (sym (ok_same (record { core = core; obligations = os; certificates = certs }) c e))
+  where
+    ok_same : (x y : Certification) → Ok x ≡ Ok y → x ≡ y
+    ok_same x y k = cc
+checked_are core os (Err error) c e = absurd (no_ok error c e)
+  where
+    no_ok : (x : CheckError) (y : Certification) → Err x ≡ Ok y → ⊥
+    no_ok x y k = cc
+
+-- ---- put together
+
+pub cores_safe : AcceptedModelsMeanText → NothingOfItFails → ParsedTextsAreWritten → DefinitionsAreSigned → ModelsRunSafely → TextsRunSafely
+    → AcceptedCoresRunSafely
+cores_safe mean nothing written sign models texts_safe texts made accepted cycles held past covered k rank count some few covers stands entry schedule
+    there state ok =
+    let text : List Def = gathered accepted.definitions in
+    let m : CoreModel = core_of text cycles in
+    let clear : NothingFails text = nothing text (end_of_all texts) accepted.tables in
+    let found : IsFoundThroughout m past covered count =
+    found_throughout text cycles
+    (sign text (end_of_all texts) accepted.tables (written (Models.joined texts accepted.tokens) accepted.definitions accepted.parsed).1)
+    clear.step clear.reset stands.step stands.reset past covered count few in
+    texts_safe (meant_of text cycles) m past count (of_text text cycles) (mean texts made accepted cycles) entry schedule state ok
+    ((models m past covered k rank count some held found covers stands.throughout).1 entry schedule there state ok)
+
+pub accepted_safe : AcceptedHold → AcceptedCoresRunSafely → AcceptedModelsRunSafely
+accepted_safe hold cores texts made accepted =
+    let m : CoreModel = core_of (gathered accepted.definitions) no_cycle in
+    cores texts made accepted no_cycle
+    (as_held (obligations m)
+    (subst Bidir.AllHold (checked_are m (obligations m) (B.checked (obligations m)) made.certified accepted.closed) (hold texts made accepted)))

@@ -1,0 +1,9 @@
+pub mod Accepted
+pub mod Constraints
+pub mod Entries
+pub mod Found
+pub mod Fresh
+pub mod Functions
+pub mod Named
+pub mod Sides
+pub mod Texts

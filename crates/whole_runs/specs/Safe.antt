@@ -1,0 +1,55 @@
+-- A model whose runs are never stuck: what is known of it, whatever the hart at work.
+use Rattle.std.specs.Prelude.{◌≡◌, ◌<◌, ℕ, Bool, false, List, [], length}
+use Rattle.sail_types.specs.Numbers.{Positive}
+use Rattle.sail_types.specs.declared.values.Value.{Value}
+use Rattle.model_state.specs.RunState.{RunState}
+use Rattle.sail_core.specs.Program.{Sizing, plain}
+use Rattle.sail_core.specs.Start.{init_ran, opened, openings_of, reset_ran, step_ran}
+use Rattle.sail_core.specs.declared.model.CoreModel.{CoreModel}
+use Rattle.constraint_gen.specs.Obligations.{obligations}
+use Rattle.checked_meaning.specs.Checked.{Checks, checking}
+use Rattle.goal_laws.specs.Goals.{AllHold}
+use Rattle.soundness_steps.specs.Works.{Work}
+use Rattle.soundness_steps.specs.States.{AllHarts}
+use Rattle.soundness_calls.specs.Events.{checks_of}
+use Rattle.soundness_openings.specs.Initials.{pure_setting}
+use Rattle.never_stuck.specs.Covers.{Covers}
+use Rattle.never_stuck.specs.Never.{AllEnd, IsFound, Stands, setting_in}
+use Rattle.never_stuck.specs.Openings.{Open}
+use Rattle.whole_runs.specs.Runs.{AreThere, Parts, PartsGo, RunGoes}
+
+-- the parts of a model's runs in a reading of it
+abbrev pub core_parts : {X : Type 0} → Sizing X → CoreModel → Parts
+core_parts sizing m = record { init = init_ran sizing m; reset = reset_ran sizing m; step = step_ran sizing m }
+
+-- there are so many harts, and each register of each belongs to its type
+pub record IsFit (m : CoreModel) (past : Positive) (count : ℕ) (state : RunState) : Type 0 where
+  pub registers : AllHarts (pure_setting m past (λ x. false) m.registers []) state.harts
+  pub harts : length state.harts ≡ count
+
+-- instances cover what is read of the model, whatever hart is at work
+abbrev pub CoversThroughout : CoreModel → Positive → (Work → Bool) → Checks → (ℕ → ℕ) → ℕ → Type 0
+CoversThroughout m past covered k rank count = (hart : ℕ) → hart < count → Covers (setting_in m past hart covered) m k rank
+
+-- openings that end from one state end where there is no register: they hang on no state
+abbrev pub OpeningsAreSteady : CoreModel → Positive → Checks → ℕ → Type 0
+OpeningsAreSteady m past k count = (state : RunState) → IsFit m past count state → (vs : List Value) (now : RunState)
+    → openings_of (checking (checks_of m k)) m state ≡ opened vs now → AllEnd m k
+
+-- it stands so; and openings stand over the registers with which a run starts
+pub record StandsThroughout (m : CoreModel) (past : Positive) (covered : Work → Bool) (k : Checks) (rank : ℕ → ℕ) (count : ℕ) : Type 0 where
+  pub start : Open m past covered m.registers (checks_of m k)
+  pub steady : OpeningsAreSteady m past k count
+  pub each : (hart : ℕ) → hart < count → Stands (setting_in m past hart covered) m k rank
+
+-- so it is of what the tables give
+abbrev pub IsFoundThroughout : CoreModel → Positive → (Work → Bool) → ℕ → Type 0
+IsFoundThroughout m past covered count = (hart : ℕ) → hart < count → IsFound (setting_in m past hart covered) m
+
+abbrev pub ModelsRunSafely : Type 0
+ModelsRunSafely = (m : CoreModel) (past : Positive) (covered : Work → Bool) (k : Checks) (rank : ℕ → ℕ) (count : ℕ) → 0 < count
+    → AllHold (obligations m) → IsFoundThroughout m past covered count
+    → CoversThroughout m past covered k rank count → StandsThroughout m past covered k rank count
+    → (AllEnd m k → PartsGo (core_parts (checking (checks_of m k)) m) count (IsFit m past count) × PartsGo (core_parts plain m) count (IsFit m past count))
+    × ((entry : ℕ) (schedule : List ℕ) → AreThere count schedule → (state : RunState) → IsFit m past count state
+    → RunGoes (core_parts plain m) (IsFit m past count) count entry schedule state)
