@@ -89,6 +89,6 @@ module _ (m : CoreModel) (past : Positive) (covered : Work → Bool) (registers 
 
   pub openings_stand : WalksAreMet m (around_of m) → CoversOpenings m past covered k → Open m past covered registers k
       → OpeningsStand m past covered registers k 0 [] m.openings
-  openings_stand walks covers open =
+  openings_stand walks covers opens =
       all_stand (λ i o at names. walks.opening i o at (set names) nobody (λ d. false) (k.opening i) (covers i o at registers names)) 0 [] m.openings
-      (λ j o e. e) open.alike open.right
+      (λ j o e. e) opens.alike opens.right

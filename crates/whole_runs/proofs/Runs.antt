@@ -89,5 +89,5 @@ run_across parts others Holds alike count entry schedule state h =
     (λ ran. ResetsGo others Holds entry (EventsGo others Holds schedule) (range_with_len 0 count) ran.state)
     (parts.init state) (others.init state) (alike.init state h)
     (λ ran k.
-        resets_across parts others Holds alike entry (EventsGo parts Holds schedule) (EventsGo others Holds schedule)
-        (events_across parts others Holds alike schedule) (range_with_len 0 count) ran.state k)
+    resets_across parts others Holds alike entry (EventsGo parts Holds schedule) (EventsGo others Holds schedule)
+    (events_across parts others Holds alike schedule) (range_with_len 0 count) ran.state k)

@@ -70,8 +70,8 @@ module _ (models_alike : ModelsAreAlike) (models_keep : ModelsKeep) (m : CoreMod
 
   opened_right : (state : RunState) → Fit state → OpenedRight m past covered m.registers (around_of m).lets (openings_of (checking c) m state)
   opened_right state ok =
-      let open = openings_stand m past covered m.registers c (λ r x e. e) (notes_met m held) (covers 0 some).openings stands.start in
-      openings_sound m past covered m.registers c refl open state (at_start m past count covered some state ok)
+      let opens = openings_stand m past covered m.registers c (λ r x e. e) (notes_met m held) (covers 0 some).openings stands.start in
+      openings_sound m past covered m.registers c refl opens state (at_start m past count covered some state ok)
 
   init_there : (state : RunState) → Fit state → There (init_ran (checking c) m state) (init_ran plain m state) (λ ran. Fit ran.state)
   init_there state ok =
@@ -127,7 +127,7 @@ module _ (models_alike : ModelsAreAlike) (models_keep : ModelsKeep) (m : CoreMod
     step = λ hart low state ok.
         let t = step_there end hart low state ok in
         goes_if (step_ran (checking c) m hart state) t.ran (λ ran. Fit (after_step hart ran.ended ran.state)) t.checked_is
-            (λ v e. step_fit m past count hart t.ran.ended t.ran.state (t.holds v e));
+        (λ v e. step_fit m past count hart t.ran.ended t.ran.state (t.holds v e));
   }
 
   plain_goes : AllEnd m k → PartsGo (core_parts plain m) count Fit
@@ -141,7 +141,7 @@ module _ (models_alike : ModelsAreAlike) (models_keep : ModelsKeep) (m : CoreMod
     step = λ hart low state ok.
         let t = step_there end hart low state ok in
         goes_if (step_ran plain m hart state) t.ran (λ ran. Fit (after_step hart ran.ended ran.state)) t.plain_is
-            (λ v e. step_fit m past count hart t.ran.ended t.ran.state (t.holds v e));
+        (λ v e. step_fit m past count hart t.ran.ended t.ran.state (t.holds v e));
   }
 
   -- ---- whole runs
