@@ -1,6 +1,6 @@
 -- The core of an accepted text that passes tests stands, as the law that nothing gets stuck takes it: but for its openings, and for ways that meet where
 -- no type is wanted.
-use Rattle.std.specs.Prelude.{◌≡◌, ℕ, Bool, true, List, slice_get, Option, Some, None}
+use Rattle.std.specs.Prelude.{◌≡◌, ℕ, Bool, true, List, [], slice_get, Option, Some, None}
 use Rattle.sail_base.specs.declared.place.Place.{Place}
 use Rattle.sail_types.specs.Numbers.{Positive}
 use Rattle.sail_syntax.specs.declared.definitions.Def.{Def}
@@ -12,6 +12,7 @@ use Rattle.shapes.specs.Failures.{refusal}
 use Rattle.shapes.specs.Tabled.{tabled_of}
 use Rattle.known_texts.specs.Written.{IsWritten}
 use Rattle.text_progress.specs.Laws.{core_of}
+use Rattle.constraint_gen.specs.Models.{around_of}
 use Rattle.checked_meaning.specs.Checked.{Checks}
 use Rattle.hanging_sizes.specs.Hanging.{payloads_alone, table_hangs}
 use Rattle.soundness_steps.specs.Works.{Setting, Work}
@@ -26,8 +27,8 @@ use Rattle.tested_models.specs.Tests.{model_fits}
 -- tests of a model, of which the last is of each instance that is covered
 pub record ModelTested (m : CoreModel) (covered : Work → Bool) : Type 0 where
   pub bodies : model_fits m ≡ true
-  pub tables : table_hangs m.types ≡ true
-  pub alone : (x : Work) → covered x ≡ true → payloads_alone m.types x.own ≡ true
+  pub tables : table_hangs (around_of m).types ≡ true
+  pub alone : (x : Work) → covered x ≡ true → payloads_alone (around_of m).types x.own ≡ true
 
 -- what no test says: of ways that meet where no type is wanted, and of openings
 pub record ModelLeft (set : Setting) (m : CoreModel) (k : Checks) (rank : ℕ → ℕ) : Type 0 where
