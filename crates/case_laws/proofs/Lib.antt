@@ -1,3 +1,3 @@
 mod Taken
 pub mod Under
-mod Present
+pub mod Present
