@@ -138,6 +138,14 @@ val f : forall ('a : Type). (list('a), 'a) -> 'a
 function f(l, x) = x
 # { let l : list(bit) = f([||], [||]); true }
 # 0 accepted 3 functions 0 obligations
+% check M // what names a variable that items bind is no one type of them
+struct s('n) = { x : int('n) }
+val two : forall ('a : Type). list((bit, 'a)) -> ('a, 'a)
+function two(l) = match l { (_, p) :: (_, q) :: _ => (p, q), _ => exit() }
+val g : list((bit, {'n, 0 <= 'n & 'n <= 1. (int('n), s('n))})) -> bit
+function g(l) = { let ((_, a), (_, b)) = two(l); 0b1[b.x - a.x] }
+# true
+# 1 M20 1:5:42 #1 = 0
 % check M // items of a type that binds a variable stay of it where a Type variable stands for their type
 val f : forall ('a : Type). list('a) -> unit
 function f(l) = ()
