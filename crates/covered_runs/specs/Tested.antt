@@ -1,0 +1,34 @@
+-- Texts that the program accepts are never stuck where their lists of instances are tested.
+use Rattle.std.specs.Prelude.{◌≡◌, ◌<◌, ◌≤◌, ℕ, true, List, length, slice_get, Some, Ok}
+use Rattle.sail_types.specs.Numbers.{Positive}
+use Rattle.scattered.specs.Gathered.{gathered}
+use Rattle.sail_core.specs.declared.model.CoreModel.{CoreModel}
+use Rattle.sail_core.specs.declared.model.Direction.{Direction}
+use Rattle.sized_trees.specs.declared.trees.SizedCore.{SizedCore}
+use Rattle.sized_trees.specs.Trees.{sized_core}
+use Rattle.sized_meanings.specs.Sized.{checks_of}
+use Rattle.covering_laws.specs.Covered.{core_tested, covered_by}
+use Rattle.text_progress.specs.Laws.{core_of}
+use Rattle.sail_top.specs.Checked.{no_cycle}
+use Rattle.sail_top.specs.Models.{AreAccepted}
+use Rattle.sail_top.specs.declared.models.Accepted.{Accepted}
+use Rattle.whole_runs.specs.Safe.{CoversThroughout}
+use Rattle.safe_models.specs.Safe.{RunsSafely, Stands}
+
+-- the list of instances of a core is found and tested, and directions of mappings have ranks
+pub record IsTested (m : CoreModel) (rank : ℕ → ℕ) (c : SizedCore) : Type 0 where
+  pub found : sized_core m ≡ Ok c
+  pub tested : core_tested m rank c ≡ true
+  pub ranks : (d : ℕ) (n : Direction) → slice_get m.directions d ≡ Some n → rank d < length m.directions
+
+-- such a list covers the core
+abbrev pub TestedListsCover : Type 0
+TestedListsCover = (m : CoreModel) (rank : ℕ → ℕ) (c : SizedCore) → IsTested m rank c → (past : Positive) (count : ℕ)
+    → CoversThroughout m past (covered_by c) (checks_of m c) rank count
+
+-- so the text isn't stuck
+abbrev pub TestedModelsRunSafely : Type 0
+TestedModelsRunSafely = (texts : List (List ℕ)) (made : Accepted) (accepted : AreAccepted texts made) (rank : ℕ → ℕ) (c : SizedCore)
+    → IsTested (core_of (gathered accepted.definitions) no_cycle) rank c → (past : Positive) (count : ℕ) → 0 < count → count ≤ 8
+    → Stands (core_of (gathered accepted.definitions) no_cycle) past (covered_by c) (checks_of (core_of (gathered accepted.definitions) no_cycle) c) rank
+    count → RunsSafely (gathered accepted.definitions) no_cycle past count

@@ -1,0 +1,5 @@
+pub mod Narrow
+pub mod Tables
+pub mod Closed
+pub mod Registers
+pub mod Mappings

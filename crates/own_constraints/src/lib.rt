@@ -1,0 +1,6 @@
+//! Laws of the constraints of functions.
+#![tactic(auto)]
+
+mod laws;
+
+pub use laws::constraints_are_own;

@@ -1,0 +1,4 @@
+pub mod Placed
+pub mod Told
+pub mod Each
+pub mod Functions

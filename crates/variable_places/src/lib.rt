@@ -1,0 +1,6 @@
+//! Laws of the variables of functions.
+#![tactic(auto)]
+
+mod laws;
+
+pub use laws::variables_have_places;
