@@ -5,7 +5,7 @@ use Rattle.sail_grammar.specs.declared.mode.Mode.TheVariants.{Full, Limited}
 use Rattle.sail_grammar.specs.Form.{Tree, Leaf}
 use Rattle.sail_grammar.specs.RowName as N
 use Rattle.sail_grammar.specs.Table.{rule}
-use Rattle.parsed_texts.proofs.Trees.{Made, word, empty, left, right, both, guard, hold, row}
+use Rattle.text_progress.proofs.Trees.{Made, word, empty, left, right, both, guard, hold, row}
 use Rattle.accepted_models.proofs.Manners.{suits_both, suits_leaf}
 use Rattle.accepted_models.proofs.Rows.{Fine}
 use Rattle.accepted_models.proofs.ExpForms.{let_fine, var_fine, with_fine}

@@ -6,7 +6,7 @@ use Rattle.sail_grammar.specs.Leaves.{name_at, place_at}
 use Rattle.sail_grammar.specs.Table.{rule}
 use Rattle.sail_grammar.specs.TypeTrees.{typ_of}
 use Rattle.shape_joins.proofs.Order.{two}
-use Rattle.parsed_texts.proofs.Trees.{Made, word, empty, left, right, both, row}
+use Rattle.text_progress.proofs.Trees.{Made, word, empty, left, right, both, row}
 use Rattle.accepted_models.proofs.Rows.{Fine}
 use Rattle.accepted_models.proofs.DefForms.{guard_fine, quiet_fine, register_fine}
 use Rattle.accepted_models.proofs.ExpRows.{behind}

@@ -7,7 +7,7 @@ use Rattle.sail_grammar.specs.RowName as N
 use Rattle.sail_grammar.specs.Table.{rule}
 use Rattle.sail_grammar.specs.ExpTrees as T
 use Rattle.shape_joins.proofs.Order.{no, two}
-use Rattle.parsed_texts.proofs.Trees.{Made, word, empty, left, right, both, guard, bar, row}
+use Rattle.text_progress.proofs.Trees.{Made, word, empty, left, right, both, guard, bar, row}
 use Rattle.accepted_models.proofs.Manners.{suits_both, suits_leaf}
 use Rattle.accepted_models.proofs.Rows.{Fine}
 use Rattle.accepted_models.proofs.ExpForms.{FineIf, aimed, assign_fine, foreach_fine, if_fine, leave_fine, let_fine, loop_fine, match_fine, try_fine}

@@ -6,7 +6,7 @@ use Rattle.sail_grammar.specs.Form.{Word, Empty, Row, ◌or◌, ◌then◌, Tree
 use Rattle.sail_grammar.specs.RowName as N
 use Rattle.sail_grammar.specs.Table.{rule}
 use Rattle.sail_grammar.specs.ExpTrees as T
-use Rattle.parsed_texts.proofs.Trees.{Made, word, empty, left, right, both, row}
+use Rattle.text_progress.proofs.Trees.{Made, word, empty, left, right, both, row}
 use Rattle.accepted_models.proofs.Manners.{suits_both, suits_leaf}
 use Rattle.accepted_models.proofs.Rows.{Fine}
 use Rattle.accepted_models.proofs.ExpForms.{FineIf, assert_fine, call_fine, constant_fine, in_brackets_fine, infix_fine, list_fine, of_type_fine}

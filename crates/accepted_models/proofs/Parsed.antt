@@ -8,7 +8,7 @@ use Rattle.sail_grammar.specs.RowName.{RowName}
 use Rattle.sail_grammar.specs.DefTrees.{defs_of}
 use Rattle.sail_grammar.specs.Table.{rule}
 use Rattle.sail_grammar.specs.Model.{IsModel}
-use Rattle.parsed_texts.proofs.Trees.{Made, made, row}
+use Rattle.text_progress.proofs.Trees.{Made, made, row}
 use Rattle.accepted_models.proofs.Rows.{Fine}
 use Rattle.accepted_models.proofs.DefForms.{FineDefs}
 use Rattle.accepted_models.proofs.ExpRows as E

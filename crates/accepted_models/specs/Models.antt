@@ -5,7 +5,7 @@ use Rattle.scattered.specs.Gathered.{gathered}
 use Rattle.shape_meanings.specs.Models.{CoreMeansText}
 use Rattle.shapes.specs.Resolved.{resolved}
 use Rattle.shapes.specs.Tabled.{tabled_of}
-use Rattle.text_models.specs.Texts.{text_of}
+use Rattle.known_texts.specs.Texts.{text_of}
 use Rattle.sail_top.specs.Models.{AreAccepted}
 use Rattle.sail_top.specs.declared.models.Accepted.{Accepted}
 

@@ -6,9 +6,8 @@ ghost use Rattle.accepted_models.specs.Starts.{FreshStatesAreFit};
 ghost use Rattle.accepted_models.specs.Words.{WordsHaveAnAnswer};
 
 use decided_tokens::tokens_are_decided;
-use parsed_texts::{parsed_texts_are_written, parsed_texts_mean_text};
 use sail_top::words_have_one_answer;
-use text_progress::accepted_texts_go_on;
+use text_progress::{accepted_texts_go_on, parsed_texts_are_written, parsed_texts_mean_text};
 
 /// The expressions of what is gathered of the definitions that tokens are, are plain where the grammar has plain ones, and each `with` in
 /// them has a field.

@@ -1,1 +1,3 @@
-pub mod Fitting
+pub mod Cores
+pub mod Models
+pub mod Texts

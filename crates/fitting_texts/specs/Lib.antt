@@ -1,1 +1,5 @@
-pub mod Laws
+pub mod CoreTests
+pub mod CoreLaws
+pub mod ModelTests
+pub mod ModelLaws
+pub mod TextLaws

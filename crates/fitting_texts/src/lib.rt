@@ -1,6 +1,10 @@
-//! Accepted texts whose cores pass tests: they stand, as the law that nothing gets stuck takes it.
+//! Cores, models and accepted texts that pass tests: they stand, as the law that nothing gets stuck takes them.
 #![tactic(auto)]
 
-mod laws;
+mod core_laws;
+mod model_laws;
+mod text_laws;
 
-pub use laws::fitting_texts_stand;
+pub use core_laws::{clauses_stand, values_stand, ways_stand};
+pub use model_laws::tested_models_stand;
+pub use text_laws::fitting_texts_stand;

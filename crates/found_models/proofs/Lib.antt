@@ -1,1 +1,12 @@
+pub mod Placed
+pub mod Told
+pub mod EachFunction
+pub mod PlacedVariables
+pub mod Signed
+pub mod OwnConstraints
+pub mod Narrow
+pub mod Tables
+pub mod Closed
+pub mod Registers
+pub mod Mappings
 pub mod Models

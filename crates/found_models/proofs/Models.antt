@@ -11,11 +11,11 @@ use Rattle.pattern_leaves.specs.Settings.{Around}
 use Rattle.pattern_leaves.specs.declared.names.TopLevel.{TopLevel}
 use Rattle.constraint_gen.specs.Models.{around_of, around_with, lets_behind, names_of}
 use Rattle.text_progress.specs.Laws.{core_of}
-use Rattle.variable_places.proofs.Functions.{variables_placed}
+use Rattle.found_models.proofs.PlacedVariables.{variables_placed}
 use Rattle.soundness_values.specs.Named.{TypesNarrow}
-use Rattle.narrow_tables.proofs.Mappings.{mappings_closed}
-use Rattle.narrow_tables.proofs.Registers.{registers_closed}
-use Rattle.narrow_tables.proofs.Tables.{tables_narrow}
+use Rattle.found_models.proofs.Mappings.{mappings_closed}
+use Rattle.found_models.proofs.Registers.{registers_closed}
+use Rattle.found_models.proofs.Tables.{tables_narrow}
 use Rattle.found_models.specs.Models.{ModelsOfTextsStand}
 
 -- ---- what is around all nodes: openings bind names alone

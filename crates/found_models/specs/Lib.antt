@@ -1,1 +1,4 @@
+pub mod Places
+pub mod Constraints
+pub mod Types
 pub mod Models

@@ -52,17 +52,17 @@ use Rattle.shape_meanings.proofs.StructNames.{bytes_same}
 use Rattle.body_meanings.specs.Bodies.{ClausesAreNamed}
 use Rattle.shapes.specs.Failures.{all_lets, own_in, refusal}
 use Rattle.shapes.specs.Tabled.{tabled_of}
-use Rattle.text_models.specs.Known.{DefinitionKnown, DefinitionsKnown, EachKnown, FunctionKnown, MappingKnown, MeasureIsNamed}
-use Rattle.text_models.specs.Whole.{setting_in}
-use Rattle.accepted_texts.specs.Accepted.{EachApart, IsApart, NothingFails}
-use Rattle.accepted_texts.proofs.Constructors.{callables_apart}
-use Rattle.accepted_texts.proofs.Failures.{apart}
-use Rattle.accepted_texts.proofs.Roles.{Covers, IsTaken, covers_left, covers_right, or_elim, taken_first}
-use Rattle.accepted_texts.proofs.Thrown.{exception_closed}
-use Rattle.accepted_texts.proofs.Types.{types_known}
-use Rattle.accepted_texts.proofs.Vals.{vals_signed}
-use Rattle.accepted_texts.proofs.WellFormed.{typ_shaped}
-use Rattle.known_texts.specs.Laws.{EachUnionKnown, UnionKnown}
+use Rattle.known_texts.specs.Known.{DefinitionKnown, DefinitionsKnown, EachKnown, FunctionKnown, MappingKnown, MeasureIsNamed}
+use Rattle.known_texts.specs.Whole.{setting_in}
+use Rattle.known_texts.specs.Accepted.{EachApart, IsApart, NothingFails}
+use Rattle.known_texts.proofs.Constructors.{callables_apart}
+use Rattle.known_texts.proofs.Failures.{apart}
+use Rattle.known_texts.proofs.Roles.{Covers, IsTaken, covers_left, covers_right, or_elim, taken_first}
+use Rattle.known_texts.proofs.Thrown.{exception_closed}
+use Rattle.known_texts.proofs.Types.{types_known}
+use Rattle.known_texts.proofs.Vals.{vals_signed}
+use Rattle.known_texts.proofs.WellFormed.{typ_shaped}
+use Rattle.known_texts.specs.KnownTexts.{EachUnionKnown, UnionKnown}
 use Rattle.known_texts.specs.Signed.{EachSigned, IsSigned}
 use Rattle.known_texts.proofs.Tuples.{TuplesHaveParts}
 use Rattle.known_texts.specs.Written.{IsWritten, clause_types_written, clause_written, crossing_written, definition_written, has_clauses, sides_written}
@@ -75,7 +75,7 @@ use Rattle.known_texts.proofs.Lets as Lets
 use Rattle.known_texts.proofs.Named.{MeasureNamed, clauses_named, crossings_named, measure_found, plain_at}
 use Rattle.known_texts.proofs.Overloads.{overloads_are}
 use Rattle.known_texts.proofs.Quantified.{mapping_plain}
-use Rattle.known_texts.proofs.Rows.{ArePlain}
+use Rattle.known_texts.proofs.BuiltinRows.{ArePlain}
 use Rattle.known_texts.proofs.Signed.{each_signed, variables_are}
 use Rattle.known_texts.proofs.Tables.{EachRow, rows_are}
 use Rattle.known_texts.proofs.There.{EachHas}

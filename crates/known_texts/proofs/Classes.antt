@@ -13,7 +13,7 @@ use Rattle.sail_names.specs.declared.names.Global.{Global}
 use Rattle.known_names.specs.Meanings.{global_as, naming_of}
 use Rattle.shape_joins.proofs.JoinsLeast.{none, some_same}
 use Rattle.shape_joins.proofs.Order.{no, two}
-use Rattle.accepted_texts.proofs.Roles.{all_over, are_free, or_elim}
+use Rattle.known_texts.proofs.Roles.{all_over, are_free, or_elim}
 
 abbrev pub class : Role → Global
 class r = global_as [] r 0

@@ -14,7 +14,7 @@ use Rattle.type_definitions.specs.Defined.{enum_form, next_type, struct_form, ta
 use Rattle.shape_joins.proofs.Order.{no}
 use Rattle.shapes.specs.Tabled.{tabled_of}
 use Rattle.known_texts.specs.Signed.{EachSigned, IsSigned}
-use Rattle.known_texts.proofs.Rows.{ArePlain}
+use Rattle.known_texts.proofs.BuiltinRows.{ArePlain}
 use Rattle.known_texts.proofs.Tables.{EachRow, RowIs}
 use Rattle.known_texts.proofs.There.{EachHas, HasEntries}
 

@@ -51,13 +51,13 @@ use Rattle.shape_meanings.specs.Worlds.{is_payload_form}
 use Rattle.shape_meanings.proofs.Counting.{named_counted, never_counted, variable_counted}
 use Rattle.shapes.specs.Failures.{own_in}
 use Rattle.shapes.specs.Tabled.{tabled_of}
-use Rattle.accepted_texts.proofs.ReadFormed.{typ_formed}
-use Rattle.accepted_texts.proofs.TableFormed.{FormFormed, all_so_far, scope_of}
-use Rattle.accepted_texts.proofs.WellFormed.{all_formed, formed, typ_shaped}
+use Rattle.known_texts.proofs.ReadFormed.{typ_formed}
+use Rattle.known_texts.proofs.TableFormed.{FormFormed, all_so_far, scope_of}
+use Rattle.known_texts.proofs.WellFormed.{all_formed, formed, typ_shaped}
 use Rattle.known_texts.proofs.Tuples.{AllPayloads, TuplesHaveParts}
 use Rattle.known_texts.specs.Written.{is_some_name}
 use Rattle.known_texts.proofs.Formed.{params_shaped, signature_formed}
-use Rattle.known_texts.proofs.Rows.{AllFine, ArePlain, IsFine, rows_fine}
+use Rattle.known_texts.proofs.BuiltinRows.{AllFine, ArePlain, IsFine, rows_fine}
 use Rattle.known_texts.proofs.Tables.{EachRow, RowIs}
 use Rattle.known_texts.proofs.Values.{option_first}
 

@@ -38,10 +38,10 @@ use Rattle.shape_models.specs.Models.{is_type_variable, type_variables, within_v
 use Rattle.shape_meanings.specs.Counted.{all_counted}
 use Rattle.shape_meanings.specs.Whole.{all_below}
 use Rattle.shapes.specs.Tabled.{tabled_of}
-use Rattle.known_texts.specs.Laws.{IsWhole}
-use Rattle.accepted_texts.proofs.ReadFormed.{kinds_of, type_kinds, typ_formed}
-use Rattle.accepted_texts.proofs.TableFormed.{scope_of}
-use Rattle.accepted_texts.proofs.WellFormed.{all_formed, formed, formed_at, opened, tuple_formed, typ_shaped, types_shaped, unit_formed}
+use Rattle.known_texts.specs.KnownTexts.{IsWhole}
+use Rattle.known_texts.proofs.ReadFormed.{kinds_of, type_kinds, typ_formed}
+use Rattle.known_texts.proofs.TableFormed.{scope_of}
+use Rattle.known_texts.proofs.WellFormed.{all_formed, formed, formed_at, opened, tuple_formed, typ_shaped, types_shaped, unit_formed}
 
 -- ---- parameters
 

@@ -54,16 +54,16 @@ use Rattle.shape_meanings.proofs.Counting.{list_counted, variable_counted}
 use Rattle.shape_meanings.proofs.Settling.{same_name}
 use Rattle.shapes.specs.Failures.{own_in}
 use Rattle.shapes.specs.Tabled.{tabled_of}
-use Rattle.accepted_texts.specs.Accepted.{NothingFails}
-use Rattle.accepted_texts.proofs.ReadFormed.{kinds_of, type_kinds, typ_formed}
-use Rattle.accepted_texts.proofs.Roles.{or_elim}
-use Rattle.accepted_texts.proofs.TableFormed.{FormFormed, all_so_far, scope_of}
-use Rattle.accepted_texts.proofs.Types.{kind_whole, typ_whole}
-use Rattle.accepted_texts.proofs.WellFormed.{formed, typ_shaped, types_shaped}
-use Rattle.accepted_texts.proofs.Vals.{constraint_there}
+use Rattle.known_texts.specs.Accepted.{NothingFails}
+use Rattle.known_texts.proofs.ReadFormed.{kinds_of, type_kinds, typ_formed}
+use Rattle.known_texts.proofs.Roles.{or_elim}
+use Rattle.known_texts.proofs.TableFormed.{FormFormed, all_so_far, scope_of}
+use Rattle.known_texts.proofs.Types.{kind_whole, typ_whole}
+use Rattle.known_texts.proofs.WellFormed.{formed, typ_shaped, types_shaped}
+use Rattle.known_texts.proofs.Vals.{constraint_there}
 use Rattle.known_texts.proofs.Tuples.{TuplesHaveParts}
 use Rattle.known_texts.proofs.Fine.{MeantFine, overload_fine, own_fine, rows_all}
-use Rattle.known_texts.proofs.Rows.{AllFine, ArePlain, rows_fine}
+use Rattle.known_texts.proofs.BuiltinRows.{AllFine, ArePlain, rows_fine}
 use Rattle.known_texts.proofs.Signed.{typ_fine}
 use Rattle.known_texts.proofs.Tables.{EachRow}
 use Rattle.known_texts.proofs.There.{EachHas}

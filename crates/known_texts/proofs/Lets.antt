@@ -58,10 +58,10 @@ use Rattle.shape_meanings.proofs.StructNames.{bytes_same}
 use Rattle.shape_meanings.proofs.TreeCounts.{exp_counts, pattern_counts}
 use Rattle.shapes.specs.Failures.{all_lets, let_binds, lets_behind, lets_with, own_in}
 use Rattle.shapes.specs.Tabled.{tabled_of}
-use Rattle.accepted_texts.specs.Accepted.{NothingFails}
-use Rattle.accepted_texts.proofs.Failures.{apart}
-use Rattle.accepted_texts.proofs.Roles.{Covers, IsTaken, covers_right, or_elim, or_left, or_right, taken_first, taken_left}
-use Rattle.accepted_texts.proofs.Roles.{taken_right}
+use Rattle.known_texts.specs.Accepted.{NothingFails}
+use Rattle.known_texts.proofs.Failures.{apart}
+use Rattle.known_texts.proofs.Roles.{Covers, IsTaken, covers_right, or_elim, or_left, or_right, taken_first, taken_left}
+use Rattle.known_texts.proofs.Roles.{taken_right}
 use Rattle.known_texts.proofs.Classes.{EachOf, both_of, found_of}
 use Rattle.known_texts.proofs.Meant.{is_let_role}
 use Rattle.known_texts.proofs.Values.{LetsAre, first_at}

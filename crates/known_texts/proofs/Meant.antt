@@ -33,10 +33,10 @@ use Rattle.shape_models.specs.declared.entries.Entry.{Entry}
 use Rattle.shape_models.specs.Models.{Own, Tabled, meant_in}
 use Rattle.shape_meanings.specs.Naming.{is_constructor, is_conversion, is_function}
 use Rattle.shape_meanings.proofs.Settling.{same_name}
-use Rattle.accepted_texts.proofs.Entries.{CalleeIs, EntriesAre, MeantIs, is_register_role}
-use Rattle.accepted_texts.proofs.Failures.{apart}
-use Rattle.accepted_texts.proofs.Roles.{IsTaken, are_free, same_space}
-use Rattle.accepted_texts.proofs.Rows.{is_constructor_role, is_member_role}
+use Rattle.known_texts.proofs.Entries.{CalleeIs, EntriesAre, MeantIs, is_register_role}
+use Rattle.known_texts.proofs.Failures.{apart}
+use Rattle.known_texts.proofs.Roles.{IsTaken, are_free, same_space}
+use Rattle.known_texts.proofs.TableRows.{is_constructor_role, is_member_role}
 use Rattle.known_texts.proofs.Classes.{FirstIs, alike, class, first_taken, found_of, roles}
 use Rattle.known_texts.proofs.There.{DeclaresAs, Declares, EachDeclares, EachThere, IsThere, There}
 

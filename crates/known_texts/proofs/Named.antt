@@ -24,7 +24,7 @@ use Rattle.shape_meanings.specs.Whole.{all_of}
 use Rattle.shape_meanings.proofs.Settling.{same_name}
 use Rattle.body_meanings.specs.Bodies.{ClausesAreNamed}
 use Rattle.body_meanings.specs.Directions.{CrossingsAreNamed}
-use Rattle.accepted_texts.proofs.Failures.{apart}
+use Rattle.known_texts.proofs.Failures.{apart}
 use Rattle.known_texts.specs.Written.{clause_written, crossing_written, definition_written}
 
 pub clauses_named : (names : Tables.Setting) (cs : List FunctionClause) → all_of (map clause_written cs) ≡ true → clauses_failures names cs ≡ []

@@ -25,10 +25,10 @@ use Rattle.shape_meanings.specs.Trees.{pattern_written, written}
 use Rattle.shape_meanings.specs.Whole.{all_of}
 use Rattle.shapes.specs.Failures.{lets_with, own_in}
 use Rattle.shapes.specs.Tabled.{tabled_of}
-use Rattle.text_models.specs.Opened.{OpeningKnown, OpeningsKnown, OpeningsKnownFrom, PlainKnown}
-use Rattle.text_models.specs.Whole.{setting_in}
-use Rattle.accepted_texts.specs.Accepted.{NothingFails}
-use Rattle.accepted_texts.proofs.Failures.{apart}
+use Rattle.known_texts.specs.Opened.{OpeningKnown, OpeningsKnown, OpeningsKnownFrom, PlainKnown}
+use Rattle.known_texts.specs.Whole.{setting_in}
+use Rattle.known_texts.specs.Accepted.{NothingFails}
+use Rattle.known_texts.proofs.Failures.{apart}
 use Rattle.known_texts.proofs.Tuples.{TuplesHaveParts}
 use Rattle.known_texts.specs.Written.{IsWritten, definition_written, type_written}
 use Rattle.known_texts.proofs.Assembled.{known_at, known_plainly, same_members}

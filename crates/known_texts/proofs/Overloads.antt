@@ -42,9 +42,9 @@ use Rattle.shape_meanings.proofs.Settling.{same_name}
 use Rattle.shape_meanings.proofs.StructNames.{bytes_same}
 use Rattle.shapes.specs.Failures.{own_in}
 use Rattle.shapes.specs.Tabled.{tabled_of}
-use Rattle.accepted_texts.specs.Accepted.{NothingFails}
-use Rattle.accepted_texts.proofs.Failures.{apart}
-use Rattle.accepted_texts.proofs.Roles.{or_elim, or_left, or_right}
+use Rattle.known_texts.specs.Accepted.{NothingFails}
+use Rattle.known_texts.proofs.Failures.{apart}
+use Rattle.known_texts.proofs.Roles.{or_elim, or_left, or_right}
 use Rattle.known_texts.specs.Written.{IsWritten, definition_written, is_some_name}
 use Rattle.known_texts.proofs.Classes.{EachOf, FirstIs, both_of, class, first_taken, found_of, roles}
 use Rattle.known_texts.proofs.Meant.{OwnIs}

@@ -27,9 +27,9 @@ use Rattle.shape_declarations.specs.Vals.{first_bound}
 use Rattle.shape_models.specs.Models.{overloads_faults, params_variables, setting_of, within_variables}
 use Rattle.shapes.specs.Failures.{all_faults, all_lets, lets_faults, others_faults, own_in, refusal, state_faults}
 use Rattle.shapes.specs.Tabled.{tabled_of}
-use Rattle.accepted_texts.specs.Accepted.{NothingFails}
-use Rattle.accepted_texts.proofs.Failures.{apart}
-use Rattle.accepted_texts.proofs.Roles.{Covers, IsTaken, covers_left, covers_right, taken_first}
+use Rattle.known_texts.specs.Accepted.{NothingFails}
+use Rattle.known_texts.proofs.Failures.{apart}
+use Rattle.known_texts.proofs.Roles.{Covers, IsTaken, covers_left, covers_right, taken_first}
 use Rattle.known_texts.proofs.Classes.{class}
 use Rattle.known_texts.proofs.There.{EachHas}
 use Rattle.known_texts.proofs.Values.{first_like}

@@ -72,10 +72,10 @@ use Rattle.sail_declared.specs.Wanting.{all_wanting, form_annotated, is_annotate
 use Rattle.shape_meanings.specs.Whole.{all_of}
 use Rattle.shape_meanings.proofs.Settling.{same_name}
 use Rattle.shape_meanings.proofs.StructNames.{bytes_same}
-use Rattle.accepted_texts.specs.Accepted.{NothingFails, ValsAreSigned}
-use Rattle.accepted_texts.proofs.Failures.{apart}
-use Rattle.accepted_texts.proofs.Roles.{or_elim}
-use Rattle.accepted_texts.proofs.Types.{typ_whole}
+use Rattle.known_texts.specs.Accepted.{NothingFails, ValsAreSigned}
+use Rattle.known_texts.proofs.Failures.{apart}
+use Rattle.known_texts.proofs.Roles.{or_elim}
+use Rattle.known_texts.proofs.Types.{typ_whole}
 use Rattle.known_texts.specs.Signed.{EachSigned, IsSigned}
 use Rattle.known_texts.specs.Written.{IsWritten, clause_types_written, clause_written, definition_written, has_clauses}
 use Rattle.known_texts.proofs.Classes.{EachOf, both_of, some_of}

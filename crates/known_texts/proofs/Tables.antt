@@ -42,10 +42,10 @@ use Rattle.shape_joins.proofs.Order.{no}
 use Rattle.shape_models.specs.Models.{place_of_type}
 use Rattle.shape_meanings.proofs.Settling.{same_name}
 use Rattle.shape_meanings.proofs.StructNames.{bytes_same}
-use Rattle.accepted_texts.specs.Accepted.{NothingFails}
-use Rattle.accepted_texts.proofs.Failures.{apart}
-use Rattle.accepted_texts.proofs.Roles.{or_elim, or_left, or_right}
-use Rattle.accepted_texts.proofs.Types.{typ_whole}
+use Rattle.known_texts.specs.Accepted.{NothingFails}
+use Rattle.known_texts.proofs.Failures.{apart}
+use Rattle.known_texts.proofs.Roles.{or_elim, or_left, or_right}
+use Rattle.known_texts.proofs.Types.{typ_whole}
 
 -- ---- names in order
 

@@ -38,8 +38,8 @@ use Rattle.shape_models.specs.Models as Shapes
 use Rattle.shape_models.specs.Models.{Own, Tabled, counts_with, def_entries, entries_from, meant_in, params_variables, place_in_table, type_variables}
 use Rattle.shape_meanings.proofs.Settling.{same_name}
 use Rattle.shape_meanings.proofs.StructNames.{bytes_same}
-use Rattle.accepted_texts.proofs.Failures.{apart}
-use Rattle.accepted_texts.proofs.Roles.{IsTaken, or_elim, or_left, or_right}
+use Rattle.known_texts.proofs.Failures.{apart}
+use Rattle.known_texts.proofs.Roles.{IsTaken, or_elim, or_left, or_right}
 use Rattle.known_texts.proofs.Classes.{EachOf, both_of}
 
 -- ---- what the tables say of a definition, so that it has entries

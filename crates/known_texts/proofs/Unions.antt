@@ -38,9 +38,9 @@ use Rattle.sail_meaning.specs.Named.{Inside, constructor_in, constructor_named, 
 use Rattle.shape_joins.proofs.Order.{no}
 use Rattle.shape_models.specs.Models.{place_of_type}
 use Rattle.shape_meanings.proofs.StructNames.{bytes_same}
-use Rattle.accepted_texts.specs.Accepted.{NothingFails}
-use Rattle.accepted_texts.proofs.Failures.{apart}
-use Rattle.accepted_texts.proofs.Constructors.{nowhere}
+use Rattle.known_texts.specs.Accepted.{NothingFails}
+use Rattle.known_texts.proofs.Failures.{apart}
+use Rattle.known_texts.proofs.Constructors.{nowhere}
 use Rattle.known_texts.proofs.Tables.{AreTaken, Grows, added, behind_grows, clashes_split, earlier_known, fields_names, first_taken, is_added, new_type}
 use Rattle.known_texts.proofs.Tables.{none_taken, row_there, step_taken, unclashed}
 

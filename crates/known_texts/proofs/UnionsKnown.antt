@@ -15,10 +15,10 @@ use Rattle.shape_joins.proofs.JoinsLeast.{none, some_same}
 use Rattle.shape_rules.specs.Values.{type_parameters}
 use Rattle.shape_models.specs.Models.{params_variables, type_variables}
 use Rattle.shapes.specs.Tabled.{tabled_of}
-use Rattle.text_models.specs.Definitions.{ConstructorsAre, UnionIs}
-use Rattle.accepted_texts.proofs.TableFormed.{all_so_far}
-use Rattle.accepted_texts.proofs.WellFormed.{all_formed, formed}
-use Rattle.known_texts.specs.Laws.{EachUnionKnown}
+use Rattle.known_texts.specs.Definitions.{ConstructorsAre, UnionIs}
+use Rattle.known_texts.proofs.TableFormed.{all_so_far}
+use Rattle.known_texts.proofs.WellFormed.{all_formed, formed}
+use Rattle.known_texts.specs.KnownTexts.{EachUnionKnown}
 use Rattle.known_texts.proofs.Tuples.{AllPayloads, TuplesHaveParts}
 use Rattle.known_texts.proofs.Fine.{form_all, type_variable_count}
 use Rattle.known_texts.proofs.Formed.{params_shaped}

@@ -45,10 +45,10 @@ use Rattle.shape_models.specs.Models.{Own, added_to_name, candidates, entries, e
 use Rattle.shape_meanings.specs.Naming.{MeantAs, is_constructor}
 use Rattle.shapes.specs.Failures.{own_in}
 use Rattle.shapes.specs.Tabled.{tabled_of}
-use Rattle.accepted_texts.specs.Accepted.{NothingFails}
-use Rattle.accepted_texts.proofs.Entries.{EntriesAre, both_are, entries_are, union_is}
-use Rattle.accepted_texts.proofs.Roles.{IsTaken, all_free, are_free}
-use Rattle.accepted_texts.proofs.Rows.{AreRows, is_member_role, rows_are}
+use Rattle.known_texts.specs.Accepted.{NothingFails}
+use Rattle.known_texts.proofs.Entries.{EntriesAre, both_are, entries_are, union_is}
+use Rattle.known_texts.proofs.Roles.{IsTaken, all_free, are_free}
+use Rattle.known_texts.proofs.TableRows.{AreRows, is_member_role, rows_are}
 use Rattle.known_texts.proofs.Classes.{FirstIs, class, first_taken}
 use Rattle.known_texts.proofs.Meant as Names
 use Rattle.known_texts.proofs.Meant.{OwnIs, is_let_role, new_name}

@@ -31,10 +31,10 @@ use Rattle.shape_joins.proofs.Order.{no}
 use Rattle.shape_meanings.proofs.Settling.{same_name}
 use Rattle.shape_meanings.proofs.StructNames.{bytes_same}
 use Rattle.shapes.specs.Tabled.{tabled_of}
-use Rattle.accepted_texts.specs.Accepted.{NothingFails}
-use Rattle.accepted_texts.proofs.Roles.{Covers, IsTaken, covers_left, covers_right, or_elim, or_left, or_right, taken_first}
-use Rattle.accepted_texts.proofs.Rows.{is_member_role}
-use Rattle.accepted_texts.proofs.Places.{agree}
+use Rattle.known_texts.specs.Accepted.{NothingFails}
+use Rattle.known_texts.proofs.Roles.{Covers, IsTaken, covers_left, covers_right, or_elim, or_left, or_right, taken_first}
+use Rattle.known_texts.proofs.TableRows.{is_member_role}
+use Rattle.known_texts.proofs.Places.{agree}
 use Rattle.known_texts.proofs.Classes.{EachOf, both_of, found_of}
 use Rattle.known_texts.proofs.There.{EachHas}
 use Rattle.known_texts.proofs.Values as Valued

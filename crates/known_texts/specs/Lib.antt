@@ -1,3 +1,14 @@
+pub mod Texts
+pub mod Definitions
+pub mod Overloads
+pub mod Known
+pub mod TextLaws
+pub mod Values
+pub mod Functions
+pub mod Whole
+pub mod Openings
+pub mod Opened
+pub mod Accepted
 pub mod Written
 pub mod Signed
-pub mod Laws
+pub mod KnownTexts

@@ -19,10 +19,10 @@ use Rattle.shape_meanings.specs.Models.{register_shapes}
 use Rattle.shapes.specs.Failures.{all_lets, own_in}
 use Rattle.shapes.specs.Resolved as R
 use Rattle.shapes.specs.Tabled.{tabled_of}
-use Rattle.text_models.specs.Texts as T
-use Rattle.accepted_texts.specs.Accepted.{NothingFails, NothingOfItFails}
-use Rattle.known_texts.specs.Laws.{DefinitionsAreSigned}
-use Rattle.parsed_texts.specs.Laws.{ParsedTextsAreWritten}
+use Rattle.known_texts.specs.Texts as T
+use Rattle.known_texts.specs.Accepted.{NothingFails, NothingOfItFails}
+use Rattle.known_texts.specs.KnownTexts.{DefinitionsAreSigned}
+use Rattle.text_progress.specs.ParsedTexts.{ParsedTextsAreWritten}
 use Rattle.goal_laws.specs.Goals.{AllHold}
 use Rattle.text_progress.specs.Laws.{core_of}
 use Rattle.sail_top.specs.Checked.{no_cycle}

@@ -37,7 +37,7 @@ use Rattle.shape_progress.specs.Conditions.{atom_given, con_given, given_in, is_
 use Rattle.text_progress.proofs.Given.{own_scope, stand_ins}
 use Rattle.text_progress.proofs.KindedTypes.{truth_is}
 use Rattle.text_progress.proofs.TextsGiven.{IsGiven, ScopeGiven, behind_kind, text_given, truth_taken}
-use Rattle.never_stuck.specs.Own.{atom_owns, form_owns, is_integer, is_own, is_truth, kind_at, number_own}
+use Rattle.whole_runs.specs.Own.{atom_owns, form_owns, is_integer, is_own, is_truth, kind_at, number_own}
 
 -- ---- numbers and truths among type variables are a function's own variables
 

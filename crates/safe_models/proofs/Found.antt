@@ -21,8 +21,8 @@ use Rattle.shapes.specs.Resolved.{function_place}
 use Rattle.shapes.specs.Tabled.{tabled_of}
 use Rattle.soundness_steps.specs.Works.{Setting, Work}
 use Rattle.soundness_calls.specs.Events.{EventEnters, entered_by, reset_arguments}
-use Rattle.never_stuck.specs.Never.{setting_in}
-use Rattle.never_stuck.proofs.Whole.{functions_kept}
+use Rattle.whole_runs.specs.Never.{setting_in}
+use Rattle.whole_runs.proofs.Events.{functions_kept}
 use Rattle.text_progress.specs.Laws.{core_of}
 use Rattle.whole_runs.specs.Safe.{IsFoundThroughout}
 use Rattle.safe_models.specs.Safe.{Cycles, IsFree}

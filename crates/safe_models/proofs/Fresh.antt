@@ -17,7 +17,7 @@ use Rattle.sail_core.specs.declared.model.CoreModel.{CoreModel}
 use Rattle.value_laws.proofs.Numbers.{beyond_past, truth_is}
 use Rattle.soundness_steps.specs.Works.{Setting}
 use Rattle.soundness_steps.specs.States.{AllHarts, AreRegisters, nothing_stands}
-use Rattle.soundness_openings.specs.Initials.{pure_setting}
+use Rattle.whole_runs.specs.Initials.{pure_setting}
 use Rattle.accepted_models.specs.Starts.{HaveZeros}
 use Rattle.safe_models.specs.Safe.{FreshStatesFit}
 

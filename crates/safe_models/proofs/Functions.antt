@@ -16,7 +16,7 @@ use Rattle.shape_models.specs.Models.{setting_of}
 use Rattle.shape_clauses.specs.Functions.{function_in, functions_if, functions_of}
 use Rattle.shapes.specs.Failures.{all_lets, own_in}
 use Rattle.shapes.specs.Tabled.{tabled_of}
-use Rattle.never_stuck.specs.Own.{is_own}
+use Rattle.whole_runs.specs.Own.{is_own}
 use Rattle.text_progress.specs.Laws.{core_of}
 use Rattle.safe_models.specs.Safe.{Cycles}
 use Rattle.safe_models.proofs.Constraints.{signature_own}

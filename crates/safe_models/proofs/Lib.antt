@@ -1,9 +1,11 @@
-pub mod Accepted
-pub mod Constraints
 pub mod Entries
-pub mod Found
-pub mod Fresh
+pub mod Constraints
 pub mod Functions
 pub mod Named
 pub mod Sides
+pub mod Found
+pub mod Accepted
+pub mod Fresh
 pub mod Texts
+pub mod Notes
+pub mod Covered

@@ -19,7 +19,7 @@ use Rattle.shape_meanings.specs.Keeping.{RegistersFit}
 use Rattle.shape_meanings.specs.Models.{CoreMeansText, register_shapes}
 use Rattle.soundness_steps.specs.Works.{Setting}
 use Rattle.soundness_steps.specs.States.{AllHarts, AreRegisters, nothing_stands}
-use Rattle.soundness_openings.specs.Initials.{pure_setting}
+use Rattle.whole_runs.specs.Initials.{pure_setting}
 use Rattle.whole_runs.specs.Runs.{AreAlike}
 use Rattle.whole_runs.specs.Safe.{IsFit, core_parts}
 use Rattle.whole_runs.proofs.Runs.{run_across}

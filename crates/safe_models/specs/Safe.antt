@@ -11,7 +11,7 @@ use Rattle.sail_core.specs.declared.model.Function.{Function}
 use Rattle.sail_meaning.specs.Start.{init_ran, reset_ran, step_ran}
 use Rattle.sail_meaning.specs.Text.{Text}
 use Rattle.shapes.specs.Tabled.{tabled_of}
-use Rattle.text_models.specs.Texts.{text_of}
+use Rattle.known_texts.specs.Texts.{text_of}
 use Rattle.shape_meanings.specs.Models.{CoreMeansText, register_shapes}
 use Rattle.constraint_gen.specs.Obligations.{obligations}
 use Rattle.checked_meaning.specs.Checked.{Checks}

@@ -1,1 +1,5 @@
-pub mod Whole
+pub mod Arms
+pub mod Behind
+pub mod Grows
+pub mod Bodies
+pub mod Models

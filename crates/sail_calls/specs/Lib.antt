@@ -1,1 +1,3 @@
+pub mod ArmLaws
+pub mod Bodies
 pub mod Models

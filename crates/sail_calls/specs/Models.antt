@@ -23,7 +23,7 @@ use Rattle.soundness_calls.specs.Directions.{Side, bare_type, bodies_of, is_ahea
 use Rattle.soundness_calls.specs.Calls.{CoveredModel}
 use Rattle.soundness_binding.specs.Patterned.{arms_stand}
 use Rattle.sail_soundness.specs.Whole as Whole
-use Rattle.soundness_arms.specs.Bodies.{BodiesStand, Clauses}
+use Rattle.sail_calls.specs.Bodies.{BodiesStand, Clauses}
 
 -- ---- a function under an instance
 

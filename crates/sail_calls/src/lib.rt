@@ -1,11 +1,8 @@
-//! A law of the calls of a model: the function's contract is it, and it does nothing.
-//!
-//! `specs/Models` says what is asked of a model's functions, mappings and top-level lets.
+//! Laws of clauses, of functions and of mappings, and of all calls of a model.
 #![tactic(auto)]
 
-ghost use Rattle.sail_calls.specs.Models.{CallsFollow};
+mod arm_laws;
+mod call_laws;
 
-/// All that calls and events of a model ask of it holds where the nodes of its bodies are fine, patterns match and instances are covered.
-pub fn calls_follow()
-    ensures { CallsFollow }
-{}
+pub use arm_laws::{arms_are_sound, clauses_count, clauses_follow};
+pub use call_laws::calls_follow;

@@ -57,15 +57,15 @@ use Rattle.body_meanings.specs.Directions.{CrossingsAreNamed}
 use Rattle.shapes.specs.Failures.{all_faults, all_lets, lets_faults, others_faults, own_in, refusal, state_faults}
 use Rattle.shapes.specs.Resolved.{resolved}
 use Rattle.shapes.specs.Tabled.{tabled_of}
-use Rattle.text_models.specs.Known.{DefinitionsKnown, EachKnown, MappingKnown}
-use Rattle.text_models.specs.Values.{RegistersTyped}
-use Rattle.text_models.specs.Whole.{setting_in}
-use Rattle.accepted_texts.specs.Accepted.{NothingFails}
-use Rattle.accepted_texts.proofs.Failures.{apart}
-use Rattle.accepted_texts.proofs.Roles.{Covers, IsTaken, covers_left, covers_right, taken_first}
-use Rattle.accepted_texts.proofs.TableFormed.{all_so_far, fields_below}
-use Rattle.accepted_texts.proofs.Types.{types_known}
-use Rattle.accepted_texts.proofs.Vals.{vals_signed}
+use Rattle.known_texts.specs.Known.{DefinitionsKnown, EachKnown, MappingKnown}
+use Rattle.known_texts.specs.Values.{RegistersTyped}
+use Rattle.known_texts.specs.Whole.{setting_in}
+use Rattle.known_texts.specs.Accepted.{NothingFails}
+use Rattle.known_texts.proofs.Failures.{apart}
+use Rattle.known_texts.proofs.Roles.{Covers, IsTaken, covers_left, covers_right, taken_first}
+use Rattle.known_texts.proofs.TableFormed.{all_so_far, fields_below}
+use Rattle.known_texts.proofs.Types.{types_known}
+use Rattle.known_texts.proofs.Vals.{vals_signed}
 use Rattle.known_texts.specs.Written.{IsWritten, crossing_written, definition_written, sides_written}
 use Rattle.known_texts.proofs.Assembled.{definitions_known, known_here}
 use Rattle.known_texts.proofs.Facts.{each_has}

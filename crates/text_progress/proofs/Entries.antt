@@ -41,11 +41,11 @@ use Rattle.shape_meanings.specs.Worlds.{variables_from}
 use Rattle.shape_progress.specs.PatternRules.{IsEnum, IsUnion}
 use Rattle.shapes.specs.Failures.{own_in}
 use Rattle.shapes.specs.Resolved.{register_if, register_of}
-use Rattle.text_models.specs.Definitions.{ConstructorsAre, UnionIs}
-use Rattle.text_models.specs.Known.{DefinitionKnown, DefinitionsKnown, EachKnown, FunctionKnown, MappingKnown}
-use Rattle.text_models.specs.Values.{RegistersTyped}
-use Rattle.text_models.proofs.Builtins.{one_more, there_behind}
-use Rattle.text_models.proofs.Definitions.{union_below}
+use Rattle.known_texts.specs.Definitions.{ConstructorsAre, UnionIs}
+use Rattle.known_texts.specs.Known.{DefinitionKnown, DefinitionsKnown, EachKnown, FunctionKnown, MappingKnown}
+use Rattle.known_texts.specs.Values.{RegistersTyped}
+use Rattle.known_texts.proofs.BuiltinNames.{one_more, there_behind}
+use Rattle.known_texts.proofs.Definitions.{union_below}
 use Rattle.text_progress.specs.Entries.{CandidateIn, DirectionIn, MaybeIn, MeantIn, Parts}
 
 -- ---- lists

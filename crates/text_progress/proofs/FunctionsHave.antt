@@ -61,13 +61,13 @@ use Rattle.shape_meanings.proofs.Settling.{both_empty, same_name}
 use Rattle.shapes.specs.Failures.{all_lets}
 use Rattle.shapes.specs.Resolved.{resolved}
 use Rattle.shapes.specs.Tabled.{tabled_of}
-use Rattle.text_models.specs.Known.{DefinitionsKnown}
-use Rattle.text_models.specs.Values.{RegistersTyped}
-use Rattle.text_models.specs.Whole.{setting_in}
-use Rattle.accepted_texts.specs.Accepted.{NothingFails}
-use Rattle.accepted_texts.proofs.Failures.{apart}
-use Rattle.accepted_texts.proofs.TableFormed.{RowsFormed, all_so_far, fields_below}
-use Rattle.known_texts.specs.Laws.{IsWhole}
+use Rattle.known_texts.specs.Known.{DefinitionsKnown}
+use Rattle.known_texts.specs.Values.{RegistersTyped}
+use Rattle.known_texts.specs.Whole.{setting_in}
+use Rattle.known_texts.specs.Accepted.{NothingFails}
+use Rattle.known_texts.proofs.Failures.{apart}
+use Rattle.known_texts.proofs.TableFormed.{RowsFormed, all_so_far, fields_below}
+use Rattle.known_texts.specs.KnownTexts.{IsWhole}
 use Rattle.known_texts.specs.Signed.{EachSigned, IsSigned}
 use Rattle.known_texts.specs.Written.{IsWritten, clause_types_written, clause_written, definition_written, has_clauses}
 use Rattle.known_texts.proofs.Assembled.{known_here, known_plainly}

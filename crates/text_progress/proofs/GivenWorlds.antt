@@ -43,7 +43,7 @@ use Rattle.shape_clauses.specs.Mappings.{mapping_faults}
 use Rattle.shape_models.specs.Models.{overloads_faults, setting_of}
 use Rattle.shapes.specs.Failures.{all_faults, all_lets, lets_faults, others_faults, own_in, refusal, state_faults}
 use Rattle.shapes.specs.Tabled.{tabled_of}
-use Rattle.accepted_texts.specs.Accepted.{NothingFails}
+use Rattle.known_texts.specs.Accepted.{NothingFails}
 use Rattle.known_texts.specs.Written.{IsWritten}
 use Rattle.shape_progress.specs.Conditions.{given_in}
 use Rattle.shape_stands.specs.Inside.{Position}

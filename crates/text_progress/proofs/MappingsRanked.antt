@@ -9,7 +9,7 @@ use Rattle.sail_cycles.specs.Cycles.{mapping_clause_callees}
 use Rattle.sail_cycles.specs.declared.expressions.Which.TheVariants.{Patterns}
 use Rattle.known_names.specs.Meanings.{known_in}
 use Rattle.shapes.specs.Tabled.{tabled_of}
-use Rattle.text_models.specs.Whole.{setting_in}
+use Rattle.known_texts.specs.Whole.{setting_in}
 use Rattle.text_progress.proofs.Insides.{Ways}
 
 -- the mappings that patterns of clauses call are among these

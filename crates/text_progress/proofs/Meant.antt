@@ -21,7 +21,7 @@ use Rattle.shape_models.specs.declared.clashes.Added.{Added}
 use Rattle.shape_models.specs.Models.{Own, added_to_name, added_to_operator, adds_to_name, adds_to_operator, callee_in, candidates, candidates_of}
 use Rattle.shape_models.specs.Models.{let_in, member_of, members_at, or_overload, or_row, row_candidates, same_operator, value_of}
 use Rattle.shape_models.specs.Overloads.{placed}
-use Rattle.text_models.proofs.Builtins.{one_behind, one_more, there_behind}
+use Rattle.known_texts.proofs.BuiltinNames.{one_behind, one_more, there_behind}
 use Rattle.text_progress.specs.Entries.{AllIn, CandidateIn, MaybeIn, MeantIn, Parts, ValueIn}
 use Rattle.text_progress.proofs.Rows.{row_in}
 

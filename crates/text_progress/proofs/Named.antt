@@ -41,10 +41,10 @@ use Rattle.shape_models.specs.Models.{Tabled, counts_with, def_entries, entries,
 use Rattle.shape_meanings.proofs.Settling.{same_name}
 use Rattle.shapes.specs.Failures.{own_in}
 use Rattle.shapes.specs.Tabled.{tabled_of}
-use Rattle.text_models.proofs.Builtins.{one_more, there_behind}
-use Rattle.accepted_texts.specs.Accepted.{NothingFails}
-use Rattle.accepted_texts.proofs.Entries.{EntriesAre}
-use Rattle.accepted_texts.proofs.Roles.{IsTaken}
+use Rattle.known_texts.proofs.BuiltinNames.{one_more, there_behind}
+use Rattle.known_texts.specs.Accepted.{NothingFails}
+use Rattle.known_texts.proofs.Entries.{EntriesAre}
+use Rattle.known_texts.proofs.Roles.{IsTaken}
 use Rattle.known_texts.proofs.Classes.{class}
 use Rattle.known_texts.proofs.There.{EachHas}
 use Rattle.known_texts.proofs.Values as Valued

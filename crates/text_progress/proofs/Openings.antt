@@ -76,12 +76,12 @@ use Rattle.shapes.specs.Failures.{all_faults, all_lets, initial_found, let_bound
 use Rattle.shapes.specs.Failures.{refusal, state_faults}
 use Rattle.shapes.specs.Resolved.{binding_opening, in_text_order, initials_openings, lets_openings, opening, register_if, register_of, resolved}
 use Rattle.shapes.specs.Tabled.{tabled_of}
-use Rattle.text_models.specs.Values.{RegistersTyped}
-use Rattle.text_models.specs.Whole.{setting_in}
-use Rattle.text_models.proofs.Builtins.{one_behind, one_more}
-use Rattle.text_models.proofs.Lets.{lets_go_on}
-use Rattle.accepted_texts.specs.Accepted.{NothingFails}
-use Rattle.accepted_texts.proofs.Failures.{apart}
+use Rattle.known_texts.specs.Values.{RegistersTyped}
+use Rattle.known_texts.specs.Whole.{setting_in}
+use Rattle.known_texts.proofs.BuiltinNames.{one_behind, one_more}
+use Rattle.known_texts.proofs.BoundLets.{lets_go_on}
+use Rattle.known_texts.specs.Accepted.{NothingFails}
+use Rattle.known_texts.proofs.Failures.{apart}
 use Rattle.known_texts.proofs.Tuples.{TuplesHaveParts}
 use Rattle.known_texts.specs.Written.{IsWritten, definition_written, type_written}
 use Rattle.known_texts.proofs.Assembled.{known_at, known_plainly, same_members}

@@ -57,13 +57,13 @@ use Rattle.shape_rules.specs.declared.locals.Local.{Local}
 use Rattle.shape_rules.specs.Written.{joined}
 use Rattle.shape_models.specs.Models.{added_to_name, candidates, entries, let_in, or_overload, or_row, value_of}
 use Rattle.shape_meanings.proofs.StructNames.{bytes_same}
-use Rattle.accepted_texts.proofs.Entries.{CalleeIs}
-use Rattle.accepted_texts.proofs.Roles.{IsTaken, taken_first, taken_left, taken_right}
+use Rattle.known_texts.proofs.Entries.{CalleeIs}
+use Rattle.known_texts.proofs.Roles.{IsTaken, taken_first, taken_left, taken_right}
 use Rattle.known_texts.proofs.Meant as Names
 use Rattle.known_texts.proofs.Values as Valued
 use Rattle.known_texts.proofs.Values.{LetFound, let_found}
-use Rattle.accepted_texts.specs.Accepted.{NothingFails}
-use Rattle.accepted_texts.proofs.Failures.{apart}
+use Rattle.known_texts.specs.Accepted.{NothingFails}
+use Rattle.known_texts.proofs.Failures.{apart}
 use Rattle.shapes.specs.Failures.{own_in}
 use Rattle.shapes.specs.Tabled.{tabled_of}
 use Rattle.known_texts.proofs.There.{EachHas}
@@ -75,9 +75,9 @@ use Rattle.text_progress.proofs.Named.{nodes_by, number_of, or_zero, own_by, way
 use Rattle.sail_core.specs.declared.model.Direction.{Direction}
 use Rattle.shapes.specs.Failures.{all_lets}
 use Rattle.shape_clauses.specs.Mappings.{directions_if, directions_of}
-use Rattle.text_models.specs.Known.{EachKnown}
-use Rattle.text_models.specs.Whole.{setting_in}
-use Rattle.text_models.proofs.Builtins.{one_more, there_behind}
+use Rattle.known_texts.specs.Known.{EachKnown}
+use Rattle.known_texts.specs.Whole.{setting_in}
+use Rattle.known_texts.proofs.BuiltinNames.{one_more, there_behind}
 use Rattle.text_progress.proofs.Entries.{join_again}
 use Rattle.text_progress.proofs.MappingsRanked.{CalleesAmong, MappingsRanked, WaysBelow}
 

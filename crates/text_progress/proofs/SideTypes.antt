@@ -63,10 +63,10 @@ use Rattle.shape_models.specs.Models.{added_to_name, candidates, no_counts, or_o
 use Rattle.shape_models.specs.Models.{within_variables}
 use Rattle.shapes.specs.Failures.{all_lets, own_in, refusal}
 use Rattle.shapes.specs.Tabled.{tabled_of}
-use Rattle.accepted_texts.specs.Accepted.{NothingFails}
-use Rattle.accepted_texts.proofs.Roles.{Covers, IsTaken, covers_left, covers_right, taken_first}
-use Rattle.accepted_texts.proofs.Types.{types_known}
-use Rattle.accepted_texts.proofs.Vals.{vals_signed}
+use Rattle.known_texts.specs.Accepted.{NothingFails}
+use Rattle.known_texts.proofs.Roles.{Covers, IsTaken, covers_left, covers_right, taken_first}
+use Rattle.known_texts.proofs.Types.{types_known}
+use Rattle.known_texts.proofs.Vals.{vals_signed}
 use Rattle.known_texts.specs.Signed.{EachSigned}
 use Rattle.known_texts.specs.Written.{IsWritten}
 use Rattle.known_texts.proofs.Facts.{each_has}

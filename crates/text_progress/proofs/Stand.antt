@@ -1,12 +1,12 @@
 -- The core of a text that the tables accept, and that nothing is refused for in shapes, stands by the rules of shapes, and so it goes on.
-use Rattle.accepted_texts.proofs.Failures.{nothing_fails}
-use Rattle.accepted_texts.proofs.Found.{function_named}
-use Rattle.accepted_texts.proofs.Registers.{registers_typed}
-use Rattle.accepted_texts.proofs.Starts.{reset_typed, step_typed}
-use Rattle.accepted_texts.proofs.TableFormed.{RowsFormed, all_so_far, fields_below, registers_closed}
-use Rattle.accepted_texts.proofs.Types.{types_known}
-use Rattle.accepted_texts.proofs.Vals.{vals_signed}
-use Rattle.accepted_texts.specs.Accepted.{NothingFails}
+use Rattle.known_texts.proofs.Failures.{nothing_fails}
+use Rattle.known_texts.proofs.Found.{function_named}
+use Rattle.known_texts.proofs.Registers.{registers_typed}
+use Rattle.known_texts.proofs.Starts.{reset_typed, step_typed}
+use Rattle.known_texts.proofs.TableFormed.{RowsFormed, all_so_far, fields_below, registers_closed}
+use Rattle.known_texts.proofs.Types.{types_known}
+use Rattle.known_texts.proofs.Vals.{vals_signed}
+use Rattle.known_texts.specs.Accepted.{NothingFails}
 use Rattle.known_texts.proofs.Assembled.{definitions_known}
 use Rattle.known_texts.proofs.Parts.{tuples_have_parts}
 use Rattle.known_texts.proofs.Signed.{each_signed}
@@ -76,13 +76,13 @@ use Rattle.shapes.specs.Tabled.{tabled_of}
 use Rattle.std.proofs.Common.{arith, ◌≡◌, ℕ, zero, suc, ◌<◌, List, [], ◌∷◌, ◌++◌, length, map, ap, sym, ◌∙◌, refl, subst, true, false, Option, Some, None, codes}
 use Rattle.std.proofs.lemmas.Bool.{and_parts}
 use Rattle.std.specs.Prelude.{slice_get}
-use Rattle.text_models.proofs.Functions.{functions_entered}
-use Rattle.text_models.proofs.Known.{texts_right}
-use Rattle.text_models.specs.Functions.{IsFunctionNamed}
-use Rattle.text_models.specs.Known.{DefinitionsKnown}
-use Rattle.text_models.specs.Texts as Texts
-use Rattle.text_models.specs.Values.{RegistersTyped}
-use Rattle.text_models.specs.Whole.{setting_in}
+use Rattle.known_texts.proofs.Functions.{functions_entered}
+use Rattle.known_texts.proofs.RightTexts.{texts_right}
+use Rattle.known_texts.specs.Functions.{IsFunctionNamed}
+use Rattle.known_texts.specs.Known.{DefinitionsKnown}
+use Rattle.known_texts.specs.Texts as Texts
+use Rattle.known_texts.specs.Values.{RegistersTyped}
+use Rattle.known_texts.specs.Whole.{setting_in}
 use Rattle.text_progress.proofs.Deciding.{initial_decides, let_decides}
 use Rattle.text_progress.proofs.DirectionsHave.{directions_have}
 use Rattle.text_progress.proofs.FunctionsHave.{functions_have}

@@ -33,9 +33,9 @@ use Rattle.shape_meanings.specs.Worlds.{FieldsBelow}
 use Rattle.shapes.specs.Failures.{all_lets, own_in}
 use Rattle.shapes.specs.Resolved.{resolved}
 use Rattle.shapes.specs.Tabled.{tabled_of}
-use Rattle.text_models.specs.Values.{RegistersTyped}
-use Rattle.text_models.specs.Known.{DefinitionsKnown}
-use Rattle.text_models.specs.Whole.{setting_in}
+use Rattle.known_texts.specs.Values.{RegistersTyped}
+use Rattle.known_texts.specs.Known.{DefinitionsKnown}
+use Rattle.known_texts.specs.Whole.{setting_in}
 use Rattle.shape_progress.specs.Going.{GoesOn}
 use Rattle.model_progress.specs.Shaped.{Around, Common, common_of, reach_in, thrown_of}
 use Rattle.shape_stands.specs.Inside.{Inside}

@@ -21,7 +21,7 @@ use Rattle.shape_rules.specs.Written.{constraint_in, number_in, typ_in}
 use Rattle.shape_models.specs.Models.{setting_of, within_variables}
 use Rattle.shapes.specs.Failures.{own_in}
 use Rattle.shapes.specs.Tabled.{tabled_of}
-use Rattle.text_models.specs.Whole.{setting_in}
+use Rattle.known_texts.specs.Whole.{setting_in}
 use Rattle.known_names.specs.Meanings.{known_in}
 use Rattle.shape_progress.specs.Conditions.{given_in, truth_given}
 use Rattle.shape_meanings.specs.Keeping.{Fits}

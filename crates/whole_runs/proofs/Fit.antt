@@ -12,11 +12,11 @@ use Rattle.sail_core.specs.Steady.{Keeping}
 use Rattle.sail_core.specs.declared.model.CoreModel.{CoreModel}
 use Rattle.soundness_steps.specs.Works.{Setting, Work}
 use Rattle.soundness_steps.specs.States.{AllHarts, AreRegisters, StateBelongs, registers_of}
-use Rattle.soundness_openings.specs.Initials.{pure_setting}
-use Rattle.soundness_openings.proofs.States.{harts_in}
-use Rattle.never_stuck.specs.Never.{setting_in}
-use Rattle.never_stuck.proofs.Openings.{registers_kept}
-use Rattle.never_stuck.proofs.Whole.{types_kept}
+use Rattle.whole_runs.specs.Initials.{pure_setting}
+use Rattle.whole_runs.proofs.States.{harts_in}
+use Rattle.whole_runs.specs.Never.{setting_in}
+use Rattle.whole_runs.proofs.OpeningsStand.{registers_kept}
+use Rattle.whole_runs.proofs.Events.{types_kept}
 use Rattle.whole_runs.specs.Safe.{IsFit}
 
 -- ---- a hart that rests has the registers of before

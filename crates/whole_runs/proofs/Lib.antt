@@ -1,3 +1,11 @@
+pub mod Initials
+pub mod Lets
+pub mod States
+pub mod Told
+pub mod AllOpenings
+pub mod OpeningsStand
+pub mod Own
+pub mod Events
 pub mod Fit
 pub mod Runs
 pub mod Safe

@@ -20,12 +20,12 @@ use Rattle.met_notes.proofs.Whole.{notes_met}
 use Rattle.soundness_steps.specs.Works.{Work}
 use Rattle.soundness_steps.specs.States.{StateBelongs}
 use Rattle.soundness_calls.specs.Events.{EndsRight, checks_of}
-use Rattle.soundness_openings.specs.Initials.{pure_setting}
-use Rattle.soundness_openings.specs.Whole.{OpenedRight}
-use Rattle.soundness_openings.proofs.Whole.{openings_sound}
-use Rattle.never_stuck.specs.Never.{AllEnd, setting_in}
-use Rattle.never_stuck.proofs.Openings.{openings_stand}
-use Rattle.never_stuck.proofs.Whole.{never}
+use Rattle.whole_runs.specs.Initials.{pure_setting}
+use Rattle.whole_runs.specs.AllOpenings.{OpenedRight}
+use Rattle.whole_runs.proofs.AllOpenings.{openings_sound}
+use Rattle.whole_runs.specs.Never.{AllEnd, setting_in}
+use Rattle.whole_runs.proofs.OpeningsStand.{openings_stand}
+use Rattle.whole_runs.proofs.Events.{never}
 use Rattle.whole_runs.specs.Runs.{AreThere, Behind, EventsGo, Goes, PartsGo, ResetsGo, RunGoes}
 use Rattle.whole_runs.specs.Safe.{CoversThroughout, IsFit, IsFoundThroughout, ModelsRunSafely, StandsThroughout, core_parts}
 use Rattle.whole_runs.proofs.Runs.{goes_on, resets_on}

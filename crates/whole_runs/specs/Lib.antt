@@ -1,2 +1,10 @@
+pub mod Initials
+pub mod Lets
+pub mod Told
+pub mod AllOpenings
+pub mod Covers
+pub mod OpeningsStand
+pub mod Own
+pub mod Never
 pub mod Runs
 pub mod Safe

@@ -12,10 +12,10 @@ use Rattle.goal_laws.specs.Goals.{AllHold}
 use Rattle.soundness_steps.specs.Works.{Work}
 use Rattle.soundness_steps.specs.States.{AllHarts}
 use Rattle.soundness_calls.specs.Events.{checks_of}
-use Rattle.soundness_openings.specs.Initials.{pure_setting}
-use Rattle.never_stuck.specs.Covers.{Covers}
-use Rattle.never_stuck.specs.Never.{AllEnd, IsFound, Stands, setting_in}
-use Rattle.never_stuck.specs.Openings.{Open}
+use Rattle.whole_runs.specs.Initials.{pure_setting}
+use Rattle.whole_runs.specs.Covers.{Covers}
+use Rattle.whole_runs.specs.Never.{AllEnd, IsFound, Stands, setting_in}
+use Rattle.whole_runs.specs.OpeningsStand.{Open}
 use Rattle.whole_runs.specs.Runs.{AreThere, Parts, PartsGo, RunGoes}
 
 -- the parts of a model's runs in a reading of it

@@ -1,7 +1,7 @@
 use Rattle.scattered.specs.Gathered.{gathered}
-use Rattle.parsed_texts.proofs.DefForms.{defs_written}
-use Rattle.parsed_texts.proofs.Gathered as Written
-use Rattle.parsed_texts.proofs.Parsed as Read
+use Rattle.text_progress.proofs.DefForms.{defs_written}
+use Rattle.text_progress.proofs.Gathered as Written
+use Rattle.text_progress.proofs.Parsed as Read
 use Rattle.accepted_models.proofs.DefForms.{defs_have}
 use Rattle.accepted_models.proofs.Gathered.{gathered_fine}
 use Rattle.accepted_models.proofs.Parsed.{parsed_fine}

@@ -1,5 +1,0 @@
-use Rattle.known_texts.proofs.Formed.{signature_whole}
-use Rattle.known_texts.proofs.laws.signatures_are_whole.Goals as goal
-
-pub returns : goal.returns
-returns c = signature_whole

@@ -1,5 +1,0 @@
-pub mod Narrow
-pub mod Tables
-pub mod Closed
-pub mod Registers
-pub mod Mappings

@@ -1,4 +1,0 @@
-pub mod Covers
-pub mod Never
-pub mod Openings
-pub mod Own

@@ -1,6 +1,0 @@
-//! Laws of the constraints of functions.
-#![tactic(auto)]
-
-mod laws;
-
-pub use laws::constraints_are_own;

@@ -1,4 +1,0 @@
-pub mod Arms
-pub mod Behind
-pub mod Bodies
-pub mod Grows

@@ -1,5 +1,0 @@
-pub mod Initials
-pub mod Lets
-pub mod States
-pub mod Told
-pub mod Whole

@@ -1,4 +1,0 @@
-pub mod Initials
-pub mod Lets
-pub mod Told
-pub mod Whole

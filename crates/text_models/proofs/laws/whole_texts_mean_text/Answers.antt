@@ -1,8 +1,0 @@
-use Rattle.text_models.proofs.Opened.{texts_open_alike, whole_text_means_text}
-use Rattle.text_models.proofs.laws.whole_texts_mean_text.Goals as goal
-
-pub returns-clause-openings : goal.returns-clause-openings
-returns-clause-openings c = texts_open_alike
-
-pub returns-clause-texts : goal.returns-clause-texts
-returns-clause-texts c = whole_text_means_text

@@ -1,4 +1,0 @@
-pub mod Placed
-pub mod Told
-pub mod Each
-pub mod Functions

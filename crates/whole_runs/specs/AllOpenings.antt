@@ -1,0 +1,82 @@
+-- Openings one after the other: none is stuck, the names of top-level lets have such values as the walk tells of them, and registers get values of their
+-- types.
+use Rattle.std.specs.Prelude.{◌≡◌, ℕ, Bool, suc, true, false, List, [], ◌∷◌, ◌++◌, slice_get, Some}
+use Rattle.sail_types.specs.Numbers.{Positive}
+use Rattle.sail_types.specs.declared.values.Value.{Value}
+use Rattle.model_state.specs.declared.state.Register.{Register}
+use Rattle.model_state.specs.RunState.{RunState}
+use Rattle.sail_core.specs.Start.{Opened, opened, opened_not, opened_to, opening_world, openings_of}
+use Rattle.sail_core.specs.declared.model.CoreModel.{CoreModel}
+use Rattle.sail_core.specs.declared.model.Opening.{Opening}
+use Rattle.sail_core.specs.declared.model.OpeningKind.{OpeningKind}
+use Rattle.sail_core.specs.declared.model.OpeningKind.TheVariants as O
+use Rattle.sail_core.specs.declared.patterns.Arm.{Arm}
+use Rattle.pattern_leaves.specs.declared.names.TopLevel.{TopLevel}
+use Rattle.expression_steps.specs.Expressions.{part}
+use Rattle.constraint_gen.specs.Models.{around_of, around_with, let_walk, names_of}
+use Rattle.checked_meaning.specs.Checked.{Cases, Checks, checking}
+use Rattle.value_laws.specs.Known.{Point}
+use Rattle.soundness_steps.specs.Works.{Work, nobody}
+use Rattle.soundness_steps.specs.Covers.{AreMet}
+use Rattle.soundness_steps.specs.States.{StateBelongs}
+use Rattle.soundness_forms.specs.Forms.{at}
+use Rattle.soundness_forms.specs.Patterns.{LetMatches}
+use Rattle.soundness_forms.specs.Worlds.{LetsAre}
+use Rattle.whole_runs.specs.Initials.{ValueStands, initial_aim, pure_around, pure_scene, pure_setting}
+use Rattle.whole_runs.specs.Lets.{let_found}
+use Rattle.whole_runs.specs.Told.{EachStands}
+
+-- over which registers an opening stands, and behind which names, with the values that they have there
+pub record Behind : Type 0 where
+  pub model : CoreModel
+  pub past : Positive
+  pub covered : Work → Bool
+  pub registers : List Register
+  pub names : List TopLevel
+  pub values : List Value
+
+-- an initial value, for a register where it is there
+pub record RegisterStands (b : Behind) (cases : Cases) (o : Opening) (r : ℕ) : Type 0 where
+  pub register : Register
+  pub is_it : (x : Register) → slice_get b.registers r ≡ Some x → x ≡ register
+  pub value : ValueStands (pure_scene (pure_setting b.model b.past b.covered b.registers b.names) cases) (opening_world b.values) o.value
+  pub met : AreMet (pure_setting b.model b.past b.covered b.registers b.names) nobody (λ d. false) cases
+      ((part o.value).walk (pure_around b.model b.registers b.names) [] (initial_aim register.typ) [] 0).notes
+
+-- a let
+pub record LetStands (b : Behind) (cases : Cases) (o : Opening) (arm : Arm) : Type 0 where
+  pub value : ValueStands (pure_scene (pure_setting b.model b.past b.covered b.registers b.names) cases) (opening_world b.values) o.value
+  pub matches : LetMatches (at (pure_scene (pure_setting b.model b.past b.covered b.registers b.names) cases) (opening_world b.values) [] true)
+      (opening_world b.values) arm
+  pub met : AreMet (pure_setting b.model b.past b.covered b.registers b.names) nobody (λ d. false) cases
+      (let_found b.model b.registers b.names o arm [] 0).notes
+  -- the walk finds the same where it knows all of the model
+  pub same_names : (let_found b.model b.registers b.names o arm [] 0).value
+      ≡ (let_walk (around_with b.model b.names) o.place arm (part o.value) [] 0).value
+  -- names whose indices aren't constant are of the type that is read
+  pub told : (p : Point (let_found b.model b.registers b.names o arm [] 0).next)
+      → EachStands (pure_setting b.model b.past b.covered b.registers b.names) p (let_found b.model b.registers b.names o arm [] 0).value
+
+abbrev pub KindStands : Behind → Cases → Opening → OpeningKind → Type 0
+KindStands b cases o (O.Let arm) = LetStands b cases o arm
+KindStands b cases o (O.Register r) = RegisterStands b cases o r
+
+-- each, behind those before it
+abbrev pub OpeningsStand : CoreModel → Positive → (Work → Bool) → List Register → Checks → ℕ → List TopLevel → List Opening → Type 0
+OpeningsStand m past covered registers k i names [] = Unit {0}
+OpeningsStand m past covered registers k i names (o ∷ os) =
+    ((vs : List Value) → LetsAre (pure_setting m past covered registers []) nobody names vs
+    → KindStands (record { model = m; past = past; covered = covered; registers = registers; names = names; values = vs }) (k.opening i) o o.kind)
+    × OpeningsStand m past covered registers k (suc i) (names ++ names_of (around_with m names) o o.kind) os
+
+-- they end, and registers belong to their types; or a pattern doesn't match; they are never stuck
+abbrev pub OpenedRight : CoreModel → Positive → (Work → Bool) → List Register → List TopLevel → Opened → Type 0
+OpenedRight m past covered registers names (opened vs state) =
+    LetsAre (pure_setting m past covered registers []) nobody names vs × StateBelongs (pure_setting m past covered registers []) state
+OpenedRight m past covered registers names (opened_to cause state) = Unit {0}
+OpenedRight m past covered registers names opened_not = ⊥
+
+abbrev pub OpeningsAreSound : Type 0
+OpeningsAreSound = (m : CoreModel) (past : Positive) (covered : Work → Bool) (registers : List Register) (k : Checks) → k.types ≡ m.types
+    → OpeningsStand m past covered registers k 0 [] m.openings → (state : RunState) → StateBelongs (pure_setting m past covered registers []) state
+    → OpenedRight m past covered registers (around_of m).lets (openings_of (checking k) m state)
