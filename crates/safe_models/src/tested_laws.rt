@@ -3,8 +3,8 @@
 //! `specs/Tested` says what is tested, and that then nothing of a run is stuck.
 ghost use Rattle.safe_models.specs.Tested.{TestedListsCover, TestedModelsRunSafely};
 
-use covering_laws::models_are_read;
 use crate::safe_laws::accepted_models_run_safely;
+use covering_laws::models_are_read;
 
 /// A list of instances that is tested covers what is read of its core.
 pub fn tested_lists_cover()
