@@ -2,6 +2,7 @@
 use Rattle.std.proofs.Common.{◌≡◌, ℕ, List, [], ◌∷◌, map, refl, sym, ap, ◌∙◌, true, ◌&&◌, Option, Some, None, codes}
 use Rattle.std.proofs.lemmas.Bool.{and_parts}
 use Rattle.sail_types.specs.Shapes.{form_shape, shape}
+use Rattle.sail_types.specs.declared.numbers.Con.{out-Con}
 use Rattle.sail_types.specs.declared.shapes.Shape.{Shape}
 use Rattle.sail_types.specs.declared.shapes.Shape.TheVariants as V
 use Rattle.sail_types.specs.declared.types.Typ.{Typ, Typ-F, out-Typ}
@@ -11,7 +12,8 @@ use Rattle.sail_types.specs.declared.types.Typ.TheViews.{roll-out-Typ}
 use Rattle.sail_syntax.specs.declared.definitions.Def.{Def}
 use Rattle.sail_kinds.specs.declared.scope.Variable.{Variable}
 use Rattle.sail_signatures.specs.declared.signature.Signature.{Signature}
-use Rattle.sail_signatures.specs.Starts.{are_hart_and_address, binds_nothing, form_address, form_bool, form_hart, form_start, form_unit, is_reset, is_step}
+use Rattle.sail_signatures.specs.Starts.{are_hart_and_address, binds_nothing, form_address, form_bool, form_hart, form_start, form_truth, form_unit, is_reset, is_step}
+use Rattle.sail_signatures.specs.Starts.{is_unquantified}
 use Rattle.sail_tables.specs.Refused.{has_reset, has_step, is_function, signature_in}
 use Rattle.shape_joins.proofs.Order.{no}
 use Rattle.shape_rules.specs.Calls.{param_shapes, parameters_form}
@@ -49,9 +51,12 @@ unit_form : (t : Typ) (o : Typ-F Typ) → shape t ≡ form_shape (map-Typ Typ Sh
 unit_form t T.Unit is h = ap (λ (s : Shape). s ∷ []) is
 unit_form t o is h = no h
 
-no_variables : (variables : List Variable) → binds_nothing variables ≡ true → variables ≡ []
-no_variables [] h = refl
-no_variables (v ∷ vs) h = no h
+none_bound : (variables : List Variable) → binds_nothing variables ≡ true → variables ≡ []
+none_bound [] h = refl
+none_bound (v ∷ vs) h = no h
+
+no_variables : (s : Signature) → is_unquantified s ≡ true → s.variables ≡ []
+no_variables s h = none_bound s.variables (and_parts (binds_nothing s.variables) (form_truth (out-Con s.constraint)) h).0
 
 abbrev Takes : Option Signature → List Shape → Type 0
 Takes o params = (s : Signature) × (o ≡ Some s) × (s.variables ≡ []) × (param_shapes s.from ≡ params)
@@ -59,16 +64,16 @@ Takes o params = (s : Signature) × (o ≡ Some s) × (s.variables ≡ []) × (p
 step_takes : (o : Option Signature) → is_step o ≡ true → Takes o (V.Unit ∷ [])
 step_takes None h = no h
 step_takes (Some s) h =
-    let k = and_parts (binds_nothing s.variables) (form_unit (out-Typ s.from) && form_bool (out-Typ s.to)) h in
+    let k = and_parts (is_unquantified s) (form_unit (out-Typ s.from) && form_bool (out-Typ s.to)) h in
     let types = and_parts (form_unit (out-Typ s.from)) (form_bool (out-Typ s.to)) k.1 in
-    (s, refl, no_variables s.variables k.0, unit_form s.from (out-Typ s.from) (shape_at s.from) types.0)
+    (s, refl, no_variables s k.0, unit_form s.from (out-Typ s.from) (shape_at s.from) types.0)
 
 reset_takes : (o : Option Signature) → is_reset o ≡ true → Takes o (V.Int ∷ V.Bits ∷ [])
 reset_takes None h = no h
 reset_takes (Some s) h =
-    let k = and_parts (binds_nothing s.variables) (form_start (out-Typ s.from) && form_unit (out-Typ s.to)) h in
+    let k = and_parts (is_unquantified s) (form_start (out-Typ s.from) && form_unit (out-Typ s.to)) h in
     let types = and_parts (form_start (out-Typ s.from)) (form_unit (out-Typ s.to)) k.1 in
-    (s, refl, no_variables s.variables k.0, start_form s.from (out-Typ s.from) types.0)
+    (s, refl, no_variables s k.0, start_form s.from (out-Typ s.from) types.0)
 
 typed : (text : List Def) (name : List ℕ) (params : List Shape) → is_function text name ≡ true → Takes (signature_in text name) params
     → IsTyped text name params

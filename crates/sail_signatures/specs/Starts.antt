@@ -2,6 +2,8 @@
 use Rattle.std.specs.Prelude.{ℤ, pos, Bool, true, false, ◌&&◌, List, [], ◌∷◌, Option, Some, None}
 use Rattle.std.specs.Ordering.{int_eq}
 use Rattle.sail_types.specs.Sums.{is_constant, constant_of}
+use Rattle.sail_types.specs.declared.numbers.Con.{Con, Con-F, out-Con}
+use Rattle.sail_types.specs.declared.numbers.Con.TheOpen as C
 use Rattle.sail_types.specs.declared.numbers.Num.{Num}
 use Rattle.sail_types.specs.declared.types.Typ.{Typ, Typ-F, out-Typ}
 use Rattle.sail_types.specs.declared.types.Typ.TheOpen as T
@@ -43,14 +45,23 @@ abbrev pub binds_nothing : List Variable → Bool
 binds_nothing [] = true
 binds_nothing (variable ∷ variables) = false
 
+-- a condition that is `true`, as that of no `forall` is
+abbrev pub form_truth : Con-F Con → Bool
+form_truth (C.Truth holds) = holds
+form_truth form = false
+
+-- no type variable and no condition
+abbrev pub is_unquantified : Signature → Bool
+is_unquantified signature = binds_nothing signature.variables && form_truth (out-Con signature.constraint)
+
 -- `(range(0, 7), bits(64)) -> unit`
 abbrev pub is_reset : Option Signature → Bool
 is_reset None = false
 is_reset (Some signature) =
-    binds_nothing signature.variables && (form_start (out-Typ signature.from) && form_unit (out-Typ signature.to))
+    is_unquantified signature && (form_start (out-Typ signature.from) && form_unit (out-Typ signature.to))
 
 -- `unit -> bool`
 abbrev pub is_step : Option Signature → Bool
 is_step None = false
 is_step (Some signature) =
-    binds_nothing signature.variables && (form_unit (out-Typ signature.from) && form_bool (out-Typ signature.to))
+    is_unquantified signature && (form_unit (out-Typ signature.from) && form_bool (out-Typ signature.to))

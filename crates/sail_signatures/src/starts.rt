@@ -1,11 +1,13 @@
 ghost use Rattle.std.specs.Prelude.{◌≡◌, option_map};
 ghost use Rattle.std.specs.Option.{option_copied};
 ghost use Rattle.sail_signatures.specs.Starts.{is_reset as is_reset_signature, is_step as is_step_signature, is_the_number};
-ghost use Rattle.sail_signatures.specs.Starts.{form_unit, form_bool, form_hart, form_address, form_start};
+ghost use Rattle.sail_signatures.specs.Starts.{form_unit, form_bool, form_hart, form_address, form_start, form_truth};
+ghost use Rattle.sail_signatures.specs.Starts.{is_unquantified as is_unquantified_signature};
+ghost use Rattle.sail_types.specs.declared.numbers.Con.{out-Con};
 ghost use Rattle.sail_types.specs.declared.types.Typ.{out-Typ};
 
 use crate::signature::Signature;
-use sail_types::{Num, Typ};
+use sail_types::{Con, Num, Typ};
 
 fn is_the_number(n: i128, number: &Num) -> bool
     ensures { result ≡ is_the_number n number.now }
@@ -63,16 +65,33 @@ fn is_start(typ: &Typ) -> bool
     }
 }
 
+/// Whether a condition is `true`, as that of no `forall` is.
+fn is_truth(constraint: &Con) -> bool
+    ensures { result ≡ form_truth (out-Con constraint.now) }
+{
+    match constraint {
+        Con::Truth(holds) => *holds,
+        _ => false,
+    }
+}
+
+/// Whether a signature has no type variable and no condition.
+fn is_unquantified(signature: &Signature) -> bool
+    ensures { result ≡ is_unquantified_signature signature.now }
+{
+    signature.variables.is_empty() && is_truth(&signature.constraint)
+}
+
 /// Whether a signature is `(range(0, 7), bits(64)) -> unit`.
 pub fn is_reset(signature: &Signature) -> bool
     ensures { result ≡ is_reset_signature (Some signature.now) }
 {
-    signature.variables.is_empty() && is_start(&signature.from) && is_unit(&signature.to)
+    is_unquantified(signature) && is_start(&signature.from) && is_unit(&signature.to)
 }
 
 /// Whether a signature is `unit -> bool`.
 pub fn is_step(signature: &Signature) -> bool
     ensures { result ≡ is_step_signature (Some signature.now) }
 {
-    signature.variables.is_empty() && is_unit(&signature.from) && is_bool(&signature.to)
+    is_unquantified(signature) && is_unit(&signature.from) && is_bool(&signature.to)
 }
