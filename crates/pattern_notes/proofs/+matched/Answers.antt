@@ -30,7 +30,7 @@ use Rattle.pattern_leaves.proofs.Walked.{then_got, then_run, made_got, made_run,
 use Rattle.pattern_notes.specs.declared.matching.Matching.{Matching}
 use Rattle.pattern_notes.specs.Patterns.{look, matched, inside, form_match, direction_met, given_met, result_of, option_of, written_owed, annotated_met}
 use Rattle.pattern_notes.specs.Patterns.{parameter_owed, after_inner, item_met, items_met, each_met_never, cons_met, each_match, parts_match, taken_out, all_taken}
-use Rattle.pattern_notes.specs.Patterns.{named_readings, constructor_met, length_owed, cut_met, cut_parts, head_met, opens_met, union_met}
+use Rattle.pattern_notes.specs.Patterns.{named_readings, constructor_met, length_owed, cut_met, cut_parts, head_met, is_union, opens_met, union_met}
 use Rattle.pattern_notes.proofs.Found.{found_as, left_as, after_got, after_run, more_got, more_run, on_ok, also_got, also_run, ended_got}
 use Rattle.pattern_notes.proofs.HeadForms.{bits_met, first_met, items_of, list_met, named_met, tuple_met}
 use Rattle.pattern_notes.proofs.HeadForms.{not_bits, not_first, not_list, not_named, not_never, not_tuple, not_vector}
@@ -574,7 +574,7 @@ heads::match_union-returns-in-Named t c =
     let own = c.in-Named.own in
     let opens = named_met c.args.place ps around c.args.how i u k own c.in-Named.numbers ns c.in-Named.types rs c.in-Named.is c.as_slice.ensures
     c.as_slice-in-Named.ensures in
-    let counted = λ (n : ℕ). union_met c.args.place (nat_eq u own) (constructor_met c.args.place ps around c.args.how
+    let counted = λ (n : ℕ). union_met c.args.place (is_union around u own rs) (constructor_met c.args.place ps around c.args.how
     (payload_readings (payload_types n (payload_in around.types u k)) ns rs)) in
     let is = sym (opens ∙ ap counted (as_many c.args.parts.now)) in
     record {
@@ -582,27 +582,27 @@ heads::match_union-returns-in-Named t c =
       walked = left_as c.match_own.result _ _ v _ is c.match_own.ensures.walked;
     }
 
-pub heads::match_own-returns-then-is_own : goal.heads::match_own-returns-then-is_own
-heads::match_own-returns-then-is_own t c =
+pub heads::match_own-returns-then-is_union : goal.heads::match_own-returns-then-is_union
+heads::match_own-returns-then-is_union t c =
     let around = around_of c.args.around.now in
     let ps = map look c.args.parts.now in
     let v = seen c.args.walking.now in
     let inner = constructor_met c.args.place ps around c.args.how (payload_readings
     (payload_types (length c.args.parts.now) (payload_in around.types c.args.union c.args.constructor)) c.args.numbers.now c.args.types.now) in
-    let is = ap (λ (b : Bool). union_met c.args.place b inner) (sym c.if-is_own.true) in
+    let is = ap (λ (b : Bool). union_met c.args.place b inner) (sym c.if-is_union.true ∙ c.is_union.ensures) in
     record {
       found = found_as c.match_constructor.result _ _ v is c.match_constructor.ensures.found;
       walked = left_as c.match_constructor.result _ _ v _ is c.match_constructor.ensures.walked;
     }
 
-pub heads::match_own-returns-else-is_own : goal.heads::match_own-returns-else-is_own
-heads::match_own-returns-else-is_own t c =
+pub heads::match_own-returns-else-is_union : goal.heads::match_own-returns-else-is_union
+heads::match_own-returns-else-is_union t c =
     let around = around_of c.args.around.now in
     let ps = map look c.args.parts.now in
     let v = seen c.args.walking.now in
     let inner = constructor_met c.args.place ps around c.args.how (payload_readings
     (payload_types (length c.args.parts.now) (payload_in around.types c.args.union c.args.constructor)) c.args.numbers.now c.args.types.now) in
-    let is = ap (λ (b : Bool). union_met c.args.place b inner) (sym c.if-is_own.false) in
+    let is = ap (λ (b : Bool). union_met c.args.place b inner) (sym c.if-is_union.false ∙ c.is_union.ensures) in
     record {
       found = found_as c.wrong_pattern.result _ _ v is c.wrong_pattern.ensures.found;
       walked = left_as c.wrong_pattern.result _ _ v _ is c.wrong_pattern.ensures.walked;
