@@ -15,8 +15,8 @@ fitting text end cycle accepted kept written past hart covered k rank test left 
     let set : Setting = setting_in m past hart covered in
     let known : ModelKnown set m k rank =
     record {
-      tables = λ x is. models_stand text end cycle accepted kept written set refl x test.tables (test.alone x is);
-      nowhere = models_stand text end cycle accepted kept written set refl nobody test.tables refl;
+      tables = λ x is. models_stand text end cycle accepted kept written set refl x test.tables;
+      nowhere = models_stand text end cycle accepted kept written set refl nobody test.tables;
       functions = left.functions;
       directions = left.directions;
     } in

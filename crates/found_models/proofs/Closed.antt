@@ -172,7 +172,7 @@ typeless_same : (y : Typ-F Bool) → form_narrow 0 y ≡ typeless_form y
 typeless_same (T.Variable i) = none_below i
 typeless_same y = refl
 
-typeless_so : (t : Typ) → is_narrow 0 t ≡ true → is_typeless t ≡ true
+pub typeless_so : (t : Typ) → is_narrow 0 t ≡ true → is_typeless t ≡ true
 typeless_so t h = (λ i. fold-Typ Bool (λ y. sym (typeless_same y) i) t) ∙ h
 
 pub closed_so : (types : Types) (t : Typ) → formed types 0 t ≡ true → typ_kinded [] t ≡ true → is_closed t ≡ true

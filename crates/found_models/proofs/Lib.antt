@@ -9,4 +9,5 @@ pub mod Tables
 pub mod Closed
 pub mod Registers
 pub mod Mappings
+pub mod Payloads
 pub mod Models

@@ -1,5 +1,5 @@
 -- The core of an accepted text as a model.
-use Rattle.std.proofs.Common.{◌≡◌, ℕ, List, [], ◌∷◌, ◌++◌, ap, sym, ◌∙◌, refl, subst}
+use Rattle.std.proofs.Common.{◌≡◌, List, [], ◌∷◌, ◌++◌, ap, sym, ◌∙◌, refl, subst}
 use Rattle.std.specs.Prelude.{slice_get, Some}
 use Rattle.sail_types.specs.declared.table.Types.{Types}
 use Rattle.model_state.specs.declared.state.Register.{Register}
@@ -17,6 +17,7 @@ use Rattle.found_models.proofs.Mappings.{mappings_closed}
 use Rattle.found_models.proofs.Registers.{registers_closed}
 use Rattle.found_models.proofs.Tables.{tables_narrow}
 use Rattle.found_models.specs.Models.{ModelsOfTextsStand}
+use Rattle.found_models.proofs.Payloads.{alone}
 
 -- ---- what is around all nodes: openings bind names alone
 
@@ -52,16 +53,18 @@ module _ (m : CoreModel) (around : Around) (is : around ≡ around_of m) where
 -- ---- put together
 
 pub models_stand : ModelsOfTextsStand
-models_stand text end cycle accepted kept written set is work tables alone =
-    let m : CoreModel = core_of text cycle in record {
+models_stand text end cycle accepted kept written set is work tables =
+    let m : CoreModel = core_of text cycle in
+    let narrow : TypesNarrow set.around.types =
+    subst (λ (types : Types). TypesNarrow types) (sym (types_are m set.around is)) (tables_narrow text cycle written) in record {
       registers = λ i r e.
           registers_closed text cycle i r (subst (λ (rs : List Register). slice_get rs i ≡ Some r) (registers_are m set.around is) e);
       places = λ i f e.
           variables_placed text end cycle accepted kept i f (subst (λ (fs : List Function). slice_get fs i ≡ Some f) (functions_are m set.around is) e);
-      narrow = subst (λ (types : Types). TypesNarrow types) (sym (types_are m set.around is)) (tables_narrow text cycle written);
+      narrow = narrow;
       fits = record {
         tables = tables;
-        alone = alone;
+        alone = alone set.around.types narrow;
         mappings = λ d n e.
             mappings_closed text end cycle accepted kept written d n
             (subst (λ (ds : List Direction). slice_get ds d ≡ Some n) (directions_are m set.around is) e);

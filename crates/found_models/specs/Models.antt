@@ -8,13 +8,13 @@ use Rattle.shapes.specs.Failures.{refusal}
 use Rattle.shapes.specs.Tabled.{tabled_of}
 use Rattle.known_texts.specs.Written.{IsWritten}
 use Rattle.text_progress.specs.Laws.{core_of}
-use Rattle.hanging_sizes.specs.Hanging.{payloads_alone, table_hangs}
+use Rattle.hanging_sizes.specs.Hanging.{table_hangs}
 use Rattle.soundness_steps.specs.Works.{Setting, Work}
 use Rattle.sail_soundness.specs.Whole.{ModelStands}
 
--- where its table notes the arguments on which the sizes in payloads hang, and its payloads name no Type variable where the function at work has some
+-- where its table notes the arguments on which the sizes in payloads hang
 abbrev pub ModelsOfTextsStand : Type 0
 ModelsOfTextsStand =
     (text : List Def) (end : Place) (cycle : List ℕ → Option ℕ) → IsAccepted text end → refusal (tabled_of text) text ≡ None → IsWritten text
     → (set : Setting) → set.around ≡ around_of (core_of text cycle) → (work : Work) → table_hangs set.around.types ≡ true
-    → payloads_alone set.around.types work.own ≡ true → ModelStands set work
+    → ModelStands set work

@@ -1,7 +1,7 @@
 -- The variables on which the sizes in a type hang, and tables of types in which a union's type notes the arguments on which the sizes in its payloads
 -- hang (Sail language manual, "Type variables").
-use Rattle.std.specs.Prelude.{ℕ, zero, suc, Bool, true, false, ◌&&◌, ◌||◌, List, [], ◌∷◌, ◌++◌, length, if◌then◌else◌}
-use Rattle.std.specs.List.{list_all, list_any}
+use Rattle.std.specs.Prelude.{ℕ, zero, suc, nat_lt, Bool, true, ◌&&◌, ◌||◌, List, [], ◌∷◌, ◌++◌, length, if◌then◌else◌}
+use Rattle.std.specs.List.{list_all}
 use Rattle.sail_types.specs.Named.{form_constructors}
 use Rattle.sail_types.specs.declared.numbers.Atom.TheFolds.{fold-Atom, fold-Num, fold-Term}
 use Rattle.sail_types.specs.declared.numbers.Atom.TheOpen as N
@@ -13,12 +13,11 @@ use Rattle.sail_types.specs.declared.numbers.Num.{Num}
 use Rattle.sail_types.specs.declared.numbers.Term.{Term}
 use Rattle.sail_types.specs.declared.table.Definition.{Definition}
 use Rattle.sail_types.specs.declared.table.Types.{Types}
-use Rattle.sail_types.specs.declared.types.Typ.{Typ, Typ-F, fold-Typ, out-Typ}
+use Rattle.sail_types.specs.declared.types.Typ.{Typ, Typ-F, fold-Typ}
 use Rattle.sail_types.specs.declared.types.Typ.TheOpen as T
 use Rattle.size_values.specs.Sizes.{joined}
 use Rattle.size_values.specs.Sized.{hangs_on}
-use Rattle.size_values.specs.declared.sized.Sized.{Sized}
-use Rattle.call_arguments.specs.Callees.{is_typeless}
+use Rattle.call_arguments.specs.Callees.{is_typeless, type_parameters}
 
 -- ---- the variables in a number
 
@@ -55,25 +54,9 @@ outside [] = []
 outside (zero ∷ is) = outside is
 outside (suc i ∷ is) = i ∷ outside is
 
--- a value of a type is one of what a Type variable stands for, or has a part that is
-abbrev pub is_variable : Typ-F Typ → Bool
-is_variable (T.Variable i) = true
-is_variable form = false
-
-abbrev pub form_wants : Typ-F Typ → Bool
-form_wants (T.Tuple ts) = list_any (λ t. is_variable (out-Typ t)) ts
-form_wants form = is_variable form
-
--- a payload that names no Type variable, or that no value belongs to where nothing is known of them
-abbrev pub payload_alone : Typ → Bool
-payload_alone t = is_typeless t || form_wants (out-Typ t)
-
+-- payloads of a union without Type variables name none
 abbrev pub is_alone : Definition → Bool
-is_alone d = list_all (λ f. payload_alone f.typ) (form_constructors d.form)
-
-abbrev pub no_types : List Sized → Bool
-no_types [] = true
-no_types ss = false
+is_alone d = nat_lt 0 (type_parameters d.parameters) || list_all (λ f. is_typeless f.typ) (form_constructors d.form)
 
 module _ (types : Types) where
   -- the arguments of a named type from one on, on which a size of it hangs
@@ -108,7 +91,5 @@ module _ (types : Types) where
   abbrev pub table_hangs : Bool
   table_hangs = all_hang 0 types.definitions
 
-  -- ---- all payloads are such, or the function at work has no Type variables
-
-  abbrev pub payloads_alone : List Sized → Bool
-  payloads_alone own = no_types own || list_all is_alone types.definitions
+  abbrev pub payloads_alone : Bool
+  payloads_alone = list_all is_alone types.definitions

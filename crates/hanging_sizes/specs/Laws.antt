@@ -1,7 +1,5 @@
 -- The sizes in payloads hang on what their unions' types note.
 use Rattle.std.specs.Prelude.{◌≡◌, true, List}
-use Rattle.sail_types.specs.Belongs.{Reading as Closed}
-use Rattle.sail_types.specs.Numbers.{Positive}
 use Rattle.sail_types.specs.declared.table.Types.{Types}
 use Rattle.size_values.specs.declared.sized.Sized.{Sized}
 use Rattle.sized_patterns.specs.Laws.{PayloadsHang}
@@ -9,5 +7,4 @@ use Rattle.hanging_sizes.specs.Hanging.{payloads_alone, table_hangs}
 
 -- where the table is so
 abbrev pub PayloadsDo : Type 0
-PayloadsDo = (types : Types) (past : Positive) (closed : List Closed) (own : List Sized) → table_hangs types ≡ true → payloads_alone types own ≡ true
-    → PayloadsHang types past closed own
+PayloadsDo = (types : Types) (own : List Sized) → table_hangs types ≡ true → payloads_alone types ≡ true → PayloadsHang types own

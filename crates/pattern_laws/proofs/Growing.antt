@@ -35,7 +35,7 @@ use Rattle.pattern_leaves.specs.Payloads.{payload_types, payload_readings}
 use Rattle.pattern_leaves.specs.Widths.{bits_part, cut_width}
 use Rattle.pattern_notes.specs.declared.matching.Matching.{Matching}
 use Rattle.pattern_notes.specs.Patterns.{Look, inside, also, each_match, parts_match, taken_out, all_taken, item_met, items_met, cons_met}
-use Rattle.pattern_notes.specs.Patterns.{after_inner, constructor_met, head_met, union_met}
+use Rattle.pattern_notes.specs.Patterns.{after_inner, constructor_met, head_met, is_union, union_met}
 use Rattle.pattern_notes.specs.Patterns.{each_met_never, opens_met, annotation_owed, written_owed, typed_met, direction_met, result_of, option_of, form_match}
 use Rattle.pattern_notes.specs.Patterns.{look, look_form, looks, arm_match, one_match}
 use Rattle.fitting_laws.proofs.Counted.{fits_count}
@@ -187,7 +187,7 @@ module _ (around : Around) where
   head_grows place H.Tuple how ps c (W.Tuple is) = parts_grows place how ps c is
   head_grows place H.Tuple how ps c i = wrong_grows place
   head_grows place (H.Constructor u k) how ps c (W.Named v is rs) =
-      union_grows place (nat_eq u v) (constructor_met place ps around how (payload_readings (payload_types (length ps) (payload around.types u k)) is rs))
+      union_grows place (is_union around u v rs) (constructor_met place ps around how (payload_readings (payload_types (length ps) (payload around.types u k)) is rs))
       (bind_grows _ _ (all_grows place _) (λ js. parts_grows place how ps c js))
   head_grows place (H.Constructor u k) how ps c i = wrong_grows place
   head_grows place H.Vector how ps c (W.Vector n r) = after_grows _ _ (items_grows place how ps c r) (λ e. under_grows e place _)

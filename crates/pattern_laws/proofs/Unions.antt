@@ -1,6 +1,6 @@
 -- Patterns of constructors: the payload, or the parts of one that is a tuple, are all taken out, and then matched.
 use Rattle.std.proofs.Common.{◌≡◌, ℕ, zero, suc, nat_eq, nat_lt, pos, Bool, true, false, ◌&&◌, List, [], ◌∷◌, map, length, Option, Some, None, option_map}
-use Rattle.std.proofs.Common.{refl, sym, ap, ◌∙◌, subst}
+use Rattle.std.proofs.Common.{slice_get, refl, sym, ap, ◌∙◌, subst}
 use Rattle.std.proofs.lemmas.Bool.{and_parts}
 use Rattle.std.proofs.lemmas.Bool.Decides.{Decides-eqb}
 use Rattle.std.proofs.lemmas.List.{length-map}
@@ -28,11 +28,13 @@ use Rattle.value_indices.specs.declared.notes.Fact.{Fact}
 use Rattle.value_indices.specs.Steps.{Walk, bind, give, note}
 use Rattle.checked_meaning.specs.Items.{Item, item, part_typ}
 use Rattle.checked_meaning.specs.Checked.{Cases}
+use Rattle.wide_types.specs.Widening.{parameters_of}
+use Rattle.call_arguments.specs.Callees.{type_parameters}
 use Rattle.pattern_leaves.specs.declared.names.Bound.{Bound}
 use Rattle.pattern_leaves.specs.Settings.{Around}
 use Rattle.pattern_leaves.specs.Payloads.{part_types, payload_types, payload_readings}
 use Rattle.pattern_notes.specs.declared.matching.Matching.{Matching}
-use Rattle.pattern_notes.specs.Patterns.{Look, named_readings, taken_out, all_taken, constructor_met, union_met}
+use Rattle.pattern_notes.specs.Patterns.{Look, named_readings, taken_out, all_taken, constructor_met, is_union, union_met}
 use Rattle.value_laws.specs.Belonging.{Integers, standing, closeds, closed, types_or_own, form_holds}
 use Rattle.value_laws.specs.Known.{Point, Agree, Later, Goes}
 use Rattle.value_laws.proofs.Basics.{no, fronts}
@@ -42,7 +44,7 @@ use Rattle.value_laws.proofs.Alike.{asks}
 use Rattle.value_laws.proofs.Arguments.{assigned_there}
 use Rattle.fitting_laws.proofs.Within.{AllWithin, belongs_within}
 use Rattle.pattern_laws.specs.Beside.{AllMet, Stands, Ends, OfSizes, Behind, Beside}
-use Rattle.pattern_laws.specs.Typing.{Typing, Bears, EachReads}
+use Rattle.pattern_laws.specs.Typing.{AsMany, Typing, Bears, EachReads}
 use Rattle.pattern_laws.specs.Standing.{each_stands, is_size, size_of, payload_stands, union_stands, constructor_stands}
 use Rattle.pattern_laws.proofs.Conditions.{met_behind, met_front}
 use Rattle.pattern_laws.proofs.Steps.{walks, falling, knowing, wrongs}
@@ -179,14 +181,14 @@ module _ (around : Around) (past : Positive) (own : List Closed) {fit : OfSizes}
   union_item u c x v = item (part_typ around.types (payload u c) x.typ) v
 
   of_union : {n : ℕ} {f : Point n} (u c : ℕ) (is : List Index) (rs : List Reading) (t : Typ) (x : Item) (v : Value) → payload_type around.types u c ≡ Some t
-      → Bears around.types past own y f (I.Named u is rs) x → ((g : Integers) → Agree f g → Inside g is rs t v)
+      → AsMany around.types u rs → Bears around.types past own y f (I.Named u is rs) x → ((g : Integers) → Agree f g → Inside g is rs t v)
       → Of f (R.Of t is rs) (item (part_typ around.types (payload u c) x.typ) v)
-  of_union {f = f} u c is rs t x v e b inside = record {
+  of_union {f = f} u c is rs t x v e several b inside = record {
     typ = closed around.types (there f.integers) own (R.Of t is rs);
     is_typ = steady_of u is rs x b t;
     belongs_to = ap (belongs around.types v) (closed_is around.types (there f.integers) own (R.Of t is rs) (W.Of t is rs) (R.rolls-Of t is rs))
         ∙ outside is rs t v f.integers (inside f.integers (same f));
-    reads = λ g a. y.kept.of_union g u c is rs x.typ t e (record { value = v; belongs_to = inside g a }) (b.typed g a);
+    reads = λ g a. y.kept.of_union g u c is rs x.typ t e several (b.typed g a);
   }
 
   -- the parts of one that is a tuple
@@ -229,7 +231,8 @@ module _ (around : Around) (past : Positive) (own : List Closed) {fit : OfSizes}
   -- ---- the constructor is the value's, with this payload
 
   module _ {n : ℕ} {f : Point n} (facts : List Fact) (place : Place) (how : Matching) (u c : ℕ) (is : List Index) (rs : List Reading) (x : Item)
-      (b : Bears around.types past own y f (I.Named u is rs) x) (s : Good f) (t : Typ) (there_is : payload_type around.types u c ≡ Some t) (v : Value)
+      (b : Bears around.types past own y f (I.Named u is rs) x) (s : Good f) (t : Typ) (there_is : payload_type around.types u c ≡ Some t)
+      (as_told : AsMany around.types u rs) (v : Value)
       (inside : (g : Integers) → Agree f g → Inside g is rs t v) where
     held : belongs around.types v (reading t (assigned (there f.integers) is) (stood f.integers rs)) ≡ true
     held = outside is rs t v f.integers (inside f.integers (same f))
@@ -240,7 +243,7 @@ module _ (around : Around) (past : Positive) (own : List Closed) {fit : OfSizes}
         → Beside q past n f facts (constructor_met place looks around how (payload_readings ts is rs))
         (as_run (so_many (length ms) (parts_or_wrong (option_map (components z (union_item u c x v) 0) (parts_in v)))) then run_parts ms) Found
     several looks ms ss fine ts e long d =
-        let of = of_union u c is rs t x v there_is b inside in
+        let of = of_union u c is rs t x v there_is as_told b inside in
         let tuple = tuple_value t ts (assigned (there f.integers) is) (stood f.integers rs) v e held (out-Value v) refl in
         let vs = tuple.0 in
         let parts = parts_of is rs ts (union_item u c x v) 0 vs (steady_of u is rs x b) tuple.2
@@ -281,7 +284,7 @@ module _ (around : Around) (past : Positive) (own : List Closed) {fit : OfSizes}
     payload_beside (a ∷ []) (m ∷ []) (k ∷ []) fine d all =
         seen_parts around past own y q cases w (m ∷ []) ((union_item u c x v) ∷ []) refl
         (met_beside place how (a ∷ []) (m ∷ []) (k ∷ []) fine (R.Of t is rs ∷ []) ((union_item u c x v) ∷ []) refl
-        (of_union u c is rs t x v there_is b inside, tt) s all)
+        (of_union u c is rs t x v there_is as_told b inside, tt) s all)
     payload_beside (a ∷ a2 ∷ looks) (m ∷ m2 ∷ ms) (k ∷ k2 ∷ ss) fine d all =
         parts_by (a ∷ a2 ∷ looks) (m ∷ m2 ∷ ms) (k ∷ k2 ∷ ss) fine (out-Typ t) refl d all
     payload_beside [] [] (k ∷ ss) fine d all = absurd fine
@@ -320,32 +323,32 @@ module _ (around : Around) (past : Positive) (own : List Closed) {fit : OfSizes}
 
   of_its_own : {n : ℕ} {f : Point n} {facts : List Fact} (place : Place) (how : Matching) (u c : ℕ) (is : List Index) (rs : List Reading) (x : Item)
       → Bears around.types past own y f (I.Named u is rs) x → Good f → (looks : List Look) (ms : List (Matcher Item)) (ss : List Bool)
-      → Fine looks ms ss → (t : Typ) → payload_type around.types u c ≡ Some t → payload_stands (length ss) t ≡ true
+      → Fine looks ms ss → (t : Typ) → payload_type around.types u c ≡ Some t → AsMany around.types u rs → payload_stands (length ss) t ≡ true
       → AllStand around past own y q cases w ss → (v : Value-F Value)
       → ((g : Integers) → Agree f g → form_holds around.types (there g) own (W.Named u is (map (closed around.types (there g) own) rs)) v ≡ true)
       → Union n f facts place how u c is rs x looks ms (Some t) v
-  of_its_own {f = f} {facts = facts} place how u c is rs x b s looks ms ss fine t e d all (V.Union j k v) h =
+  of_its_own {f = f} {facts = facts} place how u c is rs x b s looks ms ss fine t e many d all (V.Union j k v) h =
       constructs (length ms) ms (nat_eq j u && nat_eq k c) _ (λ same_one.
-      payload_beside facts place how u c is rs x b s t e v (λ g a. union_held u c is rs t g e j k v (h g a) same_one) looks ms ss fine d all)
-  of_its_own {f = f} place how u c is rs x b s looks ms ss fine t e d all (V.Struct j vs) h =
+      payload_beside facts place how u c is rs x b s t e many v (λ g a. union_held u c is rs t g e j k v (h g a) same_one) looks ms ss fine d all)
+  of_its_own {f = f} place how u c is rs x b s looks ms ss fine t e many d all (V.Struct j vs) h =
       let cs = map (closed around.types (there f.integers) own) rs in
       let of = fields_belong (asks around.types vs) (assigned (there f.integers) is) (closeds cs) in
       let both = and_parts (nat_eq j u) (of (fields around.types j)) (h f.integers (same f)) in
       no (sym (ap of (ap (fields around.types) ((Decides-eqb j u).0 both.0) ∙ (union_alone around.types u c t e).0)) ∙ both.1)
-  of_its_own {f = f} place how u c is rs x b s looks ms ss fine t e d all (V.Member j k) h =
+  of_its_own {f = f} place how u c is rs x b s looks ms ss fine t e many d all (V.Member j k) h =
       let both = and_parts (nat_eq j u) (nat_lt k (length (members around.types j))) (h f.integers (same f)) in
       not_below_none k (ap (λ (l : List (List ℕ)). nat_lt k (length l)) (sym (ap (members around.types) ((Decides-eqb j u).0 both.0)
       ∙ (union_alone around.types u c t e).1)) ∙ both.1)
-  of_its_own {f = f} place how u c is rs x b s looks ms ss fine t e d all v h = no (h f.integers (same f))
+  of_its_own {f = f} place how u c is rs x b s looks ms ss fine t e many d all v h = no (h f.integers (same f))
 
   of_union_of : {n : ℕ} {f : Point n} {facts : List Fact} (place : Place) (how : Matching) (u c : ℕ) (is : List Index) (rs : List Reading) (x : Item)
       → Bears around.types past own y f (I.Named u is rs) x → Good f → (looks : List Look) (ms : List (Matcher Item)) (ss : List Bool)
-      → Fine looks ms ss → (o : Option Typ) → payload_type around.types u c ≡ o → union_stands (length ss) o ≡ true
+      → Fine looks ms ss → (o : Option Typ) → payload_type around.types u c ≡ o → AsMany around.types u rs → union_stands (length ss) o ≡ true
       → AllStand around past own y q cases w ss
       → Union n f facts place how u c is rs x looks ms o (out-Value x.val)
-  of_union_of place how u c is rs x b s looks ms ss fine None e d all = no d
-  of_union_of {f = f} place how u c is rs x b s looks ms ss fine (Some t) e d all =
-      of_its_own place how u c is rs x b s looks ms ss fine t e d all (out-Value x.val)
+  of_union_of place how u c is rs x b s looks ms ss fine None e many d all = no d
+  of_union_of {f = f} place how u c is rs x b s looks ms ss fine (Some t) e many d all =
+      of_its_own place how u c is rs x b s looks ms ss fine t e many d all (out-Value x.val)
       (λ g a. named_had around.types past own g u is rs x.val (b.has_it g a))
 
   -- the value may be of another union
@@ -357,13 +360,16 @@ module _ (around : Around) (past : Positive) (own : List Closed) {fit : OfSizes}
   pub union_beside : {n : ℕ} {f : Point n} {facts : List Fact} (place : Place) (how : Matching) (u c v : ℕ) (is : List Index) (rs : List Reading) (x : Item)
       → Bears around.types past own y f (I.Named v is rs) x → Good f → (looks : List Look) (ms : List (Matcher Item)) (ss : List Bool)
       → Fine looks ms ss → (constructor_stands around.types u c (length ss) && each_stands ss) ≡ true
-      → Beside q past n f facts (union_met place (nat_eq u v)
+      → Beside q past n f facts (union_met place (is_union around u v rs)
       (constructor_met place looks around how (payload_readings (payload_types (length looks) (payload_type around.types u c)) is rs)))
       (as_run (so_many (length ms) (opened z w.numbers (H.Constructor u c) (length ms) x (out-Value x.val))) then run_parts ms) Found
   union_beside {f = f} place how u c v is rs x b s looks ms ss fine d =
-      of_own place (nat_eq u v)
+      of_own place (is_union around u v rs)
       (constructor_met place looks around how (payload_readings (payload_types (length looks) (payload_type around.types u c)) is rs)) (λ e.
-      let its_own : v ≡ u = sym ((Decides-eqb u v).0 e) in
+      let told = and_parts (nat_eq u v) (nat_eq (length rs) (type_parameters (parameters_of (slice_get around.types.definitions u)))) e in
+      let its_own : v ≡ u = sym ((Decides-eqb u v).0 told.0) in
+      let many : AsMany around.types u rs =
+      (Decides-eqb (length rs) (type_parameters (parameters_of (slice_get around.types.definitions u)))).0 told.1 in
       let both = and_parts (constructor_stands around.types u c (length ss)) (each_stands ss) d in
       of_union_of place how u c is rs x (subst (λ j. Bears around.types past own y f (I.Named j is rs) x) its_own b) s looks ms ss fine
-      (payload_type around.types u c) refl both.0 (all_stand around past own y q cases w ss both.1))
+      (payload_type around.types u c) refl many both.0 (all_stand around past own y q cases w ss both.1))

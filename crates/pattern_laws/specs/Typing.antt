@@ -1,6 +1,6 @@
 -- What a value of some indices is at a point, and what the types are that values carry in the checked meaning.
-use Rattle.std.specs.Prelude.{◌≡◌, ℕ, suc, pos, true, List, [], ◌∷◌, map, Some}
-use Rattle.sail_types.specs.Belongs.{Reading as Closed, assigned, belongs, reading}
+use Rattle.std.specs.Prelude.{◌≡◌, ℕ, suc, pos, true, List, [], ◌∷◌, length, slice_get, Some}
+use Rattle.sail_types.specs.Belongs.{Reading as Closed}
 use Rattle.sail_types.specs.Named.{payload as payload_type}
 use Rattle.sail_types.specs.Numbers.{Positive, number}
 use Rattle.sail_types.specs.declared.numbers.Index.{Index}
@@ -24,11 +24,13 @@ use Rattle.value_indices.specs.declared.notes.Fact.{Fact}
 use Rattle.value_indices.specs.declared.notes.Made.TheVariants as Makes
 use Rattle.value_indices.specs.Opening.{opened_for}
 use Rattle.checked_meaning.specs.Items.{Item, fixed_typ, part_typ}
+use Rattle.wide_types.specs.Widening.{parameters_of}
+use Rattle.call_arguments.specs.Callees.{type_parameters}
 use Rattle.pattern_leaves.specs.Payloads.{payload_readings}
 use Rattle.pattern_leaves.specs.declared.names.Bound.{Bound}
 use Rattle.pattern_leaves.specs.declared.names.Held.{Held}
 use Rattle.pattern_leaves.specs.declared.names.Held.TheVariants as H
-use Rattle.value_laws.specs.Belonging.{Integers, closed, closeds, standing, meant, has}
+use Rattle.value_laws.specs.Belonging.{Integers, standing, meant, has}
 use Rattle.pattern_laws.specs.Beside.{OfSizes}
 use Rattle.value_laws.specs.Known.{Point, Agree}
 
@@ -41,10 +43,9 @@ abbrev pub EachReads : Types → (Reading → Sized → Type 0) → Sized → �
 EachReads types reads s k [] = Unit {0}
 EachReads types reads s k (r ∷ rs) = reads r (part_typ types (component k) s) × EachReads types reads s (suc k) rs
 
--- a value that belongs to a type under what the variables of a named type stand for
-pub record IsThere (types : Types) (past : Positive) (own : List Closed) (g : Integers) (t : Typ) (is : List Index) (rs : List Reading) : Type 0 where
-  pub value : Value
-  pub belongs_to : belongs types value (reading t (assigned (standing past g) is) (closeds (map (closed types (standing past g) own) rs))) ≡ true
+-- as many Type arguments as a named type has Type variables
+abbrev pub AsMany : Types → ℕ → List Reading → Type 0
+AsMany types u rs = length rs ≡ type_parameters (parameters_of (slice_get types.definitions u))
 
 -- which types values carry, of indices and of types of the walk: parts keep it
 pub record IsKept (types : Types) (past : Positive) (own : List Closed) (fit : OfSizes) (fits : Integers → Indices → Sized → Type 0)
@@ -58,7 +59,7 @@ pub record IsKept (types : Types) (past : Positive) (own : List Closed) (fit : O
   pub list_item : (g : Integers) (r : Reading) (s : Sized) → fits g (I.List r) s → reads g r (part_typ types one_item s)
   pub vector_item : (g : Integers) (t : Num) (r : Reading) (s : Sized) → fits g (I.Vector t r) s → reads g r (part_typ types one_item s)
   pub of_union : (g : Integers) (u c : ℕ) (is : List Index) (rs : List Reading) (s : Sized) (t : Typ) → payload_type types u c ≡ Some t
-      → IsThere types past own g t is rs → fits g (I.Named u is rs) s → reads g (R.Of t is rs) (part_typ types (payload u c) s)
+      → AsMany types u rs → fits g (I.Named u is rs) s → reads g (R.Of t is rs) (part_typ types (payload u c) s)
   pub of_tuple : (g : Integers) (t : Typ) (ts : List Typ) (is : List Index) (rs : List Reading) (s : Sized) → out-Typ t ≡ T.Tuple ts
       → reads g (R.Of t is rs) s → EachReads types (reads g) s 0 (payload_readings ts is rs)
   -- a part of bits whose size fits: that is a number from 0 on, none past the limits on the way to it

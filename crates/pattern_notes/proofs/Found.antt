@@ -5,6 +5,7 @@ use Rattle.value_indices.specs.Steps.{Walk, bind, give, facts_here}
 use Rattle.value_indices.specs.Walking.{Written, got, run, remembering, forgotten, remembered_last}
 use Rattle.value_indices.proofs.Walks.{got_give, run_give, got_bind, run_bind, got_facts, run_facts, got_remembering}
 use Rattle.pattern_leaves.specs.declared.names.Bound.{Bound}
+use Rattle.pattern_leaves.proofs.Walked.{then_got, then_run}
 use Rattle.pattern_notes.specs.Patterns.{also, after_inner}
 
 -- ---- names of one walk, and those of another behind it
@@ -94,3 +95,15 @@ found_as {A} r a b v is h = subst (λ (walk : Walk A). IfOk r (λ x. x ≡ got w
 
 pub left_as : {A B E : Type 0} (r : Result B E) (a b : Walk A) (v w : Written) → a ≡ b → OnOk r (w ≡ run a v) → OnOk r (w ≡ run b v)
 left_as {A} r a b v w is h = subst (λ (walk : Walk A). OnOk r (w ≡ run walk v)) is h
+
+-- ---- what a walk gives and leaves behind another, which gave what it is over
+
+pub taken_found : {B A E : Type 0} (r : Result B E) (first : Walk A) (next : A → Walk B) (second : Walk B) (v w : Written) (x : A) → second ≡ next x
+    → x ≡ got first v → w ≡ run first v → IfOk r (λ y. y ≡ got second w) → IfOk r (λ y. y ≡ got (bind first next) v)
+taken_found {B} r first next second v w x same is was h =
+    subst (λ (z : B). IfOk r (λ y. y ≡ z)) (ap (λ (a : Walk B). got a w) same ∙ then_got first next v w x is was) h
+
+pub taken_left : {B A C E : Type 0} (r : Result C E) (first : Walk A) (next : A → Walk B) (second : Walk B) (v w u : Written) (x : A) → second ≡ next x
+    → x ≡ got first v → w ≡ run first v → OnOk r (u ≡ run second w) → OnOk r (u ≡ run (bind first next) v)
+taken_left {B} r first next second v w u x same is was h =
+    subst (λ (z : Written). OnOk r (u ≡ z)) (ap (λ (a : Walk B). run a w) same ∙ then_run first next v w x is was) h

@@ -1,5 +1,5 @@
 -- Patterns that open a value, of values that they open and of others.
-use Rattle.std.proofs.Common.{◌≡◌, sym, refl, ap, ◌∙◌, ℕ, nat_eq, List, Option, length}
+use Rattle.std.proofs.Common.{◌≡◌, sym, refl, ap, ◌∙◌, ℕ, List, Option, length}
 use Rattle.sail_base.specs.declared.place.Place.{Place}
 use Rattle.sail_types.specs.Named.{payload}
 use Rattle.sail_types.specs.declared.numbers.Index.{Index}
@@ -20,7 +20,7 @@ use Rattle.pattern_leaves.specs.Payloads.{payload_types, payload_readings}
 use Rattle.pattern_leaves.specs.Widths.{known_widths}
 use Rattle.pattern_leaves.specs.Settings.{Around}
 use Rattle.pattern_notes.specs.declared.matching.Matching.{Matching}
-use Rattle.pattern_notes.specs.Patterns.{Look, constructor_met, cons_met, cut_met, head_met, items_met, opens_met, parts_match, union_met, vector_met}
+use Rattle.pattern_notes.specs.Patterns.{Look, constructor_met, cons_met, cut_met, head_met, is_union, items_met, opens_met, parts_match, union_met, vector_met}
 
 module _ (place : Place) (ps : List Look) (around : Around) (how : Matching) (i : Indices) where
   -- what a head makes of a form
@@ -34,10 +34,11 @@ module _ (place : Place) (ps : List Look) (around : Around) (how : Matching) (i 
 
   pub named_met : (u c v : ℕ) (numbers ns : List Index) (types rs : List Reading) → i ≡ I.Named v numbers types → ns ≡ numbers → rs ≡ types
       → met (H.Constructor u c) (out-Indices i)
-      ≡ union_met place (nat_eq u v) (constructor_met place ps around how (payload_readings (payload_types (length ps) (payload around.types u c)) ns rs))
+      ≡ union_met place (is_union around u v rs)
+      (constructor_met place ps around how (payload_readings (payload_types (length ps) (payload around.types u c)) ns rs))
   named_met u c v numbers ns types rs is same like =
       ap (met (H.Constructor u c)) (out_named i v numbers types is)
-      ∙ (λ j. union_met place (nat_eq u v)
+      ∙ (λ j. union_met place (is_union around u v (sym like j))
       (constructor_met place ps around how (payload_readings (payload_types (length ps) (payload around.types u c)) (sym same j) (sym like j))))
 
   pub items_of : (n : Num) (item r : Reading) → i ≡ I.Vector n item → r ≡ item → met H.Vector (out-Indices i) ≡ vector_met place ps around how n r

@@ -1,7 +1,7 @@
 -- The walk over a pattern: what it owes of the value that it is matched with, what it makes known, and what the names that it binds are
 -- (Sail language manual, "Pattern matching").
 use Rattle.std.specs.Prelude.{ℕ, pos, nat_eq, Bool, true, false, List, [], ◌∷◌, ◌++◌, length, map, slice_get, Option, Some, None}
-use Rattle.std.specs.Prelude.{if◌then◌else◌}
+use Rattle.std.specs.Prelude.{if◌then◌else◌, ◌&&◌}
 use Rattle.sail_base.specs.declared.place.Place.{Place}
 use Rattle.sail_types.specs.Named.{payload}
 use Rattle.sail_types.specs.Sums.{and_then, constant, difference}
@@ -29,12 +29,14 @@ use Rattle.value_indices.specs.declared.notes.Made.TheVariants as Makes
 use Rattle.value_indices.specs.Steps.{Walk, bind, give, facts_here, note, size_note, way_note, owe_under, each}
 use Rattle.value_indices.specs.Opening.{equal, opened_for}
 use Rattle.value_fits.specs.Fitting.{fits, owe_fit_under}
+use Rattle.wide_types.specs.Widening.{parameters_of}
 use Rattle.pattern_leaves.specs.declared.names.Bound.{Bound}
 use Rattle.pattern_leaves.specs.Settings.{Around, bound, written_in, exponents_owed}
 use Rattle.pattern_leaves.specs.Literals.{no_names, wrong_pattern, literal_met}
 use Rattle.pattern_leaves.specs.Payloads.{payload_types, payload_readings}
 use Rattle.pattern_leaves.specs.Widths.{known_widths, first_sum, cut_width, cut_owed}
 use Rattle.pattern_leaves.specs.Annotations.{written_at}
+use Rattle.call_arguments.specs.Callees.{type_parameters}
 use Rattle.pattern_notes.specs.declared.matching.Matching.{Matching}
 
 -- what a pattern makes of a value of these indices
@@ -130,12 +132,17 @@ abbrev pub union_met : Place → Bool → Walk (List Bound) → Walk (List Bound
 union_met place true met = met
 union_met place false met = wrong_pattern place
 
+-- whether a value of the named type `v` with these Type arguments is of the union `u`: it has as many of them as that has Type variables
+abbrev pub is_union : Around → ℕ → ℕ → List Reading → Bool
+is_union around u v rs = nat_eq u v && nat_eq (length rs) (type_parameters (parameters_of (slice_get around.types.definitions u)))
+
 -- a pattern that opens a value that exists
 abbrev pub head_met : Place → Head → List Look → Around → Matching → Indices-F Indices Reading → Walk (List Bound)
 head_met place (H.Is literal) ps around how i = literal_met place how.in_case literal i
 head_met place H.Tuple ps around how (W.Tuple is) = parts_match place ps around how is
 head_met place (H.Constructor u c) ps around how (W.Named v is rs) =
-    union_met place (nat_eq u v) (constructor_met place ps around how (payload_readings (payload_types (length ps) (payload around.types u c)) is rs))
+    union_met place (is_union around u v rs)
+    (constructor_met place ps around how (payload_readings (payload_types (length ps) (payload around.types u c)) is rs))
 head_met place H.Vector ps around how (W.Vector n r) = vector_met place ps around how n r
 head_met place H.List ps around how (W.List r) = items_met place ps around how r
 head_met place H.Cons ps around how (W.List r) = cons_met place ps around how r

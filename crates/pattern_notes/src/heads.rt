@@ -12,12 +12,14 @@ use crate::matching::Matching;
 use crate::several::{
     match_cons, match_constructor, match_cut, match_items, match_never, match_parts, match_vector,
 };
+use call_arguments::type_parameters;
 use pattern_leaves::{Around, Bound, meet_literal, wrong_pattern};
 use sail_base::{Items, Place};
 use sail_core::{Head, Pattern};
 use sail_types::{Index, Num};
 use std::alloc::{AllocError, Global};
 use value_indices::{Indices, Reading, Walking};
+use wide_types::parameters_of;
 
 /// A head over these parts; of a value that doesn't exist names are of none. The one error is want of memory.
 #[cycle(matched)]
@@ -129,6 +131,14 @@ fn match_tuple(
     }
 }
 
+/// Whether a value of a named type, by its place in the table and its Type arguments, is of the union at the first place: it has as many of them
+/// as that has Type variables.
+fn is_union(around: &Around<'_>, union: u32, own: u32, types: &[Reading]) -> bool
+    ensures { result ≡ patterns.is_union (settings.around_of around.now) union own types.now }
+{
+    union == own && types.len() == type_parameters(parameters_of(around.types, union))
+}
+
 /// A constructor. The one error is want of memory.
 #[cycle(matched)]
 fn match_union(
@@ -156,8 +166,8 @@ fn match_union(
             match_own(
                 alloc,
                 place,
-                union == *own,
                 union,
+                *own,
                 constructor,
                 parts,
                 around,
@@ -176,8 +186,8 @@ fn match_union(
 fn match_own(
     alloc: Global,
     place: Place,
-    is_own: bool,
     union: u32,
+    own: u32,
     constructor: u32,
     parts: &[Pattern],
     around: &Around<'_>,
@@ -187,15 +197,17 @@ fn match_own(
     walking: &mut Walking,
 ) -> Result<Items<Bound>, AllocError>
     ensures found { IfOk result (λ found. found
-        ≡ walk.got (patterns.union_met place is_own (patterns.constructor_met place (map patterns.look parts.now) (settings.around_of around.now) how
+        ≡ walk.got (patterns.union_met place (patterns.is_union (settings.around_of around.now) union own types.now)
+        (patterns.constructor_met place (map patterns.look parts.now) (settings.around_of around.now) how
         (payloads.payload_readings (payloads.payload_types (length parts.now) (payload_in around.now.types.now union constructor))
         numbers.now types.now))) (walk.seen walking.old)) }
     ensures walked { OnOk result (walk.seen walking.new
-        ≡ walk.run (patterns.union_met place is_own (patterns.constructor_met place (map patterns.look parts.now) (settings.around_of around.now) how
+        ≡ walk.run (patterns.union_met place (patterns.is_union (settings.around_of around.now) union own types.now)
+        (patterns.constructor_met place (map patterns.look parts.now) (settings.around_of around.now) how
         (payloads.payload_readings (payloads.payload_types (length parts.now) (payload_in around.now.types.now union constructor))
         numbers.now types.now))) (walk.seen walking.old)) }
 {
-    if is_own {
+    if is_union(around, union, own, types) {
         match_constructor(
             alloc,
             place,

@@ -143,8 +143,8 @@ parts_stay_sized types past closed own hang = record {
   parts = parts types own;
   list_item = λ g r s e. ap (part_typ types one_item) e ∙ (parts_keep_sizes types own (all_numbers g)).of_list r;
   vector_item = λ g t r s e. ap (part_typ types one_item) e ∙ (parts_keep_sizes types own (all_numbers g)).of_vector t r;
-  of_union = λ g u c is rs s t there some e.
-      ap (part_typ types (payload u c)) e ∙ (parts_keep_sizes types own (all_numbers g)).of_union u c is rs t there (hang g u c is rs t there some);
+  of_union = λ g u c is rs s t there many e.
+      ap (part_typ types (payload u c)) e ∙ (parts_keep_sizes types own (all_numbers g)).of_union u c is rs t there (hang g u c is rs t there many);
   of_tuple = of_tuple types own;
   width = width types past own;
   cut = cut types past own;

@@ -20,7 +20,7 @@ use Rattle.size_laws.specs.Known.{all_numbers}
 use Rattle.size_laws.specs.Settled.{Settled, of_reading, constants, stood}
 use Rattle.checked_meaning.specs.Items.{constant_of}
 use Rattle.value_laws.specs.Belonging.{Integers}
-use Rattle.pattern_laws.specs.Typing.{IsKept, IsThere}
+use Rattle.pattern_laws.specs.Typing.{AsMany, IsKept}
 
 -- a width, where no number past the largest integer is on the way to it
 pub record IsWidth (g : Integers) (t : Num) : Type 0 where
@@ -46,13 +46,12 @@ module _ (types : Types) (own : List Sized) where
   SizesFit g (Makes.ByIndices i) = FormFits g (out-Indices i)
 
 -- no size in a payload hangs on an argument of its union that isn't noted in the union's type
-abbrev pub PayloadsHang : Types → Positive → List Closed → List Sized → Type 0
-PayloadsHang types past closed own = (g : Integers) (u c : ℕ) (is : List Index) (rs : List Reading) (t : Typ) → payload_type types u c ≡ Some t
-    → IsThere types past closed g t is rs
+abbrev pub PayloadsHang : Types → List Sized → Type 0
+PayloadsHang types own = (g : Integers) (u c : ℕ) (is : List Index) (rs : List Reading) (t : Typ) → payload_type types u c ≡ Some t → AsMany types u rs
     → typ_sized types (map (reading_sized types own (all_numbers g)) rs) t
     (map constant_of (named_numbers types u (constants types own (all_numbers g) is)))
     ≡ typ_sized types (stood types own (all_numbers g) rs) t (constants types own (all_numbers g) is)
 
 abbrev pub PartsStaySized : Type 0
-PartsStaySized = (types : Types) (past : Positive) (closed : List Closed) (own : List Sized) → PayloadsHang types past closed own
+PartsStaySized = (types : Types) (past : Positive) (closed : List Closed) (own : List Sized) → PayloadsHang types own
     → IsKept types past closed (SizesFit types own) (Fits types own) (Reads types own)

@@ -19,9 +19,9 @@ ends q noted = record {
   so = λ g vs. HasNumbers 0 q.work.instance.numbers g × EachNoted noted g vs;
 }
 
--- what is taken of the model: its table of types notes the arguments on which the sizes in payloads hang, its payloads are alone where the function at
--- work has Type variables, and the types of mappings name no variable
+-- what is taken of the model: its table of types notes the arguments on which the sizes in payloads hang, payloads of unions without Type variables name
+-- none, and the types of mappings name no variable
 pub record ModelFits (set : Setting) (work : Work) : Type 0 where
   pub tables : table_hangs set.around.types ≡ true
-  pub alone : payloads_alone set.around.types work.own ≡ true
+  pub alone : payloads_alone set.around.types ≡ true
   pub mappings : MappingsClosed set

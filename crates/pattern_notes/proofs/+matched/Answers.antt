@@ -29,9 +29,9 @@ use Rattle.pattern_leaves.proofs.Rests.{one_of, two_of}
 use Rattle.pattern_leaves.proofs.Walked.{then_got, then_run, made_got, made_run, wrong_got}
 use Rattle.pattern_notes.specs.declared.matching.Matching.{Matching}
 use Rattle.pattern_notes.specs.Patterns.{look, matched, inside, form_match, direction_met, given_met, result_of, option_of, written_owed, annotated_met}
-use Rattle.pattern_notes.specs.Patterns.{parameter_owed, after_inner, item_met, items_met, each_met_never, cons_met, each_match, parts_match, taken_out, all_taken}
-use Rattle.pattern_notes.specs.Patterns.{named_readings, constructor_met, length_owed, cut_met, cut_parts, head_met, opens_met, union_met}
-use Rattle.pattern_notes.proofs.Found.{found_as, left_as, after_got, after_run, more_got, more_run, on_ok, also_got, also_run, ended_got}
+use Rattle.pattern_notes.specs.Patterns.{parameter_owed, after_inner, item_met, items_met, each_met_never, cons_met, each_match, parts_match, taken_out}
+use Rattle.pattern_notes.specs.Patterns.{all_taken, named_readings, constructor_met, length_owed, cut_met, cut_parts, head_met, is_union, opens_met, union_met}
+use Rattle.pattern_notes.proofs.Found.{found_as, left_as, taken_found, taken_left, after_got, after_run, more_got, more_run, on_ok, also_got, also_run, ended_got}
 use Rattle.pattern_notes.proofs.HeadForms.{bits_met, first_met, items_of, list_met, named_met, tuple_met}
 use Rattle.pattern_notes.proofs.HeadForms.{not_bits, not_first, not_list, not_named, not_never, not_tuple, not_vector}
 use Rattle.pattern_notes.proofs.Looked.{matched_is, items_end, items_more, never_end, never_more, as_many, parts_more, parts_short, parts_long, parts_end}
@@ -95,9 +95,8 @@ parts::match_typed-returns-in_ok-found-in-len1 t c =
 pub parts::match_direction-returns : goal.parts::match_direction-returns
 parts::match_direction-returns t c =
     let around = around_of c.args.around.now in
-    let i = c.args.indices.now in
     let inner = item_met c.args.place (look c.args.part.now) around c.args.how c.args.given.now in
-    let owes = parameter_owed around c.args.place c.args.direction.now i in
+    let owes = parameter_owed around c.args.place c.args.direction.now c.args.indices.now in
     let way = note (λ facts. way_note facts c.args.number) in
     let v = seen c.args.walking.now in
     record {
@@ -346,11 +345,10 @@ parts::match_form-returns-in-Sees t c =
 
 pub parts::match_maps-returns-in-len1 : goal.parts::match_maps-returns-in-len1
 parts::match_maps-returns-in-len1 t c =
-    let around = around_of c.args.around.now in
     let i = c.args.indices.now in
     let v = seen c.args.walking.now in
     let one = one_of c.args.parts.now c.part-item.result c.in-len1.len_at_least c.in-len1.len_below c.part-item.is in
-    let is = ap (λ (ps : List Pattern). form_match c.args.place (F.Maps c.args.number) (map look ps) around c.args.how i) (sym one) in
+    let is = ap (λ (ps : List Pattern). form_match c.args.place (F.Maps c.args.number) (map look ps) (around_of c.args.around.now) c.args.how i) (sym one) in
     record {
       found = found_as c.match_maps_to.result _ _ v is c.match_maps_to.ensures.found;
       walked = left_as c.match_maps_to.result _ _ v _ is c.match_maps_to.ensures.walked;
@@ -375,12 +373,10 @@ parts::match_maps_to-returns-in_ok-given-in-Some t c =
 pub parts::match_maps_to-returns-in-None : goal.parts::match_maps_to-returns-in-None
 parts::match_maps_to-returns-in-None t c =
     let around = around_of c.args.around.now in
-    let i = c.args.indices.now in
     let n = c.args.number in
-    let p = look c.args.part.now in
     let v = seen c.args.walking.now in
     let none : slice_get around.directions n ≡ None = sym c.direction.ensures ∙ ap option_copied c.in-None.is in
-    let is = ap (λ (d : Option Direction). direction_met c.args.place n d result_of p around c.args.how i) (sym none) in
+    let is = ap (λ (d : Option Direction). direction_met c.args.place n d result_of (look c.args.part.now) around c.args.how c.args.indices.now) (sym none) in
     record {
       found = found_as c.wrong_pattern.result _ _ v is c.wrong_pattern.ensures.found;
       walked = left_as c.wrong_pattern.result _ _ v _ is c.wrong_pattern.ensures.walked;
@@ -388,11 +384,10 @@ parts::match_maps_to-returns-in-None t c =
 
 pub parts::match_sees-returns-in-len1 : goal.parts::match_sees-returns-in-len1
 parts::match_sees-returns-in-len1 t c =
-    let around = around_of c.args.around.now in
     let i = c.args.indices.now in
     let v = seen c.args.walking.now in
     let one = one_of c.args.parts.now c.part-item.result c.in-len1.len_at_least c.in-len1.len_below c.part-item.is in
-    let is = ap (λ (ps : List Pattern). form_match c.args.place (F.Sees c.args.number) (map look ps) around c.args.how i) (sym one) in
+    let is = ap (λ (ps : List Pattern). form_match c.args.place (F.Sees c.args.number) (map look ps) (around_of c.args.around.now) c.args.how i) (sym one) in
     record {
       found = found_as c.match_sees_to.result _ _ v is c.match_sees_to.ensures.found;
       walked = left_as c.match_sees_to.result _ _ v _ is c.match_sees_to.ensures.walked;
@@ -417,12 +412,10 @@ parts::match_sees_to-returns-in_ok-given-in-Some t c =
 pub parts::match_sees_to-returns-in-None : goal.parts::match_sees_to-returns-in-None
 parts::match_sees_to-returns-in-None t c =
     let around = around_of c.args.around.now in
-    let i = c.args.indices.now in
     let n = c.args.number in
-    let p = look c.args.part.now in
     let v = seen c.args.walking.now in
     let none : slice_get around.directions n ≡ None = sym c.direction.ensures ∙ ap option_copied c.in-None.is in
-    let is = ap (λ (d : Option Direction). direction_met c.args.place n d option_of p around c.args.how i) (sym none) in
+    let is = ap (λ (d : Option Direction). direction_met c.args.place n d option_of (look c.args.part.now) around c.args.how c.args.indices.now) (sym none) in
     record {
       found = found_as c.wrong_pattern.result _ _ v is c.wrong_pattern.ensures.found;
       walked = left_as c.wrong_pattern.result _ _ v _ is c.wrong_pattern.ensures.walked;
@@ -442,11 +435,9 @@ heads::match_opened-returns-in-Never t c =
 
 pub heads::match_opened-returns-in_default : goal.heads::match_opened-returns-in_default
 heads::match_opened-returns-in_default t c =
-    let around = around_of c.args.around.now in
-    let ps = map look c.args.parts.now in
     let i = c.args.indices.now in
     let v = seen c.args.walking.now in
-    let is = sym (not_never c.args.place ps around c.args.how i c.args.head.now c.in_default.not-Never) in
+    let is = sym (not_never c.args.place (map look c.args.parts.now) (around_of c.args.around.now) c.args.how i c.args.head.now c.in_default.not-Never) in
     record {
       found = found_as c.match_head.result _ _ v is c.match_head.ensures.found;
       walked = left_as c.match_head.result _ _ v _ is c.match_head.ensures.walked;
@@ -454,11 +445,9 @@ heads::match_opened-returns-in_default t c =
 
 pub heads::match_head-returns-in-Is : goal.heads::match_head-returns-in-Is
 heads::match_head-returns-in-Is t c =
-    let around = around_of c.args.around.now in
     let ps = map look c.args.parts.now in
-    let i = c.args.indices.now in
     let v = seen c.args.walking.now in
-    let is = ap (λ (h : Head). head_met c.args.place h ps around c.args.how (out-Indices i)) (sym c.in-Is.is) in
+    let is = ap (λ (h : Head). head_met c.args.place h ps (around_of c.args.around.now) c.args.how (out-Indices c.args.indices.now)) (sym c.in-Is.is) in
     record {
       found = found_as c.meet_literal.result _ _ v is c.meet_literal.ensures.found;
       walked = left_as c.meet_literal.result _ _ v _ is c.meet_literal.ensures.walked;
@@ -466,11 +455,9 @@ heads::match_head-returns-in-Is t c =
 
 pub heads::match_head-returns-in-Tuple : goal.heads::match_head-returns-in-Tuple
 heads::match_head-returns-in-Tuple t c =
-    let around = around_of c.args.around.now in
     let ps = map look c.args.parts.now in
-    let i = c.args.indices.now in
     let v = seen c.args.walking.now in
-    let is = ap (λ (h : Head). head_met c.args.place h ps around c.args.how (out-Indices i)) (sym c.in-Tuple.is) in
+    let is = ap (λ (h : Head). head_met c.args.place h ps (around_of c.args.around.now) c.args.how (out-Indices c.args.indices.now)) (sym c.in-Tuple.is) in
     record {
       found = found_as c.match_tuple.result _ _ v is c.match_tuple.ensures.found;
       walked = left_as c.match_tuple.result _ _ v _ is c.match_tuple.ensures.walked;
@@ -478,11 +465,10 @@ heads::match_head-returns-in-Tuple t c =
 
 pub heads::match_head-returns-in-Constructor : goal.heads::match_head-returns-in-Constructor
 heads::match_head-returns-in-Constructor t c =
-    let around = around_of c.args.around.now in
     let ps = map look c.args.parts.now in
     let i = c.args.indices.now in
     let v = seen c.args.walking.now in
-    let is = ap (λ (h : Head). head_met c.args.place h ps around c.args.how (out-Indices i)) (sym c.in-Constructor.is) in
+    let is = ap (λ (h : Head). head_met c.args.place h ps (around_of c.args.around.now) c.args.how (out-Indices i)) (sym c.in-Constructor.is) in
     record {
       found = found_as c.match_union.result _ _ v is c.match_union.ensures.found;
       walked = left_as c.match_union.result _ _ v _ is c.match_union.ensures.walked;
@@ -490,11 +476,9 @@ heads::match_head-returns-in-Constructor t c =
 
 pub heads::match_head-returns-in-Vector : goal.heads::match_head-returns-in-Vector
 heads::match_head-returns-in-Vector t c =
-    let around = around_of c.args.around.now in
     let ps = map look c.args.parts.now in
-    let i = c.args.indices.now in
     let v = seen c.args.walking.now in
-    let is = ap (λ (h : Head). head_met c.args.place h ps around c.args.how (out-Indices i)) (sym c.in-Vector.is) in
+    let is = ap (λ (h : Head). head_met c.args.place h ps (around_of c.args.around.now) c.args.how (out-Indices c.args.indices.now)) (sym c.in-Vector.is) in
     record {
       found = found_as c.match_items_of_vector.result _ _ v is c.match_items_of_vector.ensures.found;
       walked = left_as c.match_items_of_vector.result _ _ v _ is c.match_items_of_vector.ensures.walked;
@@ -502,11 +486,9 @@ heads::match_head-returns-in-Vector t c =
 
 pub heads::match_head-returns-in-List : goal.heads::match_head-returns-in-List
 heads::match_head-returns-in-List t c =
-    let around = around_of c.args.around.now in
     let ps = map look c.args.parts.now in
-    let i = c.args.indices.now in
     let v = seen c.args.walking.now in
-    let is = ap (λ (h : Head). head_met c.args.place h ps around c.args.how (out-Indices i)) (sym c.in-List.is) in
+    let is = ap (λ (h : Head). head_met c.args.place h ps (around_of c.args.around.now) c.args.how (out-Indices c.args.indices.now)) (sym c.in-List.is) in
     record {
       found = found_as c.match_list.result _ _ v is c.match_list.ensures.found;
       walked = left_as c.match_list.result _ _ v _ is c.match_list.ensures.walked;
@@ -514,11 +496,9 @@ heads::match_head-returns-in-List t c =
 
 pub heads::match_head-returns-in-Cons : goal.heads::match_head-returns-in-Cons
 heads::match_head-returns-in-Cons t c =
-    let around = around_of c.args.around.now in
     let ps = map look c.args.parts.now in
-    let i = c.args.indices.now in
     let v = seen c.args.walking.now in
-    let is = ap (λ (h : Head). head_met c.args.place h ps around c.args.how (out-Indices i)) (sym c.in-Cons.is) in
+    let is = ap (λ (h : Head). head_met c.args.place h ps (around_of c.args.around.now) c.args.how (out-Indices c.args.indices.now)) (sym c.in-Cons.is) in
     record {
       found = found_as c.match_first.result _ _ v is c.match_first.ensures.found;
       walked = left_as c.match_first.result _ _ v _ is c.match_first.ensures.walked;
@@ -526,12 +506,10 @@ heads::match_head-returns-in-Cons t c =
 
 pub heads::match_head-returns-in-Cut : goal.heads::match_head-returns-in-Cut
 heads::match_head-returns-in-Cut t c =
-    let around = around_of c.args.around.now in
-    let ps = map look c.args.parts.now in
     let i = c.args.indices.now in
     let v = seen c.args.walking.now in
     let cut = ap (λ (ws : List (Option Num)). H.Cut ws) c.as_slice.ensures ∙ sym c.in-Cut.is in
-    let is = ap (λ (h : Head). head_met c.args.place h ps around c.args.how (out-Indices i)) cut in
+    let is = ap (λ (h : Head). head_met c.args.place h (map look c.args.parts.now) (around_of c.args.around.now) c.args.how (out-Indices i)) cut in
     record {
       found = found_as c.match_bits.result _ _ v is c.match_bits.ensures.found;
       walked = left_as c.match_bits.result _ _ v _ is c.match_bits.ensures.walked;
@@ -541,9 +519,8 @@ pub heads::match_tuple-returns-in-Tuple : goal.heads::match_tuple-returns-in-Tup
 heads::match_tuple-returns-in-Tuple t c =
     let around = around_of c.args.around.now in
     let ps = map look c.args.parts.now in
-    let i = c.args.indices.now in
     let v = seen c.args.walking.now in
-    let is = sym (tuple_met c.args.place ps around c.args.how i c.in-Tuple.values c.as_slice.result.now c.in-Tuple.is c.as_slice.ensures) in
+    let is = sym (tuple_met c.args.place ps around c.args.how c.args.indices.now c.in-Tuple.values c.as_slice.result.now c.in-Tuple.is c.as_slice.ensures) in
     record {
       found = found_as c.match_parts.result _ _ v is c.match_parts.ensures.found;
       walked = left_as c.match_parts.result _ _ v _ is c.match_parts.ensures.walked;
@@ -551,11 +528,8 @@ heads::match_tuple-returns-in-Tuple t c =
 
 pub heads::match_tuple-returns-in_default : goal.heads::match_tuple-returns-in_default
 heads::match_tuple-returns-in_default t c =
-    let around = around_of c.args.around.now in
-    let ps = map look c.args.parts.now in
-    let i = c.args.indices.now in
     let v = seen c.args.walking.now in
-    let is = sym (not_tuple c.args.place ps around c.args.how i c.in_default.not-Tuple) in
+    let is = sym (not_tuple c.args.place (map look c.args.parts.now) (around_of c.args.around.now) c.args.how c.args.indices.now c.in_default.not-Tuple) in
     record {
       found = found_as c.wrong_pattern.result _ _ v is c.wrong_pattern.ensures.found;
       walked = left_as c.wrong_pattern.result _ _ v _ is c.wrong_pattern.ensures.walked;
@@ -574,7 +548,7 @@ heads::match_union-returns-in-Named t c =
     let own = c.in-Named.own in
     let opens = named_met c.args.place ps around c.args.how i u k own c.in-Named.numbers ns c.in-Named.types rs c.in-Named.is c.as_slice.ensures
     c.as_slice-in-Named.ensures in
-    let counted = λ (n : ℕ). union_met c.args.place (nat_eq u own) (constructor_met c.args.place ps around c.args.how
+    let counted = λ (n : ℕ). union_met c.args.place (is_union around u own rs) (constructor_met c.args.place ps around c.args.how
     (payload_readings (payload_types n (payload_in around.types u k)) ns rs)) in
     let is = sym (opens ∙ ap counted (as_many c.args.parts.now)) in
     record {
@@ -582,27 +556,25 @@ heads::match_union-returns-in-Named t c =
       walked = left_as c.match_own.result _ _ v _ is c.match_own.ensures.walked;
     }
 
-pub heads::match_own-returns-then-is_own : goal.heads::match_own-returns-then-is_own
-heads::match_own-returns-then-is_own t c =
+pub heads::match_own-returns-then-is_union : goal.heads::match_own-returns-then-is_union
+heads::match_own-returns-then-is_union t c =
     let around = around_of c.args.around.now in
-    let ps = map look c.args.parts.now in
     let v = seen c.args.walking.now in
-    let inner = constructor_met c.args.place ps around c.args.how (payload_readings
+    let inner = constructor_met c.args.place (map look c.args.parts.now) around c.args.how (payload_readings
     (payload_types (length c.args.parts.now) (payload_in around.types c.args.union c.args.constructor)) c.args.numbers.now c.args.types.now) in
-    let is = ap (λ (b : Bool). union_met c.args.place b inner) (sym c.if-is_own.true) in
+    let is = ap (λ (b : Bool). union_met c.args.place b inner) (sym c.if-is_union.true ∙ c.is_union.ensures) in
     record {
       found = found_as c.match_constructor.result _ _ v is c.match_constructor.ensures.found;
       walked = left_as c.match_constructor.result _ _ v _ is c.match_constructor.ensures.walked;
     }
 
-pub heads::match_own-returns-else-is_own : goal.heads::match_own-returns-else-is_own
-heads::match_own-returns-else-is_own t c =
+pub heads::match_own-returns-else-is_union : goal.heads::match_own-returns-else-is_union
+heads::match_own-returns-else-is_union t c =
     let around = around_of c.args.around.now in
-    let ps = map look c.args.parts.now in
     let v = seen c.args.walking.now in
-    let inner = constructor_met c.args.place ps around c.args.how (payload_readings
+    let inner = constructor_met c.args.place (map look c.args.parts.now) around c.args.how (payload_readings
     (payload_types (length c.args.parts.now) (payload_in around.types c.args.union c.args.constructor)) c.args.numbers.now c.args.types.now) in
-    let is = ap (λ (b : Bool). union_met c.args.place b inner) (sym c.if-is_own.false) in
+    let is = ap (λ (b : Bool). union_met c.args.place b inner) (sym c.if-is_union.false ∙ c.is_union.ensures) in
     record {
       found = found_as c.wrong_pattern.result _ _ v is c.wrong_pattern.ensures.found;
       walked = left_as c.wrong_pattern.result _ _ v _ is c.wrong_pattern.ensures.walked;
@@ -610,11 +582,10 @@ heads::match_own-returns-else-is_own t c =
 
 pub heads::match_union-returns-in_default : goal.heads::match_union-returns-in_default
 heads::match_union-returns-in_default t c =
-    let around = around_of c.args.around.now in
     let ps = map look c.args.parts.now in
     let i = c.args.indices.now in
     let v = seen c.args.walking.now in
-    let is = sym (not_named c.args.place ps around c.args.how i c.args.union c.args.constructor c.in_default.not-Named) in
+    let is = sym (not_named c.args.place ps (around_of c.args.around.now) c.args.how i c.args.union c.args.constructor c.in_default.not-Named) in
     record {
       found = found_as c.wrong_pattern.result _ _ v is c.wrong_pattern.ensures.found;
       walked = left_as c.wrong_pattern.result _ _ v _ is c.wrong_pattern.ensures.walked;
@@ -634,11 +605,8 @@ heads::match_items_of_vector-returns-in-Vector t c =
 
 pub heads::match_items_of_vector-returns-in_default : goal.heads::match_items_of_vector-returns-in_default
 heads::match_items_of_vector-returns-in_default t c =
-    let around = around_of c.args.around.now in
-    let ps = map look c.args.parts.now in
-    let i = c.args.indices.now in
     let v = seen c.args.walking.now in
-    let is = sym (not_vector c.args.place ps around c.args.how i c.in_default.not-Vector) in
+    let is = sym (not_vector c.args.place (map look c.args.parts.now) (around_of c.args.around.now) c.args.how c.args.indices.now c.in_default.not-Vector) in
     record {
       found = found_as c.wrong_pattern.result _ _ v is c.wrong_pattern.ensures.found;
       walked = left_as c.wrong_pattern.result _ _ v _ is c.wrong_pattern.ensures.walked;
@@ -646,11 +614,10 @@ heads::match_items_of_vector-returns-in_default t c =
 
 pub heads::match_list-returns-in-List : goal.heads::match_list-returns-in-List
 heads::match_list-returns-in-List t c =
-    let around = around_of c.args.around.now in
     let ps = map look c.args.parts.now in
     let i = c.args.indices.now in
     let v = seen c.args.walking.now in
-    let is = sym (list_met c.args.place ps around c.args.how i c.in-List.item c.get.result.now c.in-List.is c.get.ensures) in
+    let is = sym (list_met c.args.place ps (around_of c.args.around.now) c.args.how i c.in-List.item c.get.result.now c.in-List.is c.get.ensures) in
     record {
       found = found_as c.match_items.result _ _ v is c.match_items.ensures.found;
       walked = left_as c.match_items.result _ _ v _ is c.match_items.ensures.walked;
@@ -658,11 +625,8 @@ heads::match_list-returns-in-List t c =
 
 pub heads::match_list-returns-in_default : goal.heads::match_list-returns-in_default
 heads::match_list-returns-in_default t c =
-    let around = around_of c.args.around.now in
-    let ps = map look c.args.parts.now in
-    let i = c.args.indices.now in
     let v = seen c.args.walking.now in
-    let is = sym (not_list c.args.place ps around c.args.how i c.in_default.not-List) in
+    let is = sym (not_list c.args.place (map look c.args.parts.now) (around_of c.args.around.now) c.args.how c.args.indices.now c.in_default.not-List) in
     record {
       found = found_as c.wrong_pattern.result _ _ v is c.wrong_pattern.ensures.found;
       walked = left_as c.wrong_pattern.result _ _ v _ is c.wrong_pattern.ensures.walked;
@@ -670,11 +634,10 @@ heads::match_list-returns-in_default t c =
 
 pub heads::match_first-returns-in-List : goal.heads::match_first-returns-in-List
 heads::match_first-returns-in-List t c =
-    let around = around_of c.args.around.now in
     let ps = map look c.args.parts.now in
     let i = c.args.indices.now in
     let v = seen c.args.walking.now in
-    let is = sym (first_met c.args.place ps around c.args.how i c.in-List.item c.get.result.now c.in-List.is c.get.ensures) in
+    let is = sym (first_met c.args.place ps (around_of c.args.around.now) c.args.how i c.in-List.item c.get.result.now c.in-List.is c.get.ensures) in
     record {
       found = found_as c.match_cons.result _ _ v is c.match_cons.ensures.found;
       walked = left_as c.match_cons.result _ _ v _ is c.match_cons.ensures.walked;
@@ -682,11 +645,8 @@ heads::match_first-returns-in-List t c =
 
 pub heads::match_first-returns-in_default : goal.heads::match_first-returns-in_default
 heads::match_first-returns-in_default t c =
-    let around = around_of c.args.around.now in
-    let ps = map look c.args.parts.now in
-    let i = c.args.indices.now in
     let v = seen c.args.walking.now in
-    let is = sym (not_first c.args.place ps around c.args.how i c.in_default.not-List) in
+    let is = sym (not_first c.args.place (map look c.args.parts.now) (around_of c.args.around.now) c.args.how c.args.indices.now c.in_default.not-List) in
     record {
       found = found_as c.wrong_pattern.result _ _ v is c.wrong_pattern.ensures.found;
       walked = left_as c.wrong_pattern.result _ _ v _ is c.wrong_pattern.ensures.walked;
@@ -694,20 +654,16 @@ heads::match_first-returns-in_default t c =
 
 pub heads::match_bits-returns-in-Bits : goal.heads::match_bits-returns-in-Bits
 heads::match_bits-returns-in-Bits t c =
-    let around = around_of c.args.around.now in
     let ps = map look c.args.parts.now in
-    let i = c.args.indices.now in
     let v = seen c.args.walking.now in
-    let is = sym (bits_met c.args.place ps around c.args.how i c.args.widths.now c.in-Bits.width c.in-Bits.is) in
+    let is = sym (bits_met c.args.place ps (around_of c.args.around.now) c.args.how c.args.indices.now c.args.widths.now c.in-Bits.width c.in-Bits.is) in
     record { found = found_as c.match_cut.result _ _ v is c.match_cut.ensures.found; walked = left_as c.match_cut.result _ _ v _ is c.match_cut.ensures.walked }
 
 pub heads::match_bits-returns-in_default : goal.heads::match_bits-returns-in_default
 heads::match_bits-returns-in_default t c =
-    let around = around_of c.args.around.now in
-    let ps = map look c.args.parts.now in
     let i = c.args.indices.now in
     let v = seen c.args.walking.now in
-    let is = sym (not_bits c.args.place ps around c.args.how i c.args.widths.now c.in_default.not-Bits) in
+    let is = sym (not_bits c.args.place (map look c.args.parts.now) (around_of c.args.around.now) c.args.how i c.args.widths.now c.in_default.not-Bits) in
     record {
       found = found_as c.wrong_pattern.result _ _ v is c.wrong_pattern.ensures.found;
       walked = left_as c.wrong_pattern.result _ _ v _ is c.wrong_pattern.ensures.walked;
@@ -715,11 +671,10 @@ heads::match_bits-returns-in_default t c =
 
 pub several::match_cut-returns : goal.several::match_cut-returns
 several::match_cut-returns t c =
-    let around = around_of c.args.around.now in
     let ps = map look c.args.parts.now in
     let v = seen c.args.walking.now in
     let known = c.as_slice.ensures ∙ c.in_ok-known.ensures in
-    let is = ap (λ (ws : List (Option (Option Num))). cut_met c.args.place ps around c.args.how ws c.args.width.now) known in
+    let is = ap (λ (ws : List (Option (Option Num))). cut_met c.args.place ps (around_of c.args.around.now) c.args.how ws c.args.width.now) known in
     record {
       found = found_as c.match_known.result _ _ v is c.match_known.ensures.found;
       walked = left_as c.match_known.result _ _ v _ is c.match_known.ensures.walked;
@@ -738,11 +693,9 @@ parts::match_given-returns t c =
     let was : w ≡ run taking v = c.in_ok-taken.ensures.walked ∙ ap (λ (n : Naming). run (taken_out c.args.place n r) v) c.in_ok-naming.ensures in
     let inner = p.match_with around (inside c.args.how) in
     let same = ap (λ (h : Matching). p.match_with around h x) c.inside.ensures in
-    let names = ap (λ (a : Walk (List Bound)). got a w) same ∙ then_got taking inner v w x is was in
-    let behind = ap (λ (a : Walk (List Bound)). run a w) same ∙ then_run taking inner v w x is was in
     record {
-      found = subst (λ (z : List Bound). IfOk c.match_pattern.result (λ found. found ≡ z)) names c.match_pattern.ensures.found;
-      walked = subst (λ (z : Written). OnOk c.match_pattern.result (seen c.match_pattern.new.walking ≡ z)) behind c.match_pattern.ensures.walked;
+      found = taken_found c.match_pattern.result taking inner _ v w x same is was c.match_pattern.ensures.found;
+      walked = taken_left c.match_pattern.result taking inner _ v w _ x same is was c.match_pattern.ensures.walked;
     }
 
 pub several::match_constructor-returns : goal.several::match_constructor-returns
@@ -760,28 +713,24 @@ several::match_constructor-returns t c =
     let whole = ap (λ (xs : List Reading). constructor_met c.args.place ps around c.args.how xs) rs in
     let same = ap inner c.as_slice-2.ensures in
     record {
-      found = subst (λ (z : List Bound). IfOk c.match_parts.result (λ found. found ≡ z)) (ap (λ (a : Walk (List Bound)). got a w) same
-          ∙ then_got taking inner v w c.in_ok-taken.taken c.in_ok-taken.ensures.taken c.in_ok-taken.ensures.walked
-          ∙ ap (λ (a : Walk (List Bound)). got a v) whole) c.match_parts.ensures.found;
-      walked = subst (λ (z : Written). OnOk c.match_parts.result (seen c.match_parts.new.walking ≡ z)) (ap (λ (a : Walk (List Bound)). run a w) same
-          ∙ then_run taking inner v w c.in_ok-taken.taken c.in_ok-taken.ensures.taken c.in_ok-taken.ensures.walked
-          ∙ ap (λ (a : Walk (List Bound)). run a v) whole) c.match_parts.ensures.walked;
+      found = found_as c.match_parts.result _ _ v whole (taken_found c.match_parts.result taking inner _ v w c.in_ok-taken.taken same
+          c.in_ok-taken.ensures.taken c.in_ok-taken.ensures.walked c.match_parts.ensures.found);
+      walked = left_as c.match_parts.result _ _ v _ whole (taken_left c.match_parts.result taking inner _ v w _ c.in_ok-taken.taken same
+          c.in_ok-taken.ensures.taken c.in_ok-taken.ensures.walked c.match_parts.ensures.walked);
     }
 
 pub several::match_cut_parts-returns : goal.several::match_cut_parts-returns
 several::match_cut_parts-returns t c =
-    let around = around_of c.args.around.now in
-    let ps = map look c.args.parts.now in
     let v = seen c.args.walking.now in
     let w = seen c.cut_widths.new.walking in
     let widths = each (cut_width c.args.place c.args.rest.now) c.args.known.now in
-    let inner = parts_match c.args.place ps around c.args.how in
+    let inner = parts_match c.args.place (map look c.args.parts.now) (around_of c.args.around.now) c.args.how in
     let same = ap inner c.as_slice.ensures in
     record {
-      found = subst (λ (z : List Bound). IfOk c.match_parts.result (λ found. found ≡ z)) (ap (λ (a : Walk (List Bound)). got a w) same
-          ∙ then_got widths inner v w c.in_ok-values.values c.in_ok-values.ensures.made c.in_ok-values.ensures.walked) c.match_parts.ensures.found;
-      walked = subst (λ (z : Written). OnOk c.match_parts.result (seen c.match_parts.new.walking ≡ z)) (ap (λ (a : Walk (List Bound)). run a w) same
-          ∙ then_run widths inner v w c.in_ok-values.values c.in_ok-values.ensures.made c.in_ok-values.ensures.walked) c.match_parts.ensures.walked;
+      found = taken_found c.match_parts.result widths inner _ v w c.in_ok-values.values same c.in_ok-values.ensures.made c.in_ok-values.ensures.walked
+          c.match_parts.ensures.found;
+      walked = taken_left c.match_parts.result widths inner _ v w _ c.in_ok-values.values same c.in_ok-values.ensures.made c.in_ok-values.ensures.walked
+          c.match_parts.ensures.walked;
     }
 
 pub several::match_each-returns-in-None : goal.several::match_each-returns-in-None
@@ -802,10 +751,9 @@ several::match_each-returns-in-None t c =
 
 pub several::match_each-returns-then-count-wanted : goal.several::match_each-returns-then-count-wanted
 several::match_each-returns-then-count-wanted t c =
-    let around = around_of c.args.around.now in
     let k = c.loop-index.index in
     let v = seen c.loop-index.walking in
-    let end = parts_long c.args.place c.args.parts.now c.args.values.now around c.args.how k (omega arith) (omega arith) in
+    let end = parts_long c.args.place c.args.parts.now c.args.values.now (around_of c.args.around.now) c.args.how k (omega arith) (omega arith) in
     let wrong = wrong_pattern c.args.place in
     let names = ended_got c.loop-index.found _ wrong v _ end (wrong_got c.args.place v) c.loop-index.invariant.found in
     let walked = ap (λ (a : Walk (List Bound)). run a v) (sym end) ∙ c.loop-index.invariant.walked in
@@ -817,10 +765,9 @@ several::match_each-returns-then-count-wanted t c =
 
 pub several::match_each-returns-else-count-wanted : goal.several::match_each-returns-else-count-wanted
 several::match_each-returns-else-count-wanted t c =
-    let around = around_of c.args.around.now in
     let k = c.loop-index.index in
     let v = seen c.loop-index.walking in
-    let end = parts_end c.args.place c.args.parts.now c.args.values.now around c.args.how k (omega arith) (omega arith) in
+    let end = parts_end c.args.place c.args.parts.now c.args.values.now (around_of c.args.around.now) c.args.how k (omega arith) (omega arith) in
     record {
       found = ended_got c.loop-index.found _ no_names v _ end (got_give [] v) c.loop-index.invariant.found;
       walked = sym (run_give {A = List Bound} [] v) ∙ ap (λ (a : Walk (List Bound)). run a v) (sym end) ∙ c.loop-index.invariant.walked;
@@ -838,9 +785,8 @@ several::match_items-returns t c =
 
 pub several::match_never-returns : goal.several::match_never-returns
 several::match_never-returns t c =
-    let around = around_of c.args.around.now in
     let v = seen c.loop-part.walking in
-    let end = never_end c.args.parts.now around c.args.how c.loop-part.part-index c.loop-part-test.false in
+    let end = never_end c.args.parts.now (around_of c.args.around.now) c.args.how c.loop-part.part-index c.loop-part-test.false in
     record {
       found = ended_got c.loop-part.found _ no_names v _ end (got_give [] v) c.loop-part.invariant.found;
       walked = sym (run_give {A = List Bound} [] v) ∙ ap (λ (a : Walk (List Bound)). run a v) (sym end) ∙ c.loop-part.invariant.walked;
