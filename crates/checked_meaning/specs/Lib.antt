@@ -1,4 +1,5 @@
 pub mod Items
+pub mod Fits
 pub mod Checked
 pub mod Alike
 pub mod Laws

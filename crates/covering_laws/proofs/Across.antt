@@ -36,7 +36,7 @@ use Rattle.sized_trees.specs.declared.trees.NodeSizes.{NodeSizes}
 use Rattle.sized_trees.specs.declared.trees.SizedCore.{SizedCore}
 use Rattle.sized_trees.specs.Bodies.{sized_body}
 use Rattle.sized_trees.specs.Trees.{sized_list}
-use Rattle.sized_meanings.specs.Fits.{has_sizes}
+use Rattle.checked_meaning.specs.Fits.{has_sizes}
 use Rattle.sized_meanings.specs.Sized.{cases_of, checks_of, or_none, taken}
 use Rattle.met_notes.specs.Met.{pairs}
 use Rattle.soundness_steps.specs.Works.{Setting, nobody}
@@ -70,13 +70,14 @@ nothing_assigned past g = λ j. record {
 
 module _ (types : Types) (past : Positive) (t : Typ) (tested : bare_tested types t ≡ true) where
   abbrev parts : (sized_eq (fixed_typ types t) (reading_sized types [] (known_at nothing_known) (bare_type t)) ≡ true)
-      × ((reading_passes types (known_at nothing_known) (bare_type t) && reading_settles types (known_at nothing_known) (bare_type t)) ≡ true)
+      × ((reading_passes types 0 (known_at nothing_known) (bare_type t) && reading_settles types 0 (known_at nothing_known) (bare_type t)) ≡ true)
   parts =
       and_parts (sized_eq (fixed_typ types t) (reading_sized types [] (known_at nothing_known) (bare_type t)))
-      (reading_passes types (known_at nothing_known) (bare_type t) && reading_settles types (known_at nothing_known) (bare_type t)) tested
+      (reading_passes types 0 (known_at nothing_known) (bare_type t) && reading_settles types 0 (known_at nothing_known) (bare_type t)) tested
 
-  abbrev sizes : (reading_passes types (known_at nothing_known) (bare_type t) ≡ true) × (reading_settles types (known_at nothing_known) (bare_type t) ≡ true)
-  sizes = and_parts (reading_passes types (known_at nothing_known) (bare_type t)) (reading_settles types (known_at nothing_known) (bare_type t)) parts.1
+  abbrev sizes : (reading_passes types 0 (known_at nothing_known) (bare_type t) ≡ true)
+      × (reading_settles types 0 (known_at nothing_known) (bare_type t) ≡ true)
+  sizes = and_parts (reading_passes types 0 (known_at nothing_known) (bare_type t)) (reading_settles types 0 (known_at nothing_known) (bare_type t)) parts.1
 
   nothing_more : (g : Integers) → More (known_at nothing_known) (known g)
   nothing_more g i z h = none h
@@ -87,13 +88,13 @@ module _ (types : Types) (past : Positive) (t : Typ) (tested : bare_tested types
   bare_is : (g : Integers) → fixed_typ types t ≡ reading_sized types [] (known g) (bare_type t)
   bare_is g =
       sized_same (fixed_typ types t) (reading_sized types [] (known_at nothing_known) (bare_type t)) parts.0
-      ∙ (sizes_stand types [] (known_at nothing_known) (known g) (nothing_more g)).1 (bare_type t) sizes.0
+      ∙ (sizes_stand types [] 0 (known_at nothing_known) (known g) (nothing_more g)).1 (bare_type t) sizes.0
 
   pub bare_fits : (v : Value) → belongs types v (reading t (nothing_stands past) no_readings) ≡ true → has_sizes types v (fixed_typ types t) ≡ true
   bare_fits v b =
       let g : Integers = λ i. pos 0 in
       ap (has_sizes types v) (bare_is g)
-      ∙ (values_fit types past g [] [] (known_at nothing_known) (nothing_stands_for g)).1 (bare_type t) v sizes.0
+      ∙ (values_fit types past g [] [] tt (known_at nothing_known) (nothing_stands_for g)).1 (bare_type t) v sizes.0
       (ap (belongs types v) (closed_is types (standing past g) [] (bare_type t) (W.Of t [] []) (R.rolls-Of t [] [])
       ∙ ap (λ nu. reading t nu no_readings) (nothing_assigned past g)) ∙ b)
 
@@ -101,7 +102,7 @@ module _ (types : Types) (past : Positive) (t : Typ) (tested : bare_tested types
   bare_opens g v = record {
     each = λ tells name facts n had. bare_is g
         ∙ sym (opening_keeps_sizes types [] (known g) (bare_type t)
-        (types_settle types [] g (known_at nothing_known) (nothing_stands_for g) (bare_type t) sizes.1) tells name facts n);
+        (types_settle types [] 0 g (known_at nothing_known) (nothing_stands_for g) (bare_type t) sizes.1) tells name facts n);
   }
 
 -- ---- directions, two of a mapping
@@ -279,7 +280,7 @@ module _ (core : CoreModel) (past : Positive) (hart : ℕ) (rank : ℕ → ℕ) 
 
   pub model_is_read : events_tested core c ≡ true → ModelIsRead core past hart rank c
   model_is_read events = record {
-    functions = λ x f covered e. function_is_read core past hart list halves.0 x f covered e;
+    functions = λ x f covered own e. function_is_read core past hart list halves.0 x f covered own e;
     directions = direction_read;
     openings = opening_is_read;
     step = (and_parts (covered_by c (entered_by core.step)) (covered_by c (entered_by core.reset)) events).0;

@@ -28,10 +28,10 @@ each_there P [] h = tt
 each_there P (n ∷ ns) h = (h n (inl refl), each_there P ns (λ m i. h m (inr i)))
 
 pub bodies_are_met : BodiesAreMet
-bodies_are_met set x sizing zs awaits list instances reached placed covers bs h b i =
+bodies_are_met set x sizing zs awaits list instances reached placed covers own_fit bs h b i =
     let ys = all_noted bs in
     let nodes = all_nodes set.around.types sizing zs x.own list ys in
     let p = and_parts (are_apart ys) (list_all (noted_tested set.around.types sizing zs x.own reached list nodes) ys) h in
     each_there (OfOthers (IsMet set x reached (cases_of set.around.types instances nodes))) b.notes (λ n k.
-    note_met set x sizing zs awaits list instances reached placed covers ys p.0 b n (noted_there bs b n i k)
+    note_met set x sizing zs awaits list instances reached placed covers own_fit ys p.0 b n (noted_there bs b n i k)
     (all_in (noted_tested set.around.types sizing zs x.own reached list nodes) ys (note_in b n) p.1 (noted_there bs b n i k)))

@@ -24,7 +24,7 @@ use Rattle.size_values.specs.Numbers.{known_of, number_in, or_open}
 use Rattle.size_values.specs.Sized.{reading_sized, sized_eq}
 use Rattle.size_laws.proofs.Opening.{opening_keeps_sizes}
 use Rattle.sized_trees.specs.Trees.{all_sized_for, constants_of, sized_for}
-use Rattle.sized_meanings.specs.Fits.{all_have_sizes, has_sizes}
+use Rattle.checked_meaning.specs.Fits.{AllFit, all_have_sizes, has_sizes}
 use Rattle.soundness_steps.specs.Works.{Setting, Work}
 use Rattle.soundness_steps.specs.Noted.{OpensAs, known}
 use Rattle.soundness_steps.specs.Calls.{AllBelong, given_of, givens_at}
@@ -82,27 +82,30 @@ module _ (types : Types) (past : Positive) (x : Work) (f : Function) (zs : List 
 
   abbrev parts : (t : Typ) → parameter_tested types zs x.own f t ≡ true
       → (sized_eq (sized_for types x.own (constants_of zs) t) (reading_sized types x.own (known_in zs) (own_type f t)) ≡ true)
-      × ((reading_passes types (known_in zs) (own_type f t) && reading_settles types (known_in zs) (own_type f t)) ≡ true)
+      × ((reading_passes types (length x.own) (known_in zs) (own_type f t) && reading_settles types (length x.own) (known_in zs) (own_type f t)) ≡ true)
   parts t p =
       and_parts (sized_eq (sized_for types x.own (constants_of zs) t) (reading_sized types x.own (known_in zs) (own_type f t)))
-      (reading_passes types (known_in zs) (own_type f t) && reading_settles types (known_in zs) (own_type f t)) p
+      (reading_passes types (length x.own) (known_in zs) (own_type f t) && reading_settles types (length x.own) (known_in zs) (own_type f t)) p
 
   abbrev sizes : (t : Typ) → parameter_tested types zs x.own f t ≡ true
-      → (reading_passes types (known_in zs) (own_type f t) ≡ true) × (reading_settles types (known_in zs) (own_type f t) ≡ true)
-  sizes t p = and_parts (reading_passes types (known_in zs) (own_type f t)) (reading_settles types (known_in zs) (own_type f t)) (parts t p).1
+      → (reading_passes types (length x.own) (known_in zs) (own_type f t) ≡ true)
+      × (reading_settles types (length x.own) (known_in zs) (own_type f t) ≡ true)
+  sizes t p =
+      and_parts (reading_passes types (length x.own) (known_in zs) (own_type f t)) (reading_settles types (length x.own) (known_in zs) (own_type f t))
+      (parts t p).1
 
   -- the type of the signature is the type of the walk
   typ_is : (g : Integers) → OwnSame f h g → (t : Typ) → parameter_tested types zs x.own f t ≡ true
       → sized_for types x.own (constants_of zs) t ≡ reading_sized types x.own (known g) (own_type f t)
   typ_is g same t p =
       sized_same (sized_for types x.own (constants_of zs) t) (reading_sized types x.own (known_in zs) (own_type f t)) (parts t p).0
-      ∙ (sizes_stand types x.own (known_in zs) (known g) (more_known g same)).1 (own_type f t) (sizes t p).0
+      ∙ (sizes_stand types x.own (length x.own) (known_in zs) (known g) (more_known g same)).1 (own_type f t) (sizes t p).0
 
-  one_fits : (t : Typ) → parameter_tested types zs x.own f t ≡ true → (v : Value)
+  one_fits : AllFit types x.types x.own → (t : Typ) → parameter_tested types zs x.own f t ≡ true → (v : Value)
       → belongs types v (over (assigned (standing past h) (own_of f)) t x.types) ≡ true → has_sizes types v (sized_for types x.own (constants_of zs) t) ≡ true
-  one_fits t p v b =
+  one_fits fit t p v b =
       ap (has_sizes types v) (typ_is h here_same t p)
-      ∙ (values_fit types past h x.types x.own (known_in zs) (own_stands h here_same)).1 (own_type f t) v (sizes t p).0
+      ∙ (values_fit types past h x.types x.own fit (known_in zs) (own_stands h here_same)).1 (own_type f t) v (sizes t p).0
       (ap (belongs types v) (closed_is types (standing past h) x.types (own_type f t) (W.Of t (own_of f) []) (R.rolls-Of t (own_of f) [])) ∙ b)
 
   pub one_opens : (g : Integers) → OwnSame f h g → (t : Typ) → parameter_tested types zs x.own f t ≡ true → (v : Value)
@@ -110,19 +113,19 @@ module _ (types : Types) (past : Positive) (x : Work) (f : Function) (zs : List 
   one_opens g same t p v = record {
     each = λ tells name facts n had. typ_is g same t p
         ∙ sym (opening_keeps_sizes types x.own (known g) (own_type f t)
-        (types_settle types x.own g (known_in zs) (own_stands g same) (own_type f t) (sizes t p).1) tells name facts n);
+        (types_settle types x.own (length x.own) g (known_in zs) (own_stands g same) (own_type f t) (sizes t p).1) tells name facts n);
   }
 
-  pub all_fit_in : (ts : List Typ) → list_all (parameter_tested types zs x.own f) ts ≡ true → (vs : List Value)
+  pub all_fit_in : AllFit types x.types x.own → (ts : List Typ) → list_all (parameter_tested types zs x.own f) ts ≡ true → (vs : List Value)
       → AllBelong types (assigned (standing past h) (own_of f)) x.types ts vs
       → all_have_sizes types vs (all_sized_for types x.own (constants_of zs) ts) ≡ true
-  all_fit_in [] p [] b = refl
-  all_fit_in [] p (v ∷ vs) b = absurd b
-  all_fit_in (t ∷ ts) p [] b = absurd b
-  all_fit_in (t ∷ ts) p (v ∷ vs) b =
+  all_fit_in fit [] p [] b = refl
+  all_fit_in fit [] p (v ∷ vs) b = absurd b
+  all_fit_in fit (t ∷ ts) p [] b = absurd b
+  all_fit_in fit (t ∷ ts) p (v ∷ vs) b =
       let q = and_parts (parameter_tested types zs x.own f t) (list_all (parameter_tested types zs x.own f) ts) p in
       two (has_sizes types v (sized_for types x.own (constants_of zs) t)) (all_have_sizes types vs (all_sized_for types x.own (constants_of zs) ts))
-      (one_fits t q.0 v b.0) (all_fit_in ts q.1 vs b.1)
+      (one_fits fit t q.0 v b.0) (all_fit_in fit ts q.1 vs b.1)
 
 -- each in a setting of these types
 pub all_made_in : (set : Setting) (types : Types) → set.around.types ≡ types → (x : Work) (f : Function) (zs : List (Option ℤ)) (h : Integers)

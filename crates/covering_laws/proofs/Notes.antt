@@ -27,7 +27,7 @@ use Rattle.value_indices.specs.declared.notes.Fact.{Fact}
 use Rattle.value_indices.specs.declared.notes.Fact.TheVariants as Y
 use Rattle.value_indices.specs.declared.notes.Made.{Made}
 use Rattle.value_indices.specs.declared.notes.Made.TheVariants as Makes
-use Rattle.value_laws.specs.Belonging.{Integers, standing}
+use Rattle.value_laws.specs.Belonging.{Integers, closed, standing}
 use Rattle.value_laws.specs.Known.{AllTrue, given_in}
 use Rattle.value_laws.proofs.Basics.{no, two}
 use Rattle.size_values.specs.declared.constants.Constant.{Constant}
@@ -60,7 +60,7 @@ use Rattle.sized_trees.specs.Cases.{made_sized, one_or_none, place_in}
 use Rattle.sized_trees.specs.Combinations.{combinations_at, is_given}
 use Rattle.sized_trees.specs.Laws.{Each}
 use Rattle.sized_trees.proofs.Each.{each_append}
-use Rattle.sized_meanings.specs.Fits.{has_sizes}
+use Rattle.checked_meaning.specs.Fits.{AllFit, has_sizes}
 use Rattle.sized_meanings.specs.Noting.{noted_by_all, noted_by_each}
 use Rattle.sized_meanings.specs.Present.{first_in, gives_at, gives_in, if_at, present_case, present_lead}
 use Rattle.sized_meanings.specs.Sized.{awaited_at, cases_of, led_by, led_in, made_in, makes_in, numbers_of}
@@ -163,7 +163,8 @@ module _ (set : Setting) (x : Work) (sizing : Sizing) (zs : List (Option ℤ)) (
     (list : List Instance) (instances : List SizedInstance) (reached : ℕ → Bool)
     (placed : (i : ℕ) (y : Instance) → slice_get list i ≡ Some y → (s : SizedInstance) × (slice_get instances i ≡ Some s) × (s.instance ≡ y))
     (covers : (p : ℕ) (s : SizedInstance) (y : Work) → slice_get instances p ≡ Some s → s.instance.function ≡ y.function
-    → y.instance ≡ record { place = p; numbers = numbers_of s.instance } → all_eq y.own s.instance.types ≡ true → set.covered y ≡ true) where
+    → y.instance ≡ record { place = p; numbers = numbers_of s.instance } → all_eq y.own s.instance.types ≡ true → set.covered y ≡ true)
+    (own_fit : AllFit set.around.types x.types x.own) where
   abbrev types : Types
   types = set.around.types
 
@@ -184,13 +185,13 @@ module _ (set : Setting) (x : Work) (sizing : Sizing) (zs : List (Option ℤ)) (
   more_there of f stands i z h = ap (λ (y : ℤ). Some y) (stands i z h)
 
   -- types under what is taken are those under all integers
-  value_same : (of : ℕ → Constant) (f : Integers) → Stands of f → (i : Indices) → value_passes types of i ≡ true
+  value_same : (of : ℕ → Constant) (f : Integers) → Stands of f → (i : Indices) → value_passes types (length x.own) of i ≡ true
       → value_sized types x.own of i ≡ sized types x.own f i
-  value_same of f stands i h = (sizes_stand types x.own of (known f) (more_there of f stands)).0 i h
+  value_same of f stands i h = (sizes_stand types x.own (length x.own) of (known f) (more_there of f stands)).0 i h
 
-  type_same : (of : ℕ → Constant) (f : Integers) → Stands of f → (q : Reading) → reading_passes types of q ≡ true
+  type_same : (of : ℕ → Constant) (f : Integers) → Stands of f → (q : Reading) → reading_passes types (length x.own) of q ≡ true
       → reading_sized types x.own of q ≡ type_sized types x.own f q
-  type_same of f stands q h = (sizes_stand types x.own of (known f) (more_there of f stands)).1 q h
+  type_same of f stands q h = (sizes_stand types x.own (length x.own) of (known f) (more_there of f stands)).1 q h
 
   operands_same : (b : Body) (f : Integers) (ps : List Picked) → Stands (under (inside_of b) ps) f → (is : List Indices) (ss : List Sized)
       → values_pass (inside_of b) ps is ≡ true → AreSized set x f is ss → all_sized_under (inside_of b) ps is ≡ ss
@@ -198,7 +199,7 @@ module _ (set : Setting) (x : Work) (sizing : Sizing) (zs : List (Option ℤ)) (
   operands_same b f ps stands [] (s ∷ ss) h a = absurd a
   operands_same b f ps stands (i ∷ is) [] h a = absurd a
   operands_same b f ps stands (i ∷ is) (s ∷ ss) h a =
-      let p = and_parts (value_passes types (under (inside_of b) ps) i) (values_pass (inside_of b) ps is) h in
+      let p = and_parts (value_passes types (length x.own) (under (inside_of b) ps) i) (values_pass (inside_of b) ps is) h in
       let one : value_sized types x.own (under (inside_of b) ps) i ≡ s = value_same (under (inside_of b) ps) f stands i p.0 ∙ sym a.0 in
       let rest = operands_same b f ps stands is ss p.1 a.1 in
       λ j. one j ∷ rest j
@@ -239,7 +240,7 @@ module _ (set : Setting) (x : Work) (sizing : Sizing) (zs : List (Option ℤ)) (
   made_fits : (b : Body) (f : Integers) (ps : List Picked) → Stands (under (inside_of b) ps) f → (made : Made) → size_passes (inside_of b) made ps ≡ true
       → SizesFit types x.own set.past f made
   made_fits b f ps stands (Makes.ByIndices i) h = form_fits (under (inside_of b) ps) f stands (out-Indices i) h
-  made_fits b f ps stands (Makes.ByType q) h = types_settle types x.own f (under (inside_of b) ps) stands q h
+  made_fits b f ps stands (Makes.ByType q) h = types_settle types x.own (length x.own) f (under (inside_of b) ps) stands q h
 
   size_met : (b : Body) (facts : List Fact) (made : Made)
       → list_all (size_passes (inside_of b) made) (counted (known_of zs) (inside_of b).split facts []) ≡ true
@@ -337,10 +338,10 @@ module _ (set : Setting) (x : Work) (sizing : Sizing) (zs : List (Option ℤ)) (
   made_right b f ps stands (Makes.ByIndices i) v h = value_same (under (inside_of b) ps) f stands i h
   made_right b f ps stands (Makes.ByType q) v h =
       let of = under (inside_of b) ps in
-      let p = and_parts (reading_passes types of q) (reading_settles types of q) h in
+      let p = and_parts (reading_passes types (length x.own) of q) (reading_settles types (length x.own) of q) h in
       record {
         each = λ tells name facts n had. type_same of f stands q p.0
-            ∙ sym (opening_keeps_sizes types x.own (known f) q (types_settle types x.own f of stands q p.1) tells name facts n);
+            ∙ sym (opening_keeps_sizes types x.own (known f) q (types_settle types x.own (length x.own) f of stands q p.1) tells name facts n);
       }
 
   made_has : (b : Body) (f : Integers) (ps : List Picked) → Stands (under (inside_of b) ps) f → (made : Made) (v : Value)
@@ -348,11 +349,11 @@ module _ (set : Setting) (x : Work) (sizing : Sizing) (zs : List (Option ℤ)) (
       → has_sizes types v (made_sized (inside_of b) ps made) ≡ true
   made_has b f ps stands (Makes.ByIndices i) v h is =
       let of = under (inside_of b) ps in
-      ap (has_sizes types v) (value_same of f stands i h) ∙ (values_fit types set.past f x.types x.own of stands).0 i v h is
+      ap (has_sizes types v) (value_same of f stands i h) ∙ (values_fit types set.past f x.types x.own own_fit of stands).0 i v h is
   made_has b f ps stands (Makes.ByType q) v h is =
       let of = under (inside_of b) ps in
-      let p = and_parts (reading_passes types of q) (reading_settles types of q) h in
-      ap (has_sizes types v) (type_same of f stands q p.0) ∙ (values_fit types set.past f x.types x.own of stands).1 q v p.0 is
+      let p = and_parts (reading_passes types (length x.own) of q) (reading_settles types (length x.own) of q) h in
+      ap (has_sizes types v) (type_same of f stands q p.0) ∙ (values_fit types set.past f x.types x.own own_fit of stands).1 q v p.0 is
 
   -- ---- where a call leads
 
@@ -457,10 +458,20 @@ module _ (set : Setting) (x : Work) (sizing : Sizing) (zs : List (Option ℤ)) (
       → readings_pass (inside_of b) ps qs ≡ true → map (reading_sized types x.own (under (inside_of b) ps)) qs ≡ map (type_sized types x.own f) qs
   readings_same b f ps stands [] h = refl
   readings_same b f ps stands (q ∷ qs) h =
-      let p = and_parts (reading_passes types (under (inside_of b) ps) q) (readings_pass (inside_of b) ps qs) h in
+      let p = and_parts (reading_passes types (length x.own) (under (inside_of b) ps) q) (readings_pass (inside_of b) ps qs) h in
       let one = type_same (under (inside_of b) ps) f stands q p.0 in
       let rest = readings_same b f ps stands qs p.1 in
       λ j. one j ∷ rest j
+
+  -- values of what is given to Type variables
+  given_fit : (b : Body) (f : Integers) (ps : List Picked) → Stands (under (inside_of b) ps) f → (qs : List Reading)
+      → readings_pass (inside_of b) ps qs ≡ true
+      → AllFit types (map (closed types (standing set.past f) x.types) qs) (map (type_sized types x.own f) qs)
+  given_fit b f ps stands [] h = tt
+  given_fit b f ps stands (q ∷ qs) h =
+      let of = under (inside_of b) ps in
+      let p = and_parts (reading_passes types (length x.own) of q) (readings_pass (inside_of b) ps qs) h in
+      (λ v is. (values_fit types set.past f x.types x.own own_fit of stands).1 q v p.0 is, given_fit b f ps stands qs p.1)
 
   -- ---- what is said of the numbers that a node gives
 
@@ -563,6 +574,7 @@ module _ (set : Setting) (x : Work) (sizing : Sizing) (zs : List (Option ℤ)) (
           agree = subst (λ ns. AllAgree set.past f (map (option_map an_int) ns) js) numbers (numbers_given of f stands (flags_of r.sizing g) js q.1);
           is_covered = λ ts. covers led.place s.0
               (work_of g awaited (map (type_sized types x.own f) qs) ts) s.1 function (refl {a = awaited}) owns;
+          own_fit = given_fit b f at.picked stands qs q.0;
         }
 
     call_met : (b : Body) (facts : List Fact) (place : Place) (k : ℕ) (operands : List Indices) (callee : Callee) (js : List Index) (qs : List Reading)

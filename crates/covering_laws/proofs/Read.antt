@@ -34,7 +34,7 @@ use Rattle.sized_trees.specs.declared.trees.SizedCore.{SizedCore}
 use Rattle.sized_trees.specs.Bodies.{sized_body}
 use Rattle.sized_trees.specs.Trees.{all_sized_for, constants_of, sized_instance, sized_list, signature_of, signature_within}
 use Rattle.sized_trees.specs.Trees as Trees
-use Rattle.sized_meanings.specs.Fits.{all_have_sizes}
+use Rattle.checked_meaning.specs.Fits.{AllFit, all_have_sizes}
 use Rattle.sized_meanings.specs.Sized.{cases_of, checks_of, entered, entering, joined_nodes, nodes_for, numbers_of, signature_for}
 use Rattle.soundness_steps.specs.Works.{Work, nobody}
 use Rattle.soundness_steps.specs.Calls.{Enters, AllBelong, givens_at, inside}
@@ -76,14 +76,16 @@ module _ (core : CoreModel) (past : Positive) (hart : ℕ) (list : List Instance
   same_types = types_kept core [] core.openings
 
   -- bodies that are read together
-  pub read_in : (x : Work) (zs : List (Option ℤ)) → x.instance.numbers ≡ map (option_map an_int) zs → (reached : ℕ → Bool) (bs : List Body)
+  pub read_in : (x : Work) → AllFit around.types x.types x.own → (zs : List (Option ℤ)) → x.instance.numbers ≡ map (option_map an_int) zs
+      → (reached : ℕ → Bool) (bs : List Body)
       → bodies_tested core.types model.sizing zs x.own reached list bs ≡ true → (b : Body) → IsIn b bs
       → AreRead (setting_of core past hart sized) x reached
       (cases_of core.types sized.instances (all_nodes core.types model.sizing zs x.own list (all_noted bs))) b.notes
-  read_in x zs awaits reached bs h b i =
+  read_in x own_fit zs awaits reached bs h b i =
       subst (λ (ty : Types). AreRead (setting_of core past hart sized) x reached
       (cases_of ty sized.instances (all_nodes ty model.sizing zs x.own list (all_noted bs))) b.notes) same_types
-      (bodies_are_met (setting_of core past hart sized) x model.sizing zs awaits list sized.instances reached (placed_there model list) (covered_at sized) bs
+      (bodies_are_met (setting_of core past hart sized) x model.sizing zs awaits list sized.instances reached (placed_there model list) (covered_at sized)
+      own_fit bs
       (subst (λ (ty : Types). bodies_tested ty model.sizing zs x.own reached list bs ≡ true) (sym same_types) h) b i)
 
   -- ---- functions
@@ -99,7 +101,7 @@ module _ (core : CoreModel) (past : Positive) (hart : ℕ) (list : List Instance
       (same : s ≡ sized_instance model list y) (function : s.instance.function ≡ x.function) (numbers : numbers_of s.instance ≡ x.instance.numbers)
       (owns : x.own ≡ s.instance.types)
       (entered_there : (nu : Givens) → all_agree x.instance.numbers nu ≡ true → entered sized.instances x.function x.instance.place nu ≡ Some s)
-      (tested : instance_tested model list y ≡ true) where
+      (tested : instance_tested model list y ≡ true) (own_fit : AllFit around.types x.types x.own) where
     instance_is : s.instance ≡ y
     instance_is = ap (λ (z : SizedInstance). z.instance) same
 
@@ -142,7 +144,7 @@ module _ (core : CoreModel) (past : Positive) (hart : ℕ) (list : List Instance
         → AreRead (setting_of core past hart sized) x all_reached ((checks_of core sized).function x.function x.instance.place nu) b.notes
     one_read nu a b i =
         subst (λ (l : List NodeSizes). AreRead (setting_of core past hart sized) x all_reached (cases_of core.types sized.instances l) b.notes)
-        (sym (nodes_are nu a)) (read_in x y.numbers awaits all_reached (function_bodies around f) bodies_pass b i)
+        (sym (nodes_are nu a)) (read_in x own_fit y.numbers awaits all_reached (function_bodies around f) bodies_pass b i)
 
     signature_passes : (signature_within core.types (constants_of y.numbers) f ≡ true)
         × (list_all (parameter_tested core.types y.numbers y.types f) f.parameters ≡ true)
@@ -168,11 +170,13 @@ module _ (core : CoreModel) (past : Positive) (hart : ℕ) (list : List Instance
         subst (λ ns. all_agree ns (givens_at h 0 f.variables) ≡ true) awaits e.awaited in
         let b : AllBelong core.types (inside (setting_of core past hart sized) f h) x.types f.parameters vs =
         subst (λ (ty : Types). AllBelong ty (inside (setting_of core past hart sized) f h) x.types f.parameters vs) same_types e.belong in
+        let fit : AllFit core.types x.types x.own = subst (λ (ty : Types). AllFit ty x.types x.own) same_types own_fit in
         record {
           sizes = ss;
           is_there = ap (λ (o : Option SizedInstance). and_then (signature_for o) (entering core.types vs)) (entered_there (givens_at h 0 f.variables) e.awaited)
               ∙ ap (λ (o : Option Signature). and_then o (entering core.types vs)) signature_is
-              ∙ only_so (all_have_sizes core.types vs ss) ss (all_fit_in core.types past x f y.numbers h a f.parameters parameters_pass vs b);
+              ∙ only_so (all_have_sizes core.types vs ss) ss
+              (all_fit_in core.types past x f y.numbers h a fit f.parameters parameters_pass vs b);
           are_right = λ g own. all_made_in (setting_of core past hart sized) core.types same_types x f y.numbers h a g own f.parameters parameters_pass vs b;
         }
 
@@ -187,14 +191,15 @@ module _ (core : CoreModel) (past : Positive) (hart : ℕ) (list : List Instance
     }
 
   pub function_is_read : list_all (instance_tested model list) list ≡ true → (x : Work) (f : Function) → covered_by sized x ≡ true
-      → slice_get core.functions x.function ≡ Some f → FunctionIsRead (setting_of core past hart sized) core (checks_of core sized) x f
-  function_is_read h x f c here =
+      → AllFit around.types x.types x.own → slice_get core.functions x.function ≡ Some f
+      → FunctionIsRead (setting_of core past hart sized) core (checks_of core sized) x f
+  function_is_read h x f c own_fit here =
       let found = some_there (at_work sized.instances x) c in
       let s = found.0 in
       let w = working sized.instances x s found.1 in
       let y = mapped_there (sized_instance model list) list s w.is_in in
       one_is_read x f here s y.0 y.1 y.2 (function_is x s w.is) (awaited_are x s w.is) (all_same x.own s.instance.types (types_are x s w.is)) w.entered_there
-      (all_in (instance_tested model list) list y.0 h y.1)
+      (all_in (instance_tested model list) list y.0 h y.1) own_fit
 
   -- ---- bodies of no function
 
@@ -205,4 +210,4 @@ module _ (core : CoreModel) (past : Positive) (hart : ℕ) (list : List Instance
       → AreRead (setting_of core past hart sized) nobody reached (cases_of core.types sized.instances (sized_body model list [] [] b)) b.notes
   alone_read reached b h =
       subst (λ (l : List NodeSizes). AreRead (setting_of core past hart sized) nobody reached (cases_of core.types sized.instances l) b.notes)
-      (sym (alone_there b)) (read_in nobody [] refl reached (b ∷ []) h b (inl refl))
+      (sym (alone_there b)) (read_in nobody tt [] refl reached (b ∷ []) h b (inl refl))

@@ -1,5 +1,5 @@
 -- Which functions at work are covered by the instances of a model, what is tested of an accepted list, and what it gives.
-use Rattle.std.specs.Prelude.{◌≡◌, ◌*◌, ℕ, zero, suc, ℤ, nat_eq, Bool, true, false, ◌&&◌, List, [], ◌∷◌, map, slice_get}
+use Rattle.std.specs.Prelude.{◌≡◌, ◌*◌, ℕ, zero, suc, ℤ, nat_eq, Bool, true, false, ◌&&◌, List, [], ◌∷◌, length, map, slice_get}
 use Rattle.std.specs.Prelude.{Option, Some, None, Ok, is_some, if◌then◌else◌}
 use Rattle.std.specs.List.{list_all}
 use Rattle.sail_types.specs.Numbers.{Positive}
@@ -26,6 +26,7 @@ use Rattle.monomorph.specs.declared.found.Instance.{Instance}
 use Rattle.monomorph.specs.Instances.{model_of, or_none}
 use Rattle.monomorph.specs.Lasts.{Model}
 use Rattle.checked_meaning.specs.Checked.{Cases, Checks}
+use Rattle.checked_meaning.specs.Fits.{AllFit}
 use Rattle.checked_meaning.specs.Items.{fixed_typ}
 use Rattle.value_laws.specs.Belonging.{Integers}
 use Rattle.sized_trees.specs.declared.trees.SizedInstance.{SizedInstance}
@@ -87,7 +88,7 @@ known_in zs = known_at (known_of zs)
 abbrev pub parameter_tested : Types → List (Option ℤ) → List Sized → Function → Typ → Bool
 parameter_tested types zs own f t =
     sized_eq (sized_for types own (constants_of zs) t) (reading_sized types own (known_in zs) (own_type f t))
-    && (reading_passes types (known_in zs) (own_type f t) && reading_settles types (known_in zs) (own_type f t))
+    && (reading_passes types (length own) (known_in zs) (own_type f t) && reading_settles types (length own) (known_in zs) (own_type f t))
 
 abbrev pub function_tested : Types → Instance → Option Function → Bool
 function_tested types y None = true
@@ -104,7 +105,7 @@ instance_tested m list y =
 abbrev pub bare_tested : Types → Typ → Bool
 bare_tested types t =
     sized_eq (fixed_typ types t) (reading_sized types [] (known_at nothing_known) (bare_type t))
-    && (reading_passes types (known_at nothing_known) (bare_type t) && reading_settles types (known_at nothing_known) (bare_type t))
+    && (reading_passes types 0 (known_at nothing_known) (bare_type t) && reading_settles types 0 (known_at nothing_known) (bare_type t))
 
 abbrev pub direction_tested : Types → Direction → Bool
 direction_tested types d = bare_tested types d.parameter
@@ -194,8 +195,9 @@ pub record DirectionIsRead (set : Setting) (m : CoreModel) (rank : ℕ → ℕ) 
       × ((g : Integers) → OpensAs set.around.types set.past nobody g (bare_type n.parameter) v s)
 
 pub record ModelIsRead (m : CoreModel) (past : Positive) (hart : ℕ) (rank : ℕ → ℕ) (c : SizedCore) : Type 0 where
-  pub functions : (x : Work) (f : Function) → covered_by c x ≡ true → slice_get m.functions x.function ≡ Some f
-      → FunctionIsRead (setting_of m past hart c) m (checks_of m c) x f
+  -- where values of its Type variables have the sizes of its instance
+  pub functions : (x : Work) (f : Function) → covered_by c x ≡ true → AllFit (setting_of m past hart c).around.types x.types x.own
+      → slice_get m.functions x.function ≡ Some f → FunctionIsRead (setting_of m past hart c) m (checks_of m c) x f
   pub directions : (d : ℕ) (n : Direction) → slice_get m.directions d ≡ Some n
       → DirectionIsRead (setting_of m past hart c) m rank (checks_of m c) d n
   pub openings : (i : ℕ) (o : Opening) → slice_get m.openings i ≡ Some o

@@ -6,6 +6,7 @@ use Rattle.size_splits.specs.Bodies.{Body}
 use Rattle.size_splits.specs.Sizing.{Sizing}
 use Rattle.monomorph.specs.declared.found.Instance.{Instance}
 use Rattle.sized_trees.specs.declared.trees.SizedInstance.{SizedInstance}
+use Rattle.checked_meaning.specs.Fits.{AllFit}
 use Rattle.sized_meanings.specs.Sized.{cases_of, numbers_of}
 use Rattle.split_laws.specs.Counted.{IsIn}
 use Rattle.note_laws.specs.Notes.{EachNote, OfOthers}
@@ -27,6 +28,7 @@ AreCovered set instances =
 abbrev pub BodiesAreMet : Type 0
 BodiesAreMet = (set : Setting) (x : Work) (sizing : Sizing) (zs : List (Option ℤ)) → x.instance.numbers ≡ map (option_map an_int) zs
     → (list : List Instance) (instances : List SizedInstance) (reached : ℕ → Bool) → ArePlaced list instances → AreCovered set instances
+    → AllFit set.around.types x.types x.own
     → (bs : List Body) → bodies_tested set.around.types sizing zs x.own reached list bs ≡ true → (b : Body) → IsIn b bs
     → EachNote (OfOthers (IsMet set x reached
     (cases_of set.around.types instances (all_nodes set.around.types sizing zs x.own list (all_noted bs))))) b.notes

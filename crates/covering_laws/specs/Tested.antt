@@ -35,10 +35,10 @@ use Rattle.case_laws.specs.Cases.{has_all_cases, has_all_leads}
 -- ---- where these numbers are taken
 
 abbrev pub values_pass : Inside → List Picked → List Indices → Bool
-values_pass r ps is = list_all (value_passes r.types (under r ps)) is
+values_pass r ps is = list_all (value_passes r.types (length r.own) (under r ps)) is
 
 abbrev pub readings_pass : Inside → List Picked → List Reading → Bool
-readings_pass r ps qs = list_all (reading_passes r.types (under r ps)) qs
+readings_pass r ps qs = list_all (reading_passes r.types (length r.own) (under r ps)) qs
 
 -- ---- sizes: a width or length within its limit; those of a type stay what they are where it is opened
 
@@ -53,7 +53,7 @@ form_in_limit of form = true
 
 abbrev pub size_passes : Inside → Made → List Picked → Bool
 size_passes r (Makes.ByIndices i) ps = form_in_limit (under r ps) (out-Indices i)
-size_passes r (Makes.ByType q) ps = reading_settles r.types (under r ps) q
+size_passes r (Makes.ByType q) ps = reading_settles r.types (length r.own) (under r ps) q
 
 abbrev pub size_tested : Inside → List Fact → Made → Bool
 size_tested r facts made = list_all (size_passes r made) (counted (known_of r.numbers) r.split facts [])
@@ -61,8 +61,8 @@ size_tested r facts made = list_all (size_passes r made) (counted (known_of r.nu
 -- ---- what nodes make: there is a case, in which all sizes are constants for certain
 
 abbrev pub made_passes : Inside → Made → List Picked → Bool
-made_passes r (Makes.ByIndices i) ps = value_passes r.types (under r ps) i
-made_passes r (Makes.ByType q) ps = reading_passes r.types (under r ps) q && reading_settles r.types (under r ps) q
+made_passes r (Makes.ByIndices i) ps = value_passes r.types (length r.own) (under r ps) i
+made_passes r (Makes.ByType q) ps = reading_passes r.types (length r.own) (under r ps) q && reading_settles r.types (length r.own) (under r ps) q
 
 abbrev pub node_passes : Inside → List Indices → Made → List Picked → Bool
 node_passes r operands made ps = values_pass r ps operands && made_passes r made ps

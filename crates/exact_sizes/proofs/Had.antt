@@ -1,6 +1,6 @@
 -- A value of some indices, or of a type of the walk, has their sizes.
 use Rattle.std.proofs.Common.{◌≡◌, ◌∙◌, ap, sym, refl, subst, ℕ, zero, suc, ℤ, pos, nat_eq, nat_lt, Bool, true, ◌&&◌, List, [], ◌∷◌}
-use Rattle.std.proofs.Common.{map, length}
+use Rattle.std.proofs.Common.{map, length, slice_get}
 use Rattle.std.specs.Prelude.{Option, Some, None}
 use Rattle.std.specs.List.{list_all}
 use Rattle.std.specs.Ordering.{int_eq}
@@ -29,7 +29,7 @@ use Rattle.value_indices.specs.declared.indices.Indices.TheOpen as W
 use Rattle.value_indices.specs.declared.indices.Indices.TheOpen.{Indices-F, Reading-F}
 use Rattle.value_indices.specs.declared.indices.Reading.{Reading, roll-Reading}
 use Rattle.value_laws.specs.Belonging.{Meant, closed, closed_form, closeds, each_holds, form_holds, has, index_there, indices_hold, meant}
-use Rattle.value_laws.specs.Belonging.{nowhere, number_there, standing, type_variables, types_or_own, wide_of, wides}
+use Rattle.value_laws.specs.Belonging.{nowhere, number_there, or_no_value, standing, type_variables, types_or_own, wide_of, wides}
 use Rattle.value_laws.proofs.Basics.{no, two}
 use Rattle.value_laws.proofs.Values.{belongs_form, belongs_out, closed_is, closing, form_asked, has_form, meanings, meant_is, nothing_belongs}
 use Rattle.size_values.specs.declared.constants.Constant.{Constant}
@@ -44,9 +44,9 @@ use Rattle.checked_meaning.specs.Items.{constant_of}
 use Rattle.size_laws.specs.Known.{all_numbers}
 use Rattle.size_laws.proofs.Forms.{in_indices, in_reading, reading_is, value_is}
 use Rattle.meeting_laws.proofs.Forms.{bit_as, bits_as, each_of, list_as, named_as, string_as, tuple_as, unit_as, vector_as}
-use Rattle.sized_meanings.specs.Fits.{each_fits, form_fits, has_sizes}
+use Rattle.checked_meaning.specs.Fits.{AllFit, each_fits, form_fits, has_sizes}
 use Rattle.exact_sizes.specs.Exact.{all_of, all_pass, are_exact, exact_constants, field_constants, indices_pass, is_exact, named_passes, open_of}
-use Rattle.exact_sizes.specs.Exact.{reading_passes, readings_pass, typ_passes, value_passes}
+use Rattle.exact_sizes.specs.Exact.{is_one_of, or_own, reading_passes, readings_pass, typ_passes, value_passes}
 use Rattle.exact_sizes.specs.Laws.{More, Stands, ValuesFit}
 use Rattle.exact_sizes.proofs.Known.{exact_value, none, number_more, number_stands}
 use Rattle.exact_sizes.proofs.Alike.{exact_grows, named_same, typ_same}
@@ -64,7 +64,8 @@ exact_stands of nu stands (N.Number t ∷ is) zero z h = by (value_of of t) refl
 exact_stands of nu stands (N.Truth c ∷ is) zero z h = none h
 exact_stands of nu stands (a ∷ is) (suc i) z h = exact_stands of nu stands is i z h
 
-module _ (types : Types) (past : Positive) (f : ℕ → ℤ) (own : List Closed) (ss : List Sized) (of : ℕ → Constant) (stands : Stands of f) where
+module _ (types : Types) (past : Positive) (f : ℕ → ℤ) (own : List Closed) (ss : List Sized) (own_fit : AllFit types own ss) (of : ℕ → Constant)
+    (stands : Stands of f) where
   abbrev mu : Assignment
   mu = standing past f
 
@@ -86,10 +87,10 @@ module _ (types : Types) (past : Positive) (f : ℕ → ℤ) (own : List Closed)
     pub wide : (v : Value) → belongs types v (meant types mu own i).wide ≡ true → has_sizes types v (sized i) ≡ true
 
   abbrev FitI : Indices → Type 0
-  FitI i = value_passes types of i ≡ true → Fit i
+  FitI i = value_passes types (length ss) of i ≡ true → Fit i
 
   abbrev FitR : Reading → Type 0
-  FitR r = reading_passes types of r ≡ true → (v : Value) → belongs types v (closed types mu own r) ≡ true → has_sizes types v (typed r) ≡ true
+  FitR r = reading_passes types (length ss) of r ≡ true → (v : Value) → belongs types v (closed types mu own r) ≡ true → has_sizes types v (typed r) ≡ true
 
   abbrev SuchI : Type 0
   SuchI = (i : Indices) × FitI i
@@ -110,10 +111,10 @@ module _ (types : Types) (past : Positive) (f : ℕ → ℤ) (own : List Closed)
   readings ys = map (λ (p : SuchR). p.0) ys
 
   abbrev all_values_pass : List SuchI → Bool
-  all_values_pass ys = all_of (map (value_passes types of) (values ys))
+  all_values_pass ys = all_of (map (value_passes types (length ss) of) (values ys))
 
   abbrev all_readings_pass : List SuchR → Bool
-  all_readings_pass ys = all_of (map (reading_passes types of) (readings ys))
+  all_readings_pass ys = all_of (map (reading_passes types (length ss) of) (readings ys))
 
   size_is : (t : Num) → is_exact of t ≡ true → number mu t ≡ integer_of (constant_under to t)
   size_is t h =
@@ -156,12 +157,12 @@ module _ (types : Types) (past : Positive) (f : ℕ → ℤ) (own : List Closed)
   string_had (V.String text) h = refl
   string_had w h = no h
 
-  list_had : (r : SuchR) → reading_passes types of r.0 ≡ true → (w : Value-F Value)
+  list_had : (r : SuchR) → reading_passes types (length ss) of r.0 ≡ true → (w : Value-F Value)
       → form_holds types mu own (W.List (closed types mu own r.0)) w ≡ true → form_fits types (fitting types w) (Z.List (typed r.0)) ≡ true
   list_had r p (V.List vs) h = items_fit types (λ v. belongs types v (closed types mu own r.0)) (typed r.0) (λ v k. r.1 p v k) vs h
   list_had r p w h = no h
 
-  vector_had : (t : Num) (r : SuchR) → is_exact of t ≡ true → reading_passes types of r.0 ≡ true → (w : Value-F Value)
+  vector_had : (t : Num) (r : SuchR) → is_exact of t ≡ true → reading_passes types (length ss) of r.0 ≡ true → (w : Value-F Value)
       → form_holds types mu own (W.Vector t (closed types mu own r.0)) w ≡ true
       → form_fits types (fitting types w) (Z.Vector (integer_of (constant_under to t)) (typed r.0)) ≡ true
   vector_had t r e p (V.Vector vs) h =
@@ -179,7 +180,7 @@ module _ (types : Types) (past : Positive) (f : ℕ → ℤ) (own : List Closed)
   parts_had [] p (v ∷ vs) h = no h
   parts_had (y ∷ ys) p [] h = no h
   parts_had (y ∷ ys) p (v ∷ vs) h =
-      let q = and_parts (value_passes types of y.0) (all_values_pass ys) p in
+      let q = and_parts (value_passes types (length ss) of y.0) (all_values_pass ys) p in
       let k = and_parts (has types mu own y.0 v) (each_holds (map (meant types mu own) (values ys)) vs) h in
       two (has_sizes types v (sized y.0)) (each_fits (map (has_sizes types) vs) (map sized (values ys))) ((y.1 q.0).had v k.0) (parts_had ys q.1 vs k.1)
 
@@ -196,7 +197,7 @@ module _ (types : Types) (past : Positive) (f : ℕ → ℤ) (own : List Closed)
   parts_wide [] p (v ∷ vs) h = no h
   parts_wide (y ∷ ys) p [] h = no h
   parts_wide (y ∷ ys) p (v ∷ vs) h =
-      let q = and_parts (value_passes types of y.0) (all_values_pass ys) p in
+      let q = and_parts (value_passes types (length ss) of y.0) (all_values_pass ys) p in
       let k = and_parts (belongs types v (meant types mu own y.0).wide) (each_of types past own vs (wides (map (meant types mu own) (values ys)))) h in
       two (has_sizes types v (sized y.0)) (each_fits (map (has_sizes types) vs) (map sized (values ys))) ((y.1 q.0).wide v k.0) (parts_wide ys q.1 vs k.1)
 
@@ -215,7 +216,7 @@ module _ (types : Types) (past : Positive) (f : ℕ → ℤ) (own : List Closed)
   readings_wide [] p (v ∷ vs) h = no h
   readings_wide (y ∷ ys) p [] h = no h
   readings_wide (y ∷ ys) p (v ∷ vs) h =
-      let q = and_parts (reading_passes types of y.0) (all_readings_pass ys) p in
+      let q = and_parts (reading_passes types (length ss) of y.0) (all_readings_pass ys) p in
       let k = and_parts (belongs types v (closed types mu own y.0)) (each_of types past own vs (map (closed types mu own) (readings ys))) h in
       two (has_sizes types v (typed y.0)) (each_fits (map (has_sizes types) vs) (map typed (readings ys))) (y.1 q.0 v k.0) (readings_wide ys q.1 vs k.1)
 
@@ -229,31 +230,46 @@ module _ (types : Types) (past : Positive) (f : ℕ → ℤ) (own : List Closed)
   -- ---- what Type variables stand for
 
   readings_answer : (ys : List SuchR) → all_readings_pass ys ≡ true → (cs : List Closed)
-      → Answers types (length (map (reading_passes types of) (readings ys))) (closeds (types_or_own (map (closed types mu own) (readings ys)) cs))
+      → Answers types (length (map (reading_passes types (length ss) of) (readings ys))) (closeds (types_or_own (map (closed types mu own) (readings ys)) cs))
       (map typed (readings ys))
   readings_answer [] p cs i h v a = no h
   readings_answer (y ∷ ys) p [] zero h v a =
-      y.1 (and_parts (reading_passes types of y.0) (all_readings_pass ys) p).0 v (belongs_out types v (closed types mu own y.0) ∙ a)
+      y.1 (and_parts (reading_passes types (length ss) of y.0) (all_readings_pass ys) p).0 v (belongs_out types v (closed types mu own y.0) ∙ a)
   readings_answer (y ∷ ys) p (c ∷ cs) zero h v a =
-      y.1 (and_parts (reading_passes types of y.0) (all_readings_pass ys) p).0 v (belongs_out types v (closed types mu own y.0) ∙ a)
+      y.1 (and_parts (reading_passes types (length ss) of y.0) (all_readings_pass ys) p).0 v (belongs_out types v (closed types mu own y.0) ∙ a)
   readings_answer (y ∷ []) p [] (suc i) h v a = no h
   readings_answer (y ∷ z ∷ ys) p [] (suc i) h v a =
-      readings_answer (z ∷ ys) (and_parts (reading_passes types of y.0) (all_readings_pass (z ∷ ys)) p).1 [] i h v a
+      readings_answer (z ∷ ys) (and_parts (reading_passes types (length ss) of y.0) (all_readings_pass (z ∷ ys)) p).1 [] i h v a
   readings_answer (y ∷ ys) p (c ∷ cs) (suc i) h v a =
-      readings_answer ys (and_parts (reading_passes types of y.0) (all_readings_pass ys) p).1 cs i h v a
+      readings_answer ys (and_parts (reading_passes types (length ss) of y.0) (all_readings_pass ys) p).1 cs i h v a
+
+  -- the function's own
+  own_answer : (rs : List Closed) (qs : List Sized) → AllFit types rs qs → Answers types (length qs) (closeds rs) qs
+  own_answer rs [] a i h v b = no h
+  own_answer [] (q ∷ qs) a i h v b = absurd a
+  own_answer (r ∷ rs) (q ∷ qs) a zero h v b = a.0 v (belongs_out types v r ∙ b)
+  own_answer (r ∷ rs) (q ∷ qs) a (suc i) h v b = own_answer rs qs a.1 i h v b
+
+  own_had : (rs : List Closed) (qs : List Sized) → AllFit types rs qs → (i : ℕ) → is_one_of i (length qs) ≡ true → (v : Value)
+      → belongs types v (or_no_value mu (slice_get rs i)) ≡ true → has_sizes types v (Sizes.sized_at qs i) ≡ true
+  own_had rs [] a i p v h = no p
+  own_had [] (q ∷ qs) a i p v h = absurd a
+  own_had (r ∷ rs) (q ∷ qs) a zero p v h = a.0 v h
+  own_had (r ∷ rs) (q ∷ qs) a (suc i) p v h = own_had rs qs a.1 i p v h
 
   -- the Type arguments of a named type alone
   named_answers : (ys : List SuchR) → all_readings_pass ys ≡ true
-      → Answers types (length (map (reading_passes types of) (readings ys))) (closeds (map (closed types mu own) (readings ys))) (map typed (readings ys))
+      → Answers types (length (map (reading_passes types (length ss) of) (readings ys))) (closeds (map (closed types mu own) (readings ys)))
+      (map typed (readings ys))
   named_answers [] p i h v a = no h
   named_answers (y ∷ ys) p zero h v a =
-      y.1 (and_parts (reading_passes types of y.0) (all_readings_pass ys) p).0 v (belongs_out types v (closed types mu own y.0) ∙ a)
-  named_answers (y ∷ ys) p (suc i) h v a = named_answers ys (and_parts (reading_passes types of y.0) (all_readings_pass ys) p).1 i h v a
+      y.1 (and_parts (reading_passes types (length ss) of y.0) (all_readings_pass ys) p).0 v (belongs_out types v (closed types mu own y.0) ∙ a)
+  named_answers (y ∷ ys) p (suc i) h v a = named_answers ys (and_parts (reading_passes types (length ss) of y.0) (all_readings_pass ys) p).1 i h v a
 
   -- ---- named types
 
   module _ (u : ℕ) (args : List Index) (ys : List SuchR) (passed : all_readings_pass ys ≡ true) (exact : are_exact types of u (length args) 0 args ≡ true)
-      (fields_pass : all_pass (typ_passes types deepest) (field_types (fields_of types u)) (length (map (reading_passes types of) (readings ys)))
+      (fields_pass : all_pass (typ_passes types deepest) (field_types (fields_of types u)) (length (map (reading_passes types (length ss) of) (readings ys)))
       (field_constants types of u args) ≡ true) where
     abbrev zs : List (Option ℤ)
     zs = named_numbers types u (map (index_under of) args)
@@ -265,7 +281,7 @@ module _ (types : Types) (past : Positive) (f : ℕ → ℤ) (own : List Closed)
     stood = closeds (map (closed types mu own) (readings ys))
 
     abbrev count : ℕ
-    count = length (map (reading_passes types of) (readings ys))
+    count = length (map (reading_passes types (length ss) of) (readings ys))
 
     abbrev passes : Typ → Bool
     passes t = typ_passes types deepest t count (field_constants types of u args)
@@ -292,7 +308,7 @@ module _ (types : Types) (past : Positive) (f : ℕ → ℤ) (own : List Closed)
 
   -- a named type's numbers are those under all integers
   named_fit : (u : ℕ) (args : List Index) (ys : List SuchR) → all_readings_pass ys ≡ true → are_exact types of u (length args) 0 args ≡ true
-      → all_pass (typ_passes types deepest) (field_types (fields_of types u)) (length (map (reading_passes types of) (readings ys)))
+      → all_pass (typ_passes types deepest) (field_types (fields_of types u)) (length (map (reading_passes types (length ss) of) (readings ys)))
       (field_constants types of u args) ≡ true → (v : Value)
       → form_holds types mu own (W.Named u args (map (closed types mu own) (readings ys))) (out-Value v) ≡ true
       → has_sizes types v (S.Named u (named_numbers types u (map (index_under to) args)) (map typed (readings ys))) ≡ true
@@ -302,7 +318,7 @@ module _ (types : Types) (past : Positive) (f : ℕ → ℤ) (own : List Closed)
       ap (λ (l : List (Option ℤ)). has_sizes types v (S.Named u l qs)) (sym (named_same types of to more u args e))
       ∙ fits_as types v (S.Named u zs qs) (Z.Named u zs qs) (S.rolls-Named u zs qs) (named_had u args ys p e k (out-Value v) h)
 
-  form_had : (y : Indices-F SuchI SuchR) → indices_pass types of (tests_in types of (indices_in y)) ≡ true → (v : Value)
+  form_had : (y : Indices-F SuchI SuchR) → indices_pass types (length ss) of (tests_in types (length ss) of (indices_in y)) ≡ true → (v : Value)
       → indices_hold types mu own (form_of y) v ≡ true → has_sizes types v (sizes_of y) ≡ true
   form_had W.Never p v h = no h
   form_had W.Unit p v h = fits_as types v S.Unit Z.Unit S.rolls-Unit (unit_had (out-Value v) h)
@@ -316,23 +332,23 @@ module _ (types : Types) (past : Positive) (f : ℕ → ℤ) (own : List Closed)
   form_had (W.List r) p v h = fits_as types v (S.List (typed r.0)) (Z.List (typed r.0)) (S.rolls-List (typed r.0)) (list_had r p (out-Value v) h)
   form_had (W.Vector t r) p v h =
       let z = integer_of (constant_under to t) in
-      let k = and_parts (is_exact of t) (reading_passes types of r.0) p in
+      let k = and_parts (is_exact of t) (reading_passes types (length ss) of r.0) p in
       fits_as types v (S.Vector z (typed r.0)) (Z.Vector z (typed r.0)) (S.rolls-Vector z (typed r.0)) (vector_had t r k.0 k.1 (out-Value v) h)
   form_had (W.Tuple ys) p v h =
       let qs = map sized (values ys) in
       fits_as types v (S.Tuple qs) (Z.Tuple qs) (S.rolls-Tuple qs) (tuple_had ys p (out-Value v) h)
   form_had (W.Named u args ys) p v h =
-      let n = length (map (reading_passes types of) (readings ys)) in
+      let n = length (map (reading_passes types (length ss) of) (readings ys)) in
       let k = and_parts (all_readings_pass ys) (named_passes types (typ_passes types deepest) of u args n) p in
       let l = and_parts (are_exact types of u (length args) 0 args)
       (all_pass (typ_passes types deepest) (field_types (fields_of types u)) n (field_constants types of u args)) k.1 in
       named_fit u args ys k.0 l.0 l.1 v h
-  form_had (W.Variable i) p v h = no p
+  form_had (W.Variable i) p v h = own_had own ss own_fit i p v h
 
   abbrev here : Assignment
   here = nowhere mu
 
-  form_wide : (y : Indices-F SuchI SuchR) → indices_pass types of (tests_in types of (indices_in y)) ≡ true → (v : Value)
+  form_wide : (y : Indices-F SuchI SuchR) → indices_pass types (length ss) of (tests_in types (length ss) of (indices_in y)) ≡ true → (v : Value)
       → belongs types v (wide_of types mu own (form_of y)) ≡ true → has_sizes types v (sizes_of y) ≡ true
   form_wide W.Never p v h = no (sym (nothing_belongs types v mu) ∙ h)
   form_wide W.Unit p v h =
@@ -377,12 +393,12 @@ module _ (types : Types) (past : Positive) (f : ℕ → ℤ) (own : List Closed)
       (sym (named_as types past own f u args cs (out-Value v))
       ∙ sym (belongs_form types v (T.Named u js (type_variables 0 cs)) (U.Named u js (type_variables 0 cs)) here (closeds cs)
       (U.rolls-Named u js (type_variables 0 cs))) ∙ h)
-  form_wide (W.Variable i) p v h = no p
+  form_wide (W.Variable i) p v h = own_had own ss own_fit i p v h
 
   rolled_fits : (y : Indices-F SuchI SuchR) → FitI (roll-Indices (indices_in y))
   rolled_fits y p =
       let i = roll-Indices (indices_in y) in
-      let q = sym (value_tested types of (indices_in y)) ∙ p in
+      let q = sym (value_tested types (length ss) of (indices_in y)) ∙ p in
       let is : sized i ≡ sizes_of y = value_is types ss to i (indices_in y) refl in
       record {
         had = λ v h. ap (has_sizes types v) is ∙ form_had y q v (sym (has_form types mu own i (indices_in y) v refl) ∙ h);
@@ -393,28 +409,30 @@ module _ (types : Types) (past : Positive) (f : ℕ → ℤ) (own : List Closed)
   -- ---- types of the walk
 
   of_fits : (t : Typ) (is : List Index) (ys : List SuchR) → all_readings_pass ys ≡ true
-      → typ_passes types deepest t (length (map (reading_passes types of) (readings ys))) (exact_constants of is) ≡ true → (v : Value)
+      → typ_passes types deepest t (or_own (length ss) (length (map (reading_passes types (length ss) of) (readings ys)))) (exact_constants of is) ≡ true
+      → (v : Value)
       → belongs types v (reading t (assigned mu is) (closeds (types_or_own (map (closed types mu own) (readings ys)) own))) ≡ true
       → has_sizes types v (typ_sized types (Sizes.types_or_own (map typed (readings ys)) ss) t (map (index_under to) is)) ≡ true
   of_fits t is ys p q v h =
-      let n = length (map (reading_passes types of) (readings ys)) in
+      let n = or_own (length ss) (length (map (reading_passes types (length ss) of) (readings ys))) in
       let rs = closeds (types_or_own (map (closed types mu own) (readings ys)) own) in
       let qs = Sizes.types_or_own (map typed (readings ys)) ss in
       ap (has_sizes types v) (sym (typ_same types qs deepest t n (exact_constants of is) (map (index_under to) is) (exact_grows of to more is) q))
       ∙ typ_fits types deepest t n (exact_constants of is) qs (assigned mu is) rs q (exact_stands of mu stands is) (stood_answer ys p) v h
     where
       stood_answer : (xs : List SuchR) → all_readings_pass xs ≡ true
-          → Answers types (length (map (reading_passes types of) (readings xs))) (closeds (types_or_own (map (closed types mu own) (readings xs)) own))
+          → Answers types (or_own (length ss) (length (map (reading_passes types (length ss) of) (readings xs))))
+          (closeds (types_or_own (map (closed types mu own) (readings xs)) own))
           (Sizes.types_or_own (map typed (readings xs)) ss)
-      stood_answer [] k i h v a = no h
+      stood_answer [] k i h v a = own_answer own ss own_fit i h v a
       stood_answer (x ∷ xs) k i h v a = readings_answer (x ∷ xs) k own i h v a
 
-  reading_fits : (y : Reading-F SuchI SuchR) → readings_pass types of (tests_of types of (reading_in y)) ≡ true → (v : Value)
+  reading_fits : (y : Reading-F SuchI SuchR) → readings_pass types (length ss) of (tests_of types (length ss) of (reading_in y)) ≡ true → (v : Value)
       → belongs types v (closed_form types mu own (closing types mu own (reading_in y))) ≡ true
       → has_sizes types v (form_reading_sized types ss to (in_reading types ss to (reading_in y))) ≡ true
   reading_fits (W.Of t is rs) p v h =
-      let n = length (map (reading_passes types of) (readings rs)) in
-      let k = and_parts (all_readings_pass rs) (typ_passes types deepest t n (exact_constants of is)) p in
+      let n = length (map (reading_passes types (length ss) of) (readings rs)) in
+      let k = and_parts (all_readings_pass rs) (typ_passes types deepest t (or_own (length ss) n) (exact_constants of is)) p in
       of_fits t is rs k.0 k.1 v h
   reading_fits (W.Widened i) p v h = (i.1 p).wide v h
   reading_fits (W.Parts rs) p v h =
@@ -429,7 +447,7 @@ module _ (types : Types) (past : Positive) (f : ℕ → ℤ) (own : List Closed)
   rolled_reading_fits y p v h =
       let r = roll-Reading (reading_in y) in
       ap (has_sizes types v) (reading_is types ss to r (reading_in y) refl)
-      ∙ reading_fits y (sym (reading_tested types of (reading_in y)) ∙ p) v
+      ∙ reading_fits y (sym (reading_tested types (length ss) of (reading_in y)) ∙ p) v
       (sym (ap (belongs types v) (closed_is types mu own r (reading_in y) refl)) ∙ h)
 
   value_fits : (i : Indices) → FitI i
@@ -441,5 +459,5 @@ module _ (types : Types) (past : Positive) (f : ℕ → ℤ) (own : List Closed)
       (λ e y is. subst (λ d. FitR (roll-Reading d)) is (rolled_reading_fits y))
 
 pub values_fit : ValuesFit
-values_fit types past f own ss of stands =
-    (λ i v p h. (value_fits types past f own ss of stands i p).had v h, λ r v p h. type_fits types past f own ss of stands r p v h)
+values_fit types past f own ss fit of stands =
+    (λ i v p h. (value_fits types past f own ss fit of stands i p).had v h, λ r v p h. type_fits types past f own ss fit of stands r p v h)

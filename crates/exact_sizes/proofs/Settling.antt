@@ -28,10 +28,10 @@ use Rattle.size_values.specs.Numbers.{argument_of, index_under, number_in, value
 use Rattle.size_values.specs.Sized.{hangs_on, integer_of}
 use Rattle.size_laws.specs.Known.{all_numbers}
 use Rattle.size_laws.specs.Settled.{AreAlike, IsAlike, Says, SaysArgument, SaysArguments, Settled, constants, of_reading, of_readings, of_type, of_types}
-use Rattle.size_laws.specs.Settled.{bit, bits, bool, exists, found, hole, int, list, more_readings, more_types, named, no_readings, no_types, parts, range}
-use Rattle.size_laws.specs.Settled.{stood, string, truth, tuple, typ_of, unit, vector, widened}
+use Rattle.size_laws.specs.Settled.{bit, bits, bool, exists, found, hole, int, list, more_readings, more_types, named, no_readings, no_types}
+use Rattle.size_laws.specs.Settled.{own_variable, parts, range, stood, string, truth, tuple, typ_of, unit, vector, widened}
 use Rattle.exact_sizes.specs.Exact.{Opened, all_of, all_pass, all_settle, are_said, exact_constants, form_settles, is_one_of, is_said, is_said_index}
-use Rattle.exact_sizes.specs.Exact.{is_same, no_test, only_if, reading_settles, readings_settle, typ_passes, typ_settles}
+use Rattle.exact_sizes.specs.Exact.{is_same, no_test, only_if, or_own, reading_settles, readings_settle, typ_passes, typ_settles}
 use Rattle.exact_sizes.specs.Laws.{More, Stands, TypesSettle}
 use Rattle.exact_sizes.proofs.Known.{none, number_more, substituted_same}
 use Rattle.exact_sizes.proofs.Alike.{Grows, exact_grows, grows_under, typ_same, where_hangs}
@@ -50,7 +50,7 @@ stays_under : (name : List ℕ) (a b : Index) (cs : List Constant) (is js : List
 stays_under name a b cs is js s zero z h = none h
 stays_under name a b cs is js s (suc i) z h = s i z h
 
-module _ (types : Types) (own : List Sized) (f : ℕ → ℤ) (of : ℕ → Constant) (stands : Stands of f) where
+module _ (types : Types) (own : List Sized) (own_count : ℕ) (f : ℕ → ℤ) (of : ℕ → Constant) (stands : Stands of f) where
   abbrev to : ℕ → Constant
   to = all_numbers f
 
@@ -89,7 +89,7 @@ module _ (types : Types) (own : List Sized) (f : ℕ → ℤ) (of : ℕ → Cons
   -- ---- types
 
   module _ (rs : List Reading) (n : ℕ)
-      (found_at : (i : ℕ) → is_one_of i n ≡ true → (r : Reading) × (slice_get rs i ≡ Some r) × Settled types own to (of_reading r)) where
+      (found_at : (i : ℕ) → is_one_of i n ≡ true → (js : List Index) (ds : List Constant) → Settled types own to (of_type rs js ds (U.Variable i))) where
     alike : (depth : ℕ) (cs ds : List Constant) (js : List Index) → Grows cs ds → Grows cs (constants types own to js) → (t : Typ)
         → typ_passes types depth t n cs ≡ true → IsAlike types own to rs js ds t
     alike depth cs ds js g k t h =
@@ -146,8 +146,7 @@ module _ (types : Types) (own : List Sized) (f : ℕ → ℤ) (of : ℕ → Cons
         subst (λ (d : Typ). Settled types own to (of_type rs js ds d)) (sym (U.rolls-Named u args ts) ∙ e)
         (named rs js ds u args ts (say_arguments cs ds is js g s u (length args) 0 args p.0) (all_alike depth cs ds js g k ts p.1))
     form_settled depth settles (T.Variable i) t e cs ds is js g k s h =
-        let r = found_at i h in
-        subst (λ (d : Typ). Settled types own to (of_type rs js ds d)) (sym (U.rolls-Variable i) ∙ e) (found rs js ds i r.0 r.1 r.2)
+        subst (λ (d : Typ). Settled types own to (of_type rs js ds d)) (sym (U.rolls-Variable i) ∙ e) (found_at i h js ds)
     form_settled depth settles (T.Exists name c a) t e cs ds is js g k s h =
         subst (λ (d : Typ). Settled types own to (of_type rs js ds d)) (sym (U.rolls-Exists name c a) ∙ e)
         (exists rs js ds name c a (λ v.
@@ -163,7 +162,7 @@ module _ (types : Types) (own : List Sized) (f : ℕ → ℤ) (of : ℕ → Cons
   -- ---- types of the walk
 
   abbrev SettlesR : Reading → Type 0
-  SettlesR r = reading_settles types of r ≡ true → Settled types own to (of_reading r)
+  SettlesR r = reading_settles types own_count of r ≡ true → Settled types own to (of_reading r)
 
   abbrev SuchI : Type 0
   SuchI = Indices × Unit {0}
@@ -178,38 +177,47 @@ module _ (types : Types) (own : List Sized) (f : ℕ → ℤ) (of : ℕ → Cons
   readings ys = map (λ (p : SuchR). p.0) ys
 
   abbrev all_settle_there : List SuchR → Bool
-  all_settle_there ys = all_of (map (reading_settles types of) (readings ys))
+  all_settle_there ys = all_of (map (reading_settles types own_count of) (readings ys))
 
   each_settled : (ys : List SuchR) → all_settle_there ys ≡ true → Settled types own to (of_readings (readings ys))
   each_settled [] h = no_readings
   each_settled (y ∷ ys) h =
-      let p = and_parts (reading_settles types of y.0) (all_settle_there ys) h in
+      let p = and_parts (reading_settles types own_count of y.0) (all_settle_there ys) h in
       more_readings y.0 (readings ys) (y.1 p.0) (each_settled ys p.1)
 
-  found_there : (ys : List SuchR) → all_settle_there ys ≡ true → (i : ℕ) → is_one_of i (length (map (reading_settles types of) (readings ys))) ≡ true
+  found_there : (ys : List SuchR) → all_settle_there ys ≡ true → (i : ℕ) → is_one_of i (length (map (reading_settles types own_count of) (readings ys))) ≡ true
       → (r : Reading) × (slice_get (readings ys) i ≡ Some r) × Settled types own to (of_reading r)
   found_there [] h i k = no k
-  found_there (y ∷ ys) h zero k = (y.0, refl, y.1 (and_parts (reading_settles types of y.0) (all_settle_there ys) h).0)
-  found_there (y ∷ ys) h (suc i) k = found_there ys (and_parts (reading_settles types of y.0) (all_settle_there ys) h).1 i k
+  found_there (y ∷ ys) h zero k = (y.0, refl, y.1 (and_parts (reading_settles types own_count of y.0) (all_settle_there ys) h).0)
+  found_there (y ∷ ys) h (suc i) k = found_there ys (and_parts (reading_settles types own_count of y.0) (all_settle_there ys) h).1 i k
+
+  -- one of the type, or of the function at work
+  variable_there : (ys : List SuchR) → all_settle_there ys ≡ true → (i : ℕ)
+      → is_one_of i (or_own own_count (length (map (reading_settles types own_count of) (readings ys)))) ≡ true → (js : List Index) (ds : List Constant)
+      → Settled types own to (of_type (readings ys) js ds (U.Variable i))
+  variable_there [] h i k js ds = own_variable [] js ds i refl refl
+  variable_there (y ∷ ys) h i k js ds =
+      let r = found_there (y ∷ ys) h i k in
+      found (readings (y ∷ ys)) js ds i r.0 r.1 r.2
 
   abbrev value_settles : Indices → Bool
-  value_settles = fold-Indices Bool Bool no_test (readings_settle types of)
+  value_settles = fold-Indices Bool Bool no_test (readings_settle types own_count of)
 
   abbrev tests_of : Reading-F Indices Reading → Reading-F Bool Bool
-  tests_of x = map-Reading Indices Reading Bool Bool value_settles (reading_settles types of) x
+  tests_of x = map-Reading Indices Reading Bool Bool value_settles (reading_settles types own_count of) x
 
-  settles_form : (x : Reading-F Indices Reading) → reading_settles types of (roll-Reading x) ≡ readings_settle types of (tests_of x)
-  settles_form x = fold-roll-Reading Bool Bool no_test (readings_settle types of) x
+  settles_form : (x : Reading-F Indices Reading) → reading_settles types own_count of (roll-Reading x) ≡ readings_settle types own_count of (tests_of x)
+  settles_form x = fold-roll-Reading Bool Bool no_test (readings_settle types own_count of) x
 
   form_of_settles : (y : Reading-F SuchI SuchR) (r : Reading) → roll-Reading (reading_in y) ≡ r
-      → readings_settle types of (tests_of (reading_in y)) ≡ true
+      → readings_settle types own_count of (tests_of (reading_in y)) ≡ true
       → Settled types own to (of_reading r)
   form_of_settles (W.Of t is rs) r e h =
-      let n = length (map (reading_settles types of) (readings rs)) in
+      let n = or_own own_count (length (map (reading_settles types own_count of) (readings rs))) in
       let p = and_parts (all_settle_there rs) (typ_settles types of deepest t n is (exact_constants of is)) h in
       subst (λ (d : Reading). Settled types own to (of_reading d)) (sym (R.rolls-Of t is (readings rs)) ∙ e)
       (typ_of t is (readings rs)
-      (typ_settled (readings rs) n (found_there rs p.0) deepest t (exact_constants of is) (constants types own to is) is is (exact_grows of to more is)
+      (typ_settled (readings rs) n (variable_there rs p.0) deepest t (exact_constants of is) (constants types own to is) is is (exact_grows of to more is)
       (exact_grows of to more is) (λ i z k. refl) p.1))
   form_of_settles (W.Widened i) r e h =
       subst (λ (d : Reading). Settled types own to (of_reading d)) (sym (R.rolls-Widened i.0) ∙ e) (widened i.0)
@@ -224,4 +232,4 @@ module _ (types : Types) (own : List Sized) (f : ℕ → ℤ) (of : ℕ → Cons
   reading_settled = ind-Reading (λ i. Unit {0}) SettlesR (λ e y is. tt) (λ e y is. subst (λ d. SettlesR (roll-Reading d)) is (rolled_settles y))
 
 pub types_settle : TypesSettle
-types_settle types own f of stands r h = reading_settled types own f of stands r h
+types_settle types own m f of stands r h = reading_settled types own m f of stands r h

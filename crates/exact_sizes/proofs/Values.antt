@@ -46,7 +46,7 @@ use Rattle.size_values.specs.Sizes as Sizes
 use Rattle.size_values.specs.Sized.{each_sized, form_sized, hangs_on, integer_of, named_numbers, number_where, numbers_from, sized_at, typ_sized}
 use Rattle.checked_meaning.specs.Items.{constant_of, payload_of}
 use Rattle.size_laws.proofs.Parts.{out_is}
-use Rattle.sized_meanings.specs.Fits.{Fits, all_fit, each_fits, fields_sized, fits_step, form_fits, has_sizes, types_sized}
+use Rattle.checked_meaning.specs.Fits.{Fits, all_fit, each_fits, fields_sized, fits_step, form_fits, has_sizes, types_sized}
 use Rattle.exact_sizes.specs.Exact.{Test, all_pass, are_exact, field_constants, form_passes, is_exact, is_exact_index, is_one_of, named_passes, only_if}
 use Rattle.exact_sizes.specs.Exact.{open_of, typ_passes}
 use Rattle.exact_sizes.specs.Laws.{Stands}

@@ -91,31 +91,36 @@ abbrev pub typ_passes : Types → ℕ → Typ → Test
 typ_passes types zero t n cs = false
 typ_passes types (suc depth) t n cs = form_passes types (typ_passes types depth) (out-Typ t) n cs
 
--- ---- values of some indices, and types of the walk; none hangs on a Type variable of the function around them
+-- ---- values of some indices, and types of the walk, where the function around them has so many Type variables
 
 abbrev pub all_of : List Bool → Bool
 all_of bs = list_all (λ b. b) bs
 
-abbrev pub indices_pass : Types → (ℕ → Constant) → Indices-F Bool Bool → Bool
-indices_pass types of (W.Bits t) = is_exact of t
-indices_pass types of (W.List r) = r
-indices_pass types of (W.Vector t r) = is_exact of t && r
-indices_pass types of (W.Tuple bs) = all_of bs
-indices_pass types of (W.Named u args rs) = all_of rs && named_passes types (typ_passes types deepest) of u args (length rs)
-indices_pass types of (W.Variable i) = false
-indices_pass types of form = true
+abbrev pub indices_pass : Types → ℕ → (ℕ → Constant) → Indices-F Bool Bool → Bool
+indices_pass types m of (W.Bits t) = is_exact of t
+indices_pass types m of (W.List r) = r
+indices_pass types m of (W.Vector t r) = is_exact of t && r
+indices_pass types m of (W.Tuple bs) = all_of bs
+indices_pass types m of (W.Named u args rs) = all_of rs && named_passes types (typ_passes types deepest) of u args (length rs)
+indices_pass types m of (W.Variable i) = is_one_of i m
+indices_pass types m of form = true
 
-abbrev pub readings_pass : Types → (ℕ → Constant) → Reading-F Bool Bool → Bool
-readings_pass types of (W.Of t is rs) = all_of rs && typ_passes types deepest t (length rs) (exact_constants of is)
-readings_pass types of (W.Widened i) = i
-readings_pass types of (W.Parts rs) = all_of rs
-readings_pass types of W.Hole = true
+-- those of a type, or the function's
+abbrev pub or_own : ℕ → ℕ → ℕ
+or_own m zero = m
+or_own m (suc n) = suc n
 
-abbrev pub value_passes : Types → (ℕ → Constant) → Indices → Bool
-value_passes types of = fold-Indices Bool Bool (indices_pass types of) (readings_pass types of)
+abbrev pub readings_pass : Types → ℕ → (ℕ → Constant) → Reading-F Bool Bool → Bool
+readings_pass types m of (W.Of t is rs) = all_of rs && typ_passes types deepest t (or_own m (length rs)) (exact_constants of is)
+readings_pass types m of (W.Widened i) = i
+readings_pass types m of (W.Parts rs) = all_of rs
+readings_pass types m of W.Hole = true
 
-abbrev pub reading_passes : Types → (ℕ → Constant) → Reading → Bool
-reading_passes types of = fold-Reading Bool Bool (indices_pass types of) (readings_pass types of)
+abbrev pub value_passes : Types → ℕ → (ℕ → Constant) → Indices → Bool
+value_passes types m of = fold-Indices Bool Bool (indices_pass types m of) (readings_pass types m of)
+
+abbrev pub reading_passes : Types → ℕ → (ℕ → Constant) → Reading → Bool
+reading_passes types m of = fold-Reading Bool Bool (indices_pass types m of) (readings_pass types m of)
 
 -- ---- sizes that stay what they are where a value is opened
 
@@ -157,14 +162,14 @@ abbrev pub typ_settles : Types → (ℕ → Constant) → ℕ → Typ → Opened
 typ_settles types of zero t n is cs = false
 typ_settles types of (suc depth) t n is cs = form_settles types of (typ_passes types depth) (typ_settles types of depth) (out-Typ t) n is cs
 
-abbrev pub readings_settle : Types → (ℕ → Constant) → Reading-F Bool Bool → Bool
-readings_settle types of (W.Of t is rs) = all_of rs && typ_settles types of deepest t (length rs) is (exact_constants of is)
-readings_settle types of (W.Widened i) = true
-readings_settle types of (W.Parts rs) = all_of rs
-readings_settle types of W.Hole = true
+abbrev pub readings_settle : Types → ℕ → (ℕ → Constant) → Reading-F Bool Bool → Bool
+readings_settle types m of (W.Of t is rs) = all_of rs && typ_settles types of deepest t (or_own m (length rs)) is (exact_constants of is)
+readings_settle types m of (W.Widened i) = true
+readings_settle types m of (W.Parts rs) = all_of rs
+readings_settle types m of W.Hole = true
 
 abbrev pub no_test : Indices-F Bool Bool → Bool
 no_test i = true
 
-abbrev pub reading_settles : Types → (ℕ → Constant) → Reading → Bool
-reading_settles types of = fold-Reading Bool Bool no_test (readings_settle types of)
+abbrev pub reading_settles : Types → ℕ → (ℕ → Constant) → Reading → Bool
+reading_settles types m of = fold-Reading Bool Bool no_test (readings_settle types m of)

@@ -1,5 +1,5 @@
 -- What holds where sizes are constants for certain.
-use Rattle.std.specs.Prelude.{◌≡◌, ℕ, ℤ, true, List, Some}
+use Rattle.std.specs.Prelude.{◌≡◌, ℕ, ℤ, true, List, length, Some}
 use Rattle.sail_types.specs.Belongs.{Reading as Closed}
 use Rattle.sail_types.specs.Numbers.{Positive}
 use Rattle.sail_types.specs.declared.table.Types.{Types}
@@ -13,7 +13,7 @@ use Rattle.size_values.specs.Sized.{reading_sized, value_sized}
 use Rattle.value_laws.specs.Belonging.{has, is_of, standing}
 use Rattle.size_laws.specs.Known.{all_numbers}
 use Rattle.size_laws.specs.Settled.{Settled, of_reading}
-use Rattle.sized_meanings.specs.Fits.{has_sizes}
+use Rattle.checked_meaning.specs.Fits.{AllFit, has_sizes}
 use Rattle.exact_sizes.specs.Exact.{reading_passes, reading_settles, value_passes}
 
 -- what is known by one is known by the other
@@ -26,19 +26,20 @@ Stands of f = (i : ℕ) (z : ℤ) → number_in (of i) ≡ Some z → f i ≡ z
 
 -- types under constants are the same where more is known
 abbrev pub SizesStand : Type 0
-SizesStand = (types : Types) (own : List Sized) (of to : ℕ → Constant) → More of to
-    → ((i : Indices) → value_passes types of i ≡ true → value_sized types own of i ≡ value_sized types own to i)
-    × ((r : Reading) → reading_passes types of r ≡ true → reading_sized types own of r ≡ reading_sized types own to r)
+SizesStand = (types : Types) (own : List Sized) (m : ℕ) (of to : ℕ → Constant) → More of to
+    → ((i : Indices) → value_passes types m of i ≡ true → value_sized types own of i ≡ value_sized types own to i)
+    × ((r : Reading) → reading_passes types m of r ≡ true → reading_sized types own of r ≡ reading_sized types own to r)
 
--- a value of some indices, or of a type, has their sizes
+-- a value of some indices, or of a type, has their sizes, where values of the function's own Type variables have theirs
 abbrev pub ValuesFit : Type 0
-ValuesFit = (types : Types) (past : Positive) (f : ℕ → ℤ) (own : List Closed) (ss : List Sized) (of : ℕ → Constant) → Stands of f
-    → ((i : Indices) (v : Value) → value_passes types of i ≡ true → has types (standing past f) own i v ≡ true
+ValuesFit = (types : Types) (past : Positive) (f : ℕ → ℤ) (own : List Closed) (ss : List Sized) → AllFit types own ss → (of : ℕ → Constant)
+    → Stands of f
+    → ((i : Indices) (v : Value) → value_passes types (length ss) of i ≡ true → has types (standing past f) own i v ≡ true
     → has_sizes types v (value_sized types ss (all_numbers f) i) ≡ true)
-    × ((r : Reading) (v : Value) → reading_passes types of r ≡ true → is_of types (standing past f) own r v ≡ true
+    × ((r : Reading) (v : Value) → reading_passes types (length ss) of r ≡ true → is_of types (standing past f) own r v ≡ true
     → has_sizes types v (reading_sized types ss (all_numbers f) r) ≡ true)
 
 -- the sizes of a type stay what they are where a value of it is opened
 abbrev pub TypesSettle : Type 0
-TypesSettle = (types : Types) (own : List Sized) (f : ℕ → ℤ) (of : ℕ → Constant) → Stands of f → (r : Reading)
-    → reading_settles types of r ≡ true → Settled types own (all_numbers f) (of_reading r)
+TypesSettle = (types : Types) (own : List Sized) (m : ℕ) (f : ℕ → ℤ) (of : ℕ → Constant) → Stands of f → (r : Reading)
+    → reading_settles types m of r ≡ true → Settled types own (all_numbers f) (of_reading r)

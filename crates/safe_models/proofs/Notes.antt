@@ -35,7 +35,13 @@ module _ (set : Setting) (around : Around) (hart : ℕ) (x : Work) (reached : �
 
   leads : (f : Integers) (function : ℕ) (js : List Index) (qs : List Reading) (found : Option Instance) → Leads set x f function js qs found
       → Leads other x f function js qs found
-  leads f function js qs found h = record { instance = h.instance; is_there = h.is_there; agree = h.agree; is_covered = h.is_covered }
+  leads f function js qs found h = record {
+    instance = h.instance;
+    is_there = h.is_there;
+    agree = h.agree;
+    is_covered = h.is_covered;
+    own_fit = h.own_fit;
+  }
 
   notes : (f : Integers) (facts : List Fact) (vs : List ℕ) (found : Option Noted) → Notes set x f facts vs found → Notes other x f facts vs found
   notes f facts vs found h = record { more = h.more; is_there = h.is_there; is_so = h.is_so }

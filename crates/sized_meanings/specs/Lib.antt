@@ -1,4 +1,3 @@
-pub mod Fits
 pub mod Noting
 pub mod Present
 pub mod Sized

@@ -19,7 +19,7 @@ use Rattle.sized_trees.specs.declared.trees.NodeSizes.{NodeSizes}
 use Rattle.sized_trees.specs.declared.trees.Signature.{Signature}
 use Rattle.sized_trees.specs.declared.trees.SizedInstance.{SizedInstance}
 use Rattle.sized_trees.specs.declared.trees.SizedCore.{SizedCore}
-use Rattle.sized_meanings.specs.Fits.{all_have_sizes, has_sizes}
+use Rattle.checked_meaning.specs.Fits.{all_have_sizes, has_sizes}
 use Rattle.sized_meanings.specs.Noting.{noted_by_all}
 use Rattle.sized_meanings.specs.Present.{case_in, first_in, gives_at, lead_in}
 

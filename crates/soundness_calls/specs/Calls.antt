@@ -8,6 +8,7 @@ use Rattle.sail_core.specs.Numbers.{Givens}
 use Rattle.sail_core.specs.Program.{Calls, Measures, calls, world_of}
 use Rattle.sail_core.specs.Run.{Now}
 use Rattle.checked_meaning.specs.Checked.{Checks}
+use Rattle.checked_meaning.specs.Fits.{AllFit}
 use Rattle.checked_meaning.specs.Items.{Item}
 use Rattle.value_laws.specs.Belonging.{Integers}
 use Rattle.soundness_steps.specs.Works.{Setting, Work}
@@ -29,8 +30,8 @@ pub record SoundBelow (set : Setting) (below : Calls Item) : Type 0 where
 -- what is asked of the instances that are covered, of mappings, and of the values of top-level lets
 pub record CoveredModel (set : Setting) (k : Checks) (rank : ℕ → ℕ) (lets : List Value) : Type 0 where
   pub lets_are : (x : Work) → LetsAre set x set.around.lets lets
-  pub functions : (x : Work) (f : Function) → set.covered x ≡ true → slice_get set.around.functions x.function ≡ Some f
-      → Covered set k x f × PartsHold set k x f
+  pub functions : (x : Work) (f : Function) → set.covered x ≡ true → AllFit set.around.types x.types x.own
+      → slice_get set.around.functions x.function ≡ Some f → Covered set k x f × PartsHold set k x f
   pub directions : (d : ℕ) (m : Direction) → slice_get set.around.directions d ≡ Some m → CoveredDirection set rank k d m
   pub ranks : (d : ℕ) (m : Direction) → slice_get set.around.directions d ≡ Some m → rank d < length set.around.directions
 

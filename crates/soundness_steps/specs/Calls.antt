@@ -21,6 +21,7 @@ use Rattle.sail_core.specs.Making.{World}
 use Rattle.sail_core.specs.Numbers.{Givens, givens_of, all_agree}
 use Rattle.sail_core.specs.Run as R
 use Rattle.sail_core.specs.Run.{Now, Ended}
+use Rattle.checked_meaning.specs.Fits.{AllFit}
 use Rattle.checked_meaning.specs.Items.{Item, fixed_typ}
 use Rattle.value_laws.specs.Belonging.{Integers, standing, over}
 use Rattle.soundness_steps.specs.Works.{Work, Setting}
@@ -69,6 +70,8 @@ AllBelong types mu rs ts vs = ⊥
 
 pub record Enters (set : Setting) (x : Work) (f : Function) (vs : List Value) (h : Integers) : Type 0 where
   pub is_covered : set.covered x ≡ true
+  -- values of its Type variables have the sizes of its instance
+  pub own_fits : AllFit set.around.types x.types x.own
   pub is_it : slice_get set.around.functions x.function ≡ Some f
   pub belong : AllBelong set.around.types (inside set f h) x.types f.parameters vs
   pub constraint : true_in (inside set f h) f.constraint ≡ true

@@ -24,7 +24,8 @@ use Rattle.value_indices.specs.declared.notes.Made.{Made}
 use Rattle.value_indices.specs.declared.notes.Made.TheVariants as Makes
 use Rattle.value_indices.specs.Steps.{Note, goal_note, size_note, made_note, call_note, way_note, given_note, name_note, conditions}
 use Rattle.checked_meaning.specs.Checked.{Noted, Cases}
-use Rattle.value_laws.specs.Belonging.{Integers, standing, has}
+use Rattle.checked_meaning.specs.Fits.{AllFit}
+use Rattle.value_laws.specs.Belonging.{Integers, closed, has, standing}
 use Rattle.value_laws.specs.Known.{AllTrue}
 use Rattle.size_laws.specs.Settled.{Settled, of_reading}
 use Rattle.soundness_steps.specs.Works.{Work, Setting}
@@ -74,13 +75,16 @@ module _ (set : Setting) (work : Work) where
     pub is_there : found ≡ Some typ
     pub is_right : MadeAs set.around.types set.past work f made v typ
 
-  -- there is an instance, it is covered whatever its Type variables stand for, and its numbers and sized types are those of the call
+  -- there is an instance, it is covered whatever its Type variables stand for, its numbers and sized types are those of the call, and values of what
+  -- the call gives to Type variables have those sizes
   pub record Leads (f : Integers) (function : ℕ) (js : List Index) (qs : List Reading) (found : Option Instance) : Type 0 where
     pub instance : Instance
     pub is_there : found ≡ Some instance
     pub agree : AllAgree set.past f instance.numbers js
     pub is_covered : (types : List Closed)
         → set.covered (record { function = function; instance = instance; own = map (type_sized set.around.types work.own f) qs; types = types }) ≡ true
+    pub own_fit : AllFit set.around.types (map (closed set.around.types (standing set.past f) work.types) qs)
+        (map (type_sized set.around.types work.own f) qs)
 
   -- more numbers are noted, and nothing else is known than before but that
   pub record Notes (f : Integers) (facts : List Fact) (vs : List ℕ) (found : Option Noted) : Type 0 where

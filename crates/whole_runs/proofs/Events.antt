@@ -17,6 +17,7 @@ use Rattle.pattern_leaves.specs.declared.names.TopLevel.TheVariants as L
 use Rattle.function_notes.specs.Functions.{mapping_walk}
 use Rattle.constraint_gen.specs.Models.{around_of, around_with, lets_behind, names_of}
 use Rattle.checked_meaning.specs.Checked.{Cases, Checks, checking}
+use Rattle.checked_meaning.specs.Fits.{AllFit}
 use Rattle.met_notes.specs.Met.{WalksAreMet, pairs}
 use Rattle.met_notes.proofs.Whole.{notes_met}
 use Rattle.soundness_steps.specs.Works.{Setting, Work, nobody}
@@ -111,11 +112,12 @@ module _ (m : CoreModel) (walks : WalksAreMet m (around_of m)) (past : Positive)
 
   -- ---- functions
 
-  function_stands : (x : Work) (f : Function) → set.covered x ≡ true → slice_get set.around.functions x.function ≡ Some f → S.FunctionStands set k x f
-  function_stands x f is at =
+  function_stands : (x : Work) (f : Function) → set.covered x ≡ true → AllFit set.around.types x.types x.own
+      → slice_get set.around.functions x.function ≡ Some f → S.FunctionStands set k x f
+  function_stands x f is own at =
       let there : slice_get m.functions x.function ≡ Some f =
       subst (λ fs. slice_get fs x.function ≡ Some f) (functions_kept m [] m.openings) at in
-      let c : CoversFunction set k x f = covers.functions x f is there in
+      let c : CoversFunction set k x f = covers.functions x f is own there in
       let s : FunctionStands set k x f = stands.functions x f is there in
       record {
         covered = record {

@@ -16,6 +16,7 @@ use Rattle.pattern_leaves.specs.declared.names.TopLevel.{TopLevel}
 use Rattle.constraint_gen.specs.Models.{around_of}
 use Rattle.size_notes.specs.Bodies.{function_read, mapping_read, measure_read, opening_read}
 use Rattle.checked_meaning.specs.Checked.{Cases, Checks}
+use Rattle.checked_meaning.specs.Fits.{AllFit}
 use Rattle.value_laws.specs.Belonging.{Integers}
 use Rattle.note_laws.specs.Notes.{EachNote, OfOthers}
 use Rattle.met_notes.specs.Met.{Pair}
@@ -72,7 +73,9 @@ CoversOpenings m past covered k = (i : ℕ) (o : Opening) → slice_get m.openin
 -- ---- all of a model
 
 pub record Covers (set : Setting) (m : CoreModel) (k : Checks) (rank : ℕ → ℕ) : Type 0 where
-  pub functions : (x : Work) (f : Function) → set.covered x ≡ true → slice_get m.functions x.function ≡ Some f → CoversFunction set k x f
+  -- where values of its Type variables have the sizes of its instance
+  pub functions : (x : Work) (f : Function) → set.covered x ≡ true → AllFit set.around.types x.types x.own → slice_get m.functions x.function ≡ Some f
+      → CoversFunction set k x f
   pub directions : (d : ℕ) (n : Direction) (side : Side) → slice_get m.directions d ≡ Some n → side_at m.directions d ≡ Some side
       → CoversDirection set rank k d n side
   pub ranks : (d : ℕ) (n : Direction) → slice_get m.directions d ≡ Some n → rank d < length m.directions

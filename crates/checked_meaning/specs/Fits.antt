@@ -1,6 +1,7 @@
 -- Whether a value has the sizes of a type (Sail language manual, "Bitvectors", "Vectors").
-use Rattle.std.specs.Prelude.{ℕ, ℤ, pos, nat_eq, Bool, true, false, ◌&&◌, List, [], ◌∷◌, length, map, Option, Some, None}
+use Rattle.std.specs.Prelude.{◌≡◌, ℕ, ℤ, pos, nat_eq, Bool, true, false, ◌&&◌, List, [], ◌∷◌, length, map, Option, Some, None}
 use Rattle.std.specs.Ordering.{int_eq}
+use Rattle.sail_types.specs.Belongs.{Reading as Closed, belongs}
 use Rattle.sail_types.specs.Named.{field_types, fields, payload}
 use Rattle.sail_types.specs.declared.table.Field.{Field}
 use Rattle.sail_types.specs.declared.table.Types.{Types}
@@ -56,3 +57,9 @@ abbrev pub all_have_sizes : Types → List Value → List Sized → Bool
 all_have_sizes types [] [] = true
 all_have_sizes types (v ∷ vs) (s ∷ ss) = has_sizes types v s && all_have_sizes types vs ss
 all_have_sizes types vs ss = false
+
+-- values of these types have these sizes, each at its place
+abbrev pub AllFit : Types → List Closed → List Sized → Type 0
+AllFit types rs [] = Unit {0}
+AllFit types [] (s ∷ ss) = ⊥
+AllFit types (r ∷ rs) (s ∷ ss) = ((v : Value) → belongs types v r ≡ true → has_sizes types v s ≡ true) × AllFit types rs ss
