@@ -22,7 +22,7 @@ use Rattle.sail_types.specs.declared.values.Value.{Value}
 use Rattle.value_indices.specs.Opening.{equal}
 use Rattle.value_indices.specs.Steps.{Conditions, conjunction}
 use Rattle.value_indices.specs.declared.indices.Indices.{Indices, out-Indices, roll-Indices}
-use Rattle.value_indices.specs.declared.indices.Indices.TheFolds.{fold-roll-Indices, fold-roll-Reading, map-Indices, map-Reading, ind-Reading}
+use Rattle.value_indices.specs.declared.indices.Indices.TheFolds.{map-Reading, ind-Reading}
 use Rattle.value_indices.specs.declared.indices.Indices.TheOpen as W
 use Rattle.value_indices.specs.declared.indices.Indices.TheOpen.{Indices-F, Reading-F}
 use Rattle.value_indices.specs.declared.indices.Indices.TheVariants as I
@@ -40,7 +40,7 @@ use Rattle.value_laws.proofs.Knowing.{AllOpened, Opened, both_opened}
 use Rattle.wide_types.specs.Widening.{agrees_within, differs, each_agrees, each_kept, each_type_agrees, if_alike, implies, is_below}
 use Rattle.wide_types.specs.Widening.{is_con_below, item_shape, kept_type, kept_value, opened_or_not, part_shapes, same_index, same_indices, same_num}
 use Rattle.wide_types.specs.Widening.{same_truth, types_agree}
-use Rattle.expression_forms.specs.Inside.{is_type_told, is_type_whole, is_value_told, is_value_whole, type_form_whole, value_form_whole}
+use Rattle.expression_forms.specs.Inside.{is_type_told, is_value_told}
 use Rattle.meeting_laws.specs.Laws.{IsFull}
 use Rattle.meeting_laws.proofs.Wider.{tuple_wider}
 use Rattle.meeting_laws.proofs.Forms.{each_of}
@@ -271,55 +271,45 @@ module _ (types : Types) (past : Positive) (own : List Closed) {m : ℕ} (f : Po
   All test xs = list_all (λ b. b) (map test xs) ≡ true
 
   Values : ℕ → Type 0
-  Values d = (i j : Indices) → is_value_told i ≡ true → is_value_whole i ≡ true → is_plain_value j ≡ true → AllHold (agrees_within d m i j)
+  Values d = (i j : Indices) → is_value_told i ≡ true → is_plain_value j ≡ true → AllHold (agrees_within d m i j)
       → KeepsAs i (wide_now j)
 
   Kinds : ℕ → Type 0
-  Kinds d = (r : Reading) (j : Indices) → is_type_told r ≡ true → is_type_whole r ≡ true → is_plain_value j ≡ true
+  Kinds d = (r : Reading) (j : Indices) → is_type_told r ≡ true → is_plain_value j ≡ true
       → AllHold (agrees_within d m (shown r) j) → KeepsTypeAs r (wide_now j)
 
-  value_whole : (x : Indices-F Indices Reading)
-      → is_value_whole (roll-Indices x) ≡ value_form_whole (map-Indices Indices Reading Bool Bool is_value_whole is_type_whole x)
-  value_whole x = fold-roll-Indices Bool Bool value_form_whole type_form_whole x
-
-  type_whole : (x : Reading-F Indices Reading)
-      → is_type_whole (roll-Reading x) ≡ type_form_whole (map-Reading Indices Reading Bool Bool is_value_whole is_type_whole x)
-  type_whole x = fold-roll-Reading Bool Bool value_form_whole type_form_whole x
-
   module _ (d : ℕ) (values : Values d) (kinds : Kinds d) where
-    type_as : (r q : Reading) → is_type_told r ≡ true → is_type_whole r ≡ true → is_plain q ≡ true → AllHold (types_agree (agrees_within d m) m r q)
+    type_as : (r q : Reading) → is_type_told r ≡ true → is_plain q ≡ true → AllHold (types_agree (agrees_within d m) m r q)
         → KeepsTypeAs r (now q)
     unfolding Kinds
-    type_as r q told whole plain k =
+    type_as r q told plain k =
         subst (KeepsTypeAs r) (wide_shown q plain)
-        (kinds r (shown q) told whole (plain_shown q plain) (subst AllHold (types_agree_shown m d r q (told_plain r told) plain) k))
+        (kinds r (shown q) told (plain_shown q plain) (subst AllHold (types_agree_shown m d r q (told_plain r told) plain) k))
 
-    types_as : (rs qs : List Reading) → All is_type_told rs → All is_type_whole rs → All is_plain qs → length rs ≡ length qs
+    types_as : (rs qs : List Reading) → All is_type_told rs → All is_plain qs → length rs ≡ length qs
         → AllHold (each_type_agrees (agrees_within d m) m rs qs) → (ss : List Shape) (n : ℕ) (p : Point n) (facts : List Fact) → Later f p
         → AllGive types past own (ClosedsOf types past own f full h agree) (map (closed types mu own) qs) n p facts (each_kept (map (kept_type types m) rs) ss)
     unfolding KeepsTypeAs
-    types_as [] [] told whole plain e k ss n p facts l = ([], tt, gives [] (λ g a. refl))
-    types_as [] (q ∷ qs) told whole plain e k ss n p facts l = absurd (cc)
-    types_as (r ∷ rs) [] told whole plain e k ss n p facts l = absurd (cc)
-    types_as (r ∷ rs) (q ∷ qs) told whole plain e k [] n p facts l =
+    types_as [] [] told plain e k ss n p facts l = ([], tt, gives [] (λ g a. refl))
+    types_as [] (q ∷ qs) told plain e k ss n p facts l = absurd (cc)
+    types_as (r ∷ rs) [] told plain e k ss n p facts l = absurd (cc)
+    types_as (r ∷ rs) (q ∷ qs) told plain e k [] n p facts l =
         let t = and_parts (is_type_told r) (list_all (λ b. b) (map is_type_told rs)) told in
-        let w = and_parts (is_type_whole r) (list_all (λ b. b) (map is_type_whole rs)) whole in
         let s = and_parts (is_plain q) (plains qs) plain in
         let c = parted (types_agree (agrees_within d m) m r q) (each_type_agrees (agrees_within d m) m rs qs) k in
         both_give types past own shut (ClosedsOf types past own f full h agree) (now q) (map (closed types mu own) qs) (λ g x xs. refl)
-        (type_as r q t.0 w.0 s.0 c.0 V.Hole n p facts l)
-        (λ j z fs b. types_as rs qs t.1 w.1 s.1 (let o : length rs ≡ length qs = cc in o) c.1 [] j z fs (later_on l b))
-    types_as (r ∷ rs) (q ∷ qs) told whole plain e k (u ∷ us) n p facts l =
+        (type_as r q t.0 s.0 c.0 V.Hole n p facts l)
+        (λ j z fs b. types_as rs qs t.1 s.1 (let o : length rs ≡ length qs = cc in o) c.1 [] j z fs (later_on l b))
+    types_as (r ∷ rs) (q ∷ qs) told plain e k (u ∷ us) n p facts l =
         let t = and_parts (is_type_told r) (list_all (λ b. b) (map is_type_told rs)) told in
-        let w = and_parts (is_type_whole r) (list_all (λ b. b) (map is_type_whole rs)) whole in
         let s = and_parts (is_plain q) (plains qs) plain in
         let c = parted (types_agree (agrees_within d m) m r q) (each_type_agrees (agrees_within d m) m rs qs) k in
         both_give types past own shut (ClosedsOf types past own f full h agree) (now q) (map (closed types mu own) qs) (λ g x xs. refl)
-        (type_as r q t.0 w.0 s.0 c.0 u n p facts l)
-        (λ j z fs b. types_as rs qs t.1 w.1 s.1 (let o : length rs ≡ length qs = cc in o) c.1 us j z fs (later_on l b))
+        (type_as r q t.0 s.0 c.0 u n p facts l)
+        (λ j z fs b. types_as rs qs t.1 s.1 (let o : length rs ≡ length qs = cc in o) c.1 us j z fs (later_on l b))
 
     abbrev Parts : List Indices → List Indices → Type 0
-    Parts is js = All is_value_told is × All is_value_whole is × All is_plain_value js × (length is ≡ length js)
+    Parts is js = All is_value_told is × All is_plain_value js × (length is ≡ length js)
         × AllHold (each_agrees (agrees_within d m) is js)
 
     -- the first two, and the others
@@ -327,11 +317,10 @@ module _ (types : Types) (past : Positive) (own : List Closed) {m : ℕ} (f : Po
     unfolding Values
     first_part i is j js h =
         let t = and_parts (is_value_told i) (list_all (λ b. b) (map is_value_told is)) h.0 in
-        let w = and_parts (is_value_whole i) (list_all (λ b. b) (map is_value_whole is)) h.1 in
-        let s = and_parts (is_plain_value j) (list_all (λ b. b) (map is_plain_value js)) h.2 in
-        let o : length (i ∷ is) ≡ length (j ∷ js) = h.3 in
-        let c = parted (agrees_within d m i j) (each_agrees (agrees_within d m) is js) h.4 in
-        (values i j t.0 w.0 s.0 c.0, (t.1, w.1, s.1, (let q : length is ≡ length js = cc in q), c.1))
+        let s = and_parts (is_plain_value j) (list_all (λ b. b) (map is_plain_value js)) h.1 in
+        let o : length (i ∷ is) ≡ length (j ∷ js) = h.2 in
+        let c = parted (agrees_within d m i j) (each_agrees (agrees_within d m) is js) h.3 in
+        (values i j t.0 s.0 c.0, (t.1, s.1, (let q : length is ≡ length js = cc in q), c.1))
 
     uneven : {A : Type 0} (i : Indices) (is : List Indices) → (length (i ∷ is) ≡ 0) → A
     uneven i is e = absurd (cc)
@@ -427,26 +416,26 @@ module _ (types : Types) (past : Positive) (own : List Closed) {m : ℕ} (f : Po
         (λ s n p facts l v e. held_value types past own f full h agree _ v (variable_held types past own f full h agree i n p facts) e))
     variable_as i y k = none_differs k
 
-    list_as : (r : Reading) → is_type_told r ≡ true → is_type_whole r ≡ true → (y : Indices-F Indices Reading) → is_plain_value (roll-Indices y) ≡ true
+    list_as : (r : Reading) → is_type_told r ≡ true → (y : Indices-F Indices Reading) → is_plain_value (roll-Indices y) ≡ true
         → Compared (W.List r) y → KeepsAs (roll-Indices (W.List r)) (wide_now (roll-Indices y))
     unfolding KeepsTypeAs
-    list_as r told whole W.Never plain k = never_as (roll-Indices (W.List r))
-    list_as r told whole (W.List q) plain k =
-        let item : KeepsTypeAs r (now q) = type_as r q told whole (sym (plain_value (W.List q)) ∙ plain) k in
+    list_as r told W.Never plain k = never_as (roll-Indices (W.List r))
+    list_as r told (W.List q) plain k =
+        let item : KeepsTypeAs r (now q) = type_as r q told (sym (plain_value (W.List q)) ∙ plain) k in
         by_form (W.List r) (W.List q)
         (λ s n p facts l. held_wide types past own f full h agree _
         (list_held types past own f full h agree (now q) (kept_type types m r (item_shape s)) n p facts (item (item_shape s) n p facts l)))
         (λ s n p facts l v e. held_value types past own f full h agree _ v
         (list_held types past own f full h agree (now q) (kept_type types m r (item_shape s)) n p facts (item (item_shape s) n p facts l)) e)
-    list_as r told whole y plain k = none_differs k
+    list_as r told y plain k = none_differs k
 
-    vector_as : (t : Num) (r : Reading) → is_type_told r ≡ true → is_type_whole r ≡ true → (y : Indices-F Indices Reading)
+    vector_as : (t : Num) (r : Reading) → is_type_told r ≡ true → (y : Indices-F Indices Reading)
         → is_plain_value (roll-Indices y) ≡ true → Compared (W.Vector t r) y → KeepsAs (roll-Indices (W.Vector t r)) (wide_now (roll-Indices y))
     unfolding KeepsTypeAs
-    vector_as t r told whole W.Never plain k = never_as (roll-Indices (W.Vector t r))
-    vector_as t r told whole (W.Vector u q) plain k =
+    vector_as t r told W.Never plain k = never_as (roll-Indices (W.Vector t r))
+    vector_as t r told (W.Vector u q) plain k =
         let c = parted (same_num m t u) (types_agree (agrees_within d m) m r q) k in
-        let item : KeepsTypeAs r (now q) = type_as r q told whole (sym (plain_value (W.Vector u q)) ∙ plain) c.1 in
+        let item : KeepsTypeAs r (now q) = type_as r q told (sym (plain_value (W.Vector u q)) ∙ plain) c.1 in
         by_form (W.Vector t r) (W.Vector u q)
         (λ s n p facts l. held_wide types past own f full h agree _
         (vector_held types past own f full h agree t (number mu u) (num_agrees t u c.0) (now q) (kept_type types m r (item_shape s)) n p facts l
@@ -454,16 +443,15 @@ module _ (types : Types) (past : Positive) (own : List Closed) {m : ℕ} (f : Po
         (λ s n p facts l v e. held_value types past own f full h agree _ v
         (vector_held types past own f full h agree t (number mu u) (num_agrees t u c.0) (now q) (kept_type types m r (item_shape s)) n p facts l
         (λ a z fs b. item (item_shape s) a z fs (later_on l b))) e)
-    vector_as t r told whole y plain k = none_differs k
+    vector_as t r told y plain k = none_differs k
 
-    tuple_as : (is : List Indices) → All is_value_told is → All is_value_whole is → (y : Indices-F Indices Reading)
+    tuple_as : (is : List Indices) → All is_value_told is → (y : Indices-F Indices Reading)
         → is_plain_value (roll-Indices y) ≡ true → Compared (W.Tuple is) y → KeepsAs (roll-Indices (W.Tuple is)) (wide_now (roll-Indices y))
-    tuple_as is told whole W.Never plain k = never_as (roll-Indices (W.Tuple is))
-    tuple_as is told whole (W.Tuple js) plain k =
+    tuple_as is told W.Never plain k = never_as (roll-Indices (W.Tuple is))
+    tuple_as is told (W.Tuple js) plain k =
         let c = are_alike (nat_eq (length is) (length js)) (each_agrees (agrees_within d m) is js) k in
         let parts : Parts is js = (
           told,
-          whole,
           sym (plain_value (W.Tuple js)) ∙ plain,
           (Decides-eqb (length is) (length js)).0 c.0,
           c.1,
@@ -474,12 +462,12 @@ module _ (types : Types) (past : Positive) (own : List Closed) {m : ℕ} (f : Po
         (wides_as is js parts (part_shapes s) n p facts l))
         (λ s n p facts l v e. tuple_value types past own f full h agree cs (each_kept (opened_or_not true (map (kept_value types m) is)) (part_shapes s)) v n p
         facts e (λ vs o. opens_as is js parts (part_shapes s) n p facts l vs o))
-    tuple_as is told whole y plain k = none_differs k
+    tuple_as is told y plain k = none_differs k
 
-    named_as : (u : ℕ) (is : List Index) (rs : List Reading) → All is_type_told rs → All is_type_whole rs → (y : Indices-F Indices Reading)
+    named_as : (u : ℕ) (is : List Index) (rs : List Reading) → All is_type_told rs → (y : Indices-F Indices Reading)
         → is_plain_value (roll-Indices y) ≡ true → Compared (W.Named u is rs) y → KeepsAs (roll-Indices (W.Named u is rs)) (wide_now (roll-Indices y))
-    named_as u is rs told whole W.Never plain k = never_as (roll-Indices (W.Named u is rs))
-    named_as u is rs told whole (W.Named v js qs) plain k =
+    named_as u is rs told W.Never plain k = never_as (roll-Indices (W.Named u is rs))
+    named_as u is rs told (W.Named v js qs) plain k =
         let c = are_alike ((nat_eq u v && nat_eq (length is) (length js)) && nat_eq (length rs) (length qs))
         (same_indices m is js ++ each_type_agrees (agrees_within d m) m rs qs) k in
         let o = and_parts (nat_eq u v && nat_eq (length is) (length js)) (nat_eq (length rs) (length qs)) c.0 in
@@ -493,72 +481,70 @@ module _ (types : Types) (past : Positive) (own : List Closed) {m : ℕ} (f : Po
         (by_form (W.Named u is rs) (W.Named u js qs)
         (λ s n p facts l. held_wide types past own f full h agree _
         (named_held types past own f full h agree u is js same cs (each_kept (map (kept_type types m) rs) (part_shapes s)) n p facts l
-        (λ b z fs e. types_as rs qs told whole plain_types many a.1 (part_shapes s) b z fs (later_on l e))))
+        (λ b z fs e. types_as rs qs told plain_types many a.1 (part_shapes s) b z fs (later_on l e))))
         (λ s n p facts l w e. held_value types past own f full h agree _ w
         (named_held types past own f full h agree u is js same cs (each_kept (map (kept_type types m) rs) (part_shapes s)) n p facts l
-        (λ b z fs i. types_as rs qs told whole plain_types many a.1 (part_shapes s) b z fs (later_on l i))) e))
-    named_as u is rs told whole y plain k = none_differs k
+        (λ b z fs i. types_as rs qs told plain_types many a.1 (part_shapes s) b z fs (later_on l i))) e))
+    named_as u is rs told y plain k = none_differs k
 
-    form_as : (x y : Indices-F Indices Reading) → is_value_told (roll-Indices x) ≡ true → is_value_whole (roll-Indices x) ≡ true
-        → is_plain_value (roll-Indices y) ≡ true → Compared x y → KeepsAs (roll-Indices x) (wide_now (roll-Indices y))
-    form_as W.Never y told whole plain k = no (sym (value_told W.Never) ∙ told)
-    form_as W.Unit y told whole plain k = unit_as y k
-    form_as (W.Truth c) y told whole plain k = truth_as c y k
-    form_as W.Bit y told whole plain k = bit_as y k
-    form_as (W.Bits t) y told whole plain k = bits_as t y k
-    form_as (W.Integer t) y told whole plain k = integer_as t y k
-    form_as W.String y told whole plain k = string_as y k
-    form_as (W.List r) y told whole plain k = list_as r (sym (value_told (W.List r)) ∙ told) (sym (value_whole (W.List r)) ∙ whole) y plain k
-    form_as (W.Vector t r) y told whole plain k =
-        vector_as t r (sym (value_told (W.Vector t r)) ∙ told) (sym (value_whole (W.Vector t r)) ∙ whole) y plain k
-    form_as (W.Tuple is) y told whole plain k = tuple_as is (sym (value_told (W.Tuple is)) ∙ told) (sym (value_whole (W.Tuple is)) ∙ whole) y plain k
-    form_as (W.Named u is rs) y told whole plain k =
-        named_as u is rs (sym (value_told (W.Named u is rs)) ∙ told) (sym (value_whole (W.Named u is rs)) ∙ whole) y plain k
-    form_as (W.Variable i) y told whole plain k = variable_as i y k
+    form_as : (x y : Indices-F Indices Reading) → is_value_told (roll-Indices x) ≡ true → is_plain_value (roll-Indices y) ≡ true
+        → Compared x y → KeepsAs (roll-Indices x) (wide_now (roll-Indices y))
+    form_as W.Never y told plain k = no (sym (value_told W.Never) ∙ told)
+    form_as W.Unit y told plain k = unit_as y k
+    form_as (W.Truth c) y told plain k = truth_as c y k
+    form_as W.Bit y told plain k = bit_as y k
+    form_as (W.Bits t) y told plain k = bits_as t y k
+    form_as (W.Integer t) y told plain k = integer_as t y k
+    form_as W.String y told plain k = string_as y k
+    form_as (W.List r) y told plain k = list_as r (sym (value_told (W.List r)) ∙ told) y plain k
+    form_as (W.Vector t r) y told plain k =
+        vector_as t r (sym (value_told (W.Vector t r)) ∙ told) y plain k
+    form_as (W.Tuple is) y told plain k = tuple_as is (sym (value_told (W.Tuple is)) ∙ told) y plain k
+    form_as (W.Named u is rs) y told plain k =
+        named_as u is rs (sym (value_told (W.Named u is rs)) ∙ told) y plain k
+    form_as (W.Variable i) y told plain k = variable_as i y k
 
     values_next : Values (suc d)
     unfolding Values
-    values_next i j told whole plain k =
+    values_next i j told plain k =
         let back : roll-Indices (out-Indices i) ≡ i = roll-out-Indices i in
         let other : roll-Indices (out-Indices j) ≡ j = roll-out-Indices j in
         subst (λ z. KeepsAs z (wide_now j)) back (subst (λ z. KeepsAs (roll-Indices (out-Indices i)) (wide_now z)) other
-        (form_as (out-Indices i) (out-Indices j) (ap is_value_told back ∙ told) (ap is_value_whole back ∙ whole) (ap is_plain_value other ∙ plain) k))
+        (form_as (out-Indices i) (out-Indices j) (ap is_value_told back ∙ told) (ap is_plain_value other ∙ plain) k))
 
     -- ---- types: by what is shown of them
 
-    shown_parts_as : (rs : List Reading) (js : List Indices) → All is_type_told rs → All is_type_whole rs → All is_plain_value js
+    shown_parts_as : (rs : List Reading) (js : List Indices) → All is_type_told rs → All is_plain_value js
         → length (map shown rs) ≡ length js → AllHold (each_agrees (agrees_within d m) (map shown rs) js)
         → (ss : List Shape) (n : ℕ) (p : Point n) (facts : List Fact) → Later f p
         → AllGive types past own (ClosedsOf types past own f full h agree) (wides (map (meant types mu own) js)) n p facts
         (each_kept (map (kept_type types m) rs) ss)
     unfolding Kinds KeepsTypeAs
-    shown_parts_as [] [] told whole plain e k ss n p facts l = ([], tt, gives [] (λ g a. refl))
-    shown_parts_as [] (j ∷ js) told whole plain e k ss n p facts l = uneven j js (sym e)
-    shown_parts_as (r ∷ rs) [] told whole plain e k ss n p facts l = uneven (shown r) (map shown rs) e
-    shown_parts_as (r ∷ rs) (j ∷ js) told whole plain e k [] n p facts l =
+    shown_parts_as [] [] told plain e k ss n p facts l = ([], tt, gives [] (λ g a. refl))
+    shown_parts_as [] (j ∷ js) told plain e k ss n p facts l = uneven j js (sym e)
+    shown_parts_as (r ∷ rs) [] told plain e k ss n p facts l = uneven (shown r) (map shown rs) e
+    shown_parts_as (r ∷ rs) (j ∷ js) told plain e k [] n p facts l =
         let t = and_parts (is_type_told r) (list_all (λ b. b) (map is_type_told rs)) told in
-        let w = and_parts (is_type_whole r) (list_all (λ b. b) (map is_type_whole rs)) whole in
         let s = and_parts (is_plain_value j) (list_all (λ b. b) (map is_plain_value js)) plain in
         let c = parted (agrees_within d m (shown r) j) (each_agrees (agrees_within d m) (map shown rs) js) k in
         both_give types past own shut (ClosedsOf types past own f full h agree) (wide_now j) (wides (map (meant types mu own) js)) (λ g x xs. refl)
-        (kinds r j t.0 w.0 s.0 c.0 V.Hole n p facts l)
-        (λ a z fs b. shown_parts_as rs js t.1 w.1 s.1 (let o : length (map shown rs) ≡ length js = cc in o) c.1 [] a z fs (later_on l b))
-    shown_parts_as (r ∷ rs) (j ∷ js) told whole plain e k (u ∷ us) n p facts l =
+        (kinds r j t.0 s.0 c.0 V.Hole n p facts l)
+        (λ a z fs b. shown_parts_as rs js t.1 s.1 (let o : length (map shown rs) ≡ length js = cc in o) c.1 [] a z fs (later_on l b))
+    shown_parts_as (r ∷ rs) (j ∷ js) told plain e k (u ∷ us) n p facts l =
         let t = and_parts (is_type_told r) (list_all (λ b. b) (map is_type_told rs)) told in
-        let w = and_parts (is_type_whole r) (list_all (λ b. b) (map is_type_whole rs)) whole in
         let s = and_parts (is_plain_value j) (list_all (λ b. b) (map is_plain_value js)) plain in
         let c = parted (agrees_within d m (shown r) j) (each_agrees (agrees_within d m) (map shown rs) js) k in
         both_give types past own shut (ClosedsOf types past own f full h agree) (wide_now j) (wides (map (meant types mu own) js)) (λ g x xs. refl)
-        (kinds r j t.0 w.0 s.0 c.0 u n p facts l)
-        (λ a z fs b. shown_parts_as rs js t.1 w.1 s.1 (let o : length (map shown rs) ≡ length js = cc in o) c.1 us a z fs (later_on l b))
+        (kinds r j t.0 s.0 c.0 u n p facts l)
+        (λ a z fs b. shown_parts_as rs js t.1 s.1 (let o : length (map shown rs) ≡ length js = cc in o) c.1 us a z fs (later_on l b))
 
-    parts_as : (rs : List Reading) → All is_type_told rs → All is_type_whole rs → (y : Indices-F Indices Reading) → is_plain_value (roll-Indices y) ≡ true
+    parts_as : (rs : List Reading) → All is_type_told rs → (y : Indices-F Indices Reading) → is_plain_value (roll-Indices y) ≡ true
         → Compared (W.Tuple (map shown rs)) y → KeepsTypeAs (roll-Reading (W.Parts rs)) (wide_now (roll-Indices y))
     unfolding KeepsTypeAs
-    parts_as rs told whole W.Never plain k = type_never (roll-Reading (W.Parts rs))
-    parts_as rs told whole (W.Tuple js) plain k = λ s n p facts l.
+    parts_as rs told W.Never plain k = type_never (roll-Reading (W.Parts rs))
+    parts_as rs told (W.Tuple js) plain k = λ s n p facts l.
         let c = are_alike (nat_eq (length (map shown rs)) (length js)) (each_agrees (agrees_within d m) (map shown rs) js) k in
-        let all = shown_parts_as rs js told whole (sym (plain_value (W.Tuple js)) ∙ plain) ((Decides-eqb (length (map shown rs)) (length js)).0 c.0) c.1
+        let all = shown_parts_as rs js told (sym (plain_value (W.Tuple js)) ∙ plain) ((Decides-eqb (length (map shown rs)) (length js)).0 c.0) c.1
         (part_shapes s) n p facts l in
         let whole_type : Closed = tuple_of (none types past own) all.0 in (
           whole_type,
@@ -568,7 +554,12 @@ module _ (types : Types) (past : Positive) (own : List Closed) {m : ℕ} (f : Po
               (goes_then all.2 (λ a z fs qs b e. gives (R.Parts qs) (λ g o.
               closed_is types (there g) own (R.Parts qs) (W.Parts qs) (R.rolls-Parts qs) ∙ ap (tuple_of (none types past own)) (e g o)))),
         )
-    parts_as rs told whole y plain k = none_differs k
+    parts_as rs told y plain k = none_differs k
+
+    -- a hole of the first, of which no value is
+    hole_as : (y : Indices-F Indices Reading) → Compared W.Never y → KeepsTypeAs (roll-Reading W.Hole) (wide_now (roll-Indices y))
+    hole_as W.Never k = type_never (roll-Reading W.Hole)
+    hole_as y k = none_differs k
 
   widened_as : (i j : Indices) → KeepsAs i (wide_now j) → KeepsTypeAs (roll-Reading (W.Widened i)) (wide_now j)
   unfolding KeepsAs KeepsTypeAs
@@ -582,45 +573,48 @@ module _ (types : Types) (past : Positive) (own : List Closed) {m : ℕ} (f : Po
       )
 
   kind_as : (d : ℕ) → Values d → Kinds d → (z : Reading-F Indices Reading) (j : Indices) → is_type_told (roll-Reading z) ≡ true
-      → is_type_whole (roll-Reading z) ≡ true → is_plain_value j ≡ true → AllHold (agrees_within (suc d) m (shown (roll-Reading z)) j)
+      → is_plain_value j ≡ true → AllHold (agrees_within (suc d) m (shown (roll-Reading z)) j)
       → KeepsTypeAs (roll-Reading z) (wide_now j)
   unfolding Values
-  kind_as d values kinds (W.Of t is rs) j told whole plain k = no (sym (type_told (W.Of t is rs)) ∙ told)
-  kind_as d values kinds (W.Widened i) j told whole plain k =
-      widened_as i j (values_next d values kinds i j (sym (type_told (W.Widened i)) ∙ told) (sym (type_whole (W.Widened i)) ∙ whole) plain
+  kind_as d values kinds (W.Of t is rs) j told plain k = no (sym (type_told (W.Of t is rs)) ∙ told)
+  kind_as d values kinds (W.Widened i) j told plain k =
+      widened_as i j (values_next d values kinds i j (sym (type_told (W.Widened i)) ∙ told) plain
       (subst (λ x. AllHold (agrees_within (suc d) m x j)) (shown_widened i) k))
-  kind_as d values kinds (W.Parts rs) j told whole plain k =
+  kind_as d values kinds (W.Parts rs) j told plain k =
       let other : roll-Indices (out-Indices j) ≡ j = roll-out-Indices j in
       let same = compared_is m d (shown (roll-Reading (W.Parts rs))) j (W.Tuple (map shown rs)) (out-Indices j)
       (I.rolls-Tuple (map shown rs) ∙ sym (shown_parts rs)) other in
       subst (λ z. KeepsTypeAs (roll-Reading (W.Parts rs)) (wide_now z)) other
-      (parts_as d values kinds rs (sym (type_told (W.Parts rs)) ∙ told) (sym (type_whole (W.Parts rs)) ∙ whole) (out-Indices j)
+      (parts_as d values kinds rs (sym (type_told (W.Parts rs)) ∙ told) (out-Indices j)
       (ap is_plain_value other ∙ plain) (subst AllHold same k))
-  kind_as d values kinds W.Hole j told whole plain k = no (sym (type_whole W.Hole) ∙ whole)
+  kind_as d values kinds W.Hole j told plain k =
+      let other : roll-Indices (out-Indices j) ≡ j = roll-out-Indices j in
+      let same = compared_is m d (shown (roll-Reading W.Hole)) j W.Never (out-Indices j) (I.rolls-Never ∙ sym shown_hole) other in
+      subst (λ z. KeepsTypeAs (roll-Reading W.Hole) (wide_now z)) other (hole_as d values kinds (out-Indices j) (subst AllHold same k))
 
   kinds_next : (d : ℕ) → Values d → Kinds d → Kinds (suc d)
   unfolding Kinds
-  kinds_next d values kinds r j told whole plain k =
+  kinds_next d values kinds r j told plain k =
       let back : roll-Reading (out-Reading r) ≡ r = roll-out-Reading r in
       subst (λ z. KeepsTypeAs z (wide_now j)) back
-      (kind_as d values kinds (out-Reading r) j (ap is_type_told back ∙ told) (ap is_type_whole back ∙ whole) plain
+      (kind_as d values kinds (out-Reading r) j (ap is_type_told back ∙ told) plain
       (subst (λ z. AllHold (agrees_within (suc d) m (shown z) j)) (sym back) k))
 
   no_values : Values zero
   unfolding Values
-  no_values i j told whole plain k = none_differs k
+  no_values i j told plain k = none_differs k
 
   no_kinds : Kinds zero
   unfolding Kinds
-  no_kinds r j told whole plain k = none_differs k
+  no_kinds r j told plain k = none_differs k
 
   to_depth : (d : ℕ) → Values d × Kinds d
   to_depth zero = (no_values, no_kinds)
   to_depth (suc d) = let below = to_depth d in (values_next d below.0 below.1, kinds_next d below.0 below.1)
 
   -- where all that is owed is true
-  pub agrees_so : (d : ℕ) (i j : Indices) → is_value_told i ≡ true → is_value_whole i ≡ true → is_value_told j ≡ true
+  pub agrees_so : (d : ℕ) (i j : Indices) → is_value_told i ≡ true → is_value_told j ≡ true
       → true_in mu (conjunction (agrees_within d m i j)) ≡ true → (s : Shape) (n : ℕ) (p : Point n) (facts : List Fact) → Later f p → (v : Value)
       → belongs types v (wide_now j) ≡ true → Opened types past own v n p facts (kept_value types m i true s)
   unfolding Values KeepsAs
-  agrees_so d i j told whole tells k = ((to_depth d).0 i j told whole (told_plain_value j tells) (all_hold (agrees_within d m i j) k)).1
+  agrees_so d i j told tells k = ((to_depth d).0 i j told (told_plain_value j tells) (all_hold (agrees_within d m i j) k)).1

@@ -14,7 +14,7 @@ use Rattle.value_indices.specs.declared.notes.Fact.{Fact}
 use Rattle.value_laws.specs.Belonging.{Integers, Meant, standing, meant, closed, has, is_of}
 use Rattle.value_laws.specs.Known.{Point, Agree, Later, Goes}
 use Rattle.wide_types.specs.Widening.{agrees_within, filled, met, value_spelled, widened, widened_type}
-use Rattle.expression_forms.specs.Inside.{is_value_told, is_value_whole}
+use Rattle.expression_forms.specs.Inside.{is_value_told}
 
 -- ---- widened types
 
@@ -39,12 +39,10 @@ MeetingIsSound = (types : Types) (past : Positive) (own : List Closed) (first : 
     → (n : ℕ) (p : Point n) (facts : List Fact) → Later f p
     → (j : Meant) × (j.holds v ≡ true) × Goes past n p facts (met types m shape first) (λ g i. meant types (standing past g) own i ≡ j)
 
--- so it is where a value is of a later way, which agrees with the first by the numbers that are kept of it, these say all of every item of both, and
--- the first leaves no hole
+-- so it is where a value is of a later way, which agrees with the first by the numbers that are kept of it, and these say all of every item of both
 abbrev pub AgreeingIsSound : Type 0
 AgreeingIsSound = (types : Types) (past : Positive) (own : List Closed) (first later : Indices) (shape : Shape) (m : ℕ) (f : Point m) → IsFull f
-    → (h : Integers) → Agree f h → is_value_told (value_spelled first) ≡ true → is_value_whole (value_spelled first) ≡ true
-    → is_value_told (value_spelled later) ≡ true
+    → (h : Integers) → Agree f h → is_value_told (value_spelled first) ≡ true → is_value_told (value_spelled later) ≡ true
     → true_in (standing past h) (conjunction (agrees_within deepest m (value_spelled first) (value_spelled later))) ≡ true
     → (v : Value) → is_of types (standing past h) own (R.Widened later) v ≡ true → (n : ℕ) (p : Point n) (facts : List Fact) → Later f p
     → (j : Meant) × (j.holds v ≡ true) × Goes past n p facts (met types m shape first) (λ g i. meant types (standing past g) own i ≡ j)

@@ -369,9 +369,10 @@ form_agrees agree m (W.Tuple is) (W.Tuple js) = each_agrees agree is js
 form_agrees agree m (W.Named u is rs) (W.Named v js qs) = same_indices m is js ++ each_type_agrees agree m rs qs
 form_agrees agree m i j = []
 
--- whether two values are of one form; of what never ends there is none
+-- whether two values are of one form: another that never ends is of each, and of what never ends there is no other
 abbrev pub alike : Indices-F Indices Reading → Indices-F Indices Reading → Bool
-alike W.Never j = true
+alike W.Never W.Never = true
+alike W.Never j = false
 alike i W.Never = true
 alike W.Unit W.Unit = true
 alike (W.Truth c) (W.Truth d) = true

@@ -106,12 +106,13 @@ fn push_same_indices(
     Ok(())
 }
 
-/// Whether two values are of one form; of what never ends there is none.
+/// Whether two values are of one form: another that never ends is of each, and of what never ends there is no other.
 fn is_alike(first: &Indices, other: &Indices) -> bool
     ensures { result ≡ wide.alike (out-Indices first.now) (out-Indices other.now) }
 {
     match (first, other) {
-        (Indices::Never, _) => true,
+        (Indices::Never, Indices::Never) => true,
+        (Indices::Never, _) => false,
         (_, Indices::Never) => true,
         (Indices::Unit, Indices::Unit) => true,
         (Indices::Truth(_), Indices::Truth(_)) => true,

@@ -8,6 +8,6 @@ use Rattle.meeting_laws.proofs.Agreeing.{agrees_so}
 use Rattle.meeting_laws.proofs.agreeing_is_sound.Goals as goal
 
 pub returns : goal.returns
-returns c types past own first later shape m f full h agree told whole tells k v e n p facts behind =
-    agrees_so types past own f full h agree deepest (value_spelled first) (value_spelled later) told whole tells k shape n p facts behind v
+returns c types past own first later shape m f full h agree told tells k v e n p facts behind =
+    agrees_so types past own f full h agree deepest (value_spelled first) (value_spelled later) told tells k shape n p facts behind v
     (spelled_wider types past own h later v (sym (ap (belongs types v) (widened_is types past own h later)) ∙ e))
