@@ -24,7 +24,7 @@ use Rattle.sail_core.specs.Making.{Making, plainly}
 use Rattle.sail_core.specs.Program.{plain, Measures, Setting, Calls, Ways, asking, crossed, gone, as_given, direction_at, ways, nearest, below, measured}
 use Rattle.sail_core.specs.Program.{answered, framed, entering, entered, calls, event_of, world_of}
 use Rattle.sail_core.specs.Start.{begun, ran_of, Opened, opened, opened_to, opened_not, Added, values_of, opening_kind, opening_world, opening_run}
-use Rattle.sail_core.specs.Start.{after_opening, openings_from, ran_from, lets_in, lets_of, nowhere, event_ticks, event_run}
+use Rattle.sail_core.specs.Start.{after_opening, blank, openings_from, ran_from, lets_in, lets_of, nowhere, event_ticks, event_run}
 use Rattle.checked_meaning.specs.Items.{Item, item, vals, items_of}
 use Rattle.checked_meaning.specs.Checked.{Cases, checked, Checks, checking}
 use Rattle.checked_meaning.specs.Alike.{plain_locals, Is, is, Alike, value_in, same, LetsAlike, no_lets, same_lets, Around, WorldsAlike, EndsAlike, is_stuck}
@@ -270,7 +270,7 @@ openings_alike : (k : Checks) (i : ℕ) (os : List Opening) (vs : List Value) (s
     → OpenedAlike (openings_from (checking k) i os vs state) (openings_from plain i os vs state)
 openings_alike k i [] vs state = same_opened (opened vs state)
 openings_alike k i (o ∷ os) vs state =
-    after_alike ((opening_alike k.types (k.opening i) vs o).at (λ j. None) (begun 0 state)) vs state (openings_from (checking k) (suc i) os)
+    after_alike ((opening_alike k.types (k.opening i) vs o).at (λ j. None) (begun 0 blank)) vs state (openings_from (checking k) (suc i) os)
     (openings_from plain (suc i) os) (λ us st. openings_alike k (suc i) os us st)
 
 lets_opened : {o p : Opened} → OpenedAlike o p → LetsAlike (lets_in o) (lets_in p)

@@ -22,7 +22,7 @@ use Rattle.sail_core.specs.Program.{plain as plain_sizing}
 use Rattle.sail_core.specs.Run as R
 use Rattle.sail_core.specs.Run.{Ended}
 use Rattle.sail_core.specs.Start as CoreStart
-use Rattle.sail_core.specs.Start.{begun, nowhere, set_all}
+use Rattle.sail_core.specs.Start.{begun, blank, nowhere, set_all}
 use Rattle.sail_meaning.specs.Start as SourceStart
 use Rattle.sail_meaning.specs.Text.{Text, let_of, register_of}
 use Rattle.sail_meaning.specs.World.{Bindings}
@@ -155,6 +155,9 @@ module _ (tabled : Tabled) (cycle : List ℕ → Option ℕ) (text : List Def)
 
   -- ---- one definition
 
+  blank_fits : RegistersFit tabled.types regs blank
+  blank_fits hart r v s e is = none e
+
   -- a let
   let_step : (place : Place) (p : Pat) (value : Exp) (more : List Def) (lets : List Local) (r : ℕ)
       → OpensFrom more (lets_with tabled own text lets (D.Let place p value)) r → OpensFrom ((D.Let place p value) ∷ more) lets r
@@ -166,9 +169,9 @@ module _ (tabled : Tabled) (cycle : List ℕ → Option ℕ) (text : List Def)
       let ends = lets_open_alike (under lets) regs source vs bs
       (text_opens tabled cycle text are types all_typed lets (once_here lets ((D.Let place p value) ∷ more) behind) vs bs
       (lets_of_bound tabled.types lets vs bs bound))
-      k.value.names k.value.known k.value.plain place p value w k.named k.value.named f.0 state fit in
-      after_alike (LetAdds tabled.types b.binds) (CoreStart.opening_run plain_making vs (binding_opening place b) (begun 0 state))
-      (SourceStart.opening_run (SourceStart.opening_world source bs) (let_of place p value) (begun 0 state)) ends vs bs state fit
+      k.value.names k.value.known k.value.plain place p value w k.named k.value.named f.0 blank blank_fits in
+      after_alike (LetAdds tabled.types b.binds) (CoreStart.opening_run plain_making vs (binding_opening place b) (begun 0 blank))
+      (SourceStart.opening_run (SourceStart.opening_world source bs) (let_of place p value) (begun 0 blank)) ends vs bs state fit
       (λ us s. core_from (suc i) more (lets ++ b.binds) r us s) (λ cs s. source_from more r cs s)
       (λ a c adds.
       let rest = next (suc i) before there count typed openings.1 f.1 sf behind (vs ++ a.values) (bs ++ c.names)
@@ -201,10 +204,10 @@ module _ (tabled : Tabled) (cycle : List ℕ → Option ℕ) (text : List Def)
       let sf3 = both_empty (register_faults tabled.types (within_variables tabled []) typ) (initial_found (under all) s value).faults sf2.0 in
       let ends = initials_open_alike (under all) regs source vs bs
       (text_opens tabled cycle text are types all_typed all once vs bs (valued_here lets ((D.Register place name typ (Some value)) ∷ more) behind vs bs bound))
-      k.names k.known k.plain place r s value whole k.as_written k.named sf3.1 state fit in
+      k.names k.known k.plain place r s value whole k.as_written k.named sf3.1 blank blank_fits in
       after_alike (RegisterAdds tabled.types r s)
-      (CoreStart.opening_run plain_making vs (opening place (Opens.Register r) (initial_found (under all) s value).core) (begun 0 state))
-      (SourceStart.opening_run (SourceStart.opening_world source bs) (register_of r value) (begun 0 state)) ends vs bs state fit
+      (CoreStart.opening_run plain_making vs (opening place (Opens.Register r) (initial_found (under all) s value).core) (begun 0 blank))
+      (SourceStart.opening_run (SourceStart.opening_world source bs) (register_of r value) (begun 0 blank)) ends vs bs state fit
       (λ us s2. core_from (suc i) more (lets ++ []) (suc r) us s2) (λ cs s2. source_from more (suc r) cs s2)
       (λ a c adds.
       let after : RunState = set_all r adds.value state in

@@ -18,7 +18,7 @@ use Rattle.sail_core.specs.Run.{Run, gives, stuck, stops, ◌then◌, ◌or_else
 use Rattle.sail_core.specs.Numbers.{Awaited}
 use Rattle.sail_core.specs.Making.{Making, plainly}
 use Rattle.sail_core.specs.Program.{Sizing, Ways, plain, calls, event_of}
-use Rattle.sail_core.specs.Start.{begun, values_of, opening_kind, opening_world, opening_run, after_opening, openings_from, openings_of, ran_from}
+use Rattle.sail_core.specs.Start.{begun, blank, values_of, opening_kind, opening_world, opening_run, after_opening, openings_from, openings_of, ran_from}
 use Rattle.sail_core.specs.Start.{nowhere, lets_in, event_ticks, setting_of, event_run, ran_of, or_nothing, model_meaning}
 use Rattle.sail_core.specs.Fragments.{core_in, function_in, direction_in, opening_kind_in, opening_in, model_in}
 use Rattle.mappings.specs.Rewriting.{free_function, free_direction, free_opening_kind, free_opening, without_mappings}
@@ -57,7 +57,7 @@ openings_free s i [] lets state h = refl
 openings_free s i (o ∷ os) lets state h =
     let b : (opening_in G.Resolved o ≡ true) × (list_all (opening_in G.Resolved) os ≡ true) = both_true (opening_in G.Resolved o)
     (list_all (opening_in G.Resolved) os) h in
-    λ j. after_opening (opening_free (s.opening i) lets o b.0 j (begun 0 state)) lets state (λ more later. openings_free s (suc i) os more later b.1 j)
+    λ j. after_opening (opening_free (s.opening i) lets o b.0 j (begun 0 blank)) lets state (λ more later. openings_free s (suc i) os more later b.1 j)
 
 -- ---- events
 

@@ -20,7 +20,7 @@ use Rattle.sail_core.specs.Numbers.{Givens, Awaited, givens_of, as_awaited, plac
 use Rattle.sail_core.specs.Making.{Making, World, made, natural}
 use Rattle.sail_core.specs.Program.{Sizing, Measures, Setting, Calls, plain, asking, gone, as_given, direction_at, ways, world_of}
 use Rattle.sail_core.specs.Program.{nearest, below, measured, answered, framed, entering, entered, deeper, calls, event_of}
-use Rattle.sail_core.specs.Start.{begun, values_of, opening_kind, opening_world, opening_run, after_opening, openings_from, openings_of, ran_from}
+use Rattle.sail_core.specs.Start.{begun, blank, values_of, opening_kind, opening_world, opening_run, after_opening, openings_from, openings_of, ran_from}
 use Rattle.sail_core.specs.Start.{nowhere, lets_in, event_ticks, setting_of, event_run, ran_of, or_nothing, model_meaning}
 use Rattle.match_rewrite.specs.Rewriting.{flat_core, flat_function, flat_direction, flat_opening_kind, flat_opening, with_flat_arms}
 use Rattle.match_rewrite.specs.Laws.{SameRuns}
@@ -153,7 +153,7 @@ openings_flat : {X : Type 0} (s : Sizing X) (i : ℕ) (os : List Opening) (lets 
     → openings_from s i (map flat_opening os) lets state ≡ openings_from s i os lets state
 openings_flat s i [] lets state = refl
 openings_flat s i (o ∷ os) lets state = λ j.
-    after_opening (opening_flat (s.opening i) lets o j (begun 0 state)) lets state (λ more later. openings_flat s (suc i) os more later j)
+    after_opening (opening_flat (s.opening i) lets o j (begun 0 blank)) lets state (λ more later. openings_flat s (suc i) os more later j)
 
 -- ---- models
 

@@ -16,7 +16,7 @@ use Rattle.sail_core.specs.Run as R
 use Rattle.sail_core.specs.Run.{Ended, gives, stops, ◌then◌, ◌or_else◌}
 use Rattle.sail_core.specs.Making.{World, plainly}
 use Rattle.sail_core.specs.Start as S
-use Rattle.sail_core.specs.Start.{Added, Opened, after_opening, begun, opening_world, set_all}
+use Rattle.sail_core.specs.Start.{Added, Opened, after_opening, begun, blank, opening_world, set_all}
 use Rattle.shape_joins.proofs.JoinsLeast.{none, some_same}
 use Rattle.shape_joins.proofs.Order.{no, two}
 use Rattle.shape_rules.specs.declared.locals.Local.{Local}
@@ -116,8 +116,8 @@ kind_goes common t same before binds o (O.Register r) h c lets fit =
 
 -- ---- several
 
-begun_ready : (common : Common) (c : Choice) (state : RunState) → Ready (plain_reach common c) 0 (begun 0 state)
-begun_ready common c state = record {
+begun_ready : (common : Common) (c : Choice) → Ready (plain_reach common c) 0 (begun 0 blank)
+begun_ready common c = record {
   good = record { locals = tt; state = λ hart r v s e is. none is };
   here = λ r s is. none is;
   there = λ k r vs s e is. none is;
@@ -152,9 +152,9 @@ openings_goes : (common : Common) (t : Table) → t.types ≡ common.types → (
     → OpeningsGo common (checked_openings t os lets state)
 openings_goes common t same [] before h lets state fit is = (λ c. subst (λ ss. FitAll common.types c ss lets) h (fit c), is)
 openings_goes common t same (o ∷ os) before h lets state fit is =
-    after_goes common h.0 before (opening_world lets) (checked_opening t lets o (begun 0 state)) lets state (checked_openings t os)
-    (λ c. kind_goes common t same before h.0 o o.kind h.1 c lets (fit c) (begun 0 state) (begun_ready common c state))
-    (h.2 t lets (begun 0 state)) fit is
+    after_goes common h.0 before (opening_world lets) (checked_opening t lets o (begun 0 blank)) lets state (checked_openings t os)
+    (λ c. kind_goes common t same before h.0 o o.kind h.1 c lets (fit c) (begun 0 blank) (begun_ready common c))
+    (h.2 t lets (begun 0 blank)) fit is
     (λ ls st fits_all fit_state. openings_goes common t same os (before ++ map (λ l. l.shape) h.0) h.3 ls st fits_all fit_state)
 
 pub openings_go_on : OpeningsGoOn

@@ -12,7 +12,7 @@ use Rattle.sail_core.specs.Making.{World, plainly}
 use Rattle.sail_core.specs.Meaning.{core_meaning}
 use Rattle.sail_core.specs.Patterns.{arm_meaning}
 use Rattle.sail_core.specs.Program.{plain}
-use Rattle.sail_core.specs.Start.{Added, Opened, after_opening, begun, opening_kind, opening_run, opening_world, openings_from, set_all, values_of}
+use Rattle.sail_core.specs.Start.{Added, Opened, after_opening, begun, blank, opening_kind, opening_run, opening_world, openings_from, set_all, values_of}
 use Rattle.shape_progress.specs.Checks.{Table, checked, checked_arm}
 use Rattle.shape_progress.specs.Meant.{AsMeant, IsUnmet}
 use Rattle.shape_progress.proofs.Meant.{itself, or_as, then_as}
@@ -78,8 +78,8 @@ openings_as : (t : Table) (n : ℕ) (os : List Opening) (lets : List Value) (sta
     → OpenAs (openings_from plain n os lets state) (checked_openings t os lets state)
 openings_as t n [] lets state = inl refl
 openings_as t n (o ∷ os) lets state =
-    after_as (opening_run plainly lets o (begun 0 state)) (checked_opening t lets o (begun 0 state)) lets state (openings_from plain (suc n) os)
-    (checked_openings t os) (opening_as t lets o (begun 0 state)) (openings_as t (suc n) os)
+    after_as (opening_run plainly lets o (begun 0 blank)) (checked_opening t lets o (begun 0 blank)) lets state (openings_from plain (suc n) os)
+    (checked_openings t os) (opening_as t lets o (begun 0 blank)) (openings_as t (suc n) os)
 
 pub openings_are_meant : OpeningsAreMeant
 openings_are_meant t m state = openings_as t 0 m.openings [] state

@@ -16,7 +16,7 @@ use Rattle.sail_core.specs.Run.{Ended, Run, apart, gives, stops, stuck, tick, �
 use Rattle.sail_core.specs.Making.{World, made, natural, plainly}
 use Rattle.sail_core.specs.Numbers.{Awaited, Givens}
 use Rattle.sail_core.specs.Program.{Calls, Measures, Setting, Ways, as_given, asking, below, direction_at, entering, nearest, plain}
-use Rattle.sail_core.specs.Start.{Added, Opened, after_opening, begun, opened, opening_world, set_all, setting_of, values_of}
+use Rattle.sail_core.specs.Start.{Added, Opened, after_opening, begun, blank, opened, opening_world, set_all, setting_of, values_of}
 use Rattle.shape_progress.specs.Conditions.{measure_met}
 use Rattle.shape_progress.specs.Checks.{Table, checked, checked_arm, if_met}
 
@@ -84,4 +84,4 @@ checked_opening t lets o = checked t (opening_world lets) o.value then checked_o
 -- openings in the order of the text, over the values of the lets before
 abbrev pub checked_openings : Table → List Opening → List Value → RunState → Opened
 checked_openings t [] lets state = opened lets state
-checked_openings t (o ∷ os) lets state = after_opening (checked_opening t lets o (begun 0 state)) lets state (checked_openings t os)
+checked_openings t (o ∷ os) lets state = after_opening (checked_opening t lets o (begun 0 blank)) lets state (checked_openings t os)

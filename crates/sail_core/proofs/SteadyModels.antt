@@ -29,7 +29,7 @@ use Rattle.sail_core.specs.Program.{plain, Measures, Setting, Calls, Ways, askin
 use Rattle.sail_core.specs.Program.{measured}
 use Rattle.sail_core.specs.Program.{answered, framed, entering, entered, calls, event_of}
 use Rattle.sail_core.specs.Start.{begun, ran_of, Opened, opened, opened_to, opened_not, Added, opening_kind, opening_world, opening_run, after_opening}
-use Rattle.sail_core.specs.Start.{openings_from, openings_of, ran_from, event_ticks, setting_of, event_run, or_nothing}
+use Rattle.sail_core.specs.Start.{blank, openings_from, openings_of, ran_from, event_ticks, setting_of, event_run, or_nothing}
 use Rattle.sail_core.specs.Steady.{is_done, EndsLater, Steady, SteadyWorld, Keeping, ModelsKeep}
 use Rattle.sail_core.proofs.Growth.{keeps_all, keeps_both, at_once, then_steady, or_steady, apart_steady, gives_steady, needs_steady, stops_steady, if_steady}
 use Rattle.sail_core.proofs.Growth.{tick_steady}
@@ -226,7 +226,7 @@ after_keeps now R.Stuck h lets state more k = tt
 openings_keep : (i : ℕ) (os : List Opening) (lets : List Value) (state : RunState) → KeepsState (openings_from plain i os lets state) state
 openings_keep i [] lets state = keeps_all state
 openings_keep i (o ∷ os) lets state =
-    after_keeps (begun 0 state) (opening_run plainly lets o (begun 0 state)) (opening_with lets o (begun 0 state)) lets state (openings_from plain (suc i) os)
+    after_keeps (begun 0 blank) (opening_run plainly lets o (begun 0 blank)) (opening_with lets o (begun 0 blank)) lets state (openings_from plain (suc i) os)
     (openings_keep (suc i) os)
 
 opened_keeping : (o : Opened) (state : RunState) → KeepsState o state → Keeping state (or_nothing state (ran_from o))

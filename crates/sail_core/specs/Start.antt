@@ -52,6 +52,14 @@ ran_of types R.Stuck = None
 
 -- ---- openings
 
+-- a state in which nothing is
+abbrev pub nowhere : Types → RunState
+nowhere types = record { types = types; registers = []; harts = []; base = 0; bytes = []; console = [] }
+
+-- in which each opening is worked out, since its value hangs on none
+abbrev pub blank : RunState
+blank = nowhere (record { definitions = [] })
+
 -- how openings end, one after the other: the values of the names of lets and the state then, a stop, or stuck
 pub data Opened : Type 0 where
   opened : List Value → RunState → Opened
@@ -103,8 +111,8 @@ after_opening R.Stuck lets state more = opened_not
 -- openings from this number on, in the order of the text, over the values of the lets before
 abbrev pub openings_from : {X : Type 0} → Sizing X → ℕ → List Opening → List Value → RunState → Opened
 openings_from sizing i [] lets state = opened lets state
-openings_from sizing i (o ∷ os) lets state = after_opening (opening_run (sizing.opening i) lets o (begun 0 state)) lets state (openings_from sizing
-    (suc i) os)
+openings_from sizing i (o ∷ os) lets state =
+    after_opening (opening_run (sizing.opening i) lets o (begun 0 blank)) lets state (openings_from sizing (suc i) os)
 
 abbrev pub openings_of : {X : Type 0} → Sizing X → CoreModel → RunState → Opened
 openings_of sizing m state = openings_from sizing 0 m.openings [] state
@@ -113,10 +121,6 @@ abbrev pub ran_from : Opened → Option Ran
 ran_from (opened lets state) = Some (record { ended = E.Value V.Unit; state = state; accesses = [] })
 ran_from (opened_to cause state) = Some (record { ended = E.Stop cause; state = state; accesses = [] })
 ran_from opened_not = None
-
--- a state in which nothing is, since the values of lets hang on none
-abbrev pub nowhere : Types → RunState
-nowhere types = record { types = types; registers = []; harts = []; base = 0; bytes = []; console = [] }
 
 abbrev pub lets_in : Opened → List Value
 lets_in (opened lets state) = lets

@@ -5,7 +5,7 @@ use Rattle.model_state.specs.RunState.{RunState}
 use Rattle.model_state.specs.declared.cause.Cause.TheVariants as Cause
 use Rattle.sail_core.specs.Run as R
 use Rattle.sail_core.specs.Run.{Ended, gives, goes_on, or_so, stops, ◌then◌, ◌or_else◌}
-use Rattle.sail_core.specs.Start.{begun, set_all}
+use Rattle.sail_core.specs.Start.{begun, blank, set_all}
 use Rattle.sail_meaning.specs.World.{Bindings}
 use Rattle.sail_meaning.specs.Patterns.{matching}
 use Rattle.sail_meaning.specs.Start.{Added, Opened, opening_run, opening_world, after_opening, openings_of}
@@ -24,7 +24,7 @@ after_each R.Stuck lets state all before behind h = refl
 pub openings_in_order : OpeningsInOrder
 openings_in_order text [] behind lets state = refl
 openings_in_order text (o ∷ os) behind lets state =
-    after_each (opening_run (opening_world text lets) o (begun 0 state)) lets state (openings_of text (os ++ behind)) (openings_of text os)
+    after_each (opening_run (opening_world text lets) o (begun 0 blank)) lets state (openings_of text (os ++ behind)) (openings_of text os)
     (openings_of text behind) (openings_in_order text os behind)
 
 pub initial_values_are_all_harts : InitialValuesAreAllHarts

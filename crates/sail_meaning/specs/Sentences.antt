@@ -23,7 +23,7 @@ use Rattle.model_state.specs.RunState.{RunState}
 use Rattle.sail_core.specs.Run as R
 use Rattle.sail_core.specs.Run.{Now, gives, falls, stops, throws, needs, if_so, tick, within, local, changed_in, ◌then◌}
 use Rattle.sail_core.specs.Numbers.{Givens}
-use Rattle.sail_core.specs.Start.{begun, set_all}
+use Rattle.sail_core.specs.Start.{begun, blank, set_all}
 use Rattle.sail_core.specs.Values.{item_way, replaced}
 use Rattle.sail_meaning.specs.Text.{Text, Function, Crossing, Direction, Callee, direction, overload, Opening, let_of, register_of}
 use Rattle.sail_meaning.specs.Choice.{accepts, choice}
@@ -205,8 +205,8 @@ then_opened (opened lets state) later = later lets state
 then_opened (opened_to cause state) later = opened_to cause state
 then_opened opened_not later = opened_not
 
--- lets and initial values are worked out in the order of the text: those behind see the names and the state that those before left,
--- and aren't looked at where one before stopped
+-- lets and initial values are worked out in the order of the text: those behind see the names that those before bound and change the
+-- state that they left, and aren't looked at where one before stopped
 abbrev pub OpeningsInOrder : Type 0
 OpeningsInOrder = (text : Text) (before behind : List Opening) (lets : Bindings) (state : RunState)
     → openings_of text (before ++ behind) lets state ≡ then_opened (openings_of text before lets state) (openings_of text behind)
@@ -214,11 +214,11 @@ OpeningsInOrder = (text : Text) (before behind : List Opening) (lets : Bindings)
 -- an initial value is that of the register of every hart
 abbrev pub InitialValuesAreAllHarts : Type 0
 InitialValuesAreAllHarts = (text : Text) (r : ℕ) (e : Exp) (lets : Bindings) (state : RunState) (v : Value) (after : Now Value)
-    → meaning e (opening_world text lets) (begun 0 state) ≡ R.Gives v after
+    → meaning e (opening_world text lets) (begun 0 blank) ≡ R.Gives v after
     → openings_of text (register_of r e ∷ []) lets state ≡ opened (lets ++ []) (set_all r v state)
 
 -- a `let` whose pattern doesn't match stops the start at the `let`, with the registers that were set so far
 abbrev pub LetsStop : Type 0
 LetsStop = (text : Text) (place : Place) (pattern : Pat) (e : Exp) (os : List Opening) (lets : Bindings) (state : RunState) (v : Value) (after : Now Value)
-    → meaning e (opening_world text lets) (begun 0 state) ≡ R.Gives v after → matching (opening_world text lets) pattern v ≡ falls
+    → meaning e (opening_world text lets) (begun 0 blank) ≡ R.Gives v after → matching (opening_world text lets) pattern v ≡ falls
     → openings_of text (let_of place pattern e ∷ os) lets state ≡ opened_to (Cause.MatchFailure place) state

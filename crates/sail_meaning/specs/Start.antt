@@ -10,7 +10,7 @@ use Rattle.model_state.specs.RunState.{RunState, Ran}
 use Rattle.model_state.specs.Folds.{Meaning}
 use Rattle.sail_core.specs.Run as R
 use Rattle.sail_core.specs.Run.{Ended, gives, stuck, stops, ◌then◌, ◌or_else◌}
-use Rattle.sail_core.specs.Start.{begun, ran_of, event_ticks, or_nothing, nowhere, set_all}
+use Rattle.sail_core.specs.Start.{begun, blank, ran_of, event_ticks, or_nothing, nowhere, set_all}
 use Rattle.sail_meaning.specs.Text.{Text, Opening, let_of, register_of, Called, alone, function}
 use Rattle.sail_meaning.specs.World.{World, Piece, Bindings, plain}
 use Rattle.sail_meaning.specs.Patterns.{matching}
@@ -53,11 +53,11 @@ after_opening (R.Returns v now) lets state more = opened_not
 after_opening (R.Throws v now) lets state more = opened_not
 after_opening R.Stuck lets state more = opened_not
 
--- each over the lets before it
+-- each over the lets before it, in a state in which nothing is, since its value hangs on none
 abbrev pub openings_of : Text → List Opening → Bindings → RunState → Opened
 openings_of text [] lets state = opened lets state
 openings_of text (o ∷ os) lets state =
-    after_opening (opening_run (opening_world text lets) o (begun 0 state)) lets state (openings_of text os)
+    after_opening (opening_run (opening_world text lets) o (begun 0 blank)) lets state (openings_of text os)
 
 abbrev pub all_openings : Text → RunState → Opened
 all_openings text state = openings_of text text.openings [] state
