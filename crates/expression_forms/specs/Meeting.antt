@@ -1,6 +1,6 @@
 -- Where ways meet: what a later way owes of the first, and the value of all (Sail language manual, "Conditionals", "Pattern matching",
 -- "Exceptions").
-use Rattle.std.specs.Prelude.{Bool, None, Option, Some, if◌then◌else◌, ℕ, [], ◌&&◌, ◌||◌}
+use Rattle.std.specs.Prelude.{Bool, None, Option, Some, false, if◌then◌else◌, true, ℕ, [], ◌&&◌, ◌||◌}
 use Rattle.sail_base.specs.declared.place.Place.{Place}
 use Rattle.sail_types.specs.Zero.{deepest}
 use Rattle.sail_types.specs.declared.shapes.Shape.{Shape}
@@ -20,20 +20,28 @@ use Rattle.expression_forms.specs.Inside.{is_value_below, is_value_told, is_valu
 abbrev pub gives_none : Bool → Indices → Bool
 gives_none never_ends i = never_ends || is_never i
 
--- the first way that ends normally, with a value
-abbrev pub first_way : Bool → Indices → Option Indices
-first_way never_ends i = if gives_none never_ends i then None else Some i
+-- its value, in which holes are filled by the widest types of the shape
+abbrev pub filled_first : Bool → Types → ℕ → Shape → Indices → Walk Indices
+filled_first true types m shape i = give i
+filled_first false types m shape i = met types m shape i
 
--- that a value is of the type of the first way as it stands, in which no variable of that way stands; a hole in it is filled by types with one number
--- for all items alone
-abbrev pub as_first : Types → ℕ → Bool → Indices → Indices → ℕ → Fitted
-as_first types m holes first i n = if (holes || is_value_whole first) && is_value_below m first then fits types i (R.Widened first) n else never n
+abbrev pub first_unless : Bool → Types → ℕ → Shape → Indices → Walk (Option Indices)
+first_unless true types m shape i = give None
+first_unless false types m shape i = bind (filled_first (is_value_whole i) types m shape i) (λ j. give (Some j))
+
+-- the first way that ends normally, with a value
+abbrev pub first_way : Around → ℕ → Shape → Bool → Indices → Walk (Option Indices)
+first_way around m shape never_ends i = first_unless (gives_none never_ends i) around.types m shape i
+
+-- that a value is of the type of the first way as it stands, in which nothing is a hole, and no variable of that way stands
+abbrev pub as_first : Types → ℕ → Indices → Indices → ℕ → Fitted
+as_first types m first i n = if is_value_whole first && is_value_below m first then fits types i (R.Widened first) n else never n
 
 -- that a value has the numbers that are kept of the first way, where these say all of every item of both, and else that it is of its type
 abbrev pub agrees_spelled : Types → ℕ → Indices → Indices → Indices → Indices → ℕ → Fitted
 agrees_spelled types m first i spelled other n =
     if is_value_told spelled && is_value_told other then says (agrees_within deepest m spelled other) n
-    else as_first types m (is_value_told other) first i n
+    else as_first types m first i n
 
 abbrev pub agrees : Types → ℕ → Indices → Indices → ℕ → Fitted
 agrees types m first i n = agrees_spelled types m first i (value_spelled first) (value_spelled i) n

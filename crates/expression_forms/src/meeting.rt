@@ -22,31 +22,85 @@ fn gives_none(never_ends: bool, value: &Indices) -> bool
     never_ends || is_never(value)
 }
 
-/// A way, if it ends normally, with a value: the first one.
-pub fn first_way(never_ends: bool, value: Indices) -> Option<Indices>
-    ensures { result ≡ meeting.first_way never_ends value }
+/// The value of a first way of this shape, in which holes, where there are any, are filled by the widest types of the shape. It fails where
+/// memory is wanting, and where variables are too many.
+#[tactic(auto, using(value_indices::proofs::Walks::walks))]
+fn filled_first(
+    alloc: Global,
+    walking: &mut Walking,
+    whole: bool,
+    types: &Types,
+    before: u32,
+    shape: &Shape,
+    value: Indices,
+) -> Result<Indices, AllocError>
+    ensures value { IfOk result (λ made. made ≡ walk.got (meeting.filled_first whole types.now before shape.now value) (walk.seen walking.old)) }
+    ensures walked { OnOk result (walk.seen walking.new
+        ≡ walk.run (meeting.filled_first whole types.now before shape.now value) (walk.seen walking.old)) }
 {
-    if gives_none(never_ends, &value) {
-        None
+    if whole {
+        Ok(value)
     } else {
-        Some(value)
+        met(alloc, walking, types, before, shape, &value)
     }
 }
 
+/// The same of a way that gives a value; none of another. It fails where memory is wanting, and where variables are too many.
+#[tactic(auto, using(value_indices::proofs::Walks::walks))]
+fn first_unless(
+    alloc: Global,
+    walking: &mut Walking,
+    none: bool,
+    types: &Types,
+    before: u32,
+    shape: &Shape,
+    value: Indices,
+) -> Result<Option<Indices>, AllocError>
+    ensures value { IfOk result (λ made. made ≡ walk.got (meeting.first_unless none types.now before shape.now value) (walk.seen walking.old)) }
+    ensures walked { OnOk result (walk.seen walking.new
+        ≡ walk.run (meeting.first_unless none types.now before shape.now value) (walk.seen walking.old)) }
+{
+    if none {
+        return Ok(None);
+    }
+    let whole = is_value_whole(&value);
+    let filled = filled_first(alloc, walking, whole, types, before, shape, value)?;
+    Ok(Some(filled))
+}
+
+/// A way of this shape, if it ends normally, with a value: the first one. It fails where memory is wanting, and where variables are too
+/// many.
+pub fn first_way(
+    alloc: Global,
+    walking: &mut Walking,
+    around: &Around<'_>,
+    before: u32,
+    shape: &Shape,
+    never_ends: bool,
+    value: Indices,
+) -> Result<Option<Indices>, AllocError>
+    ensures value { IfOk result (λ made. made ≡ walk.got (meeting.first_way (around_of around.now) before shape.now never_ends value)
+        (walk.seen walking.old)) }
+    ensures walked { OnOk result (walk.seen walking.new ≡ walk.run (meeting.first_way (around_of around.now) before shape.now never_ends value)
+        (walk.seen walking.old)) }
+{
+    let none = gives_none(never_ends, &value);
+    first_unless(alloc, walking, none, around.types, before, shape, value)
+}
+
 /// What has to be true for a later way to be of the type of the first as it stands, which names only variables before that one, and in which
-/// holes may be or not. It fails where memory is wanting, and where variables are too many.
+/// nothing is a hole. It fails where memory is wanting, and where variables are too many.
 fn as_first(
     alloc: Global,
     types: &Types,
     before: u32,
-    holes: bool,
     first: &Indices,
     value: &Indices,
     next: u32,
 ) -> Result<Fitted, AllocError>
-    ensures { IfOk result (λ made. made ≡ meeting.as_first types.now before holes first.now value.now next) }
+    ensures { IfOk result (λ made. made ≡ meeting.as_first types.now before first.now value.now next) }
 {
-    if (holes || is_value_whole(first)) && is_value_below(before, first) {
+    if is_value_whole(first) && is_value_below(before, first) {
         let wanted = Wanted::Widened(first);
         fits(alloc, types, value, &wanted, next)
     } else {
@@ -69,12 +123,11 @@ fn agrees_spelled(
     ensures { IfOk result (λ made. made
         ≡ meeting.agrees_spelled types.now before first.now value.now spelled.now other.now next) }
 {
-    let told = is_value_told(other);
-    if is_value_told(spelled) && told {
+    if is_value_told(spelled) && is_value_told(other) {
         let conditions = agrees_within(alloc, deepest(), before, spelled, other)?;
         Ok(Fitted::says(alloc, conditions, next))
     } else {
-        as_first(alloc, types, before, told, first, value, next)
+        as_first(alloc, types, before, first, value, next)
     }
 }
 

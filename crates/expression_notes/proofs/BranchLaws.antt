@@ -21,7 +21,7 @@ use Rattle.expression_steps.specs.Expressions.{part}
 use Rattle.expression_steps.specs.Parts.{four, numbers_walk, truth_walk}
 use Rattle.expression_steps.specs.Statements.{Way as Meeting}
 use Rattle.expression_steps.specs.Statements.{bounds_of, branches_forms, each_way, either_walk, foreach_walk, meeting, met_value, one_way, step_owed}
-use Rattle.expression_steps.specs.Statements.{turn_begun, two_ways}
+use Rattle.expression_steps.specs.Statements.{turn_begun, two_ways, unit_of}
 use Rattle.expression_steps.specs.declared.counting.Bounds.{Bounds}
 use Rattle.expression_steps.specs.declared.ways.Way.{Way}
 use Rattle.expression_steps.proofs.Meeting.{meeting_got, meeting_run, no_either_got, no_either_run, no_when_got, no_when_run, some_either_got}
@@ -46,11 +46,13 @@ module _ (around : Around) (scope : Scope) (c : Core) (met : Option Con) (v w : 
       walked = no_when_run around scope c met v w found was place number shape aim cs a two_is none;
     }
 
-    pub some_when_alike : (g : Con) → met ≡ Some g → (h : Con) (w1 w2 w3 w4 : Written) → h ≡ g → w1 ≡ remembering w → w2 ≡ run (assume h) w1
-        → w3 ≡ run ((part a).walk around scope Aims.Free) w2 → w4 ≡ restored w3 → Alike (Some (g, I.Unit)) (got branches v) w4 (run branches v)
-    some_when_alike g some h w1 w2 w3 w4 same one two three four = record {
+    pub some_when_alike : (g : Con) → met ≡ Some g → (h : Con) (i : Indices) (w1 w2 w3 w4 w5 : Written) → h ≡ g → w1 ≡ remembering w
+        → w2 ≡ run (assume h) w1 → i ≡ got ((part a).walk around scope Aims.Free) w2 → w3 ≡ run ((part a).walk around scope Aims.Free) w2
+        → w4 ≡ run (unit_of (part a).place i) w3 → w5 ≡ restored w4 → Alike (Some (g, I.Unit)) (got branches v) w5 (run branches v)
+    some_when_alike g some h i w1 w2 w3 w4 w5 same one two is three four five = record {
       value = some_when_got around scope c met v w found was place number shape aim cs a two_is g some;
-      walked = some_when_run around scope c met v w found was place number shape aim cs a two_is g some h w1 w2 w3 w4 same one two three four;
+      walked = some_when_run around scope c met v w found was place number shape aim cs a two_is g some h i w1 w2 w3 w4 w5 same one two is three
+          four five;
     }
 
   module _ (a b : Core) where
@@ -78,25 +80,25 @@ module _ (around : Around) (scope : Scope) (c : Core) (met : Option Con) (v w : 
 
 -- ---- ways, one after the other, and where they meet
 
-module _ (is_free : Bool) (m : ℕ) (around : Around) (scope : Scope) (aim : Aim) (ws : List Way) where
+module _ (is_free : Bool) (m : ℕ) (shape : Shape) (around : Around) (scope : Scope) (aim : Aim) (ws : List Way) where
   abbrev from : ℕ → Option Indices → Walk (Option Indices)
-  from k first = each_way around is_free m (ways_seen around scope aim (drop k ws)) first
+  from k first = each_way around is_free m shape (ways_seen around scope aim (drop k ws)) first
 
   abbrev one : Way → Option Indices → Walk (Option Indices)
-  one way first = one_way around is_free m (way_seen around scope aim way) first
+  one way first = one_way around is_free m shape (way_seen around scope aim way) first
 
   pub ways_onward : (first now : Option Indices) (k : ℕ) (way : Way) (v u : Written) → k < length ws → way ≡ get_or ws k way
       → now ≡ got (one way first) v → u ≡ run (one way first) v
       → Alike (got (from (k + 1) now) u) (got (from k first) v) (run (from (k + 1) now) u) (run (from k first) v)
   ways_onward first now k way v u within is found was = record {
-    value = ways_step is_free m around scope aim ws first now k way v u within is found was;
-    walked = ways_walked is_free m around scope aim ws first now k way v u within is found was;
+    value = ways_step is_free m shape around scope aim ws first now k way v u within is found was;
+    walked = ways_walked is_free m shape around scope aim ws first now k way v u within is found was;
   }
 
-  module _ (place : Place) (number : ℕ) (shape : Shape) (free : is_free ≡ is_none (wanted aim)) (first shown : Option Indices) (k : ℕ) (v w : Written)
+  module _ (place : Place) (number : ℕ) (free : is_free ≡ is_none (wanted aim)) (first shown : Option Indices) (k : ℕ) (v w : Written)
       (next : m ≡ v.next) (past : length ws ≤ k) (same : shown ≡ first) where
     abbrev all : Walk (Option Indices)
-    all = each_way around is_free m (ways_seen around scope aim ws) None
+    all = each_way around is_free m shape (ways_seen around scope aim ws) None
 
     abbrev met : Walk Indices
     met = met_value around place number shape (wanted aim) m shown
@@ -106,8 +108,8 @@ module _ (is_free : Bool) (m : ℕ) (around : Around) (scope : Scope) (aim : Aim
 
     pub ways_met : got (from k first) w ≡ got all v → run (from k first) w ≡ run all v → Alike (got met w) (got whole v) (run met w) (run whole v)
     ways_met found was =
-        let is = ways_ended is_free m around scope aim ws first k w past ∙ found in
-        let went = ways_left is_free m around scope aim ws first k w past ∙ was in
+        let is = ways_ended is_free m shape around scope aim ws first k w past ∙ found in
+        let went = ways_left is_free m shape around scope aim ws first k w past ∙ was in
         record {
           value = meeting_got around place number shape (wanted aim) (ways_seen around scope aim ws) is_free free m first shown v w next is went same;
           walked = meeting_run around place number shape (wanted aim) (ways_seen around scope aim ws) is_free free m first shown v w next is went same;

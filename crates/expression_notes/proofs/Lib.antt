@@ -14,3 +14,4 @@ pub mod Alike
 pub mod RowLaws
 pub mod MadeLaws
 pub mod BranchLaws
+pub mod WayLaws

@@ -15,6 +15,7 @@ use call_notes::{Aim, wrong_value};
 use expression_forms::{Scope, negated, thrown};
 use expression_steps::{
     Way, catch_at, either_ways, end_way, is_free, match_ways, met_value, open_way, try_ways,
+    unit_of,
 };
 use pattern_leaves::Around;
 use sail_base::Place;
@@ -23,8 +24,8 @@ use sail_types::{Con, Shape, copy_con};
 use std::alloc::{AllocError, Global};
 use value_indices::{Indices, Walking};
 
-/// A way behind others, with an end of its own: it owes what is kept of the first one; the first that ends normally. Where a type is wanted
-/// nothing is owed of the first. It fails where memory is wanting, and where variables are too many.
+/// A way of this shape behind others, with an end of its own: it owes what is kept of the first one; the first that ends normally. Where a
+/// type is wanted nothing is owed of the first. It fails where memory is wanting, and where variables are too many.
 #[cycle(walk)]
 fn walk_branch(
     alloc: Global,
@@ -35,11 +36,12 @@ fn walk_branch(
     aim: &Aim,
     is_free: bool,
     before: u32,
+    shape: &Shape,
     first: Option<Indices>,
 ) -> Result<Option<Indices>, AllocError>
-    ensures value { IfOk result (λ made. made ≡ walk.got (statement_spec.one_way (around_of around.now) is_free before
+    ensures value { IfOk result (λ made. made ≡ walk.got (statement_spec.one_way (around_of around.now) is_free before shape.now
         (coded.way_seen (around_of around.now) (scope_of scope.now) aim.now way.now) first) (walk.seen walking.old)) }
-    ensures walked { OnOk result (walk.seen walking.new ≡ walk.run (statement_spec.one_way (around_of around.now) is_free before
+    ensures walked { OnOk result (walk.seen walking.new ≡ walk.run (statement_spec.one_way (around_of around.now) is_free before shape.now
         (coded.way_seen (around_of around.now) (scope_of scope.now) aim.now way.now) first) (walk.seen walking.old)) }
 {
     walking.remember()?;
@@ -48,7 +50,9 @@ fn walk_branch(
     let aim = aim.branch(alloc)?;
     let core = way.core();
     let value = walk_expression(alloc, walking, around, &inside, core, &aim)?;
-    end_way(alloc, walking, around, core, is_free, before, first, value)
+    end_way(
+        alloc, walking, around, core, is_free, before, shape, first, value,
+    )
 }
 
 /// The value of ways of this shape: with a wanted type that type, opened; else the widened type of the first that ends normally. It fails
@@ -74,7 +78,9 @@ fn walk_ways(
     let free = is_free(aim);
     let mut first = None;
     for way in ways {
-        first = walk_branch(alloc, walking, around, scope, way, aim, free, before, first)?;
+        first = walk_branch(
+            alloc, walking, around, scope, way, aim, free, before, shape, first,
+        )?;
     }
     met_value(
         alloc,
@@ -124,7 +130,7 @@ fn walk_either<'a>(
 }
 
 /// `if` of two or three parts, of this shape: its condition and its value; none where there is no condition, and of other parts. Without
-/// `else` the value is `()`. It fails where memory is wanting, and where variables are too many.
+/// `else` the value is `()`, and so has its body to be. It fails where memory is wanting, and where variables are too many.
 #[cycle(walk)]
 #[tactic(auto, using(value_indices::proofs::Walks::walks, expression_steps::proofs::Masses::weights))]
 pub(crate) fn walk_branches(
@@ -151,7 +157,8 @@ pub(crate) fn walk_branches(
             Some(met) => {
                 walking.remember()?;
                 walking.assume(copy_con(alloc, &met)?)?;
-                walk_expression(alloc, walking, around, scope, body, &Aim::Free)?;
+                let given = walk_expression(alloc, walking, around, scope, body, &Aim::Free)?;
+                unit_of(alloc, walking, body, &given)?;
                 walking.restore()?;
                 Ok(Some((met, Indices::Unit)))
             }

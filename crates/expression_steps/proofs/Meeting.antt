@@ -24,12 +24,12 @@ use Rattle.call_arguments.specs.declared.aims.Aim.{Aim}
 use Rattle.call_arguments.specs.declared.aims.Aim.TheVariants as Aims
 use Rattle.call_notes.specs.Ends.{wrong_value}
 use Rattle.expression_forms.specs.Meeting.{thrown}
-use Rattle.expression_steps.specs.Coded.{each_part, way_core, way_cores, way_opened, way_seen, ways_seen}
+use Rattle.expression_steps.specs.Coded.{each_part, end_walk, way_core, way_cores, way_opened, way_seen, ways_seen}
 use Rattle.expression_steps.specs.Expressions.{part}
-use Rattle.expression_steps.specs.Parts.{given_that, led, truth_walk, under}
+use Rattle.expression_steps.specs.Parts.{led, truth_walk, under}
 use Rattle.expression_steps.specs.Statements.{branches_forms, case_way, case_ways, cases_walk, caught_at, each_way, either_met, either_walk, first_behind}
-use Rattle.expression_steps.specs.Statements.{meeting, meeting_from, met_value, one_way, owed_of_first, try_over, try_way, two_ways, way_behind}
-use Rattle.expression_steps.specs.Statements.{match_under, match_walk, try_walk, when_met, when_under}
+use Rattle.expression_steps.specs.Statements.{meeting, meeting_from, met_value, one_way, owed_of_first, then_first, try_over, try_way, two_ways}
+use Rattle.expression_steps.specs.Statements.{match_under, match_walk, try_walk, unit_of, unit_under, way_behind, when_met, when_under}
 use Rattle.expression_steps.specs.Statements.{Way as Meeting}
 use Rattle.expression_steps.specs.declared.ways.Way.{Way}
 use Rattle.expression_steps.specs.declared.ways.Way.TheVariants as B
@@ -75,7 +75,7 @@ pub record Opened (around : Around) (scope : Scope) (aim : Aim) (way : Way) (w1 
   pub due : given ≡ branch_aim aim
   pub whose : core ≡ way_core way
 
-module _ (is_free : Bool) (m : ℕ) (around : Around) (scope : Scope) (aim : Aim) (way : Way) (first : Option Indices) where
+module _ (is_free : Bool) (m : ℕ) (shape : Shape) (around : Around) (scope : Scope) (aim : Aim) (way : Way) (first : Option Indices) where
   abbrev seen_so : Meeting
   seen_so = way_seen around scope aim way
 
@@ -88,8 +88,8 @@ module _ (is_free : Bool) (m : ℕ) (around : Around) (scope : Scope) (aim : Aim
   abbrev place_so : Place
   place_so = (way_seen around scope aim way).place
 
-  abbrev owes_so : Indices → Walk (Unit {0})
-  owes_so i = owed_of_first around is_free place_so never_so m first i
+  abbrev ends_so : Indices → Walk (Option Indices)
+  ends_so i = then_first around is_free m shape (way_seen around scope aim way) first i
 
   module _ (w1 w2 : Written) (core : Core) (inside : Scope) (given : Aim) (o : Opened around scope aim way w1 w2 core inside given) where
     value_got : got ((part core).walk around inside given) w2 ≡ got walk_so w1
@@ -108,74 +108,92 @@ module _ (is_free : Bool) (m : ℕ) (around : Around) (scope : Scope) (aim : Aim
     placed : (part core).place ≡ place_so
     placed = ap (λ (c : Core). (part c).place) o.whose ∙ sym (way_place around scope aim way)
 
-    behind_got : (i : Indices) → i ≡ got walk_so w1 → i ≡ got (way_behind around is_free m seen_so first) w1
-    behind_got i value =
-        value ∙ sym (got_bind walk_so (λ j. bind (owes_so j) (λ t. give j)) w1
-        ∙ got_bind (owes_so (got walk_so w1)) (λ t. give (got walk_so w1)) (run walk_so w1)
-        ∙ got_give (got walk_so w1) (run (owes_so (got walk_so w1)) (run walk_so w1)))
-
-    behind_run : (i : Indices) (w3 : Written) → i ≡ got walk_so w1 → w3 ≡ run walk_so w1
-        → run (owed_of_first around is_free (part core).place (part core).never_ends m first i) w3 ≡ run (way_behind around is_free m seen_so first) w1
-    behind_run i w3 value was =
-        (λ j. run (owed_of_first around is_free (placed j) (ending j) m first (value j)) (was j))
-        ∙ made_run (owes_so (got walk_so w1)) (λ t. got walk_so w1) (run walk_so w1) (run (owes_so (got walk_so w1)) (run walk_so w1)) refl
-        ∙ sym (run_bind walk_so (λ j. bind (owes_so j) (λ t. give j)) w1)
+    -- what the code owes and makes at its end
+    end_is : (i : Indices) → end_walk around is_free m shape core first i ≡ ends_so i
+    end_is i =
+        (λ j. bind (owed_of_first around is_free (placed j) (ending j) m first i) (λ t. first_behind around is_free m shape (ending j) first i))
 
     module _ (i : Indices) (v w3 : Written) (one : w1 ≡ remembering v) (is : i ≡ got ((part core).walk around inside given) w2)
         (was : w3 ≡ run ((part core).walk around inside given) w2) where
-      pub way_got : first_behind is_free (part core).never_ends first i ≡ got (one_way around is_free m seen_so first) v
-      way_got =
-          ap (λ (b : Bool). first_behind is_free b first i) ending
-          ∙ made_got (scoped (way_behind around is_free m seen_so first)) (first_behind is_free never_so first) v i
-          (scoped_got (way_behind around is_free m seen_so first) v w1 i one (behind_got i (is ∙ value_got)))
+      abbrev last : Walk (Option Indices)
+      last = end_walk around is_free m shape core first i
 
-      pub way_run : restored (run (owed_of_first around is_free (part core).place (part core).never_ends m first i) w3)
-          ≡ run (one_way around is_free m seen_so first) v
-      way_run =
-          let last = run (owed_of_first around is_free (part core).place (part core).never_ends m first i) w3 in
-          made_run (scoped (way_behind around is_free m seen_so first)) (first_behind is_free never_so first) v (restored last)
-          (scoped_run (way_behind around is_free m seen_so first) v w1 last (restored last) one (behind_run i w3 (is ∙ value_got) (was ∙ value_run)) refl)
+      behind_got : got last w3 ≡ got (way_behind around is_free m shape seen_so first) w1
+      behind_got =
+          ap (λ (a : Walk (Option Indices)). got a w3) (end_is i) ∙ then_got walk_so ends_so w1 w3 i (is ∙ value_got) (was ∙ value_run)
+
+      behind_run : run last w3 ≡ run (way_behind around is_free m shape seen_so first) w1
+      behind_run =
+          ap (λ (a : Walk (Option Indices)). run a w3) (end_is i) ∙ then_run walk_so ends_so w1 w3 i (is ∙ value_got) (was ∙ value_run)
+
+      pub way_got : got last w3 ≡ got (one_way around is_free m shape seen_so first) v
+      way_got = scoped_got (way_behind around is_free m shape seen_so first) v w1 (got last w3) one behind_got
+
+      pub way_run : restored (run last w3) ≡ run (one_way around is_free m shape seen_so first) v
+      way_run = scoped_run (way_behind around is_free m shape seen_so first) v w1 (run last w3) (restored (run last w3)) one behind_run refl
+
+-- its end, as the code makes it
+
+module _ (is_free : Bool) (m : ℕ) (shape : Shape) (around : Around) (core : Core) (first shown : Option Indices) (i : Indices) (ends : Bool)
+    (v w : Written) (never : ends ≡ (part core).never_ends) (same : shown ≡ first)
+    (was : w ≡ run (owed_of_first around is_free (part core).place (part core).never_ends m shown i) v) where
+  abbrev owes : Walk (Unit {0})
+  owes = owed_of_first around is_free (part core).place (part core).never_ends m first i
+
+  abbrev then_made : Bool → Walk (Option Indices)
+  then_made b = first_behind around is_free m shape b first i
+
+  owed : w ≡ run owes v
+  owed = was ∙ ap (λ (o : Option Indices). run (owed_of_first around is_free (part core).place (part core).never_ends m o i) v) same
+
+  pub end_got : got (then_made ends) w ≡ got (end_walk around is_free m shape core first i) v
+  end_got =
+      ap (λ (b : Bool). got (then_made b) w) never ∙ then_got owes (λ t. then_made (part core).never_ends) v w (got owes v) refl owed
+
+  pub end_run : run (then_made ends) w ≡ run (end_walk around is_free m shape core first i) v
+  end_run =
+      ap (λ (b : Bool). run (then_made b) w) never ∙ then_run owes (λ t. then_made (part core).never_ends) v w (got owes v) refl owed
 
 -- ---- several of them
 
-module _ (is_free : Bool) (m : ℕ) (around : Around) (scope : Scope) (aim : Aim) (ws : List Way) where
+module _ (is_free : Bool) (m : ℕ) (shape : Shape) (around : Around) (scope : Scope) (aim : Aim) (ws : List Way) where
   abbrev from : ℕ → Option Indices → Walk (Option Indices)
-  from k first = each_way around is_free m (ways_seen around scope aim (drop k ws)) first
+  from k first = each_way around is_free m shape (ways_seen around scope aim (drop k ws)) first
 
   abbrev one_so : Way → Option Indices → Walk (Option Indices)
-  one_so w first = one_way around is_free m (way_seen around scope aim w) first
+  one_so w first = one_way around is_free m shape (way_seen around scope aim w) first
 
   pub ways_step : (first now : Option Indices) (k : ℕ) (w : Way) (v u : Written) → k < length ws → w ≡ get_or ws k w
       → now ≡ got (one_so w first) v → u ≡ run (one_so w first) v → got (from (k + 1) now) u ≡ got (from k first) v
   ways_step first now k w v u within is found was =
       then_got (one_so w first) (from (k + 1)) v u now found was
-      ∙ sym (ap (λ (a : Walk (Option Indices)). got a v) (ways_more is_free m around scope aim ws first k w within is))
+      ∙ sym (ap (λ (a : Walk (Option Indices)). got a v) (ways_more is_free m shape around scope aim ws first k w within is))
 
   pub ways_walked : (first now : Option Indices) (k : ℕ) (w : Way) (v u : Written) → k < length ws → w ≡ get_or ws k w
       → now ≡ got (one_so w first) v → u ≡ run (one_so w first) v → run (from (k + 1) now) u ≡ run (from k first) v
   ways_walked first now k w v u within is found was =
       then_run (one_so w first) (from (k + 1)) v u now found was
-      ∙ sym (ap (λ (a : Walk (Option Indices)). run a v) (ways_more is_free m around scope aim ws first k w within is))
+      ∙ sym (ap (λ (a : Walk (Option Indices)). run a v) (ways_more is_free m shape around scope aim ws first k w within is))
 
   pub ways_ended : (first : Option Indices) (k : ℕ) (v : Written) → length ws ≤ k → first ≡ got (from k first) v
-  ways_ended first k v past = sym (ap (λ (a : Walk (Option Indices)). got a v) (ways_end is_free m around scope aim ws first k past) ∙ got_give first v)
+  ways_ended first k v past = sym (ap (λ (a : Walk (Option Indices)). got a v) (ways_end is_free m shape around scope aim ws first k past) ∙ got_give first v)
 
   pub ways_left : (first : Option Indices) (k : ℕ) (v : Written) → length ws ≤ k → v ≡ run (from k first) v
-  ways_left first k v past = sym (ap (λ (a : Walk (Option Indices)). run a v) (ways_end is_free m around scope aim ws first k past) ∙ run_give first v)
+  ways_left first k v past = sym (ap (λ (a : Walk (Option Indices)). run a v) (ways_end is_free m shape around scope aim ws first k past) ∙ run_give first v)
 
 -- ---- the value of ways
 
 module _ (around : Around) (place : Place) (number : ℕ) (shape : Shape) (r : Option Reading) (ws : List Meeting) (is_free : Bool) (free : is_free ≡ is_none r)
-    (m : ℕ) (first shown : Option Indices) (v w : Written) (next : m ≡ v.next) (found : first ≡ got (each_way around is_free m ws None) v)
-    (was : w ≡ run (each_way around is_free m ws None) v) (same : shown ≡ first) where
+    (m : ℕ) (first shown : Option Indices) (v w : Written) (next : m ≡ v.next) (found : first ≡ got (each_way around is_free m shape ws None) v)
+    (was : w ≡ run (each_way around is_free m shape ws None) v) (same : shown ≡ first) where
   abbrev all_so : Walk (Option Indices)
-  all_so = each_way around (is_none r) m ws None
+  all_so = each_way around (is_none r) m shape ws None
 
   all_got : shown ≡ got all_so v
-  all_got = same ∙ found ∙ ap (λ (b : Bool). got (each_way around b m ws None) v) free
+  all_got = same ∙ found ∙ ap (λ (b : Bool). got (each_way around b m shape ws None) v) free
 
   all_run : w ≡ run all_so v
-  all_run = was ∙ ap (λ (b : Bool). run (each_way around b m ws None) v) free
+  all_run = was ∙ ap (λ (b : Bool). run (each_way around b m shape ws None) v) free
 
   pub meeting_got : got (met_value around place number shape r m shown) w ≡ got (meeting around place number shape r ws) v
   meeting_got =
@@ -359,21 +377,27 @@ module _ (around : Around) (scope : Scope) (c : Core) (met : Option Con) (v w : 
 
     module _ (g : Con) (some : met ≡ Some g) where
       abbrev given : Walk Indices
-      given = given_that g (part a) around scope Aims.Free
+      given = scoped (unit_under g (part a) around scope)
 
       pub some_when_got : Some (g, I.Unit) ≡ got (branches cs) v
       some_when_got =
           made_got (when_under (part a) around scope g) (λ i. Some (g, i)) w I.Unit (made_got given (λ i. I.Unit) w (got given w) refl)
           ∙ met_got body (branches cs) (ap branches (sym two_is)) (Some g) some
 
-      pub some_when_run : (h : Con) (w1 w2 w3 w4 : Written) → h ≡ g → w1 ≡ remembering w → w2 ≡ run (assume h) w1
-          → w3 ≡ run ((part a).walk around scope Aims.Free) w2 → w4 ≡ restored w3 → w4 ≡ run (branches cs) v
-      some_when_run h w1 w2 w3 w4 same one two three four =
-          let inner : w3 ≡ run (under g (part a) around scope Aims.Free) w1 =
-          three ∙ then_run (assume g) (λ t. (part a).walk around scope Aims.Free) w1 w2 (got (assume g) w1) refl
-          (two ∙ ap (λ (d : Con). run (assume d) w1) same) in
-          made_run (when_under (part a) around scope g) (λ i. Some (g, i)) w w4
-          (made_run given (λ i. I.Unit) w w4 (scoped_run (under g (part a) around scope Aims.Free) w w1 w3 w4 one inner four))
+      pub some_when_run : (h : Con) (i : Indices) (w1 w2 w3 w4 w5 : Written) → h ≡ g → w1 ≡ remembering w → w2 ≡ run (assume h) w1
+          → i ≡ got ((part a).walk around scope Aims.Free) w2 → w3 ≡ run ((part a).walk around scope Aims.Free) w2
+          → w4 ≡ run (unit_of (part a).place i) w3 → w5 ≡ restored w4 → w5 ≡ run (branches cs) v
+      some_when_run h i w1 w2 w3 w4 w5 same one two is three four five =
+          let inner = under g (part a) around scope Aims.Free in
+          let assumed : w2 ≡ run (assume g) w1 = two ∙ ap (λ (d : Con). run (assume d) w1) same in
+          let found : i ≡ got inner w1 =
+          is ∙ then_got (assume g) (λ t. (part a).walk around scope Aims.Free) w1 w2 (got (assume g) w1) refl assumed in
+          let went : w3 ≡ run inner w1 =
+          three ∙ then_run (assume g) (λ t. (part a).walk around scope Aims.Free) w1 w2 (got (assume g) w1) refl assumed in
+          let last : w4 ≡ run (unit_under g (part a) around scope) w1 =
+          four ∙ then_run inner (unit_of (part a).place) w1 w3 i found went in
+          made_run (when_under (part a) around scope g) (λ i. Some (g, i)) w w5
+          (made_run given (λ i. I.Unit) w w5 (scoped_run (unit_under g (part a) around scope) w w1 w4 w5 one last five))
           ∙ met_run body (branches cs) (ap branches (sym two_is)) (Some g) some
 
   module _ (place : Place) (number : ℕ) (shape : Shape) (aim : Aim) (a b : Core) where

@@ -1,6 +1,7 @@
 -- What is written down behind walks over several parts.
 use Rattle.std.proofs.Common.{◌≡◌, ◌∙◌, ◌<◌, ◌≤◌, ◌+◌, sym, refl, ℕ, zero, suc, List, [], ◌∷◌, length, drop, get_or, slice_get, add-one}
 use Rattle.std.proofs.Common.{Bool, Option}
+use Rattle.sail_types.specs.declared.shapes.Shape.{Shape}
 use Rattle.sail_core.specs.declared.targets.Suffix.{Suffix}
 use Rattle.sail_core.specs.declared.tree.Core.{Core}
 use Rattle.value_indices.specs.Steps.{bind, give}
@@ -67,16 +68,17 @@ suffixes_end is_target ss around scope parts i k past = (λ j. suffixes_walk is_
 
 -- ---- ways
 
-pub ways_more : (is_free : Bool) (m : ℕ) (around : Around) (scope : Scope) (aim : Aim) (ws : List Way) (first : Option Indices) (k : ℕ) (w : Way)
-    → k < length ws → w ≡ get_or ws k w
-    → each_way around is_free m (ways_seen around scope aim (drop k ws)) first
-    ≡ bind (one_way around is_free m (way_seen around scope aim w) first) (each_way around is_free m (ways_seen around scope aim (drop (k + 1) ws)))
-ways_more is_free m around scope aim ws first k w within is =
-    (λ j. each_way around is_free m (ways_seen around scope aim (rest_is ws k w within is j)) first)
+pub ways_more : (is_free : Bool) (m : ℕ) (shape : Shape) (around : Around) (scope : Scope) (aim : Aim) (ws : List Way) (first : Option Indices) (k : ℕ)
+    (w : Way) → k < length ws → w ≡ get_or ws k w
+    → each_way around is_free m shape (ways_seen around scope aim (drop k ws)) first
+    ≡ bind (one_way around is_free m shape (way_seen around scope aim w) first)
+    (each_way around is_free m shape (ways_seen around scope aim (drop (k + 1) ws)))
+ways_more is_free m shape around scope aim ws first k w within is =
+    (λ j. each_way around is_free m shape (ways_seen around scope aim (rest_is ws k w within is j)) first)
 
-pub ways_end : (is_free : Bool) (m : ℕ) (around : Around) (scope : Scope) (aim : Aim) (ws : List Way) (first : Option Indices) (k : ℕ)
-    → length ws ≤ k → each_way around is_free m (ways_seen around scope aim (drop k ws)) first ≡ give first
-ways_end is_free m around scope aim ws first k past = (λ j. each_way around is_free m (ways_seen around scope aim (all_behind ws k past j)) first)
+pub ways_end : (is_free : Bool) (m : ℕ) (shape : Shape) (around : Around) (scope : Scope) (aim : Aim) (ws : List Way) (first : Option Indices) (k : ℕ)
+    → length ws ≤ k → each_way around is_free m shape (ways_seen around scope aim (drop k ws)) first ≡ give first
+ways_end is_free m shape around scope aim ws first k past = (λ j. each_way around is_free m shape (ways_seen around scope aim (all_behind ws k past j)) first)
 
 -- ---- what a way is, by its part
 

@@ -1,5 +1,6 @@
 -- What the code holds of ways and targets on its way through the parts of an expression.
 use Rattle.std.specs.Prelude.{Bool, List, None, Option, Some, drop, false, map, true, ℕ, [], ◌&&◌, ◌++◌, ◌∷◌}
+use Rattle.sail_types.specs.declared.shapes.Shape.{Shape}
 use Rattle.sail_core.specs.declared.tree.Core.{Core}
 use Rattle.sail_core.specs.declared.tree.Statement.{Statement}
 use Rattle.sail_core.specs.declared.tree.Statement.TheVariants as S
@@ -78,6 +79,12 @@ way_seen around scope aim (B.Whole a) = statements.try_way (part a.now) around s
 
 abbrev pub ways_seen : Around → Scope → Aim → List code.Way → List statements.Way
 ways_seen around scope aim ws = map (way_seen around scope aim) ws
+
+-- what is owed and made behind the value of a part that is a way
+abbrev pub end_walk : Around → Bool → ℕ → Shape → Core → Option Indices → Indices → Walk (Option Indices)
+end_walk around is_free m shape core first i =
+    bind (statements.owed_of_first around is_free (part core).place (part core).never_ends m first i)
+    (λ t. statements.first_behind around is_free m shape (part core).never_ends first i)
 
 -- what a way makes known, and the names that it binds
 abbrev pub way_opened : Around → code.Way → Walk (List Bound)

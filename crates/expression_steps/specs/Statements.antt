@@ -16,7 +16,9 @@ use Rattle.sail_core.specs.declared.tree.Statement.TheVariants as S
 use Rattle.sail_core.specs.declared.written.Written.{Written}
 use Rattle.value_indices.specs.Opening.{at_most, between, largest_num}
 use Rattle.value_indices.specs.Steps.{Walk, bind, claimed, fresh_named, give, next_variable, owe, scoped}
-use Rattle.value_indices.specs.declared.indices.Indices.{Indices}
+use Rattle.value_indices.specs.declared.indices.Indices.{Indices, out-Indices}
+use Rattle.value_indices.specs.declared.indices.Indices.TheOpen as W
+use Rattle.value_indices.specs.declared.indices.Indices.TheOpen.{Indices-F}
 use Rattle.value_indices.specs.declared.indices.Indices.TheVariants as I
 use Rattle.value_indices.specs.declared.indices.Reading.{Reading}
 use Rattle.value_indices.specs.declared.indices.Reading.TheVariants as R
@@ -71,25 +73,29 @@ pub record Way : Type 0 where
   pub walk : Walk Indices
 
 -- the first way that ends normally, where no type is wanted, with a way behind it
-abbrev pub first_behind : Bool → Bool → Option Indices → Indices → Option Indices
-first_behind is_free never_ends None i = if is_free then first_way never_ends i else None
-first_behind is_free never_ends (Some first) i = Some first
+abbrev pub first_behind : Around → Bool → ℕ → Shape → Bool → Option Indices → Indices → Walk (Option Indices)
+first_behind around true m shape never_ends None i = first_way around m shape never_ends i
+first_behind around is_free m shape never_ends first i = give first
 
 -- what a way owes of the first one
 abbrev pub owed_of_first : Around → Bool → Place → Bool → ℕ → Option Indices → Indices → Walk (Unit {0})
 owed_of_first around true place never_ends m (Some first) i = like_first around place never_ends m first i
 owed_of_first around is_free place never_ends m first i = give tt
 
-abbrev pub way_behind : Around → Bool → ℕ → Way → Option Indices → Walk Indices
-way_behind around is_free m w first = bind w.walk (λ i. bind (owed_of_first around is_free w.place w.never_ends m first i) (λ t. give i))
+abbrev pub then_first : Around → Bool → ℕ → Shape → Way → Option Indices → Indices → Walk (Option Indices)
+then_first around is_free m shape w first i =
+    bind (owed_of_first around is_free w.place w.never_ends m first i) (λ t. first_behind around is_free m shape w.never_ends first i)
+
+abbrev pub way_behind : Around → Bool → ℕ → Shape → Way → Option Indices → Walk (Option Indices)
+way_behind around is_free m shape w first = bind w.walk (then_first around is_free m shape w first)
 
 -- a way, with an end of its own
-abbrev pub one_way : Around → Bool → ℕ → Way → Option Indices → Walk (Option Indices)
-one_way around is_free m w first = bind (scoped (way_behind around is_free m w first)) (λ i. give (first_behind is_free w.never_ends first i))
+abbrev pub one_way : Around → Bool → ℕ → Shape → Way → Option Indices → Walk (Option Indices)
+one_way around is_free m shape w first = scoped (way_behind around is_free m shape w first)
 
-abbrev pub each_way : Around → Bool → ℕ → List Way → Option Indices → Walk (Option Indices)
-each_way around is_free m [] first = give first
-each_way around is_free m (w ∷ ws) first = bind (one_way around is_free m w first) (each_way around is_free m ws)
+abbrev pub each_way : Around → Bool → ℕ → Shape → List Way → Option Indices → Walk (Option Indices)
+each_way around is_free m shape [] first = give first
+each_way around is_free m shape (w ∷ ws) first = bind (one_way around is_free m shape w first) (each_way around is_free m shape ws)
 
 -- with a wanted type that type, opened; else the widened type of the first way that ends normally: the node makes it of `()`
 abbrev pub met_made : Around → Place → ℕ → Shape → Option Reading → ℕ → Option Indices → Walk Indices
@@ -100,7 +106,7 @@ abbrev pub met_value : Around → Place → ℕ → Shape → Option Reading →
 met_value around place k shape r m first = bind (met_made around place k shape r m first) (node_given k)
 
 abbrev pub meeting_from : Around → Place → ℕ → Shape → Option Reading → List Way → ℕ → Walk Indices
-meeting_from around place k shape r ws m = bind (each_way around (is_none r) m ws None) (met_value around place k shape r m)
+meeting_from around place k shape r ws m = bind (each_way around (is_none r) m shape ws None) (met_value around place k shape r m)
 
 -- the value of ways, of which this type is wanted
 abbrev pub meeting : Around → Place → ℕ → Shape → Option Reading → List Way → Walk Indices
@@ -120,9 +126,22 @@ if_ways a b around scope aim c = two_ways a b around scope aim c (C.Not c)
 abbrev pub if_under : Place → ℕ → Shape → Part → Part → Around → Scope → Aim → Con → Walk Indices
 if_under place k shape a b around scope aim c = meeting around place k shape (wanted aim) (if_ways a b around scope aim c)
 
--- without `else` it is `()`
+-- of what is neither `()` nor never ends normally what is false is owed
+abbrev pub unit_form : Place → Indices-F Indices Reading → Walk Indices
+unit_form place W.Unit = give I.Unit
+unit_form place W.Never = give I.Unit
+unit_form place form = wrong_value place
+
+abbrev pub unit_of : Place → Indices → Walk Indices
+unit_of place i = unit_form place (out-Indices i)
+
+-- a body that has to be `()`, under a condition
+abbrev pub unit_under : Con → Part → Around → Scope → Walk Indices
+unit_under c a around scope = bind (under c a around scope Aims.Free) (unit_of a.place)
+
+-- without `else` it is `()`, and so is its body
 abbrev pub when_under : Part → Around → Scope → Con → Walk Indices
-when_under a around scope c = bind (given_that c a around scope Aims.Free) (λ i. give I.Unit)
+when_under a around scope c = bind (scoped (unit_under c a around scope)) (λ i. give I.Unit)
 
 abbrev pub when_met : Part → Around → Scope → Option Con → Walk (Option (Con × Indices))
 when_met a around scope None = give None

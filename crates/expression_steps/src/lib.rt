@@ -41,5 +41,5 @@ pub use reached::{indexes_of, left_after, reach, value_of, way_reached};
 pub use slices::{behind, first_parts, left_at};
 pub use structs::{no_struct, with_aims};
 pub use ways::{
-    Way, either_ways, end_way, if_end, is_free, match_ways, met_value, open_way, try_ways,
+    Way, either_ways, end_way, if_end, is_free, match_ways, met_value, open_way, try_ways, unit_of,
 };

@@ -147,24 +147,32 @@ pub fn open_way(
     }
 }
 
-/// The first way that ends normally, where no type is wanted, with a way behind it.
+/// The first way that ends normally, where no type is wanted, with a way of this shape behind it. It fails where memory is wanting, and where
+/// variables are too many.
+#[tactic(auto, using(value_indices::proofs::Walks::walks))]
 fn first_behind(
+    alloc: Global,
+    walking: &mut Walking,
+    around: &Around<'_>,
     is_free: bool,
+    before: u32,
+    shape: &Shape,
     never_ends: bool,
     first: Option<Indices>,
     value: Indices,
-) -> Option<Indices>
-    ensures { result ≡ statement_spec.first_behind is_free never_ends first value }
+) -> Result<Option<Indices>, AllocError>
+    ensures value { IfOk result (λ made. made ≡ walk.got (statement_spec.first_behind (around_of around.now) is_free before shape.now never_ends first
+        value) (walk.seen walking.old)) }
+    ensures walked { OnOk result (walk.seen walking.new ≡ walk.run (statement_spec.first_behind (around_of around.now) is_free before shape.now
+        never_ends first value) (walk.seen walking.old)) }
 {
-    match first {
-        None => {
-            if is_free {
-                first_way(never_ends, value)
-            } else {
-                None
-            }
+    if is_free {
+        match first {
+            None => first_way(alloc, walking, around, before, shape, never_ends, value),
+            Some(first) => Ok(Some(first)),
         }
-        Some(first) => Some(first),
+    } else {
+        Ok(first)
     }
 }
 
@@ -202,8 +210,8 @@ fn owe_first(
     }
 }
 
-/// The end of a way that gave a value: what is owed of the first one, and that one. What was remembered before the way is in force again.
-/// It fails where memory is wanting, and where variables are too many.
+/// The end of a way of this shape that gave a value: what is owed of the first one, and that one. What was remembered before the way is in
+/// force again. It fails where memory is wanting, and where variables are too many.
 pub fn end_way(
     alloc: Global,
     walking: &mut Walking,
@@ -211,12 +219,14 @@ pub fn end_way(
     core: &Core,
     is_free: bool,
     before: u32,
+    shape: &Shape,
     first: Option<Indices>,
     value: Indices,
 ) -> Result<Option<Indices>, AllocError>
-    ensures value { IfOk result (λ made. made ≡ statement_spec.first_behind is_free (Part.never_ends (part core.now)) first value) }
-    ensures walked { OnOk result (walk.seen walking.new ≡ walk.restored (walk.run (statement_spec.owed_of_first (around_of around.now) is_free
-        (Part.place (part core.now)) (Part.never_ends (part core.now)) before first value) (walk.seen walking.old))) }
+    ensures value { IfOk result (λ made. made ≡ walk.got (coded.end_walk (around_of around.now) is_free before shape.now core.now first value)
+        (walk.seen walking.old)) }
+    ensures walked { OnOk result (walk.seen walking.new ≡ walk.restored (walk.run (coded.end_walk (around_of around.now) is_free before shape.now
+        core.now first value) (walk.seen walking.old))) }
 {
     owe_first(
         alloc,
@@ -228,8 +238,12 @@ pub fn end_way(
         first.as_ref(),
         &value,
     )?;
+    let ends = never_ends(core);
+    let made = first_behind(
+        alloc, walking, around, is_free, before, shape, ends, first, value,
+    )?;
     walking.restore()?;
-    Ok(first_behind(is_free, never_ends(core), first, value))
+    Ok(made)
 }
 
 /// Whether no type is wanted.
@@ -372,6 +386,26 @@ fn end_when(
 {
     let aim = aim.branch(alloc)?;
     settled(alloc, walking, around, place, &aim, value)
+}
+
+/// That the body of an `if` without `else` is `()`: where it is neither that nor never ends normally it owes what is false. It fails where
+/// memory is wanting.
+#[tactic(auto, using(value_indices::proofs::Walks::walks))]
+pub fn unit_of(
+    alloc: Global,
+    walking: &mut Walking,
+    body: &Core,
+    value: &Indices,
+) -> Result<Indices, AllocError>
+    ensures value { IfOk result (λ made. made ≡ walk.got (statement_spec.unit_of (Part.place (part body.now)) value.now) (walk.seen walking.old)) }
+    ensures walked { OnOk result (walk.seen walking.new ≡ walk.run (statement_spec.unit_of (Part.place (part body.now)) value.now)
+        (walk.seen walking.old)) }
+{
+    match value {
+        Indices::Unit => Ok(Indices::Unit),
+        Indices::Never => Ok(Indices::Unit),
+        _ => wrong_value(alloc, walking, place_of(body)),
+    }
 }
 
 /// The value of an `if` whose condition and value these are; of another number of parts than two or three it owes what is false. It fails

@@ -5,7 +5,7 @@ use Rattle.sail_types.specs.declared.numbers.Con.{Con}
 use Rattle.sail_core.specs.declared.targets.Target.{Target, out-Target}
 use Rattle.sail_core.specs.declared.targets.TargetKind.TheVariants as T
 use Rattle.sail_core.specs.declared.tree.Core.{out-Core}
-use Rattle.value_indices.proofs.Walks.{got_give, run_give}
+use Rattle.value_indices.proofs.Walks.{run_give}
 use Rattle.value_indices.specs.Steps.{Walk, bind}
 use Rattle.value_indices.specs.Walking.{got, run, seen}
 use Rattle.value_indices.specs.declared.indices.Indices.TheVariants as I
@@ -26,7 +26,7 @@ use Rattle.expression_forms.specs.Spots.{spot_of, written_by}
 use Rattle.expression_steps.specs.Calls.{argument_aims}
 use Rattle.expression_steps.specs.Coded.{aim_or_free, each_part, left_behind, spotted_in, ways_seen, taken_in}
 use Rattle.expression_steps.specs.Expressions.{part}
-use Rattle.expression_steps.specs.Parts.{three, under}
+use Rattle.expression_steps.specs.Parts.{under}
 use Rattle.expression_steps.specs.Statements.{measure_walk, joined_under, turn_part}
 use Rattle.expression_steps.specs.Targets.{spotting, part_of, tuple_spotted, assigned, assigned_one}
 use Rattle.expression_steps.specs.Values.{Row, taken, no_way}
@@ -37,7 +37,7 @@ use Rattle.expression_notes.proofs.LeftMasses.{ends_masses, only_target, taken_m
 use Rattle.expression_notes.proofs.MadeLaws.{made_ends, with_values, without}
 use Rattle.expression_steps.proofs.Masses.{either_masses, kind_mass, mass_at, mass_opens, masses, masses_take, one_mass, rest_mass, rest_target, target_at}
 use Rattle.expression_steps.proofs.Masses.{masses_drop, target_masses, target_opens, target_some, two_masses, way_at, way_mass, mass}
-use Rattle.expression_steps.proofs.Meeting.{Opened, match_got, match_run, try_got, try_run, way_got, way_run}
+use Rattle.expression_steps.proofs.Meeting.{match_got, match_run, try_got, try_run}
 use Rattle.expression_notes.proofs.Numbers.{numbers_end, numbers_walked, number_is, number_onward, number_stop}
 use Rattle.expression_steps.proofs.Onward.{given_got, given_run, same_got, same_run, then_got_in, then_run_in, on_ok, ok_then}
 use Rattle.expression_steps.proofs.Opened.{inward_is, plain_is}
@@ -46,8 +46,8 @@ use Rattle.expression_steps.proofs.Rows.{item_got, item_run, items_got, items_ru
 use Rattle.expression_steps.proofs.Spots.{call_got, call_run, one_assigned, call_alone, of_any, part_opens}
 use Rattle.expression_notes.proofs.Spotted.{last_there, none_within_got, spots_onward, spots_stop, none_within_run, part_got, part_run, last_is, kind_opens}
 use Rattle.expression_notes.proofs.Spotted.{absent_alike, spots_ended, stopped_alike}
-use Rattle.expression_notes.proofs.Taken.{never_alike, part_alike, part_left, step_alike, stop_alike, taken_got, reached_got, reached_run, updated_got, updated_run}
-use Rattle.expression_notes.proofs.Taken.{way_opens, few_way, no_way_got, one_value, suffixes_ended, uncounted}
+use Rattle.expression_notes.proofs.Taken.{never_alike, part_alike, part_left, step_alike, stop_alike, taken_got, reached_got, reached_run, updated_got}
+use Rattle.expression_notes.proofs.Taken.{updated_run, way_opens, few_way, no_way_got, one_value, suffixes_ended, uncounted}
 use Rattle.expression_steps.proofs.Turns.{alone_run, measured_run, tested_run, turns_got, turns_run}
 use Rattle.expression_steps.proofs.Walked.{each_end, each_more, like_end, like_more}
 use Rattle.expression_notes.proofs.RowLaws.{row_due, row_free}
@@ -60,6 +60,7 @@ use Rattle.expression_notes.proofs.ChainSteps.{gone_alike, last_alike, onward_al
 use Rattle.expression_notes.proofs.Blocks.{assert_alike, if_alike, in_alike, more_alike, other_alike}
 use Rattle.expression_notes.proofs.BranchLaws.{no_either_alike, no_turns, no_when_alike, some_either_alike, some_turns, some_when_alike, ways_met, ways_onward}
 use Rattle.expression_notes.proofs.FewParts.{few_alike, many_alike}
+use Rattle.expression_notes.proofs.WayLaws.{way_alike}
 
 pub expressions::walk_expression-returns-in_ok-value : goal.expressions::walk_expression-returns-in_ok-value
 expressions::walk_expression-returns-in_ok-value t c = let around = around_of c.args.around.now in let scope = scope_of c.args.scope.now in
@@ -72,8 +73,7 @@ pub expressions::walk_expression-returns-in_ok-ended : goal.expressions::walk_ex
 expressions::walk_expression-returns-in_ok-ended t c = let around = around_of c.args.around.now in let scope = scope_of c.args.scope.now in
     let aim = c.args.aim.now in let core = c.args.core.now in let settles = settled around (out-Core core).place aim in
     let opens = plain_is _ _ around scope aim c.as_slice-else-goes_inward.ensures _ c.makes_value-else-goes_inward.ensures (sym c.goes_inward.ensures ∙
-    c.if-goes_inward.false) in
-    let is = c.in_ok-ended.ensures.value ∙ then_got _ settles _ _ _ c.in_ok-plain.ensures.value c.in_ok-plain.ensures.walked in
+    c.if-goes_inward.false) in let is = c.in_ok-ended.ensures.value ∙ then_got _ settles _ _ _ c.in_ok-plain.ensures.value c.in_ok-plain.ensures.walked in
     let was = c.in_ok-ended.ensures.walked ∙ then_run _ settles _ _ _ c.in_ok-plain.ensures.value c.in_ok-plain.ensures.walked in
     let by = c.end_node-else-goes_inward.ensures in
     record { value = then_got_in _ (λ (i : Indices). i) _ _ _ _ _ _ opens is was by.value; walked = then_run_in _ _ _ _ _ _ _ _ opens is was by.walked }
@@ -99,8 +99,7 @@ pub parts::walk_numbers-loop-core-preserved : goal.parts::walk_numbers-loop-core
 parts::walk_numbers-loop-core-preserved t c = let h = c.in_ok-value.ensures in let n = c.in_ok-integer_number.ensures in let a = c.core-item.result in
     let is = number_is (part a) _ _ _ _ _ _ _ _ c.place_of.ensures h.value h.walked n.value n.walked in
     let same = number_onward _ _ _ _ _ _ _ c.loop-core-test.true c.core-item.is is.walked _ _ _ (sym c.in-Some.is ∙ is.value)
-    c.in_ok-push-in-Some.ensures.pushed in
-    record { value = same.value ∙ c.loop-core.invariant.value; walked = same.walked ∙ c.loop-core.invariant.walked }
+    c.in_ok-push-in-Some.ensures.pushed in record { value = same.value ∙ c.loop-core.invariant.value; walked = same.walked ∙ c.loop-core.invariant.walked }
 
 pub parts::walk_numbers-returns-in-None : goal.parts::walk_numbers-returns-in-None
 parts::walk_numbers-returns-in-None t c = let h = c.in_ok-value.ensures in let n = c.in_ok-integer_number.ensures in let a = c.core-item.result in
@@ -218,8 +217,7 @@ pub reading::walk_way-returns-in-None : goal.reading::walk_way-returns-in-None
 reading::walk_way-returns-in-None t c = let numbers = c.in_ok-walk_numbers.ensures in
     let same = uncounted c.args.place (around_of c.args.around.now) (scope_of c.args.scope.now) c.args.value.now c.args.way c.args.at _ c.args.parts.now
     c.left_at-left.result.now c.first_parts.result.now c.left_at-left.ensures c.indexes_of-count.ensures c.if-left-count.false c.first_parts.ensures _ _ _
-    numbers.value numbers.walked c.in-None.is in
-    record { value = same.value; walked = same.walked }
+    numbers.value numbers.walked c.in-None.is in record { value = same.value; walked = same.walked }
 
 pub reading::walk_way-returns-in-Some : goal.reading::walk_way-returns-in-Some
 reading::walk_way-returns-in-Some t c = let around = around_of c.args.around.now in let scope = scope_of c.args.scope.now in let parts = c.args.parts.now in
@@ -237,9 +235,8 @@ reading::walk_way-returns-in-Some t c = let around = around_of c.args.around.now
 pub reading::walk_suffixes-loop-suffix-preserved : goal.reading::walk_suffixes-loop-suffix-preserved
 reading::walk_suffixes-loop-suffix-preserved t c = let parts = c.args.parts.now in let is = item_is _ _ _ c.loop-suffix-test.true in
     let found = (λ j. taken_in parts (sym c.in-Some.is j)) ∙ c.in_ok-walk_way.ensures.value in let read = c.in_ok-value-in-Some.ensures in
-    let same = step_alike _ _ c.args.is_target _ _ _ _ _ _ _ _ _ c.as_ref.ensures.value _ _ _ c.loop-suffix-test.true is found
-    c.in_ok-walk_way.ensures.walked read.value read.walked in
-    record { value = same.value ∙ c.loop-suffix.invariant.value; walked = same.walked ∙ c.loop-suffix.invariant.walked }
+    let same = step_alike _ _ c.args.is_target _ _ _ _ _ _ _ _ _ c.as_ref.ensures.value _ _ _ c.loop-suffix-test.true is found c.in_ok-walk_way.ensures.walked
+    read.value read.walked in record { value = same.value ∙ c.loop-suffix.invariant.value; walked = same.walked ∙ c.loop-suffix.invariant.walked }
 
 pub reading::walk_suffixes-returns-in-None : goal.reading::walk_suffixes-returns-in-None
 reading::walk_suffixes-returns-in-None t c = let parts = c.args.parts.now in
@@ -306,8 +303,7 @@ pub targets::spot_each-returns-in-None : goal.targets::spot_each-returns-in-None
 targets::spot_each-returns-in-None t c = let around = around_of c.args.around.now in let parts = c.args.parts.now in
     let found = (λ j. spotted_in around parts (sym c.in-None.is j)) ∙ c.in_ok-spot_target.ensures.value in
     let same = spots_stop _ _ _ _ _ _ (map (spot_of around) c.loop-target.spots) _ _ c.loop-target-test.true c.target-item.is found
-    c.in_ok-spot_target.ensures.walked in
-    record { value = same.value ∙ c.loop-target.invariant.value; walked = same.walked ∙ c.loop-target.invariant.walked }
+    c.in_ok-spot_target.ensures.walked in record { value = same.value ∙ c.loop-target.invariant.value; walked = same.walked ∙ c.loop-target.invariant.walked }
 
 pub targets::spot_each-returns : goal.targets::spot_each-returns
 targets::spot_each-returns t c = let around = around_of c.args.around.now in
@@ -322,8 +318,7 @@ targets::spot_within-returns-in-None t c = let around = around_of c.args.around.
     record { value = same.value; walked = same.walked }
 
 pub targets::spot_within-returns-in-empty : goal.targets::spot_within-returns-in-empty
-targets::spot_within-returns-in-empty t c = let scope = scope_of c.args.scope.now in let parts = c.args.parts.now in
-    let held = c.in_ok-held-in-Some.ensures in
+targets::spot_within-returns-in-empty t c = let scope = scope_of c.args.scope.now in let parts = c.args.parts.now in let held = c.in_ok-held-in-Some.ensures in
     record {
       value = none_within_got _ scope _ c.args.number _ parts _ _ _ c.in-Some.is _ _ _ held.value held.walked _ c.in-empty.len_below c.no_spot.ensures.value;
       walked = none_within_run _ scope _ c.args.number _ parts _ _ _ c.in-Some.is _ _ _ held.value held.walked _ _ c.in-empty.len_below
@@ -372,13 +367,12 @@ pub targets::spot_target-returns-in_ok-values-in-empty : goal.targets::spot_targ
 targets::spot_target-returns-in_ok-values-in-empty t c = let around = around_of c.args.around.now in let scope = scope_of c.args.scope.now in
     let parts = c.args.parts.now in let place = (out-Target c.args.target.now).place in
     let taken = c.first_parts-arguments.ensures ∙ ap (take _) c.left_at.ensures in
-    let aims = c.as_slice.ensures ∙ c.in_ok-aims-in-empty.ensures ∙ ap argument_aims c.callee_types.ensures in
-    let left = left_behind parts c.args.at in let ts = c.as_slice-targets.result.now in
+    let aims = c.as_slice.ensures ∙ c.in_ok-aims-in-empty.ensures ∙ ap argument_aims c.callee_types.ensures in let left = left_behind parts c.args.at in
+    let ts = c.as_slice-targets.result.now in
     let opens = kind_opens _ _ _ around scope left c.as_slice-targets.ensures c.in-Call.is ∙ call_alone place (out-Target c.args.target.now).number around scope
-    left _ _ _ ts c.in-empty.len_below in
-    let first = c.first_parts-arguments.result.now in let due = c.as_slice.result.now in let held = c.in_ok-values-in-empty in
-    let is = held.ensures.value in let was = held.ensures.walked in let v = seen c.args.walking.now in let w = seen c.walk_each.new.walking in
-    let k = c.args.at in let r = c.call_found.result in let by = c.call_found.ensures in
+    left _ _ _ ts c.in-empty.len_below in let first = c.first_parts-arguments.result.now in let due = c.as_slice.result.now in
+    let held = c.in_ok-values-in-empty in let is = held.ensures.value in let was = held.ensures.walked in let v = seen c.args.walking.now in
+    let w = seen c.walk_each.new.walking in let k = c.args.at in let r = c.call_found.result in let by = c.call_found.ensures in
     record {
       value = of_any r _ around parts _ (call_got around scope _ _ _ _ _ k parts first due held.values v w taken aims is was ∙ (λ j. got (sym opens j) v)) by;
       walked = on_ok r (call_run around scope _ _ _ _ _ k parts first due held.values v w taken aims is was ∙ (λ j. run (sym opens j) v));
@@ -445,101 +439,77 @@ targets::assign_to-returns t c = let around = around_of c.args.around.now in let
     let left = ap each_part c.left_at-left.ensures in let spot = spot_of around l.spot in
     let is = c.in_ok-value.ensures.value ∙ (λ j. got (assigned_one c.args.place around scope spot (left j)) (seen l.walking)) in
     let was = c.in_ok-value.ensures.walked ∙ (λ j. run (assigned_one c.args.place around scope spot (left j)) (seen l.walking)) in
-    let same = last_alike c.args.place around scope c.args.targets.now l.target-index spot (left_behind c.args.parts.now l.at)
-    (map (spot_of around) l.before) _ (seen l.walking) _ c.loop-target-test.false is was in
-    let before = ap (map (spot_of around)) c.as_slice-2.ensures in let z = c.in_ok-value.value in let w = seen c.assign_last.new.walking in
-    let on = l.invariant in let by = c.assign_back-2.ensures in
+    let same = last_alike c.args.place around scope c.args.targets.now l.target-index spot (left_behind c.args.parts.now l.at) (map (spot_of around) l.before) _
+    (seen l.walking) _ c.loop-target-test.false is was in let before = ap (map (spot_of around)) c.as_slice-2.ensures in let z = c.in_ok-value.value in
+    let w = seen c.assign_last.new.walking in let on = l.invariant in let by = c.assign_back-2.ensures in
     record {
       value = value_same _ _ _ ((λ j. got (written_back c.args.place (before j) z) w) ∙ same.value ∙ on.value) by.value;
       walked = walked_same _ _ _ _ ((λ j. run (written_back c.args.place (before j) z) w) ∙ same.walked ∙ on.walked) by.walked;
     }
 
 pub branches::walk_branch-returns : goal.branches::walk_branch-returns
-branches::walk_branch-returns t c = let around = around_of c.args.around.now in let scope = scope_of c.args.scope.now in
-    let o : Opened around scope c.args.aim.now c.args.way.now (seen c.remember.new.self) (seen c.open_way.new.walking) c.core-core.result.now (scope_of
-    c.with-inside.result) c.in_ok-aim.aim = record {
-      found = c.in_ok-found.found;
-      names = c.in_ok-found.ensures.value;
-      opens = c.in_ok-found.ensures.walked;
-      within = c.with-inside.ensures ∙ ap (λ (bs : List Bound). bs ++ scope) c.as_slice.ensures;
-      due = c.in_ok-aim.ensures;
-      whose = c.core-core.ensures;
-    } in
-    let free = c.args.is_free in let before = c.args.before in let aim = c.args.aim.now in let way = c.args.way.now in let first = c.args.first in
-    let kept = c.in_ok-remember.ensures in let is = c.in_ok-value.ensures.value in let was = c.in_ok-value.ensures.walked in let by = c.end_way.ensures in
-    record {
-      value = value_same _ _ _ (way_got free before _ scope aim way first _ _ _ _ _ o _ _ _ kept is was) by.value;
-      walked = walked_same _ _ _ _ (way_run free before _ scope aim way first _ _ _ _ _ o _ _ _ kept is was) by.walked;
-    }
+branches::walk_branch-returns t c = let scope = scope_of c.args.scope.now in let found = c.in_ok-found.ensures in let is = c.in_ok-value.ensures in
+    let within = c.with-inside.ensures ∙ ap (λ (bs : List Bound). bs ++ scope) c.as_slice.ensures in let by = c.end_way.ensures in
+    let same = way_alike c.args.is_free c.args.before c.args.shape.now (around_of c.args.around.now) scope c.args.aim.now c.args.way.now c.args.first
+    (seen c.remember.new.self) (seen c.open_way.new.walking) c.core-core.result.now (scope_of c.with-inside.result) c.in_ok-aim.aim c.in_ok-found.found
+    found.value found.walked within c.in_ok-aim.ensures c.core-core.ensures _ _ _ c.in_ok-remember.ensures is.value is.walked in
+    record { value = value_same _ _ _ same.value by.value; walked = walked_same _ _ _ _ same.walked by.walked }
 
 pub branches::walk_ways-loop-way-preserved : goal.branches::walk_ways-loop-way-preserved
 branches::walk_ways-loop-way-preserved t c = let way = c.in_ok-first.ensures in
-    let same = ways_onward c.is_free-free.result c.next-before.result (around_of c.args.around.now) (scope_of c.args.scope.now) c.args.aim.now c.args.ways.now
-    _ _ _ _ _ _ c.loop-way-test.true c.way-item.is way.value way.walked in
+    let same = ways_onward c.is_free-free.result c.next-before.result c.args.shape.now (around_of c.args.around.now) (scope_of c.args.scope.now)
+    c.args.aim.now c.args.ways.now _ _ _ _ _ _ c.loop-way-test.true c.way-item.is way.value way.walked in
     record { value = same.value ∙ c.loop-way.invariant.value; walked = same.walked ∙ c.loop-way.invariant.walked }
 
 pub branches::walk_ways-returns : goal.branches::walk_ways-returns
-branches::walk_ways-returns t c = let same = ways_met c.is_free-free.result c.next-before.result (around_of c.args.around.now) (scope_of c.args.scope.now)
-    c.args.aim.now c.args.ways.now c.args.place c.args.number c.args.shape.now c.is_free-free.ensures c.loop-way.first _ _ (seen c.args.walking.now) (seen
-    c.loop-way.walking)
-    c.next-before.ensures c.loop-way-test.false c.as_ref.ensures.value c.loop-way.invariant.value c.loop-way.invariant.walked in
+branches::walk_ways-returns t c = let same = ways_met c.is_free-free.result c.next-before.result c.args.shape.now (around_of c.args.around.now)
+    (scope_of c.args.scope.now) c.args.aim.now c.args.ways.now c.args.place c.args.number c.is_free-free.ensures c.loop-way.first _ _
+    (seen c.args.walking.now) (seen c.loop-way.walking) c.next-before.ensures c.loop-way-test.false c.as_ref.ensures.value c.loop-way.invariant.value
+    c.loop-way.invariant.walked in
     record { value = value_same _ _ _ same.value c.met_value.ensures.value; walked = walked_same _ _ _ _ same.walked c.met_value.ensures.walked }
 
 pub branches::walk_either-returns-in-None : goal.branches::walk_either-returns-in-None
 branches::walk_either-returns-in-None t c = let truth = c.in_ok-walk_truth.ensures in
     let same = no_either_alike _ _ c.args.condition.now _ _ _ truth.value truth.walked c.args.place c.args.number c.args.shape.now c.args.aim.now
-    c.args.then.now
-    c.args.otherwise.now c.in-None.is in
-    record { value = same.value; walked = same.walked }
+    c.args.then.now c.args.otherwise.now c.in-None.is in record { value = same.value; walked = same.walked }
 
 pub branches::walk_either-returns-in_ok-value-in-Some : goal.branches::walk_either-returns-in_ok-value-in-Some
 branches::walk_either-returns-in_ok-value-in-Some t c = let around = around_of c.args.around.now in let scope = scope_of c.args.scope.now in
     let truth = c.in_ok-walk_truth.ensures in let value = c.in_ok-value-in-Some.ensures in
     let not = c.in_ok-other-in-Some.ensures ∙ ap (λ (d : Con). C.Not d) c.in_ok-copy_con-in-Some.ensures in
     let same = some_either_alike around scope c.args.condition.now _ _ _ truth.value truth.walked c.args.place c.args.number c.args.shape.now c.args.aim.now
-    c.args.then.now
-    c.args.otherwise.now _ _ c.in-Some.is not _ _ _ (c.either_ways-ways.ensures.ways around scope c.args.aim.now) value.value value.walked in
+    c.args.then.now c.args.otherwise.now _ _ c.in-Some.is not _ _ _ (c.either_ways-ways.ensures.ways around scope c.args.aim.now) value.value value.walked in
     record { value = same.value; walked = same.walked }
 
 pub branches::walk_branches-returns-in-None : goal.branches::walk_branches-returns-in-None
 branches::walk_branches-returns-in-None t c = let truth = c.in_ok-walk_truth-in-len2.ensures in
     let two = two_of _ _ _ c.in-len2.len_at_least c.in-len2.len_below c.condition-item.is c.body-item.is in
     let same = no_when_alike _ _ c.condition-item.result _ _ _ truth.value truth.walked c.args.place c.args.number c.args.shape.now c.args.aim.now
-    c.args.parts.now
-    c.body-item.result two c.in-None.is in
-    record { value = same.value; walked = same.walked }
+    c.args.parts.now c.body-item.result two c.in-None.is in record { value = same.value; walked = same.walked }
 
 pub branches::walk_branches-returns-in_ok-restore-in-Some : goal.branches::walk_branches-returns-in_ok-restore-in-Some
 branches::walk_branches-returns-in_ok-restore-in-Some t c = let truth = c.in_ok-walk_truth-in-len2.ensures in
     let two = two_of _ _ _ c.in-len2.len_at_least c.in-len2.len_below c.condition-item.is c.body-item.is in
     let same = some_when_alike _ _ c.condition-item.result _ _ _ truth.value truth.walked c.args.place c.args.number c.args.shape.now c.args.aim.now
-    c.args.parts.now
-    c.body-item.result two _ c.in-Some.is _ _ _ _ _ c.in_ok-copy_con-in-Some.ensures c.in_ok-remember-in-Some.ensures c.in_ok-assume-in-Some.ensures
-    c.in_ok-walk_expression-in-Some.ensures.walked c.in_ok-restore-in-Some.ensures in
-    record { value = same.value; walked = same.walked }
+    c.args.parts.now c.body-item.result two _ c.in-Some.is _ _ _ _ _ _ _ c.in_ok-copy_con-in-Some.ensures c.in_ok-remember-in-Some.ensures
+    c.in_ok-assume-in-Some.ensures c.in_ok-given-in-Some.ensures.value c.in_ok-given-in-Some.ensures.walked c.in_ok-unit_of-in-Some.ensures.walked
+    c.in_ok-restore-in-Some.ensures in record { value = same.value; walked = same.walked }
 
 pub branches::walk_branches-returns-in-len3 : goal.branches::walk_branches-returns-in-len3
-branches::walk_branches-returns-in-len3 t c =
-    let parts = three_of _ _ _ _ c.in-len3.len_at_least c.in-len3.len_below c.test-item.is c.then-item.is c.otherwise-item.is in
-    record { value = rw parts c.walk_either.ensures.value; walked = rw parts c.walk_either.ensures.walked }
+branches::walk_branches-returns-in-len3 t c = let parts = three_of _ _ _ _ c.in-len3.len_at_least c.in-len3.len_below c.test-item.is c.then-item.is
+    c.otherwise-item.is in record { value = rw parts c.walk_either.ensures.value; walked = rw parts c.walk_either.ensures.walked }
 
 pub branches::walk_branches-returns-in-empty : goal.branches::walk_branches-returns-in-empty
 branches::walk_branches-returns-in-empty t c = let same = few_alike c.args.place c.args.number c.args.shape.now (around_of c.args.around.now) (scope_of
-    c.args.scope.now)
-    c.args.aim.now (seen c.args.walking.now) c.args.parts.now (omega arith) in
-    record { value = same.value; walked = same.walked }
+    c.args.scope.now) c.args.aim.now (seen c.args.walking.now) c.args.parts.now (omega arith) in record { value = same.value; walked = same.walked }
 
 pub branches::walk_branches-returns-in-len1 : goal.branches::walk_branches-returns-in-len1
 branches::walk_branches-returns-in-len1 t c = let same = few_alike c.args.place c.args.number c.args.shape.now (around_of c.args.around.now) (scope_of
-    c.args.scope.now)
-    c.args.aim.now (seen c.args.walking.now) c.args.parts.now (omega arith) in
-    record { value = same.value; walked = same.walked }
+    c.args.scope.now) c.args.aim.now (seen c.args.walking.now) c.args.parts.now (omega arith) in record { value = same.value; walked = same.walked }
 
 pub branches::walk_branches-returns-in_default : goal.branches::walk_branches-returns-in_default
 branches::walk_branches-returns-in_default t c = let same = many_alike c.args.place c.args.number c.args.shape.now (around_of c.args.around.now) (scope_of
-    c.args.scope.now)
-    c.args.aim.now (seen c.args.walking.now) c.args.parts.now (omega arith) in
-    record { value = same.value; walked = same.walked }
+    c.args.scope.now) c.args.aim.now (seen c.args.walking.now) c.args.parts.now (omega arith) in record { value = same.value; walked = same.walked }
 
 pub branches::walk_cases-returns-in-empty : goal.branches::walk_cases-returns-in-empty
 branches::walk_cases-returns-in-empty t c = let none = none_of _ c.in-empty.len_below in
@@ -578,9 +548,8 @@ statements::walk_state-returns-in_ok-met-in-If t c = let met = c.in_ok-met-in-If
 
 pub statements::walk_state-returns-in-len1 : goal.statements::walk_state-returns-in-len1
 statements::walk_state-returns-in-len1 t c = let one = one_of _ _ c.in-len1.len_at_least c.in-len1.len_below c.condition-item.is in
-    let same = assert_alike _ _ (around_of c.args.around.now) (scope_of c.args.scope.now) c.as_slice-parts.ensures (seen c.args.walking.now) _ c.in-Assert.is
-    _ one in
-    record { value = value_same _ _ _ same.value c.walk_truth.ensures.value; walked = walked_same _ _ _ _ same.walked c.walk_truth.ensures.walked }
+    let same = assert_alike _ _ (around_of c.args.around.now) (scope_of c.args.scope.now) c.as_slice-parts.ensures (seen c.args.walking.now) _ c.in-Assert.is _
+    one in record { value = value_same _ _ _ same.value c.walk_truth.ensures.value; walked = walked_same _ _ _ _ same.walked c.walk_truth.ensures.walked }
 
 pub statements::walk_state-returns-in-empty : goal.statements::walk_state-returns-in-empty
 statements::walk_state-returns-in-empty t c = let same = assert_alike _ _ (around_of c.args.around.now) (scope_of c.args.scope.now) c.as_slice-parts.ensures
@@ -607,8 +576,7 @@ statements::walk_in-returns-in_ok-aim-in-len2 t c = let scope = scope_of c.args.
 
 pub statements::walk_value-returns-in_ok-aim-in-empty : goal.statements::walk_value-returns-in_ok-aim-in-empty
 statements::walk_value-returns-in_ok-aim-in-empty t c = let v = seen c.args.walking.now in let no_part = none_of _ c.in-empty.len_below in
-    let is = ap (λ (aim : Aim). settled (around_of c.args.around.now) c.args.place aim I.Unit) c.in_ok-aim-in-empty.ensures in
-    let by = c.settled.ensures in
+    let is = ap (λ (aim : Aim). settled (around_of c.args.around.now) c.args.place aim I.Unit) c.in_ok-aim-in-empty.ensures in let by = c.settled.ensures in
     record { value = rw no_part (same_got _ (λ made. made) _ _ _ (sym is) by.value); walked = rw no_part (same_run _ _ _ _ _ (sym is) by.walked) }
 
 pub statements::walk_block-loop-index-preserved : goal.statements::walk_block-loop-index-preserved
@@ -619,9 +587,8 @@ statements::walk_block-loop-index-preserved t c = let l = c.loop-index in let sc
     let grown = names_grown _ c.in_ok-found-in-Some.found (newest l.groups) scope c.in_ok-bring_in-in-Some.ensures in
     let counted = ap (λ n. l.claims + n) claimed.value in
     let same = statement_alike c.args.place (around_of c.args.around.now) c.args.aim.now c.args.statements.now c.args.parts.now l.index
-    c.index-statements-index.result c.loop-index-test.true c.index-statements-index.is c.in-Some.core.now (sym there ∙ ap option_copied c.in-Some.is) _ _
-    inside (seen l.walking) _ c.in_ok-found-in-Some.found c.in_ok-found-in-Some.condition stepped.value stepped.walked l.claims _ _ _ counted
-    claimed.walked grown in
+    c.index-statements-index.result c.loop-index-test.true c.index-statements-index.is c.in-Some.core.now (sym there ∙ ap option_copied c.in-Some.is) _ _ inside
+    (seen l.walking) _ c.in_ok-found-in-Some.found c.in_ok-found-in-Some.condition stepped.value stepped.walked l.claims _ _ _ counted claimed.walked grown in
     record {
       value = same.value ∙ l.invariant.value;
       walked = same.walked ∙ l.invariant.walked;

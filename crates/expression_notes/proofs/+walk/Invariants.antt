@@ -117,8 +117,9 @@ decreases-loops::walk_loop l = masses l.parts.now + 40
 
 abbrev pub invariant-branches::walk_ways-loop-way : goal.invariant-branches::walk_ways-loop-way
 invariant-branches::walk_ways-loop-way l =
-    let rest = each_way (around_of l.around) l.free l.before (ways_seen (around_of l.around) (scope_of l.scope) l.aim (drop l.way-index l.ways)) l.first in
-    let all = each_way (around_of l.around) l.free l.before (ways_seen (around_of l.around) (scope_of l.scope) l.aim l.ways) None in
+    let rest = each_way (around_of l.around) l.free l.before l.shape (ways_seen (around_of l.around) (scope_of l.scope) l.aim (drop l.way-index l.ways))
+    l.first in
+    let all = each_way (around_of l.around) l.free l.before l.shape (ways_seen (around_of l.around) (scope_of l.scope) l.aim l.ways) None in
     record {
       value : got rest (seen l.walking) ≡ got all (seen l.fn.walking);
       walked : run rest (seen l.walking) ≡ run all (seen l.fn.walking);
