@@ -117,7 +117,7 @@ leaf_form place k (K.Variable name) around scope = variable_walk place k name (h
 leaf_form place k (K.TopLevel i) around scope = top_level_walk around.types place k (slice_get around.lets i)
 leaf_form place k (K.Register r) around scope = register_walk place k (slice_get around.registers r)
 leaf_form place k (K.SizeOf t numbers) around scope = size_walk place t numbers around
-leaf_form place k (K.Constraint c numbers) around scope = constraint_walk c numbers around
+leaf_form place k (K.Constraint c numbers) around scope = constraint_walk place c numbers around
 leaf_form place k kind around scope = wrong_value place
 
 abbrev pub leaf_walk : Place → ℕ → Kind → List Part → Around → Scope → Walk Indices

@@ -108,7 +108,7 @@ pub(crate) fn leaf(
             size(alloc, walking, around, place, typ, numbers.as_slice())
         }
         Kind::Constraint(condition, numbers) => {
-            constraint(alloc, walking, around, condition, numbers.as_slice())
+            constraint(alloc, walking, around, place, condition, numbers.as_slice())
         }
         _ => wrong_value(alloc, walking, place),
     }

@@ -1,4 +1,4 @@
-use Rattle.std.proofs.Common.{rules, ◌≡◌, ◌∙◌, ◌+◌, ◌++◌, IfOk, Some, ap, arith, subst, sym}
+use Rattle.std.proofs.Common.{rules, ◌≡◌, ◌∙◌, ◌+◌, ◌++◌, IfOk, ap, arith, subst, sym}
 use Rattle.value_indices.specs.Steps.{Conditions}
 use Rattle.expression_forms.specs.Sizes.{in_bounds}
 use Rattle.expression_forms.proofs.Bounds.{number_is, power_is, term_is, variable_is}
@@ -47,19 +47,19 @@ atom_bounded-bounded-requires t c =
 
 pub bounded-returns : goal.bounded-returns
 bounded-returns t c =
-    let is = number_is c.args.number.now c.as_slice.result.now c.as_slice.ensures in
+    let is = number_is c.args.indices.now c.args.number.now c.as_slice.result.now c.as_slice.ensures in
     search (is, rules)
 
 pub term_owed-returns : goal.term_owed-returns
 term_owed-returns t c =
     c.in_ok-append.ensures.appended
-    ∙ (λ j. c.in_ok-made.ensures j ++ (c.in_ok-in_bounds.ensures ∙ ap (λ n. in_bounds (Some n)) c.in_ok-alone.ensures) j)
-    ∙ sym (term_is c.args.term.now)
+    ∙ (λ j. c.in_ok-made.ensures j ++ (c.in_ok-in_bounds.ensures ∙ ap in_bounds c.in_ok-read.ensures) j)
+    ∙ sym (term_is c.args.indices.now c.args.term.now)
 
 pub atom_bounded-returns-in-Variable : goal.atom_bounded-returns-in-Variable
-atom_bounded-returns-in-Variable t c = c.new.ensures ∙ sym (variable_is c.args.atom.now c.in-Variable.field-0 c.in-Variable.is)
+atom_bounded-returns-in-Variable t c = c.new.ensures ∙ sym (variable_is c.args.indices.now c.args.atom.now c.in-Variable.field-0 c.in-Variable.is)
 
 pub atom_bounded-returns-in-Power : goal.atom_bounded-returns-in-Power
 atom_bounded-returns-in-Power t c =
     subst (λ (cs : Conditions). IfOk c.bounded.result (λ made. made ≡ cs))
-    (sym (power_is c.args.atom.now c.in-Power.number c.get.result.now c.in-Power.is c.get.ensures)) c.bounded.ensures
+    (sym (power_is c.args.indices.now c.args.atom.now c.in-Power.number c.get.result.now c.in-Power.is c.get.ensures)) c.bounded.ensures

@@ -5,7 +5,8 @@ use Rattle.expression_forms.proofs.sizes.+bounded.Given as goal
 
 abbrev pub invariant-more_bounded-loop-term : goal.invariant-more_bounded-loop-term
 invariant-more_bounded-loop-term l =
-    l.made ++ more_bounded l.total (map with_owed (drop l.term-index l.terms)) l.constant ≡ more_bounded l.initial.total (map with_owed l.terms) l.constant
+    l.made ++ more_bounded l.indices l.total (map (with_owed l.indices) (drop l.term-index l.terms)) l.constant
+    ≡ more_bounded l.indices l.initial.total (map (with_owed l.indices) l.terms) l.constant
 
 -- by what there is of a number, and by the order of the calls between two numbers
 abbrev pub decreases-bounded : goal.decreases-bounded
