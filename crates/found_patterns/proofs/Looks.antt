@@ -24,6 +24,8 @@ use Rattle.sail_core.specs.declared.patterns.Literal.TheVariants as L
 use Rattle.sail_core.specs.declared.patterns.Pattern.{Pattern, fold-roll-Pattern}
 use Rattle.sail_core.specs.declared.tree.Callee.TheVariants as C
 use Rattle.sail_core.specs.declared.written.Written.{Written}
+use Rattle.sail_names.specs.Known as Tables
+use Rattle.sail_names.specs.Known.{is_construction}
 use Rattle.shape_joins.specs.Learning.{learn}
 use Rattle.shape_joins.proofs.Order.{two}
 use Rattle.shape_rules.specs.declared.callees.Candidate.{Candidate}
@@ -44,12 +46,12 @@ use Rattle.shape_rules.specs.Written.{shape_in, written, written_faults}
 use Rattle.shape_meanings.proofs.Opening.{mapped_count, same_count}
 use Rattle.shape_stands.proofs.Standing.{both_empty}
 use Rattle.pattern_laws.specs.Standing.{constructor_stands, each_stands, form_stands, head_stands, literal_stands, stands, width_stands, widths_stand}
-use Rattle.found_patterns.specs.Meant.{MeantStands}
+use Rattle.found_patterns.specs.Meant.{NamesStand}
 
 no_faults : {A : Type 0} {x : A} {xs : List A} → (x ∷ xs) ≡ [] → ⊥
 no_faults e = cc
 
-itself : (n : ℕ) → nat_eq n n ≡ true
+pub itself : (n : ℕ) → nat_eq n n ≡ true
 itself n = (Decides-eqb n n).1 refl
 
 module _ (types : Types) (numbers : List Index) where
@@ -106,11 +108,11 @@ module _ (types : Types) (numbers : List Index) where
   literal_fine place own literal setting widths subject = is_fine place own (core_literal literal) setting widths subject (literal_in literal)
 
   -- a bare identifier is a member, or binds
-  pub name_fine : (name : Name) (meant : Option Meant) (setting : Setting) (widths : Widths) (subject : Shape) → setting.value name.text ≡ meant
-      → MeantStands types numbers setting → test (name_look name meant setting widths subject).pattern ≡ true
-  name_fine name (Some (M.Member e k)) setting widths subject is stand =
+  pub name_fine : (name : Name) (meant : Option Meant) (setting : Setting) (names : Tables.Setting) (widths : Widths) (subject : Shape) → setting.value name.text ≡ meant
+      → NamesStand types setting names → test (name_look name meant setting widths subject).pattern ≡ true
+  name_fine name (Some (M.Member e k)) setting names widths subject is stand =
       is_fine name.place (V.Named e []) (L.Member e k) setting widths subject (stand.members name.text e k is)
-  name_fine name meant setting widths subject is stand = formed name.place (F.Binds name.text) [] refl
+  name_fine name meant setting names widths subject is stand = formed name.place (F.Binds name.text) [] refl
 
   -- ---- several parts
 
@@ -269,17 +271,22 @@ module _ (types : Types) (numbers : List Index) where
           (ap (constructor_stands types u k)
           (tested_many pieces setting widths (part_shapes f subject) ∙ sym (same_count (length f.params) (length pieces) is)) ∙ has) h) e
 
-  callee_fine : (name : Name) (f : Candidate) (doing : Doing) (ps : List Piece) (setting : Setting) (widths : Widths)
-      → setting.value name.text ≡ Some (M.Callee f) → f.doing ≡ doing → MeantStands types numbers setting → EachFine setting widths ps
+  callee_fine : (name : Name) (f : Candidate) (doing : Doing) (ps : List Piece) (setting : Setting) (names : Tables.Setting) (widths : Widths)
+      → is_construction names name.text ≡ true → setting.value name.text ≡ Some (M.Callee f) → f.doing ≡ doing
+      → NamesStand types setting names → EachFine setting widths ps
       → (subject : Shape) → IsFine (callee_look name ps f (direction_of doing) (callee_head doing) setting widths subject)
-  callee_fine name f (D.Calls (C.Constructor u k)) ps setting widths is does stand fine subject =
-      constructor_fine name u k f (pieces_for name.place f.params ps) setting widths (stand.constructors name.text f u k is does)
+  callee_fine name f (D.Calls (C.Constructor u k)) ps setting names widths constructs is does stand fine subject =
+      constructor_fine name u k f (pieces_for name.place f.params ps) setting widths (stand.constructors name.text f u k constructs is does)
       (pieces_fine name.place f.params ps setting widths fine) subject
-  callee_fine name f (D.Calls (C.Converts d)) ps setting widths is does stand fine subject = direction_fine name d f ps setting widths fine subject
-  callee_fine name f doing ps setting widths is does stand fine subject = λ e. formed name.place F.Any [] refl
+  callee_fine name f (D.Calls (C.Converts d)) ps setting names widths constructs is does stand fine subject =
+      direction_fine name d f ps setting widths fine subject
+  callee_fine name f doing ps setting names widths constructs is does stand fine subject = λ e. formed name.place F.Any [] refl
 
-  pub construct_fine : (name : Name) (meant : Option Meant) (ps : List Piece) (setting : Setting) (widths : Widths) → setting.value name.text ≡ meant
-      → MeantStands types numbers setting → EachFine setting widths ps → (subject : Shape) → IsFine (construct_look name ps meant setting widths subject)
-  construct_fine name (Some (M.Callee f)) ps setting widths is stand fine subject = callee_fine name f f.doing ps setting widths is refl stand fine subject
-  construct_fine name (Some (M.Mapping m)) ps setting widths is stand fine subject = mapping_fine name.place m ps (which_side m subject) setting widths fine subject
-  construct_fine name meant ps setting widths is stand fine subject = λ e. formed name.place F.Any [] refl
+  pub construct_fine : (name : Name) (meant : Option Meant) (ps : List Piece) (setting : Setting) (names : Tables.Setting) (widths : Widths)
+      → is_construction names name.text ≡ true → setting.value name.text ≡ meant
+      → NamesStand types setting names → EachFine setting widths ps → (subject : Shape) → IsFine (construct_look name ps meant setting widths subject)
+  construct_fine name (Some (M.Callee f)) ps setting names widths constructs is stand fine subject =
+      callee_fine name f f.doing ps setting names widths constructs is refl stand fine subject
+  construct_fine name (Some (M.Mapping m)) ps setting names widths constructs is stand fine subject =
+      mapping_fine name.place m ps (which_side m subject) setting widths fine subject
+  construct_fine name meant ps setting names widths constructs is stand fine subject = λ e. formed name.place F.Any [] refl
