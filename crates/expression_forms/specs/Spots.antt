@@ -194,10 +194,8 @@ each_written place (s ∷ ss) is_nested (i ∷ is) =
     bind (s.write is_nested i) (λ a. bind (each_written place ss is_nested is) (λ b. give (both_wrote a b)))
 each_written place ss is_nested is = wrong_write place
 
-abbrev pub tuple_write : Place → List Spot → Bool → Indices-F Indices Reading → Walk Wrote
-tuple_write place ss is_nested (W.Tuple is) = each_written place ss is_nested is
-tuple_write place ss is_nested W.Never = gives I.Unit
-tuple_write place ss is_nested form = wrong_write place
+abbrev pub each_typ : List Spot → List Reading
+each_typ ss = map (λ s. s.typ) ss
 
 -- where the type of one of its targets has a hole, nothing is wanted of the tuple
 abbrev pub any_hole : List Reading → Bool
@@ -206,9 +204,18 @@ any_hole rs = list_any has_hole rs
 abbrev pub parts_typ : List Reading → Reading
 parts_typ rs = if any_hole rs then R.Hole else R.Parts rs
 
+-- so nothing is owed further in then
+abbrev pub parts_nested : List Spot → Bool → Bool
+parts_nested ss is_nested = if any_hole (each_typ ss) then false else is_nested
+
+abbrev pub tuple_write : Place → List Spot → Bool → Indices-F Indices Reading → Walk Wrote
+tuple_write place ss is_nested (W.Tuple is) = each_written place ss (parts_nested ss is_nested) is
+tuple_write place ss is_nested W.Never = gives I.Unit
+tuple_write place ss is_nested form = wrong_write place
+
 abbrev pub tuple_spot : Place → ℕ → List Spot → Spot
 tuple_spot place k ss = record {
-  typ = parts_typ (map (λ s. s.typ) ss);
+  typ = parts_typ (each_typ ss);
   read = bind (each_read ss) (λ is. node_ended k is (I.Tuple is));
   given = λ i. give tt;
   write = λ is_nested i. tuple_write place ss is_nested (out-Indices i);

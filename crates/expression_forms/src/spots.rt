@@ -387,6 +387,24 @@ fn parts_typ(types: Items<Reading>) -> Reading
     }
 }
 
+/// Whether the parts of a tuple owe further in what is wanted of it: where the type of a target has a hole, they don't. It fails where memory
+/// is wanting, and where binders are too many.
+fn parts_nested(
+    alloc: Global,
+    around: &Around<'_>,
+    spots: &[Spot],
+    is_nested: bool,
+) -> Result<bool, AllocError>
+    ensures { IfOk result (λ made. made ≡ spec.parts_nested (map (spec.spot_of (around_of around.now)) spots.now) is_nested) }
+{
+    let types = each_typ(alloc, around, spots)?;
+    if any_hole(types.as_slice()) {
+        Ok(false)
+    } else {
+        Ok(is_nested)
+    }
+}
+
 /// A call on these arguments; what is false is owed where there is none. It fails where memory is wanting, and where variables are too
 /// many.
 fn asked(
@@ -736,15 +754,11 @@ fn write_tuple(
         (walk.seen walking.old)) }
 {
     match value {
-        Indices::Tuple(values) => write_each(
-            alloc,
-            walking,
-            around,
-            place,
-            spots,
-            is_nested,
-            values.as_slice(),
-        ),
+        Indices::Tuple(values) => {
+            let nested = parts_nested(alloc, around, spots, is_nested)?;
+            let values = values.as_slice();
+            write_each(alloc, walking, around, place, spots, nested, values)
+        }
         Indices::Never => Ok(Wrote::gives(Indices::Unit)),
         _ => wrong_write(alloc, walking, place),
     }
