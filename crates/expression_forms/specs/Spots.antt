@@ -1,4 +1,5 @@
 -- What is assigned to, once the indexes in it have been walked (Sail language manual, "Variables and assignment").
+use Rattle.std.specs.List.{list_any}
 use Rattle.std.specs.Prelude.{Bool, List, None, Option, Some, false, if◌then◌else◌, map, true, ℕ, [], ◌++◌, ◌∷◌}
 use Rattle.sail_base.specs.declared.place.Place.{Place}
 use Rattle.sail_types.specs.declared.types.Typ.{Typ}
@@ -21,6 +22,7 @@ use Rattle.pattern_leaves.specs.declared.names.Held.TheVariants as H
 use Rattle.call_notes.specs.Ends.{fits_unless, wrong_value}
 use Rattle.call_notes.specs.Noted.{node_ended, node_given, numbers_noted}
 use Rattle.call_arguments.specs.Callees.{is_closed}
+use Rattle.call_arguments.specs.Holes.{has_hole}
 use Rattle.call_notes.specs.Calls.{called, callee_types}
 use Rattle.expression_forms.specs.Names.{named_read, register_type}
 use Rattle.expression_forms.specs.Nodes.{put}
@@ -147,13 +149,13 @@ reader_given (Some c) i = numbers_noted c.number i
 abbrev pub writer_type : Around → Caller → Reading
 writer_type around writer = last_type (callee_types around writer.callee)
 
--- it gets the new value, and the one of which a part was replaced, at its own number
+-- it gets the new value, and the one of which a part was replaced, at its own number, as what it is: so the call is of these indices
 abbrev pub call_written : Around → Place → ℕ → Caller → List Bool → List Indices → Bool → Indices → Walk Indices
 call_written around place k writer bs is b i =
-    bind (put k (i ∷ []) (writer_type around writer) i) (λ t. answered around place writer bs is b i)
+    bind (put k (i ∷ []) R.Hole i) (λ t. answered around place writer bs is b i)
 
 abbrev pub call_renewed : Around → Place → ℕ → Caller → List Bool → List Indices → Indices → Walk Indices
-call_renewed around place k writer bs is i = bind (put k [] (writer_type around writer) i) (λ t. answered around place writer bs is false i)
+call_renewed around place k writer bs is i = bind (put k [] R.Hole i) (λ t. answered around place writer bs is false i)
 
 abbrev pub call_spot : Around → Place → ℕ → Option Caller → Caller → List Bool → List Indices → Spot
 call_spot around place k reader writer bs is = record {
@@ -192,14 +194,28 @@ each_written place (s ∷ ss) is_nested (i ∷ is) =
     bind (s.write is_nested i) (λ a. bind (each_written place ss is_nested is) (λ b. give (both_wrote a b)))
 each_written place ss is_nested is = wrong_write place
 
+abbrev pub each_typ : List Spot → List Reading
+each_typ ss = map (λ s. s.typ) ss
+
+-- where the type of one of its targets has a hole, nothing is wanted of the tuple
+abbrev pub any_hole : List Reading → Bool
+any_hole rs = list_any has_hole rs
+
+abbrev pub parts_typ : List Reading → Reading
+parts_typ rs = if any_hole rs then R.Hole else R.Parts rs
+
+-- so nothing is owed further in then
+abbrev pub parts_nested : List Spot → Bool → Bool
+parts_nested ss is_nested = if any_hole (each_typ ss) then false else is_nested
+
 abbrev pub tuple_write : Place → List Spot → Bool → Indices-F Indices Reading → Walk Wrote
-tuple_write place ss is_nested (W.Tuple is) = each_written place ss is_nested is
+tuple_write place ss is_nested (W.Tuple is) = each_written place ss (parts_nested ss is_nested) is
 tuple_write place ss is_nested W.Never = gives I.Unit
 tuple_write place ss is_nested form = wrong_write place
 
 abbrev pub tuple_spot : Place → ℕ → List Spot → Spot
 tuple_spot place k ss = record {
-  typ = R.Parts (map (λ s. s.typ) ss);
+  typ = parts_typ (each_typ ss);
   read = bind (each_read ss) (λ is. node_ended k is (I.Tuple is));
   given = λ i. give tt;
   write = λ is_nested i. tuple_write place ss is_nested (out-Indices i);

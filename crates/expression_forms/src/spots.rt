@@ -15,6 +15,7 @@ use crate::names::{named_read, register_type};
 use crate::nodes::put;
 use crate::pending::Wrote;
 use crate::ways::{Reached, owe_part};
+use call_arguments::has_hole;
 use call_notes::{
     called, callee_types, is_closed, node_ended, node_given, note_numbers, under, wrong_value,
 };
@@ -130,7 +131,7 @@ impl Spot {
             Spot::Call(_, _, _, writer, _, _) => writer_type(alloc, around, writer),
             Spot::Tuple(_, _, spots) => {
                 let parts = each_typ(alloc, around, spots.as_slice())?;
-                Ok(Reading::Parts(parts))
+                Ok(parts_typ(parts))
             }
         }
     }
@@ -363,6 +364,47 @@ fn each_typ(
     Ok(made)
 }
 
+/// Whether one of these has a hole inside.
+fn any_hole(types: &[Reading]) -> bool
+    ensures { result ≡ spec.any_hole types.now }
+{
+    for typ in types {
+        if has_hole(typ) {
+            return true;
+        }
+    }
+    false
+}
+
+/// The type of a tuple of such; none where one has a hole inside.
+fn parts_typ(types: Items<Reading>) -> Reading
+    ensures { result ≡ spec.parts_typ types }
+{
+    if any_hole(types.as_slice()) {
+        Reading::Hole
+    } else {
+        Reading::Parts(types)
+    }
+}
+
+/// Whether the parts of a tuple owe further in what is wanted of it: where the type of a target has a hole, they don't. It fails where memory
+/// is wanting, and where binders are too many.
+fn parts_nested(
+    alloc: Global,
+    around: &Around<'_>,
+    spots: &[Spot],
+    is_nested: bool,
+) -> Result<bool, AllocError>
+    ensures { IfOk result (λ made. made ≡ spec.parts_nested (map (spec.spot_of (around_of around.now)) spots.now) is_nested) }
+{
+    let types = each_typ(alloc, around, spots)?;
+    if any_hole(types.as_slice()) {
+        Ok(false)
+    } else {
+        Ok(is_nested)
+    }
+}
+
 /// A call on these arguments; what is false is owed where there is none. It fails where memory is wanting, and where variables are too
 /// many.
 fn asked(
@@ -488,13 +530,12 @@ fn write_call(
         ≡ walk.run (spec.call_written (around_of around.now) place number writer nested.now arguments.now is_nested value.now)
         (walk.seen walking.old)) }
 {
-    let typ = writer_type(alloc, around, &writer)?;
     put(
         alloc,
         walking,
         number,
         std::slice::from_ref(value),
-        &typ,
+        &Reading::Hole,
         value,
     )?;
     answered(
@@ -521,8 +562,7 @@ fn renew_call(
     ensures walked { OnOk result (walk.seen walking.new
         ≡ walk.run (spec.call_renewed (around_of around.now) place number writer nested.now arguments.now value.now) (walk.seen walking.old)) }
 {
-    let typ = writer_type(alloc, around, &writer)?;
-    put(alloc, walking, number, &[], &typ, value)?;
+    put(alloc, walking, number, &[], &Reading::Hole, value)?;
     answered(
         alloc, walking, around, place, writer, nested, arguments, false, value,
     )
@@ -714,15 +754,11 @@ fn write_tuple(
         (walk.seen walking.old)) }
 {
     match value {
-        Indices::Tuple(values) => write_each(
-            alloc,
-            walking,
-            around,
-            place,
-            spots,
-            is_nested,
-            values.as_slice(),
-        ),
+        Indices::Tuple(values) => {
+            let nested = parts_nested(alloc, around, spots, is_nested)?;
+            let values = values.as_slice();
+            write_each(alloc, walking, around, place, spots, nested, values)
+        }
         Indices::Never => Ok(Wrote::gives(Indices::Unit)),
         _ => wrong_write(alloc, walking, place),
     }
