@@ -3,6 +3,7 @@ ghost use Rattle.std.specs.Prelude.{◌≡◌, IfOk, OnOk};
 ghost use Rattle.std.specs.Option.{option_copied};
 ghost use Rattle.pattern_leaves.specs.Settings.{around_of};
 ghost use Rattle.value_indices.specs.Walking as walk;
+ghost use Rattle.expression_forms.specs.Inside as inside;
 ghost use Rattle.expression_forms.specs.Meeting as meeting;
 
 use crate::inside::{is_value_below, is_value_told, is_value_whole};
@@ -22,54 +23,32 @@ fn gives_none(never_ends: bool, value: &Indices) -> bool
     never_ends || is_never(value)
 }
 
-/// The value of a first way of this shape, in which holes, where there are any, are filled by the widest types of the shape. It fails where
-/// memory is wanting, and where variables are too many.
+/// The value of a first way of this shape, in which holes are filled by the widest types of the shape. It fails where memory is wanting, and
+/// where variables are too many.
 #[tactic(auto, using(value_indices::proofs::Walks::walks))]
 fn filled_first(
     alloc: Global,
     walking: &mut Walking,
-    whole: bool,
     types: &Types,
     before: u32,
     shape: &Shape,
     value: Indices,
 ) -> Result<Indices, AllocError>
-    ensures value { IfOk result (λ made. made ≡ walk.got (meeting.filled_first whole types.now before shape.now value) (walk.seen walking.old)) }
-    ensures walked { OnOk result (walk.seen walking.new
-        ≡ walk.run (meeting.filled_first whole types.now before shape.now value) (walk.seen walking.old)) }
+    ensures value { IfOk result (λ made. made ≡ walk.got (meeting.filled_first (inside.is_value_whole value) types.now before shape.now value)
+        (walk.seen walking.old)) }
+    ensures walked { OnOk result (walk.seen walking.new ≡ walk.run (meeting.filled_first (inside.is_value_whole value) types.now before shape.now value)
+        (walk.seen walking.old)) }
 {
-    if whole {
+    if is_value_whole(&value) {
         Ok(value)
     } else {
         met(alloc, walking, types, before, shape, &value)
     }
 }
 
-/// The same of a way that gives a value; none of another. It fails where memory is wanting, and where variables are too many.
-#[tactic(auto, using(value_indices::proofs::Walks::walks))]
-fn first_unless(
-    alloc: Global,
-    walking: &mut Walking,
-    none: bool,
-    types: &Types,
-    before: u32,
-    shape: &Shape,
-    value: Indices,
-) -> Result<Option<Indices>, AllocError>
-    ensures value { IfOk result (λ made. made ≡ walk.got (meeting.first_unless none types.now before shape.now value) (walk.seen walking.old)) }
-    ensures walked { OnOk result (walk.seen walking.new
-        ≡ walk.run (meeting.first_unless none types.now before shape.now value) (walk.seen walking.old)) }
-{
-    if none {
-        return Ok(None);
-    }
-    let whole = is_value_whole(&value);
-    let filled = filled_first(alloc, walking, whole, types, before, shape, value)?;
-    Ok(Some(filled))
-}
-
 /// A way of this shape, if it ends normally, with a value: the first one. It fails where memory is wanting, and where variables are too
 /// many.
+#[tactic(auto, using(value_indices::proofs::Walks::walks))]
 pub fn first_way(
     alloc: Global,
     walking: &mut Walking,
@@ -84,8 +63,12 @@ pub fn first_way(
     ensures walked { OnOk result (walk.seen walking.new ≡ walk.run (meeting.first_way (around_of around.now) before shape.now never_ends value)
         (walk.seen walking.old)) }
 {
-    let none = gives_none(never_ends, &value);
-    first_unless(alloc, walking, none, around.types, before, shape, value)
+    if gives_none(never_ends, &value) {
+        Ok(None)
+    } else {
+        let filled = filled_first(alloc, walking, around.types, before, shape, value)?;
+        Ok(Some(filled))
+    }
 }
 
 /// What has to be true for a later way to be of the type of the first as it stands, which names only variables before that one, and in which
