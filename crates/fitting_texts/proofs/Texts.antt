@@ -15,10 +15,10 @@ fitting text end cycle accepted kept written past hart covered k rank test left 
     let set : Setting = setting_in m past hart covered in
     let known : ModelKnown set m k rank =
     record {
-      tables = λ x is. models_stand text end cycle accepted kept written set refl x test.tables;
-      nowhere = models_stand text end cycle accepted kept written set refl nobody test.tables;
+      tables = λ x is. models_stand text end cycle accepted kept written set refl x;
+      nowhere = models_stand text end cycle accepted kept written set refl nobody;
       functions = left.functions;
       directions = left.directions;
     } in
-    let stands = tested m past hart covered k rank test.bodies known in
+    let stands = tested m past hart covered k rank test known in
     record { openings = left.openings; anywhere = left.anywhere; functions = stands.0; directions = stands.1 }

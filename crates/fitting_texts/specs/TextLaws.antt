@@ -14,7 +14,6 @@ use Rattle.known_texts.specs.Written.{IsWritten}
 use Rattle.text_progress.specs.Laws.{core_of}
 use Rattle.constraint_gen.specs.Models.{around_of}
 use Rattle.checked_meaning.specs.Checked.{Checks}
-use Rattle.hanging_sizes.specs.Hanging.{table_hangs}
 use Rattle.soundness_steps.specs.Works.{Setting, Work}
 use Rattle.soundness_calls.specs.Directions.{bodies_of, scene_across}
 use Rattle.soundness_calls.specs.Events.{checks_of}
@@ -23,11 +22,6 @@ use Rattle.whole_runs.specs.Never.{AreAnywhere, Stands, setting_in}
 use Rattle.whole_runs.specs.OpeningsStand.{Open}
 use Rattle.fitting_texts.specs.ModelLaws.{FunctionWays}
 use Rattle.fitting_texts.specs.ModelTests.{model_fits}
-
--- tests of a model
-pub record ModelTested (m : CoreModel) : Type 0 where
-  pub bodies : model_fits m ≡ true
-  pub tables : table_hangs (around_of m).types ≡ true
 
 -- what no test says: of ways that meet where no type is wanted, and of openings
 pub record ModelLeft (set : Setting) (m : CoreModel) (k : Checks) (rank : ℕ → ℕ) : Type 0 where
@@ -40,5 +34,5 @@ abbrev pub FittingTextsStand : Type 0
 FittingTextsStand =
     (text : List Def) (end : Place) (cycle : List ℕ → Option ℕ) → IsAccepted text end → refusal (tabled_of text) text ≡ None → IsWritten text
     → (past : Positive) (hart : ℕ) (covered : Work → Bool) (k : Checks) (rank : ℕ → ℕ)
-    → ModelTested (core_of text cycle) → ModelLeft (setting_in (core_of text cycle) past hart covered) (core_of text cycle) k rank
+    → model_fits (core_of text cycle) ≡ true → ModelLeft (setting_in (core_of text cycle) past hart covered) (core_of text cycle) k rank
     → Stands (setting_in (core_of text cycle) past hart covered) (core_of text cycle) k rank

@@ -53,7 +53,7 @@ module _ (m : CoreModel) (around : Around) (is : around ≡ around_of m) where
 -- ---- put together
 
 pub models_stand : ModelsOfTextsStand
-models_stand text end cycle accepted kept written set is work tables =
+models_stand text end cycle accepted kept written set is work =
     let m : CoreModel = core_of text cycle in
     let narrow : TypesNarrow set.around.types =
     subst (λ (types : Types). TypesNarrow types) (sym (types_are m set.around is)) (tables_narrow text cycle written) in record {
@@ -63,7 +63,6 @@ models_stand text end cycle accepted kept written set is work tables =
           variables_placed text end cycle accepted kept i f (subst (λ (fs : List Function). slice_get fs i ≡ Some f) (functions_are m set.around is) e);
       narrow = narrow;
       fits = record {
-        tables = tables;
         alone = alone set.around.types narrow;
         mappings = λ d n e.
             mappings_closed text end cycle accepted kept written d n

@@ -1,4 +1,7 @@
+pub mod Variables
 pub mod Numbers
-pub mod Types
+pub mod Free
 pub mod Counts
+pub mod Marked
+pub mod Types
 pub mod Payloads

@@ -17,7 +17,7 @@ use Rattle.size_values.specs.Sizes.{joined}
 use Rattle.size_values.specs.declared.constants.Constant.{Constant}
 use Rattle.size_values.specs.Numbers.{added, atom_free, atom_value, constant_under, first_free, first_of, free_in_atom, free_in_term, index_under, is_free, small}
 use Rattle.size_values.specs.Numbers.{sum_free, sum_value, term_free, term_value, unless_free, value_of, value_of_atom, value_of_term}
-use Rattle.hanging_sizes.specs.Hanging.{atom_variables, index_variables, sum_variables, term_variables, variables_in_atom, variables_in_term, variables_of}
+use Rattle.hanging_sizes.proofs.Variables.{atom_variables, index_variables, sum_variables, term_variables, variables_in_atom, variables_in_term, variables_of}
 
 module _ (of by : ℕ → Constant) where
   -- the same for each of these variables

@@ -17,7 +17,7 @@ use Rattle.size_values.specs.declared.sized.Sized.{Sized}
 use Rattle.size_values.specs.declared.sized.Sized.TheVariants as S
 use Rattle.call_arguments.specs.Callees.{is_typeless, typeless_form}
 use Rattle.value_laws.proofs.Basics.{no}
-use Rattle.hanging_sizes.specs.Hanging.{arguments_hanging, form_hanging, hanging, index_variables, outside, variables_of}
+use Rattle.hanging_sizes.proofs.Variables.{arguments_hanging, form_hanging, hanging, index_variables, outside, variables_of}
 use Rattle.hanging_sizes.proofs.Numbers.{AllSame, index_same, same_left, same_right, size_same}
 
 -- under what a type binds

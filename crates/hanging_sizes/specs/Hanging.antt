@@ -1,95 +1,14 @@
--- The variables on which the sizes in a type hang, and tables of types in which a union's type notes the arguments on which the sizes in its payloads
--- hang (Sail language manual, "Type variables").
-use Rattle.std.specs.Prelude.{ℕ, zero, suc, nat_lt, Bool, true, ◌&&◌, ◌||◌, List, [], ◌∷◌, ◌++◌, length, if◌then◌else◌}
+-- Tables of types in which payloads of unions without Type variables name none (Sail language manual, "Type variables").
+use Rattle.std.specs.Prelude.{nat_lt, Bool, ◌||◌}
 use Rattle.std.specs.List.{list_all}
 use Rattle.sail_types.specs.Named.{form_constructors}
-use Rattle.sail_types.specs.declared.numbers.Atom.TheFolds.{fold-Atom, fold-Num, fold-Term}
-use Rattle.sail_types.specs.declared.numbers.Atom.TheOpen as N
-use Rattle.sail_types.specs.declared.numbers.Atom.TheOpen.{Atom-F, Num-F, Term-F}
-use Rattle.sail_types.specs.declared.numbers.Atom.{Atom}
-use Rattle.sail_types.specs.declared.numbers.Index.{Index}
-use Rattle.sail_types.specs.declared.numbers.Index.TheVariants as I
-use Rattle.sail_types.specs.declared.numbers.Num.{Num}
-use Rattle.sail_types.specs.declared.numbers.Term.{Term}
 use Rattle.sail_types.specs.declared.table.Definition.{Definition}
 use Rattle.sail_types.specs.declared.table.Types.{Types}
-use Rattle.sail_types.specs.declared.types.Typ.{Typ, Typ-F, fold-Typ}
-use Rattle.sail_types.specs.declared.types.Typ.TheOpen as T
-use Rattle.size_values.specs.Sizes.{joined}
-use Rattle.size_values.specs.Sized.{hangs_on}
 use Rattle.call_arguments.specs.Callees.{is_typeless, type_parameters}
-
--- ---- the variables in a number
-
-abbrev pub atom_variables : Atom-F (List ℕ) (List ℕ) (List ℕ) → List ℕ
-atom_variables (N.Variable i) = i ∷ []
-atom_variables (N.Power is) = is
-
-abbrev pub sum_variables : Num-F (List ℕ) (List ℕ) (List ℕ) → List ℕ
-sum_variables n = joined n.terms
-
-abbrev pub term_variables : Term-F (List ℕ) (List ℕ) (List ℕ) → List ℕ
-term_variables t = t.atom
-
-abbrev pub variables_of : Num → List ℕ
-variables_of = fold-Num (List ℕ) (List ℕ) (List ℕ) atom_variables sum_variables term_variables
-
--- of what a coefficient multiplies, and of a term
-abbrev pub variables_in_atom : Atom → List ℕ
-variables_in_atom = fold-Atom (List ℕ) (List ℕ) (List ℕ) atom_variables sum_variables term_variables
-
-abbrev pub variables_in_term : Term → List ℕ
-variables_in_term = fold-Term (List ℕ) (List ℕ) (List ℕ) atom_variables sum_variables term_variables
-
--- no condition is in a size
-abbrev pub index_variables : Index → List ℕ
-index_variables (I.Number t) = variables_of t
-index_variables (I.Truth c) = []
-
--- ---- the variables on which the sizes in a type hang
-
--- those around a type that binds one
-abbrev pub outside : List ℕ → List ℕ
-outside [] = []
-outside (zero ∷ is) = outside is
-outside (suc i ∷ is) = i ∷ outside is
 
 -- payloads of a union without Type variables name none
 abbrev pub is_alone : Definition → Bool
 is_alone d = nat_lt 0 (type_parameters d.parameters) || list_all (λ f. is_typeless f.typ) (form_constructors d.form)
 
-module _ (types : Types) where
-  -- the arguments of a named type from one on, on which a size of it hangs
-  abbrev pub arguments_hanging : ℕ → ℕ → ℕ → List Index → List ℕ
-  arguments_hanging u n k [] = []
-  arguments_hanging u n k (a ∷ args) = (if hangs_on types u n k then index_variables a else []) ++ arguments_hanging u n (suc k) args
-
-  abbrev pub form_hanging : Typ-F (List ℕ) → List ℕ
-  form_hanging (T.Bits t) = variables_of t
-  form_hanging (T.List is) = is
-  form_hanging (T.Vector t is) = variables_of t ++ is
-  form_hanging (T.Tuple fs) = joined fs
-  form_hanging (T.Named u args fs) = arguments_hanging u (length args) 0 args ++ joined fs
-  form_hanging (T.Exists name c is) = outside is
-  form_hanging form = []
-
-  abbrev pub hanging : Typ → List ℕ
-  hanging = fold-Typ (List ℕ) form_hanging
-
-  -- ---- payloads: a size of the union hangs on each of its arguments on which a size of the payload does
-
-  abbrev pub payload_hangs : ℕ → Typ → Bool
-  payload_hangs u t = list_all (λ i. hangs_on types u (suc i) i) (hanging t)
-
-  abbrev pub definition_hangs : ℕ → Definition → Bool
-  definition_hangs u d = list_all (λ f. payload_hangs u f.typ) (form_constructors d.form)
-
-  abbrev pub all_hang : ℕ → List Definition → Bool
-  all_hang u [] = true
-  all_hang u (d ∷ ds) = definition_hangs u d && all_hang (suc u) ds
-
-  abbrev pub table_hangs : Bool
-  table_hangs = all_hang 0 types.definitions
-
-  abbrev pub payloads_alone : Bool
-  payloads_alone = list_all is_alone types.definitions
+abbrev pub payloads_alone : Types → Bool
+payloads_alone types = list_all is_alone types.definitions

@@ -2,3 +2,4 @@ pub mod Depths
 pub mod Picks
 pub mod Readings
 pub mod Same
+pub mod Steps

@@ -3,6 +3,7 @@ use Rattle.std.proofs.Common.{◌≡◌, ◌≢◌, ◌&&◌, suc, Bool, true, f
 use Rattle.std.specs.Prelude.{ℤ}
 use Rattle.size_values.specs.declared.constants.Constant.{Constant}
 use Rattle.size_values.specs.declared.sized.Sized.{Sized}
+use Rattle.size_values.specs.Hanging.{flag_eq, flags_eq, marks_eq}
 use Rattle.size_values.specs.Sized.{all_eq, numbers_eq, option_eq, sized_eq}
 use Rattle.size_values.specs.Sizes.{constant_eq, constants_eq}
 
@@ -27,3 +28,15 @@ constants_differ [] [] h = absurd (h refl)
 constants_differ [] (d ∷ ds) h = refl
 constants_differ (c ∷ cs) [] h = refl
 constants_differ (c ∷ cs) (d ∷ ds) h = and_false (constant_eq c d) (constants_eq cs ds) (constants_differ cs ds (λ e. h (ap suc e)))
+
+pub flags_differ : (xs ys : List Bool) → length xs ≢ length ys → flags_eq xs ys ≡ false
+flags_differ [] [] h = absurd (h refl)
+flags_differ [] (y ∷ ys) h = refl
+flags_differ (x ∷ xs) [] h = refl
+flags_differ (x ∷ xs) (y ∷ ys) h = and_false (flag_eq x y) (flags_eq xs ys) (flags_differ xs ys (λ e. h (ap suc e)))
+
+pub marks_differ : (xs ys : List (List Bool)) → length xs ≢ length ys → marks_eq xs ys ≡ false
+marks_differ [] [] h = absurd (h refl)
+marks_differ [] (y ∷ ys) h = refl
+marks_differ (x ∷ xs) [] h = refl
+marks_differ (x ∷ xs) (y ∷ ys) h = and_false (flags_eq x y) (marks_eq xs ys) (marks_differ xs ys (λ e. h (ap suc e)))

@@ -2,6 +2,7 @@
 use Rattle.std.specs.Prelude.{ℕ, suc, ℤ, pos, nat_eq, Bool, true, false, ◌&&◌, List, [], ◌∷◌, length, map, slice_get}
 use Rattle.std.specs.Prelude.{Option, Some, None, unwrap_or}
 use Rattle.std.specs.Ordering.{int_eq}
+use Rattle.sail_types.specs.Zero.{deepest}
 use Rattle.sail_types.specs.declared.table.Types.{Types}
 use Rattle.sail_types.specs.declared.types.Typ.{Typ, Typ-F, fold-Typ}
 use Rattle.sail_types.specs.declared.types.Typ.TheOpen as T
@@ -15,7 +16,8 @@ use Rattle.size_values.specs.declared.sized.Sized.{Sized, Sized-F, fold-Sized, o
 use Rattle.size_values.specs.declared.sized.Sized.TheOpen as Z
 use Rattle.size_values.specs.declared.sized.Sized.TheVariants as S
 use Rattle.size_values.specs.Numbers.{argument_of, constant_under, index_under, number_in}
-use Rattle.size_values.specs.Sizes.{only_open, is_one_open, named_typ_sizes}
+use Rattle.size_values.specs.Hanging.{open_under, settled}
+use Rattle.size_values.specs.Sizes.{fields_of, only_open}
 
 -- tested before; 0 where it isn't constant
 abbrev pub integer_of : Constant → ℤ
@@ -25,7 +27,7 @@ integer_of c = unwrap_or (number_in c) (pos 0)
 
 -- where it has so many arguments
 abbrev pub hangs_on : Types → ℕ → ℕ → ℕ → Bool
-hangs_on types u n i = is_one_open (named_typ_sizes types u (only_open i n) [])
+hangs_on types u n i = open_under (settled types.definitions deepest []) (fields_of types u) (only_open i n)
 
 abbrev pub number_where : Bool → Constant → Option ℤ
 number_where true c = Some (integer_of c)

@@ -1,11 +1,13 @@
 //! The sizes in types and values where some variables are known, and types whose sizes are constants.
 //!
 //! `specs/Numbers` has numbers and conditions of which some variables are known, `specs/Sizes` the widths and lengths in types and
-//! values and the variables in them, `specs/Sized` types whose sizes are constants.
+//! values and the variables in them, `specs/Hanging` the arguments of named types on which these hang, `specs/Sized` types whose sizes are
+//! constants.
 #![tactic(auto)]
 
 mod conditions;
 mod constants;
+mod hanging;
 mod listed;
 mod numbers;
 mod sized;

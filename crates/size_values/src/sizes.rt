@@ -122,7 +122,7 @@ pub fn bound_before(
 }
 
 /// The fields of a struct, or the constructors of a union with their payloads.
-fn form_fields(form: &Form) -> &[Field]
+pub fn form_fields(form: &Form) -> &[Field]
     ensures { result.now ≡ spec.form_fields form.now }
 {
     match form {
@@ -133,7 +133,7 @@ fn form_fields(form: &Form) -> &[Field]
 }
 
 /// Those of the named type at a place in the table.
-fn fields_of(types: &Types, place: u32) -> &[Field]
+pub fn fields_of(types: &Types, place: u32) -> &[Field]
     ensures { result.now ≡ spec.fields_of types.now place }
 {
     match types.definitions.get(place as usize) {

@@ -1,32 +1,36 @@
 //! Types and values as types whose sizes are constants.
 ghost use Rattle.std.specs.Prelude.{◌≡◌, IfOk, map};
+ghost use Rattle.size_values.specs.Hanging as hanging;
 ghost use Rattle.size_values.specs.Numbers as numbers;
+ghost use Rattle.size_values.specs.Sizes as sizes;
 ghost use Rattle.size_values.specs.Sized as spec;
 
 use crate::constants::Constant;
+use crate::hanging::{open_under, settle};
 use crate::numbers::{constant_number, indices_under};
 use crate::sized::{Sized, copy_sized};
-use crate::sizes::{bound_before, is_one_open, named_typ_sizes};
+use crate::sizes::{bound_before, fields_of};
 use crate::values::only_open;
 use crate::variables::Variables;
 use sail_base::{Boxed, Items};
-use sail_types::{Num, Typ, Types};
+use sail_types::{Num, Typ, Types, deepest};
 use std::alloc::{AllocError, Global};
 use value_indices::{Indices, Reading};
 
-/// Whether a size of the fields and payloads of the named type at a place hangs on the argument at an index, where it has so many.
-fn hangs_on(
+/// Whether a size of the fields and payloads of the named type at a place hangs on the argument at an index, where it has so many and this is what
+/// is marked.
+fn hangs_under(
     alloc: Global,
     types: &Types,
+    marks: &Option<Items<Items<bool>>>,
     place: u32,
     count: usize,
     index: usize,
 ) -> Result<bool, AllocError>
-    ensures { IfOk result (λ hangs. hangs ≡ spec.hangs_on types.now place count index) }
+    ensures { IfOk result (λ hangs. hangs ≡ hanging.open_under marks.now (sizes.fields_of types.now place) (sizes.only_open index count)) }
 {
     let constants = only_open(alloc, index, count)?;
-    let sizes = named_typ_sizes(alloc, types, place, constants.as_slice(), &[])?;
-    Ok(is_one_open(sizes.as_slice()))
+    open_under(alloc, marks, fields_of(types, place), constants.as_slice())
 }
 
 /// The integer that a constant is; 0 where it isn't one.
@@ -70,9 +74,18 @@ fn named_numbers(
     ensures { IfOk result (λ made. made ≡ spec.named_numbers types.now place constants.now) }
 {
     let mut made = Items::new(alloc);
+    if constants.is_empty() {
+        return Ok(made);
+    }
+    let marks = settle(
+        alloc,
+        types.definitions.as_slice(),
+        deepest(),
+        Items::new(alloc),
+    )?;
     let mut index = 0;
     for constant in constants {
-        let hangs = hangs_on(alloc, types, place, constants.len(), index)?;
+        let hangs = hangs_under(alloc, types, &marks, place, constants.len(), index)?;
         made.push(number_where(hangs, constant))?;
         index += 1;
     }

@@ -177,7 +177,7 @@ carried q model = record {
   fits = Fits q.set.around.types q.work.own;
   reads = Reads q.set.around.types q.work.own;
   kept = parts_stay_sized q.set.around.types q.set.past q.work.types q.work.own
-      (payloads_hang q.set.around.types q.work.own model.tables model.alone);
+      (payloads_hang q.set.around.types q.work.own model.alone);
 }
 
 module _ (q : Scene) (w : World Item) (model : ModelFits q.set q.work) where

@@ -3,7 +3,7 @@ use Rattle.std.specs.Prelude.{◌≡◌, true}
 use Rattle.checked_meaning.specs.Checked.{Noted}
 use Rattle.pattern_laws.specs.Beside.{Ends}
 use Rattle.sized_patterns.specs.Laws.{SizesFit}
-use Rattle.hanging_sizes.specs.Hanging.{payloads_alone, table_hangs}
+use Rattle.hanging_sizes.specs.Hanging.{payloads_alone}
 use Rattle.soundness_steps.specs.Noted.{EachNoted, HasNumbers}
 use Rattle.soundness_steps.specs.States.{IsAnswer, IsThrown, Sound}
 use Rattle.soundness_steps.specs.Works.{Scene, Setting, Work}
@@ -19,9 +19,7 @@ ends q noted = record {
   so = λ g vs. HasNumbers 0 q.work.instance.numbers g × EachNoted noted g vs;
 }
 
--- what is taken of the model: its table of types notes the arguments on which the sizes in payloads hang, payloads of unions without Type variables name
--- none, and the types of mappings name no variable
+-- what is taken of the model: payloads of unions without Type variables name none, and the types of mappings name no variable
 pub record ModelFits (set : Setting) (work : Work) : Type 0 where
-  pub tables : table_hangs set.around.types ≡ true
   pub alone : payloads_alone set.around.types ≡ true
   pub mappings : MappingsClosed set
