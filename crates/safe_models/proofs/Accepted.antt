@@ -86,9 +86,9 @@ cores_safe mean nothing written sign models texts_safe texts made accepted cycle
     let found : IsFoundThroughout m past covered count =
     found_throughout text cycles
     (sign text (end_of_all texts) accepted.tables (written (Models.joined texts accepted.tokens) accepted.definitions accepted.parsed).1)
-    clear.step clear.reset stands.step stands.reset past covered count few in
+    clear.step clear.reset past covered count few in
     texts_safe (meant_of text cycles) m past count (of_text text cycles) (mean texts made accepted cycles) entry schedule state ok
-    ((models m past covered k rank count some held found covers stands.throughout).1 entry schedule there state ok)
+    ((models m past covered k rank count some held found covers stands).1 entry schedule there state ok)
 
 pub accepted_safe : AcceptedHold → AcceptedCoresRunSafely → AcceptedModelsRunSafely
 accepted_safe hold cores texts made accepted =

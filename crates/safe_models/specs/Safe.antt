@@ -1,13 +1,11 @@
 -- Texts that the program accepts are never stuck.
-use Rattle.std.specs.Prelude.{◌≡◌, ◌<◌, ◌≤◌, ℕ, Bool, true, List, Option, Some, slice_get}
+use Rattle.std.specs.Prelude.{◌≡◌, ◌<◌, ◌≤◌, ℕ, Bool, List, Option}
 use Rattle.sail_types.specs.Numbers.{Positive}
-use Rattle.sail_types.specs.declared.numbers.Con.TheVariants as C
 use Rattle.sail_syntax.specs.declared.definitions.Def.{Def}
 use Rattle.scattered.specs.Gathered.{gathered}
 use Rattle.model_state.specs.RunState.{RunState, fresh}
 use Rattle.sail_core.specs.Program.{plain}
 use Rattle.sail_core.specs.declared.model.CoreModel.{CoreModel}
-use Rattle.sail_core.specs.declared.model.Function.{Function}
 use Rattle.sail_meaning.specs.Start.{init_ran, reset_ran, step_ran}
 use Rattle.sail_meaning.specs.Text.{Text}
 use Rattle.shapes.specs.Tabled.{tabled_of}
@@ -56,26 +54,16 @@ Cycles = List ℕ → Option ℕ
 abbrev pub meant_of : List Def → Cycles → Text
 meant_of text cycle = text_of (tabled_of text) cycle text
 
--- a function of a model has no constraint
-abbrev pub IsFree : CoreModel → ℕ → Type 0
-IsFree m i = (f : Function) → slice_get m.functions i ≡ Some f → f.constraint ≡ C.Truth true
-
--- what is known of the core of gathered definitions: the functions that a hart enters have no constraint, and it stands whatever the hart at work
-pub record Stands (m : CoreModel) (past : Positive) (covered : Work → Bool) (k : Checks) (rank : ℕ → ℕ) (count : ℕ) : Type 0 where
-  pub step : IsFree m m.step
-  pub reset : IsFree m m.reset
-  pub throughout : StandsThroughout m past covered k rank count
-
 -- the run of a text with so many harts, from any state in which their registers belong to their types, under any schedule
 abbrev pub RunsSafely : List Def → Cycles → Positive → ℕ → Type 0
 RunsSafely text cycle past count =
     (entry : ℕ) (schedule : List ℕ) → AreThere count schedule → (state : RunState) → IsFit (core_of text cycle) past count state
     → RunGoes (text_parts (meant_of text cycle)) (IsFit (core_of text cycle) past count) count entry schedule state
 
--- where instances cover what is read of the core, and it stands
+-- where instances cover what is read of the core, and it stands whatever the hart at work
 abbrev pub RunsIfCovered : List Def → Cycles → Type 0
 RunsIfCovered text cycle = (past : Positive) (covered : Work → Bool) (k : Checks) (rank : ℕ → ℕ) (count : ℕ) → 0 < count → count ≤ 8
-    → CoversThroughout (core_of text cycle) past covered k rank count → Stands (core_of text cycle) past covered k rank count
+    → CoversThroughout (core_of text cycle) past covered k rank count → StandsThroughout (core_of text cycle) past covered k rank count
     → RunsSafely text cycle past count
 
 -- whatever the numbers of its cycles of calls, where the obligations of the core hold

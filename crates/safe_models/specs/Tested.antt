@@ -12,8 +12,8 @@ use Rattle.text_progress.specs.Laws.{core_of}
 use Rattle.sail_top.specs.Checked.{no_cycle}
 use Rattle.sail_top.specs.Models.{AreAccepted}
 use Rattle.sail_top.specs.declared.models.Accepted.{Accepted}
-use Rattle.whole_runs.specs.Safe.{CoversThroughout}
-use Rattle.safe_models.specs.Safe.{RunsSafely, Stands}
+use Rattle.whole_runs.specs.Safe.{CoversThroughout, StandsThroughout}
+use Rattle.safe_models.specs.Safe.{RunsSafely}
 
 -- the list of instances of a core is found and tested, and directions of mappings have ranks
 pub record IsTested (m : CoreModel) (rank : ℕ → ℕ) (c : SizedCore) : Type 0 where
@@ -30,5 +30,6 @@ TestedListsCover = (m : CoreModel) (rank : ℕ → ℕ) (c : SizedCore) → IsTe
 abbrev pub TestedModelsRunSafely : Type 0
 TestedModelsRunSafely = (texts : List (List ℕ)) (made : Accepted) (accepted : AreAccepted texts made) (rank : ℕ → ℕ) (c : SizedCore)
     → IsTested (core_of (gathered accepted.definitions) no_cycle) rank c → (past : Positive) (count : ℕ) → 0 < count → count ≤ 8
-    → Stands (core_of (gathered accepted.definitions) no_cycle) past (covered_by c) (checks_of (core_of (gathered accepted.definitions) no_cycle) c) rank
-    count → RunsSafely (gathered accepted.definitions) no_cycle past count
+    → StandsThroughout (core_of (gathered accepted.definitions) no_cycle) past (covered_by c)
+    (checks_of (core_of (gathered accepted.definitions) no_cycle) c) rank count
+    → RunsSafely (gathered accepted.definitions) no_cycle past count

@@ -188,10 +188,11 @@ module _ (m : CoreModel) (walks : WalksAreMet m (around_of m)) (past : Positive)
   lets_stand : (x : Work) → LetsAre set x set.around.lets (lets_of (checking (checks_of m k)) m)
   lets_stand x =
       let names : List TopLevel = (around_of m).lets in
-      let opens = openings_stand m past covered [] (checks_of m k) (λ r x e. absurd (no_register r x e)) walks covers.openings stands.openings in
+      let opens = openings_stand m past covered [] (checks_of m k) walks covers.openings stands.openings in
       let right : LetsAre (pure_setting m past covered [] []) nobody names end.0 =
       (subst (OpenedRight m past covered [] names) end.2
-      (openings_sound m past covered [] (checks_of m k) refl opens (nowhere m.types) (record { harts = tt; at_work = tt }))).0 in
+      (openings_sound m past covered [] (λ r x e. absurd (no_register r x e)) (checks_of m k) refl opens (nowhere m.types)
+      (record { harts = tt; at_work = tt }))).0 in
       let typed : LetsAre (of_types (around_of m).types) nobody names end.0 =
       subst (λ types. LetsAre (of_types types) nobody names end.0) (sym (types_kept m [] m.openings)) (pure_lets names end.0 right) in
       subst (LetsAre set x names) (sym (ap lets_in end.2)) (lets_anywhere set stands.anywhere x x.types refl end.0 (in_setting names end.0 typed))

@@ -8,4 +8,5 @@ pub mod Own
 pub mod Events
 pub mod Fit
 pub mod Runs
+pub mod Ending
 pub mod Safe

@@ -43,8 +43,7 @@ none_behind i = omega arith
 one_behind : (i j : ℕ) → i + suc j ≡ suc i + j
 one_behind i j = omega arith
 
-module _ (m : CoreModel) (past : Positive) (covered : Work → Bool) (registers : List Register) (k : Checks)
-    (within : (r : ℕ) (x : Register) → slice_get registers r ≡ Some x → slice_get m.registers r ≡ Some x) where
+module _ (m : CoreModel) (past : Positive) (covered : Work → Bool) (registers : List Register) (k : Checks) where
   abbrev set : List TopLevel → Setting
   set names = pure_setting m past covered registers names
 
@@ -71,7 +70,7 @@ module _ (m : CoreModel) (past : Positive) (covered : Work → Bool) (registers 
       subst (λ x. Met names cases (bind ((part o.value).walk (around_of m) [] (register_aim x)) (λ i. give (tt {0})) [] 0).notes) there met in
       record {
         register = alike.register;
-        is_it = λ x e. some_same x alike.register (sym (within r x e) ∙ alike.is_there);
+        is_it = λ x e. some_same x alike.register (sym e ∙ alike.is_there);
         value = right;
         met = subst (Met names cases) (bare_notes ((part o.value).walk (around_of m) [] (initial_aim alike.register.typ)) [] 0 ∙ sym alike.notes) aimed_so;
       }

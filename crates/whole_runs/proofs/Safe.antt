@@ -8,7 +8,7 @@ use Rattle.model_state.specs.RunState.{Ran, RunState}
 use Rattle.model_state.specs.declared.cause.Ended.{Ended}
 use Rattle.model_state.specs.declared.cause.Ended.TheVariants as E
 use Rattle.sail_core.specs.Program.{plain}
-use Rattle.sail_core.specs.Start.{Opened, init_ran, opened, opened_not, opened_to, openings_of, or_nothing, ran_from, reset_ran, step_ran}
+use Rattle.sail_core.specs.Start.{Opened, init_ran, nowhere, opened, opened_not, opened_to, openings_of, or_nothing, ran_from, reset_ran, step_ran}
 use Rattle.sail_core.specs.Steady.{Keeping, ModelsKeep}
 use Rattle.sail_core.specs.declared.model.CoreModel.{CoreModel}
 use Rattle.constraint_gen.specs.Models.{around_of}
@@ -26,6 +26,7 @@ use Rattle.whole_runs.proofs.AllOpenings.{openings_sound}
 use Rattle.whole_runs.specs.Never.{AllEnd, setting_in}
 use Rattle.whole_runs.proofs.OpeningsStand.{openings_stand}
 use Rattle.whole_runs.proofs.Events.{never}
+use Rattle.whole_runs.proofs.Ending.{end_anywhere}
 use Rattle.whole_runs.specs.Runs.{AreThere, Behind, EventsGo, Goes, PartsGo, ResetsGo, RunGoes}
 use Rattle.whole_runs.specs.Safe.{CoversThroughout, IsFit, IsFoundThroughout, ModelsRunSafely, StandsThroughout, core_parts}
 use Rattle.whole_runs.proofs.Runs.{goes_on, resets_on}
@@ -70,8 +71,8 @@ module _ (models_alike : ModelsAreAlike) (models_keep : ModelsKeep) (m : CoreMod
 
   opened_right : (state : RunState) → Fit state → OpenedRight m past covered m.registers (around_of m).lets (openings_of (checking c) m state)
   opened_right state ok =
-      let opens = openings_stand m past covered m.registers c (λ r x e. e) (notes_met m held) (covers 0 some).openings stands.start in
-      openings_sound m past covered m.registers c refl opens state (at_start m past count covered some state ok)
+      let opens = openings_stand m past covered [] c (notes_met m held) (covers 0 some).openings (stands 0 some).openings in
+      openings_sound m past covered m.registers (λ r x e. e) c refl opens state (at_start m past count covered some state ok)
 
   init_there : (state : RunState) → Fit state → There (init_ran (checking c) m state) (init_ran plain m state) (λ ran. Fit ran.state)
   init_there state ok =
@@ -101,7 +102,7 @@ module _ (models_alike : ModelsAreAlike) (models_keep : ModelsKeep) (m : CoreMod
   reset_there : AllEnd m k → (hart entry : ℕ) → hart < count → (state : RunState) → Fit state
       → There (reset_ran (checking c) m hart entry state) (reset_ran plain m hart entry state) (λ ran. Fit ran.state)
   reset_there end hart entry low state ok =
-      let ends = (never m past hart covered k rank held (covers hart low) (found hart low) (stands.each hart low) end state
+      let ends = (never m past hart covered k rank held (covers hart low) (found hart low) (stands hart low) end state
       (at_event m past count covered hart low state ok)).1 entry in
       event_there hart state (reset_ran (checking c) m hart entry state) (reset_ran plain m hart entry state) ends
       ((models_alike c m state).1 hart entry) ((models_keep m state).1 hart entry) ok
@@ -109,7 +110,7 @@ module _ (models_alike : ModelsAreAlike) (models_keep : ModelsKeep) (m : CoreMod
   step_there : AllEnd m k → (hart : ℕ) → hart < count → (state : RunState) → Fit state
       → There (step_ran (checking c) m hart state) (step_ran plain m hart state) (λ ran. Fit ran.state)
   step_there end hart low state ok =
-      let ends = (never m past hart covered k rank held (covers hart low) (found hart low) (stands.each hart low) end state
+      let ends = (never m past hart covered k rank held (covers hart low) (found hart low) (stands hart low) end state
       (at_event m past count covered hart low state ok)).0 in
       event_there hart state (step_ran (checking c) m hart state) (step_ran plain m hart state) ends
       ((models_alike c m state).2 hart) ((models_keep m state).2 hart) ok
@@ -146,13 +147,14 @@ module _ (models_alike : ModelsAreAlike) (models_keep : ModelsKeep) (m : CoreMod
 
   -- ---- whole runs
 
-  -- openings that stop end the run; where they end, they do so where there is no register
+  -- openings that stop end the run; where they end, they do so from where there is no register
   opened_goes : (entry : ℕ) (schedule : List ℕ) → AreThere count schedule → (state : RunState) → Fit state → (o : Opened)
       → openings_of (checking c) m state ≡ o → OpenedRight m past covered m.registers (around_of m).lets o
       → (p : Option Ran) → IsStuckOr (ran_from o) p → Goes p (λ ran. Fit ran.state)
       → Goes p (λ ran. ResetsGo (core_parts plain m) Fit entry (EventsGo (core_parts plain m) Fit schedule) (range_with_len 0 count) ran.state)
   opened_goes entry schedule there state ok (opened vs now) eq h p is go =
-      let parts = plain_goes (stands.steady state ok vs now eq) in
+      let end = end_anywhere (checking c) vs m state (nowhere m.types) (now, eq) in
+      let parts = plain_goes (vs, end) in
       goes_on (λ ran. Fit ran.state)
       (λ ran. ResetsGo (core_parts plain m) Fit entry (EventsGo (core_parts plain m) Fit schedule) (range_with_len 0 count) ran.state) p
       (λ ran k. resets_on (core_parts plain m) count Fit parts entry schedule there ran.state k) go

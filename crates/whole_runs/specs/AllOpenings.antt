@@ -35,10 +35,10 @@ pub record Behind : Type 0 where
   pub names : List TopLevel
   pub values : List Value
 
--- an initial value, for a register where it is there
+-- an initial value, for a register of the model where it is there
 pub record RegisterStands (b : Behind) (cases : Cases) (o : Opening) (r : ℕ) : Type 0 where
   pub register : Register
-  pub is_it : (x : Register) → slice_get b.registers r ≡ Some x → x ≡ register
+  pub is_it : (x : Register) → slice_get b.model.registers r ≡ Some x → x ≡ register
   pub value : ValueStands (pure_scene (pure_setting b.model b.past b.covered b.registers b.names) cases) (opening_world b.values) o.value
   pub met : AreMet (pure_setting b.model b.past b.covered b.registers b.names) nobody (λ d. false) cases
       ((part o.value).walk (pure_around b.model b.registers b.names) [] (initial_aim register.typ) [] 0).notes
@@ -72,11 +72,16 @@ OpeningsStand m past covered registers k i names (o ∷ os) =
 -- they end, and registers belong to their types; or a pattern doesn't match; they are never stuck
 abbrev pub OpenedRight : CoreModel → Positive → (Work → Bool) → List Register → List TopLevel → Opened → Type 0
 OpenedRight m past covered registers names (opened vs state) =
-    LetsAre (pure_setting m past covered registers []) nobody names vs × StateBelongs (pure_setting m past covered registers []) state
+    LetsAre (pure_setting m past covered [] []) nobody names vs × StateBelongs (pure_setting m past covered registers []) state
 OpenedRight m past covered registers names (opened_to cause state) = Unit {0}
 OpenedRight m past covered registers names opened_not = ⊥
 
+-- the registers of the state are those of the model, or none
+abbrev pub AreOfModel : CoreModel → List Register → Type 0
+AreOfModel m registers = (r : ℕ) (x : Register) → slice_get registers r ≡ Some x → slice_get m.registers r ≡ Some x
+
 abbrev pub OpeningsAreSound : Type 0
-OpeningsAreSound = (m : CoreModel) (past : Positive) (covered : Work → Bool) (registers : List Register) (k : Checks) → k.types ≡ m.types
-    → OpeningsStand m past covered registers k 0 [] m.openings → (state : RunState) → StateBelongs (pure_setting m past covered registers []) state
+OpeningsAreSound = (m : CoreModel) (past : Positive) (covered : Work → Bool) (registers : List Register) → AreOfModel m registers
+    → (k : Checks) → k.types ≡ m.types
+    → OpeningsStand m past covered [] k 0 [] m.openings → (state : RunState) → StateBelongs (pure_setting m past covered registers []) state
     → OpenedRight m past covered registers (around_of m).lets (openings_of (checking k) m state)

@@ -1,10 +1,9 @@
 -- A model whose runs are never stuck: what is known of it, whatever the hart at work.
 use Rattle.std.specs.Prelude.{◌≡◌, ◌<◌, ℕ, Bool, false, List, [], length}
 use Rattle.sail_types.specs.Numbers.{Positive}
-use Rattle.sail_types.specs.declared.values.Value.{Value}
 use Rattle.model_state.specs.RunState.{RunState}
 use Rattle.sail_core.specs.Program.{Sizing, plain}
-use Rattle.sail_core.specs.Start.{init_ran, opened, openings_of, reset_ran, step_ran}
+use Rattle.sail_core.specs.Start.{init_ran, reset_ran, step_ran}
 use Rattle.sail_core.specs.declared.model.CoreModel.{CoreModel}
 use Rattle.constraint_gen.specs.Obligations.{obligations}
 use Rattle.checked_meaning.specs.Checked.{Checks, checking}
@@ -15,7 +14,6 @@ use Rattle.soundness_calls.specs.Events.{checks_of}
 use Rattle.whole_runs.specs.Initials.{pure_setting}
 use Rattle.whole_runs.specs.Covers.{Covers}
 use Rattle.whole_runs.specs.Never.{AllEnd, IsFound, Stands, setting_in}
-use Rattle.whole_runs.specs.OpeningsStand.{Open}
 use Rattle.whole_runs.specs.Runs.{AreThere, Parts, PartsGo, RunGoes}
 
 -- the parts of a model's runs in a reading of it
@@ -31,16 +29,9 @@ pub record IsFit (m : CoreModel) (past : Positive) (count : ℕ) (state : RunSta
 abbrev pub CoversThroughout : CoreModel → Positive → (Work → Bool) → Checks → (ℕ → ℕ) → ℕ → Type 0
 CoversThroughout m past covered k rank count = (hart : ℕ) → hart < count → Covers (setting_in m past hart covered) m k rank
 
--- openings that end from one state end where there is no register: they hang on no state
-abbrev pub OpeningsAreSteady : CoreModel → Positive → Checks → ℕ → Type 0
-OpeningsAreSteady m past k count = (state : RunState) → IsFit m past count state → (vs : List Value) (now : RunState)
-    → openings_of (checking (checks_of m k)) m state ≡ opened vs now → AllEnd m k
-
--- it stands so; and openings stand over the registers with which a run starts
-pub record StandsThroughout (m : CoreModel) (past : Positive) (covered : Work → Bool) (k : Checks) (rank : ℕ → ℕ) (count : ℕ) : Type 0 where
-  pub start : Open m past covered m.registers (checks_of m k)
-  pub steady : OpeningsAreSteady m past k count
-  pub each : (hart : ℕ) → hart < count → Stands (setting_in m past hart covered) m k rank
+-- it stands so
+abbrev pub StandsThroughout : CoreModel → Positive → (Work → Bool) → Checks → (ℕ → ℕ) → ℕ → Type 0
+StandsThroughout m past covered k rank count = (hart : ℕ) → hart < count → Stands (setting_in m past hart covered) m k rank
 
 -- so it is of what the tables give
 abbrev pub IsFoundThroughout : CoreModel → Positive → (Work → Bool) → ℕ → Type 0
