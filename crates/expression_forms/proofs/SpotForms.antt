@@ -12,8 +12,9 @@ use Rattle.value_indices.specs.declared.indices.Indices.TheVariants as I
 use Rattle.value_indices.specs.declared.indices.Indices.TheViews.{roll-out-Indices}
 use Rattle.value_indices.specs.declared.indices.Reading.{Reading}
 use Rattle.pattern_leaves.specs.Settings.{Around}
+use Rattle.pattern_leaves.proofs.Opened.{out_tuple}
 use Rattle.pattern_leaves.proofs.Walked.{consed}
-use Rattle.expression_forms.specs.Spots.{Spot, Wrote, call_spot, each_read, named_spot, reached_spot, spot_form, spot_of}
+use Rattle.expression_forms.specs.Spots.{Spot, Wrote, call_spot, each_read, each_written, named_spot, parts_nested, reached_spot, spot_form, spot_of}
 use Rattle.expression_forms.specs.Spots.{tuple_spot, tuple_write, wrong_spot, wrong_write, wrote_of}
 use Rattle.expression_forms.specs.declared.pending.Wrote as written
 use Rattle.expression_forms.specs.declared.spots.Spot as code
@@ -72,9 +73,20 @@ pub no_tuple : (place : Place) (ss : List Spot) (b : Bool) (i : Indices) → ((i
     → tuple_write place ss b (out-Indices i) ≡ wrong_write place
 no_tuple place ss b i some never = other_form place ss b i (out-Indices i) (sym (roll-out-Indices i)) some never
 
+-- a tuple is written part by part
+pub tuple_written : (place : Place) (ss : List Spot) (b nested : Bool) → nested ≡ parts_nested ss b → (i : Indices) (is js : List Indices) → i ≡ I.Tuple is
+    → js ≡ is → each_written place ss nested js ≡ tuple_write place ss b (out-Indices i)
+tuple_written place ss b nested within i is js at same =
+    (λ j. each_written place ss (within j) (same j)) ∙ ap (tuple_write place ss b) (sym (out_tuple i is at))
+
 -- ---- what a call gives, where it gives the same wherever it stands
 
 pub wrote_in : {E : Type 0} (r : Result written.Wrote E) (around : Around) (x : Around → Wrote) (y : Wrote)
     → IfOk r (λ made. (a : Around) → wrote_of a made ≡ x a) → x around ≡ y → IfOk r (λ made. wrote_of around made ≡ y)
 wrote_in (Ok made) around x y h is = h around ∙ is
 wrote_in (Err e) around x y h is = tt
+
+pub wrote_as : {E : Type 0} (r : Result written.Wrote E) (around : Around) (x y : Wrote) → IfOk r (λ made. wrote_of around made ≡ x) → x ≡ y
+    → IfOk r (λ made. wrote_of around made ≡ y)
+wrote_as (Ok made) around x y h is = h ∙ is
+wrote_as (Err e) around x y h is = tt

@@ -3,10 +3,11 @@ use Rattle.std.proofs.Common.{◌≡◌, ◌∙◌, ◌+◌, ◌<◌, ◌≤◌,
 use Rattle.std.proofs.Common.{append_assoc}
 use Rattle.std.proofs.lemmas.List.{map-append}
 use Rattle.sail_base.specs.declared.place.Place.{Place}
-use Rattle.value_indices.specs.Steps.{Walk, bind, give}
-use Rattle.value_indices.specs.Walking.{Written, got, run}
+use Rattle.value_indices.specs.Steps.{Walk, bind, give, scoped}
+use Rattle.value_indices.specs.Walking.{Written, got, remembering, restored, run}
 use Rattle.value_indices.specs.declared.indices.Indices.{Indices}
 use Rattle.value_indices.specs.declared.indices.Indices.TheVariants as I
+use Rattle.value_indices.proofs.Walks.{got_scoped, run_scoped}
 use Rattle.value_fits.specs.Fitting.{also, joined, says}
 use Rattle.value_fits.specs.declared.fitted.Fitted.{Fitted}
 use Rattle.wide_types.proofs.Turns.{twice_got, twice_run}
@@ -79,21 +80,32 @@ end_wrote (f ∷ fs) i = ap (λ (g : ℕ → Fitted). wrote (both_left f g) I.Un
 pub all_written : (fs : List (ℕ → Fitted)) (i : Indices) (w all : Wrote) → wrote (says []) i ≡ w → written_behind fs w ≡ all → all_wrote fs i ≡ all
 all_written fs i w all is total = sym (end_wrote fs i) ∙ ap (written_behind fs) is ∙ total
 
+-- ---- a scope that begins and ends
+
+pub scoped_value : {A : Type 0} (inner : Walk A) (w v : Written) (a : A) → v ≡ remembering w → a ≡ got inner v → a ≡ got (scoped inner) w
+scoped_value inner w v a begins is = is ∙ ap (got inner) begins ∙ sym (got_scoped inner w)
+
+pub scoped_walked : {A : Type 0} (inner : Walk A) (w v u x : Written) → v ≡ remembering w → u ≡ run inner v → x ≡ restored u → x ≡ run (scoped inner) w
+scoped_walked inner w v u x begins was ends = ends ∙ ap restored (was ∙ ap (run inner) begins) ∙ sym (run_scoped inner w)
+
 module _ (around : Around) (place : Place) (b : Bool) (spots : List code.Spot) (values : List Indices) where
   -- those that are left from an index on
   abbrev pub rest_written : ℕ → Walk Wrote
   rest_written k = each_written place (map (spot_of around) (drop k spots)) b (drop k values)
 
   module _ (k : ℕ) (s : code.Spot) (i : Indices) (in_spots : k < length spots) (in_values : k < length values) (s_is : s ≡ get_or spots k s)
-      (i_is : i ≡ get_or values k i) (w v : Written) (was : v ≡ run ((spot_of around s).write b i) w) where
+      (i_is : i ≡ get_or values k i) (w v : Written) (was : v ≡ run (scoped ((spot_of around s).write b i)) w) where
+    abbrev one : Walk Wrote
+    one = scoped ((spot_of around s).write b i)
+
     abbrev rest : Walk Wrote
     rest = rest_written (k + 1)
 
-    opened : rest_written k ≡ bind ((spot_of around s).write b i) (λ x. bind rest (λ y. give (both_wrote x y)))
+    opened : rest_written k ≡ bind one (λ x. bind rest (λ y. give (both_wrote x y)))
     opened = λ j. each_written place (map (spot_of around) (rest_is spots k s in_spots s_is j)) b (rest_is values k i in_values i_is j)
 
     pub written_got : (before now : List pending.Left) (f : pending.Left) (a : Wrote) → now ≡ before ++ f ∷ [] → left_of around f ≡ a.left
-        → a ≡ got ((spot_of around s).write b i) w
+        → a ≡ got one w
         → written_behind (map (left_of around) now) (got rest v) ≡ written_behind (map (left_of around) before) (got (rest_written k) w)
     written_got before now f a grown owes is =
         let fs = map (left_of around) before in
@@ -102,10 +114,10 @@ module _ (around : Around) (place : Place) (b : Bool) (spots : List code.Spot) (
         ∙ ap (λ (l : List (ℕ → Fitted)). written_behind l y) (map-append (left_of around) before (f ∷ []))
         ∙ behind_one fs (left_of around f) y
         ∙ ap (λ (g : ℕ → Fitted). written_behind fs (wrote (both_left g y.left) I.Unit)) owes
-        ∙ ap (written_behind fs) (twice_got ((spot_of around s).write b i) rest both_wrote (rest_written k) w v a y opened is was refl)
+        ∙ ap (written_behind fs) (twice_got one rest both_wrote (rest_written k) w v a y opened is was refl)
 
     pub written_run : run rest v ≡ run (rest_written k) w
-    written_run = twice_run ((spot_of around s).write b i) rest both_wrote (rest_written k) w v (run rest v) opened was refl
+    written_run = twice_run one rest both_wrote (rest_written k) w v (run rest v) opened was refl
 
   -- as many values as targets
   pub even_end : (k : ℕ) → length spots ≤ k → length values ≤ k → rest_written k ≡ gives I.Unit

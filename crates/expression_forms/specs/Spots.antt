@@ -7,7 +7,7 @@ use Rattle.model_state.specs.declared.state.Register.{Register}
 use Rattle.sail_core.specs.declared.targets.Caller.{Caller}
 use Rattle.sail_core.specs.declared.targets.Way.{Way}
 use Rattle.sail_core.specs.declared.targets.Way.TheVariants as Y
-use Rattle.value_indices.specs.Steps.{Walk, bind, give}
+use Rattle.value_indices.specs.Steps.{Walk, bind, give, scoped}
 use Rattle.value_indices.specs.declared.indices.Indices.{Indices, out-Indices}
 use Rattle.value_indices.specs.declared.indices.Indices.TheOpen as W
 use Rattle.value_indices.specs.declared.indices.Indices.TheOpen.{Indices-F}
@@ -188,10 +188,11 @@ abbrev pub all_wrote : List (ℕ → Fitted) → Indices → Wrote
 all_wrote [] i = wrote (says []) i
 all_wrote (f ∷ fs) i = wrote (each_left (f ∷ fs)) I.Unit
 
+-- what a write puts in force, as the answer of a call, isn't in force behind it: what all have left is owed as before them
 abbrev pub each_written : Place → List Spot → Bool → List Indices → Walk Wrote
 each_written place [] is_nested [] = gives I.Unit
 each_written place (s ∷ ss) is_nested (i ∷ is) =
-    bind (s.write is_nested i) (λ a. bind (each_written place ss is_nested is) (λ b. give (both_wrote a b)))
+    bind (scoped (s.write is_nested i)) (λ a. bind (each_written place ss is_nested is) (λ b. give (both_wrote a b)))
 each_written place ss is_nested is = wrong_write place
 
 abbrev pub each_typ : List Spot → List Reading

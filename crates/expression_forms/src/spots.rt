@@ -764,7 +764,8 @@ fn write_tuple(
     }
 }
 
-/// Writes several, each its value. It fails where memory is wanting, and where variables are too many.
+/// Writes several, each its value; what a write puts in force isn't in force behind it. It fails where memory is wanting, and where
+/// variables are too many.
 #[cycle(spot_write)]
 #[tactic(auto, using(value_indices::proofs::Walks::walks))]
 fn write_each(
@@ -783,7 +784,9 @@ fn write_each(
 {
     let mut lefts = Items::new(alloc);
     for index in 0..spots.len().min(values.len()) {
+        walking.remember()?;
         let wrote = spots[index].write(alloc, walking, around, is_nested, &values[index])?;
+        walking.restore()?;
         lefts.push(wrote.into_left())?;
     }
     if spots.len() == values.len() {

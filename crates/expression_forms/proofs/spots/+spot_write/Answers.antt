@@ -13,9 +13,9 @@ use Rattle.pattern_leaves.proofs.Opened.{out_never}
 use Rattle.call_notes.specs.Ends.{fits_unless, wrong_value}
 use Rattle.expression_forms.specs.Nodes.{put}
 use Rattle.expression_forms.specs.Spots.{Spot, Wrote, call_written, left_of, spot_of, tuple_write, wrong_write, wrote, wrote_of}
-use Rattle.expression_forms.proofs.SpotForms.{call_is, named_is, no_tuple, wrong_is, wrote_in}
+use Rattle.expression_forms.proofs.SpotForms.{call_is, named_is, no_tuple, tuple_written, wrong_is, wrote_as, wrote_in}
 use Rattle.expression_forms.proofs.SpotMasses.{one_spot, spot_mass, spot_masses, tuple_opens}
-use Rattle.expression_forms.proofs.Tuples.{all_written, even_end, uneven_end, written_got, written_run}
+use Rattle.expression_forms.proofs.Tuples.{all_written, even_end, scoped_value, scoped_walked, uneven_end, written_got, written_run}
 use Rattle.expression_forms.proofs.spots.+spot_write.Goals as goal
 
 -- ---- there is less of what is called
@@ -106,16 +106,20 @@ write_each-loop-index-preserved t c =
     let l = c.loop-index in
     let s = c.index-spots-index.result in
     let i = c.index-values-index.result in
+    let inner = (spot_of around s).write c.args.is_nested i in
+    let a = wrote_of around c.in_ok-wrote.wrote in
     let w = seen l.walking in
-    let v = seen c.write.new.walking in
+    let begun = seen c.remember.new.self in
     let ended = c.in_ok-wrote.ensures in
+    let was = scoped_walked inner w begun (seen c.write.new.walking) (seen c.restore.new.self) c.in_ok-remember.ensures ended.walked
+    c.in_ok-restore.ensures in
     record {
       value = written_got around c.args.place c.args.is_nested c.args.spots.now c.args.values.now l.index s i (omega arith) (omega arith)
-          c.index-spots-index.is c.index-values-index.is w v ended.walked l.lefts c.push.new.self c.into_left.result
-          (wrote_of around c.in_ok-wrote.wrote) c.in_ok-push.ensures.pushed (c.into_left.ensures around) ended.value
+          c.index-spots-index.is c.index-values-index.is w (seen c.restore.new.self) was l.lefts c.push.new.self c.into_left.result
+          a c.in_ok-push.ensures.pushed (c.into_left.ensures around) (scoped_value inner w begun a c.in_ok-remember.ensures ended.value)
           ∙ l.invariant.value;
       walked = written_run around c.args.place c.args.is_nested c.args.spots.now c.args.values.now l.index s i (omega arith) (omega arith)
-          c.index-spots-index.is c.index-values-index.is w v ended.walked ∙ l.invariant.walked;
+          c.index-spots-index.is c.index-values-index.is w (seen c.restore.new.self) was ∙ l.invariant.walked;
     }
 
 -- as many values as targets
@@ -154,6 +158,19 @@ write_each-returns-clause-walked t c =
     (λ same. c.if-spots-values.false (omega (arith, same))) in
     once_run (wrong_value place) (λ (i : Indices). wrote (says []) i) _ (seen l.walking) (seen c.wrong_value.new.walking) ends
     c.in_ok-answer.ensures.walked ∙ l.invariant.walked
+
+-- each part of a tuple
+pub write_tuple-returns-in_ok-nested-in-Tuple : goal.write_tuple-returns-in_ok-nested-in-Tuple
+write_tuple-returns-in_ok-nested-in-Tuple t c =
+    let around = around_of c.args.around.now in
+    let spots = map (spot_of around) c.args.spots.now in
+    let w = seen c.args.walking.now in
+    let is = tuple_written c.args.place spots c.args.is_nested c.in_ok-nested-in-Tuple.nested c.in_ok-nested-in-Tuple.ensures c.args.value.now c.in-Tuple.values
+    c.as_slice-in-Tuple.result.now c.in-Tuple.is c.as_slice-in-Tuple.ensures in
+    record {
+      value = wrote_as c.write_each.result around _ _ c.write_each.ensures.value (ap (λ (a : Walk Wrote). got a w) is);
+      walked = left_as c.write_each.result (seen c.write_each.new.walking) _ _ c.write_each.ensures.walked (ap (λ (a : Walk Wrote). run a w) is);
+    }
 
 pub write_tuple-returns-in-Never-clause-value : goal.write_tuple-returns-in-Never-clause-value
 write_tuple-returns-in-Never-clause-value t c =
