@@ -166,7 +166,7 @@ write_tuple-returns-in_ok-nested-in-Tuple t c =
     let spots = map (spot_of around) c.args.spots.now in
     let w = seen c.args.walking.now in
     let is = tuple_written c.args.place spots c.args.is_nested c.in_ok-nested-in-Tuple.nested c.in_ok-nested-in-Tuple.ensures c.args.value.now c.in-Tuple.values
-    c.as_slice-in-Tuple.result.now c.in-Tuple.is c.as_slice-in-Tuple.ensures in
+    c.as_slice-values.result.now c.in-Tuple.is c.as_slice-values.ensures in
     record {
       value = wrote_as c.write_each.result around _ _ c.write_each.ensures.value (ap (λ (a : Walk Wrote). got a w) is);
       walked = left_as c.write_each.result (seen c.write_each.new.walking) _ _ c.write_each.ensures.walked (ap (λ (a : Walk Wrote). run a w) is);
