@@ -1,19 +1,26 @@
 -- What is owed of a number, of a term and of an exponent, as they open.
-use Rattle.std.proofs.Common.{◌≡◌, ◌∙◌, ap, refl, sym, ℕ, Bool, true, false, Decides, List, [], ◌∷◌, ◌++◌, map}
+use Rattle.std.proofs.Common.{arith, append_assoc, ◌≡◌, ◌∙◌, ap, refl, sym, ℕ, zero, suc, ℤ, ◌+◌, ◌<◌, Bool, true, false, Decides, List, [], ◌∷◌, ◌++◌}
+use Rattle.std.proofs.Common.{drop, get_or, length, map}
+use Rattle.std.proofs.lemmas.Grind.{common_steps}
 use Rattle.sail_types.specs.Sums.{atom_of, constant_of, terms_of}
 use Rattle.sail_types.specs.declared.numbers.Atom.{Atom, out-Atom}
 use Rattle.sail_types.specs.declared.numbers.Atom.TheFolds.{para-Term, para-roll-Atom, para-roll-Num, para-roll-Term}
 use Rattle.sail_types.specs.declared.numbers.Atom.TheOpen as N
+use Rattle.sail_types.specs.declared.numbers.Atom.TheOpen.{Atom-F}
 use Rattle.sail_types.specs.declared.numbers.Atom.TheVariants as A
 use Rattle.sail_types.specs.declared.numbers.Atom.TheViews.{out-roll-Atom, roll-out-Num, roll-out-Term}
+use Rattle.sail_types.specs.declared.numbers.Comparison.{Comparison}
+use Rattle.sail_types.specs.declared.numbers.Con.{Con, fold-roll-Con}
+use Rattle.sail_types.specs.declared.numbers.Con.TheOpen as F
+use Rattle.sail_types.specs.declared.numbers.Con.TheVariants as C
 use Rattle.sail_types.specs.declared.numbers.Index.{Index}
 use Rattle.sail_types.specs.declared.numbers.Num.{Num, out-Num}
 use Rattle.sail_types.specs.declared.numbers.Term.{Term, out-Term}
 use Rattle.sail_types.proofs.EqualAtoms.{eq_atom-Decides}
 use Rattle.sail_core.specs.declared.written.WrittenNumber.{WrittenNumber}
 use Rattle.value_indices.specs.Steps.{Conditions}
-use Rattle.expression_forms.specs.Sizes.{all_owed, atom_bounded, atom_through, bounded, bounded_atom, exponent_through, in_bounds, num_bounded, num_through}
-use Rattle.expression_forms.specs.Sizes.{same_number, term_bounded, term_owed, term_read, term_through, terms_bounded, through, through_atom}
+use Rattle.expression_forms.specs.Sizes.{all_owed, atom_bounded, atom_through, bounded, bounded_atom, compared, compared_form, exponent_through, in_bounds}
+use Rattle.expression_forms.specs.Sizes.{num_bounded, num_through, same_number, side_through, term_bounded, term_owed, term_read, term_through, terms_bounded, through, through_atom}
 use Rattle.expression_forms.specs.Sizes.{through_term, with_owed}
 
 module _ (numbers : List Index) where
@@ -75,18 +82,54 @@ module _ (numbers : List Index) (ns : List WrittenNumber) where
       ∙ para-roll-Atom Conditions Conditions Conditions (atom_through numbers ns) (num_through numbers ns) (term_through numbers ns) (N.Power n)
       ∙ ap (λ (u : Num). through numbers ns u ++ exponent_through numbers ns u) (sym same)
 
+  pub compare_is : (c : Con) (how : Comparison) (t u : Num) → c ≡ C.Compare how t u
+      → compared numbers ns c ≡ side_through numbers ns t ++ side_through numbers ns u
+  compare_is c how t u is =
+      ap (compared numbers ns) (is ∙ sym (C.rolls-Compare how t u)) ∙ fold-roll-Con Conditions (compared_form numbers ns) (F.Compare how t u)
+
+  pub one_of_is : (c : Con) (t : Num) (zs : List ℤ) → c ≡ C.OneOf t zs → compared numbers ns c ≡ side_through numbers ns t
+  one_of_is c t zs is = ap (compared numbers ns) (is ∙ sym (C.rolls-OneOf t zs)) ∙ fold-roll-Con Conditions (compared_form numbers ns) (F.OneOf t zs)
+
+-- ---- what several owe, one behind another
+
+drop_one : {A : Type 0} (k : ℕ) (t : A) (ts : List A) → drop (k + 1) (t ∷ ts) ≡ drop k ts
+drop_one k t ts = grind (arith, common_steps)
+
+-- what is owed of those from an index on begins with what is owed of the one there
+pub owed_next : {A : Type 0} (f : A → Conditions) (ts : List A) (k : ℕ) (t : A) → k < length ts → t ≡ get_or ts k t
+    → f t ++ all_owed (map f (drop (k + 1) ts)) ≡ all_owed (map f (drop k ts))
+owed_next f [] k t within is = absurd (omega arith)
+owed_next f (u ∷ ts) zero t within is = (λ j. f t ++ all_owed (map f (drop_one 0 u ts j))) ∙ ap (λ a. f a ++ all_owed (map f ts)) is
+owed_next f (u ∷ ts) (suc k) t within is =
+    (λ j. f t ++ all_owed (map f (drop_one (suc k) u ts j)))
+    ∙ (λ j. f t ++ all_owed (map f (drop (comm k j) ts)))
+    ∙ owed_next f ts k t (omega arith) is
+  where
+    comm : (k : ℕ) → suc k ≡ k + 1
+    comm k = omega arith
+
+-- one more is owed behind those before
+pub owed_more : {A : Type 0} (f : A → Conditions) (ts : List A) (k : ℕ) (t : A) (made more behind : Conditions) → k < length ts → t ≡ get_or ts k t
+    → behind ≡ made ++ more → more ≡ f t → behind ++ all_owed (map f (drop (k + 1) ts)) ≡ made ++ all_owed (map f (drop k ts))
+owed_more f ts k t made more behind within is added owed =
+    (λ j. added j ++ all_owed (map f (drop (k + 1) ts)))
+    ∙ (λ j. (made ++ owed j) ++ all_owed (map f (drop (k + 1) ts)))
+    ∙ append_assoc made (f t) (all_owed (map f (drop (k + 1) ts)))
+    ∙ (λ j. made ++ owed_next f ts k t within is j)
+
 -- ---- equal numbers
+
+power_same : (a b : Num) → ◌≡◌ {A = Atom-F Atom Num Term} (N.Power a) (N.Power b) → a ≡ b
+power_same a b e = cc
 
 -- one number's power is another's where the numbers are one
 power_opens : (a b : Num) → A.Power a ≡ A.Power b → a ≡ b
-power_opens a b e = power_same a b (sym (out-roll-Atom (N.Power a)) ∙ ap out-Atom (A.rolls-Power a ∙ e ∙ sym (A.rolls-Power b)) ∙ out-roll-Atom (N.Power b))
-  where
-    power_same : (a b : Num) → N.Power a ≡ N.Power b → a ≡ b
-    power_same a b e = cc
+power_opens a b e =
+    power_same a b (sym (out-roll-Atom (N.Power a)) ∙ ap out-Atom (A.rolls-Power a ∙ e ∙ sym (A.rolls-Power b)) ∙ out-roll-Atom (N.Power b))
 
 pub same_bools : {A : Type 0} (p q : Bool) → Decides p A → Decides q A → p ≡ q
 same_bools true q h d = sym (d.1 (h.0 refl))
-same_bools false true h d = sym (h.1 (d.0 refl))
+same_bools false true h d = h.1 (d.0 refl)
 same_bools false false h d = refl
 
 pub number_decided : (a b : Num) → Decides (same_number a b) (a ≡ b)

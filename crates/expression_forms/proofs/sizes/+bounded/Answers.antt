@@ -53,7 +53,7 @@ bounded-returns t c =
 pub term_owed-returns : goal.term_owed-returns
 term_owed-returns t c =
     c.in_ok-append.ensures.appended
-    ∙ (λ j. c.in_ok-made.ensures j ++ (c.in_ok-in_bounds.ensures ∙ ap in_bounds c.in_ok-read.ensures) j)
+    ∙ (λ j. c.in_ok-made.ensures j ++ (c.in_ok-in_bounds.ensures ∙ ap in_bounds (c.as_ref.ensures.value ∙ c.in_ok-read.ensures)) j)
     ∙ sym (term_is c.args.indices.now c.args.term.now)
 
 pub atom_bounded-returns-in-Variable : goal.atom_bounded-returns-in-Variable

@@ -1,7 +1,9 @@
-use Rattle.std.proofs.Common.{rules, ◌≡◌, ◌∙◌, ◌+◌, ◌++◌, IfOk, arith, subst, sym}
+use Rattle.std.proofs.Common.{rules, ◌≡◌, ◌∙◌, ◌+◌, ◌++◌, IfOk, ap, arith, subst, sym}
+use Rattle.sail_types.specs.declared.numbers.Num.{Num}
 use Rattle.value_indices.specs.Steps.{Conditions}
-use Rattle.expression_forms.proofs.Bounds.{power_through, through_inside, through_is, variable_through}
+use Rattle.expression_forms.proofs.Bounds.{owed_more, power_through, through_inside, through_is, variable_through}
 use Rattle.expression_forms.proofs.NumberMasses.{atom_mass, num_mass, num_opens, power_opens, term_at, term_mass, term_masses, term_opens}
+use Rattle.expression_forms.specs.Sizes.{exponent_through, through, through_term}
 use Rattle.expression_forms.proofs.sizes.+through.Goals as goal
 
 -- ---- there is less of what is called
@@ -46,8 +48,16 @@ pub through_atom-returns-in-Variable : goal.through_atom-returns-in-Variable
 through_atom-returns-in-Variable t c =
     c.new.ensures ∙ sym (variable_through c.args.indices.now c.args.numbers.now c.args.atom.now c.in-Variable.field-0 c.in-Variable.is)
 
-pub through_atom-returns-in-Power : goal.through_atom-returns-in-Power
-through_atom-returns-in-Power t c =
-    c.in_ok-append.ensures.appended
-    ∙ (λ j. c.in_ok-made.ensures j ++ c.in_ok-exponent_through.ensures j)
+pub through_atom-returns-in_ok-append-in-Power : goal.through_atom-returns-in_ok-append-in-Power
+through_atom-returns-in_ok-append-in-Power t c =
+    c.in_ok-append-in-Power.ensures.appended
+    ∙ (λ j. c.in_ok-made-in-Power.ensures j ++ c.in_ok-exponent_through-in-Power.ensures j)
+    ∙ ap (λ (n : Num). through c.args.indices.now c.args.numbers.now c.get.result.now ++ exponent_through c.args.indices.now c.args.numbers.now n)
+    (c.get-in-Power.ensures ∙ sym c.get.ensures)
     ∙ sym (power_through c.args.indices.now c.args.numbers.now c.args.atom.now c.in-Power.number c.get.result.now c.in-Power.is c.get.ensures)
+
+pub all_through-loop-term-preserved : goal.all_through-loop-term-preserved
+all_through-loop-term-preserved t c =
+    owed_more (through_term c.args.indices.now c.args.numbers.now) c.args.terms.now c.loop-term.term-index c.term-item.result c.loop-term.made
+    c.in_ok-through_term.field-0 c.append.new.self c.loop-term-test.true c.term-item.is c.in_ok-append.ensures.appended c.in_ok-through_term.ensures
+    ∙ c.loop-term.invariant
