@@ -79,7 +79,6 @@ module _ (m : CoreModel) (rank : ℕ → ℕ) (c : SizedCore) (past : Positive) 
   model_covered h = record {
     functions = λ x f covered own at. function_covered x f (is_read.functions x f covered own at);
     directions = λ d n side at is_it. direction_covered d n side is_it (is_read.directions d n at);
-    ranks = h.ranks;
     openings = openings_covered;
     step = is_read.step;
     reset = is_read.reset;

@@ -1,9 +1,8 @@
 -- Texts that the program accepts are never stuck where their lists of instances are tested.
-use Rattle.std.specs.Prelude.{◌≡◌, ◌<◌, ◌≤◌, ℕ, true, List, length, slice_get, Some, Ok}
+use Rattle.std.specs.Prelude.{◌≡◌, ◌<◌, ◌≤◌, ℕ, true, List, Ok}
 use Rattle.sail_types.specs.Numbers.{Positive}
 use Rattle.scattered.specs.Gathered.{gathered}
 use Rattle.sail_core.specs.declared.model.CoreModel.{CoreModel}
-use Rattle.sail_core.specs.declared.model.Direction.{Direction}
 use Rattle.sized_trees.specs.declared.trees.SizedCore.{SizedCore}
 use Rattle.sized_trees.specs.Trees.{sized_core}
 use Rattle.sized_meanings.specs.Sized.{checks_of}
@@ -15,11 +14,10 @@ use Rattle.sail_top.specs.declared.models.Accepted.{Accepted}
 use Rattle.whole_runs.specs.Safe.{CoversThroughout, StandsThroughout}
 use Rattle.safe_models.specs.Safe.{RunsSafely}
 
--- the list of instances of a core is found and tested, and directions of mappings have ranks
+-- the list of instances of a core is found and tested
 pub record IsTested (m : CoreModel) (rank : ℕ → ℕ) (c : SizedCore) : Type 0 where
   pub found : sized_core m ≡ Ok c
   pub tested : core_tested m rank c ≡ true
-  pub ranks : (d : ℕ) (n : Direction) → slice_get m.directions d ≡ Some n → rank d < length m.directions
 
 -- such a list covers the core
 abbrev pub TestedListsCover : Type 0

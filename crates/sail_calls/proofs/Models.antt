@@ -103,5 +103,4 @@ calls_from set k rank lets s = record {
   lets_are = s.lets_are;
   functions = λ x f covered own at. let h = s.functions x f covered own at in (h.covered, function_holds set k x f h);
   directions = λ d m at. direction_holds set rank k d m (s.directions d m at);
-  ranks = s.ranks;
 }

@@ -1,5 +1,5 @@
 -- Calls and events of a model, where the nodes of its bodies are fine beside their walks, and patterns stand.
-use Rattle.std.specs.Prelude.{◌≡◌, ◌<◌, ℕ, true, List, [], length, slice_get, Some}
+use Rattle.std.specs.Prelude.{◌≡◌, ℕ, true, List, [], slice_get, Some}
 use Rattle.sail_types.specs.declared.values.Value.{Value}
 use Rattle.sail_core.specs.Making.{World}
 use Rattle.sail_core.specs.Numbers.{Givens}
@@ -70,7 +70,6 @@ pub record ModelStands (set : Setting) (k : Checks) (rank : ℕ → ℕ) (lets :
   pub functions : (x : Work) (f : Function) → set.covered x ≡ true → AllFit set.around.types x.types x.own
       → slice_get set.around.functions x.function ≡ Some f → FunctionStands set k x f
   pub directions : (d : ℕ) (m : Direction) → slice_get set.around.directions d ≡ Some m → DirectionStands set rank k d m
-  pub ranks : (d : ℕ) (m : Direction) → slice_get set.around.directions d ≡ Some m → rank d < length set.around.directions
 
 -- all that calls ask of it
 abbrev pub CallsFollow : Type 0

@@ -5,5 +5,6 @@ pub mod Bare
 pub mod Clauses
 pub mod Functions
 pub mod Directions
+pub mod Counted
 pub mod Calls
 pub mod Events

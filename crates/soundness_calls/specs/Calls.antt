@@ -1,5 +1,5 @@
 -- All calls of a model: functions and directions of mappings, whatever number of calls may be inside one another.
-use Rattle.std.specs.Prelude.{◌≡◌, ◌<◌, ℕ, true, false, List, length, slice_get, Some}
+use Rattle.std.specs.Prelude.{◌≡◌, ℕ, true, false, List, slice_get, Some}
 use Rattle.sail_base.specs.declared.place.Place.{Place}
 use Rattle.sail_types.specs.declared.values.Value.{Value}
 use Rattle.sail_core.specs.declared.model.Direction.{Direction}
@@ -33,7 +33,6 @@ pub record CoveredModel (set : Setting) (k : Checks) (rank : ℕ → ℕ) (lets 
   pub functions : (x : Work) (f : Function) → set.covered x ≡ true → AllFit set.around.types x.types x.own
       → slice_get set.around.functions x.function ≡ Some f → Covered set k x f × PartsHold set k x f
   pub directions : (d : ℕ) (m : Direction) → slice_get set.around.directions d ≡ Some m → CoveredDirection set rank k d m
-  pub ranks : (d : ℕ) (m : Direction) → slice_get set.around.directions d ≡ Some m → rank d < length set.around.directions
 
 -- so calls end well however deep
 abbrev pub CallsAreSound : Type 0

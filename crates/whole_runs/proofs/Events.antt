@@ -1,5 +1,5 @@
 -- Obligations give the goals, what instances are read for all other notes; calls and events follow.
-use Rattle.std.proofs.Common.{◌≡◌, ◌<◌, refl, sym, subst, ap, ℕ, zero, suc, Bool, true, List, [], ◌∷◌, ◌++◌, length, None, Some, slice_get}
+use Rattle.std.proofs.Common.{◌≡◌, refl, sym, subst, ap, ℕ, zero, suc, Bool, true, List, [], ◌∷◌, ◌++◌, None, Some, slice_get}
 use Rattle.sail_types.specs.Belongs.{Reading as Closed}
 use Rattle.sail_types.specs.Numbers.{Positive}
 use Rattle.sail_types.specs.declared.table.Types.{Types}
@@ -162,10 +162,6 @@ module _ (m : CoreModel) (walks : WalksAreMet m (around_of m)) (past : Positive)
         patterns = s.patterns;
       }
 
-  direction_ranked : (d : ℕ) (n : Direction) → slice_get set.around.directions d ≡ Some n → rank d < length set.around.directions
-  direction_ranked d n at =
-      subst (λ (ds : List Direction). rank d < length ds) (sym (directions_kept m [] m.openings)) (covers.ranks d n (direction_there d n at))
-
   -- ---- top-level lets
 
   -- in a setting of these types
@@ -202,7 +198,6 @@ module _ (m : CoreModel) (walks : WalksAreMet m (around_of m)) (past : Positive)
     lets_are = lets_stand;
     functions = function_stands;
     directions = direction_stands;
-    ranks = direction_ranked;
   })
 
   of_model : IsOfModel set m

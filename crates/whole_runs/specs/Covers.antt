@@ -1,6 +1,6 @@
 -- What is asked of the instances of a model: that they cover what is made, called and given in the bodies that are read for them. It is said of the notes
 -- of bodies, all but the goals, which obligations give.
-use Rattle.std.specs.Prelude.{◌≡◌, ◌<◌, ℕ, zero, suc, Bool, true, false, List, [], ◌∷◌, length, slice_get, Option, Some, None}
+use Rattle.std.specs.Prelude.{◌≡◌, ℕ, zero, suc, Bool, true, false, List, [], ◌∷◌, slice_get, Option, Some, None}
 use Rattle.sail_types.specs.Numbers.{Positive}
 use Rattle.sail_types.specs.declared.values.Value.{Value}
 use Rattle.model_state.specs.declared.state.Register.{Register}
@@ -78,7 +78,6 @@ pub record Covers (set : Setting) (m : CoreModel) (k : Checks) (rank : ℕ → �
       → CoversFunction set k x f
   pub directions : (d : ℕ) (n : Direction) (side : Side) → slice_get m.directions d ≡ Some n → side_at m.directions d ≡ Some side
       → CoversDirection set rank k d n side
-  pub ranks : (d : ℕ) (n : Direction) → slice_get m.directions d ≡ Some n → rank d < length m.directions
   pub openings : CoversOpenings m set.past set.covered k
   -- the functions that a hart enters, each as the first of its instances
   pub step : set.covered (entered_by m.step) ≡ true
