@@ -123,12 +123,6 @@ mappings_tested m list rank i (b ∷ bs) =
     (body_tested m list (reached_from rank (2 * i)) b && body_tested m list (reached_from rank (suc (2 * i))) b)
     && mappings_tested m list rank (suc i) bs
 
--- directions stand one behind the other, two of a mapping
-abbrev pub are_paired : List Direction → Bool
-are_paired [] = true
-are_paired (m ∷ []) = false
-are_paired (m ∷ n ∷ ms) = are_paired ms
-
 -- ---- top-level lets and initial values
 
 abbrev pub none_reached : ℕ → Bool
@@ -139,7 +133,7 @@ none_reached d = false
 abbrev pub list_tested : Model → List Instance → (ℕ → ℕ) → Bool
 list_tested m list rank =
     list_all (instance_tested m list) list
-    && ((are_paired m.core.directions && list_all (direction_tested m.core.types) m.core.directions)
+    && (list_all (direction_tested m.core.types) m.core.directions
     && (mappings_tested m list rank 0 m.bodies.mappings && list_all (body_tested m list none_reached) m.bodies.openings))
 
 abbrev pub model_tested : CoreModel → (ℕ → ℕ) → List Instance → Bool
@@ -148,12 +142,8 @@ model_tested core rank list = list_tested (model_of core (bodies_of core)) list 
 abbrev pub instance_of : SizedInstance → Instance
 instance_of s = s.instance
 
--- the functions that a hart enters are instances without numbers
-abbrev pub events_tested : CoreModel → SizedCore → Bool
-events_tested core c = covered_by c (entered_by core.step) && covered_by c (entered_by core.reset)
-
 abbrev pub core_tested : CoreModel → (ℕ → ℕ) → SizedCore → Bool
-core_tested core rank c = events_tested core c && model_tested core rank (map instance_of c.instances)
+core_tested core rank c = model_tested core rank (map instance_of c.instances)
 
 -- ---- what it gives
 
@@ -183,10 +173,8 @@ side_at (m ∷ n ∷ ms) (suc zero) = Some (is_back m)
 side_at (m ∷ n ∷ ms) (suc (suc d)) = side_at ms d
 side_at ms d = None
 
--- a direction of a mapping
-pub record DirectionIsRead (set : Setting) (m : CoreModel) (rank : ℕ → ℕ) (k : Checks) (d : ℕ) (n : Direction) : Type 0 where
-  pub side : Side
-  pub is_its : side_at m.directions d ≡ Some side
+-- a direction of a mapping, beside the other one
+pub record DirectionIsRead (set : Setting) (m : CoreModel) (rank : ℕ → ℕ) (k : Checks) (d : ℕ) (n : Direction) (side : Side) : Type 0 where
   pub mapping : ℕ
   pub is_there : slice_get (pairs m.directions) mapping ≡ Some (pair_of side n)
   pub read : AreRead set nobody (reached_from rank d) (k.direction d)
@@ -198,8 +186,8 @@ pub record ModelIsRead (m : CoreModel) (past : Positive) (hart : ℕ) (rank : �
   -- where values of its Type variables have the sizes of its instance
   pub functions : (x : Work) (f : Function) → covered_by c x ≡ true → AllFit (setting_of m past hart c).around.types x.types x.own
       → slice_get m.functions x.function ≡ Some f → FunctionIsRead (setting_of m past hart c) m (checks_of m c) x f
-  pub directions : (d : ℕ) (n : Direction) → slice_get m.directions d ≡ Some n
-      → DirectionIsRead (setting_of m past hart c) m rank (checks_of m c) d n
+  pub directions : (d : ℕ) (n : Direction) (side : Side) → slice_get m.directions d ≡ Some n → side_at m.directions d ≡ Some side
+      → DirectionIsRead (setting_of m past hart c) m rank (checks_of m c) d n side
   pub openings : (i : ℕ) (o : Opening) → slice_get m.openings i ≡ Some o
       → AreRead (setting_of m past hart c) nobody none_reached ((checks_of m c).opening i) (opening_read (around_of m) o [] 0).notes
   -- the functions that a hart enters
