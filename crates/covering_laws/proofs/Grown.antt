@@ -81,16 +81,19 @@ fine_keeps found all h = nothing_more found all (as_found found all h)
 
 -- ---- one more
 
+room_keeps : (place : Place) (x : Found) → Keeps (unless_full place x)
+room_keeps place x found all h = by (nat_lt (length (instances_in found)) most_instances) h
+  where
+    by : (b : Bool) → (if b then Ok (found ++ x ∷ []) else Err (InstanceLimit place (suc most_instances))) ≡ Ok all → Extends found all
+    by true g = (x ∷ [], sym (as_found (found ++ x ∷ []) all g))
+    by false g = absurd (cc)
+
 add_keeps : (place : Place) (x : Instance) → Keeps (add place x)
 add_keeps place x found all h = by (list_any (found_eq (F.Function x)) found) h
   where
-    room : (b : Bool) → (if b then Ok (found ++ F.Function x ∷ []) else Err (InstanceLimit place (suc most_instances))) ≡ Ok all → Extends found all
-    room true g = (F.Function x ∷ [], sym (as_found (found ++ F.Function x ∷ []) all g))
-    room false g = absurd (cc)
-
     by : (b : Bool) → (if b then Ok found else unless_full place (F.Function x) found) ≡ Ok all → Extends found all
     by true g = nothing_more found all (as_found found all g)
-    by false g = room (nat_lt (length (instances_in found)) most_instances) g
+    by false g = room_keeps place (F.Function x) found all g
 
 mapping_keeps : (i : ℕ) → Keeps (λ found. Ok (add_mapping i found))
 mapping_keeps i found all h = by (list_any (found_eq (F.Mapping i)) found) (as_found (add_mapping i found) all h)
@@ -152,11 +155,11 @@ module _ (m : Model) where
 
   grow_keeps : (times i : ℕ) → Keeps (grow times m i)
   grow_keeps zero i found all h = fine_keeps found all h
-  grow_keeps (suc times) i found all h = by (slice_get found i) h
+  grow_keeps (suc times) i found all h = by (slice_get found i) (grow_keeps times (suc i)) h
     where
-      by : (o : Option Found) → grow_from m found o (grow times m (suc i)) ≡ Ok all → Extends found all
-      by None g = fine_keeps found all g
-      by (Some x) g = then_keeps (read_found m x) (grow times m (suc i)) (found_keeps x) (grow_keeps times (suc i)) found all g
+      by : (o : Option Found) → Keeps (grow times m (suc i)) → grow_from m found o (grow times m (suc i)) ≡ Ok all → Extends found all
+      by None k g = fine_keeps found all g
+      by (Some x) k g = then_keeps (read_found m x) (grow times m (suc i)) (found_keeps x) k found all g
 
   register_keeps : (r : Register) (text : RegisterText) (bs : List Body) → Keeps (read_register m r text bs)
   register_keeps r text bs found all h =
@@ -191,16 +194,16 @@ module _ (m : Model) where
   abbrev pub starts : List Instance → Type 0
   starts list = (more : List Instance) × (list ≡ plain m.core.reset ∷ plain m.core.step ∷ more)
 
+  all_start : (list : List Instance) (all : List Found) → Extends (entry m.core.reset ∷ entry m.core.step ∷ []) all → listed (Ok all) ≡ Ok list → starts list
+  all_start list all more e =
+      let is : instances_in all ≡ list = cc e in
+      (instances_in more.0, sym is ∙ ap instances_in more.1)
+
   pub list_starts : (list : List Instance) → instances_of m ≡ Ok list → starts list
   list_starts list h = by (found_from m (entry m.core.reset ∷ entry m.core.step ∷ [])) refl h
     where
-      of_all : (all : List Found) → Extends (entry m.core.reset ∷ entry m.core.step ∷ []) all → listed (Ok all) ≡ Ok list → starts list
-      of_all all more e =
-          let is : instances_in all ≡ list = cc e in
-          (instances_in more.0, sym is ∙ ap instances_in more.1)
-
       by : (a : Answer) → found_from m (entry m.core.reset ∷ entry m.core.step ∷ []) ≡ a → listed a ≡ Ok list → starts list
-      by (Ok all) e g = of_all all (found_from_keeps (entry m.core.reset ∷ entry m.core.step ∷ []) all e) g
+      by (Ok all) e g = all_start list all (found_from_keeps (entry m.core.reset ∷ entry m.core.step ∷ []) all e) g
       by (Err why) e g = absurd (cc)
 
   -- ---- so they are covered

@@ -236,11 +236,11 @@ module _ (types : Types) where
 
   seen_read : (a : Applied) (seen : List Applied) → was_seen a seen ≡ true → AreRead seen → IsRead a
   seen_read a [] h r = no h
-  seen_read a (b ∷ seen) h r = by (is_applied a b) refl h
+  seen_read a (b ∷ seen) h r = by (is_applied a b) refl h (λ g. seen_read a seen g r.1)
     where
-      by : (q : Bool) → is_applied a b ≡ q → (q || was_seen a seen) ≡ true → IsRead a
-      by true e g = subst (λ (c : Applied). IsRead c) (sym (applied_same a b e)) (record { before = seen; fields = r.0; are_read = r.1 })
-      by false e g = seen_read a seen g r.1
+      by : (q : Bool) → is_applied a b ≡ q → (q || was_seen a seen) ≡ true → (was_seen a seen ≡ true → IsRead a) → IsRead a
+      by true e g more = subst (λ (c : Applied). IsRead c) (sym (applied_same a b e)) (record { before = seen; fields = r.0; are_read = r.1 })
+      by false e g more = more g
 
   -- one that is met is read, or read before
   pub met_read : (depth : ℕ) (a : Applied) (seen : List Applied) → AreRead seen → fields_pass types (typ_passes types depth) a seen ≡ true → IsRead a
@@ -521,7 +521,8 @@ module _ (types : Types) where
 
   pub few_fit : (d depth : ℕ) → TypFits d (typ_passes types depth)
   few_fit zero depth t seen n cs ss nu rs read p stands few v le h = absurd (none_left v le)
-  few_fit (suc d) depth = one_more d (few_fit d) depth
+  few_fit (suc d) depth t seen n cs ss nu rs read p stands few v le h =
+      one_more d (few_fit d) depth t seen n cs ss nu rs read p stands few v le h
 
   -- whatever the value
   pub typ_fits : (depth : ℕ) (t : Typ) (seen : List Applied) (n : ℕ) (cs : List Constant) (ss : List Sized) (nu : Assignment) (rs : Closeds)
