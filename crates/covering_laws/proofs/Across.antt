@@ -23,7 +23,8 @@ use Rattle.value_laws.specs.Belonging.{Integers, standing}
 use Rattle.value_laws.proofs.Numbers.{beyond_past, truth_is}
 use Rattle.value_laws.proofs.Values.{closed_is}
 use Rattle.size_values.specs.Numbers.{known_at, nothing_known}
-use Rattle.size_values.specs.Sized.{reading_sized, sized_eq}
+use Rattle.size_values.specs.Sized.{reading_sized}
+use Rattle.size_laws.proofs.Forms.{of_is}
 use Rattle.size_laws.proofs.Opening.{opening_keeps_sizes}
 use Rattle.size_splits.specs.Bodies.{Body}
 use Rattle.size_notes.specs.Bodies.{bodies_of, body_of, mapping_bodies, mapping_read, opening_body, opening_read}
@@ -44,12 +45,10 @@ use Rattle.soundness_steps.specs.States.{nothing_stands}
 use Rattle.soundness_calls.specs.Events.{entered_by}
 use Rattle.soundness_calls.specs.Directions.{Side, bare_type, is_ahead, is_back}
 use Rattle.exact_sizes.specs.Exact.{reading_passes, reading_settles}
-use Rattle.exact_sizes.specs.Laws.{More, Stands}
-use Rattle.exact_sizes.proofs.Equal.{sized_same}
+use Rattle.exact_sizes.specs.Laws.{Stands}
 use Rattle.exact_sizes.proofs.Had.{values_fit}
 use Rattle.exact_sizes.proofs.Known.{none}
 use Rattle.exact_sizes.proofs.Settling.{types_settle}
-use Rattle.exact_sizes.proofs.Standing.{sizes_stand}
 use Rattle.covering_laws.specs.Covered.{AreRead, DirectionIsRead, ModelIsRead, ModelsAreRead, bare_tested, body_tested, covered_by, direction_tested}
 use Rattle.covering_laws.specs.Covered.{instance_tested, mappings_tested, model_tested, none_reached, pair_of, reached_from}
 use Rattle.covering_laws.specs.Covered.{setting_of, side_at}
@@ -69,26 +68,15 @@ nothing_assigned past g = λ j. record {
 }
 
 module _ (types : Types) (past : Positive) (t : Typ) (tested : bare_tested types t ≡ true) where
-  abbrev parts : (sized_eq (fixed_typ types t) (reading_sized types [] (known_at nothing_known) (bare_type t)) ≡ true)
-      × ((reading_passes types 0 (known_at nothing_known) (bare_type t) && reading_settles types 0 (known_at nothing_known) (bare_type t)) ≡ true)
-  parts =
-      and_parts (sized_eq (fixed_typ types t) (reading_sized types [] (known_at nothing_known) (bare_type t)))
-      (reading_passes types 0 (known_at nothing_known) (bare_type t) && reading_settles types 0 (known_at nothing_known) (bare_type t)) tested
-
   abbrev sizes : (reading_passes types 0 (known_at nothing_known) (bare_type t) ≡ true)
       × (reading_settles types 0 (known_at nothing_known) (bare_type t) ≡ true)
-  sizes = and_parts (reading_passes types 0 (known_at nothing_known) (bare_type t)) (reading_settles types 0 (known_at nothing_known) (bare_type t)) parts.1
-
-  nothing_more : (g : Integers) → More (known_at nothing_known) (known g)
-  nothing_more g i z h = none h
+  sizes = and_parts (reading_passes types 0 (known_at nothing_known) (bare_type t)) (reading_settles types 0 (known_at nothing_known) (bare_type t)) tested
 
   nothing_stands_for : (g : Integers) → Stands (known_at nothing_known) g
   nothing_stands_for g i z h = none h
 
   bare_is : (g : Integers) → fixed_typ types t ≡ reading_sized types [] (known g) (bare_type t)
-  bare_is g =
-      sized_same (fixed_typ types t) (reading_sized types [] (known_at nothing_known) (bare_type t)) parts.0
-      ∙ (sizes_stand types [] 0 (known_at nothing_known) (known g) (nothing_more g)).1 (bare_type t) sizes.0
+  bare_is g = sym (of_is types [] (known g) t [] [])
 
   pub bare_fits : (v : Value) → belongs types v (reading t (nothing_stands past) no_readings) ≡ true → has_sizes types v (fixed_typ types t) ≡ true
   bare_fits v b =

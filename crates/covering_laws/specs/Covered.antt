@@ -19,7 +19,7 @@ use Rattle.constraint_gen.specs.Models.{around_of}
 use Rattle.size_values.specs.declared.constants.Constant.{Constant}
 use Rattle.size_values.specs.declared.sized.Sized.{Sized}
 use Rattle.size_values.specs.Numbers.{known_at, known_of, nothing_known}
-use Rattle.size_values.specs.Sized.{all_eq, reading_sized, sized_eq}
+use Rattle.size_values.specs.Sized.{all_eq}
 use Rattle.size_splits.specs.Bodies.{Body}
 use Rattle.size_notes.specs.Bodies.{bodies_of, function_read, mapping_read, measure_read, opening_read}
 use Rattle.monomorph.specs.declared.found.Instance.{Instance}
@@ -27,11 +27,10 @@ use Rattle.monomorph.specs.Instances.{model_of, or_none}
 use Rattle.monomorph.specs.Lasts.{Model}
 use Rattle.checked_meaning.specs.Checked.{Cases, Checks}
 use Rattle.checked_meaning.specs.Fits.{AllFit}
-use Rattle.checked_meaning.specs.Items.{fixed_typ}
 use Rattle.value_laws.specs.Belonging.{Integers}
 use Rattle.sized_trees.specs.declared.trees.SizedInstance.{SizedInstance}
 use Rattle.sized_trees.specs.declared.trees.SizedCore.{SizedCore}
-use Rattle.sized_trees.specs.Trees.{constants_of, signature_within, sized_core, sized_for}
+use Rattle.sized_trees.specs.Trees.{constants_of, signature_within, sized_core}
 use Rattle.sized_meanings.specs.Sized.{checks_of, numbers_of}
 use Rattle.exact_sizes.specs.Exact.{reading_passes, reading_settles}
 use Rattle.note_laws.specs.Notes.{EachNote, OfOthers}
@@ -80,15 +79,14 @@ at_work instances x = at_place x (slice_get instances x.instance.place) instance
 abbrev pub covered_by : SizedCore → Work → Bool
 covered_by c x = is_some (at_work c.instances x)
 
--- ---- what is tested of instances: their bodies, and that parameters have the sizes of their types
+-- ---- what is tested of instances: their bodies, and the sizes of parameters
 
 abbrev pub known_in : List (Option ℤ) → ℕ → Constant
 known_in zs = known_at (known_of zs)
 
 abbrev pub parameter_tested : Types → List (Option ℤ) → List Sized → Function → Typ → Bool
 parameter_tested types zs own f t =
-    sized_eq (sized_for types own (constants_of zs) t) (reading_sized types own (known_in zs) (own_type f t))
-    && (reading_passes types (length own) (known_in zs) (own_type f t) && reading_settles types (length own) (known_in zs) (own_type f t))
+    reading_passes types (length own) (known_in zs) (own_type f t) && reading_settles types (length own) (known_in zs) (own_type f t)
 
 abbrev pub function_tested : Types → Instance → Option Function → Bool
 function_tested types y None = true
@@ -103,9 +101,7 @@ instance_tested m list y =
 -- ---- mappings, whose patterns reach directions of a lower rank; what they take has the sizes of its type
 
 abbrev pub bare_tested : Types → Typ → Bool
-bare_tested types t =
-    sized_eq (fixed_typ types t) (reading_sized types [] (known_at nothing_known) (bare_type t))
-    && (reading_passes types 0 (known_at nothing_known) (bare_type t) && reading_settles types 0 (known_at nothing_known) (bare_type t))
+bare_tested types t = reading_passes types 0 (known_at nothing_known) (bare_type t) && reading_settles types 0 (known_at nothing_known) (bare_type t)
 
 abbrev pub direction_tested : Types → Direction → Bool
 direction_tested types d = bare_tested types d.parameter

@@ -81,7 +81,7 @@ open_grows (Some x ∷ zs) zero z h = h
 open_grows (x ∷ zs) (suc i) z h = open_grows zs i z h
 
 -- those that are exact
-exact_open : (o : Option ℤ) (z : ℤ) → number_in (open_of o) ≡ Some z → o ≡ Some z
+pub exact_open : (o : Option ℤ) (z : ℤ) → number_in (open_of o) ≡ Some z → o ≡ Some z
 exact_open None z h = none h
 exact_open (Some x) z h = h
 

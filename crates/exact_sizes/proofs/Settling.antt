@@ -93,7 +93,8 @@ module _ (types : Types) (own : List Sized) (own_count : ℕ) (f : ℕ → ℤ) 
     alike : (depth : ℕ) (cs ds : List Constant) (js : List Index) → Grows cs ds → Grows cs (constants types own to js) → (t : Typ)
         → typ_passes types depth t [] n cs ≡ true → IsAlike types own to rs js ds t
     alike depth cs ds js g k t h =
-        sym (typ_same types (stood types own to rs) depth t [] n cs ds g h) ∙ typ_same types (stood types own to rs) depth t [] n cs (constants types own to js) k h
+        sym (typ_same types (stood types own to rs) depth t [] n cs ds g h)
+        ∙ typ_same types (stood types own to rs) depth t [] n cs (constants types own to js) k h
 
     all_alike : (depth : ℕ) (cs ds : List Constant) (js : List Index) → Grows cs ds → Grows cs (constants types own to js) → (ts : List Typ)
         → all_pass (typ_passes types depth) ts [] n cs ≡ true → AreAlike types own to rs js ds ts

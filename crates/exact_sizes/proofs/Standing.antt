@@ -11,16 +11,17 @@ use Rattle.value_indices.specs.declared.indices.Indices.TheFolds.{fold-roll-Indi
 use Rattle.value_indices.specs.declared.indices.Indices.TheOpen as W
 use Rattle.value_indices.specs.declared.indices.Indices.TheOpen.{Indices-F, Reading-F}
 use Rattle.value_indices.specs.declared.indices.Reading.{Reading, roll-Reading}
+use Rattle.value_indices.specs.declared.indices.Reading.TheVariants as R
 use Rattle.size_values.specs.declared.constants.Constant.{Constant}
 use Rattle.size_values.specs.declared.sized.Sized.{Sized}
 use Rattle.size_values.specs.declared.sized.Sized.TheVariants as S
 use Rattle.size_values.specs.Numbers.{constant_under, index_under}
 use Rattle.size_values.specs.Sized.{form_reading_sized, indices_sized, integer_of, named_numbers, reading_sized, typ_sized, types_or_own, value_sized}
-use Rattle.size_laws.proofs.Forms.{in_indices, in_reading, reading_is, value_is}
+use Rattle.size_laws.proofs.Forms.{in_indices, in_reading, of_is, reading_is, value_is}
 use Rattle.exact_sizes.specs.Exact.{all_of, are_exact, exact_constants, fields_pass, indices_pass, is_exact, applied_at, named_passes, or_own}
 use Rattle.exact_sizes.specs.Exact.{reading_passes, readings_pass, typ_passes, value_passes}
 use Rattle.exact_sizes.specs.Laws.{More, SizesStand}
-use Rattle.exact_sizes.proofs.Alike.{exact_grows, named_same, number_same, typ_same}
+use Rattle.exact_sizes.proofs.Alike.{Grows, exact_grows, named_same, number_same, typ_same}
 
 -- ---- the tests, by forms
 
@@ -154,6 +155,16 @@ module _ (types : Types) (own : List Sized) (own_count : ℕ) (of to : ℕ → C
   reading_stands : (r : Reading) → SameR r
   reading_stands = ind-Reading SameI SameR (λ e y is. subst (λ d. SameI (roll-Indices d)) is (rolled_same y))
       (λ e y is. subst (λ d. SameR (roll-Reading d)) is (rolled_reading_same y))
+
+-- a type under no fewer constants than those that are certain
+pub typ_stands : (types : Types) (own : List Sized) (m : ℕ) (of to : ℕ → Constant) → More of to → (t : Typ) (is : List Index) (cs : List Constant)
+    → Grows (exact_constants of is) cs → reading_passes types m of (R.Of t is []) ≡ true → typ_sized types own t cs ≡ reading_sized types own to (R.Of t is [])
+typ_stands types own m of to more t is cs g h =
+    let p : typ_passes types deepest t [] m (exact_constants of is) ≡ true =
+    sym (reading_tested types m of (W.Of t is [])) ∙ ap (reading_passes types m of) (R.rolls-Of t is []) ∙ h in
+    sym (typ_same types own deepest t [] m (exact_constants of is) cs g p)
+    ∙ typ_same types own deepest t [] m (exact_constants of is) (map (index_under to) is) (exact_grows of to more is) p
+    ∙ sym (of_is types own to t is [])
 
 pub sizes_stand : SizesStand
 sizes_stand types own m of to more = (value_stands types own m of to more, reading_stands types own m of to more)
