@@ -34,13 +34,13 @@ use Rattle.monomorph.specs.declared.found.Instance.{Instance}
 use Rattle.monomorph.specs.Found.{Answer, add, add_mapping, and_then, found_eq, instances_in, most_instances, outcome, over, unless, unless_full}
 use Rattle.monomorph.specs.Instances.{entry, found_from, grow, grow_from, instances_of, listed, one_or_none, or_none, read_found, times_enough}
 use Rattle.monomorph.specs.Lasts.{Model, count_before, last_from, read_bodies, read_lasts, read_register, register_refused}
-use Rattle.monomorph.specs.Reading.{Inside, called, instance_of, numbers_refused, read_body, read_call, read_made, read_note, read_notes, read_sizes, read_way}
+use Rattle.monomorph.specs.Reading.{Inside, called, instance_of, numbers_refused, read_body, read_call, read_note, read_notes, read_sizes, read_way}
 use Rattle.monomorph.specs.Reading.{reading_of, types_refused, under, under_each}
 use Rattle.monomorph.specs.Refusals.{sizes_refused}
 use Rattle.sized_trees.specs.declared.trees.SizedInstance.{SizedInstance}
 use Rattle.sized_trees.specs.Trees.{sized_instance, sized_instances, sized_list}
 use Rattle.soundness_calls.specs.Events.{entered_by}
-use Rattle.covering_laws.specs.Covered.{at_first, covered_by, first_of, if_at, is_at, same_numbers}
+use Rattle.covering_laws.specs.Covered.{at_first, covered_by, first_of, if_at, same_numbers}
 
 -- ---- what is found by then, with more behind it
 

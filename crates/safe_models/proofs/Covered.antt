@@ -1,5 +1,5 @@
 -- A list that is tested covers what is read of its core: functions, directions, and openings, whose notes are met wherever types are the same.
-use Rattle.std.proofs.Common.{◌≡◌, ◌∙◌, refl, subst, ℕ, zero, suc, false, List, [], ◌∷◌, Some}
+use Rattle.std.proofs.Common.{◌≡◌, ◌∙◌, refl, subst, ℕ, zero, suc, false, List, [], ◌∷◌}
 use Rattle.sail_types.specs.Numbers.{Positive}
 use Rattle.sail_types.specs.declared.table.Types.{Types}
 use Rattle.scattered.specs.Gathered.{gathered}
