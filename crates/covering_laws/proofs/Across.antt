@@ -20,11 +20,11 @@ use Rattle.value_indices.specs.declared.indices.Reading.TheVariants as R
 use Rattle.pattern_leaves.specs.Settings.{Around}
 use Rattle.constraint_gen.specs.Models.{around_of}
 use Rattle.value_laws.specs.Belonging.{Integers, standing}
-use Rattle.value_laws.proofs.Basics.{no}
 use Rattle.value_laws.proofs.Numbers.{beyond_past, truth_is}
 use Rattle.value_laws.proofs.Values.{closed_is}
 use Rattle.size_values.specs.Numbers.{known_at, nothing_known}
-use Rattle.size_values.specs.Sized.{reading_sized, sized_eq}
+use Rattle.size_values.specs.Sized.{reading_sized}
+use Rattle.size_laws.proofs.Forms.{of_is}
 use Rattle.size_laws.proofs.Opening.{opening_keeps_sizes}
 use Rattle.size_splits.specs.Bodies.{Body}
 use Rattle.size_notes.specs.Bodies.{bodies_of, body_of, mapping_bodies, mapping_read, opening_body, opening_read}
@@ -45,15 +45,14 @@ use Rattle.soundness_steps.specs.States.{nothing_stands}
 use Rattle.soundness_calls.specs.Events.{entered_by}
 use Rattle.soundness_calls.specs.Directions.{Side, bare_type, is_ahead, is_back}
 use Rattle.exact_sizes.specs.Exact.{reading_passes, reading_settles}
-use Rattle.exact_sizes.specs.Laws.{More, Stands}
-use Rattle.exact_sizes.proofs.Equal.{sized_same}
+use Rattle.exact_sizes.specs.Laws.{Stands}
 use Rattle.exact_sizes.proofs.Had.{values_fit}
 use Rattle.exact_sizes.proofs.Known.{none}
 use Rattle.exact_sizes.proofs.Settling.{types_settle}
-use Rattle.exact_sizes.proofs.Standing.{sizes_stand}
-use Rattle.covering_laws.specs.Covered.{AreRead, DirectionIsRead, ModelIsRead, ModelsAreRead, are_paired, bare_tested, body_tested, covered_by, direction_tested}
-use Rattle.covering_laws.specs.Covered.{events_tested, instance_of, instance_tested, mappings_tested, model_tested, none_reached, pair_of, reached_from}
+use Rattle.covering_laws.specs.Covered.{AreRead, DirectionIsRead, ModelIsRead, ModelsAreRead, bare_tested, body_tested, covered_by, direction_tested}
+use Rattle.covering_laws.specs.Covered.{instance_tested, mappings_tested, model_tested, none_reached, pair_of, reached_from}
 use Rattle.covering_laws.specs.Covered.{setting_of, side_at}
+use Rattle.covering_laws.proofs.Grown.{first_covered, list_starts, second_covered}
 use Rattle.covering_laws.proofs.Joined.{accepted}
 use Rattle.covering_laws.proofs.Places.{all_in}
 use Rattle.covering_laws.proofs.Read.{alone_read, function_is_read, only_so, same_types}
@@ -69,26 +68,15 @@ nothing_assigned past g = λ j. record {
 }
 
 module _ (types : Types) (past : Positive) (t : Typ) (tested : bare_tested types t ≡ true) where
-  abbrev parts : (sized_eq (fixed_typ types t) (reading_sized types [] (known_at nothing_known) (bare_type t)) ≡ true)
-      × ((reading_passes types 0 (known_at nothing_known) (bare_type t) && reading_settles types 0 (known_at nothing_known) (bare_type t)) ≡ true)
-  parts =
-      and_parts (sized_eq (fixed_typ types t) (reading_sized types [] (known_at nothing_known) (bare_type t)))
-      (reading_passes types 0 (known_at nothing_known) (bare_type t) && reading_settles types 0 (known_at nothing_known) (bare_type t)) tested
-
   abbrev sizes : (reading_passes types 0 (known_at nothing_known) (bare_type t) ≡ true)
       × (reading_settles types 0 (known_at nothing_known) (bare_type t) ≡ true)
-  sizes = and_parts (reading_passes types 0 (known_at nothing_known) (bare_type t)) (reading_settles types 0 (known_at nothing_known) (bare_type t)) parts.1
-
-  nothing_more : (g : Integers) → More (known_at nothing_known) (known g)
-  nothing_more g i z h = none h
+  sizes = and_parts (reading_passes types 0 (known_at nothing_known) (bare_type t)) (reading_settles types 0 (known_at nothing_known) (bare_type t)) tested
 
   nothing_stands_for : (g : Integers) → Stands (known_at nothing_known) g
   nothing_stands_for g i z h = none h
 
   bare_is : (g : Integers) → fixed_typ types t ≡ reading_sized types [] (known g) (bare_type t)
-  bare_is g =
-      sized_same (fixed_typ types t) (reading_sized types [] (known_at nothing_known) (bare_type t)) parts.0
-      ∙ (sizes_stand types [] 0 (known_at nothing_known) (known g) (nothing_more g)).1 (bare_type t) sizes.0
+  bare_is g = sym (of_is types [] (known g) t [] [])
 
   pub bare_fits : (v : Value) → belongs types v (reading t (nothing_stands past) no_readings) ≡ true → has_sizes types v (fixed_typ types t) ≡ true
   bare_fits v b =
@@ -107,9 +95,7 @@ module _ (types : Types) (past : Positive) (t : Typ) (tested : bare_tested types
 
 -- ---- directions, two of a mapping
 
-pub record Placed (around : Around) (ms : List Direction) (d : ℕ) (n : Direction) : Type 0 where
-  pub side : Side
-  pub is_its : side_at ms d ≡ Some side
+pub record Placed (around : Around) (ms : List Direction) (d : ℕ) (n : Direction) (side : Side) : Type 0 where
   pub mapping : ℕ
   pub is_there : slice_get (pairs ms) mapping ≡ Some (pair_of side n)
   pub body_there : slice_get (mapping_bodies around ms) mapping
@@ -122,10 +108,8 @@ further d k (inl e) = inl (omega arith)
 further d k (inr e) = inr (omega arith)
 
 module _ (around : Around) where
-  first_placed : (m n : Direction) (ms : List Direction) → Placed around (m ∷ n ∷ ms) 0 m
+  first_placed : (m n : Direction) (ms : List Direction) → Placed around (m ∷ n ∷ ms) 0 m (is_ahead n)
   first_placed m n ms = record {
-    side = is_ahead n;
-    is_its = refl;
     mapping = 0;
     is_there = refl;
     body_there = refl;
@@ -133,10 +117,8 @@ module _ (around : Around) where
     double = inl (omega arith);
   }
 
-  second_placed : (m n : Direction) (ms : List Direction) → Placed around (m ∷ n ∷ ms) 1 n
+  second_placed : (m n : Direction) (ms : List Direction) → Placed around (m ∷ n ∷ ms) 1 n (is_back m)
   second_placed m n ms = record {
-    side = is_back m;
-    is_its = refl;
     mapping = 0;
     is_there = refl;
     body_there = refl;
@@ -144,21 +126,24 @@ module _ (around : Around) where
     double = inr (omega arith);
   }
 
-  pub direction_placed : (ms : List Direction) → are_paired ms ≡ true → (d : ℕ) (n : Direction) → slice_get ms d ≡ Some n → Placed around ms d n
-  direction_placed [] p d n e = none e
-  direction_placed (m ∷ []) p d n e = no p
-  direction_placed (m ∷ q ∷ ms) p zero n e =
+  pub direction_placed : (ms : List Direction) (d : ℕ) (n : Direction) (side : Side) → slice_get ms d ≡ Some n → side_at ms d ≡ Some side
+      → Placed around ms d n side
+  direction_placed [] d n side e s = none s
+  direction_placed (m ∷ []) d n side e s = none s
+  direction_placed (m ∷ q ∷ ms) zero n side e s =
       let same : m ≡ n = cc e in
-      subst (λ (r : Direction). Placed around (m ∷ q ∷ ms) 0 r) same (first_placed m q ms)
-  direction_placed (m ∷ q ∷ ms) p (suc zero) n e =
+      let its : is_ahead q ≡ side = cc s in
+      subst (λ (r : Direction). Placed around (m ∷ q ∷ ms) 0 r side) same
+      (subst (λ (z : Side). Placed around (m ∷ q ∷ ms) 0 m z) its (first_placed m q ms))
+  direction_placed (m ∷ q ∷ ms) (suc zero) n side e s =
       let same : q ≡ n = cc e in
-      subst (λ (r : Direction). Placed around (m ∷ q ∷ ms) 1 r) same (second_placed m q ms)
-  direction_placed (m ∷ q ∷ ms) p (suc (suc d)) n e =
-      let more = direction_placed ms p d n e in
+      let its : is_back m ≡ side = cc s in
+      subst (λ (r : Direction). Placed around (m ∷ q ∷ ms) 1 r side) same
+      (subst (λ (z : Side). Placed around (m ∷ q ∷ ms) 1 q z) its (second_placed m q ms))
+  direction_placed (m ∷ q ∷ ms) (suc (suc d)) n side e s =
+      let more = direction_placed ms d n side e s in
       let before : d / 2 ≡ more.mapping = more.half in
       record {
-        side = more.side;
-        is_its = more.is_its;
         mapping = suc more.mapping;
         is_there = more.is_there;
         body_there = more.body_there;
@@ -208,7 +193,7 @@ module _ (core : CoreModel) (past : Positive) (hart : ℕ) (rank : ℕ → ℕ) 
   instances_pass = list_all (instance_tested model list) list
 
   abbrev takes_pass : Bool
-  takes_pass = are_paired core.directions && list_all (direction_tested core.types) core.directions
+  takes_pass = list_all (direction_tested core.types) core.directions
 
   abbrev others_pass : Bool
   others_pass = mappings_tested model list rank 0 model.bodies.mappings && list_all (body_tested model list none_reached) model.bodies.openings
@@ -218,9 +203,6 @@ module _ (core : CoreModel) (past : Positive) (hart : ℕ) (rank : ℕ → ℕ) 
 
   quarters : (takes_pass ≡ true) × (others_pass ≡ true)
   quarters = and_parts takes_pass others_pass halves.1
-
-  takes_parts : (are_paired core.directions ≡ true) × (list_all (direction_tested core.types) core.directions ≡ true)
-  takes_parts = and_parts (are_paired core.directions) (list_all (direction_tested core.types) core.directions) quarters.0
 
   bodies_parts : (mappings_tested model list rank 0 model.bodies.mappings ≡ true) × (list_all (body_tested model list none_reached) model.bodies.openings ≡ true)
   bodies_parts =
@@ -239,18 +221,17 @@ module _ (core : CoreModel) (past : Positive) (hart : ℕ) (rank : ℕ → ℕ) 
       (subst (λ (y : ℕ). body_tested model list (reached_from rank (suc (2 * y))) b ≡ true) here
       (mapping_tested model list rank 0 model.bodies.mappings bodies_parts.0 k b e).1)
 
-  direction_read : (d : ℕ) (n : Direction) → slice_get core.directions d ≡ Some n → DirectionIsRead set core rank (checks_of core c) d n
-  direction_read d n e =
-      let at = direction_placed around core.directions takes_parts.0 d n e in
-      let b : Body = body_of (mapping_read around (pair_of at.side n).forwards (pair_of at.side n).backwards) in
+  direction_read : (d : ℕ) (n : Direction) (side : Side) → slice_get core.directions d ≡ Some n → side_at core.directions d ≡ Some side
+      → DirectionIsRead set core rank (checks_of core c) d n side
+  direction_read d n side e is_its =
+      let at = direction_placed around core.directions d n side e is_its in
+      let b : Body = body_of (mapping_read around (pair_of side n).forwards (pair_of side n).backwards) in
       let nodes : or_none (slice_get c.mappings (d / 2)) ≡ sized_body model list [] [] b =
       ap (λ (i : ℕ). or_none (slice_get c.mappings i)) at.half
       ∙ ap or_none (slice_get-map (sized_body model list [] []) model.bodies.mappings at.mapping ∙ ap (option_map (sized_body model list [] [])) at.body_there) in
-      let bare = all_in (direction_tested core.types) core.directions n takes_parts.1 (there core.directions d n e) in
+      let bare = all_in (direction_tested core.types) core.directions n quarters.0 (there core.directions d n e) in
       let s = fixed_typ core.types n.parameter in
       record {
-        side = at.side;
-        is_its = at.is_its;
         mapping = at.mapping;
         is_there = at.is_there;
         read = subst (λ (l : List NodeSizes). AreRead set nobody (reached_from rank d) (cases_of core.types c.instances l) b.notes) (sym nodes)
@@ -278,20 +259,26 @@ module _ (core : CoreModel) (past : Positive) (hart : ℕ) (rank : ℕ → ℕ) 
       (alone_read core past hart list none_reached b
       (all_in (body_tested model list none_reached) model.bodies.openings b bodies_parts.1 (there model.bodies.openings i b body_there)))
 
-  pub model_is_read : events_tested core c ≡ true → ModelIsRead core past hart rank c
-  model_is_read events = record {
+  pub model_is_read : covered_by c (entered_by core.step) ≡ true → covered_by c (entered_by core.reset) ≡ true → ModelIsRead core past hart rank c
+  model_is_read step reset = record {
     functions = λ x f covered own e. function_is_read core past hart list halves.0 x f covered own e;
     directions = direction_read;
     openings = opening_is_read;
-    step = (and_parts (covered_by c (entered_by core.step)) (covered_by c (entered_by core.reset)) events).0;
-    reset = (and_parts (covered_by c (entered_by core.step)) (covered_by c (entered_by core.reset)) events).1;
+    step = step;
+    reset = reset;
   }
 
 pub models_are_read : ModelsAreRead
 models_are_read m past hart rank c accept h =
+    let model : Model = model_of m (bodies_of m) in
     let found = accepted m c accept in
-    let same : c ≡ sized_list (model_of m (bodies_of m)) found.0 = found.1 in
-    let p = and_parts (events_tested m c) (model_tested m rank (map instance_of c.instances)) h in
+    let same : c ≡ sized_list model found.0 = found.2 in
+    let starts = list_starts model found.0 found.1 in
+    let step : covered_by (sized_list model found.0) (entered_by m.step) ≡ true =
+    subst (λ (l : List Instance). covered_by (sized_list model l) (entered_by m.step) ≡ true) (sym starts.1)
+    (second_covered model starts.0 m.reset m.step) in
+    let reset : covered_by (sized_list model found.0) (entered_by m.reset) ≡ true =
+    subst (λ (l : List Instance). covered_by (sized_list model l) (entered_by m.reset) ≡ true) (sym starts.1)
+    (first_covered model starts.0 m.reset m.step) in
     subst (λ (d : SizedCore). ModelIsRead m past hart rank d) (sym same)
-    (model_is_read m past hart rank found.0 (subst (λ (l : List Instance). model_tested m rank l ≡ true) found.2 p.1)
-    (subst (λ (d : SizedCore). events_tested m d ≡ true) same p.0))
+    (model_is_read m past hart rank found.0 (subst (λ (l : List Instance). model_tested m rank l ≡ true) found.3 h) step reset)

@@ -1,5 +1,5 @@
 -- Arguments of a function at work come in at the types of its parameters.
-use Rattle.std.proofs.Common.{◌≡◌, ◌∙◌, ap, sym, refl, subst, ℕ, zero, suc, ◌+◌, ◌<◌, ℤ, true, ◌&&◌, List, [], ◌∷◌, map, length, arith}
+use Rattle.std.proofs.Common.{◌≡◌, ◌∙◌, ap, sym, refl, subst, ℕ, zero, suc, ◌+◌, ◌<◌, ◌≤◌, ℤ, pos, true, ◌⊎◌, inl, inr, List, [], ◌∷◌, map, length, arith}
 use Rattle.std.specs.Prelude.{Option, Some, None, option_map}
 use Rattle.std.specs.List.{list_all}
 use Rattle.std.proofs.lemmas.Bool.{and_parts}
@@ -9,6 +9,7 @@ use Rattle.sail_base.specs.declared.kind.Kind.TheVariants as K
 use Rattle.sail_types.specs.Belongs.{assigned, belongs}
 use Rattle.sail_types.specs.Numbers.{Positive}
 use Rattle.sail_types.specs.Places.{an_int}
+use Rattle.sail_types.specs.Sums.{variable}
 use Rattle.sail_types.specs.declared.table.Parameter.{Parameter}
 use Rattle.sail_types.specs.declared.table.Types.{Types}
 use Rattle.sail_types.specs.declared.types.Typ.{Typ}
@@ -20,22 +21,23 @@ use Rattle.value_indices.specs.declared.indices.Reading.TheVariants as R
 use Rattle.value_laws.specs.Belonging.{Integers, over, standing}
 use Rattle.value_laws.proofs.Basics.{no, two}
 use Rattle.value_laws.proofs.Values.{closed_is}
-use Rattle.size_values.specs.Numbers.{known_of, number_in, or_open}
-use Rattle.size_values.specs.Sized.{reading_sized, sized_eq}
+use Rattle.size_values.specs.declared.constants.Constant.{Constant}
+use Rattle.size_values.specs.Numbers.{argument_of, known_of, number_in, or_open, value_of}
+use Rattle.size_values.specs.Sized.{reading_sized}
 use Rattle.size_laws.proofs.Opening.{opening_keeps_sizes}
 use Rattle.sized_trees.specs.Trees.{all_sized_for, constants_of, sized_for}
 use Rattle.checked_meaning.specs.Fits.{AllFit, all_have_sizes, has_sizes}
 use Rattle.soundness_steps.specs.Works.{Setting, Work}
 use Rattle.soundness_steps.specs.Noted.{OpensAs, known}
-use Rattle.soundness_steps.specs.Calls.{AllBelong, given_of, givens_at}
+use Rattle.soundness_steps.specs.Calls.{AllBelong, given_of, givens_at, own_variables, variable_index}
 use Rattle.soundness_calls.specs.Premises.{AllMade, OwnSame, own_of, own_type}
-use Rattle.exact_sizes.specs.Exact.{reading_passes, reading_settles}
+use Rattle.exact_sizes.specs.Exact.{exact_constants, exact_index, reading_passes, reading_settles}
 use Rattle.exact_sizes.specs.Laws.{More, Stands}
-use Rattle.exact_sizes.proofs.Equal.{sized_same}
+use Rattle.exact_sizes.proofs.Alike.{Grows, exact_open}
 use Rattle.exact_sizes.proofs.Had.{values_fit}
-use Rattle.exact_sizes.proofs.Known.{none}
+use Rattle.exact_sizes.proofs.Known.{none, variable_known}
 use Rattle.exact_sizes.proofs.Settling.{types_settle}
-use Rattle.exact_sizes.proofs.Standing.{sizes_stand}
+use Rattle.exact_sizes.proofs.Standing.{typ_stands}
 use Rattle.covering_laws.specs.Covered.{known_in, parameter_tested}
 
 -- ---- the numbers of an instance are those of the function's variables
@@ -64,6 +66,49 @@ known_number : (o : Option ℤ) (v : ℕ) (z : ℤ) → number_in (or_open v o) 
 known_number None v z h = none h
 known_number (Some x) v z h = h
 
+-- the constants of an instance
+constants_known : (zs : List (Option ℤ)) (i : ℕ) (z : ℤ) → known_of zs i ≡ Some z → number_in (argument_of (constants_of zs) i) ≡ Some z
+constants_known [] i z h = none h
+constants_known (None ∷ zs) zero z h = none h
+constants_known (Some y ∷ zs) zero z h = h
+constants_known (o ∷ zs) (suc i) z h = constants_known zs i z h
+
+none_behind : (h : Integers) (k : ℕ) (zs : List (Option ℤ)) (ps : List Parameter) → all_agree (map (option_map an_int) zs) (givens_at h k ps) ≡ true
+    → (i : ℕ) → length ps ≤ i → number_in (argument_of (constants_of zs) i) ≡ Some (pos 0)
+none_behind h k [] ps a i le = refl
+none_behind h k (o ∷ zs) [] a i le = no a
+none_behind h k (o ∷ zs) (p ∷ ps) a zero le =
+    let short : suc (length ps) ≤ zero = le in
+    absurd (omega (arith, short))
+none_behind h k (o ∷ zs) (p ∷ ps) a (suc i) le =
+    let less : suc (length ps) ≤ suc i = le in
+    let q = and_parts (agrees (option_map an_int o) (given_of p.kind (h k))) (all_agree (map (option_map an_int) zs) (givens_at h (suc k) ps)) a in
+    none_behind h (suc k) zs ps q.1 i (omega (arith, less))
+
+-- what is certain of a function's own variables
+one_exact : (of : ℕ → Constant) (kind : Kind) (v : ℕ) (z : ℤ) → number_in (exact_index of (variable_index kind v)) ≡ Some z → number_in (of v) ≡ Some z
+one_exact of K.Bool v z h = none h
+one_exact of kind v z h = variable_known of v z (exact_open (value_of of (variable v)) z h)
+
+own_exact : (of : ℕ → Constant) (k : ℕ) (ps : List Parameter) (i : ℕ) (z : ℤ) → number_in (argument_of (exact_constants of (own_variables k ps)) i) ≡ Some z
+    → (number_in (of (k + i)) ≡ Some z) ⊎ ((length ps ≤ i) × (pos 0 ≡ z))
+own_exact of k [] i z h =
+    let is : pos 0 ≡ z = cc h in
+    inr (omega arith, is)
+own_exact of k (p ∷ ps) zero z h =
+    let here : k ≡ k + zero = omega arith in
+    inl (subst (λ (j : ℕ). number_in (of j) ≡ Some z) here (one_exact of p.kind k z h))
+own_exact of k (p ∷ ps) (suc i) z h = further (own_exact of (suc k) ps i z h)
+  where
+    further : (number_in (of (suc k + i)) ≡ Some z) ⊎ ((length ps ≤ i) × (pos 0 ≡ z))
+        → (number_in (of (k + suc i)) ≡ Some z) ⊎ ((suc (length ps) ≤ suc i) × (pos 0 ≡ z))
+    further (inl e) =
+        let here : suc k + i ≡ k + suc i = omega arith in
+        inl (subst (λ (j : ℕ). number_in (of j) ≡ Some z) here e)
+    further (inr e) =
+        let less : length ps ≤ i = e.0 in
+        inr (omega (arith, less), e.1)
+
 -- ---- parameters
 
 module _ (types : Types) (past : Positive) (x : Work) (f : Function) (zs : List (Option ℤ)) (h : Integers)
@@ -80,26 +125,27 @@ module _ (types : Types) (past : Positive) (x : Work) (f : Function) (zs : List 
   more_known : (g : Integers) → OwnSame f h g → More (known_in zs) (known g)
   more_known g same i z e = ap (λ (y : ℤ). Some y) (own_stands g same i z e)
 
-  abbrev parts : (t : Typ) → parameter_tested types zs x.own f t ≡ true
-      → (sized_eq (sized_for types x.own (constants_of zs) t) (reading_sized types x.own (known_in zs) (own_type f t)) ≡ true)
-      × ((reading_passes types (length x.own) (known_in zs) (own_type f t) && reading_settles types (length x.own) (known_in zs) (own_type f t)) ≡ true)
-  parts t p =
-      and_parts (sized_eq (sized_for types x.own (constants_of zs) t) (reading_sized types x.own (known_in zs) (own_type f t)))
-      (reading_passes types (length x.own) (known_in zs) (own_type f t) && reading_settles types (length x.own) (known_in zs) (own_type f t)) p
-
   abbrev sizes : (t : Typ) → parameter_tested types zs x.own f t ≡ true
       → (reading_passes types (length x.own) (known_in zs) (own_type f t) ≡ true)
       × (reading_settles types (length x.own) (known_in zs) (own_type f t) ≡ true)
   sizes t p =
-      and_parts (reading_passes types (length x.own) (known_in zs) (own_type f t)) (reading_settles types (length x.own) (known_in zs) (own_type f t))
-      (parts t p).1
+      and_parts (reading_passes types (length x.own) (known_in zs) (own_type f t)) (reading_settles types (length x.own) (known_in zs) (own_type f t)) p
+
+  -- the constants of the signature are those that the walk knows
+  own_grows : Grows (exact_constants (known_in zs) (own_of f)) (constants_of zs)
+  own_grows i z e = by (own_exact (known_in zs) 0 f.variables i z e)
+    where
+      by : (number_in (known_in zs (0 + i)) ≡ Some z) ⊎ ((length f.variables ≤ i) × (pos 0 ≡ z)) → number_in (argument_of (constants_of zs) i) ≡ Some z
+      by (inl k) =
+          let here : 0 + i ≡ i = omega arith in
+          constants_known zs i z (known_number (known_of zs i) i z (subst (λ (j : ℕ). number_in (known_in zs j) ≡ Some z) here k))
+      by (inr p) = none_behind h 0 zs f.variables awaited i p.0 ∙ ap (λ (y : ℤ). Some y) p.1
 
   -- the type of the signature is the type of the walk
   typ_is : (g : Integers) → OwnSame f h g → (t : Typ) → parameter_tested types zs x.own f t ≡ true
       → sized_for types x.own (constants_of zs) t ≡ reading_sized types x.own (known g) (own_type f t)
   typ_is g same t p =
-      sized_same (sized_for types x.own (constants_of zs) t) (reading_sized types x.own (known_in zs) (own_type f t)) (parts t p).0
-      ∙ (sizes_stand types x.own (length x.own) (known_in zs) (known g) (more_known g same)).1 (own_type f t) (sizes t p).0
+      typ_stands types x.own (length x.own) (known_in zs) (known g) (more_known g same) t (own_of f) (constants_of zs) own_grows (sizes t p).0
 
   one_fits : AllFit types x.types x.own → (t : Typ) → parameter_tested types zs x.own f t ≡ true → (v : Value)
       → belongs types v (over (assigned (standing past h) (own_of f)) t x.types) ≡ true → has_sizes types v (sized_for types x.own (constants_of zs) t) ≡ true

@@ -57,13 +57,14 @@ same_instances m list [] = refl
 same_instances m list (x ∷ xs) = ap (λ (l : List Instance). x ∷ l) (same_instances m list xs)
 
 listed_as : (model : Model) (r : Result (List Instance) MonoError) (c : SizedCore) → sized_of model r ≡ Ok c
-    → (list : List Instance) × (c ≡ sized_list model list) × (map instance_of c.instances ≡ list)
+    → (list : List Instance) × (r ≡ Ok list) × (c ≡ sized_list model list) × (map instance_of c.instances ≡ list)
 listed_as model (Ok list) c k =
     let same : c ≡ sized_list model list = sym (cc k) in
-    (list, same, ap (λ (d : SizedCore). map instance_of d.instances) same ∙ same_instances model list list)
+    (list, refl, same, ap (λ (d : SizedCore). map instance_of d.instances) same ∙ same_instances model list list)
 listed_as model (Err e) c k = absurd (cc)
 
 -- an accepted list
 pub accepted : (m : CoreModel) (c : SizedCore) → sized_core m ≡ Ok c
-    → (list : List Instance) × (c ≡ sized_list (model_of m (bodies_of m)) list) × (map instance_of c.instances ≡ list)
+    → (list : List Instance) × (instances_of (model_of m (bodies_of m)) ≡ Ok list) × (c ≡ sized_list (model_of m (bodies_of m)) list)
+    × (map instance_of c.instances ≡ list)
 accepted m c h = listed_as (model_of m (bodies_of m)) (instances_of (model_of m (bodies_of m))) c h

@@ -6,4 +6,5 @@ pub mod Working
 pub mod Entering
 pub mod Joined
 pub mod Read
+pub mod Grown
 pub mod Across

@@ -19,7 +19,7 @@ use Rattle.constraint_gen.specs.Models.{around_of}
 use Rattle.size_values.specs.declared.constants.Constant.{Constant}
 use Rattle.size_values.specs.declared.sized.Sized.{Sized}
 use Rattle.size_values.specs.Numbers.{known_at, known_of, nothing_known}
-use Rattle.size_values.specs.Sized.{all_eq, reading_sized, sized_eq}
+use Rattle.size_values.specs.Sized.{all_eq}
 use Rattle.size_splits.specs.Bodies.{Body}
 use Rattle.size_notes.specs.Bodies.{bodies_of, function_read, mapping_read, measure_read, opening_read}
 use Rattle.monomorph.specs.declared.found.Instance.{Instance}
@@ -27,11 +27,10 @@ use Rattle.monomorph.specs.Instances.{model_of, or_none}
 use Rattle.monomorph.specs.Lasts.{Model}
 use Rattle.checked_meaning.specs.Checked.{Cases, Checks}
 use Rattle.checked_meaning.specs.Fits.{AllFit}
-use Rattle.checked_meaning.specs.Items.{fixed_typ}
 use Rattle.value_laws.specs.Belonging.{Integers}
 use Rattle.sized_trees.specs.declared.trees.SizedInstance.{SizedInstance}
 use Rattle.sized_trees.specs.declared.trees.SizedCore.{SizedCore}
-use Rattle.sized_trees.specs.Trees.{constants_of, signature_within, sized_core, sized_for}
+use Rattle.sized_trees.specs.Trees.{constants_of, signature_within, sized_core}
 use Rattle.sized_meanings.specs.Sized.{checks_of, numbers_of}
 use Rattle.exact_sizes.specs.Exact.{reading_passes, reading_settles}
 use Rattle.note_laws.specs.Notes.{EachNote, OfOthers}
@@ -80,15 +79,14 @@ at_work instances x = at_place x (slice_get instances x.instance.place) instance
 abbrev pub covered_by : SizedCore → Work → Bool
 covered_by c x = is_some (at_work c.instances x)
 
--- ---- what is tested of instances: their bodies, and that parameters have the sizes of their types
+-- ---- what is tested of instances: their bodies, and the sizes of parameters
 
 abbrev pub known_in : List (Option ℤ) → ℕ → Constant
 known_in zs = known_at (known_of zs)
 
 abbrev pub parameter_tested : Types → List (Option ℤ) → List Sized → Function → Typ → Bool
 parameter_tested types zs own f t =
-    sized_eq (sized_for types own (constants_of zs) t) (reading_sized types own (known_in zs) (own_type f t))
-    && (reading_passes types (length own) (known_in zs) (own_type f t) && reading_settles types (length own) (known_in zs) (own_type f t))
+    reading_passes types (length own) (known_in zs) (own_type f t) && reading_settles types (length own) (known_in zs) (own_type f t)
 
 abbrev pub function_tested : Types → Instance → Option Function → Bool
 function_tested types y None = true
@@ -103,9 +101,7 @@ instance_tested m list y =
 -- ---- mappings, whose patterns reach directions of a lower rank; what they take has the sizes of its type
 
 abbrev pub bare_tested : Types → Typ → Bool
-bare_tested types t =
-    sized_eq (fixed_typ types t) (reading_sized types [] (known_at nothing_known) (bare_type t))
-    && (reading_passes types 0 (known_at nothing_known) (bare_type t) && reading_settles types 0 (known_at nothing_known) (bare_type t))
+bare_tested types t = reading_passes types 0 (known_at nothing_known) (bare_type t) && reading_settles types 0 (known_at nothing_known) (bare_type t)
 
 abbrev pub direction_tested : Types → Direction → Bool
 direction_tested types d = bare_tested types d.parameter
@@ -123,12 +119,6 @@ mappings_tested m list rank i (b ∷ bs) =
     (body_tested m list (reached_from rank (2 * i)) b && body_tested m list (reached_from rank (suc (2 * i))) b)
     && mappings_tested m list rank (suc i) bs
 
--- directions stand one behind the other, two of a mapping
-abbrev pub are_paired : List Direction → Bool
-are_paired [] = true
-are_paired (m ∷ []) = false
-are_paired (m ∷ n ∷ ms) = are_paired ms
-
 -- ---- top-level lets and initial values
 
 abbrev pub none_reached : ℕ → Bool
@@ -139,7 +129,7 @@ none_reached d = false
 abbrev pub list_tested : Model → List Instance → (ℕ → ℕ) → Bool
 list_tested m list rank =
     list_all (instance_tested m list) list
-    && ((are_paired m.core.directions && list_all (direction_tested m.core.types) m.core.directions)
+    && (list_all (direction_tested m.core.types) m.core.directions
     && (mappings_tested m list rank 0 m.bodies.mappings && list_all (body_tested m list none_reached) m.bodies.openings))
 
 abbrev pub model_tested : CoreModel → (ℕ → ℕ) → List Instance → Bool
@@ -148,12 +138,8 @@ model_tested core rank list = list_tested (model_of core (bodies_of core)) list 
 abbrev pub instance_of : SizedInstance → Instance
 instance_of s = s.instance
 
--- the functions that a hart enters are instances without numbers
-abbrev pub events_tested : CoreModel → SizedCore → Bool
-events_tested core c = covered_by c (entered_by core.step) && covered_by c (entered_by core.reset)
-
 abbrev pub core_tested : CoreModel → (ℕ → ℕ) → SizedCore → Bool
-core_tested core rank c = events_tested core c && model_tested core rank (map instance_of c.instances)
+core_tested core rank c = model_tested core rank (map instance_of c.instances)
 
 -- ---- what it gives
 
@@ -183,10 +169,8 @@ side_at (m ∷ n ∷ ms) (suc zero) = Some (is_back m)
 side_at (m ∷ n ∷ ms) (suc (suc d)) = side_at ms d
 side_at ms d = None
 
--- a direction of a mapping
-pub record DirectionIsRead (set : Setting) (m : CoreModel) (rank : ℕ → ℕ) (k : Checks) (d : ℕ) (n : Direction) : Type 0 where
-  pub side : Side
-  pub is_its : side_at m.directions d ≡ Some side
+-- a direction of a mapping, beside the other one
+pub record DirectionIsRead (set : Setting) (m : CoreModel) (rank : ℕ → ℕ) (k : Checks) (d : ℕ) (n : Direction) (side : Side) : Type 0 where
   pub mapping : ℕ
   pub is_there : slice_get (pairs m.directions) mapping ≡ Some (pair_of side n)
   pub read : AreRead set nobody (reached_from rank d) (k.direction d)
@@ -198,8 +182,8 @@ pub record ModelIsRead (m : CoreModel) (past : Positive) (hart : ℕ) (rank : �
   -- where values of its Type variables have the sizes of its instance
   pub functions : (x : Work) (f : Function) → covered_by c x ≡ true → AllFit (setting_of m past hart c).around.types x.types x.own
       → slice_get m.functions x.function ≡ Some f → FunctionIsRead (setting_of m past hart c) m (checks_of m c) x f
-  pub directions : (d : ℕ) (n : Direction) → slice_get m.directions d ≡ Some n
-      → DirectionIsRead (setting_of m past hart c) m rank (checks_of m c) d n
+  pub directions : (d : ℕ) (n : Direction) (side : Side) → slice_get m.directions d ≡ Some n → side_at m.directions d ≡ Some side
+      → DirectionIsRead (setting_of m past hart c) m rank (checks_of m c) d n side
   pub openings : (i : ℕ) (o : Opening) → slice_get m.openings i ≡ Some o
       → AreRead (setting_of m past hart c) nobody none_reached ((checks_of m c).opening i) (opening_read (around_of m) o [] 0).notes
   -- the functions that a hart enters

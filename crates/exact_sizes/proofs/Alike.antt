@@ -19,7 +19,7 @@ use Rattle.size_values.specs.Numbers.{argument_of, constant_under, index_under, 
 use Rattle.size_values.specs.Sized.{UnderConstants, each_sized, form_sized, hangs_on, integer_of, named_numbers, number_where, numbers_from, typ_sized}
 use Rattle.checked_meaning.specs.Items.{constant_of}
 use Rattle.size_laws.proofs.Forms.{in_type, typ_is}
-use Rattle.exact_sizes.specs.Exact.{are_exact, exact_constants, form_passes, is_exact, is_exact_index, named_passes, only_if, open_of}
+use Rattle.exact_sizes.specs.Exact.{Applied, are_exact, exact_constants, form_passes, is_exact, is_exact_index, named_passes, only_if, open_of}
 use Rattle.exact_sizes.specs.Exact.{all_pass, typ_passes, Test}
 use Rattle.exact_sizes.specs.Laws.{More}
 use Rattle.exact_sizes.proofs.Known.{exact_value, none, number_constant_is, number_more}
@@ -81,7 +81,7 @@ open_grows (Some x ∷ zs) zero z h = h
 open_grows (x ∷ zs) (suc i) z h = open_grows zs i z h
 
 -- those that are exact
-exact_open : (o : Option ℤ) (z : ℤ) → number_in (open_of o) ≡ Some z → o ≡ Some z
+pub exact_open : (o : Option ℤ) (z : ℤ) → number_in (open_of o) ≡ Some z → o ≡ Some z
 exact_open None z h = none h
 exact_open (Some x) z h = h
 
@@ -101,45 +101,47 @@ module _ (types : Types) (ss : List Sized) where
   sized_form t cs = typ_is types [] (argument_of []) ss t (out-Typ t) cs (roll-out-Typ t)
 
   abbrev Same : (Typ → Test) → Type 0
-  Same test = (t : Typ) (n : ℕ) (cs ds : List Constant) → Grows cs ds → test t n cs ≡ true → typ_sized types ss t cs ≡ typ_sized types ss t ds
+  Same test = (t : Typ) (seen : List Applied) (n : ℕ) (cs ds : List Constant) → Grows cs ds → test t seen n cs ≡ true
+      → typ_sized types ss t cs ≡ typ_sized types ss t ds
 
-  all_same : (test : Typ → Test) → Same test → (n : ℕ) (cs ds : List Constant) → Grows cs ds → (ts : List Typ) → all_pass test ts n cs ≡ true
-      → each_sized (map (typ_sized types ss) ts) cs ≡ each_sized (map (typ_sized types ss) ts) ds
-  all_same test same n cs ds g [] h = refl
-  all_same test same n cs ds g (t ∷ ts) h =
-      let p = and_parts (test t n cs) (all_pass test ts n cs) h in
-      let first = same t n cs ds g p.0 in
-      let rest = all_same test same n cs ds g ts p.1 in
+  all_same : (test : Typ → Test) → Same test → (seen : List Applied) (n : ℕ) (cs ds : List Constant) → Grows cs ds → (ts : List Typ)
+      → all_pass test ts seen n cs ≡ true → each_sized (map (typ_sized types ss) ts) cs ≡ each_sized (map (typ_sized types ss) ts) ds
+  all_same test same seen n cs ds g [] h = refl
+  all_same test same seen n cs ds g (t ∷ ts) h =
+      let p = and_parts (test t seen n cs) (all_pass test ts seen n cs) h in
+      let first = same t seen n cs ds g p.0 in
+      let rest = all_same test same seen n cs ds g ts p.1 in
       λ j. first j ∷ rest j
 
-  form_same : (test : Typ → Test) → Same test → (x : Typ-F Typ) (n : ℕ) (cs ds : List Constant) → Grows cs ds → form_passes types test x n cs ≡ true
+  form_same : (test : Typ → Test) → Same test → (x : Typ-F Typ) (seen : List Applied) (n : ℕ) (cs ds : List Constant) → Grows cs ds
+      → form_passes types test x seen n cs ≡ true
       → form_sized types ss (sized_in x) cs ≡ form_sized types ss (sized_in x) ds
-  form_same test same T.Unit n cs ds g h = refl
-  form_same test same T.Bool n cs ds g h = refl
-  form_same test same (T.Truth c) n cs ds g h = refl
-  form_same test same T.Bit n cs ds g h = refl
-  form_same test same (T.Bits t) n cs ds g h =
+  form_same test same T.Unit seen n cs ds g h = refl
+  form_same test same T.Bool seen n cs ds g h = refl
+  form_same test same (T.Truth c) seen n cs ds g h = refl
+  form_same test same T.Bit seen n cs ds g h = refl
+  form_same test same (T.Bits t) seen n cs ds g h =
       ap (λ (c : Constant). S.Bits (integer_of c)) (number_same (argument_of cs) (argument_of ds) g t h)
-  form_same test same (T.Int t) n cs ds g h = refl
-  form_same test same (T.Range t u) n cs ds g h = refl
-  form_same test same T.String n cs ds g h = refl
-  form_same test same (T.List t) n cs ds g h = ap (λ (s : Sized). S.List s) (same t n cs ds g h)
-  form_same test same (T.Vector m t) n cs ds g h =
-      let p = and_parts (is_exact (argument_of cs) m) (test t n cs) h in
+  form_same test same (T.Int t) seen n cs ds g h = refl
+  form_same test same (T.Range t u) seen n cs ds g h = refl
+  form_same test same T.String seen n cs ds g h = refl
+  form_same test same (T.List t) seen n cs ds g h = ap (λ (s : Sized). S.List s) (same t seen n cs ds g h)
+  form_same test same (T.Vector m t) seen n cs ds g h =
+      let p = and_parts (is_exact (argument_of cs) m) (test t seen n cs) h in
       ap (λ (c : Constant). S.Vector (integer_of c) (typ_sized types ss t cs)) (number_same (argument_of cs) (argument_of ds) g m p.0)
-      ∙ ap (λ (s : Sized). S.Vector (integer_of (constant_under (argument_of ds) m)) s) (same t n cs ds g p.1)
-  form_same test same (T.Tuple ts) n cs ds g h = ap (λ (l : List Sized). S.Tuple l) (all_same test same n cs ds g ts h)
-  form_same test same (T.Named u args ts) n cs ds g h =
-      let p = and_parts (all_pass test ts n cs) (named_passes types test (argument_of cs) u args (length ts)) h in
+      ∙ ap (λ (s : Sized). S.Vector (integer_of (constant_under (argument_of ds) m)) s) (same t seen n cs ds g p.1)
+  form_same test same (T.Tuple ts) seen n cs ds g h = ap (λ (l : List Sized). S.Tuple l) (all_same test same seen n cs ds g ts h)
+  form_same test same (T.Named u args ts) seen n cs ds g h =
+      let p = and_parts (all_pass test ts seen n cs) (named_passes types test (argument_of cs) u args (length ts) seen) h in
       let q = and_parts (are_exact types (argument_of cs) u (length args) 0 args) _ p.1 in
       ap (λ (l : List (Option ℤ)). S.Named u l (each_sized (map (typ_sized types ss) ts) cs))
       (named_same types (argument_of cs) (argument_of ds) g u args q.0)
-      ∙ ap (λ (l : List Sized). S.Named u (named_numbers types u (map (index_under (argument_of ds)) args)) l) (all_same test same n cs ds g ts p.0)
-  form_same test same (T.Variable i) n cs ds g h = refl
-  form_same test same (T.Exists name c t) n cs ds g h =
-      same t n (C.Bound name ∷ cs) (C.Bound name ∷ ds) (grows_under name (C.Bound name) cs ds g) h
+      ∙ ap (λ (l : List Sized). S.Named u (named_numbers types u (map (index_under (argument_of ds)) args)) l) (all_same test same seen n cs ds g ts p.0)
+  form_same test same (T.Variable i) seen n cs ds g h = refl
+  form_same test same (T.Exists name c t) seen n cs ds g h =
+      same t seen n (C.Bound name ∷ cs) (C.Bound name ∷ ds) (grows_under name (C.Bound name) cs ds g) h
 
   pub typ_same : (depth : ℕ) → Same (typ_passes types depth)
-  typ_same zero t n cs ds g h = no h
-  typ_same (suc depth) t n cs ds g h =
-      sized_form t cs ∙ form_same (typ_passes types depth) (typ_same depth) (out-Typ t) n cs ds g h ∙ sym (sized_form t ds)
+  typ_same zero t seen n cs ds g h = no h
+  typ_same (suc depth) t seen n cs ds g h =
+      sized_form t cs ∙ form_same (typ_passes types depth) (typ_same depth) (out-Typ t) seen n cs ds g h ∙ sym (sized_form t ds)

@@ -1,13 +1,13 @@
 -- A value of some indices, or of a type of the walk, has their sizes.
 use Rattle.std.proofs.Common.{◌≡◌, ◌∙◌, ap, sym, refl, subst, ℕ, zero, suc, ℤ, pos, nat_eq, nat_lt, Bool, true, ◌&&◌, List, [], ◌∷◌}
-use Rattle.std.proofs.Common.{map, length, slice_get}
+use Rattle.std.proofs.Common.{◌≤◌, arith, map, length, slice_get}
 use Rattle.std.specs.Prelude.{Option, Some, None}
 use Rattle.std.specs.List.{list_all}
 use Rattle.std.specs.Ordering.{int_eq}
 use Rattle.std.proofs.lemmas.Bool.{and_parts}
 use Rattle.sail_types.specs.Belongs.{Reading as Closed, Readings as Closeds, reading, no_readings, assigned, belongs}
 use Rattle.sail_types.specs.Limits.{is_length}
-use Rattle.sail_types.specs.Named.{field_types, members}
+use Rattle.sail_types.specs.Named.{members}
 use Rattle.sail_types.specs.Numbers.{Assignment, Positive, number}
 use Rattle.sail_types.specs.Sums.{constant}
 use Rattle.sail_types.specs.Zero.{deepest}
@@ -37,7 +37,6 @@ use Rattle.size_values.specs.declared.sized.Sized.{Sized}
 use Rattle.size_values.specs.declared.sized.Sized.TheOpen as Z
 use Rattle.size_values.specs.declared.sized.Sized.TheVariants as S
 use Rattle.size_values.specs.Numbers.{argument_of, constant_under, index_under, number_in, value_of}
-use Rattle.size_values.specs.Sizes.{fields_of}
 use Rattle.size_values.specs.Sized.{form_reading_sized, indices_sized, integer_of, named_numbers, reading_sized, typ_sized, value_sized}
 use Rattle.size_values.specs.Sized as Sizes
 use Rattle.checked_meaning.specs.Items.{constant_of}
@@ -45,13 +44,16 @@ use Rattle.size_laws.specs.Known.{all_numbers}
 use Rattle.size_laws.proofs.Forms.{in_indices, in_reading, reading_is, value_is}
 use Rattle.meeting_laws.proofs.Forms.{bit_as, bits_as, each_of, list_as, named_as, string_as, tuple_as, unit_as, vector_as}
 use Rattle.checked_meaning.specs.Fits.{AllFit, each_fits, form_fits, has_sizes}
-use Rattle.exact_sizes.specs.Exact.{all_of, all_pass, are_exact, exact_constants, field_constants, indices_pass, is_exact, named_passes, open_of}
+use Rattle.exact_sizes.specs.Exact.{Applied, all_of, applied_at, are_exact, constants_in, exact_constants, fields_pass, indices_pass, is_exact}
+use Rattle.exact_sizes.specs.Exact.{named_passes, open_of}
 use Rattle.exact_sizes.specs.Exact.{is_one_of, or_own, reading_passes, readings_pass, typ_passes, value_passes}
 use Rattle.exact_sizes.specs.Laws.{More, Stands, ValuesFit}
 use Rattle.exact_sizes.proofs.Known.{exact_value, none, number_more, number_stands}
 use Rattle.exact_sizes.proofs.Alike.{exact_grows, named_same, typ_same}
 use Rattle.exact_sizes.proofs.Standing.{reading_tested, tests_in, tests_of, value_tested}
-use Rattle.exact_sizes.proofs.Values.{Answers, bits_fit, field_fits, fits_as, fitting, items_fit, struct_fits, typ_fits, union_fits, vector_fits}
+use Rattle.exact_sizes.proofs.Values.{Answers, IsRead, bits_fit, few_fit, field_fits, fits_as, fitting, items_fit, met_read, struct_fits, typ_fits}
+use Rattle.exact_sizes.proofs.Values.{union_fits, vector_fits}
+use Rattle.value_laws.proofs.Alike.{size, total}
 
 -- an argument that is exact is its variable's number
 exact_stands : (of : ℕ → Constant) (nu : Assignment) → Stands of nu.int → (is : List Index) → Stands (argument_of (exact_constants of is)) (assigned nu is).int
@@ -63,6 +65,9 @@ exact_stands of nu stands (N.Number t ∷ is) zero z h = by (value_of of t) refl
     by (Some y) e k = number_stands of nu stands t y e ∙ cc k
 exact_stands of nu stands (N.Truth c ∷ is) zero z h = none h
 exact_stands of nu stands (a ∷ is) (suc i) z h = exact_stands of nu stands is i z h
+
+at_most_itself : (d : ℕ) → d ≤ d
+at_most_itself d = omega arith
 
 module _ (types : Types) (past : Positive) (f : ℕ → ℤ) (own : List Closed) (ss : List Sized) (own_fit : AllFit types own ss) (of : ℕ → Constant)
     (stands : Stands of f) where
@@ -269,8 +274,7 @@ module _ (types : Types) (past : Positive) (f : ℕ → ℤ) (own : List Closed)
   -- ---- named types
 
   module _ (u : ℕ) (args : List Index) (ys : List SuchR) (passed : all_readings_pass ys ≡ true) (exact : are_exact types of u (length args) 0 args ≡ true)
-      (fields_pass : all_pass (typ_passes types deepest) (field_types (fields_of types u)) (length (map (reading_passes types (length ss) of) (readings ys)))
-      (field_constants types of u args) ≡ true) where
+      (it : IsRead types (applied_at types of u args (length (map (reading_passes types (length ss) of) (readings ys))))) where
     abbrev zs : List (Option ℤ)
     zs = named_numbers types u (map (index_under of) args)
 
@@ -283,19 +287,26 @@ module _ (types : Types) (past : Positive) (f : ℕ → ℤ) (own : List Closed)
     abbrev count : ℕ
     count = length (map (reading_passes types (length ss) of) (readings ys))
 
-    abbrev passes : Typ → Bool
-    passes t = typ_passes types deepest t count (field_constants types of u args)
+    abbrev applied : Applied
+    applied = applied_at types of u args count
 
-    one_fits : (t : Typ) → passes t ≡ true → (v : Value) → belongs types v (reading t (assigned mu args) stood) ≡ true
+    abbrev passes : Typ → Bool
+    passes t = typ_passes types it.fields.depth t (applied ∷ it.before) count (constants_in applied)
+
+    one_fits : (d : ℕ) (t : Typ) → passes t ≡ true → (v : Value) → size v ≤ d → belongs types v (reading t (assigned mu args) stood) ≡ true
         → has_sizes types v (typ_sized types qs t (map constant_of zs)) ≡ true
-    one_fits t k v b =
-        field_fits types deepest (typ_fits types deepest) of mu stands u args count qs stood exact (named_answers ys passed) t k v b
+    one_fits d t k v le b =
+        field_fits types d it.fields.depth (few_fit types d it.fields.depth) of mu stands u args count qs stood exact
+        (λ i o w less a. named_answers ys passed i o w a) (applied ∷ it.before) (it.fields, it.are_read) t k v le b
 
     named_had : (w : Value-F Value) → form_holds types mu own (W.Named u args (map (closed types mu own) (readings ys))) w ≡ true
         → form_fits types (fitting types w) (Z.Named u zs qs) ≡ true
     named_had (V.Member i k) h = (and_parts (nat_eq i u) (nat_lt k (length (members types i))) h).0
-    named_had (V.Struct i vs) h = struct_fits types u zs qs (assigned mu args) stood passes one_fits fields_pass i vs h
-    named_had (V.Union i k v) h = union_fits types u zs qs (assigned mu args) stood passes one_fits fields_pass i k v h
+    named_had (V.Struct i vs) h =
+        let d = total (map size vs) in
+        struct_fits types d u zs qs (assigned mu args) stood passes (one_fits d) it.fields.pass i vs (at_most_itself d) h
+    named_had (V.Union i k v) h =
+        union_fits types (size v) u zs qs (assigned mu args) stood passes (one_fits (size v)) it.fields.pass i k v (at_most_itself (size v)) h
     named_had w h = no h
 
   -- ---- all indices
@@ -308,8 +319,7 @@ module _ (types : Types) (past : Positive) (f : ℕ → ℤ) (own : List Closed)
 
   -- a named type's numbers are those under all integers
   named_fit : (u : ℕ) (args : List Index) (ys : List SuchR) → all_readings_pass ys ≡ true → are_exact types of u (length args) 0 args ≡ true
-      → all_pass (typ_passes types deepest) (field_types (fields_of types u)) (length (map (reading_passes types (length ss) of) (readings ys)))
-      (field_constants types of u args) ≡ true → (v : Value)
+      → IsRead types (applied_at types of u args (length (map (reading_passes types (length ss) of) (readings ys)))) → (v : Value)
       → form_holds types mu own (W.Named u args (map (closed types mu own) (readings ys))) (out-Value v) ≡ true
       → has_sizes types v (S.Named u (named_numbers types u (map (index_under to) args)) (map typed (readings ys))) ≡ true
   named_fit u args ys p e k v h =
@@ -339,10 +349,10 @@ module _ (types : Types) (past : Positive) (f : ℕ → ℤ) (own : List Closed)
       fits_as types v (S.Tuple qs) (Z.Tuple qs) (S.rolls-Tuple qs) (tuple_had ys p (out-Value v) h)
   form_had (W.Named u args ys) p v h =
       let n = length (map (reading_passes types (length ss) of) (readings ys)) in
-      let k = and_parts (all_readings_pass ys) (named_passes types (typ_passes types deepest) of u args n) p in
-      let l = and_parts (are_exact types of u (length args) 0 args)
-      (all_pass (typ_passes types deepest) (field_types (fields_of types u)) n (field_constants types of u args)) k.1 in
-      named_fit u args ys k.0 l.0 l.1 v h
+      let k = and_parts (all_readings_pass ys) (named_passes types (typ_passes types deepest) of u args n []) p in
+      let it = applied_at types of u args n in
+      let l = and_parts (are_exact types of u (length args) 0 args) (fields_pass types (typ_passes types deepest) it []) k.1 in
+      named_fit u args ys k.0 l.0 (met_read types deepest it [] tt l.1) v h
   form_had (W.Variable i) p v h = own_had own ss own_fit i p v h
 
   abbrev here : Assignment
@@ -409,7 +419,7 @@ module _ (types : Types) (past : Positive) (f : ℕ → ℤ) (own : List Closed)
   -- ---- types of the walk
 
   of_fits : (t : Typ) (is : List Index) (ys : List SuchR) → all_readings_pass ys ≡ true
-      → typ_passes types deepest t (or_own (length ss) (length (map (reading_passes types (length ss) of) (readings ys)))) (exact_constants of is) ≡ true
+      → typ_passes types deepest t [] (or_own (length ss) (length (map (reading_passes types (length ss) of) (readings ys)))) (exact_constants of is) ≡ true
       → (v : Value)
       → belongs types v (reading t (assigned mu is) (closeds (types_or_own (map (closed types mu own) (readings ys)) own))) ≡ true
       → has_sizes types v (typ_sized types (Sizes.types_or_own (map typed (readings ys)) ss) t (map (index_under to) is)) ≡ true
@@ -417,8 +427,8 @@ module _ (types : Types) (past : Positive) (f : ℕ → ℤ) (own : List Closed)
       let n = or_own (length ss) (length (map (reading_passes types (length ss) of) (readings ys))) in
       let rs = closeds (types_or_own (map (closed types mu own) (readings ys)) own) in
       let qs = Sizes.types_or_own (map typed (readings ys)) ss in
-      ap (has_sizes types v) (sym (typ_same types qs deepest t n (exact_constants of is) (map (index_under to) is) (exact_grows of to more is) q))
-      ∙ typ_fits types deepest t n (exact_constants of is) qs (assigned mu is) rs q (exact_stands of mu stands is) (stood_answer ys p) v h
+      ap (has_sizes types v) (sym (typ_same types qs deepest t [] n (exact_constants of is) (map (index_under to) is) (exact_grows of to more is) q))
+      ∙ typ_fits types deepest t [] n (exact_constants of is) qs (assigned mu is) rs tt q (exact_stands of mu stands is) (stood_answer ys p) v h
     where
       stood_answer : (xs : List SuchR) → all_readings_pass xs ≡ true
           → Answers types (or_own (length ss) (length (map (reading_passes types (length ss) of) (readings xs))))
@@ -432,7 +442,7 @@ module _ (types : Types) (past : Positive) (f : ℕ → ℤ) (own : List Closed)
       → has_sizes types v (form_reading_sized types ss to (in_reading types ss to (reading_in y))) ≡ true
   reading_fits (W.Of t is rs) p v h =
       let n = length (map (reading_passes types (length ss) of) (readings rs)) in
-      let k = and_parts (all_readings_pass rs) (typ_passes types deepest t (or_own (length ss) n) (exact_constants of is)) p in
+      let k = and_parts (all_readings_pass rs) (typ_passes types deepest t [] (or_own (length ss) n) (exact_constants of is)) p in
       of_fits t is rs k.0 k.1 v h
   reading_fits (W.Widened i) p v h = (i.1 p).wide v h
   reading_fits (W.Parts rs) p v h =

@@ -1,10 +1,11 @@
 -- A number that is known where some variables are is the same where more are, and so is what stands in the place of its variables.
 use Rattle.std.proofs.Common.{◌≡◌, ◌∙◌, ap, sym, refl, subst, ℕ, ℤ, pos, ◌+ℤ◌, ◌*ℤ◌, ◌≤ℤ◌, true, List, [], ◌∷◌, map, arith}
 use Rattle.std.specs.Prelude.{Option, Some, None, option_map, is_some, unwrap_or}
+use Rattle.std.proofs.lemmas.Bool.Decides.{Decides-int_eq}
 use Rattle.sail_types.specs.Limits.{largest, small_power}
 use Rattle.sail_types.specs.Numbers.{Assignment, Positive, number}
 use Rattle.sail_types.specs.Sums.{and_then, plus_constant, plus_each, power_num, zero_num, Became, atom_becomes, sum_becomes, term_becomes}
-use Rattle.sail_types.specs.Sums.{became, substituted, substituted_atom}
+use Rattle.sail_types.specs.Sums.{became, substituted, substituted_atom, variable}
 use Rattle.sail_types.specs.declared.numbers.Num.{Num, roll-Num}
 use Rattle.sail_types.specs.declared.numbers.Term.{Term, roll-Term}
 use Rattle.sail_types.specs.declared.numbers.Atom.{Atom, roll-Atom}
@@ -12,6 +13,7 @@ use Rattle.sail_types.specs.declared.numbers.Atom.TheOpen as N
 use Rattle.sail_types.specs.declared.numbers.Atom.TheOpen.{Atom-F, Num-F, Term-F}
 use Rattle.sail_types.specs.declared.numbers.Atom.TheFolds.{fold-roll-Atom, fold-roll-Num, fold-roll-Term, map-Atom, map-Num, map-Term, ind-Num}
 use Rattle.sail_types.proofs.SumNumbers.{then_parts}
+use Rattle.row_types.specs.laws.Formulas.{number_variable}
 use Rattle.value_laws.proofs.Basics.{no}
 use Rattle.size_values.specs.declared.constants.Constant.{Constant}
 use Rattle.size_values.specs.declared.constants.Constant.TheVariants as C
@@ -127,6 +129,26 @@ number_stands of nu stands t z h = (known_number of nu stands t z h).0
 
 pub exact_value : (of : ℕ → Constant) (t : Num) → is_exact of t ≡ true → (z : ℤ) × (value_of of t ≡ Some z)
 exact_value of t h = some_there (value_of of t) h
+
+-- a variable that is exact is known
+
+abbrev standing_or : (ℕ → Constant) → ℤ → Assignment
+standing_or of d = record { int = λ i. unwrap_or (number_in (of i)) d; bool = λ i. true; beyond = λ t. one }
+
+variable_is : (of : ℕ → Constant) (i : ℕ) (z : ℤ) → value_of of (variable i) ≡ Some z → (d : ℤ) → unwrap_or (number_in (of i)) d ≡ z
+variable_is of i z h d =
+    sym (number_variable (standing_or of d) i)
+    ∙ number_stands of (standing_or of d) (λ j y e. ap (λ (o : Option ℤ). unwrap_or o d) e) (variable i) z h
+
+pub variable_known : (of : ℕ → Constant) (i : ℕ) (z : ℤ) → value_of of (variable i) ≡ Some z → number_in (of i) ≡ Some z
+variable_known of i z h = by (number_in (of i)) refl
+  where
+    by : (o : Option ℤ) → number_in (of i) ≡ o → o ≡ Some z
+    by (Some y) e = ap (λ (x : ℤ). Some x) (sym (ap (λ (o : Option ℤ). unwrap_or o (pos 0)) e) ∙ variable_is of i z h (pos 0))
+    by None e =
+        let zero : pos 0 ≡ z = sym (ap (λ (o : Option ℤ). unwrap_or o (pos 0)) e) ∙ variable_is of i z h (pos 0) in
+        let first : pos 1 ≡ z = sym (ap (λ (o : Option ℤ). unwrap_or o (pos 1)) e) ∙ variable_is of i z h (pos 1) in
+        no ((Decides-int_eq (pos 0) (pos 1)).1 (zero ∙ sym first))
 
 -- ---- what stands in the place of variables
 

@@ -91,15 +91,16 @@ module _ (types : Types) (own : List Sized) (own_count : ℕ) (f : ℕ → ℤ) 
   module _ (rs : List Reading) (n : ℕ)
       (found_at : (i : ℕ) → is_one_of i n ≡ true → (js : List Index) (ds : List Constant) → Settled types own to (of_type rs js ds (U.Variable i))) where
     alike : (depth : ℕ) (cs ds : List Constant) (js : List Index) → Grows cs ds → Grows cs (constants types own to js) → (t : Typ)
-        → typ_passes types depth t n cs ≡ true → IsAlike types own to rs js ds t
+        → typ_passes types depth t [] n cs ≡ true → IsAlike types own to rs js ds t
     alike depth cs ds js g k t h =
-        sym (typ_same types (stood types own to rs) depth t n cs ds g h) ∙ typ_same types (stood types own to rs) depth t n cs (constants types own to js) k h
+        sym (typ_same types (stood types own to rs) depth t [] n cs ds g h)
+        ∙ typ_same types (stood types own to rs) depth t [] n cs (constants types own to js) k h
 
     all_alike : (depth : ℕ) (cs ds : List Constant) (js : List Index) → Grows cs ds → Grows cs (constants types own to js) → (ts : List Typ)
-        → all_pass (typ_passes types depth) ts n cs ≡ true → AreAlike types own to rs js ds ts
+        → all_pass (typ_passes types depth) ts [] n cs ≡ true → AreAlike types own to rs js ds ts
     all_alike depth cs ds js g k [] h = tt
     all_alike depth cs ds js g k (t ∷ ts) h =
-        let p = and_parts (typ_passes types depth t n cs) (all_pass (typ_passes types depth) ts n cs) h in
+        let p = and_parts (typ_passes types depth t [] n cs) (all_pass (typ_passes types depth) ts [] n cs) h in
         (alike depth cs ds js g k t p.0, all_alike depth cs ds js g k ts p.1)
 
     abbrev Settles : (Typ → Opened) → Type 0
@@ -135,14 +136,14 @@ module _ (types : Types) (own : List Sized) (own_count : ℕ) (f : ℕ → ℤ) 
     form_settled depth settles (T.List a) t e cs ds is js g k s h =
         subst (λ (d : Typ). Settled types own to (of_type rs js ds d)) (sym (U.rolls-List a) ∙ e) (list rs js ds a (alike depth cs ds js g k a h))
     form_settled depth settles (T.Vector m a) t e cs ds is js g k s h =
-        let p = and_parts (is_said of is cs m) (typ_passes types depth a n cs) h in
+        let p = and_parts (is_said of is cs m) (typ_passes types depth a [] n cs) h in
         subst (λ (d : Typ). Settled types own to (of_type rs js ds d)) (sym (U.rolls-Vector m a) ∙ e)
         (vector rs js ds m a (says cs ds is js g s m p.0) (alike depth cs ds js g k a p.1))
     form_settled depth settles (T.Tuple ts) t e cs ds is js g k s h =
         subst (λ (d : Typ). Settled types own to (of_type rs js ds d)) (sym (U.rolls-Tuple ts) ∙ e)
         (tuple rs js ds ts (all_settled (typ_settles types of depth) settles ts cs ds is js g k s h))
     form_settled depth settles (T.Named u args ts) t e cs ds is js g k s h =
-        let p = and_parts (are_said types of u (length args) 0 is cs args) (all_pass (typ_passes types depth) ts n cs) h in
+        let p = and_parts (are_said types of u (length args) 0 is cs args) (all_pass (typ_passes types depth) ts [] n cs) h in
         subst (λ (d : Typ). Settled types own to (of_type rs js ds d)) (sym (U.rolls-Named u args ts) ∙ e)
         (named rs js ds u args ts (say_arguments cs ds is js g s u (length args) 0 args p.0) (all_alike depth cs ds js g k ts p.1))
     form_settled depth settles (T.Variable i) t e cs ds is js g k s h =

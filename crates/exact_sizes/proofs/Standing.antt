@@ -2,7 +2,6 @@
 use Rattle.std.proofs.Common.{◌≡◌, ◌∙◌, ap, sym, refl, subst, ℕ, ℤ, Bool, true, List, [], ◌∷◌, map, length}
 use Rattle.std.specs.Prelude.{Option}
 use Rattle.std.proofs.lemmas.Bool.{and_parts}
-use Rattle.sail_types.specs.Named.{field_types}
 use Rattle.sail_types.specs.Zero.{deepest}
 use Rattle.sail_types.specs.declared.numbers.Index.{Index}
 use Rattle.sail_types.specs.declared.table.Types.{Types}
@@ -12,17 +11,17 @@ use Rattle.value_indices.specs.declared.indices.Indices.TheFolds.{fold-roll-Indi
 use Rattle.value_indices.specs.declared.indices.Indices.TheOpen as W
 use Rattle.value_indices.specs.declared.indices.Indices.TheOpen.{Indices-F, Reading-F}
 use Rattle.value_indices.specs.declared.indices.Reading.{Reading, roll-Reading}
+use Rattle.value_indices.specs.declared.indices.Reading.TheVariants as R
 use Rattle.size_values.specs.declared.constants.Constant.{Constant}
 use Rattle.size_values.specs.declared.sized.Sized.{Sized}
 use Rattle.size_values.specs.declared.sized.Sized.TheVariants as S
 use Rattle.size_values.specs.Numbers.{constant_under, index_under}
-use Rattle.size_values.specs.Sizes.{fields_of}
 use Rattle.size_values.specs.Sized.{form_reading_sized, indices_sized, integer_of, named_numbers, reading_sized, typ_sized, types_or_own, value_sized}
-use Rattle.size_laws.proofs.Forms.{in_indices, in_reading, reading_is, value_is}
-use Rattle.exact_sizes.specs.Exact.{all_of, all_pass, are_exact, exact_constants, field_constants, indices_pass, is_exact, named_passes, or_own}
+use Rattle.size_laws.proofs.Forms.{in_indices, in_reading, of_is, reading_is, value_is}
+use Rattle.exact_sizes.specs.Exact.{all_of, are_exact, exact_constants, fields_pass, indices_pass, is_exact, applied_at, named_passes, or_own}
 use Rattle.exact_sizes.specs.Exact.{reading_passes, readings_pass, typ_passes, value_passes}
 use Rattle.exact_sizes.specs.Laws.{More, SizesStand}
-use Rattle.exact_sizes.proofs.Alike.{exact_grows, named_same, number_same, typ_same}
+use Rattle.exact_sizes.proofs.Alike.{Grows, exact_grows, named_same, number_same, typ_same}
 
 -- ---- the tests, by forms
 
@@ -105,9 +104,9 @@ module _ (types : Types) (own : List Sized) (own_count : ℕ) (of to : ℕ → C
   form_same (W.Tuple ys) h = ap (λ (l : List Sized). S.Tuple l) (values_same ys h)
   form_same (W.Named u args rs) h =
       let n = length (map (reading_passes types own_count of) (readings rs)) in
-      let p = and_parts (all_of (map (reading_passes types own_count of) (readings rs))) (named_passes types (typ_passes types deepest) of u args n) h in
+      let p = and_parts (all_of (map (reading_passes types own_count of) (readings rs))) (named_passes types (typ_passes types deepest) of u args n []) h in
       let q = and_parts (are_exact types of u (length args) 0 args)
-      (all_pass (typ_passes types deepest) (field_types (fields_of types u)) n (field_constants types of u args)) p.1 in
+      (fields_pass types (typ_passes types deepest) (applied_at types of u args n) []) p.1 in
       ap (λ (l : List (Option ℤ)). S.Named u l (map (reading_sized types own of) (readings rs))) (named_same types of to more u args q.0)
       ∙ ap (λ (l : List Sized). S.Named u (named_numbers types u (map (index_under to) args)) l) (readings_same rs p.0)
   form_same (W.Variable i) h = refl
@@ -119,18 +118,18 @@ module _ (types : Types) (own : List Sized) (own_count : ℕ) (of to : ℕ → C
   typed_to x = form_reading_sized types own to (in_reading types own to x)
 
   -- a type, whose variables stand for these
-  of_same : (t : Typ) (n : ℕ) (is : List Index) (ss : List Sized) → typ_passes types deepest t n (exact_constants of is) ≡ true
+  of_same : (t : Typ) (n : ℕ) (is : List Index) (ss : List Sized) → typ_passes types deepest t [] n (exact_constants of is) ≡ true
       → typ_sized types ss t (map (index_under of) is) ≡ typ_sized types ss t (map (index_under to) is)
   of_same t n is ss h =
-      sym (typ_same types ss deepest t n (exact_constants of is) (map (index_under of) is) (exact_grows of of (λ i z e. e) is) h)
-      ∙ typ_same types ss deepest t n (exact_constants of is) (map (index_under to) is) (exact_grows of to more is) h
+      sym (typ_same types ss deepest t [] n (exact_constants of is) (map (index_under of) is) (exact_grows of of (λ i z e. e) is) h)
+      ∙ typ_same types ss deepest t [] n (exact_constants of is) (map (index_under to) is) (exact_grows of to more is) h
 
   reading_same : (y : Reading-F SuchI SuchR) → readings_pass types own_count of (tests_of types own_count of (reading_of y)) ≡ true
       → typed_of (reading_of y) ≡ typed_to (reading_of y)
   reading_same (W.Of t is rs) h =
       let n = length (map (reading_passes types own_count of) (readings rs)) in
       let p = and_parts (all_of (map (reading_passes types own_count of) (readings rs)))
-      (typ_passes types deepest t (or_own own_count n) (exact_constants of is)) h in
+      (typ_passes types deepest t [] (or_own own_count n) (exact_constants of is)) h in
       of_same t (or_own own_count n) is (types_or_own (map (reading_sized types own of) (readings rs)) own) p.1
       ∙ ap (λ (l : List Sized). typ_sized types (types_or_own l own) t (map (index_under to) is)) (readings_same rs p.0)
   reading_same (W.Widened i) h = i.1 h
@@ -156,6 +155,16 @@ module _ (types : Types) (own : List Sized) (own_count : ℕ) (of to : ℕ → C
   reading_stands : (r : Reading) → SameR r
   reading_stands = ind-Reading SameI SameR (λ e y is. subst (λ d. SameI (roll-Indices d)) is (rolled_same y))
       (λ e y is. subst (λ d. SameR (roll-Reading d)) is (rolled_reading_same y))
+
+-- a type under no fewer constants than those that are certain
+pub typ_stands : (types : Types) (own : List Sized) (m : ℕ) (of to : ℕ → Constant) → More of to → (t : Typ) (is : List Index) (cs : List Constant)
+    → Grows (exact_constants of is) cs → reading_passes types m of (R.Of t is []) ≡ true → typ_sized types own t cs ≡ reading_sized types own to (R.Of t is [])
+typ_stands types own m of to more t is cs g h =
+    let p : typ_passes types deepest t [] m (exact_constants of is) ≡ true =
+    sym (reading_tested types m of (W.Of t is [])) ∙ ap (reading_passes types m of) (R.rolls-Of t is []) ∙ h in
+    sym (typ_same types own deepest t [] m (exact_constants of is) cs g p)
+    ∙ typ_same types own deepest t [] m (exact_constants of is) (map (index_under to) is) (exact_grows of to more is) p
+    ∙ sym (of_is types own to t is [])
 
 pub sizes_stand : SizesStand
 sizes_stand types own m of to more = (value_stands types own m of to more, reading_stands types own m of to more)

@@ -1,6 +1,6 @@
 -- A value that belongs to a type whose sizes are constants for certain has those sizes.
-use Rattle.std.proofs.Common.{◌≡◌, ◌∙◌, ap, sym, refl, subst, ℕ, zero, suc, ℤ, pos, nat_eq, nat_lt, Bool, true, false, ◌&&◌, List, [], ◌∷◌, map, length}
-use Rattle.std.proofs.Common.{slice_get}
+use Rattle.std.proofs.Common.{◌≡◌, ◌∙◌, ap, sym, refl, subst, ℕ, zero, suc, ◌+◌, ◌≤◌, ℤ, pos, nat_eq, nat_lt, Bool, true, false, ◌&&◌, ◌||◌, List, [], ◌∷◌}
+use Rattle.std.proofs.Common.{map, length, slice_get, arith}
 use Rattle.std.specs.Prelude.{Option, Some, None}
 use Rattle.std.specs.List.{list_all}
 use Rattle.std.specs.Ordering.{int_eq}
@@ -32,7 +32,7 @@ use Rattle.sail_types.specs.declared.values.Value.TheFolds.{fold-roll-Value, map
 use Rattle.sail_types.specs.declared.values.Value.TheOpen as V
 use Rattle.sail_types.specs.declared.values.Value.TheViews.{roll-out-Value}
 use Rattle.sail_types.proofs.Substituted.{number_constant}
-use Rattle.value_laws.proofs.Alike.{asks}
+use Rattle.value_laws.proofs.Alike.{asks, form_size, size, size_is, sizes, total}
 use Rattle.value_laws.proofs.Basics.{fronts, no, two}
 use Rattle.value_laws.proofs.Values.{answer, belongs_form, belongs_out, form_asked, inner, inner_is, questions}
 use Rattle.size_values.specs.declared.constants.Constant.{Constant}
@@ -43,12 +43,14 @@ use Rattle.size_values.specs.declared.sized.Sized.TheVariants as S
 use Rattle.size_values.specs.Numbers.{argument_of, constant_under, index_under, number_in}
 use Rattle.size_values.specs.Sizes.{fields_of}
 use Rattle.size_values.specs.Sizes as Sizes
-use Rattle.size_values.specs.Sized.{each_sized, form_sized, hangs_on, integer_of, named_numbers, number_where, numbers_from, sized_at, typ_sized}
+use Rattle.size_values.specs.Sized.{each_sized, form_sized, hangs_on, integer_of, named_numbers, number_where, numbers_eq, numbers_from, sized_at}
+use Rattle.size_values.specs.Sized.{typ_sized}
 use Rattle.checked_meaning.specs.Items.{constant_of, payload_of}
 use Rattle.size_laws.proofs.Parts.{out_is}
 use Rattle.checked_meaning.specs.Fits.{Fits, all_fit, each_fits, fields_sized, fits_step, form_fits, has_sizes, types_sized}
-use Rattle.exact_sizes.specs.Exact.{Test, all_pass, are_exact, field_constants, form_passes, is_exact, is_exact_index, is_one_of, named_passes, only_if}
-use Rattle.exact_sizes.specs.Exact.{open_of, typ_passes}
+use Rattle.exact_sizes.specs.Exact.{Applied, Test, all_pass, applied_at, are_exact, constants_in, fields_pass, form_passes, is_applied, is_exact}
+use Rattle.exact_sizes.specs.Exact.{field_constants, is_exact_index, is_one_of, named_passes, only_if, open_of, typ_passes, was_seen}
+use Rattle.exact_sizes.proofs.Equal.{numbers_same}
 use Rattle.exact_sizes.specs.Laws.{Stands}
 use Rattle.exact_sizes.proofs.Known.{exact_value, none, number_constant_is, number_stands}
 use Rattle.exact_sizes.proofs.Alike.{open_grows, sized_form, sized_in, typ_same}
@@ -105,12 +107,14 @@ module _ (types : Types) where
       let p = and_parts (test v) (list_all test vs) h in
       two (has_sizes types v s) (all_fit (map (has_sizes types) vs) s) (fit v p.0) (items_fit test s fit vs p.1)
 
-  asked_fit : (r : Closed) (s : Sized) → ((v : Value) → belongs types v r ≡ true → has_sizes types v s ≡ true) → (vs : List Value)
-      → all_belong (asks types vs) r ≡ true → all_fit (map (has_sizes types) vs) s ≡ true
-  asked_fit r s fit [] h = refl
-  asked_fit r s fit (v ∷ vs) h =
+  -- where none is larger than d
+  asked_fit : (d : ℕ) (r : Closed) (s : Sized) → ((v : Value) → size v ≤ d → belongs types v r ≡ true → has_sizes types v s ≡ true) → (vs : List Value)
+      → total (map size vs) ≤ d → all_belong (asks types vs) r ≡ true → all_fit (map (has_sizes types) vs) s ≡ true
+  asked_fit d r s fit [] le h = refl
+  asked_fit d r s fit (v ∷ vs) le h =
+      let l : size v + total (map size vs) ≤ d = le in
       let p = and_parts (belongs types v r) (all_belong (asks types vs) r) h in
-      two (has_sizes types v s) (all_fit (map (has_sizes types) vs) s) (fit v p.0) (asked_fit r s fit vs p.1)
+      two (has_sizes types v s) (all_fit (map (has_sizes types) vs) s) (fit v (omega arith) p.0) (asked_fit d r s fit vs (omega arith) p.1)
 
   many : {A : Type 0} (f : Value → A) (vs : List Value) (y z : ℤ) → y ≡ z → int_eq (pos (length vs)) y ≡ true → int_eq (pos (length (map f vs))) z ≡ true
   many f vs y z e h =
@@ -121,55 +125,56 @@ module _ (types : Types) where
   vector_fits vs s y z e h k =
       two (int_eq (pos (length (map (has_sizes types) vs))) z) (all_fit (map (has_sizes types) vs) s) (many (has_sizes types) vs y z e h) k
 
-  -- ---- named types, where a value of a field's type fits
+  -- ---- named types, where a value of a field's type fits that isn't larger than d
 
-  module _ (u : ℕ) (zs : List (Option ℤ)) (ss : List Sized) (nu : Assignment) (rs : Closeds) (test : Typ → Bool)
-      (fit : (t : Typ) → test t ≡ true → (v : Value) → belongs types v (reading t nu rs) ≡ true
+  module _ (d u : ℕ) (zs : List (Option ℤ)) (ss : List Sized) (nu : Assignment) (rs : Closeds) (test : Typ → Bool)
+      (fit : (t : Typ) → test t ≡ true → (v : Value) → size v ≤ d → belongs types v (reading t nu rs) ≡ true
       → has_sizes types v (typ_sized types ss t (map constant_of zs)) ≡ true)
       (pass : list_all test (field_types (fields_of types u)) ≡ true) where
     abbrev sized_field : Typ → Sized
     sized_field t = typ_sized types ss t (map constant_of zs)
 
-    each_field : (ts : List Typ) → list_all test ts ≡ true → (vs : List Value) → each_belongs (asks types vs) nu rs ts ≡ true
+    each_field : (ts : List Typ) → list_all test ts ≡ true → (vs : List Value) → total (map size vs) ≤ d → each_belongs (asks types vs) nu rs ts ≡ true
         → each_fits (map (has_sizes types) vs) (map sized_field ts) ≡ true
-    each_field [] p [] h = refl
-    each_field [] p (v ∷ vs) h = no h
-    each_field (t ∷ ts) p [] h = no h
-    each_field (t ∷ ts) p (v ∷ vs) h =
+    each_field [] p [] le h = refl
+    each_field [] p (v ∷ vs) le h = no h
+    each_field (t ∷ ts) p [] le h = no h
+    each_field (t ∷ ts) p (v ∷ vs) le h =
+        let l : size v + total (map size vs) ≤ d = le in
         let q = and_parts (test t) (list_all test ts) p in
         let k = and_parts (belongs types v (reading t nu rs)) (each_belongs (asks types vs) nu rs ts) h in
-        two (has_sizes types v (sized_field t)) (each_fits (map (has_sizes types) vs) (map sized_field ts)) (fit t q.0 v k.0)
-        (each_field ts q.1 vs k.1)
+        two (has_sizes types v (sized_field t)) (each_fits (map (has_sizes types) vs) (map sized_field ts)) (fit t q.0 v (omega arith) k.0)
+        (each_field ts q.1 vs (omega arith) k.1)
 
-    struct_fields_fit : (o : Option (List Field)) → fields types u ≡ o → (vs : List Value) → fields_belong (asks types vs) nu rs o ≡ true
-        → each_fits (map (has_sizes types) vs) (types_sized types zs ss o) ≡ true
-    struct_fields_fit None e vs h = no h
-    struct_fields_fit (Some fs) e vs h =
+    struct_fields_fit : (o : Option (List Field)) → fields types u ≡ o → (vs : List Value) → total (map size vs) ≤ d
+        → fields_belong (asks types vs) nu rs o ≡ true → each_fits (map (has_sizes types) vs) (types_sized types zs ss o) ≡ true
+    struct_fields_fit None e vs le h = no h
+    struct_fields_fit (Some fs) e vs le h =
         each_field (field_types fs)
-        (subst (λ (l : List Field). list_all test (field_types l) ≡ true) (struct_fields (slice_get types.definitions u) fs e) pass) vs h
+        (subst (λ (l : List Field). list_all test (field_types l) ≡ true) (struct_fields (slice_get types.definitions u) fs e) pass) vs le h
 
-    payload_fits : (o : Option Typ) (k : ℕ) → payload types u k ≡ o → (v : Value) → payload_belongs (belongs types v) nu rs o ≡ true
+    payload_fits : (o : Option Typ) (k : ℕ) → payload types u k ≡ o → (v : Value) → size v ≤ d → payload_belongs (belongs types v) nu rs o ≡ true
         → has_sizes types v (payload_of types zs ss o) ≡ true
-    payload_fits None k e v h = no h
-    payload_fits (Some t) k e v h = fit t (payload_passes test (slice_get types.definitions u) k t pass e) v h
+    payload_fits None k e v le h = no h
+    payload_fits (Some t) k e v le h = fit t (payload_passes test (slice_get types.definitions u) k t pass e) v le h
 
-    pub struct_fits : (i : ℕ) (vs : List Value) → (nat_eq i u && fields_belong (asks types vs) nu rs (fields types i)) ≡ true
+    pub struct_fits : (i : ℕ) (vs : List Value) → total (map size vs) ≤ d → (nat_eq i u && fields_belong (asks types vs) nu rs (fields types i)) ≡ true
         → form_fits types (fitting (V.Struct i vs)) (Z.Named u zs ss) ≡ true
-    struct_fits i vs h =
+    struct_fits i vs le h =
         let p = and_parts (nat_eq i u) (fields_belong (asks types vs) nu rs (fields types i)) h in
         let same : i ≡ u = (Decides-eqb i u).0 p.0 in
         two (nat_eq i u) (each_fits (map (has_sizes types) vs) (fields_sized types i zs ss)) p.0
         (ap (λ n. each_fits (map (has_sizes types) vs) (fields_sized types n zs ss)) same
-        ∙ struct_fields_fit (fields types u) refl vs (subst (λ n. fields_belong (asks types vs) nu rs (fields types n) ≡ true) same p.1))
+        ∙ struct_fields_fit (fields types u) refl vs le (subst (λ n. fields_belong (asks types vs) nu rs (fields types n) ≡ true) same p.1))
 
-    pub union_fits : (i k : ℕ) (v : Value) → (nat_eq i u && payload_belongs (belongs types v) nu rs (payload types i k)) ≡ true
+    pub union_fits : (i k : ℕ) (v : Value) → size v ≤ d → (nat_eq i u && payload_belongs (belongs types v) nu rs (payload types i k)) ≡ true
         → form_fits types (fitting (V.Union i k v)) (Z.Named u zs ss) ≡ true
-    union_fits i k v h =
+    union_fits i k v le h =
         let p = and_parts (nat_eq i u) (payload_belongs (belongs types v) nu rs (payload types i k)) h in
         let same : i ≡ u = (Decides-eqb i u).0 p.0 in
         two (nat_eq i u) (has_sizes types v (payload_of types zs ss (payload types i k))) p.0
         (ap (λ n. has_sizes types v (payload_of types zs ss (payload types n k))) same
-        ∙ payload_fits (payload types u k) k refl v (subst (λ n. payload_belongs (belongs types v) nu rs (payload types n k) ≡ true) same p.1))
+        ∙ payload_fits (payload types u k) k refl v le (subst (λ n. payload_belongs (belongs types v) nu rs (payload types n k) ≡ true) same p.1))
 
 -- ---- the numbers of a named type's arguments are those of its variables
 
@@ -202,16 +207,81 @@ fields_stand types of nu stands u args h i z e =
     (subst (λ n. number_in (argument_of (map open_of (numbers_from types u n 0 (map (index_under of) args))) i) ≡ Some z)
     (length-map args (index_under of)) e)
 
--- ---- types
+-- ---- named types that are read
+
+-- the same one
+applied_same : (a b : Applied) → is_applied a b ≡ true → a ≡ b
+applied_same a b h =
+    let p = and_parts (nat_eq a.place b.place) (nat_eq a.count b.count && numbers_eq a.numbers b.numbers) h in
+    let q = and_parts (nat_eq a.count b.count) (numbers_eq a.numbers b.numbers) p.1 in
+    let place : a.place ≡ b.place = (Decides-eqb a.place b.place).0 p.0 in
+    let count : a.count ≡ b.count = (Decides-eqb a.count b.count).0 q.0 in
+    let numbers : a.numbers ≡ b.numbers = numbers_same a.numbers b.numbers q.1 in
+    λ j. record { place = place j; count = count j; numbers = numbers j }
 
 module _ (types : Types) where
-  -- what Type variables stand for
+  -- the fields and payloads of one pass where it and these before it are read
+  pub record FieldsPass (a : Applied) (seen : List Applied) : Type 0 where
+    pub depth : ℕ
+    pub pass : all_pass (typ_passes types depth) (field_types (fields_of types a.place)) (a ∷ seen) a.count (constants_in a) ≡ true
+
+  abbrev pub AreRead : List Applied → Type 0
+  AreRead [] = Unit {0}
+  AreRead (a ∷ seen) = FieldsPass a seen × AreRead seen
+
+  pub record IsRead (a : Applied) : Type 0 where
+    pub before : List Applied
+    pub fields : FieldsPass a before
+    pub are_read : AreRead before
+
+  seen_read : (a : Applied) (seen : List Applied) → was_seen a seen ≡ true → AreRead seen → IsRead a
+  seen_read a [] h r = no h
+  seen_read a (b ∷ seen) h r = by (is_applied a b) refl h (λ g. seen_read a seen g r.1)
+    where
+      by : (q : Bool) → is_applied a b ≡ q → (q || was_seen a seen) ≡ true → (was_seen a seen ≡ true → IsRead a) → IsRead a
+      by true e g more = subst (λ (c : Applied). IsRead c) (sym (applied_same a b e)) (record { before = seen; fields = r.0; are_read = r.1 })
+      by false e g more = more g
+
+  -- one that is met is read, or read before
+  pub met_read : (depth : ℕ) (a : Applied) (seen : List Applied) → AreRead seen → fields_pass types (typ_passes types depth) a seen ≡ true → IsRead a
+  met_read depth a seen r h = by (was_seen a seen) refl h
+    where
+      by : (q : Bool) → was_seen a seen ≡ q
+          → (q || all_pass (typ_passes types depth) (field_types (fields_of types a.place)) (a ∷ seen) a.count (constants_in a)) ≡ true → IsRead a
+      by true e g = seen_read a seen e r
+      by false e g = record { before = seen; fields = record { depth = depth; pass = g }; are_read = r }
+
+-- ---- types
+
+-- a value counts itself
+one_at_least : (w : Value-F Value) → 1 ≤ form_size (sizes w)
+one_at_least V.Unit = omega arith
+one_at_least (V.Integer z) = omega arith
+one_at_least (V.Truth b) = omega arith
+one_at_least (V.Bit b) = omega arith
+one_at_least (V.Bits bits) = omega arith
+one_at_least (V.String text) = omega arith
+one_at_least (V.Member u k) = omega arith
+one_at_least (V.Tuple vs) = omega arith
+one_at_least (V.List vs) = omega arith
+one_at_least (V.Vector vs) = omega arith
+one_at_least (V.Struct u vs) = omega arith
+one_at_least (V.Union u k v) = omega arith
+
+module _ (types : Types) where
+  -- what Type variables stand for; by values that aren't larger than d
   abbrev pub Answers : ℕ → Closeds → List Sized → Type 0
   Answers n rs ss = (i : ℕ) → is_one_of i n ≡ true → (v : Value) → answer types v rs i ≡ true → has_sizes types v (sized_at ss i) ≡ true
 
-  abbrev pub TypFits : (Typ → Test) → Type 0
-  TypFits test = (t : Typ) (n : ℕ) (cs : List Constant) (ss : List Sized) (nu : Assignment) (rs : Closeds) → test t n cs ≡ true
-      → Stands (argument_of cs) nu.int → Answers n rs ss → (v : Value) → belongs types v (reading t nu rs) ≡ true
+  abbrev pub Few : ℕ → ℕ → Closeds → List Sized → Type 0
+  Few d n rs ss = (i : ℕ) → is_one_of i n ≡ true → (v : Value) → size v ≤ d → answer types v rs i ≡ true → has_sizes types v (sized_at ss i) ≡ true
+
+  fewer : (d n : ℕ) (rs : Closeds) (ss : List Sized) → Few (suc d) n rs ss → Few d n rs ss
+  fewer d n rs ss few i o v le h = few i o v (omega arith) h
+
+  abbrev pub TypFits : ℕ → (Typ → Test) → Type 0
+  TypFits d test = (t : Typ) (seen : List Applied) (n : ℕ) (cs : List Constant) (ss : List Sized) (nu : Assignment) (rs : Closeds) → AreRead types seen
+      → test t seen n cs ≡ true → Stands (argument_of cs) nu.int → Few d n rs ss → (v : Value) → size v ≤ d → belongs types v (reading t nu rs) ≡ true
       → has_sizes types v (typ_sized types ss t cs) ≡ true
 
   under_stands : (name : List ℕ) (cs : List Constant) (nu : Assignment) (z : ℤ) → Stands (argument_of cs) nu.int
@@ -225,49 +295,52 @@ module _ (types : Types) where
   inside_exists None nu c t h = no h
 
   -- the constants under which the fields of a named type pass, and its Type arguments
-  module _ (depth : ℕ) (fits : TypFits (typ_passes types depth)) where
+  module _ (d depth : ℕ) (fits : TypFits d (typ_passes types depth)) where
     pub field_fits : (of : ℕ → Constant) (nu : Assignment) → Stands of nu.int → (u : ℕ) (args : List Index) (n : ℕ) (ss : List Sized) (rs : Closeds)
-        → are_exact types of u (length args) 0 args ≡ true → Answers n rs ss → (t : Typ)
-        → typ_passes types depth t n (field_constants types of u args) ≡ true → (v : Value) → belongs types v (reading t (assigned nu args) rs) ≡ true
+        → are_exact types of u (length args) 0 args ≡ true → Few d n rs ss → (seen : List Applied) → AreRead types seen → (t : Typ)
+        → typ_passes types depth t seen n (constants_in (applied_at types of u args n)) ≡ true → (v : Value) → size v ≤ d
+        → belongs types v (reading t (assigned nu args) rs) ≡ true
         → has_sizes types v (typ_sized types ss t (map constant_of (named_numbers types u (map (index_under of) args)))) ≡ true
-    field_fits of nu stands u args n ss rs exact answers t pass v h =
+    field_fits of nu stands u args n ss rs exact few seen read t pass v le h =
         let zs = named_numbers types u (map (index_under of) args) in
         subst (λ (s : Sized). has_sizes types v s ≡ true)
-        (typ_same types ss depth t n (map open_of zs) (map constant_of zs) (open_grows zs) pass)
-        (fits t n (map open_of zs) ss (assigned nu args) rs pass (fields_stand types of nu stands u args exact) answers v h)
+        (typ_same types ss depth t seen n (map open_of zs) (map constant_of zs) (open_grows zs) pass)
+        (fits t seen n (map open_of zs) ss (assigned nu args) rs read pass (fields_stand types of nu stands u args exact) few v le h)
 
-  module _ (test : Typ → Test) (fits : TypFits test) (n : ℕ) (cs : List Constant) (ss : List Sized) (nu : Assignment) (rs : Closeds)
-      (stands : Stands (argument_of cs) nu.int) (answers : Answers n rs ss) where
+  module _ (d : ℕ) (test : Typ → Test) (fits : TypFits d test) (seen : List Applied) (read : AreRead types seen) (n : ℕ) (cs : List Constant)
+      (ss : List Sized) (nu : Assignment) (rs : Closeds) (stands : Stands (argument_of cs) nu.int) (few : Few d n rs ss) where
     abbrev sized : Typ → Sized
     sized t = typ_sized types ss t cs
 
     abbrev part : Value-F Value → Typ → Inner
     part w t = inner types w rs t
 
-    size_is : (t : Num) → is_exact (argument_of cs) t ≡ true → number nu t ≡ integer_of (constant_under (argument_of cs) t)
-    size_is t h =
+    size_is_number : (t : Num) → is_exact (argument_of cs) t ≡ true → number nu t ≡ integer_of (constant_under (argument_of cs) t)
+    size_is_number t h =
         let k = exact_value (argument_of cs) t h in
         number_stands (argument_of cs) nu stands t k.0 k.1 ∙ sym (ap integer_of (number_constant_is (argument_of cs) t k.0 k.1))
 
-    each_fit : (w : Value-F Value) (ts : List Typ) → all_pass test ts n cs ≡ true → (vs : List Value)
+    each_fit : (w : Value-F Value) (ts : List Typ) → all_pass test ts seen n cs ≡ true → (vs : List Value) → total (map size vs) ≤ d
         → each_belongs (asks types vs) nu rs (inner_types (map (λ t. (t, part w t)) ts)) ≡ true
         → each_fits (map (has_sizes types) vs) (each_sized (map (typ_sized types ss) ts) cs) ≡ true
-    each_fit w [] p [] h = refl
-    each_fit w [] p (v ∷ vs) h = no h
-    each_fit w (t ∷ ts) p [] h = no h
-    each_fit w (t ∷ ts) p (v ∷ vs) h =
-        let q = and_parts (test t n cs) (all_pass test ts n cs) p in
+    each_fit w [] p [] le h = refl
+    each_fit w [] p (v ∷ vs) le h = no h
+    each_fit w (t ∷ ts) p [] le h = no h
+    each_fit w (t ∷ ts) p (v ∷ vs) le h =
+        let l : size v + total (map size vs) ≤ d = le in
+        let q = and_parts (test t seen n cs) (all_pass test ts seen n cs) p in
         let k = and_parts (belongs types v (reading t nu rs)) (each_belongs (asks types vs) nu rs (inner_types (map (λ t. (t, part w t)) ts))) h in
         two (has_sizes types v (sized t)) (each_fits (map (has_sizes types) vs) (each_sized (map (typ_sized types ss) ts) cs))
-        (fits t n cs ss nu rs q.0 stands answers v k.0) (each_fit w ts q.1 vs k.1)
+        (fits t seen n cs ss nu rs read q.0 stands few v (omega arith) k.0) (each_fit w ts q.1 vs (omega arith) k.1)
 
-    each_answers : (ts : List Typ) → all_pass test ts n cs ≡ true → Answers (length ts) (read_each nu rs ts) (each_sized (map (typ_sized types ss) ts) cs)
-    each_answers [] p i h v a = no h
-    each_answers (t ∷ ts) p zero h v a =
-        fits t n cs ss nu rs (and_parts (test t n cs) (all_pass test ts n cs) p).0 stands answers v (belongs_out types v (reading t nu rs) ∙ a)
-    each_answers (t ∷ ts) p (suc i) h v a = each_answers ts (and_parts (test t n cs) (all_pass test ts n cs) p).1 i h v a
+    each_answers : (ts : List Typ) → all_pass test ts seen n cs ≡ true → Few d (length ts) (read_each nu rs ts) (each_sized (map (typ_sized types ss) ts) cs)
+    each_answers [] p i h v le a = no h
+    each_answers (t ∷ ts) p zero h v le a =
+        fits t seen n cs ss nu rs read (and_parts (test t seen n cs) (all_pass test ts seen n cs) p).0 stands few v le
+        (belongs_out types v (reading t nu rs) ∙ a)
+    each_answers (t ∷ ts) p (suc i) h v le a = each_answers ts (and_parts (test t seen n cs) (all_pass test ts seen n cs) p).1 i h v le a
 
-    -- ---- forms
+    -- ---- forms of values that aren't larger than d but for one more
 
     unit_form : (w : Value-F Value) → form_asked types w T.Unit nu rs ≡ true → form_fits types (fitting types w) Z.Unit ≡ true
     unit_form V.Unit h = refl
@@ -287,7 +360,7 @@ module _ (types : Types) where
 
     bits_form : (t : Num) → is_exact (argument_of cs) t ≡ true → (w : Value-F Value) → form_asked types w (T.Bits t) nu rs ≡ true
         → form_fits types (fitting types w) (Z.Bits (integer_of (constant_under (argument_of cs) t))) ≡ true
-    bits_form t p (V.Bits bits) h = bits_fit types (number nu t) (integer_of (constant_under (argument_of cs) t)) (size_is t p) bits h
+    bits_form t p (V.Bits bits) h = bits_fit types (number nu t) (integer_of (constant_under (argument_of cs) t)) (size_is_number t p) bits h
     bits_form t p w h = no h
 
     int_form : (t : Num) (w : Value-F Value) → form_asked types w (T.Int t) nu rs ≡ true → form_fits types (fitting types w) Z.Int ≡ true
@@ -302,113 +375,158 @@ module _ (types : Types) where
     string_form (V.String text) h = refl
     string_form w h = no h
 
-    list_form : (t : Typ) → test t n cs ≡ true → (w : Value-F Value) → form_asked types w (T.List t) nu rs ≡ true
+    list_form : (t : Typ) → test t seen n cs ≡ true → (w : Value-F Value) → form_size (sizes w) ≤ suc d → form_asked types w (T.List t) nu rs ≡ true
         → form_fits types (fitting types w) (Z.List (sized t)) ≡ true
-    list_form t p (V.List vs) h = asked_fit types (reading t nu rs) (sized t) (λ v k. fits t n cs ss nu rs p stands answers v k) vs h
-    list_form t p w h = no h
+    list_form t p (V.List vs) le h =
+        let l : suc (total (map size vs)) ≤ suc d = le in
+        asked_fit types d (reading t nu rs) (sized t) (λ v small k. fits t seen n cs ss nu rs read p stands few v small k) vs (omega arith) h
+    list_form t p w le h = no h
 
-    vector_form : (m : Num) (t : Typ) → is_exact (argument_of cs) m ≡ true → test t n cs ≡ true → (w : Value-F Value)
-        → form_asked types w (T.Vector m t) nu rs ≡ true
+    vector_form : (m : Num) (t : Typ) → is_exact (argument_of cs) m ≡ true → test t seen n cs ≡ true → (w : Value-F Value)
+        → form_size (sizes w) ≤ suc d → form_asked types w (T.Vector m t) nu rs ≡ true
         → form_fits types (fitting types w) (Z.Vector (integer_of (constant_under (argument_of cs) m)) (sized t)) ≡ true
-    vector_form m t e p (V.Vector vs) h =
+    vector_form m t e p (V.Vector vs) le h =
+        let all : suc (total (map size vs)) ≤ suc d = le in
         let k = and_parts (int_eq (pos (length (asks types vs))) (number nu m) && is_length (length (asks types vs))) _ h in
         let l = and_parts (int_eq (pos (length (asks types vs))) (number nu m)) (is_length (length (asks types vs))) k.0 in
-        vector_fits types vs (sized t) (number nu m) (integer_of (constant_under (argument_of cs) m)) (size_is m e)
+        vector_fits types vs (sized t) (number nu m) (integer_of (constant_under (argument_of cs) m)) (size_is_number m e)
         (subst (λ c. int_eq (pos c) (number nu m) ≡ true) (length-map vs (λ v. (v, belongs types v))) l.0)
-        (asked_fit types (reading t nu rs) (sized t) (λ v a. fits t n cs ss nu rs p stands answers v a) vs k.1)
-    vector_form m t e p w h = no h
+        (asked_fit types d (reading t nu rs) (sized t) (λ v small a. fits t seen n cs ss nu rs read p stands few v small a) vs (omega arith) k.1)
+    vector_form m t e p w le h = no h
 
-    tuple_form : (ts : List Typ) → all_pass test ts n cs ≡ true → (w : Value-F Value) → form_asked types w (T.Tuple ts) nu rs ≡ true
+    tuple_form : (ts : List Typ) → all_pass test ts seen n cs ≡ true → (w : Value-F Value) → form_size (sizes w) ≤ suc d
+        → form_asked types w (T.Tuple ts) nu rs ≡ true
         → form_fits types (fitting types w) (Z.Tuple (each_sized (map (typ_sized types ss) ts) cs)) ≡ true
-    tuple_form ts p (V.Tuple vs) h = each_fit (V.Tuple vs) ts p vs h
-    tuple_form ts p w h = no h
+    tuple_form ts p (V.Tuple vs) le h =
+        let l : suc (total (map size vs)) ≤ suc d = le in
+        each_fit (V.Tuple vs) ts p vs (omega arith) h
+    tuple_form ts p w le h = no h
 
   -- ---- named types
 
-  module _ (depth : ℕ) (fits : TypFits (typ_passes types depth)) (n : ℕ) (cs : List Constant) (ss : List Sized) (nu : Assignment) (rs : Closeds)
-      (stands : Stands (argument_of cs) nu.int) (answers : Answers n rs ss) (u : ℕ) (args : List Index) (ts : List Typ)
-      (passed : all_pass (typ_passes types depth) ts n cs ≡ true) (exact : are_exact types (argument_of cs) u (length args) 0 args ≡ true)
-      (fields_pass : all_pass (typ_passes types depth) (field_types (fields_of types u)) (length ts) (field_constants types (argument_of cs) u args)
-      ≡ true) where
+  module _ (d : ℕ) (all_fits : (depth : ℕ) → TypFits d (typ_passes types depth)) (depth : ℕ) (seen : List Applied) (read : AreRead types seen) (n : ℕ)
+      (cs : List Constant) (ss : List Sized) (nu : Assignment) (rs : Closeds) (stands : Stands (argument_of cs) nu.int) (few : Few d n rs ss) (u : ℕ)
+      (args : List Index) (ts : List Typ) (passed : all_pass (typ_passes types depth) ts seen n cs ≡ true)
+      (exact : are_exact types (argument_of cs) u (length args) 0 args ≡ true)
+      (it : IsRead types (applied_at types (argument_of cs) u args (length ts))) where
     abbrev zs : List (Option ℤ)
     zs = named_numbers types u (map (index_under (argument_of cs)) args)
 
     abbrev qs : List Sized
     qs = each_sized (map (typ_sized types ss) ts) cs
 
+    abbrev applied : Applied
+    applied = applied_at types (argument_of cs) u args (length ts)
+
+    abbrev around : List Applied
+    around = applied ∷ it.before
+
     abbrev passes : Typ → Bool
-    passes t = typ_passes types depth t (length ts) (field_constants types (argument_of cs) u args)
+    passes t = typ_passes types it.fields.depth t around (length ts) (constants_in applied)
 
-    one_fits : (t : Typ) → passes t ≡ true → (v : Value) → belongs types v (reading t (assigned nu args) (read_each nu rs ts)) ≡ true
+    one_fits : (t : Typ) → passes t ≡ true → (v : Value) → size v ≤ d → belongs types v (reading t (assigned nu args) (read_each nu rs ts)) ≡ true
         → has_sizes types v (typ_sized types qs t (map constant_of zs)) ≡ true
-    one_fits t k v b =
-        field_fits depth fits (argument_of cs) nu stands u args (length ts) qs (read_each nu rs ts) exact
-        (each_answers (typ_passes types depth) fits n cs ss nu rs stands answers ts passed) t k v b
+    one_fits t k v le b =
+        field_fits d it.fields.depth (all_fits it.fields.depth) (argument_of cs) nu stands u args (length ts) qs (read_each nu rs ts) exact
+        (each_answers d (typ_passes types depth) (all_fits depth) seen read n cs ss nu rs stands few ts passed) around (it.fields, it.are_read) t k v le b
 
-    named_form : (w : Value-F Value) → form_asked types w (T.Named u args ts) nu rs ≡ true → form_fits types (fitting types w) (Z.Named u zs qs) ≡ true
-    named_form (V.Member i k) h = (and_parts (nat_eq i u) (nat_lt k (length (members types i))) h).0
-    named_form (V.Struct i vs) h =
-        struct_fits types u zs qs (assigned nu args) (read_each nu rs ts) passes one_fits fields_pass i vs
+    named_form : (w : Value-F Value) → form_size (sizes w) ≤ suc d → form_asked types w (T.Named u args ts) nu rs ≡ true
+        → form_fits types (fitting types w) (Z.Named u zs qs) ≡ true
+    named_form (V.Member i k) le h = (and_parts (nat_eq i u) (nat_lt k (length (members types i))) h).0
+    named_form (V.Struct i vs) le h =
+        let l : suc (total (map size vs)) ≤ suc d = le in
+        struct_fits types d u zs qs (assigned nu args) (read_each nu rs ts) passes one_fits it.fields.pass i vs (omega arith)
         (subst (λ (us : List Typ). (nat_eq i u && fields_belong (asks types vs) (assigned nu args) (read_each nu rs us) (fields types i)) ≡ true)
         (fronts (inner types (V.Struct i vs) rs) ts) h)
-    named_form (V.Union i k v) h =
-        union_fits types u zs qs (assigned nu args) (read_each nu rs ts) passes one_fits fields_pass i k v
+    named_form (V.Union i k v) le h =
+        let l : suc (size v) ≤ suc d = le in
+        union_fits types d u zs qs (assigned nu args) (read_each nu rs ts) passes one_fits it.fields.pass i k v (omega arith)
         (subst (λ (us : List Typ). (nat_eq i u && payload_belongs (belongs types v) (assigned nu args) (read_each nu rs us) (payload types i k)) ≡ true)
         (fronts (inner types (V.Union i k v) rs) ts) h)
-    named_form w h = no h
+    named_form w le h = no h
 
-  -- ---- all of them
+  -- ---- all of them, of one more
 
-  form_fit : (depth : ℕ) → TypFits (typ_passes types depth) → (x : Typ-F Typ) (n : ℕ) (cs : List Constant) (ss : List Sized) (nu : Assignment) (rs : Closeds)
-      → form_passes types (typ_passes types depth) x n cs ≡ true → Stands (argument_of cs) nu.int → Answers n rs ss → (v : Value)
-      → form_asked types (out-Value v) x nu rs ≡ true → has_sizes types v (form_sized types ss (sized_in types ss x) cs) ≡ true
-  form_fit depth fits T.Unit n cs ss nu rs p stands answers v h =
-      fits_as types v S.Unit Z.Unit S.rolls-Unit (unit_form (typ_passes types depth) fits n cs ss nu rs stands answers (out-Value v) h)
-  form_fit depth fits T.Bool n cs ss nu rs p stands answers v h =
-      fits_as types v S.Bool Z.Bool S.rolls-Bool (bool_form (typ_passes types depth) fits n cs ss nu rs stands answers (out-Value v) h)
-  form_fit depth fits (T.Truth c) n cs ss nu rs p stands answers v h =
-      fits_as types v S.Bool Z.Bool S.rolls-Bool (truth_form (typ_passes types depth) fits n cs ss nu rs stands answers c (out-Value v) h)
-  form_fit depth fits T.Bit n cs ss nu rs p stands answers v h =
-      fits_as types v S.Bit Z.Bit S.rolls-Bit (bit_form (typ_passes types depth) fits n cs ss nu rs stands answers (out-Value v) h)
-  form_fit depth fits (T.Bits t) n cs ss nu rs p stands answers v h =
-      let z = integer_of (constant_under (argument_of cs) t) in
-      fits_as types v (S.Bits z) (Z.Bits z) (S.rolls-Bits z) (bits_form (typ_passes types depth) fits n cs ss nu rs stands answers t p (out-Value v) h)
-  form_fit depth fits (T.Int t) n cs ss nu rs p stands answers v h =
-      fits_as types v S.Int Z.Int S.rolls-Int (int_form (typ_passes types depth) fits n cs ss nu rs stands answers t (out-Value v) h)
-  form_fit depth fits (T.Range t u) n cs ss nu rs p stands answers v h =
-      fits_as types v S.Int Z.Int S.rolls-Int (range_form (typ_passes types depth) fits n cs ss nu rs stands answers t u (out-Value v) h)
-  form_fit depth fits T.String n cs ss nu rs p stands answers v h =
-      fits_as types v S.String Z.String S.rolls-String (string_form (typ_passes types depth) fits n cs ss nu rs stands answers (out-Value v) h)
-  form_fit depth fits (T.List t) n cs ss nu rs p stands answers v h =
-      let s = typ_sized types ss t cs in
-      fits_as types v (S.List s) (Z.List s) (S.rolls-List s) (list_form (typ_passes types depth) fits n cs ss nu rs stands answers t p (out-Value v) h)
-  form_fit depth fits (T.Vector m t) n cs ss nu rs p stands answers v h =
-      let s = typ_sized types ss t cs in
-      let z = integer_of (constant_under (argument_of cs) m) in
-      let k = and_parts (is_exact (argument_of cs) m) (typ_passes types depth t n cs) p in
-      fits_as types v (S.Vector z s) (Z.Vector z s) (S.rolls-Vector z s)
-      (vector_form (typ_passes types depth) fits n cs ss nu rs stands answers m t k.0 k.1 (out-Value v) h)
-  form_fit depth fits (T.Tuple ts) n cs ss nu rs p stands answers v h =
-      let qs = each_sized (map (typ_sized types ss) ts) cs in
-      fits_as types v (S.Tuple qs) (Z.Tuple qs) (S.rolls-Tuple qs)
-      (tuple_form (typ_passes types depth) fits n cs ss nu rs stands answers ts p (out-Value v) h)
-  form_fit depth fits (T.Named u args ts) n cs ss nu rs p stands answers v h =
-      let ms = named_numbers types u (map (index_under (argument_of cs)) args) in
-      let ps = each_sized (map (typ_sized types ss) ts) cs in
-      let k = and_parts (all_pass (typ_passes types depth) ts n cs) (named_passes types (typ_passes types depth) (argument_of cs) u args (length ts)) p in
-      let l = and_parts (are_exact types (argument_of cs) u (length args) 0 args)
-      (all_pass (typ_passes types depth) (field_types (fields_of types u)) (length ts) (field_constants types (argument_of cs) u args)) k.1 in
-      fits_as types v (S.Named u ms ps) (Z.Named u ms ps) (S.rolls-Named u ms ps)
-      (named_form depth fits n cs ss nu rs stands answers u args ts k.0 l.0 l.1 (out-Value v) h)
-  form_fit depth fits (T.Variable i) n cs ss nu rs p stands answers v h = answers i p v h
-  form_fit depth fits (T.Exists name c t) n cs ss nu rs p stands answers v h =
-      let given = placed t 0 (roll-Value (map-Value (Value × Asked) Value (λ p. p.0) (questions types (out-Value v)))) in
-      let k = inside_exists given nu c (inner types (out-Value v) rs t) h in
-      fits t n (C.Bound name ∷ cs) ss (under k.0 nu) rs p (under_stands name cs nu k.0 stands) answers v (sym (inner_is types v t (under k.0 nu) rs) ∙ k.1)
+  module _ (d : ℕ) (all_fits : (depth : ℕ) → TypFits d (typ_passes types depth)) (depth : ℕ) (same : TypFits (suc d) (typ_passes types depth))
+      (seen : List Applied) (read : AreRead types seen) (n : ℕ) (cs : List Constant) (ss : List Sized) (nu : Assignment) (rs : Closeds)
+      (stands : Stands (argument_of cs) nu.int) (few : Few (suc d) n rs ss) where
+    less : Few d n rs ss
+    less = fewer d n rs ss few
 
-  pub typ_fits : (depth : ℕ) → TypFits (typ_passes types depth)
-  typ_fits zero t n cs ss nu rs p stands answers v h = no p
-  typ_fits (suc depth) t n cs ss nu rs p stands answers v h =
+    form_fit : (x : Typ-F Typ) → form_passes types (typ_passes types depth) x seen n cs ≡ true → (v : Value) → size v ≤ suc d
+        → form_size (sizes (out-Value v)) ≤ suc d → form_asked types (out-Value v) x nu rs ≡ true
+        → has_sizes types v (form_sized types ss (sized_in types ss x) cs) ≡ true
+    form_fit T.Unit p v le small h =
+        fits_as types v S.Unit Z.Unit S.rolls-Unit (unit_form d (typ_passes types depth) (all_fits depth) seen read n cs ss nu rs stands less (out-Value v) h)
+    form_fit T.Bool p v le small h =
+        fits_as types v S.Bool Z.Bool S.rolls-Bool (bool_form d (typ_passes types depth) (all_fits depth) seen read n cs ss nu rs stands less (out-Value v) h)
+    form_fit (T.Truth c) p v le small h =
+        fits_as types v S.Bool Z.Bool S.rolls-Bool
+        (truth_form d (typ_passes types depth) (all_fits depth) seen read n cs ss nu rs stands less c (out-Value v) h)
+    form_fit T.Bit p v le small h =
+        fits_as types v S.Bit Z.Bit S.rolls-Bit (bit_form d (typ_passes types depth) (all_fits depth) seen read n cs ss nu rs stands less (out-Value v) h)
+    form_fit (T.Bits t) p v le small h =
+        let z = integer_of (constant_under (argument_of cs) t) in
+        fits_as types v (S.Bits z) (Z.Bits z) (S.rolls-Bits z)
+        (bits_form d (typ_passes types depth) (all_fits depth) seen read n cs ss nu rs stands less t p (out-Value v) h)
+    form_fit (T.Int t) p v le small h =
+        fits_as types v S.Int Z.Int S.rolls-Int (int_form d (typ_passes types depth) (all_fits depth) seen read n cs ss nu rs stands less t (out-Value v) h)
+    form_fit (T.Range t u) p v le small h =
+        fits_as types v S.Int Z.Int S.rolls-Int (range_form d (typ_passes types depth) (all_fits depth) seen read n cs ss nu rs stands less t u (out-Value v) h)
+    form_fit T.String p v le small h =
+        fits_as types v S.String Z.String S.rolls-String
+        (string_form d (typ_passes types depth) (all_fits depth) seen read n cs ss nu rs stands less (out-Value v) h)
+    form_fit (T.List t) p v le small h =
+        let s = typ_sized types ss t cs in
+        fits_as types v (S.List s) (Z.List s) (S.rolls-List s)
+        (list_form d (typ_passes types depth) (all_fits depth) seen read n cs ss nu rs stands less t p (out-Value v) small h)
+    form_fit (T.Vector m t) p v le small h =
+        let s = typ_sized types ss t cs in
+        let z = integer_of (constant_under (argument_of cs) m) in
+        let k = and_parts (is_exact (argument_of cs) m) (typ_passes types depth t seen n cs) p in
+        fits_as types v (S.Vector z s) (Z.Vector z s) (S.rolls-Vector z s)
+        (vector_form d (typ_passes types depth) (all_fits depth) seen read n cs ss nu rs stands less m t k.0 k.1 (out-Value v) small h)
+    form_fit (T.Tuple ts) p v le small h =
+        let qs = each_sized (map (typ_sized types ss) ts) cs in
+        fits_as types v (S.Tuple qs) (Z.Tuple qs) (S.rolls-Tuple qs)
+        (tuple_form d (typ_passes types depth) (all_fits depth) seen read n cs ss nu rs stands less ts p (out-Value v) small h)
+    form_fit (T.Named u args ts) p v le small h =
+        let ms = named_numbers types u (map (index_under (argument_of cs)) args) in
+        let ps = each_sized (map (typ_sized types ss) ts) cs in
+        let it = applied_at types (argument_of cs) u args (length ts) in
+        let k = and_parts (all_pass (typ_passes types depth) ts seen n cs)
+        (named_passes types (typ_passes types depth) (argument_of cs) u args (length ts) seen) p in
+        let l = and_parts (are_exact types (argument_of cs) u (length args) 0 args) (fields_pass types (typ_passes types depth) it seen) k.1 in
+        fits_as types v (S.Named u ms ps) (Z.Named u ms ps) (S.rolls-Named u ms ps)
+        (named_form d all_fits depth seen read n cs ss nu rs stands less u args ts k.0 l.0 (met_read types depth it seen read l.1) (out-Value v) small h)
+    form_fit (T.Variable i) p v le small h = few i p v le h
+    form_fit (T.Exists name c t) p v le small h =
+        let given = placed t 0 (roll-Value (map-Value (Value × Asked) Value (λ p. p.0) (questions types (out-Value v)))) in
+        let k = inside_exists given nu c (inner types (out-Value v) rs t) h in
+        same t seen n (C.Bound name ∷ cs) ss (under k.0 nu) rs read p (under_stands name cs nu k.0 stands) few v le
+        (sym (inner_is types v t (under k.0 nu) rs) ∙ k.1)
+
+  one_more : (d : ℕ) → ((depth : ℕ) → TypFits d (typ_passes types depth)) → (depth : ℕ) → TypFits (suc d) (typ_passes types depth)
+  one_more d all_fits zero t seen n cs ss nu rs read p stands few v le h = no p
+  one_more d all_fits (suc depth) t seen n cs ss nu rs read p stands few v le h =
       ap (has_sizes types v) (sized_form types ss t cs)
-      ∙ form_fit depth (typ_fits depth) (out-Typ t) n cs ss nu rs p stands answers v
-      (sym (belongs_form types v (out-Typ t) t nu rs (roll-out-Typ t)) ∙ h)
+      ∙ form_fit d all_fits depth (one_more d all_fits depth) seen read n cs ss nu rs stands few (out-Typ t) p v le
+      (subst (λ (k : ℕ). k ≤ suc d) (size_is v) le) (sym (belongs_form types v (out-Typ t) t nu rs (roll-out-Typ t)) ∙ h)
+
+  none_left : (v : Value) → size v ≤ 0 → ⊥
+  none_left v le =
+      let some : 1 ≤ form_size (sizes (out-Value v)) = one_at_least (out-Value v) in
+      let same : size v ≡ form_size (sizes (out-Value v)) = size_is v in
+      omega (arith, le, some, same)
+
+  pub few_fit : (d depth : ℕ) → TypFits d (typ_passes types depth)
+  few_fit zero depth t seen n cs ss nu rs read p stands few v le h = absurd (none_left v le)
+  few_fit (suc d) depth t seen n cs ss nu rs read p stands few v le h =
+      one_more d (few_fit d) depth t seen n cs ss nu rs read p stands few v le h
+
+  -- whatever the value
+  pub typ_fits : (depth : ℕ) (t : Typ) (seen : List Applied) (n : ℕ) (cs : List Constant) (ss : List Sized) (nu : Assignment) (rs : Closeds)
+      → AreRead types seen → typ_passes types depth t seen n cs ≡ true → Stands (argument_of cs) nu.int → Answers n rs ss → (v : Value)
+      → belongs types v (reading t nu rs) ≡ true → has_sizes types v (typ_sized types ss t cs) ≡ true
+  typ_fits depth t seen n cs ss nu rs read p stands answers v h =
+      few_fit (size v) depth t seen n cs ss nu rs read p stands (λ i o w le a. answers i o w a) v (omega arith) h

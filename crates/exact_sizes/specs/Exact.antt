@@ -1,7 +1,7 @@
 -- Sizes that are constants for certain: each number in them is known, and none past the largest integer is on the way; so are those of fields and
 -- payloads (Sail language manual, "Bitvectors", "Vectors", "Type variables").
-use Rattle.std.specs.Prelude.{ℕ, zero, suc, ℤ, Bool, true, false, ◌&&◌, List, [], ◌∷◌, length, map, Option, Some, None, is_some}
-use Rattle.std.specs.List.{list_all}
+use Rattle.std.specs.Prelude.{ℕ, zero, suc, ℤ, nat_eq, Bool, true, false, ◌&&◌, ◌||◌, List, [], ◌∷◌, length, map, Option, Some, None, is_some}
+use Rattle.std.specs.List.{list_all, list_any}
 use Rattle.std.specs.Ordering.{int_eq}
 use Rattle.sail_types.specs.Named.{field_types}
 use Rattle.sail_types.specs.Sums.{and_then, read, variable}
@@ -20,7 +20,7 @@ use Rattle.size_values.specs.declared.constants.Constant.{Constant}
 use Rattle.size_values.specs.declared.constants.Constant.TheVariants as C
 use Rattle.size_values.specs.Numbers.{argument_of, index_under, value_of}
 use Rattle.size_values.specs.Sizes.{fields_of}
-use Rattle.size_values.specs.Sized.{hangs_on, named_numbers}
+use Rattle.size_values.specs.Sized.{hangs_on, named_numbers, numbers_eq}
 
 -- ---- numbers
 
@@ -59,37 +59,60 @@ is_one_of i zero = false
 is_one_of zero (suc n) = true
 is_one_of (suc i) (suc n) = is_one_of i n
 
--- ---- types, where so many Type variables stand for such types, and these constants are for its Int variables
+-- ---- types, where so many Type variables stand for such types, and these constants are for its Int variables; in the fields and payloads of these
+-- named types, which are read
+
+-- a named type of so many Type arguments, with the numbers of those arguments on which a size hangs
+pub record Applied : Type 0 where
+  pub place : ℕ
+  pub count : ℕ
+  pub numbers : List (Option ℤ)
+
+abbrev pub is_applied : Applied → Applied → Bool
+is_applied a b = nat_eq a.place b.place && (nat_eq a.count b.count && numbers_eq a.numbers b.numbers)
+
+abbrev pub was_seen : Applied → List Applied → Bool
+was_seen a seen = list_any (is_applied a) seen
 
 abbrev pub Test : Type 0
-Test = ℕ → List Constant → Bool
+Test = List Applied → ℕ → List Constant → Bool
 
 abbrev pub all_pass : (Typ → Test) → List Typ → Test
-all_pass inside ts n cs = list_all (λ t. inside t n cs) ts
+all_pass inside ts seen n cs = list_all (λ t. inside t seen n cs) ts
 
 -- the constants for the variables of a named type; no size of its fields hangs on one that is open
+abbrev pub constants_in : Applied → List Constant
+constants_in a = map open_of a.numbers
+
+abbrev pub applied_at : Types → (ℕ → Constant) → ℕ → List Index → ℕ → Applied
+applied_at types of u args n = record { place = u; count = n; numbers = named_numbers types u (map (index_under of) args) }
+
 abbrev pub field_constants : Types → (ℕ → Constant) → ℕ → List Index → List Constant
 field_constants types of u args = map open_of (named_numbers types u (map (index_under of) args))
 
--- a named type of so many Type arguments
-abbrev pub named_passes : Types → (Typ → Test) → (ℕ → Constant) → ℕ → List Index → ℕ → Bool
-named_passes types inside of u args n =
-    are_exact types of u (length args) 0 args && all_pass inside (field_types (fields_of types u)) n (field_constants types of u args)
+-- its fields and payloads: once
+abbrev pub fields_pass : Types → (Typ → Test) → Applied → List Applied → Bool
+fields_pass types inside a seen = was_seen a seen || all_pass inside (field_types (fields_of types a.place)) (a ∷ seen) a.count (constants_in a)
+
+abbrev pub named_passes : Types → (Typ → Test) → (ℕ → Constant) → ℕ → List Index → ℕ → List Applied → Bool
+named_passes types inside of u args n seen =
+    are_exact types of u (length args) 0 args && fields_pass types inside (applied_at types of u args n) seen
 
 abbrev pub form_passes : Types → (Typ → Test) → Typ-F Typ → Test
-form_passes types inside (T.Bits t) n cs = is_exact (argument_of cs) t
-form_passes types inside (T.List t) n cs = inside t n cs
-form_passes types inside (T.Vector m t) n cs = is_exact (argument_of cs) m && inside t n cs
-form_passes types inside (T.Tuple ts) n cs = all_pass inside ts n cs
-form_passes types inside (T.Named u args ts) n cs = all_pass inside ts n cs && named_passes types inside (argument_of cs) u args (length ts)
-form_passes types inside (T.Variable i) n cs = is_one_of i n
-form_passes types inside (T.Exists name c t) n cs = inside t n (C.Bound name ∷ cs)
-form_passes types inside form n cs = true
+form_passes types inside (T.Bits t) seen n cs = is_exact (argument_of cs) t
+form_passes types inside (T.List t) seen n cs = inside t seen n cs
+form_passes types inside (T.Vector m t) seen n cs = is_exact (argument_of cs) m && inside t seen n cs
+form_passes types inside (T.Tuple ts) seen n cs = all_pass inside ts seen n cs
+form_passes types inside (T.Named u args ts) seen n cs =
+    all_pass inside ts seen n cs && named_passes types inside (argument_of cs) u args (length ts) seen
+form_passes types inside (T.Variable i) seen n cs = is_one_of i n
+form_passes types inside (T.Exists name c t) seen n cs = inside t seen n (C.Bound name ∷ cs)
+form_passes types inside form seen n cs = true
 
 -- through types inside types to this depth
 abbrev pub typ_passes : Types → ℕ → Typ → Test
-typ_passes types zero t n cs = false
-typ_passes types (suc depth) t n cs = form_passes types (typ_passes types depth) (out-Typ t) n cs
+typ_passes types zero t seen n cs = false
+typ_passes types (suc depth) t seen n cs = form_passes types (typ_passes types depth) (out-Typ t) seen n cs
 
 -- ---- values of some indices, and types of the walk, where the function around them has so many Type variables
 
@@ -101,7 +124,7 @@ indices_pass types m of (W.Bits t) = is_exact of t
 indices_pass types m of (W.List r) = r
 indices_pass types m of (W.Vector t r) = is_exact of t && r
 indices_pass types m of (W.Tuple bs) = all_of bs
-indices_pass types m of (W.Named u args rs) = all_of rs && named_passes types (typ_passes types deepest) of u args (length rs)
+indices_pass types m of (W.Named u args rs) = all_of rs && named_passes types (typ_passes types deepest) of u args (length rs) []
 indices_pass types m of (W.Variable i) = is_one_of i m
 indices_pass types m of form = true
 
@@ -111,7 +134,7 @@ or_own m zero = m
 or_own m (suc n) = suc n
 
 abbrev pub readings_pass : Types → ℕ → (ℕ → Constant) → Reading-F Bool Bool → Bool
-readings_pass types m of (W.Of t is rs) = all_of rs && typ_passes types deepest t (or_own m (length rs)) (exact_constants of is)
+readings_pass types m of (W.Of t is rs) = all_of rs && typ_passes types deepest t [] (or_own m (length rs)) (exact_constants of is)
 readings_pass types m of (W.Widened i) = i
 readings_pass types m of (W.Parts rs) = all_of rs
 readings_pass types m of W.Hole = true
@@ -150,10 +173,10 @@ all_settle inside ts n is cs = list_all (λ t. inside t n is cs) ts
 -- types of items and arguments aren't opened; for what `{'n, C. T}` binds stands any variable
 abbrev pub form_settles : Types → (ℕ → Constant) → (Typ → Test) → (Typ → Opened) → Typ-F Typ → Opened
 form_settles types of kept inside (T.Bits t) n is cs = is_said of is cs t
-form_settles types of kept inside (T.List t) n is cs = kept t n cs
-form_settles types of kept inside (T.Vector m t) n is cs = is_said of is cs m && kept t n cs
+form_settles types of kept inside (T.List t) n is cs = kept t [] n cs
+form_settles types of kept inside (T.Vector m t) n is cs = is_said of is cs m && kept t [] n cs
 form_settles types of kept inside (T.Tuple ts) n is cs = all_settle inside ts n is cs
-form_settles types of kept inside (T.Named u args ts) n is cs = are_said types of u (length args) 0 is cs args && all_pass kept ts n cs
+form_settles types of kept inside (T.Named u args ts) n is cs = are_said types of u (length args) 0 is cs args && all_pass kept ts [] n cs
 form_settles types of kept inside (T.Variable i) n is cs = is_one_of i n
 form_settles types of kept inside (T.Exists name c t) n is cs = inside t n (N.Number (variable 0) ∷ is) (C.Bound name ∷ cs)
 form_settles types of kept inside form n is cs = true

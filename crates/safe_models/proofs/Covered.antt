@@ -1,8 +1,7 @@
 -- A list that is tested covers what is read of its core: functions, directions, and openings, whose notes are met wherever types are the same.
-use Rattle.std.proofs.Common.{◌≡◌, ◌∙◌, sym, refl, subst, ℕ, zero, suc, false, List, [], ◌∷◌, Some}
+use Rattle.std.proofs.Common.{◌≡◌, ◌∙◌, refl, subst, ℕ, zero, suc, false, List, [], ◌∷◌}
 use Rattle.sail_types.specs.Numbers.{Positive}
 use Rattle.sail_types.specs.declared.table.Types.{Types}
-use Rattle.sail_types.proofs.SumNumbers.{some_same}
 use Rattle.scattered.specs.Gathered.{gathered}
 use Rattle.model_state.specs.declared.state.Register.{Register}
 use Rattle.sail_core.specs.declared.model.CoreModel.{CoreModel}
@@ -51,16 +50,9 @@ module _ (m : CoreModel) (rank : ℕ → ℕ) (c : SizedCore) (past : Positive) 
   way_read d n (is_ahead o) h = h
   way_read d n (is_back o) h = h
 
-  direction_covered : (d : ℕ) (n : Direction) (side : Side) → side_at m.directions d ≡ Some side → DirectionIsRead set m rank (checks_of m c) d n
+  direction_covered : (d : ℕ) (n : Direction) (side : Side) → DirectionIsRead set m rank (checks_of m c) d n side
       → CoversDirection set rank (checks_of m c) d n side
-  direction_covered d n side at h =
-      let same : h.side ≡ side = some_same h.side side (sym h.is_its ∙ sides_same m.directions d ∙ at) in
-      record {
-        read = way_read d n side
-            (subst (λ (s : Side). Read set nobody (lower rank (rank d)) ((checks_of m c).direction d)
-            (mapping_read set.around (Tests.pair_of s n).forwards (Tests.pair_of s n).backwards [] 0).notes) same h.read);
-        takes = h.takes;
-      }
+  direction_covered d n side h = record { read = way_read d n side h.read; takes = h.takes }
 
   -- ---- openings
 
@@ -78,7 +70,7 @@ module _ (m : CoreModel) (rank : ℕ → ℕ) (c : SizedCore) (past : Positive) 
   model_covered : IsTested m rank c → Covers set m (checks_of m c) rank
   model_covered h = record {
     functions = λ x f covered own at. function_covered x f (is_read.functions x f covered own at);
-    directions = λ d n side at is_it. direction_covered d n side is_it (is_read.directions d n at);
+    directions = λ d n side at is_it. direction_covered d n side (is_read.directions d n side at (sides_same m.directions d ∙ is_it));
     openings = openings_covered;
     step = is_read.step;
     reset = is_read.reset;
