@@ -50,12 +50,13 @@ marks_same (x ∷ xs) (y ∷ ys) h =
 -- no more are marked next
 settled_next : (ds : List Definition) (steps : ℕ) (first marks : Marks) → settled ds steps first ≡ Some marks → marked_next ds marks ≡ marks
 settled_next ds zero first marks e = absurd (cc)
-settled_next ds (suc steps) first marks e = by (marks_eq (marked_next ds first) first) refl e
+settled_next ds (suc steps) first marks e =
+    by (λ k. settled_next ds steps (marked_next ds first) marks k) (marks_eq (marked_next ds first) first) refl e
   where
-    by : (b : Bool) → marks_eq (marked_next ds first) first ≡ b → (if b then Some first else settled ds steps (marked_next ds first)) ≡ Some marks
-        → marked_next ds marks ≡ marks
-    by true t k = subst (λ m. marked_next ds m ≡ m) (some_same first marks k) (marks_same (marked_next ds first) first t)
-    by false t k = settled_next ds steps (marked_next ds first) marks k
+    by : (settled ds steps (marked_next ds first) ≡ Some marks → marked_next ds marks ≡ marks) → (b : Bool) → marks_eq (marked_next ds first) first ≡ b
+        → (if b then Some first else settled ds steps (marked_next ds first)) ≡ Some marks → marked_next ds marks ≡ marks
+    by behind true t k = subst (λ m. marked_next ds m ≡ m) (some_same first marks k) (marks_same (marked_next ds first) first t)
+    by behind false t k = behind k
 
 -- ---- the mark of one parameter
 
@@ -125,7 +126,8 @@ module _ (types : Types) (marks : Marks) (is_settled : settled types.definitions
   arguments_shown : (of : ℕ → Constant) (i : ℕ) → is_free (of i) ≡ true → (u n k : ℕ) (args : List Index) → k + length args ≤ n
       → among i (arguments_hanging types u n k args) ≡ true → arguments_open marks u k (map (index_under of) args) ≡ true
   arguments_shown of i free u n k [] l h = no h
-  arguments_shown of i free u n k (a ∷ args) l h = by (hangs_on types u n k) refl h
+  arguments_shown of i free u n k (a ∷ args) l h =
+      by (λ e. or_right first rest (arguments_shown of i free u n (suc k) args (omega (arith, l)) e)) (hangs_on types u n k) refl h
     where
       first : Bool
       first = is_marked marks u k && is_free (index_under of a)
@@ -133,14 +135,11 @@ module _ (types : Types) (marks : Marks) (is_settled : settled types.definitions
       rest : Bool
       rest = arguments_open marks u (suc k) (map (index_under of) args)
 
-      behind : among i (arguments_hanging types u n (suc k) args) ≡ true → (first || rest) ≡ true
-      behind e = or_right first rest (arguments_shown of i free u n (suc k) args (omega (arith, l)) e)
-
-      by : (b : Bool) → hangs_on types u n k ≡ b
+      by : (among i (arguments_hanging types u n (suc k) args) ≡ true → (first || rest) ≡ true) → (b : Bool) → hangs_on types u n k ≡ b
           → among i ((if b then index_variables a else []) ++ arguments_hanging types u n (suc k) args) ≡ true → (first || rest) ≡ true
-      by true e m = in_either i (index_variables a) (arguments_hanging types u n (suc k) args) m (λ s. or_left first rest
+      by behind true e m = in_either i (index_variables a) (arguments_hanging types u n (suc k) args) m (λ s. or_left first rest
           (and_from (is_marked marks u k) (is_free (index_under of a)) (closed u n k (omega (arith, l)) e) (index_free of i free a s))) behind
-      by false e m = behind m
+      by behind false e m = behind m
 
   Shows : Typ → Type 0
   Shows t = (cs : List Constant) (i : ℕ) → is_free (argument_of cs i) ≡ true → among i (hanging types t) ≡ true → typ_open marks t cs ≡ true
