@@ -47,7 +47,7 @@ other_at (a ∷ b ∷ ds) (suc (suc d)) n side e k =
 -- ---- all of a model
 
 module _ (m : CoreModel) (past : Positive) (hart : ℕ) (covered : Work → Bool) (k : Checks) (rank : ℕ → ℕ) (fits : model_fits m ≡ true)
-    (known : ModelKnown (setting_in m past hart covered) m k rank) where
+    (known : ModelKnown (setting_in m past hart covered)) where
   abbrev set : Setting
   set = setting_in m past hart covered
 
@@ -58,24 +58,23 @@ module _ (m : CoreModel) (past : Positive) (hart : ℕ) (covered : Work → Bool
   function x f is there =
       let its = and_parts (clauses_fit (around_of m) (own_of f) f.is_declared f.body) (measure_fits (around_of m) (own_of f) f.measure)
       (each (function_fits (around_of m)) m.functions x.function f both.0 there) in
-      let met = known.functions x f is there in
       record {
         model = known.tables x is;
-        body = λ h nu w. clauses (scene_of set x f h (k.function x.function x.instance.place nu)) w f.is_declared f.body its.0 (met.body h nu);
+        body = λ h nu w. clauses (scene_of set x f h (k.function x.function x.instance.place nu)) w f.is_declared f.body its.0;
         measure = λ h nu w core has.
             clauses (scene_of set x f h (k.function x.function x.instance.place nu)) w true core
-            (subst (λ o. measure_fits (around_of m) (own_of f) o ≡ true) has its.1) (met.measure h nu core has);
+            (subst (λ o. measure_fits (around_of m) (own_of f) o ≡ true) has its.1);
       }
 
   of_side : (d e : ℕ) (n : Direction) (side : Side) → slice_get m.directions d ≡ Some n → slice_get m.directions e ≡ Some (other side)
       → DirectionStands set rank k d n side
   of_side d e n (is_ahead o) there back =
       let both_ways = ways (scene_across set k rank d) n o (each (direction_fits (around_of m) []) m.directions d n both.1 there)
-      (each (direction_fits (around_of m) []) m.directions e o both.1 back) (known.directions d d n there) (known.directions d e o back) in
+      (each (direction_fits (around_of m) []) m.directions e o both.1 back) in
       record { model = known.nowhere; ways = both_ways.0; patterns = both_ways.1 }
   of_side d e n (is_back o) there back =
       let both_ways = ways (scene_across set k rank d) o n (each (direction_fits (around_of m) []) m.directions e o both.1 back)
-      (each (direction_fits (around_of m) []) m.directions d n both.1 there) (known.directions d e o back) (known.directions d d n there) in
+      (each (direction_fits (around_of m) []) m.directions d n both.1 there) in
       record { model = known.nowhere; ways = both_ways.0; patterns = both_ways.2 }
 
   direction : (d : ℕ) (n : Direction) (side : Side) → slice_get m.directions d ≡ Some n → side_at m.directions d ≡ Some side

@@ -1,4 +1,4 @@
--- Where each node of an expression passes the tests of its kind, what is left to ask is of ways that meet.
+-- Where each node of an expression passes the tests of its kind, nothing more is asked of it.
 use Rattle.std.proofs.Common.{◌≡◌, Bool, true, ◌&&◌, List, [], ◌∷◌, ◌++◌, map, sym, ◌∙◌, subst}
 use Rattle.std.proofs.lemmas.Bool.{and_parts}
 use Rattle.std.specs.List.{list_all}
@@ -7,7 +7,7 @@ use Rattle.sail_core.specs.declared.tree.Core.{Core, Core-F, fold-roll-Core, ind
 use Rattle.checked_meaning.specs.Items.{Item}
 use Rattle.value_laws.proofs.Basics.{no}
 use Rattle.soundness_steps.specs.Works.{Scene}
-use Rattle.sail_soundness.specs.Whole.{AllWaysStand, CoresFit, EachFine, core_fits, is_proved, joined, kind_asks, node_fits, nodes}
+use Rattle.sail_soundness.specs.Whole.{CoresFit, EachFine, core_fits, is_proved, joined, kind_asks, node_fits, nodes}
 use Rattle.sail_soundness.proofs.Whole.{nodes_are}
 
 module _ (q : Scene) (w : World Item) where
@@ -15,7 +15,7 @@ module _ (q : Scene) (w : World Item) where
   fits = core_fits q.set.around.types q.numbers
 
   abbrev Such : Core → Type 0
-  Such c = fits c ≡ true → AllWaysStand q (nodes c) → EachFine q w (nodes c)
+  Such c = fits c ≡ true → EachFine q w (nodes c)
 
   abbrev SuchCore : Type 0
   SuchCore = (c : Core) × Such c
@@ -27,33 +27,22 @@ module _ (q : Scene) (w : World Item) where
   both [] ms h k = k
   both (c ∷ ns) ms h k = (h.0, both ns ms h.1 k)
 
-  front : (ns ms : List (Core-F Core)) → AllWaysStand q (ns ++ ms) → AllWaysStand q ns
-  front [] ms h = tt
-  front (c ∷ ns) ms h = (h.0, front ns ms h.1)
-
-  behind : (ns ms : List (Core-F Core)) → AllWaysStand q (ns ++ ms) → AllWaysStand q ms
-  behind [] ms h = h
-  behind (c ∷ ns) ms h = behind ns ms h.1
-
-  parts_fine : (ys : List SuchCore) → list_all (λ b. b) (map fits (bare ys)) ≡ true → AllWaysStand q (joined (map nodes (bare ys)))
-      → EachFine q w (joined (map nodes (bare ys)))
-  parts_fine [] h ways = tt
-  parts_fine (y ∷ ys) h ways =
+  parts_fine : (ys : List SuchCore) → list_all (λ b. b) (map fits (bare ys)) ≡ true → EachFine q w (joined (map nodes (bare ys)))
+  parts_fine [] h = tt
+  parts_fine (y ∷ ys) h =
       let k = and_parts (fits y.0) (list_all (λ b. b) (map fits (bare ys))) h in
-      let more = joined (map nodes (bare ys)) in
-      both (nodes y.0) more (y.1 k.0 (front (nodes y.0) more ways)) (parts_fine ys k.1 (behind (nodes y.0) more ways))
+      both (nodes y.0) (joined (map nodes (bare ys))) (y.1 k.0) (parts_fine ys k.1)
 
   node_fine : (y : Core-F SuchCore) → Such (roll-Core (map-Core SuchCore Core (λ p. p.0) y))
-  node_fine y h ways =
+  node_fine y h =
       let d : Core-F Core = map-Core SuchCore Core (λ p. p.0) y in
       let k = and_parts (is_proved d.kind && kind_asks q.set.around.types q.numbers d.kind) (list_all (λ b. b) (map fits d.parts))
       (sym (fold-roll-Core Bool (node_fits q.set.around.types q.numbers) d) ∙ h) in
       let own = and_parts (is_proved d.kind) (kind_asks q.set.around.types q.numbers d.kind) k.0 in
-      let there = subst (AllWaysStand q) (nodes_are d) ways in
-      subst (EachFine q w) (sym (nodes_are d)) (record { others = λ e. no (sym e ∙ own.0); asks = own.1; ways = there.0 }, parts_fine y.parts k.1 there.1)
+      subst (EachFine q w) (sym (nodes_are d)) (record { others = λ e. no (sym e ∙ own.0); asks = own.1 }, parts_fine y.parts k.1)
 
   all_fit : (c : Core) → Such c
   all_fit = ind-Core Such (λ c y e. subst (λ d. Such (roll-Core d)) e (node_fine y))
 
 pub fit : CoresFit
-fit q w c h ways = all_fit q w c h ways
+fit q w c h = all_fit q w c h

@@ -1,6 +1,5 @@
 -- Kinds of nodes that are fine.
 use Rattle.std.proofs.Common.{◌≡◌, true, false, List, [], ◌∷◌, Some, None, refl}
-use Rattle.sail_base.specs.declared.place.Place.{Place}
 use Rattle.sail_core.specs.Making.{World}
 use Rattle.sail_core.specs.declared.patterns.Arm.{Arm}
 use Rattle.sail_core.specs.declared.tree.Callee.{Callee}
@@ -13,7 +12,7 @@ use Rattle.pattern_laws.proofs.Growing as Growing
 use Rattle.expression_steps.specs.Parts.{Part}
 use Rattle.checked_meaning.specs.Items.{Item}
 use Rattle.soundness_steps.specs.Works.{Kept, Scene}
-use Rattle.soundness_forms.specs.EachKind.{KindFine, KindFineOver}
+use Rattle.soundness_forms.specs.EachKind.{KindFine}
 use Rattle.soundness_forms.specs.Forms.{at}
 use Rattle.soundness_forms.specs.Joins.{AllArmsGrow, FreeJoining}
 use Rattle.soundness_forms.specs.Patterns.{AllMatch}
@@ -38,7 +37,6 @@ use Rattle.soundness_values.proofs.MadeKinds.{cons_kind, list_kind, row_kind, tu
 use Rattle.soundness_values.proofs.Mappings.{converts_kind}
 use Rattle.soundness_values.proofs.NamedKinds.{constructor_kind, struct_kind}
 use Rattle.soundness_values.proofs.Taken.{widening}
-use Rattle.soundness_joins.specs.Ways.{WaysStand}
 use Rattle.soundness_joins.proofs.AgreementCounts.{agreement_counts}
 use Rattle.soundness_joins.proofs.FreeJoins.{free_joining}
 use Rattle.soundness_joins.proofs.IfKind.{if_kind}
@@ -65,50 +63,46 @@ module _ (q : Scene) (w : World Item) (model : ModelStands q.set q.work) where
   calls (C.Constructor u c) = constructor_kind fits_suffice q w model.narrow u c
   calls (C.Converts d) = converts_kind fits_suffice q w model.fits.mappings d
 
-  -- a kind of which nothing more has to be known
-  known : (kind : Kind) → KindFine q w kind → KindFineOver q w (WaysStand q kind) kind
-  known kind h place k ss ps rs so parts right = h place k ss ps rs parts right
-
   arms : (cases : List Arm) → arms_stand q.set.around.types q.numbers cases ≡ true → (names : List Kept) → AllMatch (at q w names true) w cases
   arms cases stand names = all_match (at q w names true) w model.fits refl cases stand
 
   pub proved : (kind : Kind) → is_proved kind ≡ true → patterns_stand q.set.around.types q.numbers kind ≡ true → sizes_stand q.numbers kind ≡ true
-      → KindFineOver q w (WaysStand q kind) kind
-  proved (K.Constant l) e p s = known (K.Constant l) (constant_kind fits_suffice q w l)
-  proved (K.Local name) e p s = known (K.Local name) (local_kind fits_suffice q w name)
-  proved (K.Variable name) e p s = known (K.Variable name) (variable_kind fits_suffice q w name)
-  proved (K.TopLevel i) e p s = known (K.TopLevel i) (top_level_kind (λ types s j. filled_value types 0 s j) fits_suffice q w i)
-  proved (K.Register i) e p s = known (K.Register i) (register_kind fits_suffice q w model.registers i)
-  proved (K.Call callee) e p s = known (K.Call callee) (calls callee)
-  proved K.And e p s = known K.And (and_kind fits_suffice q w)
-  proved K.Or e p s = known K.Or (or_kind fits_suffice q w)
-  proved (K.Cast None) e p s = known (K.Cast None) (cast_kind fits_suffice q w)
-  proved (K.Cast (Some written)) e p s = known (K.Cast (Some written)) (written_kind fits_suffice q w written)
-  proved K.Tuple e p s = known K.Tuple (tuple_kind fits_suffice q w)
-  proved (K.Vector shape) e p s = known (K.Vector shape) (vector_kind fits_suffice q w shape)
-  proved (K.List shape) e p s = known (K.List shape) (list_kind fits_suffice q w shape)
-  proved (K.Cons shape) e p s = known (K.Cons shape) (cons_kind fits_suffice q w shape)
-  proved (K.Struct u fields) e p s = known (K.Struct u fields) (struct_kind fits_suffice q w model.narrow u fields)
-  proved (K.With u fields) e p s = known (K.With u fields) (with_kind fits_suffice q w model.narrow u fields)
-  proved (K.Part suffixes) e p s = known (K.Part suffixes) (part_kind q w fits_suffice model.narrow suffixes)
-  proved K.WithItem e p s = known K.WithItem (with_item_kind q w fits_suffice)
-  proved K.WithSlice e p s = known K.WithSlice (with_slice_kind q w fits_suffice)
-  proved (K.SizeOf t ns) e p s = known (K.SizeOf t ns) (size_kind fits_suffice q w t ns s)
-  proved (K.Constraint c ns) e p s = known (K.Constraint c ns) (constraint_kind fits_suffice q w c ns s)
-  proved (K.Assign targets) e p s = known (K.Assign targets) (assign_kind fits_suffice q w model.narrow model.registers targets e)
-  proved (K.Block statements) e p s = known (K.Block statements) (block_kind q w fits_suffice statements (all_lets_match q w model.fits statements p))
-  proved (K.Let arm) e p s = known (K.Let arm) (let_kind q w arm (lets_match q w model.fits arm p))
-  proved (K.Var name written) e p s = known (K.Var name written) (var_kind q w name written)
+      → KindFine q w kind
+  proved (K.Constant l) e p s = constant_kind fits_suffice q w l
+  proved (K.Local name) e p s = local_kind fits_suffice q w name
+  proved (K.Variable name) e p s = variable_kind fits_suffice q w name
+  proved (K.TopLevel i) e p s = top_level_kind (λ types s j. filled_value types 0 s j) fits_suffice q w i
+  proved (K.Register i) e p s = register_kind fits_suffice q w model.registers i
+  proved (K.Call callee) e p s = calls callee
+  proved K.And e p s = and_kind fits_suffice q w
+  proved K.Or e p s = or_kind fits_suffice q w
+  proved (K.Cast None) e p s = cast_kind fits_suffice q w
+  proved (K.Cast (Some written)) e p s = written_kind fits_suffice q w written
+  proved K.Tuple e p s = tuple_kind fits_suffice q w
+  proved (K.Vector shape) e p s = vector_kind fits_suffice q w shape
+  proved (K.List shape) e p s = list_kind fits_suffice q w shape
+  proved (K.Cons shape) e p s = cons_kind fits_suffice q w shape
+  proved (K.Struct u fields) e p s = struct_kind fits_suffice q w model.narrow u fields
+  proved (K.With u fields) e p s = with_kind fits_suffice q w model.narrow u fields
+  proved (K.Part suffixes) e p s = part_kind q w fits_suffice model.narrow suffixes
+  proved K.WithItem e p s = with_item_kind q w fits_suffice
+  proved K.WithSlice e p s = with_slice_kind q w fits_suffice
+  proved (K.SizeOf t ns) e p s = size_kind fits_suffice q w t ns s
+  proved (K.Constraint c ns) e p s = constraint_kind fits_suffice q w c ns s
+  proved (K.Assign targets) e p s = assign_kind fits_suffice q w model.narrow model.registers targets e
+  proved (K.Block statements) e p s = block_kind q w fits_suffice statements (all_lets_match q w model.fits statements p)
+  proved (K.Let arm) e p s = let_kind q w arm (lets_match q w model.fits arm p)
+  proved (K.Var name written) e p s = var_kind q w name written
   proved (K.If shape) e p s = if_kind fits_suffice joining met_grows agreement_counts q w shape
   proved (K.Match cases shape) e p s = match_kind arms_grow q w joining met_grows agreement_counts cases shape (arms cases p)
   proved (K.Try cases shape) e p s = try_kind arms_grow q w joining met_grows agreement_counts cases shape (arms cases p)
-  proved (K.Clauses cases) e p s = known (K.Clauses cases) (clauses_kind q w cases)
-  proved K.When e p s = known K.When (when_kind q w)
-  proved (K.Foreach name way) e p s = known (K.Foreach name way) (foreach_kind fits_suffice q w name way)
-  proved K.While e p s = known K.While (while_kind fits_suffice q w)
-  proved K.Repeat e p s = known K.Repeat (repeat_kind fits_suffice q w)
-  proved K.Return e p s = known K.Return (return_kind fits_suffice q w)
-  proved K.Throw e p s = known K.Throw (throw_kind fits_suffice q w)
-  proved K.Exit e p s = known K.Exit (exit_kind fits_suffice q w)
-  proved (K.Assert text) e p s = known (K.Assert text) (assert_kind fits_suffice q w text)
-  proved (K.Optional x) e p s = known (K.Optional x) (optional_kind q w x)
+  proved (K.Clauses cases) e p s = clauses_kind q w cases
+  proved K.When e p s = when_kind q w
+  proved (K.Foreach name way) e p s = foreach_kind fits_suffice q w name way
+  proved K.While e p s = while_kind fits_suffice q w
+  proved K.Repeat e p s = repeat_kind fits_suffice q w
+  proved K.Return e p s = return_kind fits_suffice q w
+  proved K.Throw e p s = throw_kind fits_suffice q w
+  proved K.Exit e p s = exit_kind fits_suffice q w
+  proved (K.Assert text) e p s = assert_kind fits_suffice q w text
+  proved (K.Optional x) e p s = optional_kind q w x

@@ -61,7 +61,7 @@ module _ (q : Scene) (w : World Item) (model : ModelStands q.set q.work) where
 
       by_kind : (b : Bool) → is_proved d.kind ≡ b → NodeFine q w d
       by_kind true e = proved q w model d.kind e both.0 both.1 d.place d.number (map (standing q.set.around) d.parts) (map part d.parts)
-          (map (meaning (z q w) w) d.parts) stands.ways
+          (map (meaning (z q w) w) d.parts)
       by_kind false e = stands.others e
 
   -- ---- an expression with its part, its run and how it stands

@@ -22,7 +22,6 @@ use Rattle.soundness_binding.specs.Scenes.{ModelFits}
 use Rattle.soundness_sizes.specs.Kinds.{sizes_stand}
 use Rattle.soundness_values.specs.Named.{TypesNarrow}
 use Rattle.soundness_targets.specs.Plain.{all_plain}
-use Rattle.soundness_joins.specs.Ways.{WaysStand}
 
 -- kinds of nodes that are fine: all but assignments to tuples and to calls
 abbrev pub is_proved : Kind → Bool
@@ -78,8 +77,6 @@ module _ (q : Scene) (w : World Item) where
     pub others : is_proved c.kind ≡ false → NodeFine c
     -- what its kind asks besides
     pub asks : kind_asks q.set.around.types q.numbers c.kind ≡ true
-    -- and of ways that meet, where no type is wanted
-    pub ways : WaysStand q c.kind c.place (map part c.parts)
 
   abbrev pub EachFine : List (Core-F Core) → Type 0
   EachFine [] = Unit {0}
@@ -95,11 +92,6 @@ abbrev pub EachFollows : Type 0
 EachFollows = (q : Scene) (w : World Item) (c : Core) → (standing q.set.around c).right ≡ true → OthersFine q w (nodes c)
     → Fine q w (standing q.set.around c).cast (standing q.set.around c).guard (part c) (meaning (z q w) w c)
 
--- ways that meet in these nodes, where no type is wanted
-abbrev pub AllWaysStand : Scene → List (Core-F Core) → Type 0
-AllWaysStand q [] = Unit {0}
-AllWaysStand q (c ∷ cs) = WaysStand q c.kind c.place (map part c.parts) × AllWaysStand q cs
-
--- where each node of an expression passes these tests, what is left to ask of them is of ways that meet
+-- where each node of an expression passes these tests, nothing more is asked of them
 abbrev pub CoresFit : Type 0
-CoresFit = (q : Scene) (w : World Item) (c : Core) → core_fits q.set.around.types q.numbers c ≡ true → AllWaysStand q (nodes c) → EachFine q w (nodes c)
+CoresFit = (q : Scene) (w : World Item) (c : Core) → core_fits q.set.around.types q.numbers c ≡ true → EachFine q w (nodes c)

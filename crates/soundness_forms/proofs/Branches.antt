@@ -31,7 +31,7 @@ use Rattle.soundness_steps.specs.Steps.{Beside, Grows}
 use Rattle.soundness_steps.specs.Values.{AimSteady, Comes, IsTrue}
 use Rattle.soundness_steps.proofs.Steps.{assumes, binds, given_back, means, runs_as, walks_then}
 use Rattle.soundness_forms.specs.Forms.{Fine}
-use Rattle.soundness_forms.specs.Joins.{FreeJoining, LeaveNoHole}
+use Rattle.soundness_forms.specs.Joins.{FreeJoining}
 use Rattle.soundness_forms.specs.Worlds.{Surrounds}
 use Rattle.soundness_forms.proofs.Basics.{aim_on, then_walks}
 use Rattle.soundness_forms.proofs.Casts.{comes_is, no_guard}
@@ -89,16 +89,15 @@ tested_first {q} k rc ra rb b =
     (met_behind_all k (rc then truth (z q)) (sides q ra rb) b)
 
 module _ (free : FreeJoining) (q : Scene) (w : World Item) (scope : Scope) (place : Place) (k : ℕ) (shape : Shape) (a b : Part) (ra rb : Run Item Item)
-    (ha : Fine q w true false a ra) (hb : Fine q w true false b rb) (aim : Aim)
-    (known : (c : Con) → LeaveNoHole q aim (if_ways a b (here q) scope aim c)) where
+    (ha : Fine q w true false a ra) (hb : Fine q w true false b rb) (aim : Aim) where
   pub then_runs : {n : ℕ} {f : Point n} {facts : List Fact} (c : Con) → Surrounds q w f scope → AimSteady q.set q.work f aim → TruthIs q f (Some c) true
       → Beside q n f facts (if_under place k shape a b (here q) scope aim c) (met_at (z q) k ((z q).inside ra))
       (λ m g i x. Comes q.set q.work g false true a.never_ends aim i x)
   then_runs {n} {f} {facts} c there st is =
-      let join = joining free q n aim in
-      joined q aim join place k shape (if_ways a b (here q) scope aim c) ((z q).inside ra) a.never_ends st
-      (behind_others q n aim join a.is_nested [] (way_of a (here q) scope aim c) (way_of b (here q) scope aim (C.Not c) ∷ []) ra None (omega arith) tt
-      (under_grows q w scope b rb true hb (C.Not c) (branch_aim aim), tt) (known c facts n) (λ j g l.
+      let join = joining free q n shape aim in
+      joined q aim shape join place k (if_ways a b (here q) scope aim c) ((z q).inside ra) a.never_ends st
+      (behind_others q n shape aim join a.is_nested [] (way_of a (here q) scope aim c) (way_of b (here q) scope aim (C.Not c) ∷ []) ra None (omega arith) tt
+      (under_grows q w scope b rb true hb (C.Not c) (branch_aim aim), tt) (λ j g l.
       under_runs q w scope a ra true ha c (branch_aim aim) (surrounds_on q w scope l there) (aim_on q.set q.work (branch_aim aim) l (branch_steady q f aim st))
       (λ h d. is h (agree_on l d))))
 
@@ -106,10 +105,10 @@ module _ (free : FreeJoining) (q : Scene) (w : World Item) (scope : Scope) (plac
       → Beside q n f facts (if_under place k shape a b (here q) scope aim c) (met_at (z q) k ((z q).inside rb))
       (λ m g i x. Comes q.set q.work g false true b.never_ends aim i x)
   else_runs {n} {f} {facts} c there st is =
-      let join = joining free q n aim in
-      joined q aim join place k shape (if_ways a b (here q) scope aim c) ((z q).inside rb) b.never_ends st
-      (behind_others q n aim join b.is_nested (way_of a (here q) scope aim c ∷ []) (way_of b (here q) scope aim (C.Not c)) [] rb None (omega arith)
-      (under_grows q w scope a ra true ha c (branch_aim aim), tt) tt (known c facts n) (λ j g l.
+      let join = joining free q n shape aim in
+      joined q aim shape join place k (if_ways a b (here q) scope aim c) ((z q).inside rb) b.never_ends st
+      (behind_others q n shape aim join b.is_nested (way_of a (here q) scope aim c ∷ []) (way_of b (here q) scope aim (C.Not c)) [] rb None (omega arith)
+      (under_grows q w scope a ra true ha c (branch_aim aim), tt) tt (λ j g l.
       under_runs q w scope b rb true hb (C.Not c) (branch_aim aim) (surrounds_on q w scope l there)
       (aim_on q.set q.work (branch_aim aim) l (branch_steady q f aim st)) (λ h d. not_is (standing q.set.past h) c ∙ ap not (is h (agree_on l d)))))
 

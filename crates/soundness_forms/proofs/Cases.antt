@@ -19,7 +19,7 @@ use Rattle.call_arguments.specs.declared.aims.Aim.{Aim}
 use Rattle.call_arguments.specs.declared.aims.Aim.TheVariants as Aims
 use Rattle.expression_steps.specs.Expressions.{kind_walk}
 use Rattle.expression_steps.specs.Parts.{Part}
-use Rattle.expression_steps.specs.Statements.{case_walk, case_way, case_ways, each_way, first_behind, match_under, way_behind}
+use Rattle.expression_steps.specs.Statements.{case_walk, case_way, case_ways, each_way, match_under, way_behind}
 use Rattle.checked_meaning.specs.Checked.{checked}
 use Rattle.checked_meaning.specs.Items.{Item}
 use Rattle.value_laws.specs.Known.{Point}
@@ -30,14 +30,14 @@ use Rattle.soundness_steps.specs.Values.{AimSteady, Comes, Is}
 use Rattle.soundness_steps.proofs.Scenes.{falling, or_well, under_names}
 use Rattle.soundness_steps.proofs.Steps.{binds, given_back, means}
 use Rattle.soundness_forms.specs.Forms.{Fine}
-use Rattle.soundness_forms.specs.Joins.{AllGrow, FreeJoining, Joining, LeaveNoHole, Whole}
+use Rattle.soundness_forms.specs.Joins.{AllGrow, FreeJoining, Joining}
 use Rattle.soundness_forms.specs.Patterns.{AllMatch, ArmMatches}
 use Rattle.soundness_forms.specs.Worlds.{Surrounds}
 use Rattle.soundness_forms.proofs.Basics.{aim_on, is_on, then_walks}
 use Rattle.soundness_forms.proofs.Branches.{branch_steady}
 use Rattle.soundness_forms.proofs.Casts.{free_is, no_guard}
 use Rattle.soundness_forms.proofs.Growth.{grows_bind}
-use Rattle.soundness_forms.proofs.Joins.{joined, joining, met_behind_all, runs_over, z}
+use Rattle.soundness_forms.proofs.Joins.{joined, joining, met_behind_all, runs_past, z}
 use Rattle.soundness_forms.proofs.Worlds.{surrounds_falling, surrounds_more, surrounds_on}
 
 module _ (q : Scene) (w : World Item) where
@@ -86,27 +86,25 @@ module _ (q : Scene) (w : World Item) (grows : ArmsGrow q w) (scope : Scope) (pl
       → EndsWell q f m fs Holds (none now)
 
   -- the first case that is taken
-  pub cases_run : (m : ℕ) (k : Joining q m aim) (none : Run Item Item) → NoneEnds none
+  pub cases_run : (m : ℕ) (shape : Shape) (k : Joining q m shape aim) (none : Run Item Item) → NoneEnds none
       → (arms : List Arm) (ps : List Part) (rs : List (Run Item Item)) → AllMatch (falling q) w arms → Bodies q w arms ps rs
       → {n : ℕ} {f : Point n} {facts : List Fact} (first : Option Indices) → m ≤ n
-      → Whole aim (each_way (here q) (is_none (wanted aim)) m (case_ways place arms ps (here q) scope aim i) first facts n).value
       → Surrounds q w f scope → AimSteady q.set q.work f aim → Is q.set q.work f i x
-      → Beside q n f facts (each_way (here q) (is_none (wanted aim)) m (case_ways place arms ps (here q) scope aim i) first)
+      → Beside q n f facts (each_way (here q) (is_none (wanted aim)) m shape (case_ways place arms ps (here q) scope aim i) first)
       (first_of (checked q.set.around.types q.cases) w arms rs none (x ∷ [])) (λ j g o y. k.Met j g o y × (false ≡ false))
   unfolding bind scoped give
-  cases_run m k none ends [] [] [] ms h {n} {f} {facts} first le known there st is =
+  cases_run m shape k none ends [] [] [] ms h {n} {f} {facts} first le there st is =
       record { run = λ now stands met ok. ends now ok n f _ _ _ }
-  cases_run m k none ends (arm ∷ arms) (p ∷ ps) (r ∷ rs) ms h {n} {f} {facts} first le known there st is =
+  cases_run m shape k none ends (arm ∷ arms) (p ∷ ps) (r ∷ rs) ms h {n} {f} {facts} first le there st is =
       let z = checked q.set.around.types q.cases in
       let one = k.taken true p.is_nested (case_way place arm p (here q) scope aim i) (case_ways place arms ps (here q) scope aim i)
-      (arm_taken z w arm r (x ∷ [])) first n f facts le (cases_grow arms ps rs h.1) known (case_runs arm p r h.0.0 ms.0 h.0.1 there st is) in
-      let more = runs_over {q = q} (each_way (here q) (is_none (wanted aim)) m (case_ways place arms ps (here q) scope aim i))
-      (λ d. first_behind (is_none (wanted aim)) p.never_ends first d)
-      (way_behind (here q) (is_none (wanted aim)) m (case_way place arm p (here q) scope aim i) first)
+      (arm_taken z w arm r (x ∷ [])) first n f facts le (cases_grow arms ps rs h.1) (case_runs arm p r h.0.0 ms.0 h.0.1 there st is) in
+      let more = runs_past {q = q} (each_way (here q) (is_none (wanted aim)) m shape (case_ways place arms ps (here q) scope aim i))
+      (way_behind (here q) (is_none (wanted aim)) m shape (case_way place arm p (here q) scope aim i) first)
       (k.grows (case_way place arm p (here q) scope aim i) first (case_grows arm p r true h.0.0 h.0.1))
-      (λ g l. cases_run m k none ends arms ps rs ms.1 h.1 (first_behind (is_none (wanted aim)) p.never_ends first
-      (way_behind (here q) (is_none (wanted aim)) m (case_way place arm p (here q) scope aim i) first facts n).value)
-      (let on = l.onward in omega (arith, le, on)) known (surrounds_on q w scope l there) (aim_on q.set q.work aim l st) (is_on l is)) in
+      (λ g l. cases_run m shape k none ends arms ps rs ms.1 h.1
+      (way_behind (here q) (is_none (wanted aim)) m shape (case_way place arm p (here q) scope aim i) first facts n).value
+      (let on = l.onward in omega (arith, le, on)) (surrounds_on q w scope l there) (aim_on q.set q.work aim l st) (is_on l is)) in
       record {
         run = λ now stands met ok.
             or_well (λ after. first_of z w arms rs none (x ∷ []) (record after { opened = now.opened }))
@@ -114,29 +112,29 @@ module _ (q : Scene) (w : World Item) (grows : ArmsGrow q w) (scope : Scope) (pl
             { state = ok.state; names = ok.names }))
             (λ after ok2. more.run (record after { opened = now.opened }) stands met (record { state = ok2.state; names = ok2.names }));
       }
-  cases_run m k none ends [] [] (r ∷ rs) ms h first le known there st is = absurd h
-  cases_run m k none ends [] (p ∷ ps) rs ms h first le known there st is = absurd h
-  cases_run m k none ends (arm ∷ arms) [] rs ms h first le known there st is = absurd h
-  cases_run m k none ends (arm ∷ arms) (p ∷ ps) [] ms h first le known there st is = absurd h
+  cases_run m shape k none ends [] [] (r ∷ rs) ms h first le there st is = absurd h
+  cases_run m shape k none ends [] (p ∷ ps) rs ms h first le there st is = absurd h
+  cases_run m shape k none ends (arm ∷ arms) [] rs ms h first le there st is = absurd h
+  cases_run m shape k none ends (arm ∷ arms) (p ∷ ps) [] ms h first le there st is = absurd h
 
 -- ---- `match`
 
 module _ (free : FreeJoining) (q : Scene) (w : World Item) (grows : ArmsGrow q w) (scope : Scope) (place : Place) (shape : Shape) where
   pub match_fine : {n : ℕ} {f : Point n} {facts : List Fact} (k : ℕ) (aim : Aim) (arms : List Arm) (a : Part) (ra : Run Item Item) (ps : List Part)
       (rs : List (Run Item Item)) (cast : Bool) → Fine q w cast false a ra → AllMatch (falling q) w arms → Bodies q w arms ps rs
-      → ((i : Indices) → LeaveNoHole q aim (case_ways place arms ps (here q) scope aim i)) → Surrounds q w f scope → AimSteady q.set q.work f aim
+      → Surrounds q w f scope → AimSteady q.set q.work f aim
       → Beside q n f facts (kind_walk place k (K.Match arms shape) (a ∷ ps) (here q) scope aim)
       (kind_meaning (z q) w place k (K.Match arms shape) (ra ∷ rs))
       (λ m g i x. Comes q.set q.work g false true false aim i x)
-  match_fine {n} {f} {facts} k aim arms a ra ps rs cast ha ms hs known there st =
+  match_fine {n} {f} {facts} k aim arms a ra ps rs cast ha ms hs there st =
       then_walks (λ i. give i)
       (met_behind_all k ra (λ x. first_of (z q) w arms rs (stops (MatchFailure place)) (x ∷ []))
       (binds (match_under place k shape arms ps (here q) scope aim)
       (λ x. met_at (z q) k (first_of (z q) w arms rs (stops (MatchFailure place)) (x ∷ [])))
       (ha.walks q.names q.may_fall no_guard n f facts scope Aims.Free there tt)
-      (λ m g fs i x l c. joined q aim (joining free q m aim) place k shape (case_ways place arms ps (here q) scope aim i)
+      (λ m g fs i x l c. joined q aim shape (joining free q m shape aim) place k (case_ways place arms ps (here q) scope aim i)
       (first_of (z q) w arms rs (stops (MatchFailure place)) (x ∷ [])) false (aim_on q.set q.work aim l st)
-      (cases_run q w grows scope place i x aim m (joining free q m aim) (stops (MatchFailure place)) (λ now ok j h d es holds.
-      well_stopped (MatchFailure place) now) arms ps rs ms hs None (omega arith) (known i fs m) (surrounds_on q w scope l there) (aim_on q.set q.work aim l st)
+      (cases_run q w grows scope place i x aim m shape (joining free q m shape aim) (stops (MatchFailure place)) (λ now ok j h d es holds.
+      well_stopped (MatchFailure place) now) arms ps rs ms hs None (omega arith) (surrounds_on q w scope l there) (aim_on q.set q.work aim l st)
       (free_is cast a.is_nested a.never_ends i x c)))))
       (λ m g fs i x l d. given_back i d)

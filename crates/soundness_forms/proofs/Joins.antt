@@ -21,7 +21,7 @@ use Rattle.call_arguments.specs.declared.aims.Aim.{Aim}
 use Rattle.call_arguments.specs.declared.aims.Aim.TheVariants as Aims
 use Rattle.call_notes.specs.Ends.{opened_at}
 use Rattle.call_notes.specs.Noted.{made_opened}
-use Rattle.expression_steps.specs.Statements.{Way, each_way, first_behind, meeting, meeting_from, met_value, one_way, way_behind}
+use Rattle.expression_steps.specs.Statements.{Way, each_way, meeting, meeting_from, met_value, one_way, way_behind}
 use Rattle.checked_meaning.specs.Items.{Item}
 use Rattle.checked_meaning.specs.Checked.{checked}
 use Rattle.value_laws.specs.Known.{Point}
@@ -32,7 +32,7 @@ use Rattle.soundness_steps.specs.Steps.{Beside, Grows, Walks}
 use Rattle.soundness_steps.specs.Values.{AimSteady, Belongs, Comes, Is, IsMadeAs, IsMet, IsWanted}
 use Rattle.soundness_steps.proofs.Steps.{binds, given_back, grown, grown_later, makes, means, met_behind, next_is, notes, runs_as}
 use Rattle.soundness_steps.proofs.Steps.{scopes, stands_on, walks_on, walks_over, well_on}
-use Rattle.soundness_forms.specs.Joins.{AllGrow, FreeJoining, Joining, LeaveNoHole, Whole}
+use Rattle.soundness_forms.specs.Joins.{AllGrow, FreeJoining, Joining}
 use Rattle.soundness_forms.proofs.Basics.{aim_on, opens, then_walks, wanted_on}
 use Rattle.soundness_forms.proofs.Constants.{literal_has, literal_sized}
 use Rattle.soundness_forms.proofs.Growth.{grows_bind, grows_give}
@@ -51,6 +51,18 @@ runs_over {q} {n} {f} {facts} k h w gr next = record {
       (met_behind q ((w facts n).notes ++ []) _ met) ok);
 }
 
+-- the same, where nothing is given behind it
+pub runs_past : {q : Scene} {n : ℕ} {f : Point n} {facts : List Fact} {A C D : Type 0} (k : A → Walk C) {d : Run Item D}
+    {Then : (m : ℕ) → Point m → C → D → Type 0} (w : Walk A) → Grows w
+    → ((g : Point (w facts n).next) → Later f g → Beside q (w facts n).next g facts (k (w facts n).value) d Then)
+    → Beside q n f facts (bind (scoped w) k) d Then
+unfolding bind scoped
+runs_past {q} {n} {f} {facts} k w gr next = record {
+  run = λ now stands met ok.
+      let l = grown_later f (gr.onward facts n) in
+      well_on l ((next (grown f (gr.onward facts n)) l).run now (stands_on l stands) (met_behind q (w facts n).notes _ met) ok);
+}
+
 -- how nodes make values there
 abbrev pub z : Scene → Making Item
 z q = checked q.set.around.types q.cases
@@ -61,18 +73,17 @@ unit_is q f = record { has = literal_has q.set q.work f L.Unit refl; typ = λ g 
 
 -- ---- of which a type is wanted
 
-module _ (q : Scene) (m : ℕ) where
+module _ (q : Scene) (m : ℕ) (shape : Shape) where
   -- of no way anything is owed
-  behind_grows : (w : Way) (first : Option Indices) → Grows w.walk → Grows (way_behind (here q) false m w first)
-  behind_grows w first h = grows_bind w.walk (λ i. bind (give tt) (λ t. give i)) h (λ i. grows_bind (give tt) (λ t. give i) (grows_give tt) (λ t. grows_give i))
+  behind_grows : (w : Way) (first : Option Indices) → Grows w.walk → Grows (way_behind (here q) false m shape w first)
+  behind_grows w first h = grows_bind w.walk (λ i. bind (give tt) (λ t. give first)) h (λ i.
+      grows_bind (give tt) (λ t. give first) (grows_give tt) (λ t. grows_give first))
 
   ways_over : (ws : List Way) → AllGrow ws → {n : ℕ} {f : Point n} {facts : List Fact} (first : Option Indices)
-      → Walks q n f facts (each_way (here q) false m ws first) (λ j g o. Unit {0})
+      → Walks q n f facts (each_way (here q) false m shape ws first) (λ j g o. Unit {0})
   ways_over [] h first = given_back first tt
-  ways_over (w ∷ ws) h first = walks_on (each_way (here q) false m ws) {Holds = λ j g o. Unit {0}}
-      (walks_on (λ i. give (first_behind false w.never_ends first i)) (walks_over (way_behind (here q) false m w first) (behind_grows w first h.0))
-      (λ j g fs i l e.
-      given_back (first_behind false w.never_ends first i) tt)) (λ j g fs o l e. ways_over ws h.1 o)
+  ways_over (w ∷ ws) h first = walks_on (each_way (here q) false m shape ws) {Holds = λ j g o. Unit {0}}
+      (walks_over (way_behind (here q) false m shape w first) (behind_grows w first h.0)) (λ j g fs o l e. ways_over ws h.1 o)
 
   -- of the type that is wanted, as which it was made
   abbrev pub CameTo : Reading → (j : ℕ) → Point j → Option Indices → Item → Type 0
@@ -80,14 +91,12 @@ module _ (q : Scene) (m : ℕ) where
 
   way_runs : (nested : Bool) (r : Reading) (w : Way) (c : Run Item Item) {n : ℕ} {f : Point n} {facts : List Fact} (first : Option Indices)
       → Beside q n f facts w.walk c (λ j g i x. Comes q.set q.work g true nested w.never_ends (Aims.Due r) i x)
-      → Beside q n f facts (one_way (here q) false m w first) ((checked q.set.around.types q.cases).inside c)
+      → Beside q n f facts (one_way (here q) false m shape w first) ((checked q.set.around.types q.cases).inside c)
       (λ j g o x. CameTo r j g o x × (w.never_ends ≡ false))
   way_runs nested r w c first h =
-      then_walks (λ i. give (first_behind false w.never_ends first i))
-      (scopes (then_walks (λ i. bind (give tt) (λ t. give i)) {Then = λ j g i x. CameTo r j g None x × (w.never_ends ≡ false)} h (λ j g fs i x l e.
-      walks_on (λ t. give i) {Holds = λ k p t. CameTo r k p None x × (w.never_ends ≡ false)} (given_back tt ((e.met, e.typ), e.ends)) (λ k p gs t l2 d.
-      given_back i d))))
-      (λ j g fs i x l e. given_back (first_behind false w.never_ends first i) e)
+      scopes (then_walks (λ i. bind (give tt) (λ t. give first)) {Then = λ j g o x. CameTo r j g o x × (w.never_ends ≡ false)} h (λ j g fs i x l e.
+      walks_on (λ t. give first) {Holds = λ k p t. CameTo r k p None x × (w.never_ends ≡ false)} (given_back tt ((e.met, e.typ), e.ends)) (λ k p gs t l2 d.
+      given_back first d)))
 
   keeps_on : (r : Reading) {j : ℕ} {g : Point j} {fs : List Fact} {v : Walk (Option Indices)} (never_ends : Bool) (o : Option Indices) (x : Item)
       → CameTo r j g o x × (never_ends ≡ false) → Walks q j g fs v (λ i p a. Unit {0})
@@ -106,9 +115,9 @@ module _ (q : Scene) (m : ℕ) where
   wanted_taken : (r : Reading) (nested : Bool) (w : Way) (after : List Way) (c : Run Item Item) (first : Option Indices) (n : ℕ) (f : Point n)
       (facts : List Fact)
       → AllGrow after → Beside q n f facts w.walk c (λ j g i x. Comes q.set q.work g true nested w.never_ends (Aims.Due r) i x)
-      → Beside q n f facts (each_way (here q) false m (w ∷ after) first) ((checked q.set.around.types q.cases).inside c)
+      → Beside q n f facts (each_way (here q) false m shape (w ∷ after) first) ((checked q.set.around.types q.cases).inside c)
       (λ j g o x. CameTo r j g o x × (w.never_ends ≡ false))
-  wanted_taken r nested w after c first n f facts k h = then_walks (each_way (here q) false m after) (way_runs nested r w c first h) (λ j g fs o x l e.
+  wanted_taken r nested w after c first n f facts k h = then_walks (each_way (here q) false m shape after) (way_runs nested r w c first h) (λ j g fs o x l e.
       keeps_on r w.never_ends o x e (ways_over after k o))
 
   wanted_opened : (r : Reading) (place : Place) (o : Option Indices) (x : Item) (n : ℕ) (f : Point n) (facts : List Fact) → IsWanted q.set q.work f r
@@ -145,25 +154,25 @@ module _ (q : Scene) (m : ℕ) where
 
 -- ---- of either kind
 
-pub joining : FreeJoining → (q : Scene) (m : ℕ) (aim : Aim) → Joining q m aim
-joining free q m Aims.Free = free q m
-joining free q m (Aims.Given r) = record {
-  grows = behind_grows q m;
-  Met = CameTo q m r;
-  taken = λ falls nested w after c first n f facts le h known. wanted_taken (record q { may_fall = falls }) m r nested w after c first n f facts h;
-  made = λ place k shape o x n f facts le st h. wanted_made q m r place k o x n f facts st h;
+pub joining : FreeJoining → (q : Scene) (m : ℕ) (shape : Shape) (aim : Aim) → Joining q m shape aim
+joining free q m shape Aims.Free = free q m shape
+joining free q m shape (Aims.Given r) = record {
+  grows = behind_grows q m shape;
+  Met = CameTo q m shape r;
+  taken = λ falls nested w after c first n f facts le h. wanted_taken (record q { may_fall = falls }) m shape r nested w after c first n f facts h;
+  made = λ place k o x n f facts le st h. wanted_made q m shape r place k o x n f facts st h;
 }
-joining free q m (Aims.PartOf r) = record {
-  grows = behind_grows q m;
-  Met = CameTo q m r;
-  taken = λ falls nested w after c first n f facts le h known. wanted_taken (record q { may_fall = falls }) m r nested w after c first n f facts h;
-  made = λ place k shape o x n f facts le st h. means (λ j g i y l e. (e.0, tt)) (wanted_made q m r place k o x n f facts st h);
+joining free q m shape (Aims.PartOf r) = record {
+  grows = behind_grows q m shape;
+  Met = CameTo q m shape r;
+  taken = λ falls nested w after c first n f facts le h. wanted_taken (record q { may_fall = falls }) m shape r nested w after c first n f facts h;
+  made = λ place k o x n f facts le st h. means (λ j g i y l e. (e.0, tt)) (wanted_made q m shape r place k o x n f facts st h);
 }
-joining free q m (Aims.Due r) = record {
-  grows = behind_grows q m;
-  Met = CameTo q m r;
-  taken = λ falls nested w after c first n f facts le h known. wanted_taken (record q { may_fall = falls }) m r nested w after c first n f facts h;
-  made = λ place k shape o x n f facts le st h. wanted_made q m r place k o x n f facts st h;
+joining free q m shape (Aims.Due r) = record {
+  grows = behind_grows q m shape;
+  Met = CameTo q m shape r;
+  taken = λ falls nested w after c first n f facts le h. wanted_taken (record q { may_fall = falls }) m shape r nested w after c first n f facts h;
+  made = λ place k o x n f facts le st h. wanted_made q m shape r place k o x n f facts st h;
 }
 
 -- what ways come to, once they are joined
@@ -174,17 +183,17 @@ came q (Aims.Given r) never_ends i x h b e = record { has = h.has; typ = h.typ; 
 came q (Aims.PartOf r) never_ends i x h b e = record { has = h.has; typ = h.typ; met = b; ends = e }
 came q (Aims.Due r) never_ends i x h b e = record { has = h.has; typ = h.typ; met = b; ends = e }
 
-pub joined : (q : Scene) {n : ℕ} {f : Point n} {facts : List Fact} (aim : Aim) (join : Joining q n aim) (place : Place) (k : ℕ) (shape : Shape)
+pub joined : (q : Scene) {n : ℕ} {f : Point n} {facts : List Fact} (aim : Aim) (shape : Shape) (join : Joining q n shape aim) (place : Place) (k : ℕ)
     (ws : List Way) (c : Run Item Item) (never_ends : Bool) → AimSteady q.set q.work f aim
-    → Beside q n f facts (each_way (here q) (is_none (wanted aim)) n ws None) c (λ j g o x. join.Met j g o x × (never_ends ≡ false))
+    → Beside q n f facts (each_way (here q) (is_none (wanted aim)) n shape ws None) c (λ j g o x. join.Met j g o x × (never_ends ≡ false))
     → Beside q n f facts (meeting (here q) place k shape (wanted aim) ws) (met_at (z q) k c)
     (λ m g i x. Comes q.set q.work g false true never_ends aim i x)
-joined q {n} aim join place k shape ws c never_ends st h =
+joined q {n} aim shape join place k ws c never_ends st h =
     next_is (meeting_from (here q) place k shape (wanted aim) ws)
     (binds (met_value (here q) place k shape (wanted aim) n) (λ x. made (z q) k (nothing (z q) ∷ []) x.val) h (λ m g fs o x l e.
     ends_node k (gives x) (λ y. nothing (z q) ∷ []) (λ y. y.val) false true never_ends aim
     (means (λ j p i y l2 d. came q aim never_ends i y d.0 d.1 e.1)
-    (join.made place k shape o x m g fs l.onward (aim_on q.set q.work aim l st) e.0))))
+    (join.made place k o x m g fs l.onward (aim_on q.set q.work aim l st) e.0))))
 
 -- three pieces one behind the other
 pub then_then : {A B C : Type 0} (e : Ended Item A) (k : A → Run Item B) (l : B → Run Item C) → goes_on (goes_on e k) l ≡ goes_on e (λ x. k x then l)
@@ -202,26 +211,15 @@ module _ {q : Scene} {n : ℕ} {f : Point n} {facts : List Fact} {A B : Type 0} 
   met_behind_all b = runs_as (λ now. sym (then_then (c now) next (λ x. made (z q) k (nothing (z q) ∷ []) x.val))) b
 
 -- the way that runs, behind others that don't
-pub behind_others : (q : Scene) (m : ℕ) (aim : Aim) (k : Joining q m aim) (nested : Bool) (before : List Way) (w : Way) (after : List Way) (c : Run Item Item)
-    {n : ℕ} {f : Point n} {facts : List Fact} (first : Option Indices)
-    → m ≤ n → AllGrow before → AllGrow after
-    → Whole aim (each_way (here q) (is_none (wanted aim)) m (before ++ w ∷ after) first facts n).value
+pub behind_others : (q : Scene) (m : ℕ) (shape : Shape) (aim : Aim) (k : Joining q m shape aim) (nested : Bool) (before : List Way) (w : Way)
+    (after : List Way) (c : Run Item Item) {n : ℕ} {f : Point n} {facts : List Fact} (first : Option Indices) → m ≤ n → AllGrow before → AllGrow after
     → ((j : ℕ) (g : Point j) → Later f g → Beside q j g facts w.walk c (λ i p d x. Comes q.set q.work p true nested w.never_ends (branch_aim aim) d x))
-    → Beside q n f facts (each_way (here q) (is_none (wanted aim)) m (before ++ w ∷ after) first) ((checked q.set.around.types q.cases).inside c)
+    → Beside q n f facts (each_way (here q) (is_none (wanted aim)) m shape (before ++ w ∷ after) first) ((checked q.set.around.types q.cases).inside c)
     (λ j g o x. k.Met j g o x × (w.never_ends ≡ false))
-unfolding bind scoped give
-behind_others q m aim k nested [] w after c {n} {f} {facts} first le h a known run =
-    k.taken q.may_fall nested w after c first n f facts le a known (run n f (no_later f))
-behind_others q m aim k nested (v ∷ before) w after c {n} {f} {facts} first le h a known run =
-    runs_over (each_way (here q) (is_none (wanted aim)) m (before ++ w ∷ after)) (λ i. first_behind (is_none (wanted aim)) v.never_ends first i)
-    (way_behind (here q) (is_none (wanted aim)) m v first) (k.grows v first h.0) (λ g l.
-    behind_others q m aim k nested before w after c
-    (first_behind (is_none (wanted aim)) v.never_ends first (way_behind (here q) (is_none (wanted aim)) m v first facts n).value)
-    (let on = l.onward in omega (arith, le, on)) h.1 a known (λ i p l2. run i p (later_on l l2)))
-
--- what is asked of ways where no type is wanted
-pub any_aim : (q : Scene) (ways : Aim → List Way) → LeaveNoHole q Aims.Free (ways Aims.Free) → (aim : Aim) → LeaveNoHole q aim (ways aim)
-any_aim q ways h Aims.Free = h
-any_aim q ways h (Aims.Given r) = λ facts n. tt
-any_aim q ways h (Aims.PartOf r) = λ facts n. tt
-any_aim q ways h (Aims.Due r) = λ facts n. tt
+behind_others q m shape aim k nested [] w after c {n} {f} {facts} first le h a run =
+    k.taken q.may_fall nested w after c first n f facts le a (run n f (no_later f))
+behind_others q m shape aim k nested (v ∷ before) w after c {n} {f} {facts} first le h a run =
+    runs_past {q = q} (each_way (here q) (is_none (wanted aim)) m shape (before ++ w ∷ after))
+    (way_behind (here q) (is_none (wanted aim)) m shape v first) (k.grows v first h.0) (λ g l.
+    behind_others q m shape aim k nested before w after c (way_behind (here q) (is_none (wanted aim)) m shape v first facts n).value
+    (let on = l.onward in omega (arith, le, on)) h.1 a (λ i p l2. run i p (later_on l l2)))

@@ -20,16 +20,15 @@ use Rattle.expression_steps.specs.Expressions.{node_end}
 use Rattle.expression_steps.specs.Parts.{Part}
 use Rattle.expression_steps.specs.Statements.{case_ways, match_under, match_walk}
 use Rattle.checked_meaning.specs.Items.{Item}
-use Rattle.soundness_steps.specs.Works.{Kept, Scene, here}
-use Rattle.soundness_forms.specs.EachKind.{KindFineOver, PartsFine, node}
+use Rattle.soundness_steps.specs.Works.{Kept, Scene}
+use Rattle.soundness_forms.specs.EachKind.{KindFine, PartsFine, node}
 use Rattle.soundness_forms.specs.Forms.{Fine, at, z}
-use Rattle.soundness_forms.specs.Joins.{AllArmsGrow, AllGrow, FreeJoining, MatchWays, MetGrows}
+use Rattle.soundness_forms.specs.Joins.{AllArmsGrow, AllGrow, FreeJoining, MetGrows}
 use Rattle.soundness_forms.specs.Patterns.{AllMatch}
 use Rattle.soundness_forms.specs.Standing.{Standing, is_body, is_bound}
 use Rattle.soundness_forms.proofs.Cases.{Bodies, match_fine}
 use Rattle.soundness_forms.proofs.Growth.{grows_bind, grows_end}
 use Rattle.soundness_forms.proofs.JoinGrowth.{AgreementCounts, meeting_grows}
-use Rattle.soundness_forms.proofs.Joins.{any_aim}
 use Rattle.soundness_forms.proofs.LeavingKinds.{bound_fine}
 use Rattle.soundness_forms.proofs.PlainKinds.{fine_at, fine_by, wrong_inward}
 
@@ -73,8 +72,8 @@ module _ (grows : AllArmsGrow) (q : Scene) (w : World Item) where
   cases_grow around scope place i aim (arm ∷ arms) (p ∷ ps) [] h = absurd h
 
   pub match_kind : FreeJoining → MetGrows → AgreementCounts → (arms : List Arm) (shape : Shape) → ((names : List Kept) → AllMatch (at q w names true) w arms)
-      → KindFineOver q w (MatchWays q arms) (K.Match arms shape)
-  match_kind free met agree arms shape patterns place k (s ∷ ss) (p ∷ ps) (r ∷ rs) known h right =
+      → KindFine q w (K.Match arms shape)
+  match_kind free met agree arms shape patterns place k (s ∷ ss) (p ∷ ps) (r ∷ rs) h right =
       let first = and_parts (is_bound s) (nat_eq (length arms) (length ss) && list_all is_body ss) right in
       let last = and_parts (nat_eq (length arms) (length ss)) (list_all is_body ss) first.1 in
       let head = bound_fine q w s p r first.0 h.0 in
@@ -83,15 +82,14 @@ module _ (grows : AllArmsGrow) (q : Scene) (w : World Item) where
       (λ around scope. refl)
       (λ names falls g n f facts scope aim there st. match_fine free (at q w names falls) w
       (λ at_place arm i. grows _ at_place arm i) scope place shape
-      k aim arms p r ps rs s.cast (fine_at q w names falls head) (patterns names) (bodies_at q w names falls arms ps rs bodies)
-      (λ i. any_aim (at q w names falls) (λ a. case_ways place arms ps (here q) scope a i) (known scope i) aim) there st)
+      k aim arms p r ps rs s.cast (fine_at q w names falls head) (patterns names) (bodies_at q w names falls arms ps rs bodies) there st)
       (λ around scope aim. grows_bind (match_walk place k shape arms p ps around scope aim) (node_end k false)
       (grows_bind (p.walk around scope Aims.Free) (match_under place k shape arms ps around scope aim) (head.grows around scope Aims.Free) (λ i.
       meeting_grows met agree around place k shape (wanted aim) (case_ways place arms ps around scope aim i)
       (cases_grow around scope place i aim arms ps rs bodies))) (grows_end k false))
-  match_kind free met agree arms shape patterns place k [] [] [] known h right =
+  match_kind free met agree arms shape patterns place k [] [] [] h right =
       wrong_inward q w false false false place k (node q w place k (K.Match arms shape) []) _ (λ around scope. refl) (λ around scope aim. refl)
-  match_kind free met agree arms shape patterns place k [] [] (r ∷ rs) known h right = absurd h
-  match_kind free met agree arms shape patterns place k [] (p ∷ ps) rs known h right = absurd h
-  match_kind free met agree arms shape patterns place k (s ∷ ss) [] rs known h right = absurd h
-  match_kind free met agree arms shape patterns place k (s ∷ ss) (p ∷ ps) [] known h right = absurd h
+  match_kind free met agree arms shape patterns place k [] [] (r ∷ rs) h right = absurd h
+  match_kind free met agree arms shape patterns place k [] (p ∷ ps) rs h right = absurd h
+  match_kind free met agree arms shape patterns place k (s ∷ ss) [] rs h right = absurd h
+  match_kind free met agree arms shape patterns place k (s ∷ ss) (p ∷ ps) [] h right = absurd h

@@ -34,9 +34,3 @@ module _ (q : Scene) (w : World Item) where
   KindFine kind = (place : Place) (k : ℕ) (ss : List Standing) (ps : List Part) (rs : List (Run Item Item)) → PartsFine ss ps rs
       → kind_right q.set.around kind ss ≡ true
       → Fine q w (is_cast kind) (is_guard kind) (node place k kind ps) (kind_meaning (z q w) w place k kind rs)
-
-  -- of a kind of which this is known besides
-  abbrev pub KindFineOver : (Place → List Part → Type 0) → Kind → Type 0
-  KindFineOver Known kind = (place : Place) (k : ℕ) (ss : List Standing) (ps : List Part) (rs : List (Run Item Item)) → Known place ps → PartsFine ss ps rs
-      → kind_right q.set.around kind ss ≡ true
-      → Fine q w (is_cast kind) (is_guard kind) (node place k kind ps) (kind_meaning (z q w) w place k kind rs)

@@ -1,27 +1,20 @@
 -- How ways are joined: what holds of the value of the way that runs, until the node makes it anew behind all of them.
-use Rattle.std.specs.Prelude.{◌≡◌, ◌≤◌, ℕ, Bool, true, false, ◌&&◌, List, [], ◌∷◌, Option, None, Some, is_none}
+use Rattle.std.specs.Prelude.{◌≡◌, ◌≤◌, ℕ, Bool, true, false, List, [], ◌∷◌, Option, is_none}
 use Rattle.sail_base.specs.declared.place.Place.{Place}
-use Rattle.sail_types.specs.declared.numbers.Con.{Con}
 use Rattle.sail_types.specs.declared.shapes.Shape.{Shape}
 use Rattle.sail_types.specs.declared.table.Types.{Types}
 use Rattle.sail_core.specs.Making.{nothing}
 use Rattle.sail_core.specs.Run.{Run}
 use Rattle.sail_core.specs.declared.patterns.Arm.{Arm}
-use Rattle.value_indices.specs.declared.indices.Indices.{Indices, out-Indices}
-use Rattle.value_indices.specs.declared.indices.Indices.TheOpen as W
-use Rattle.value_indices.specs.declared.indices.Indices.TheOpen.{Indices-F}
-use Rattle.value_indices.specs.declared.indices.Reading.{Reading}
+use Rattle.value_indices.specs.declared.indices.Indices.{Indices}
 use Rattle.value_indices.specs.declared.notes.Fact.{Fact}
-use Rattle.wide_types.specs.Widening.{met, value_spelled}
-use Rattle.pattern_leaves.specs.Settings.{Around, Scope}
+use Rattle.wide_types.specs.Widening.{met}
+use Rattle.pattern_leaves.specs.Settings.{Around}
 use Rattle.pattern_notes.specs.Patterns.{arm_match}
 use Rattle.call_arguments.specs.Aims.{branch_aim, wanted}
 use Rattle.call_arguments.specs.declared.aims.Aim.{Aim}
 use Rattle.call_arguments.specs.declared.aims.Aim.TheVariants as Aims
-use Rattle.expression_forms.specs.Inside.{is_value_whole}
-use Rattle.expression_forms.specs.Meeting.{thrown}
-use Rattle.expression_steps.specs.Parts.{Part}
-use Rattle.expression_steps.specs.Statements.{Way, case_ways, each_way, if_ways, met_made, try_way, way_behind}
+use Rattle.expression_steps.specs.Statements.{Way, each_way, met_made, way_behind}
 use Rattle.checked_meaning.specs.Checked.{checked}
 use Rattle.checked_meaning.specs.Items.{Item}
 use Rattle.value_laws.specs.Known.{Point}
@@ -33,33 +26,19 @@ abbrev pub AllGrow : List Way → Type 0
 AllGrow [] = Unit {0}
 AllGrow (w ∷ ws) = Grows w.walk × AllGrow ws
 
--- nothing is a hole in what the first way gives, nor where its type is spelled out
-abbrev pub is_whole_first : Option Indices → Bool
-is_whole_first None = true
-is_whole_first (Some i) = is_value_whole i && is_value_whole (value_spelled i)
-
--- what is asked of the first way that gives a value, where no type is wanted
-abbrev pub Whole : Aim → Option Indices → Type 0
-Whole Aims.Free o = is_whole_first o ≡ true
-Whole aim o = Unit {0}
-
--- the first of these ways that gives a value leaves no hole
-abbrev pub LeaveNoHole : Scene → Aim → List Way → Type 0
-LeaveNoHole q aim ws = (facts : List Fact) (n : ℕ) → Whole aim (each_way (here q) (is_none (wanted aim)) n ws None facts n).value
-
--- ways whose variables are counted from m on, of which this is wanted
-pub record Joining (q : Scene) (m : ℕ) (aim : Aim) : Type 1 where
-  pub grows : (w : Way) (first : Option Indices) → Grows w.walk → Grows (way_behind (here q) (is_none (wanted aim)) m w first)
+-- ways of this shape whose variables are counted from m on, of which this is wanted
+pub record Joining (q : Scene) (m : ℕ) (shape : Shape) (aim : Aim) : Type 1 where
+  pub grows : (w : Way) (first : Option Indices) → Grows w.walk → Grows (way_behind (here q) (is_none (wanted aim)) m shape w first)
   pub Met : (j : ℕ) → Point j → Option Indices → Item → Type 0
   -- the way that runs, with ways behind it that don't; `first` is that before it of which later ones owe
   pub taken : (falls nested : Bool) (w : Way) (after : List Way) (c : Run Item Item) (first : Option Indices) (n : ℕ) (f : Point n) (facts : List Fact)
-      → m ≤ n → AllGrow after → Whole aim (each_way (here q) (is_none (wanted aim)) m (w ∷ after) first facts n).value
+      → m ≤ n → AllGrow after
       → Beside (record q { may_fall = falls }) n f facts w.walk c (λ j g i x. Comes q.set q.work g true nested w.never_ends (branch_aim aim) i x)
-      → Beside (record q { may_fall = falls }) n f facts (each_way (here q) (is_none (wanted aim)) m (w ∷ after) first)
+      → Beside (record q { may_fall = falls }) n f facts (each_way (here q) (is_none (wanted aim)) m shape (w ∷ after) first)
       ((checked q.set.around.types q.cases).inside c)
       (λ j g o x. Met j g o x × (w.never_ends ≡ false))
   -- behind all of them the node makes its value anew
-  pub made : (place : Place) (k : ℕ) (shape : Shape) (o : Option Indices) (x : Item) (n : ℕ) (f : Point n) (facts : List Fact) → m ≤ n
+  pub made : (place : Place) (k : ℕ) (o : Option Indices) (x : Item) (n : ℕ) (f : Point n) (facts : List Fact) → m ≤ n
       → AimSteady q.set q.work f aim → Met n f o x
       → Beside q n f facts (met_made (here q) place k shape (wanted aim) m o)
       ((checked q.set.around.types q.cases).make k (nothing (checked q.set.around.types q.cases) ∷ []) x.val)
@@ -67,7 +46,7 @@ pub record Joining (q : Scene) (m : ℕ) (aim : Aim) : Type 1 where
 
 -- of which no type is wanted: the value has what is kept of the first
 abbrev pub FreeJoining : Type 1
-FreeJoining = (q : Scene) (m : ℕ) → Joining q m Aims.Free
+FreeJoining = (q : Scene) (m : ℕ) (shape : Shape) → Joining q m shape Aims.Free
 
 -- what is kept of a first way counts variables on, and leaves what is in force; and so do walks of arms, whatever is around
 abbrev pub MetGrows : Type 0
@@ -76,28 +55,3 @@ MetGrows = (types : Types) (m : ℕ) (shape : Shape) (i : Indices) → Grows (me
 abbrev pub AllArmsGrow : Type 0
 AllArmsGrow = (around : Around) (place : Place) (arm : Arm) (i : Indices)
     → Grows (arm_match place arm around (record { in_case = true; is_owed = false }) (i ∷ []))
-
--- ---- what is asked of the ways of a node: without a hole, where no type is wanted; and without `else` the body is `()`, or never ends
-
-abbrev pub IsUnit : Indices-F Indices Reading → Type 0
-IsUnit W.Unit = Unit {0}
-IsUnit W.Never = Unit {0}
-IsUnit form = ⊥
-
-abbrev pub IfWays : Scene → Place → List Part → Type 0
-IfWays q place (c ∷ a ∷ []) = (scope : Scope) (facts : List Fact) (n : ℕ) → IsUnit (out-Indices (a.walk (here q) scope Aims.Free facts n).value)
-IfWays q place (c ∷ a ∷ b ∷ []) = (scope : Scope) (given : Con) → LeaveNoHole q Aims.Free (if_ways a b (here q) scope Aims.Free given)
-IfWays q place ps = Unit {0}
-
-abbrev pub MatchWays : Scene → List Arm → Place → List Part → Type 0
-MatchWays q arms place (a ∷ bodies) = (scope : Scope) (i : Indices) → LeaveNoHole q Aims.Free (case_ways place arms bodies (here q) scope Aims.Free i)
-MatchWays q arms place [] = Unit {0}
-
--- the first way of a `try`, and the cases over what it throws
-abbrev pub try_ways : Scene → List Arm → Place → Part → List Part → Scope → Aim → List Way
-try_ways q arms place a bodies scope aim =
-    try_way a (here q) scope aim ∷ case_ways place arms bodies (here q) scope aim (thrown q.set.around.exception)
-
-abbrev pub TryWays : Scene → List Arm → Place → List Part → Type 0
-TryWays q arms place (a ∷ bodies) = (scope : Scope) → LeaveNoHole q Aims.Free (try_ways q arms place a bodies scope Aims.Free)
-TryWays q arms place [] = Unit {0}

@@ -1,5 +1,5 @@
 -- What a later way owes of a first one counts variables on.
-use Rattle.std.proofs.Common.{ℕ, Bool, true, false, ◌&&◌, ◌||◌, if◌then◌else◌}
+use Rattle.std.proofs.Common.{ℕ, Bool, true, false, ◌&&◌, if◌then◌else◌}
 use Rattle.sail_types.specs.Zero.{deepest}
 use Rattle.sail_types.specs.declared.table.Types.{Types}
 use Rattle.value_indices.specs.declared.indices.Indices.{Indices}
@@ -16,14 +16,13 @@ whole_counts : (types : Types) (first i : Indices) (b : Bool) → Counts (λ n. 
 whole_counts types first i true n = fits_count types deepest i (R.Widened first) n
 whole_counts types first i false n = le_self n
 
-first_counts : (types : Types) (m : ℕ) (holes : Bool) (first i : Indices) → Counts (as_first types m holes first i)
-first_counts types m holes first i = whole_counts types first i ((holes || is_value_whole first) && is_value_below m first)
+first_counts : (types : Types) (m : ℕ) (first i : Indices) → Counts (as_first types m first i)
+first_counts types m first i = whole_counts types first i (is_value_whole first && is_value_below m first)
 
 numbers_count : (types : Types) (m : ℕ) (first i : Indices) (b : Bool)
-    → Counts (λ n. if b then says (agrees_within deepest m (value_spelled first) (value_spelled i)) n
-    else as_first types m (is_value_told (value_spelled i)) first i n)
+    → Counts (λ n. if b then says (agrees_within deepest m (value_spelled first) (value_spelled i)) n else as_first types m first i n)
 numbers_count types m first i true n = le_self n
-numbers_count types m first i false n = first_counts types m (is_value_told (value_spelled i)) first i n
+numbers_count types m first i false n = first_counts types m first i n
 
 pub agreement_counts : AgreementCounts
 agreement_counts types m true first i n = le_self n

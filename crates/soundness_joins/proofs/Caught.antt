@@ -21,7 +21,7 @@ use Rattle.value_indices.specs.declared.indices.Indices.TheOpen as W
 use Rattle.value_indices.specs.declared.indices.Indices.TheVariants as I
 use Rattle.value_indices.specs.declared.notes.Fact.{Fact}
 use Rattle.value_indices.specs.declared.notes.Made.TheVariants as Makes
-use Rattle.value_indices.specs.Steps.{bind, given_note, give, made_note, scoped, went}
+use Rattle.value_indices.specs.Steps.{given_note, give, made_note, went}
 use Rattle.pattern_leaves.specs.Settings.{Scope}
 use Rattle.pattern_notes.specs.Patterns.{arm_match}
 use Rattle.call_arguments.specs.Aims.{branch_aim, wanted}
@@ -30,7 +30,7 @@ use Rattle.call_notes.specs.Noted.{node_ended, numbers_given, numbers_noted}
 use Rattle.expression_forms.specs.Meeting.{thrown}
 use Rattle.expression_steps.specs.Expressions.{kind_walk}
 use Rattle.expression_steps.specs.Parts.{Part}
-use Rattle.expression_steps.specs.Statements.{case_ways, caught_at, each_way, first_behind, try_over, try_way, way_behind}
+use Rattle.expression_steps.specs.Statements.{case_ways, caught_at, each_way, try_over, try_way, way_behind}
 use Rattle.checked_meaning.specs.Checked.{checked}
 use Rattle.checked_meaning.specs.Items.{Item}
 use Rattle.value_laws.specs.Belonging.{form_holds, meant, standing}
@@ -48,7 +48,7 @@ use Rattle.soundness_steps.specs.Values.{AimSteady, Comes, Has, Is}
 use Rattle.soundness_steps.proofs.Scenes.{falling}
 use Rattle.soundness_steps.proofs.Steps.{binds, given_back, gives_numbers, makes, means, notes, rests, runs_as, walks_on, walks_then}
 use Rattle.soundness_forms.specs.Forms.{Fine}
-use Rattle.soundness_forms.specs.Joins.{AllGrow, FreeJoining, LeaveNoHole, try_ways}
+use Rattle.soundness_forms.specs.Joins.{AllGrow, FreeJoining}
 use Rattle.soundness_forms.specs.Patterns.{AllMatch}
 use Rattle.soundness_forms.specs.Worlds.{Surrounds}
 use Rattle.soundness_forms.proofs.Basics.{aim_on, ended_alike, has_on, has_there, is_on, then_walks}
@@ -57,7 +57,7 @@ use Rattle.soundness_forms.proofs.Cases.{ArmsGrow, Bodies, cases_run}
 use Rattle.soundness_forms.proofs.Casts.{no_guard}
 use Rattle.soundness_forms.proofs.Giving.{gives_all}
 use Rattle.soundness_forms.proofs.Growth.{grows_bind}
-use Rattle.soundness_forms.proofs.Joins.{joined, joining, met_behind_all, runs_over, z}
+use Rattle.soundness_forms.proofs.Joins.{joined, joining, met_behind_all, runs_past, z}
 use Rattle.soundness_forms.proofs.Worlds.{surrounds_on}
 use Rattle.soundness_joins.proofs.Pieces.{then_runs}
 
@@ -144,8 +144,7 @@ catches R.Stuck catch next h k = h
 
 module _ (free : FreeJoining) (q : Scene) (w : World Item) (grows : ArmsGrow q w) (scope : Scope) (place : Place) (k : ℕ)
     (shape : Shape) (arms : List Arm) (a : Part) (ra : Run Item Item) (ps : List Part) (rs : List (Run Item Item))
-    (ha : Fine q w true false a ra) (ms : AllMatch (falling q) w arms) (hs : Bodies q w arms ps rs) (aim : Aim)
-    (known : LeaveNoHole q aim (try_ways q arms place a ps scope aim)) where
+    (ha : Fine q w true false a ra) (ms : AllMatch (falling q) w arms) (hs : Bodies q w arms ps rs) (aim : Aim) where
   abbrev over : Indices
   over = thrown q.set.around.exception
 
@@ -167,11 +166,11 @@ module _ (free : FreeJoining) (q : Scene) (w : World Item) (grows : ArmsGrow q w
       → Beside q n f facts (try_over place k shape arms a ps (here q) scope aim over) (met_at (z q) k ((z q).inside ra))
       (λ m g i x. Comes q.set q.work g false true false aim i x)
   first_runs {n} {f} {facts} there st =
-      let join = joining free q n aim in
-      joined q aim join place k shape (try_way a (here q) scope aim ∷ case_ways place arms ps (here q) scope aim over) ((z q).inside ra) false st
+      let join = joining free q n shape aim in
+      joined q aim shape join place k (try_way a (here q) scope aim ∷ case_ways place arms ps (here q) scope aim over) ((z q).inside ra) false st
       (means (λ m g o y l e. (e.0, refl))
       (join.taken q.may_fall a.is_nested (try_way a (here q) scope aim) (case_ways place arms ps (here q) scope aim over) ra None n f facts (omega arith)
-      (ways_grow arms ps rs hs) (known facts n)
+      (ways_grow arms ps rs hs)
       (ha.walks q.names q.may_fall no_guard n f facts scope (branch_aim aim) there (branch_steady q f aim st))))
 
   -- what is thrown is matched; what no case takes is thrown on
@@ -179,20 +178,16 @@ module _ (free : FreeJoining) (q : Scene) (w : World Item) (grows : ArmsGrow q w
       → AimSteady q.set q.work f aim → Is q.set q.work f over x
       → Beside q n f facts (try_over place k shape arms a ps (here q) scope aim over) (met_at (z q) k (first_of (z q) w arms rs (throws v) (x ∷ [])))
       (λ m g i y. Comes q.set q.work g false true false aim i y)
-  unfolding bind scoped give
   catch_runs {n} {f} {facts} v x is there st h =
-      let join = joining free q n aim in
-      joined q aim join place k shape (try_way a (here q) scope aim ∷ case_ways place arms ps (here q) scope aim over)
+      let join = joining free q n shape aim in
+      joined q aim shape join place k (try_way a (here q) scope aim ∷ case_ways place arms ps (here q) scope aim over)
       (first_of (z q) w arms rs (throws v) (x ∷ [])) false st
-      (runs_over {q = q} (each_way (here q) (is_none (wanted aim)) n (case_ways place arms ps (here q) scope aim over))
-      (λ d. first_behind (is_none (wanted aim)) a.never_ends None d)
-      (way_behind (here q) (is_none (wanted aim)) n (try_way a (here q) scope aim) None)
+      (runs_past {q = q} (each_way (here q) (is_none (wanted aim)) n shape (case_ways place arms ps (here q) scope aim over))
+      (way_behind (here q) (is_none (wanted aim)) n shape (try_way a (here q) scope aim) None)
       (join.grows (try_way a (here q) scope aim) None (ha.grows (here q) scope (branch_aim aim)))
-      (λ g l. cases_run q w grows scope place over x aim n join (throws v) (λ now ok i e m fs Holds. well_thrown v now is ok) arms ps rs ms hs
-      (first_behind (is_none (wanted aim)) a.never_ends None
-      (way_behind (here q) (is_none (wanted aim)) n (try_way a (here q) scope aim) None facts n).value)
-      (let on = l.onward in omega (arith, on)) (known facts n)
-      (surrounds_on q w scope l there) (aim_on q.set q.work aim l st) (is_on l h)))
+      (λ g l. cases_run q w grows scope place over x aim n shape join (throws v) (λ now ok i e m fs Holds. well_thrown v now is ok) arms ps rs ms hs
+      (way_behind (here q) (is_none (wanted aim)) n shape (try_way a (here q) scope aim) None facts n).value
+      (let on = l.onward in omega (arith, on)) (surrounds_on q w scope l there) (aim_on q.set q.work aim l st) (is_on l h)))
 
   pub try_fine : {n : ℕ} {f : Point n} {facts : List Fact} → Surrounds q w f scope → AimSteady q.set q.work f aim
       → Beside q n f facts (kind_walk place k (K.Try arms shape) (a ∷ ps) (here q) scope aim)

@@ -1,13 +1,12 @@
 -- Where ways meet of which no type is wanted: the way that runs is met, and the node makes its value anew.
-use Rattle.std.proofs.Common.{◌≡◌, ◌≤◌, ℕ, Bool, true, List, [], ◌∷◌, Option, Some, None, sym, ap, ◌∙◌}
+use Rattle.std.proofs.Common.{◌≤◌, ℕ, Bool, true, List, [], ◌∷◌, Option, Some, None, sym, ap, ◌∙◌}
 use Rattle.sail_base.specs.declared.place.Place.{Place}
 use Rattle.sail_types.specs.Belongs.{belongs}
 use Rattle.sail_types.specs.Zero.{deepest}
 use Rattle.sail_types.specs.declared.shapes.Shape.{Shape}
 use Rattle.sail_types.specs.declared.values.Value.{Value}
 use Rattle.sail_core.specs.Making.{nothing}
-use Rattle.sail_core.specs.Run.{Ended, Run}
-use Rattle.value_indices.specs.Steps.{Walk, bind, give, size_note}
+use Rattle.value_indices.specs.Steps.{bind, give, size_note}
 use Rattle.value_indices.specs.declared.indices.Indices.{Indices}
 use Rattle.value_indices.specs.declared.indices.Indices.TheVariants as I
 use Rattle.value_indices.specs.declared.notes.Fact.{Fact}
@@ -25,17 +24,17 @@ use Rattle.meeting_laws.proofs.Forms.{is_wide, widened_is}
 use Rattle.meeting_laws.proofs.Kept.{keeps_value}
 use Rattle.meeting_laws.proofs.Spelled.{spelled_wider}
 use Rattle.soundness_steps.specs.Works.{Scene, here}
-use Rattle.soundness_steps.specs.Steps.{Beside, EndsWell, Walks, well_given, well_no, well_returned, well_stopped, well_thrown}
+use Rattle.soundness_steps.specs.Steps.{Beside, Walks}
 use Rattle.soundness_steps.specs.Values.{Has, Is}
 use Rattle.soundness_steps.proofs.Steps.{given_back, means, notes, walks_on, walks_then}
 use Rattle.soundness_forms.specs.Forms.{FitsSuffice}
-use Rattle.soundness_forms.specs.Joins.{FreeJoining, MetGrows, is_whole_first}
+use Rattle.soundness_forms.specs.Joins.{FreeJoining, MetGrows}
 use Rattle.soundness_forms.proofs.Basics.{has_on}
 use Rattle.soundness_forms.proofs.JoinGrowth.{behind_grows}
 use Rattle.soundness_forms.proofs.Joins.{unit_is, z}
 use Rattle.soundness_forms.proofs.Nodes.{node_ends}
 use Rattle.soundness_joins.proofs.AgreementCounts.{agreement_counts}
-use Rattle.soundness_joins.proofs.Meeting.{Came, MetFree, by_numbers, by_type, meets, taken_free, whole_first}
+use Rattle.soundness_joins.proofs.Meeting.{Came, MetFree, by_numbers, by_type, meets, taken_free}
 
 -- ---- laws of what is kept of a first way
 
@@ -45,26 +44,12 @@ met_sound types past own first shape m f full h agree v k n p facts later =
     (spelled_wider types past own h first v (sym (ap (belongs types v) (widened_is types past own h first)) ∙ k))
 
 agree_sound : AgreeingIsSound
-agree_sound types past own first later shape m f full h agree told whole tells k v e n p facts behind =
-    agrees_so types past own f full h agree deepest (value_spelled first) (value_spelled later) told whole tells k shape n p facts behind v
+agree_sound types past own first later shape m f full h agree told tells k v e n p facts behind =
+    agrees_so types past own f full h agree deepest (value_spelled first) (value_spelled later) told tells k shape n p facts behind v
     (spelled_wider types past own h later v (sym (ap (belongs types v) (widened_is types past own h later)) ∙ e))
 
 own_type : HasItsType
 own_type types past own g i v h = ap (belongs types v) (widened_is types past own g i) ∙ is_wide types past own g i v h
-
--- ---- what is known of what a walk gives
-
-valued_well : {q : Scene} {n : ℕ} {f : Point n} {m : ℕ} {fs : List Fact} {B : Type 0} {Holds : Point m → B → Type 0} {P : Type 0} {e : Ended Item B} → P
-    → EndsWell q f m fs Holds e → EndsWell q f m fs (λ g x. Holds g x × P) e
-valued_well p (well_given x now r s) = well_given x now (record { point = r.point; later = r.later; stands = r.stands; holds = (r.holds, p) }) s
-valued_well p (well_no now a s) = well_no now a s
-valued_well p (well_returned v now b s) = well_returned v now b s
-valued_well p (well_thrown v now b s) = well_thrown v now b s
-valued_well p (well_stopped cause now) = well_stopped cause now
-
-pub valued : {q : Scene} {n : ℕ} {f : Point n} {facts : List Fact} {A B : Type 0} {w : Walk A} {c : Run Item B} {Holds : (m : ℕ) → Point m → A → B → Type 0}
-    (P : A → Type 0) → P (w facts n).value → Beside q n f facts w c Holds → Beside q n f facts w c (λ m g a x. Holds m g a x × P a)
-valued P p b = record { run = λ now stands met ok. valued_well p (b.run now stands met ok) }
 
 -- ---- the way that runs may say No, or not
 
@@ -83,33 +68,28 @@ module _ (q : Scene) (m : ℕ) (falls : Bool) where
 -- ---- behind all ways
 
 module _ (q : Scene) (m : ℕ) where
-  -- a first way that leaves no hole, of which the value has what is kept
-  abbrev MetWhole : (j : ℕ) → Point j → Option Indices → Item → Type 0
-  MetWhole j g o x = MetFree q m j g o x × (is_whole_first o ≡ true)
-
-  ways_met : {n : ℕ} {f : Point n} {facts : List Fact} (place : Place) (shape : Shape) (first : Indices) (x : Item) → m ≤ n → MetWhole n f (Some first) x
+  ways_met : {n : ℕ} {f : Point n} {facts : List Fact} (place : Place) (shape : Shape) (first : Indices) (x : Item) → m ≤ n → MetFree q m n f (Some first) x
       → Walks q n f facts (met_ways (here q) place m shape (Some first)) (λ j g i. Has q.set q.work g i x.val)
   ways_met place shape first x le h =
       walks_on (λ j. bind (sized place j) (λ t. give j))
-      (meets q m met_sound agree_sound shape first x.val (whole_first first h.1).1 le h.0) (λ j g fs i l has.
+      (meets q m met_sound agree_sound shape first x.val le h) (λ j g fs i l has.
       walks_on (λ t. give i) (notes (λ gs. size_note gs place (Makes.ByIndices i))) (λ k p gs t b u. given_back i (has_on b has)))
 
-  free_made : (place : Place) (k : ℕ) (shape : Shape) (o : Option Indices) (x : Item) {n : ℕ} {f : Point n} {facts : List Fact} → m ≤ n → MetWhole n f o x
+  free_made : (place : Place) (k : ℕ) (shape : Shape) (o : Option Indices) (x : Item) {n : ℕ} {f : Point n} {facts : List Fact} → m ≤ n → MetFree q m n f o x
       → Beside q n f facts (met_made (here q) place k shape None m o) ((z q).make k (nothing (z q) ∷ []) x.val)
       (λ j g i y. Is q.set q.work g i y × Unit {0})
-  free_made place k shape None x le h = absurd h.0
+  free_made place k shape None x le h = absurd h
   free_made place k shape (Some first) x le h =
       means (λ j g i y l e. (e, tt))
       (walks_then (node_ended k (I.Unit ∷ [])) (ways_met place shape first x le h) (λ j g fs i l has.
       node_ends k (I.Unit ∷ []) i (nothing (z q) ∷ []) x.val ((unit_is q g).typ, tt) has))
 
 pub free_joining : FitsSuffice → MetGrows → FreeJoining
-free_joining fit grows q m = record {
-  grows = λ w first h. behind_grows grows agreement_counts (here q) true m w first h;
-  Met = MetWhole q m;
-  taken = λ falls nested w after c first n f facts le h known b.
-      means (λ j g o x l e. ((met_back q m falls g o x e.0.0, e.1), e.0.1))
-      (valued (λ o. is_whole_first o ≡ true) known
-      (taken_free (record q { may_fall = falls }) m own_type fit grows agreement_counts nested w after c first le h known b));
-  made = λ place k shape o x n f facts le st h. free_made q m place k shape o x le h;
+free_joining fit grows q m shape = record {
+  grows = λ w first h. behind_grows grows agreement_counts (here q) true m shape w first h;
+  Met = MetFree q m;
+  taken = λ falls nested w after c first n f facts le h b.
+      means (λ j g o x l e. (met_back q m falls g o x e.0, e.1))
+      (taken_free (record q { may_fall = falls }) m met_sound agree_sound own_type fit shape grows agreement_counts nested w after c first le h b);
+  made = λ place k o x n f facts le st h. free_made q m place k shape o x le h;
 }

@@ -10,7 +10,7 @@ use Rattle.sail_core.specs.Making.{World, nothing, truth}
 use Rattle.sail_core.specs.Meaning.{kind_meaning, met_at}
 use Rattle.sail_core.specs.Run.{Run, gives, if_so, ◌then◌}
 use Rattle.sail_core.specs.declared.tree.Kind.TheVariants as K
-use Rattle.value_indices.specs.Steps.{Walk, assume, bind, give}
+use Rattle.value_indices.specs.Steps.{Walk, assume, bind, give, scoped}
 use Rattle.value_indices.specs.declared.indices.Indices.{Indices, out-Indices, roll-Indices}
 use Rattle.value_indices.specs.declared.indices.Indices.TheOpen as W
 use Rattle.value_indices.specs.declared.indices.Indices.TheOpen.{Indices-F}
@@ -25,9 +25,9 @@ use Rattle.call_arguments.specs.declared.aims.Aim.TheVariants as Aims
 use Rattle.call_notes.specs.Ends.{wrong_value}
 use Rattle.expression_forms.specs.Truths.{claim_of, truth_of}
 use Rattle.expression_steps.specs.Expressions.{kind_walk, node_end}
-use Rattle.expression_steps.specs.Parts.{Part, given_that, truth_walk, under}
+use Rattle.expression_steps.specs.Parts.{Part, truth_walk, under}
 use Rattle.expression_steps.specs.Statements.{branches_forms, claim_behind, claim_met, either_met, either_walk, if_end, if_forms, if_state, if_under, if_ways}
-use Rattle.expression_steps.specs.Statements.{met_condition, value_met, when_met, when_under}
+use Rattle.expression_steps.specs.Statements.{met_condition, unit_form, unit_of, unit_under, value_met, when_met, when_under}
 use Rattle.checked_meaning.specs.Items.{Item}
 use Rattle.value_laws.specs.Belonging.{standing}
 use Rattle.value_laws.specs.Known.{Point}
@@ -36,23 +36,22 @@ use Rattle.soundness_steps.specs.Works.{Kept, Scene, here}
 use Rattle.soundness_steps.specs.Steps.{Beside, Grows, Walks}
 use Rattle.soundness_steps.specs.Values.{AimSteady, Claims, Comes, Is, IsTrue}
 use Rattle.soundness_steps.proofs.Steps.{binds, given_back, regrouped, rests, scopes, walks_mean, walks_on, walks_then}
-use Rattle.soundness_forms.specs.EachKind.{KindFineOver, PartsFine, node}
+use Rattle.soundness_forms.specs.EachKind.{KindFine, PartsFine, node}
 use Rattle.soundness_forms.specs.Forms.{Fine, FitsSuffice, at}
-use Rattle.soundness_forms.specs.Joins.{FreeJoining, IfWays, IsUnit, LeaveNoHole, MetGrows}
+use Rattle.soundness_forms.specs.Joins.{FreeJoining, MetGrows}
 use Rattle.soundness_forms.specs.Standing.{Standing, is_branch, is_value, kind_right}
 use Rattle.soundness_forms.specs.Worlds.{Surrounds}
 use Rattle.soundness_forms.proofs.Basics.{aim_on, settles, then_walks, wrong_walks, wrongs}
-use Rattle.soundness_forms.proofs.Branches.{branch_steady, else_runs, if_fine, not_is, sides, tested_first, then_runs, truth_runs, under_runs}
+use Rattle.soundness_forms.proofs.Branches.{branch_steady, else_runs, if_fine, not_is, sides, tested_first, then_runs, truth_runs, under_grows, under_runs}
 use Rattle.soundness_forms.proofs.Casts.{comes_is, free_is}
 use Rattle.soundness_forms.proofs.Growth.{grows_assume, grows_bind, grows_end, grows_give, grows_scoped, grows_settled, grows_wrong}
 use Rattle.soundness_forms.proofs.Guards.{branch_fine}
 use Rattle.soundness_forms.proofs.JoinGrowth.{AgreementCounts, meeting_grows}
-use Rattle.soundness_forms.proofs.Joins.{any_aim, came, runs_over, unit_is, z}
+use Rattle.soundness_forms.proofs.Joins.{came, runs_over, unit_is, z}
 use Rattle.soundness_forms.proofs.PlainKinds.{fine_at, value_fine}
 use Rattle.soundness_forms.proofs.Tests.{TruthIs, never_value}
 use Rattle.soundness_forms.proofs.Throwing.{truth_grows}
 use Rattle.soundness_forms.proofs.Worlds.{surrounds_on}
-use Rattle.soundness_joins.proofs.FreeJoins.{valued}
 use Rattle.soundness_joins.proofs.JoinedKinds.{Row, by_rows, parts, runs, standings}
 
 -- ---- what a branch claims behind it, where the other one never ends
@@ -108,8 +107,7 @@ module _ (q : Scene) (w : World Item) (place : Place) (k : ℕ) (shape : Shape) 
 -- ---- with two ways
 
 module _ (free : FreeJoining) (q : Scene) (w : World Item) (scope : Scope) (place : Place) (k : ℕ) (shape : Shape) (a b : Part) (ra rb : Run Item Item)
-    (ha : Fine q w true false a ra) (hb : Fine q w true false b rb)
-    (known : (c : Con) → LeaveNoHole q Aims.Free (if_ways a b (here q) scope Aims.Free c)) where
+    (ha : Fine q w true false a ra) (hb : Fine q w true false b rb) where
   abbrev Claimed : (m : ℕ) → Point m → Option (Con × Indices) → Type 0
   Claimed m g e = Claims q.set q.work g (claim_met a.never_ends b.never_ends (met_condition e)) × ((a.never_ends && b.never_ends) ≡ false)
 
@@ -118,13 +116,13 @@ module _ (free : FreeJoining) (q : Scene) (w : World Item) (scope : Scope) (plac
       (λ m g e x. Claimed m g e)
   either_claims None t there is = absurd is
   either_claims (Some c) true there is =
-      then_walks (λ i. give (Some (c, i))) (then_runs free q w scope place k shape a b ra rb ha hb Aims.Free known c there tt is) (λ m g fs i x l e.
+      then_walks (λ i. give (Some (c, i))) (then_runs free q w scope place k shape a b ra rb ha hb Aims.Free c there tt is) (λ m g fs i x l e.
       given_back (Some (c, i)) (
         then_claims q a.never_ends b.never_ends c e.ends (λ h d. is h (agree_on l d)),
         ap (λ d. d && b.never_ends) e.ends,
       ))
   either_claims (Some c) false there is =
-      then_walks (λ i. give (Some (c, i))) (else_runs free q w scope place k shape a b ra rb ha hb Aims.Free known c there tt is) (λ m g fs i x l e.
+      then_walks (λ i. give (Some (c, i))) (else_runs free q w scope place k shape a b ra rb ha hb Aims.Free c there tt is) (λ m g fs i x l e.
       given_back (Some (c, i)) (
         else_claims q a.never_ends b.never_ends c e.ends (false_is q c (λ h d. is h (agree_on l d))),
         last a.never_ends b.never_ends e.ends,
@@ -146,40 +144,58 @@ module _ (free : FreeJoining) (q : Scene) (w : World Item) (scope : Scope) (plac
 
 -- ---- with one way
 
+unit_grows : (place : Place) (y : Indices-F Indices Reading) → Grows (unit_form place y)
+unit_grows place W.Unit = grows_give I.Unit
+unit_grows place W.Never = grows_give I.Unit
+unit_grows place W.Bit = grows_wrong place
+unit_grows place (W.Bits t) = grows_wrong place
+unit_grows place (W.Truth c) = grows_wrong place
+unit_grows place (W.Integer t) = grows_wrong place
+unit_grows place W.String = grows_wrong place
+unit_grows place (W.List r) = grows_wrong place
+unit_grows place (W.Vector t r) = grows_wrong place
+unit_grows place (W.Tuple is) = grows_wrong place
+unit_grows place (W.Named v is rs) = grows_wrong place
+unit_grows place (W.Variable j) = grows_wrong place
+
 module _ (q : Scene) (w : World Item) (scope : Scope) (place : Place) (k : ℕ) (shape : Shape) (a : Part) (ra : Run Item Item)
-    (ha : Fine q w true false a ra) (body : (facts : List Fact) (n : ℕ) → IsUnit (out-Indices (a.walk (here q) scope Aims.Free facts n).value)) where
+    (ha : Fine q w true false a ra) where
   abbrev Unclaimed : (m : ℕ) → Point m → Option (Con × Indices) → Item → Type 0
   Unclaimed m g e x = Is q.set q.work g (value_met e) x × Claims q.set q.work g (claim_met a.never_ends false (met_condition e))
 
   -- the body gives `()`
-  unit_by : {n : ℕ} {f : Point n} (i : Indices) (x : Item) → Is q.set q.work f i x → (y : Indices-F Indices Reading) → out-Indices i ≡ y → IsUnit y
-      → Is q.set q.work f I.Unit x
-  unit_by {n} {f} i x h W.Unit e u = subst (λ j. Is q.set q.work f j x) (sym (roll-out-Indices i) ∙ ap roll-Indices e ∙ I.rolls-Unit) h
-  unit_by i x h W.Never e u = absurd (never_value q i x h e)
-  unit_by i x h W.Bit e u = absurd u
-  unit_by i x h (W.Bits t) e u = absurd u
-  unit_by i x h (W.Truth c) e u = absurd u
-  unit_by i x h (W.Integer t) e u = absurd u
-  unit_by i x h W.String e u = absurd u
-  unit_by i x h (W.List r) e u = absurd u
-  unit_by i x h (W.Vector t r) e u = absurd u
-  unit_by i x h (W.Tuple is) e u = absurd u
-  unit_by i x h (W.Named v is rs) e u = absurd u
-  unit_by i x h (W.Variable j) e u = absurd u
+  abbrev Gives : (m : ℕ) → Point m → Indices → Item → Type 0
+  Gives m g j x = Is q.set q.work g I.Unit x × (a.never_ends ≡ false)
+
+  no_unit : {n : ℕ} {f : Point n} {facts : List Fact} (x : Item) → Walks q n f facts (wrong_value a.place) (λ m g j. Gives m g j x)
+  no_unit x = walks_mean (λ m g j b. absurd b) (wrong_walks a.place)
+
+  unit_by : {n : ℕ} {f : Point n} {facts : List Fact} (i : Indices) (x : Item) → Is q.set q.work f i x → a.never_ends ≡ false
+      → (y : Indices-F Indices Reading) → out-Indices i ≡ y → Walks q n f facts (unit_form a.place y) (λ m g j. Gives m g j x)
+  unit_by {n} {f} i x h d W.Unit e =
+      given_back I.Unit (subst (λ j. Is q.set q.work f j x) (sym (roll-out-Indices i) ∙ ap roll-Indices e ∙ I.rolls-Unit) h, d)
+  unit_by i x h d W.Never e = absurd (never_value q i x h e)
+  unit_by i x h d W.Bit e = no_unit x
+  unit_by i x h d (W.Bits t) e = no_unit x
+  unit_by i x h d (W.Truth c) e = no_unit x
+  unit_by i x h d (W.Integer t) e = no_unit x
+  unit_by i x h d W.String e = no_unit x
+  unit_by i x h d (W.List r) e = no_unit x
+  unit_by i x h d (W.Vector t r) e = no_unit x
+  unit_by i x h d (W.Tuple is) e = no_unit x
+  unit_by i x h d (W.Named v is rs) e = no_unit x
+  unit_by i x h d (W.Variable j) e = no_unit x
 
   abbrev one : Con → Walk Indices
-  one c = under c a (here q) scope Aims.Free
-
-  body_known : (c : Con) (facts : List Fact) (n : ℕ) → IsUnit (out-Indices (one c facts n).value)
-  unfolding bind assume
-  body_known c facts n = body (assume c facts n).facts n
+  one c = unit_under c a (here q) scope
 
   body_runs : {n : ℕ} {f : Point n} {facts : List Fact} (c : Con) → Surrounds q w f scope → TruthIs q f (Some c) true
       → Beside q n f facts (when_under a (here q) scope c) ((z q).inside ra) (λ m g i x. Is q.set q.work g i x × (a.never_ends ≡ false))
   body_runs {n} {f} {facts} c there is =
-      then_walks (λ i. give I.Unit)
-      (scopes (valued (λ i. IsUnit (out-Indices i)) (body_known c facts n) (under_runs q w scope a ra true ha c Aims.Free there tt is))) (λ m g fs i x l e.
-      given_back I.Unit (unit_by i x (free_is true a.is_nested a.never_ends i x e.0) (out-Indices i) refl e.1, e.0.ends))
+      then_walks (λ i. give I.Unit) {Holds = Gives}
+      (scopes (then_walks (unit_of a.place) (under_runs q w scope a ra true ha c Aims.Free there tt is) (λ m g fs i x l e.
+      unit_by i x (free_is true a.is_nested a.never_ends i x e) e.ends (out-Indices i) refl)))
+      (λ m g fs i x l e. given_back I.Unit e)
 
   when_runs : {n : ℕ} {f : Point n} {facts : List Fact} (o : Option Con) (t : Bool) → Surrounds q w f scope → TruthIs q f o t
       → Beside q n f facts (when_met a (here q) scope o) (if_so ((z q).inside ra) (gives (nothing (z q))) t) (λ m g e x. Unclaimed m g e x)
@@ -189,7 +205,8 @@ module _ (q : Scene) (w : World Item) (scope : Scope) (place : Place) (k : ℕ) 
       given_back (Some (c, i)) (e.0, then_claims q a.never_ends false c e.1 (λ h d. is h (agree_on l d))))
   when_runs {n} {f} {facts} (Some c) false there is =
       runs_over {q = q} (λ i. give (Some (c, i))) (λ i. I.Unit) (one c)
-      (grows_bind (assume c) (λ t. a.walk (here q) scope Aims.Free) (grows_assume c) (λ t. ha.grows (here q) scope Aims.Free)) (λ g l.
+      (grows_bind (under c a (here q) scope Aims.Free) (unit_of a.place) (under_grows q w scope a ra true ha c Aims.Free) (λ i.
+      unit_grows a.place (out-Indices i))) (λ g l.
       rests (nothing (z q)) (given_back (Some (c, I.Unit)) (
         unit_is q g,
         else_claims q a.never_ends false c refl (false_is q c (λ h d. is h (agree_on l d))),
@@ -258,19 +275,21 @@ module _ (met : MetGrows) (agree : AgreementCounts) (around : Around) (scope : S
   when_on : (a : Part) → Grows (a.walk around scope Aims.Free) → (o : Option Con) → Grows (when_met a around scope o)
   when_on a h None = grows_give None
   when_on a h (Some c) = grows_bind (when_under a around scope c) (λ i. give (Some (c, i)))
-      (grows_bind (given_that c a around scope Aims.Free) (λ i. give I.Unit)
-      (grows_scoped (under c a around scope Aims.Free) (under_on c a Aims.Free h)) (λ i. grows_give I.Unit)) (λ i. grows_give (Some (c, i)))
+      (grows_bind (scoped (unit_under c a around scope)) (λ i. give I.Unit)
+      (grows_scoped (unit_under c a around scope)
+      (grows_bind (under c a around scope Aims.Free) (unit_of a.place) (under_on c a Aims.Free h) (λ i. unit_grows a.place (out-Indices i))))
+      (λ i. grows_give I.Unit)) (λ i. grows_give (Some (c, i)))
 
 -- ---- the kind
 
 module _ (fit : FitsSuffice) (free : FreeJoining) (met : MetGrows) (agree : AgreementCounts) (q : Scene) (w : World Item) (shape : Shape) where
   abbrev RowsFine : Place → ℕ → List Standing → List Part → List (Run Item Item) → Type 0
-  RowsFine place k ss ps rs = IfWays q place ps → kind_right q.set.around (K.If shape) ss ≡ true
+  RowsFine place k ss ps rs = kind_right q.set.around (K.If shape) ss ≡ true
       → Fine q w false false (node q w place k (K.If shape) ps) (kind_meaning (z q) w place k (K.If shape) rs)
 
   if_rows : (place : Place) (k : ℕ) (ts : List Row) → PartsFine q w (standings ts) (parts ts) (runs ts)
       → RowsFine place k (standings ts) (parts ts) (runs ts)
-  if_rows place k (c ∷ a ∷ b ∷ []) h known right =
+  if_rows place k (c ∷ a ∷ b ∷ []) h right =
       let one = and_parts (is_value c.0) (list_all is_branch (a.0 ∷ b.0 ∷ [])) right in
       let two = and_parts (is_branch a.0) (list_all is_branch (b.0 ∷ [])) one.1 in
       let three = and_parts (is_branch b.0) true two.1 in
@@ -280,10 +299,10 @@ module _ (fit : FitsSuffice) (free : FreeJoining) (met : MetGrows) (agree : Agre
       record {
         walks = λ names falls g n f facts scope aim there st.
             if_fine free (at q w names falls) w scope place k shape a.1 b.1 a.2 b.2 (fine_at q w names falls ha) (fine_at q w names falls hb) aim
-            (λ d. any_aim (at q w names falls) (λ e. if_ways a.1 b.1 (here q) scope e d) (known scope d) aim) c.1 c.2 (fine_at q w names falls hc) there st;
+            c.1 c.2 (fine_at q w names falls hc) there st;
         states = λ names falls g n f facts scope there.
             if_claims free (at q w names falls) w scope place k shape a.1 b.1 a.2 b.2 (fine_at q w names falls ha) (fine_at q w names falls hb)
-            (known scope) c.1 c.2 (fine_at q w names falls hc) there;
+            c.1 c.2 (fine_at q w names falls hc) there;
         grows = λ around scope aim. grows_bind (if_forms place k shape (c.1 ∷ a.1 ∷ b.1 ∷ []) around scope aim) (node_end k false)
             (grows_bind (either_walk place k shape c.1 a.1 b.1 around scope aim) (if_end place (c.1 ∷ a.1 ∷ b.1 ∷ []) around aim)
             (both_on met agree around scope place k shape c.1 a.1 b.1 aim (hc.grows around scope Aims.Free) (ha.grows around scope (branch_aim aim))
@@ -293,17 +312,17 @@ module _ (fit : FitsSuffice) (free : FreeJoining) (met : MetGrows) (agree : Agre
             (both_on met agree around scope place k shape c.1 a.1 b.1 Aims.Free (hc.grows around scope Aims.Free) (ha.grows around scope Aims.Free)
             (hb.grows around scope Aims.Free)) (λ e. grows_give (claim_met a.1.never_ends b.1.never_ends (met_condition e)));
       }
-  if_rows place k (c ∷ a ∷ []) h known right =
+  if_rows place k (c ∷ a ∷ []) h right =
       let one = and_parts (is_value c.0) (list_all is_branch (a.0 ∷ [])) right in
       let two = and_parts (is_branch a.0) true one.1 in
       let hc = value_fine q w c.0 c.1 c.2 one.0 h.0 in
       let ha = branch_fine q w a.0 a.1 a.2 two.0 h.1.0 in
       record {
         walks = λ names falls g n f facts scope aim there st.
-            when_fine (at q w names falls) w scope place k shape a.1 a.2 (fine_at q w names falls ha) (known scope) fit aim c.1 c.2
+            when_fine (at q w names falls) w scope place k shape a.1 a.2 (fine_at q w names falls ha) fit aim c.1 c.2
             (fine_at q w names falls hc) there st;
         states = λ names falls g n f facts scope there.
-            when_claims (at q w names falls) w scope place k shape a.1 a.2 (fine_at q w names falls ha) (known scope) c.1 c.2
+            when_claims (at q w names falls) w scope place k shape a.1 a.2 (fine_at q w names falls ha) c.1 c.2
             (fine_at q w names falls hc) there;
         grows = λ around scope aim. grows_bind (if_forms place k shape (c.1 ∷ a.1 ∷ []) around scope aim) (node_end k false)
             (grows_bind (branches_forms place k shape (c.1 ∷ a.1 ∷ []) around scope aim) (if_end place (c.1 ∷ a.1 ∷ []) around aim)
@@ -315,12 +334,12 @@ module _ (fit : FitsSuffice) (free : FreeJoining) (met : MetGrows) (agree : Agre
             (when_on met agree around scope a.1 (ha.grows around scope Aims.Free)))
             (λ e. grows_give (claim_met a.1.never_ends false (met_condition e)));
       }
-  if_rows place k [] h known right =
+  if_rows place k [] h right =
       wrong_if q w place k shape [] _ (λ around scope aim. refl) (λ around aim m. refl) (λ m. refl)
-  if_rows place k (c ∷ []) h known right =
+  if_rows place k (c ∷ []) h right =
       wrong_if q w place k shape (c.1 ∷ []) _ (λ around scope aim. refl) (λ around aim m. refl) (λ m. refl)
-  if_rows place k (c ∷ a ∷ b ∷ d ∷ ts) h known right =
+  if_rows place k (c ∷ a ∷ b ∷ d ∷ ts) h right =
       wrong_if q w place k shape (parts (c ∷ a ∷ b ∷ d ∷ ts)) _ (λ around scope aim. refl) (λ around aim m. refl) (λ m. refl)
 
-  pub if_kind : KindFineOver q w (IfWays q) (K.If shape)
-  if_kind place k ss ps rs known h right = by_rows q w (RowsFine place k) (if_rows place k) ss ps rs h known right
+  pub if_kind : KindFine q w (K.If shape)
+  if_kind place k ss ps rs h right = by_rows q w (RowsFine place k) (if_rows place k) ss ps rs h right

@@ -1,7 +1,7 @@
 -- Where ways meet of which no type is wanted: the value of the one that ran has what is kept of the first.
 use Rattle.std.proofs.Common.{◌≡◌, ℕ, Bool, true, false, ◌&&◌, ◌||◌, List, [], ◌∷◌, Option, Some, None, refl, sym, ap, ◌∙◌, subst, arith}
 use Rattle.std.specs.Prelude.{◌≤◌, nat_lt, if◌then◌else◌}
-use Rattle.std.proofs.lemmas.Bool.{and_parts, ltb-true, lt-ltb}
+use Rattle.std.proofs.lemmas.Bool.{ltb-true, lt-ltb}
 use Rattle.std.proofs.lemmas.List.{append-nil}
 use Rattle.sail_base.specs.declared.place.Place.{Place}
 use Rattle.sail_types.specs.Numbers.{Assignment, form_true, true_in}
@@ -24,8 +24,8 @@ use Rattle.wide_types.specs.Widening.{agrees_within, met, value_spelled}
 use Rattle.call_arguments.specs.declared.aims.Aim.TheVariants as Aims
 use Rattle.call_notes.specs.Ends.{is_never, is_never_form}
 use Rattle.expression_forms.specs.Inside.{is_value_below, is_value_told, is_value_whole}
-use Rattle.expression_forms.specs.Meeting.{agrees_unless, as_first, first_way, gives_none, like_first}
-use Rattle.expression_steps.specs.Statements.{Way, each_way, first_behind, owed_of_first, way_behind}
+use Rattle.expression_forms.specs.Meeting.{agrees_unless, as_first, filled_first, first_unless, first_way, gives_none, like_first}
+use Rattle.expression_steps.specs.Statements.{Way, each_way, one_way, then_first, way_behind}
 use Rattle.checked_meaning.specs.Checked.{checked}
 use Rattle.checked_meaning.specs.Items.{Item}
 use Rattle.value_laws.specs.Belonging.{Integers, Meant, has, meant, standing}
@@ -39,23 +39,16 @@ use Rattle.meeting_laws.proofs.Steadied.{wide_below}
 use Rattle.meeting_laws.specs.Laws.{AgreeingIsSound, HasItsType, IsFull, MeetingIsSound}
 use Rattle.soundness_steps.specs.Works.{Scene, here}
 use Rattle.soundness_steps.specs.Points.{Later}
-use Rattle.soundness_steps.specs.Steps.{Beside, Stands, Walks}
+use Rattle.soundness_steps.specs.Steps.{Beside, Grows, Stands, Walks}
 use Rattle.soundness_steps.specs.Values.{Belongs, Comes, Has, Is, IsTrue}
 use Rattle.soundness_steps.proofs.Points.{agree_on, later_on, later_whole, no_later, whole}
 use Rattle.soundness_steps.proofs.Steps.{given_back, known_walk, scopes, stands_on, walks_mean, walks_on, walks_over}
 use Rattle.soundness_forms.specs.Forms.{FitsSuffice}
-use Rattle.soundness_forms.specs.Joins.{AllGrow, MetGrows, is_whole_first}
+use Rattle.soundness_forms.specs.Joins.{AllGrow, MetGrows}
 use Rattle.soundness_forms.proofs.Basics.{has_on, has_there, then_walks}
 use Rattle.soundness_forms.proofs.JoinGrowth.{AgreementCounts, behind_grows}
 use Rattle.soundness_forms.proofs.Tests.{never_value}
 use Rattle.soundness_joins.proofs.Wholes.{no_hole_widened}
-
--- no type inside the first way's is a hole, nor is one where that is spelled out
-abbrev pub IsWhole : Indices → Type 0
-IsWhole first = (is_value_whole first ≡ true) × (is_value_whole (value_spelled first) ≡ true)
-
-pub whole_first : (first : Indices) → is_whole_first (Some first) ≡ true → IsWhole first
-whole_first first h = and_parts (is_value_whole first) (is_value_whole (value_spelled first)) h
 
 -- ---- the first point, of which every variable is fixed
 
@@ -138,17 +131,12 @@ module _ (q : Scene) (m : ℕ) where
   MetFree j g None x = ⊥
   MetFree j g (Some first) x = Came g first x.val
 
-  -- what is known of a first way that is there
-  abbrev FirstWhole : Option Indices → Type 0
-  FirstWhole None = Unit {0}
-  FirstWhole (Some first) = IsWhole first
-
   -- ---- the value behind all ways
 
   module _ (meeting : MeetingIsSound) (agreeing : AgreeingIsSound) where
-    pub meets : {n : ℕ} {f : Point n} {facts : List Fact} (shape : Shape) (first : Indices) (v : Value) → is_value_whole (value_spelled first) ≡ true → m ≤ n
-        → Came f first v → Walks q n f facts (met q.set.around.types m shape first) (λ j g i. Has q.set q.work g i v)
-    meets {n} {f} {facts} shape first v told le came = record {
+    pub meets : {n : ℕ} {f : Point n} {facts : List Fact} (shape : Shape) (first : Indices) (v : Value) → m ≤ n → Came f first v
+        → Walks q n f facts (met q.set.around.types m shape first) (λ j g i. Has q.set q.work g i v)
+    meets {n} {f} {facts} shape first v le came = record {
       go = λ noted stands notes.
           let law = found came in
           let r = (known_walk {q = q} law.2).go noted (stands_on (later_whole f) stands) notes in
@@ -165,7 +153,7 @@ module _ (q : Scene) (m : ℕ) where
         found (by_type b) = meeting q.set.around.types q.set.past q.work.types first shape m (cut f m) (cut_full f m) f.integers (cut_agree f m) v
             (b f.integers (same f)) n (whole f) facts (cut_later f m le)
         found (by_numbers i t u c b) = agreeing q.set.around.types q.set.past q.work.types first i shape m (cut f m) (cut_full f m) f.integers
-            (cut_agree f m) t told u (c f.integers (same f)) v (b f.integers (same f)) n (whole f) facts (cut_later f m le)
+            (cut_agree f m) t u (c f.integers (same f)) v (b f.integers (same f)) n (whole f) facts (cut_later f m le)
 
   -- ---- the way that runs
 
@@ -192,7 +180,7 @@ module _ (q : Scene) (m : ℕ) where
   never_walks place first v = walks_mean (λ j g t b. no (sym (false_all (standing q.set.past g.integers)) ∙ b g.integers (same g)))
       (says_walks place (Some (C.Truth false) ∷ []))
 
-  module _ (typed : HasItsType) (fit : FitsSuffice) where
+  module _ (meeting : MeetingIsSound) (agreeing : AgreeingIsSound) (typed : HasItsType) (fit : FitsSuffice) (shape : Shape) where
     own_type : {n : ℕ} {f : Point n} (i : Indices) (v : Value) → Has q.set q.work f i v → Belongs q.set q.work f (R.Widened i) v
     own_type i v h g a = typed q.set.around.types q.set.past q.work.types g i v (has_there h g a)
 
@@ -221,80 +209,76 @@ module _ (q : Scene) (m : ℕ) where
           no_hole_widened first w,
         ))
 
-    as_first_by : {n : ℕ} {f : Point n} {facts : List Fact} (place : Place) (first i : Indices) (v : Value) (b holes w : Bool) → IsWhole first → m ≤ n
+    as_first_by : {n : ℕ} {f : Point n} {facts : List Fact} (place : Place) (first i : Indices) (v : Value) (b w : Bool) → m ≤ n
         → is_value_below m first ≡ b → is_value_whole first ≡ w → Has q.set q.work f i v
-        → Walks q n f facts (owe_fit place (λ k. if (holes || w) && b then fits q.set.around.types i (R.Widened first) k else never k))
-        (λ j g t. Came g first v)
-    as_first_by place first i v true true true is le e u h = walks_mean (λ j g t b. by_type b) (fits_first place i first v le u e h)
-    as_first_by place first i v true false true is le e u h = walks_mean (λ j g t b. by_type b) (fits_first place i first v le u e h)
-    as_first_by place first i v true true false is le e u h = no (sym u ∙ is.0)
-    as_first_by place first i v true false false is le e u h = never_walks place first v
-    as_first_by place first i v false true true is le e u h = never_walks place first v
-    as_first_by place first i v false true false is le e u h = never_walks place first v
-    as_first_by place first i v false false true is le e u h = never_walks place first v
-    as_first_by place first i v false false false is le e u h = never_walks place first v
+        → Walks q n f facts (owe_fit place (λ k. if w && b then fits q.set.around.types i (R.Widened first) k else never k)) (λ j g t. Came g first v)
+    as_first_by place first i v true true le e u h = walks_mean (λ j g t b. by_type b) (fits_first place i first v le u e h)
+    as_first_by place first i v true false le e u h = never_walks place first v
+    as_first_by place first i v false true le e u h = never_walks place first v
+    as_first_by place first i v false false le e u h = never_walks place first v
 
-    agrees_walks : {n : ℕ} {f : Point n} {facts : List Fact} (place : Place) (first i : Indices) (v : Value) (a b : Bool) → IsWhole first → m ≤ n
+    agrees_walks : {n : ℕ} {f : Point n} {facts : List Fact} (place : Place) (first i : Indices) (v : Value) (a b : Bool) → m ≤ n
         → Has q.set q.work f i v → is_value_told (value_spelled first) ≡ a → is_value_told (value_spelled i) ≡ b
         → Walks q n f facts (owe_fit place (λ k. if a && b then says (agrees_within deepest m (value_spelled first) (value_spelled i)) k
-        else as_first q.set.around.types m b first i k)) (λ j g t. Came g first v)
-    agrees_walks {n} {f} place first i v true true is le h t u = keeps (R.Widened i) v (own_type i v h)
+        else as_first q.set.around.types m first i k)) (λ j g t. Came g first v)
+    agrees_walks place first i v true true le h t u = keeps (R.Widened i) v (own_type i v h)
         (says_walks place (agrees_within deepest m (value_spelled first) (value_spelled i))) (λ j g x b c. by_numbers i t u c b)
-    agrees_walks place first i v true false is le h t u =
-        as_first_by place first i v (is_value_below m first) false (is_value_whole first) is le refl refl h
-    agrees_walks place first i v false true is le h t u =
-        as_first_by place first i v (is_value_below m first) true (is_value_whole first) is le refl refl h
-    agrees_walks place first i v false false is le h t u =
-        as_first_by place first i v (is_value_below m first) false (is_value_whole first) is le refl refl h
+    agrees_walks place first i v true false le h t u =
+        as_first_by place first i v (is_value_below m first) (is_value_whole first) le refl refl h
+    agrees_walks place first i v false b le h t u =
+        as_first_by place first i v (is_value_below m first) (is_value_whole first) le refl refl h
 
     -- what a way owes of the first, where it gives a value
-    owed_walks : {n : ℕ} {f : Point n} {facts : List Fact} (place : Place) (never_ends : Bool) (first i : Indices) (x : Item) → IsWhole first → m ≤ n
+    owed_walks : {n : ℕ} {f : Point n} {facts : List Fact} (place : Place) (never_ends : Bool) (first i : Indices) (x : Item) → m ≤ n
         → never_ends ≡ false → Is q.set q.work f i x
         → Walks q n f facts (like_first (here q) place never_ends m first i) (λ j g t. Came g first x.val)
-    owed_walks {n} {f} {facts} place never_ends first i x is le e h =
+    owed_walks {n} {f} {facts} place never_ends first i x le e h =
         subst (λ b. Walks q n f facts (owe_fit place (agrees_unless b q.set.around.types m first i)) (λ j g t. Came g first x.val))
         (sym (gives_one never_ends i x e h))
-        (agrees_walks place first i x.val (is_value_told (value_spelled first)) (is_value_told (value_spelled i)) is le h.has refl refl)
+        (agrees_walks place first i x.val (is_value_told (value_spelled first)) (is_value_told (value_spelled i)) le h.has refl refl)
 
-    first_is : (never_ends : Bool) (i : Indices) → gives_none never_ends i ≡ false → first_way never_ends i ≡ Some i
-    first_is never_ends i e = ap (λ b. if b then None else Some i) e
+    -- holes in a first one are filled so that the value is of it
+    fills : {n : ℕ} {f : Point n} {facts : List Fact} (i : Indices) (x : Item) → m ≤ n → Is q.set q.work f i x → (whole : Bool)
+        → Walks q n f facts (filled_first whole q.set.around.types m shape i) (λ j g d. Has q.set q.work g d x.val)
+    fills i x le h true = given_back i h.has
+    fills i x le h false = meets meeting agreeing shape i x.val le (by_type (own_type i x.val h.has))
 
-    way_walks : {n : ℕ} {f : Point n} {facts : List Fact} (w : Way) (first : Option Indices) (i : Indices) (x : Item) → FirstWhole first → m ≤ n
+    first_walks : {n : ℕ} {f : Point n} {facts : List Fact} (never_ends : Bool) (i : Indices) (x : Item) → m ≤ n → never_ends ≡ false
+        → Is q.set q.work f i x → Walks q n f facts (first_way (here q) m shape never_ends i) (λ j g o. MetFree j g o x)
+    first_walks {n} {f} {facts} never_ends i x le e h =
+        subst (λ b. Walks q n f facts (first_unless b q.set.around.types m shape i) (λ j g o. MetFree j g o x)) (sym (gives_one never_ends i x e h))
+        (walks_on (λ j. give (Some j)) (fills i x le h (is_value_whole i)) (λ k p gs d l has. given_back (Some d) (by_type (own_type d x.val has))))
+
+    way_walks : {n : ℕ} {f : Point n} {facts : List Fact} (w : Way) (first : Option Indices) (i : Indices) (x : Item) → m ≤ n
         → w.never_ends ≡ false → Is q.set q.work f i x
-        → Walks q n f facts (bind (owed_of_first (here q) true w.place w.never_ends m first i) (λ t. give i))
-        (λ j g d. MetFree j g (first_behind true w.never_ends first d) x)
-    way_walks {n} {f} w None i x known le e h = walks_on (λ t. give i) {Holds = λ j g t. MetFree j g (first_way w.never_ends i) x}
-        (given_back tt (subst (λ o. MetFree n f o x) (sym (first_is w.never_ends i (gives_one w.never_ends i x e h)))
-        (by_type (own_type i x.val h.has))))
-        (λ j g fs t l d. given_back i d)
-    way_walks w (Some first) i x known le e h =
-        walks_on (λ t. give i) (owed_walks w.place w.never_ends first i x known le e h) (λ j g fs t l d. given_back i d)
+        → Walks q n f facts (then_first (here q) true m shape w first i) (λ j g o. MetFree j g o x)
+    way_walks w None i x le e h = walks_on (λ t. first_way (here q) m shape w.never_ends i) {Holds = λ j g t. Is q.set q.work g i x}
+        (given_back tt h) (λ j g fs t l d. first_walks w.never_ends i x (let on = l.onward in omega (arith, le, on)) e d)
+    way_walks w (Some first) i x le e h =
+        walks_on (λ t. give (Some first)) (owed_walks w.place w.never_ends first i x le e h) (λ j g fs t l d. given_back (Some first) d)
 
-    -- a first way stays the first
-    kept_first : (ws : List Way) (first : Indices) (facts : List Fact) (n : ℕ) → (each_way (here q) true m ws (Some first) facts n).value ≡ Some first
-    unfolding bind scoped give
-    kept_first [] first facts n = refl
-    kept_first (w ∷ ws) first facts n = kept_first ws first facts (way_behind (here q) true m w (Some first) facts n).next
-
-    kept_whole : (ws : List Way) (first : Option Indices) (facts : List Fact) (n : ℕ)
-        → is_whole_first (each_way (here q) true m ws first facts n).value ≡ true → FirstWhole first
-    kept_whole ws None facts n h = tt
-    kept_whole ws (Some first) facts n h = whole_first first (sym (ap is_whole_first (kept_first ws first facts n)) ∙ h)
-
-    -- ---- with ways behind it that aren't run
+    -- ---- with ways behind it that aren't run: a first way stays the first
 
     module _ (met_grows : MetGrows) (counts : AgreementCounts) where
+      way_over : {n : ℕ} {f : Point n} {facts : List Fact} (w : Way) (first : Indices) → Grows w.walk
+          → Walks q n f facts (one_way (here q) true m shape w (Some first)) (λ j g o. o ≡ Some first)
+      unfolding bind scoped give
+      way_over {n} {f} {facts} w first h = record {
+        go = λ noted stands notes.
+            let over : Walks q n f facts (one_way (here q) true m shape w (Some first)) (λ j g o. Unit {0}) =
+            walks_over (way_behind (here q) true m shape w (Some first)) (behind_grows met_grows counts (here q) true m shape w (Some first) h) in
+            let d = over.go noted stands notes in
+            record { point = d.point; later = d.later; stands = d.stands; holds = refl };
+      }
+
       ways_over : {n : ℕ} {f : Point n} {facts : List Fact} (ws : List Way) (first : Indices) → AllGrow ws
-          → Walks q n f facts (each_way (here q) true m ws (Some first)) (λ j g o. o ≡ Some first)
+          → Walks q n f facts (each_way (here q) true m shape ws (Some first)) (λ j g o. o ≡ Some first)
       ways_over [] first h = given_back (Some first) refl
-      ways_over (w ∷ ws) first h = walks_on (each_way (here q) true m ws) {Holds = λ j g o. o ≡ Some first}
-          (walks_on (λ i. give (first_behind true w.never_ends (Some first) i))
-          (walks_over (way_behind (here q) true m w (Some first)) (behind_grows met_grows counts (here q) true m w (Some first) h.0))
-          (λ j g fs i l e. given_back (Some first) refl))
-          (λ j g fs o l e. subst (λ d. Walks q j g fs (each_way (here q) true m ws d) (λ k p a. a ≡ Some first)) (sym e) (ways_over ws first h.1))
+      ways_over (w ∷ ws) first h = walks_on (each_way (here q) true m shape ws) {Holds = λ j g o. o ≡ Some first} (way_over w first h.0)
+          (λ j g fs o l e. subst (λ d. Walks q j g fs (each_way (here q) true m shape ws d) (λ k p a. a ≡ Some first)) (sym e) (ways_over ws first h.1))
 
       over_others : {n : ℕ} {f : Point n} {facts : List Fact} (ws : List Way) (o : Option Indices) (x : Item) → AllGrow ws → MetFree n f o x
-          → Walks q n f facts (each_way (here q) true m ws o) (λ j g a. MetFree j g a x)
+          → Walks q n f facts (each_way (here q) true m shape ws o) (λ j g a. MetFree j g a x)
       over_others ws None x h k = absurd k
       over_others {n} {f} {facts} ws (Some first) x h k = record {
         go = λ noted stands notes.
@@ -303,23 +287,18 @@ module _ (q : Scene) (m : ℕ) where
               point = d.point;
               later = d.later;
               stands = d.stands;
-              holds = subst (λ o. MetFree (each_way (here q) true m ws (Some first) facts n).next d.point o x) (sym d.holds)
+              holds = subst (λ o. MetFree (each_way (here q) true m shape ws (Some first) facts n).next d.point o x) (sym d.holds)
                   (came_on first x.val d.later k);
             };
       }
 
       pub taken_free : {n : ℕ} {f : Point n} {facts : List Fact} (nested : Bool) (w : Way) (after : List Way) (c : Run Item Item) (first : Option Indices)
-          → m ≤ n → AllGrow after → is_whole_first (each_way (here q) true m (w ∷ after) first facts n).value ≡ true
-          → Beside q n f facts w.walk c (λ j g i x. Comes q.set q.work g true nested w.never_ends Aims.Free i x)
-          → Beside q n f facts (each_way (here q) true m (w ∷ after) first) ((checked q.set.around.types q.cases).inside c)
+          → m ≤ n → AllGrow after → Beside q n f facts w.walk c (λ j g i x. Comes q.set q.work g true nested w.never_ends Aims.Free i x)
+          → Beside q n f facts (each_way (here q) true m shape (w ∷ after) first) ((checked q.set.around.types q.cases).inside c)
           (λ j g o x. MetFree j g o x × (w.never_ends ≡ false))
-      taken_free {n} {f} {facts} nested w after c first le h known b = then_walks (each_way (here q) true m after)
+      taken_free {n} {f} {facts} nested w after c first le h b = then_walks (each_way (here q) true m shape after)
           {Holds = λ j g o x. MetFree j g o x × (w.never_ends ≡ false)}
-          (then_walks (λ i. give (first_behind true w.never_ends first i))
-          {Holds = λ j g i x. MetFree j g (first_behind true w.never_ends first i) x × (w.never_ends ≡ false)}
-          (scopes (then_walks (λ i. bind (owed_of_first (here q) true w.place w.never_ends m first i) (λ t. give i)) b (λ j g fs i x l e.
+          (scopes (then_walks (then_first (here q) true m shape w first) b (λ j g fs i x l e.
           walks_mean (λ k p d a. (a, e.ends))
-          (way_walks w first i x (kept_whole (w ∷ after) first facts n known) (let on = l.onward in omega (arith, le, on))
-          e.ends (record { has = e.has; typ = e.typ })))))
-          (λ j g fs i x l e. given_back (first_behind true w.never_ends first i) e))
+          (way_walks w first i x (let on = l.onward in omega (arith, le, on)) e.ends (record { has = e.has; typ = e.typ })))))
           (λ j g fs o x l e. walks_mean (λ k p d a. (a, e.1)) (over_others after o x h e.0))

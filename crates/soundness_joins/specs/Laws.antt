@@ -7,9 +7,9 @@ use Rattle.sail_core.specs.declared.tree.Counting.{Counting}
 use Rattle.sail_core.specs.declared.tree.Kind.TheVariants as K
 use Rattle.checked_meaning.specs.Items.{Item}
 use Rattle.soundness_steps.specs.Works.{Kept, Scene}
-use Rattle.soundness_forms.specs.EachKind.{KindFine, KindFineOver}
+use Rattle.soundness_forms.specs.EachKind.{KindFine}
 use Rattle.soundness_forms.specs.Forms.{FitsSuffice, at}
-use Rattle.soundness_forms.specs.Joins.{AllArmsGrow, IfWays, MatchWays, MetGrows, TryWays}
+use Rattle.soundness_forms.specs.Joins.{AllArmsGrow, MetGrows}
 use Rattle.soundness_forms.specs.Patterns.{AllMatch}
 
 -- operators on truths: the right one under what the left one says, where it is evaluated
@@ -26,6 +26,5 @@ LoopsAreFine = FitsSuffice → (q : Scene) (w : World Item) → KindFine q w K.W
 
 -- ways that meet: the way that was taken gives what is kept of all; of a `match` and a `try` where the patterns of their arms match
 abbrev pub JoinsAreFine : Type 0
-JoinsAreFine = FitsSuffice → MetGrows → AllArmsGrow → (q : Scene) (w : World Item) (shape : Shape) → KindFineOver q w (IfWays q) (K.If shape)
-    × ((arms : List Arm) → ((names : List Kept) → AllMatch (at q w names true) w arms) → KindFineOver q w (MatchWays q arms) (K.Match arms shape)
-    × KindFineOver q w (TryWays q arms) (K.Try arms shape))
+JoinsAreFine = FitsSuffice → MetGrows → AllArmsGrow → (q : Scene) (w : World Item) (shape : Shape) → KindFine q w (K.If shape)
+    × ((arms : List Arm) → ((names : List Kept) → AllMatch (at q w names true) w arms) → KindFine q w (K.Match arms shape) × KindFine q w (K.Try arms shape))

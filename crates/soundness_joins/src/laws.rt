@@ -16,7 +16,7 @@ pub fn loops_are_fine()
     ensures { LoopsAreFine }
 {}
 
-/// So do `if`, `match` and `try`, where the first of ways that meet without a wanted type leaves no hole, and the patterns of arms match.
+/// So do `if`, `match` and `try`, where the patterns of arms match.
 pub fn joins_are_fine()
     ensures { JoinsAreFine }
 {}
