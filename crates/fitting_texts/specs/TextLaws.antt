@@ -12,27 +12,30 @@ use Rattle.shapes.specs.Failures.{refusal}
 use Rattle.shapes.specs.Tabled.{tabled_of}
 use Rattle.known_texts.specs.Written.{IsWritten}
 use Rattle.text_progress.specs.Laws.{core_of}
-use Rattle.constraint_gen.specs.Models.{around_of}
 use Rattle.checked_meaning.specs.Checked.{Checks}
 use Rattle.soundness_steps.specs.Works.{Setting, Work}
 use Rattle.soundness_calls.specs.Directions.{bodies_of, scene_across}
 use Rattle.soundness_calls.specs.Events.{checks_of}
 use Rattle.fitting_texts.specs.CoreLaws.{EachWays}
 use Rattle.whole_runs.specs.Never.{AreAnywhere, Stands, setting_in}
-use Rattle.whole_runs.specs.OpeningsStand.{Open}
+use Rattle.whole_runs.specs.OpeningsStand.{OpeningsAlike}
 use Rattle.fitting_texts.specs.ModelLaws.{FunctionWays}
 use Rattle.fitting_texts.specs.ModelTests.{model_fits}
+use Rattle.fitting_texts.specs.OpeningLaws.{OpeningsLeft}
+use Rattle.fitting_texts.specs.OpeningTests.{openings_fit}
 
--- what no test says: of ways that meet where no type is wanted, and of openings
+-- what no test says: of ways that meet where no type is wanted, and of what the walk over openings finds
 pub record ModelLeft (set : Setting) (m : CoreModel) (k : Checks) (rank : ℕ → ℕ) : Type 0 where
   pub functions : (x : Work) (f : Function) → set.covered x ≡ true → slice_get m.functions x.function ≡ Some f → FunctionWays set k x f
   pub directions : (d e : ℕ) (n : Direction) → slice_get m.directions e ≡ Some n → EachWays (scene_across set k rank d) (bodies_of n)
-  pub openings : Open m set.past set.covered [] (checks_of m k)
+  pub openings : OpeningsLeft m set.past set.covered [] (checks_of m k) 0 [] m.openings
+  pub alike : OpeningsAlike m [] [] m.openings
   pub anywhere : AreAnywhere set
 
 abbrev pub FittingTextsStand : Type 0
 FittingTextsStand =
     (text : List Def) (end : Place) (cycle : List ℕ → Option ℕ) → IsAccepted text end → refusal (tabled_of text) text ≡ None → IsWritten text
     → (past : Positive) (hart : ℕ) (covered : Work → Bool) (k : Checks) (rank : ℕ → ℕ)
-    → model_fits (core_of text cycle) ≡ true → ModelLeft (setting_in (core_of text cycle) past hart covered) (core_of text cycle) k rank
+    → model_fits (core_of text cycle) ≡ true → openings_fit (core_of text cycle) [] [] (core_of text cycle).openings ≡ true
+    → ModelLeft (setting_in (core_of text cycle) past hart covered) (core_of text cycle) k rank
     → Stands (setting_in (core_of text cycle) past hart covered) (core_of text cycle) k rank
