@@ -1,3 +1,9 @@
 pub mod Cores
 pub mod Models
+pub mod Within
+pub mod FoundNames
+pub mod LookedNames
+pub mod LetsOnce
+pub mod PureValues
+pub mod Openings
 pub mod Texts

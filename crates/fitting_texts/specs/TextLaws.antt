@@ -10,20 +10,21 @@ use Rattle.shapes.specs.Tabled.{tabled_of}
 use Rattle.known_texts.specs.Written.{IsWritten}
 use Rattle.text_progress.specs.Laws.{core_of}
 use Rattle.checked_meaning.specs.Checked.{Checks}
-use Rattle.soundness_steps.specs.Works.{Setting, Work}
-use Rattle.soundness_calls.specs.Events.{checks_of}
-use Rattle.whole_runs.specs.Never.{AreAnywhere, Stands, setting_in}
-use Rattle.whole_runs.specs.OpeningsStand.{Open}
+use Rattle.soundness_steps.specs.Works.{Work}
+use Rattle.fitting_texts.specs.Apart.{openings_apart}
+use Rattle.whole_runs.specs.Never.{Stands, setting_in}
 use Rattle.fitting_texts.specs.ModelTests.{model_fits}
+use Rattle.fitting_texts.specs.OpeningTests.{openings_fit}
 
--- what no test says: of openings
-pub record ModelLeft (set : Setting) (m : CoreModel) (k : Checks) : Type 0 where
-  pub openings : Open m set.past set.covered [] (checks_of m k)
-  pub anywhere : AreAnywhere set
+-- what is tested of a model: bodies and patterns, values and patterns of openings, and that openings stand apart
+pub record ModelTested (m : CoreModel) : Type 0 where
+  pub bodies : model_fits m ≡ true
+  pub openings : openings_fit m [] [] m.openings ≡ true
+  pub apart : openings_apart m [] m.openings ≡ true
 
 abbrev pub FittingTextsStand : Type 0
 FittingTextsStand =
     (text : List Def) (end : Place) (cycle : List ℕ → Option ℕ) → IsAccepted text end → refusal (tabled_of text) text ≡ None → IsWritten text
     → (past : Positive) (hart : ℕ) (covered : Work → Bool) (k : Checks) (rank : ℕ → ℕ)
-    → model_fits (core_of text cycle) ≡ true → ModelLeft (setting_in (core_of text cycle) past hart covered) (core_of text cycle) k
+    → ModelTested (core_of text cycle)
     → Stands (setting_in (core_of text cycle) past hart covered) (core_of text cycle) k rank

@@ -3,8 +3,10 @@
 
 mod core_laws;
 mod model_laws;
+mod opening_laws;
 mod text_laws;
 
 pub use core_laws::{clauses_stand, values_stand, ways_stand};
 pub use model_laws::tested_models_stand;
+pub use opening_laws::tested_openings_stand;
 pub use text_laws::fitting_texts_stand;

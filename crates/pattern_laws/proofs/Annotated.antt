@@ -1,6 +1,7 @@
 -- Patterns with a type, and patterns over what a mapping gives.
 use Rattle.std.proofs.Common.{◌≡◌, ℕ, ◌≤◌, Bool, true, false, List, [], ◌∷◌, ◌++◌, map, slice_get, Option, Some, None, refl, sym, ap, ◌∙◌, subst, arith}
-use Rattle.std.proofs.Common.{if◌then◌else◌, bytes_eq}
+use Rattle.std.proofs.Common.{if◌then◌else◌, ◌||◌, bytes_eq}
+use Rattle.std.proofs.lemmas.Slice.Eq.{bytes_eq-Decides}
 use Rattle.sail_base.specs.declared.place.Place.{Place}
 use Rattle.sail_types.specs.Belongs.{Reading as Closed, reading, assigned, belongs}
 use Rattle.sail_types.specs.Numbers.{Assignment, Positive}
@@ -40,14 +41,16 @@ use Rattle.fitting_laws.proofs.Counting.{Grows}
 use Rattle.fitting_laws.proofs.Deep.{fitting}
 use Rattle.fitting_laws.proofs.Holes.{of_full}
 use Rattle.pattern_laws.specs.Beside.{AllMet, Stands, Ends, OfSizes, Behind, Beside}
-use Rattle.pattern_laws.specs.Typing.{Typing, Bears, HeldBears, NamesBear}
-use Rattle.pattern_laws.specs.Grounds.{IsGiven, Ways}
-use Rattle.pattern_laws.proofs.Conditions.{goals_said, true_both, given_both}
-use Rattle.pattern_laws.proofs.Growing.{item_grows}
+use Rattle.pattern_laws.specs.Typing.{Typing, Bears, HeldBears, NamesBear, TypeBears, is_again}
+use Rattle.pattern_laws.specs.Grounds.{IsGiven, IsOwed, Ways}
+use Rattle.pattern_laws.proofs.Conditions.{goals_said, met_behind, met_front, true_both, given_both}
+use Rattle.pattern_laws.proofs.Growing.{exponents_grows, item_grows}
 use Rattle.pattern_laws.proofs.Steady.{meant_same}
 use Rattle.pattern_laws.proofs.Steps.{reach_then, way_reached, notes, knowing, wrongs, first_runs, then_gives, Quiet, after_beside, met_after}
+use Rattle.pattern_laws.proofs.Steps.{with_piece}
+use Rattle.pattern_laws.proofs.Whole.{HoldsWhole, NamesWhole, again}
 use Rattle.pattern_laws.proofs.Points.{bears_on, names_on, ItemOf}
-use Rattle.pattern_laws.proofs.Parts.{Grounds, grounds_on, Names, Well, item_beside}
+use Rattle.pattern_laws.proofs.Parts.{Grounds, grounds_on, Names, Well, item_beside, not_owed}
 
 -- a point from which variables are counted later
 abbrev grown : {n m : ℕ} → Point n → n ≤ m → Point m
@@ -152,35 +155,125 @@ module _ (around : Around) (past : Positive) (own : List Closed) {fit : OfSizes}
       owed_by true g fs b s t = quiet_give t
       owed_by false g fs b s t = fit_quiet earlier place i wr.typ around.numbers x (fit_of i wr.typ around.numbers x b (written_steady wr.typ s)) t
 
-  one_written : {n : ℕ} (f : Point n) (form : Naming-F Naming) (r : Reading) (b : Bound) (l : Local Item)
-      → (l.name ≡ b.name) × HeldBears around.types past own y f b.held l.held
-      → (l.name ≡ (written_at form r b).name) × HeldBears around.types past own y f (written_at form r b).held l.held
-  one_written f (G.Named name) r b l h = by (bytes_eq b.name name)
-    where
-      by : (c : Bool) → (l.name ≡ (if c then record b { written = Some r } else b).name)
-          × HeldBears around.types past own y f (if c then record b { written = Some r } else b).held l.held
-      by true = h
-      by false = h
-  one_written f form r b l h = h
+  -- where its obligations hold, the value is of the type
+  written_told : {n : ℕ} {f : Point n} {facts : List Fact} (place : Place) (wr : Written) (is_owed : Bool) (i : Indices) (x : Item) → Has f i x → Good f
+      → (is_owed ≡ true → (g : Integers) → Agree f g → is_of around.types (there g) own (written_in around wr) x.val ≡ true)
+      → (inner : Walk (List Bound)) → Grows inner → AllMet q past (after_inner inner (written_owed around place wr is_owed i) facts n).notes
+      → Stands q past f facts → (g : Integers) → Agree f g → is_of around.types (there g) own (written_in around wr) x.val ≡ true
+  unfolding owe_fit_under owe_made_under bind
+  written_told place wr true i x b s owed inner grows met stands g agree = owed refl g agree
+  written_told {n} {f} {facts} place wr false i x b s owed inner grows met stands g agree =
+      let e = exponents_owed around wr.numbers (inner facts n).facts (inner facts n).next in
+      let up : n ≤ e.next =
+      let first = grows.onward facts n in
+      let then_on = (exponents_grows around wr.numbers).onward (inner facts n).facts (inner facts n).next in
+      omega arith in
+      let l = grown_later f up in
+      let fit_there = fit_of i wr.typ around.numbers x (bears_on around.types past own y l b)
+      (written_steady wr.typ (grounds_on around past own y q cases w l s)) in
+      let a = fits around.types i (R.Of wr.typ around.numbers []) e.next in
+      let owes = met_behind q past e.notes _ (met_after q past n facts inner (written_owed around place wr false i) met).1 in
+      let last = fit_there.point.integers in
+      ap (belongs around.types x.val) (written_steady wr.typ s g agree
+      ∙ sym (written_steady wr.typ s last (agree_on (later_on l fit_there.later) (same fit_there.point))))
+      ∙ fit_there.suffices fit_there.point (no_later fit_there.point) (λ h c. goals_said q past (facts ++ a.facts) place a.conditions owes h
+      (true_both (there h) facts a.facts (stands.there h (agree_on (later_on l fit_there.later) c)) (fit_there.true_there h c))) last (same fit_there.point)
 
-  names_written : {n : ℕ} (f : Point n) (form : Naming-F Naming) (r : Reading) (bs : List Bound) (ls : List (Local Item))
-      → NamesBear around.types past own y n f bs ls → NamesBear around.types past own y n f (map (written_at form r) bs) ls
-  names_written f form r [] [] h = tt
-  names_written f form r [] (l ∷ ls) h = absurd h
-  names_written f form r (b ∷ bs) [] h = absurd h
-  names_written f form r (b ∷ bs) (l ∷ ls) h =
-      let one = one_written f form r b l (h.0, h.1) in (one.0, one.1, names_written f form r bs ls h.2)
+  -- ---- the names of a typed pattern
+
+  -- a type that is written at a name changes no name
+  name_kept : (form : Naming-F Naming) (r : Reading) (b : Bound) → (written_at form r b).name ≡ b.name
+  name_kept (G.Named name) r b = by (bytes_eq b.name name)
+    where
+      by : (c : Bool) → (if c then record b { written = Some r } else b).name ≡ b.name
+      by true = refl
+      by false = refl
+  name_kept form r b = refl
+
+  again_kept : (form : Naming-F Naming) (r : Reading) (name : List ℕ) (bs : List Bound) → is_again name (map (written_at form r) bs) ≡ is_again name bs
+  again_kept form r name [] = refl
+  again_kept form r name (b ∷ bs) = λ j. bytes_eq (name_kept form r b j) name || again_kept form r name bs j
+
+  abbrev Told : {n : ℕ} → Point n → Option Reading → Item → Type 0
+  Told f o x = TypeBears around.types past own y around.numbers f o x
+
+  abbrev Bear : {n : ℕ} → Point n → List Bound → List (Local Item) → Type 0
+  Bear {n} f bs ls = NamesBear around.types past own y around.numbers n f bs ls
+
+  -- names of a run are those of its walk
+  again_run : {n : ℕ} (f : Point n) (name : List ℕ) (bs : List Bound) (ls : List (Local Item)) → Bear f bs ls → again name ls ≡ is_again name bs
+  again_run f name [] [] h = refl
+  again_run f name [] (l ∷ ls) h = absurd h
+  again_run f name (b ∷ bs) [] h = absurd h
+  again_run f name (b ∷ bs) (l ∷ ls) h = λ j. bytes_eq (h.0 j) name || again_run f name bs ls h.3 j
+
+  -- a name of the pattern, which is or isn't that for the whole value
+  one_written : {n : ℕ} (f : Point n) (name : List ℕ) (r : Reading) (x : Item) → Told f (Some r) x → (b : Bound) (bs : List Bound) (l : Local Item)
+      (ls : List (Local Item)) → Bear f (b ∷ bs) (l ∷ ls) → NamesWhole name x (l ∷ ls) → (c : Bool) → bytes_eq b.name name ≡ c
+      → (l.name ≡ (if c then record b { written = Some r } else b).name)
+      × HeldBears around.types past own y f (if c then record b { written = Some r } else b).held l.held
+      × (is_again (if c then record b { written = Some r } else b).name bs ≡ false → Told f (if c then record b { written = Some r } else b).written l.held)
+  one_written f name r x told b bs l ls h whole true e = (
+    h.0,
+    h.1,
+    λ k.
+        subst (Told f (Some r)) (sym (whole.0 (ap (λ own_name. bytes_eq own_name name) h.0 ∙ e)
+        (again_run f name bs ls h.3 ∙ ap (λ own_name. is_again own_name bs) (sym ((bytes_eq-Decides b.name name).0 e)) ∙ k))) told,
+  )
+  one_written f name r x told b bs l ls h whole false e = (h.0, h.1, h.2)
+
+  names_named : {n : ℕ} (f : Point n) (name : List ℕ) (r : Reading) (x : Item) → Told f (Some r) x → (bs : List Bound) (ls : List (Local Item))
+      → Bear f bs ls → NamesWhole name x ls → Bear f (map (written_at (G.Named name) r) bs) ls
+  names_named f name r x told [] [] h whole = tt
+  names_named f name r x told [] (l ∷ ls) h whole = absurd h
+  names_named f name r x told (b ∷ bs) [] h whole = absurd h
+  names_named f name r x told (b ∷ bs) (l ∷ ls) h whole =
+      let one = one_written f name r x told b bs l ls h whole (bytes_eq b.name name) refl in (
+        one.0,
+        one.1,
+        (λ k. one.2 (sym (again_kept (G.Named name) r (written_at (G.Named name) r b).name bs) ∙ k)),
+        names_named f name r x told bs ls h.3 whole.1,
+      )
+
+  -- at which nothing is written
+  names_plain : {n : ℕ} (f : Point n) (form : Naming-F Naming) (r : Reading) → ((b : Bound) → written_at form r b ≡ b) → (bs : List Bound)
+      (ls : List (Local Item)) → Bear f bs ls → Bear f (map (written_at form r) bs) ls
+  names_plain {n} f form r plain bs ls h = subst (λ all. Bear f all ls) (sym (all_plain bs)) h
+    where
+      all_plain : (cs : List Bound) → map (written_at form r) cs ≡ cs
+      all_plain [] = refl
+      all_plain (c ∷ cs) = λ j. plain c j ∷ all_plain cs j
+
+  names_written : {n : ℕ} (f : Point n) (form : Naming-F Naming) (r : Reading) (x : Item) → Told f (Some r) x → (bs : List Bound) (ls : List (Local Item))
+      → Bear f bs ls → HoldsWhole form x ls → Bear f (map (written_at form r) bs) ls
+  names_written f (G.Named name) r x told bs ls h whole = names_named f name r x told bs ls h whole
+  names_written f form r x told bs ls h whole = names_plain f form r (λ b. refl) bs ls h
+
+  typed_first : (place : Place) (wr : Written) (how : Matching) (a : Look) (i : Indices) (facts : List Fact) (n : ℕ)
+      → AllMet q past (typed_met place wr a around how i facts n).notes
+      → AllMet q past (after_inner (a.match_with around (inside how) i) (written_owed around place wr how.is_owed i) facts n).notes
+  unfolding bind give
+  typed_first place wr how a i facts n met =
+      met_front q past (after_inner (a.match_with around (inside how) i) (written_owed around place wr how.is_owed i) facts n).notes _ met
 
   pub typed_beside : {n : ℕ} {f : Point n} {facts : List Fact} (place : Place) (wr : Written) (how : Matching) (a : Look) (m : Matcher Item) (k : Bool)
-      → Well around past own y q cases w a m k → (i : Indices) (x : Item) → Has f i x → Good f → k ≡ true
+      → Well around past own y q cases w a m k → (i : Indices) (x : Item) → Has f i x → Good f → IsOwed around past own f how (Some wr) x → k ≡ true
       → Beside q past n f facts (typed_met place wr a around how i) (m x) Found
-  typed_beside {n} {f} {facts} place wr how a m k h i x b s t =
+  typed_beside {n} {f} {facts} place wr how a m k h i x b s owed t =
+      let inner = a.match_with around (inside how) i in
+      knowing (λ met stands.
+      written_told place wr how.is_owed i x b s (λ e. owed e wr refl) inner (h.grows (inside how) i)
+      (typed_first place wr how a i facts n met) stands)
+      (λ told.
       then_gives (map (written_at (out-Naming a.naming) (written_in around wr)))
-      (after_beside (written_owed around place wr how.is_owed i) (h.beside (inside how) i x n f facts b s t)
-      (λ m k p g bs ls l n. names_on around.types past own y bs ls l n)
+      (with_piece (HoldsWhole (out-Naming a.naming) x) (λ now. h.whole x now)
+      (after_beside (written_owed around place wr how.is_owed i)
+      (h.beside (inside how) i x n f facts b s (not_owed around past own y q cases w f how a.written x) t)
+      (λ m k p g bs ls l n. names_on around.types past own y around.numbers bs ls l n)
       (λ m g fs l stands. written_quiet facts place wr how.is_owed i x (bears_on around.types past own y l b)
-      (grounds_on around past own y q cases w l s) stands))
-      (λ m p bs ls l n. names_written p (out-Naming a.naming) (written_in around wr) bs ls n)
+      (grounds_on around past own y q cases w l s) stands)))
+      (λ m p bs ls l n.
+      names_written p (out-Naming a.naming) (written_in around wr) x (wr.typ, refl, (λ g c. told g (agree_on l c))) bs ls n.0 n.1))
 
   -- ---- mappings
 
@@ -221,7 +314,7 @@ module _ (around : Around) (past : Positive) (own : List Closed) {fit : OfSizes}
       (λ takes. first_runs (ways d dir x reached e takes) (λ v given.
       after_beside (parameter_owed around place dir i)
       (item_beside around past own y q cases w place how a m k h (result_of dir) v (given_of dir.result v given) s t)
-      (λ m k p g bs ls l n. names_on around.types past own y bs ls l n)
+      (λ m k p g bs ls l n. names_on around.types past own y around.numbers bs ls l n)
       (λ m g fs l stands. fit_quiet facts place i dir.parameter [] x (fit_of i dir.parameter [] x (bears_on around.types past own y l b)
       (λ j c. plain_same j g.integers dir.parameter)) stands)))))
 

@@ -508,7 +508,7 @@ module _ (around : Around) (past : Positive) (own : List Closed) {fit : OfSizes}
       (λ m g fs is l is_so. parts_beside around past own y q cases w place how looks ms ss fine is parts.0
       (all_bear around.types past own y is (map bits_kept widths) parts.0 (bits_suit widths parts.0 enough parts.2) is_so)
       (grounds_on around past own y q cases w l s) (all_stand around past own y q cases w ss one.1))))
-      (λ m k p g bs ls l h. names_on around.types past own y bs ls l h)
+      (λ m k p g bs ls l h. names_on around.types past own y around.numbers bs ls l h)
       (λ m g fs l stands. owed_quiet facts place _ stands)))))
   cut_beside {f = f} place how looks ms ss fine ws t x b s d v e =
       no (ap (form_holds around.types (there f.integers) own (W.Bits t)) (sym e)

@@ -126,7 +126,7 @@ width_grows : (place : Place) (rest : Option Num) (o : Option (Option Num)) → 
 width_grows place rest None = part_grows place rest
 width_grows place rest (Some o) = part_grows place o
 
-exponents_grows : (around : Around) (ns : List WrittenNumber) → Grows (exponents_owed around ns)
+pub exponents_grows : (around : Around) (ns : List WrittenNumber) → Grows (exponents_owed around ns)
 exponents_grows around [] = give_grows tt
 exponents_grows around (n ∷ ns) = bind_grows _ _ (owe_grows n.place _) (λ t. exponents_grows around ns)
 

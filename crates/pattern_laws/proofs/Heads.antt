@@ -45,7 +45,7 @@ use Rattle.pattern_laws.proofs.Values.{list_had, list_has, vector_had, tuple_had
 use Rattle.pattern_laws.proofs.Values.{tuple_wide}
 use Rattle.pattern_laws.proofs.Points.{names_on, AllOf, all_of}
 use Rattle.pattern_laws.proofs.Parts.{reads, Grounds, grounds_on, Names, Well, AllWell, all_stand, also_beside, parts_beside, item_beside, items_beside}
-use Rattle.pattern_laws.proofs.Parts.{as_many, seen_parts}
+use Rattle.pattern_laws.proofs.Parts.{as_many, not_owed, seen_parts}
 
 module _ (around : Around) (past : Positive) (own : List Closed) {fit : OfSizes} (y : Typing around.types past own fit) (q : Ends fit) (cases : Cases)
     (w : World Item) where
@@ -177,7 +177,7 @@ module _ (around : Around) (past : Positive) (own : List Closed) {fit : OfSizes}
   -- a pattern alone, as the last of several
   pub alone : {n : ℕ} {f : Point n} {facts : List Fact} {walk : Walk (List Bound)} {c : Run Item (List (Local Item))} → Beside q past n f facts walk c Found
       → Beside q past n f facts walk (c then λ found. gives (found ++ [])) Found
-  alone b = ends_as (λ found. found ++ []) b (λ m p bs ls l h. subst (λ ks. NamesBear around.types past own y m p bs ks) (sym (append-nil ls)) h)
+  alone b = ends_as (λ found. found ++ []) b (λ m p bs ls l h. subst (λ ks. NamesBear around.types past own y around.numbers m p bs ks) (sym (append-nil ls)) h)
 
   pub cons_beside : {n : ℕ} {f : Point n} {facts : List Fact} (place : Place) (how : Matching) (a b : Look) (m k : Matcher Item) (s t : Bool)
       → Well around past own y q cases w a m s → Well around past own y q cases w b k t → (r : Reading) (x : Item) → Has f (I.List r) x → Good f
@@ -196,7 +196,7 @@ module _ (around : Around) (past : Positive) (own : List Closed) {fit : OfSizes}
             ∙ list_had around.types past own i r x.val (h.has_it i (agree_on l c)))).1;
         is_wide = λ i c. h.is_wide i (agree_on l c);
         typed = λ i c. h.typed i (agree_on l c);
-      }) (grounds_on around past own y q cases w l g) both.1))
+      }) (grounds_on around past own y q cases w l g) (not_owed around past own y q cases w p how b.written (item x.typ (VV.List vs))) both.1))
   cons_beside {f = f} place how a b m k s t fine good r x h g d v e =
       no (ap (form_holds around.types (standing past f.integers) own (W.List (closed around.types (standing past f.integers) own r))) (sym e)
       ∙ list_had around.types past own f.integers r x.val (h.has_it f.integers (same f)))
@@ -234,7 +234,7 @@ module _ (around : Around) (past : Positive) (own : List Closed) {fit : OfSizes}
       (λ g a. y.kept.vector_item g t r x.typ (b.typed g a))
       (all_reversed (λ v. belongs around.types v c) vs (vector_items around.types past own f.integers t c vs held))) s
       (all_stand around past own y q cases w ss d))
-      (λ m k p g bs ls l h. names_on around.types past own y bs ls l h)
+      (λ m k p g bs ls l h. names_on around.types past own y around.numbers bs ls l h)
       (λ m g fs l stands. owed_quiet _ place _ stands)))
   vector_beside {f = f} place how looks ms ss fine t r x b s d v e =
       let here = standing past f.integers in

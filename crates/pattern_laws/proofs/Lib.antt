@@ -5,6 +5,7 @@ pub mod Steps
 pub mod Values
 pub mod Steady
 pub mod Points
+pub mod Whole
 pub mod Growing
 pub mod Parts
 pub mod Tables

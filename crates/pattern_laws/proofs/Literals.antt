@@ -49,9 +49,9 @@ use Rattle.pattern_laws.proofs.Values.{never_had, unit_had, truth_had, bit_had, 
 pub pos_same : {n m : ℕ} → pos n ≡ pos m → n ≡ m
 pos_same e = cc
 
-module _ (types : Types) (past : Positive) (own : List Closed) {fit : OfSizes} (y : Typing types past own fit) (q : Ends fit) where
+module _ (types : Types) (past : Positive) (own : List Closed) {fit : OfSizes} (y : Typing types past own fit) (numbers : List Index) (q : Ends fit) where
   abbrev Names : Behind (List Bound) (List (Local Item))
-  Names m p bs ls = NamesBear types past own y m p bs ls
+  Names m p bs ls = NamesBear types past own y numbers m p bs ls
 
   -- a literal's run
   abbrev looking : Seen Item → Run Item (List (Local Item))

@@ -1,5 +1,5 @@
 -- Parts that are matched from left to right, and items that are taken out one by one.
-use Rattle.std.proofs.Common.{◌≡◌, ℕ, suc, nat_eq, Bool, true, false, List, [], ◌∷◌, ◌++◌, map, length, refl, sym, ap, subst, if◌then◌else◌}
+use Rattle.std.proofs.Common.{◌≡◌, ℕ, suc, nat_eq, Bool, true, false, List, [], ◌∷◌, ◌++◌, map, length, Option, refl, sym, ap, subst, if◌then◌else◌}
 use Rattle.std.proofs.lemmas.Bool.{and_parts}
 use Rattle.std.proofs.lemmas.Bool.Decides.{Decides-eqb}
 use Rattle.sail_base.specs.declared.place.Place.{Place}
@@ -7,10 +7,12 @@ use Rattle.sail_types.specs.Belongs.{Reading as Closed}
 use Rattle.sail_types.specs.Numbers.{Positive}
 use Rattle.sail_types.specs.declared.values.Value.{Value}
 use Rattle.size_values.specs.declared.sized.Sized.{Sized}
-use Rattle.sail_core.specs.Run.{Local, Run, gives, ◌then◌}
+use Rattle.sail_core.specs.declared.written.Written.{Written}
+use Rattle.sail_core.specs.Run.{Local, Now, Run, gives, ◌then◌}
 use Rattle.sail_core.specs.Making.{Making, World}
 use Rattle.sail_core.specs.Patterns.{Parts, Wrong, so_many, as_run, Matcher, parts_match as run_parts}
 use Rattle.value_indices.specs.declared.indices.Indices.{Indices}
+use Rattle.value_indices.specs.declared.indices.Naming.{out-Naming}
 use Rattle.value_indices.specs.declared.indices.Reading.{Reading}
 use Rattle.value_indices.specs.declared.notes.Fact.{Fact}
 use Rattle.value_indices.specs.declared.notes.Made.TheVariants as Makes
@@ -24,14 +26,16 @@ use Rattle.pattern_notes.specs.declared.matching.Matching.{Matching}
 use Rattle.pattern_notes.specs.Patterns.{Look, inside, also, each_match, parts_match, item_met, items_met}
 use Rattle.value_laws.specs.Belonging.{Integers}
 use Rattle.value_laws.specs.Known.{Point, Agree, Later}
+use Rattle.value_laws.proofs.Basics.{no}
 use Rattle.value_laws.proofs.Steps.{agree_on}
 use Rattle.value_laws.proofs.Arguments.{still_later}
 use Rattle.fitting_laws.proofs.Counting.{Grows}
 use Rattle.pattern_laws.specs.Beside.{AllMet, Stands, Ends, OfSizes, Behind, Beside}
 use Rattle.pattern_laws.specs.Typing.{Typing, Bears, AllBear, NamesBear}
-use Rattle.pattern_laws.specs.Grounds.{Grounded}
+use Rattle.pattern_laws.specs.Grounds.{Grounded, IsOwed}
 use Rattle.pattern_laws.specs.Standing.{each_stands}
 use Rattle.pattern_laws.proofs.Steps.{binds, knowing, walks, rests, wrongs}
+use Rattle.pattern_laws.proofs.Whole.{GivesWhole}
 use Rattle.pattern_laws.proofs.Points.{all_on, names_on, names_both, one_bears, ItemOf, AllOf, of_each, takes}
 
 -- so many parts as are looked for
@@ -55,13 +59,18 @@ module _ (around : Around) (past : Positive) (own : List Closed) {fit : OfSizes}
 
   -- the names of a pattern
   abbrev pub Names : Behind (List Bound) (List (Local Item))
-  Names m p bs ls = NamesBear around.types past own y m p bs ls
+  Names m p bs ls = NamesBear around.types past own y around.numbers m p bs ls
 
   -- a pattern: its walk beside its run
   pub record Well (look : Look) (matcher : Matcher Item) (stands : Bool) : Type 0 where
     pub beside : (how : Matching) (i : Indices) (x : Item) (n : ℕ) (f : Point n) (facts : List Fact) → Bears around.types past own y f i x → Grounds f
-        → stands ≡ true → Beside q past n f facts (look.match_with around how i) (matcher x) Names
+        → IsOwed around past own f how look.written x → stands ≡ true → Beside q past n f facts (look.match_with around how i) (matcher x) Names
+    pub whole : (x : Item) (now : Now Item) → GivesWhole (out-Naming look.naming) x (matcher x now)
     pub grows : (how : Matching) (i : Indices) → Grows (look.match_with around how i)
+
+  -- further in nothing is owed already
+  pub not_owed : {n : ℕ} (f : Point n) (how : Matching) (o : Option Written) (x : Item) → IsOwed around past own f (inside how) o x
+  not_owed f how o x e = no e
 
   abbrev pub AllWell : List Look → List (Matcher Item) → List Bool → Type 0
   AllWell [] [] [] = Unit {0}
@@ -88,7 +97,7 @@ module _ (around : Around) (past : Positive) (own : List Closed) {fit : OfSizes}
   unfolding also
   also_beside one next =
       binds one (λ m g fs bs ls l names. binds (next m g fs l) (λ m2 g2 fs2 cs ks l2 more.
-      rests (bs ++ cs) (ls ++ ks) (names_both around.types past own y g2 bs cs ls ks (names_on around.types past own y bs ls l2 names) more)))
+      rests (bs ++ cs) (ls ++ ks) (names_both around.types past own y around.numbers g2 bs cs ls ks (names_on around.types past own y around.numbers bs ls l2 names) more)))
 
   -- ---- parts from left to right
 
@@ -105,7 +114,7 @@ module _ (around : Around) (past : Positive) (own : List Closed) {fit : OfSizes}
   in_order_beside place how (a ∷ looks) (m ∷ ms) (k ∷ ss) h [] xs b s t = wrongs place
   in_order_beside place how (a ∷ looks) (m ∷ ms) (k ∷ ss) h (i ∷ is) [] b s t = absurd b
   in_order_beside {n} {f} {facts} place how (a ∷ looks) (m ∷ ms) (k ∷ ss) h (i ∷ is) (x ∷ xs) b s t =
-      also_beside (h.0.beside (inside how) i x n f facts b.0 s t.0) (λ m2 g2 fs l.
+      also_beside (h.0.beside (inside how) i x n f facts b.0 s (not_owed f how a.written x) t.0) (λ m2 g2 fs l.
       in_order_beside place how looks ms ss h.1 is xs (all_on around.types past own y is xs l b.1) (grounds_on l s) t.1)
 
   pub parts_beside : {n : ℕ} {f : Point n} {facts : List Fact} (place : Place) (how : Matching) (looks : List Look) (ms : List (Matcher Item))
@@ -129,7 +138,8 @@ module _ (around : Around) (past : Positive) (own : List Closed) {fit : OfSizes}
       knowing told (λ sizes.
       let made = takes around.types past own y place a.naming r x sizes o in
       walks made.2 (λ m2 g fs i l is.
-      h.beside (inside how) i x m2 g fs (one_bears around.types past own y (made.0, x.typ) x (made.1, refl) is) (grounds_on l s) t))
+      h.beside (inside how) i x m2 g fs (one_bears around.types past own y (made.0, x.typ) x (made.1, refl) is) (grounds_on l s)
+      (not_owed g how a.written x) t))
 
   pub items_beside : {n : ℕ} {f : Point n} {facts : List Fact} (place : Place) (how : Matching) (looks : List Look) (ms : List (Matcher Item))
       (ss : List Bool) → AllWell looks ms ss → (r : Reading) (s : Sized) (vs : List Value) → length vs ≡ length looks

@@ -30,7 +30,7 @@ use Rattle.checked_meaning.specs.Checked.{Cases}
 use Rattle.pattern_leaves.specs.declared.names.Bound.{Bound}
 use Rattle.pattern_leaves.specs.Settings.{Around, bound}
 use Rattle.pattern_notes.specs.declared.matching.Matching.{Matching}
-use Rattle.pattern_notes.specs.Patterns.{Look, look_form, look, looks, form_match, opens_met, arm_match, one_match}
+use Rattle.pattern_notes.specs.Patterns.{Look, look_form, look, looks, form_match, form_written, opens_met, arm_match, arm_written, one_match}
 use Rattle.value_laws.specs.Belonging.{standing, has}
 use Rattle.value_laws.specs.Known.{Point}
 use Rattle.value_laws.proofs.Basics.{no}
@@ -38,13 +38,14 @@ use Rattle.value_laws.proofs.Steps.{same}
 use Rattle.pattern_laws.specs.Beside.{Ends, OfSizes, Behind, Beside}
 use Rattle.pattern_laws.specs.Typing.{Typing, Bears, AllBear}
 use Rattle.pattern_laws.specs.Standing.{each_stands, form_stands, head_stands, stands, arm_stands}
-use Rattle.pattern_laws.specs.Grounds.{Ways}
+use Rattle.pattern_laws.specs.Grounds.{IsOwed, Ways}
 use Rattle.pattern_laws.specs.Laws.{PatternIsSound, ArmIsSound, LetIsSound, ends_of, typing_of, PatternsAreSound, ArmsAreSound, LetsAreSound}
 use Rattle.pattern_laws.proofs.Growing.{AllGrow, form_grows}
 use Rattle.pattern_laws.proofs.Steps.{rests, wrongs, binds}
 use Rattle.pattern_laws.proofs.Values.{never_had}
 use Rattle.pattern_laws.proofs.Points.{bears_on, names_both}
 use Rattle.pattern_laws.proofs.Parts.{reads, Grounds, Names, Well, AllWell, all_stand, parts_beside}
+use Rattle.pattern_laws.proofs.Whole.{AllWhole, form_gives}
 use Rattle.pattern_laws.proofs.Literals.{literal_beside}
 use Rattle.pattern_laws.proofs.Heads.{alone, by_count, tuple_beside, list_beside, cons_beside, vector_beside}
 use Rattle.pattern_laws.proofs.Unions.{union_beside}
@@ -111,8 +112,8 @@ module _ (around : Around) (past : Positive) (own : List Closed) {fit : OfSizes}
   head_beside {f = f} place head how ps ms ss h i x b s t W.Never e =
       let held = subst (λ j. has around.types (standing past f.integers) own j x.val ≡ true) (sym e ∙ I.rolls-Never) (b.has_it f.integers (same f)) in
       absurd (never_had around.types past own f.integers x.val held)
-  head_beside place (H.Is l) how [] [] [] h i x b s t W.Unit e = literal_beside around.types past own y q place how.in_case l i W.Unit e x b t
-  head_beside place (H.Is l) how [] [] [] h i x b s t form e = literal_beside around.types past own y q place how.in_case l i form e x b t
+  head_beside place (H.Is l) how [] [] [] h i x b s t W.Unit e = literal_beside around.types past own y around.numbers q place how.in_case l i W.Unit e x b t
+  head_beside place (H.Is l) how [] [] [] h i x b s t form e = literal_beside around.types past own y around.numbers q place how.in_case l i form e x b t
   head_beside place (H.Is l) how ps ms (k ∷ ss) h i x b s t form e = no t
   head_beside place (H.Is l) how (a ∷ more) [] [] h i x b s t form e = absurd h
   head_beside place (H.Is l) how (a ∷ more) (m ∷ ms) [] h i x b s t form e = absurd h
@@ -143,44 +144,46 @@ module _ (around : Around) (past : Positive) (own : List Closed) {fit : OfSizes}
 
   form_beside : {n : ℕ} {f : Point n} {facts : List Fact} (place : Place) (form : Form) (how : Matching) (ps : List Look) (ms : List (Matcher Item))
       (ss : List Bool) → Fine ps ms ss → (i : Indices) (x : Item) → Has f i x → Good f
-      → form_stands around.types around.numbers form ss ≡ true → Walks n f facts place form how ps ms i x
-  form_beside place (F.Opens head) how ps ms ss h i x b s t = head_beside place head how ps ms ss h i x b s t (out-Indices i) (roll-out-Indices i)
-  form_beside place F.Any how [] [] [] h i x b s t = rests [] [] tt
-  form_beside place (F.Binds name) how [] [] [] h i x b s t = rests (bound name i ∷ []) (named name x) (refl, b, tt)
-  form_beside {n} {f} {facts} place (F.As name) how (a ∷ []) (m ∷ []) (k ∷ []) h i x b s t =
-      binds (h.0.beside how i x n f facts b s t) (λ m2 g fs bs ls l found.
+      → IsOwed around past own f how (form_written form ps) x → form_stands around.types around.numbers form ss ≡ true
+      → Walks n f facts place form how ps ms i x
+  form_beside place (F.Opens head) how ps ms ss h i x b s o t = head_beside place head how ps ms ss h i x b s t (out-Indices i) (roll-out-Indices i)
+  form_beside place F.Any how [] [] [] h i x b s o t = rests [] [] tt
+  form_beside place (F.Binds name) how [] [] [] h i x b s o t = rests (bound name i ∷ []) (named name x) (refl, b, (λ e. tt), tt)
+  form_beside {n} {f} {facts} place (F.As name) how (a ∷ []) (m ∷ []) (k ∷ []) h i x b s o t =
+      binds (h.0.beside how i x n f facts b s o t) (λ m2 g fs bs ls l found.
       rests (bs ++ bound name i ∷ []) (ls ++ named name x)
-      (names_both around.types past own y g bs (bound name i ∷ []) ls (named name x) found (refl, bears_on around.types past own y l b, tt)))
-  form_beside place (F.Typed wr) how (a ∷ []) (m ∷ []) (k ∷ []) h i x b s t = typed_beside around past own y q cases w place wr how a m k h.0 i x b s t
-  form_beside place (F.Maps d) how (a ∷ []) (m ∷ []) (k ∷ []) h i x b s t =
+      (names_both around.types past own y around.numbers g bs (bound name i ∷ []) ls (named name x) found
+      (refl, bears_on around.types past own y l b, (λ e. tt), tt)))
+  form_beside place (F.Typed wr) how (a ∷ []) (m ∷ []) (k ∷ []) h i x b s o t = typed_beside around past own y q cases w place wr how a m k h.0 i x b s o t
+  form_beside place (F.Maps d) how (a ∷ []) (m ∷ []) (k ∷ []) h i x b s o t =
       maps_beside around past own y q cases w ways place how d a m k h.0 i x b s t
-  form_beside place F.Any how ps ms (k ∷ ss) h i x b s t = no t
-  form_beside place F.Any how [] (m ∷ ms) [] h i x b s t = absurd h
-  form_beside place F.Any how (a ∷ more) [] [] h i x b s t = absurd h
-  form_beside place F.Any how (a ∷ more) (m ∷ ms) [] h i x b s t = absurd h
-  form_beside place (F.Binds name) how ps ms (k ∷ ss) h i x b s t = no t
-  form_beside place (F.Binds name) how [] (m ∷ ms) [] h i x b s t = absurd h
-  form_beside place (F.Binds name) how (a ∷ more) [] [] h i x b s t = absurd h
-  form_beside place (F.Binds name) how (a ∷ more) (m ∷ ms) [] h i x b s t = absurd h
-  form_beside place (F.As name) how ps ms [] h i x b s t = no t
-  form_beside place (F.As name) how ps ms (k ∷ k2 ∷ ss) h i x b s t = no t
-  form_beside place (F.As name) how [] ms (k ∷ []) h i x b s t = wrongs place
-  form_beside place (F.As name) how (a ∷ []) [] (k ∷ []) h i x b s t = absurd h
-  form_beside place (F.As name) how (a ∷ []) (m ∷ m2 ∷ ms) (k ∷ []) h i x b s t = absurd h.1
-  form_beside place (F.As name) how (a ∷ a2 ∷ ps) ms (k ∷ []) h i x b s t = wrongs place
-  form_beside place (F.Typed wr) how ps ms [] h i x b s t = no t
-  form_beside place (F.Typed wr) how ps ms (k ∷ k2 ∷ ss) h i x b s t = no t
-  form_beside place (F.Typed wr) how [] ms (k ∷ []) h i x b s t = wrongs place
-  form_beside place (F.Typed wr) how (a ∷ []) [] (k ∷ []) h i x b s t = absurd h
-  form_beside place (F.Typed wr) how (a ∷ []) (m ∷ m2 ∷ ms) (k ∷ []) h i x b s t = absurd h.1
-  form_beside place (F.Typed wr) how (a ∷ a2 ∷ ps) ms (k ∷ []) h i x b s t = wrongs place
-  form_beside place (F.Maps d) how ps ms [] h i x b s t = no t
-  form_beside place (F.Maps d) how ps ms (k ∷ k2 ∷ ss) h i x b s t = no t
-  form_beside place (F.Maps d) how [] ms (k ∷ []) h i x b s t = wrongs place
-  form_beside place (F.Maps d) how (a ∷ []) [] (k ∷ []) h i x b s t = absurd h
-  form_beside place (F.Maps d) how (a ∷ []) (m ∷ m2 ∷ ms) (k ∷ []) h i x b s t = absurd h.1
-  form_beside place (F.Maps d) how (a ∷ a2 ∷ ps) ms (k ∷ []) h i x b s t = wrongs place
-  form_beside place (F.Sees d) how ps ms ss h i x b s t = no t
+  form_beside place F.Any how ps ms (k ∷ ss) h i x b s o t = no t
+  form_beside place F.Any how [] (m ∷ ms) [] h i x b s o t = absurd h
+  form_beside place F.Any how (a ∷ more) [] [] h i x b s o t = absurd h
+  form_beside place F.Any how (a ∷ more) (m ∷ ms) [] h i x b s o t = absurd h
+  form_beside place (F.Binds name) how ps ms (k ∷ ss) h i x b s o t = no t
+  form_beside place (F.Binds name) how [] (m ∷ ms) [] h i x b s o t = absurd h
+  form_beside place (F.Binds name) how (a ∷ more) [] [] h i x b s o t = absurd h
+  form_beside place (F.Binds name) how (a ∷ more) (m ∷ ms) [] h i x b s o t = absurd h
+  form_beside place (F.As name) how ps ms [] h i x b s o t = no t
+  form_beside place (F.As name) how ps ms (k ∷ k2 ∷ ss) h i x b s o t = no t
+  form_beside place (F.As name) how [] ms (k ∷ []) h i x b s o t = wrongs place
+  form_beside place (F.As name) how (a ∷ []) [] (k ∷ []) h i x b s o t = absurd h
+  form_beside place (F.As name) how (a ∷ []) (m ∷ m2 ∷ ms) (k ∷ []) h i x b s o t = absurd h.1
+  form_beside place (F.As name) how (a ∷ a2 ∷ ps) ms (k ∷ []) h i x b s o t = wrongs place
+  form_beside place (F.Typed wr) how ps ms [] h i x b s o t = no t
+  form_beside place (F.Typed wr) how ps ms (k ∷ k2 ∷ ss) h i x b s o t = no t
+  form_beside place (F.Typed wr) how [] ms (k ∷ []) h i x b s o t = wrongs place
+  form_beside place (F.Typed wr) how (a ∷ []) [] (k ∷ []) h i x b s o t = absurd h
+  form_beside place (F.Typed wr) how (a ∷ []) (m ∷ m2 ∷ ms) (k ∷ []) h i x b s o t = absurd h.1
+  form_beside place (F.Typed wr) how (a ∷ a2 ∷ ps) ms (k ∷ []) h i x b s o t = wrongs place
+  form_beside place (F.Maps d) how ps ms [] h i x b s o t = no t
+  form_beside place (F.Maps d) how ps ms (k ∷ k2 ∷ ss) h i x b s o t = no t
+  form_beside place (F.Maps d) how [] ms (k ∷ []) h i x b s o t = wrongs place
+  form_beside place (F.Maps d) how (a ∷ []) [] (k ∷ []) h i x b s o t = absurd h
+  form_beside place (F.Maps d) how (a ∷ []) (m ∷ m2 ∷ ms) (k ∷ []) h i x b s o t = absurd h.1
+  form_beside place (F.Maps d) how (a ∷ a2 ∷ ps) ms (k ∷ []) h i x b s o t = wrongs place
+  form_beside place (F.Sees d) how ps ms ss h i x b s o t = no t
 
   -- ---- patterns
 
@@ -196,6 +199,14 @@ module _ (around : Around) (past : Positive) (own : List Closed) {fit : OfSizes}
   such_parts [] = tt
   such_parts (p ∷ ys) = (p.1, such_parts ys)
 
+  all_whole : (ps : List Look) (ms : List (Matcher Item)) (ss : List Bool) → Fine ps ms ss → AllWhole z w ps ms
+  all_whole [] [] [] h = tt
+  all_whole [] [] (k ∷ ss) h = absurd h
+  all_whole [] (m ∷ ms) ss h = absurd h
+  all_whole (a ∷ ps) [] ss h = absurd h
+  all_whole (a ∷ ps) (m ∷ ms) [] h = absurd h
+  all_whole (a ∷ ps) (m ∷ ms) (k ∷ ss) h = (h.0.whole, all_whole ps ms ss h.1)
+
   such_form : (p : Pattern-F ((p : Pattern) × Such p)) → Such (roll-Pattern (map-Pattern ((p : Pattern) × Such p) Pattern (λ q. q.0) p))
   unfolding Such
   such_form p =
@@ -204,7 +215,10 @@ module _ (around : Around) (past : Positive) (own : List Closed) {fit : OfSizes}
       let fine = such_parts p.parts in
       let made : Well around past own y q cases w (look_form (map-Pattern Pattern Look look bare)) (pattern_meaning z w p.form (map (matcher z w) parts))
       (form_stands around.types around.numbers p.form (map standing_of parts)) = record {
-        beside = λ how i x n f facts b s t. form_beside p.place p.form how (map look parts) (map (matcher z w) parts) (map standing_of parts) fine i x b s t;
+        beside = λ how i x n f facts b s o t.
+            form_beside p.place p.form how (map look parts) (map (matcher z w) parts) (map standing_of parts) fine i x b s o t;
+        whole = form_gives z w p.form (map look parts) (map (matcher z w) parts)
+            (all_whole (map look parts) (map (matcher z w) parts) (map standing_of parts) fine);
         grows = λ how i. form_grows around p.place p.form how (map look parts)
             (all_grow (map look parts) (map (matcher z w) parts) (map standing_of parts) fine) i;
       } in
@@ -250,18 +264,19 @@ module _ (around : Around) (past : Positive) (own : List Closed) {fit : OfSizes}
   arm_beside place (A.Flat count steps) how is xs b s t = no t
 
   pub let_beside : {n : ℕ} {f : Point n} {facts : List Fact} (place : Place) (arm : Arm) (how : Matching) (i : Indices) (x : Item)
-      → Has f i x → Good f → arm_stands around.types around.numbers arm ≡ true
+      → Has f i x → Good f → IsOwed around past own f how (arm_written arm) x → arm_stands around.types around.numbers arm ≡ true
       → Beside q past n f facts (one_match place (looks arm) around how i) (arm_meaning z w arm (x ∷ [])) Found
-  let_beside place (A.Flat count steps) how i x b s t = no t
-  let_beside place (A.Nested []) how i x b s t = wrongs place
-  let_beside {n} {f} {facts} place (A.Nested (p ∷ [])) how i x b s t =
+  let_beside place (A.Flat count steps) how i x b s o t = no t
+  let_beside place (A.Nested []) how i x b s o t = wrongs place
+  let_beside {n} {f} {facts} place (A.Nested (p ∷ [])) how i x b s o t =
       let both = and_parts (standing_of p) (each_stands []) t in
-      alone around past own y q cases w ((pattern_well p).beside how i x n f facts b s both.0)
-  let_beside place (A.Nested (p ∷ p2 ∷ ps)) how i x b s t = wrongs place
+      alone around past own y q cases w ((pattern_well p).beside how i x n f facts b s o both.0)
+  let_beside place (A.Nested (p ∷ p2 ∷ ps)) how i x b s o t = wrongs place
 
 pub pattern_is_sound : (around : Around) (past : Positive) (own : List Closed) {fit : OfSizes} (y : Typing around.types past own fit) (q : Ends fit)
     → PatternIsSound around past own y q
-pattern_is_sound around past own y q cases w ways p how i x n f facts b s t = (pattern_well around past own y q cases w ways p).beside how i x n f facts b s t
+pattern_is_sound around past own y q cases w ways p how i x n f facts b s o t =
+    (pattern_well around past own y q cases w ways p).beside how i x n f facts b s o t
 
 pub arm_is_sound : (around : Around) (past : Positive) (own : List Closed) {fit : OfSizes} (y : Typing around.types past own fit) (q : Ends fit)
     → ArmIsSound around past own y q
@@ -269,7 +284,7 @@ arm_is_sound around past own y q cases w ways place arm how is xs n f facts b s 
 
 pub let_is_sound : (around : Around) (past : Positive) (own : List Closed) {fit : OfSizes} (y : Typing around.types past own fit) (q : Ends fit)
     → LetIsSound around past own y q
-let_is_sound around past own y q cases w ways place arm how i x n f facts b s t = let_beside around past own y q cases w ways place arm how i x b s t
+let_is_sound around past own y q cases w ways place arm how i x n f facts b s o t = let_beside around past own y q cases w ways place arm how i x b s o t
 
 pub patterns_are_sound : PatternsAreSound
 patterns_are_sound around past own t = pattern_is_sound around past own (typing_of t) (ends_of t)

@@ -1,10 +1,11 @@
 -- What is known of values at a point, and how it is made known by opening a type.
-use Rattle.std.proofs.Common.{◌≡◌, ℕ, true, false, List, [], ◌∷◌, ◌++◌, refl, sym, ap, ◌∙◌, subst}
+use Rattle.std.proofs.Common.{◌≡◌, ℕ, Bool, true, false, ◌||◌, List, [], ◌∷◌, ◌++◌, Option, Some, None, refl, sym, ap, ◌∙◌, subst, bytes_eq}
 use Rattle.std.specs.List.{list_all}
 use Rattle.std.proofs.lemmas.Bool.{and_parts}
 use Rattle.sail_base.specs.declared.place.Place.{Place}
 use Rattle.sail_types.specs.Belongs.{Reading as Closed, belongs}
 use Rattle.sail_types.specs.Numbers.{Assignment, Positive}
+use Rattle.sail_types.specs.declared.numbers.Index.{Index}
 use Rattle.sail_types.specs.declared.table.Types.{Types}
 use Rattle.sail_types.specs.declared.values.Value.{Value}
 use Rattle.size_values.specs.declared.sized.Sized.{Sized}
@@ -23,14 +24,28 @@ use Rattle.pattern_leaves.specs.declared.names.Held.TheVariants as H
 use Rattle.pattern_notes.specs.Patterns.{taken_out}
 use Rattle.value_laws.specs.Belonging.{Integers, standing, Meant, meant, closed}
 use Rattle.value_laws.specs.Known.{Point, Agree, Later, Goes}
+use Rattle.value_laws.proofs.Basics.{no}
 use Rattle.value_laws.proofs.Steps.{same, agree_on, no_later, goes_on}
 use Rattle.value_laws.proofs.Opening.{opening_sound}
 use Rattle.pattern_laws.specs.Beside.{OfSizes}
-use Rattle.pattern_laws.specs.Typing.{Typing, Bears, AllBear, HeldBears, NamesBear}
+use Rattle.pattern_laws.specs.Typing.{Typing, Bears, AllBear, HeldBears, NamesBear, TypeBears, is_again}
 
 pub note_goes : {past : Positive} {n : ℕ} {f : Point n} {facts : List Fact} (make : List Fact → Note) → Goes past n f facts (note make) (λ g t. Unit {0})
 unfolding note
 note_goes {f} make = record { goes = record { point = f; later = no_later f; true_there = λ g a t. t; holds = λ g a. tt; given = refl } }
+
+-- ---- names that are there again
+
+pub or_none : (a b : Bool) → (a || b) ≡ false → (a ≡ false) × (b ≡ false)
+or_none true b e = no (sym e)
+or_none false b e = (refl, e)
+
+-- a name that isn't among both isn't among the first
+again_first : (name : List ℕ) (bs cs : List Bound) → is_again name (bs ++ cs) ≡ false → is_again name bs ≡ false
+again_first name [] cs e = refl
+again_first name (b ∷ bs) cs e =
+    let k = or_none (bytes_eq b.name name) (is_again name (bs ++ cs)) e in
+    ap (λ a. a || is_again name bs) k.0 ∙ again_first name bs cs k.1
 
 module _ (types : Types) (past : Positive) (own : List Closed) {fit : OfSizes} (y : Typing types past own fit) where
   abbrev there : Integers → Assignment
@@ -58,19 +73,26 @@ module _ (types : Types) (past : Positive) (own : List Closed) {fit : OfSizes} (
   held_on (H.Value i) x l h = bears_on l h
   held_on (H.Var r) x l h = absurd h
 
-  pub names_on : {n m : ℕ} {f : Point n} {g : Point m} (bs : List Bound) (ls : List (Local Item)) → Later f g → NamesBear types past own y n f bs ls
-      → NamesBear types past own y m g bs ls
-  names_on [] [] l h = tt
-  names_on [] (x ∷ ls) l h = absurd h
-  names_on (b ∷ bs) [] l h = absurd h
-  names_on (b ∷ bs) (x ∷ ls) l h = (h.0, held_on b.held x.held l h.1, names_on bs ls l h.2)
+  module _ (numbers : List Index) where
+    type_on : {n m : ℕ} {f : Point n} {g : Point m} (o : Option Reading) (x : Item) → Later f g → TypeBears types past own y numbers f o x
+        → TypeBears types past own y numbers g o x
+    type_on None x l h = tt
+    type_on (Some r) x l h = (h.0, h.1, λ k a. h.2 k (agree_on l a))
 
-  pub names_both : {n : ℕ} (f : Point n) (bs cs : List Bound) (ls ks : List (Local Item)) → NamesBear types past own y n f bs ls
-      → NamesBear types past own y n f cs ks → NamesBear types past own y n f (bs ++ cs) (ls ++ ks)
-  names_both f [] cs [] ks h k = k
-  names_both f [] cs (x ∷ ls) ks h k = absurd h
-  names_both f (b ∷ bs) cs [] ks h k = absurd h
-  names_both f (b ∷ bs) cs (x ∷ ls) ks h k = (h.0, h.1, names_both f bs cs ls ks h.2 k)
+    pub names_on : {n m : ℕ} {f : Point n} {g : Point m} (bs : List Bound) (ls : List (Local Item)) → Later f g
+        → NamesBear types past own y numbers n f bs ls → NamesBear types past own y numbers m g bs ls
+    names_on [] [] l h = tt
+    names_on [] (x ∷ ls) l h = absurd h
+    names_on (b ∷ bs) [] l h = absurd h
+    names_on (b ∷ bs) (x ∷ ls) l h =
+        (h.0, held_on b.held x.held l h.1, (λ e. type_on b.written x.held l (h.2 e)), names_on bs ls l h.3)
+
+    pub names_both : {n : ℕ} (f : Point n) (bs cs : List Bound) (ls ks : List (Local Item)) → NamesBear types past own y numbers n f bs ls
+        → NamesBear types past own y numbers n f cs ks → NamesBear types past own y numbers n f (bs ++ cs) (ls ++ ks)
+    names_both f [] cs [] ks h k = k
+    names_both f [] cs (x ∷ ls) ks h k = absurd h
+    names_both f (b ∷ bs) cs [] ks h k = absurd h
+    names_both f (b ∷ bs) cs (x ∷ ls) ks h k = (h.0, h.1, (λ e. h.2 (again_first b.name bs cs e)), names_both f bs cs ls ks h.3 k)
 
   -- ---- indices with a meaning
 

@@ -3,6 +3,7 @@ use Rattle.std.proofs.Common.{◌≡◌, ℕ, true, false, List, [], ◌∷◌, 
 use Rattle.sail_base.specs.declared.place.Place.{Place}
 use Rattle.sail_types.specs.Numbers.{Positive}
 use Rattle.sail_types.specs.declared.numbers.Con.TheVariants as C
+use Rattle.sail_core.specs.Run as R
 use Rattle.sail_core.specs.Run.{Now, Ended, Run, goes_on, gives, falls, ◌then◌}
 use Rattle.value_indices.specs.declared.notes.Fact.{Fact}
 use Rattle.value_indices.specs.Steps.{Note, way_note, Walk, bind, give, note, owe, owe_under, facts_here, goals_under, Conditions}
@@ -26,6 +27,11 @@ stands_on l s = record { there = λ h a. s.there h (agree_on l a); so = λ h a. 
 
 -- ---- ends
 
+-- what holds of what a piece gives
+abbrev pub Given : {B : Type 0} → (B → Type 0) → Ended Item B → Type 0
+Given P (R.Gives x now) = P x
+Given P e = Unit {0}
+
 module _ {fit : OfSizes} {q : Ends fit} where
   pub well_then : {o : Noted} {B D : Type 0} {Holds : B → Type 0} {Then : D → Type 0} {e : Ended Item B} {c : B → Run Item D} → EndsWell q o Holds e
       → ((x : B) (now : Now Item) → Holds x → q.keeps now → now.opened ≡ o → EndsWell q o Then (c x now)) → EndsWell q o Then (goes_on e c)
@@ -42,6 +48,14 @@ module _ {fit : OfSizes} {q : Ends fit} where
   well_as (well_returned v now b k) next = well_returned v now b k
   well_as (well_thrown v now b k) next = well_thrown v now b k
   well_as (well_stopped cause now) next = well_stopped cause now
+
+  pub well_also : {o : Noted} {B : Type 0} {Holds Then P : B → Type 0} {e : Ended Item B} → EndsWell q o Holds e → Given P e
+      → ((x : B) → Holds x → P x → Then x) → EndsWell q o Then e
+  well_also (well_given x now h k e) g next = well_given x now (next x h g) k e
+  well_also (well_no now k) g next = well_no now k
+  well_also (well_returned v now b k) g next = well_returned v now b k
+  well_also (well_thrown v now b k) g next = well_thrown v now b k
+  well_also (well_stopped cause now) g next = well_stopped cause now
 
   pub noted_as : {o p : Noted} {B : Type 0} {Holds : B → Type 0} {e : Ended Item B} → o ≡ p → EndsWell q o Holds e → EndsWell q p Holds e
   noted_as alike (well_given x now h k e) = well_given x now h k (e ∙ alike)
@@ -150,6 +164,19 @@ module _ {fit : OfSizes} {q : Ends fit} {past : Positive} where
           given = r.given;
           holds = h (w facts n).next r.point (w facts n).value x r.later r.holds;
         }) keeps alike);
+  }
+
+  -- what holds of what a piece gives, whatever its walk
+  pub with_piece : {n : ℕ} {f : Point n} {facts : List Fact} {A B : Type 0} {w : Walk A} {c : Run Item B} (P : B → Type 0) {Holds : Behind A B}
+      → ((now : Now Item) → Given P (c now)) → Beside q past n f facts w c Holds → Beside q past n f facts w c (λ m p a x. Holds m p a x × P x)
+  with_piece P known b = record {
+    run = λ now stands met ok. well_also {P = P} (b.run now stands met ok) (known now) (λ x r g. record {
+      point = r.point;
+      later = r.later;
+      stands = r.stands;
+      given = r.given;
+      holds = (r.holds, g);
+    });
   }
 
   -- names that are changed behind a pattern

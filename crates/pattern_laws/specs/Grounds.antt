@@ -1,5 +1,5 @@
 -- What is known around a pattern: the numbers of the function at work, and the directions of mappings.
-use Rattle.std.specs.Prelude.{◌≡◌, ℕ, ℤ, true, List, [], slice_get, Some}
+use Rattle.std.specs.Prelude.{◌≡◌, ℕ, ℤ, true, List, [], slice_get, Option, Some}
 use Rattle.sail_types.specs.Belongs.{Reading as Closed, assigned}
 use Rattle.sail_types.specs.Numbers.{Positive, number}
 use Rattle.sail_types.specs.Sums.{number_at}
@@ -7,12 +7,14 @@ use Rattle.sail_types.specs.declared.numbers.Index.TheVariants as N
 use Rattle.sail_types.specs.declared.numbers.Num.{Num}
 use Rattle.sail_types.specs.declared.types.Typ.{Typ}
 use Rattle.sail_core.specs.declared.model.Direction.{Direction}
+use Rattle.sail_core.specs.declared.written.Written.{Written}
 use Rattle.sail_core.specs.Making.{World}
 use Rattle.sail_core.specs.Numbers.{Givens, given_int}
 use Rattle.sail_core.specs.Run.{Now}
 use Rattle.value_indices.specs.declared.indices.Reading.TheVariants as R
 use Rattle.checked_meaning.specs.Items.{Item}
-use Rattle.pattern_leaves.specs.Settings.{Around}
+use Rattle.pattern_leaves.specs.Settings.{Around, written_in}
+use Rattle.pattern_notes.specs.declared.matching.Matching.{Matching}
 use Rattle.value_laws.specs.Belonging.{Integers, standing, is_of}
 use Rattle.value_laws.specs.Known.{Point, Agree}
 use Rattle.pattern_laws.specs.Beside.{Ends, OfSizes, EndsWell}
@@ -24,6 +26,12 @@ pub record Grounded (past : Positive) (around : Around) (nu : Givens) {n : ℕ} 
   pub given : (g : Integers) → Agree f g → (i : ℕ) (t : Num) → slice_get around.numbers i ≡ Some (N.Number t)
       → given_int (slice_get nu i) ≡ Some (number (standing past g) t)
   pub says : (g : Integers) → Agree f g → (i : ℕ) (z : ℤ) → given_int (slice_get nu i) ≡ Some z → number (standing past g) (number_at around.numbers i) ≡ z
+
+-- where what its type owes is owed already, a value is of the type that is written
+abbrev pub IsOwed : Around → Positive → List Closed → {n : ℕ} → Point n → Matching → Option Written → Item → Type 0
+IsOwed around past own f how written x =
+    how.is_owed ≡ true → (w : Written) → written ≡ Some w → (g : Integers) → Agree f g
+    → is_of around.types (standing past g) own (written_in around w) x.val ≡ true
 
 module _ (around : Around) (past : Positive) (own : List Closed) {fit : OfSizes} (y : Typing around.types past own fit) where
   -- a value of a type that names no variable, as a direction gives it

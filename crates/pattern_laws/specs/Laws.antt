@@ -19,38 +19,39 @@ use Rattle.checked_meaning.specs.Items.{Item}
 use Rattle.checked_meaning.specs.Checked.{Cases, checked}
 use Rattle.pattern_leaves.specs.Settings.{Around}
 use Rattle.pattern_notes.specs.declared.matching.Matching.{Matching}
-use Rattle.pattern_notes.specs.Patterns.{arm_match, looks, matched, one_match}
+use Rattle.pattern_notes.specs.Patterns.{arm_match, arm_written, look, looks, matched, one_match}
 use Rattle.value_laws.specs.Belonging.{Integers}
 use Rattle.value_laws.specs.Known.{Point}
 use Rattle.pattern_laws.specs.Beside.{Ends, OfSizes, Beside}
 use Rattle.pattern_laws.specs.Typing.{AllBear, Bears, IsKept, NamesBear, Typing}
 use Rattle.pattern_laws.specs.Standing.{arm_stands, stands}
-use Rattle.pattern_laws.specs.Grounds.{Grounded, Ways}
+use Rattle.pattern_laws.specs.Grounds.{Grounded, IsOwed, Ways}
 
 module _ (around : Around) (past : Positive) (own : List Closed) {fit : OfSizes} (y : Typing around.types past own fit) (q : Ends fit) where
   -- a pattern that stands, matched with a value of the indices that the walk knows: where what is in force is true and its obligations hold, its run is
-  -- never stuck; where it matches, the names are those of the walk, their values have the indices that the walk gives them, and all that came into
-  -- force is true
+  -- never stuck; where it matches, the names are those of the walk, their values have the indices that the walk gives them and are of the types that are
+  -- written at them, and all that came into force is true
   abbrev pub PatternIsSound : Type 0
   PatternIsSound = (cases : Cases) (w : World Item) → Ways around past own y q w → (p : Pattern) (how : Matching) (i : Indices) (x : Item) (n : ℕ)
       (f : Point n) (facts : List Fact) → Bears around.types past own y f i x → Grounded past around w.numbers f
-      → stands around.types around.numbers p ≡ true
-      → Beside q past n f facts (matched p around how i) (matcher (checked around.types cases) w p x) (NamesBear around.types past own y)
+      → IsOwed around past own f how (look p).written x → stands around.types around.numbers p ≡ true
+      → Beside q past n f facts (matched p around how i) (matcher (checked around.types cases) w p x) (NamesBear around.types past own y around.numbers)
 
   -- so is an arm that looks at several values
   abbrev pub ArmIsSound : Type 0
   ArmIsSound = (cases : Cases) (w : World Item) → Ways around past own y q w → (place : Place) (arm : Arm) (how : Matching) (is : List Indices)
       (xs : List Item) (n : ℕ) (f : Point n) (facts : List Fact) → AllBear around.types past own y f is xs → Grounded past around w.numbers f
       → arm_stands around.types around.numbers arm ≡ true
-      → Beside q past n f facts (arm_match place arm around how is) (arm_meaning (checked around.types cases) w arm xs) (NamesBear around.types past own y)
+      → Beside q past n f facts (arm_match place arm around how is) (arm_meaning (checked around.types cases) w arm xs)
+      (NamesBear around.types past own y around.numbers)
 
   -- and one that looks at one value, what its type owes being owed already or not
   abbrev pub LetIsSound : Type 0
   LetIsSound = (cases : Cases) (w : World Item) → Ways around past own y q w → (place : Place) (arm : Arm) (how : Matching) (i : Indices) (x : Item) (n : ℕ)
       (f : Point n) (facts : List Fact) → Bears around.types past own y f i x → Grounded past around w.numbers f
-      → arm_stands around.types around.numbers arm ≡ true
+      → IsOwed around past own f how (arm_written arm) x → arm_stands around.types around.numbers arm ≡ true
       → Beside q past n f facts (one_match place (looks arm) around how i) (arm_meaning (checked around.types cases) w arm (x ∷ []))
-      (NamesBear around.types past own y)
+      (NamesBear around.types past own y around.numbers)
 
 -- ---- what holds of moments, of what is returned and thrown, of directions, of the sizes that are noted, and of the types that values carry, as tests
 

@@ -1,5 +1,6 @@
 -- What a value of some indices is at a point, and what the types are that values carry in the checked meaning.
-use Rattle.std.specs.Prelude.{◌≡◌, ℕ, suc, pos, true, List, [], ◌∷◌, length, slice_get, Some}
+use Rattle.std.specs.Prelude.{◌≡◌, ℕ, suc, pos, Bool, true, false, ◌||◌, List, [], ◌∷◌, length, slice_get, Option, Some, None}
+use Rattle.std.specs.Str.{bytes_eq}
 use Rattle.sail_types.specs.Belongs.{Reading as Closed}
 use Rattle.sail_types.specs.Named.{payload as payload_type}
 use Rattle.sail_types.specs.Numbers.{Positive, number}
@@ -30,7 +31,7 @@ use Rattle.pattern_leaves.specs.Payloads.{payload_readings}
 use Rattle.pattern_leaves.specs.declared.names.Bound.{Bound}
 use Rattle.pattern_leaves.specs.declared.names.Held.{Held}
 use Rattle.pattern_leaves.specs.declared.names.Held.TheVariants as H
-use Rattle.value_laws.specs.Belonging.{Integers, standing, meant, has}
+use Rattle.value_laws.specs.Belonging.{Integers, standing, meant, has, is_of}
 use Rattle.pattern_laws.specs.Beside.{OfSizes}
 use Rattle.value_laws.specs.Known.{Point, Agree}
 
@@ -72,6 +73,11 @@ pub record Typing (types : Types) (past : Positive) (own : List Closed) (fit : O
   pub reads : Integers → Reading → Sized → Type 0
   pub kept : IsKept types past own fit fits reads
 
+-- a name that one of these names is too
+abbrev pub is_again : List ℕ → List Bound → Bool
+is_again name [] = false
+is_again name (b ∷ bs) = bytes_eq b.name name || is_again name bs
+
 module _ (types : Types) (past : Positive) (own : List Closed) {fit : OfSizes} (y : Typing types past own fit) where
   -- a value has these indices, of which it is known what they widen to, whatever variables stand for that aren't fixed
   pub record Bears {n : ℕ} (f : Point n) (i : Indices) (x : Item) : Type 0 where
@@ -91,7 +97,15 @@ module _ (types : Types) (past : Positive) (own : List Closed) {fit : OfSizes} (
   HeldBears f (H.Value i) x = Bears f i x
   HeldBears f (H.Var r) x = ⊥
 
-  abbrev pub NamesBear : (n : ℕ) → Point n → List Bound → List (Local Item) → Type 0
-  NamesBear n f [] [] = Unit {0}
-  NamesBear n f (b ∷ bs) (l ∷ ls) = (l.name ≡ b.name) × HeldBears f b.held l.held × NamesBear n f bs ls
-  NamesBear n f bs ls = ⊥
+  -- a type that is written at a name, under what the variables of the function stand for: the value is of it
+  abbrev pub TypeBears : List Index → {n : ℕ} → Point n → Option Reading → Item → Type 0
+  TypeBears numbers f None x = Unit {0}
+  TypeBears numbers f (Some r) x =
+      (t : Typ) × (r ≡ R.Of t numbers []) × ((g : Integers) → Agree f g → is_of types (standing past g) own r x.val ≡ true)
+
+  -- so it is of a name that no name behind it is too
+  abbrev pub NamesBear : List Index → (n : ℕ) → Point n → List Bound → List (Local Item) → Type 0
+  NamesBear numbers n f [] [] = Unit {0}
+  NamesBear numbers n f (b ∷ bs) (l ∷ ls) =
+      (l.name ≡ b.name) × HeldBears f b.held l.held × (is_again b.name bs ≡ false → TypeBears numbers f b.written l.held) × NamesBear numbers n f bs ls
+  NamesBear numbers n f bs ls = ⊥

@@ -1,6 +1,7 @@
 -- `let`, `var` and blocks, beside their runs.
 use Rattle.std.proofs.Common.{◌≡◌, ℕ, pos, Bool, true, false, ◌&&◌, List, [], ◌∷◌, ◌++◌, Option, Some, None, if◌then◌else◌, refl, sym, subst, append_assoc}
 use Rattle.sail_base.specs.declared.place.Place.{Place}
+use Rattle.sail_types.proofs.SumNumbers.{some_same}
 use Rattle.sail_types.specs.Belongs.{Reading as Closed, belongs}
 use Rattle.sail_types.specs.declared.numbers.Con.{Con}
 use Rattle.sail_core.specs.Making.{Making, World, nothing}
@@ -35,6 +36,7 @@ use Rattle.checked_meaning.specs.Checked.{checked}
 use Rattle.checked_meaning.specs.Items.{Item}
 use Rattle.value_laws.specs.Belonging.{Integers, standing, closed}
 use Rattle.value_laws.specs.Known.{Point, Agree}
+use Rattle.value_laws.proofs.Basics.{no}
 use Rattle.value_laws.proofs.Steps.{same}
 use Rattle.soundness_steps.specs.Points.{Later}
 use Rattle.soundness_steps.proofs.Points.{later_on}
@@ -44,6 +46,7 @@ use Rattle.soundness_steps.specs.Values.{AimSteady, Belongs, Claims, Comes, Is, 
 use Rattle.soundness_steps.proofs.Steps.{binds, claims, given_back, means, rests, walks_then}
 use Rattle.soundness_steps.proofs.Scenes.{under_names}
 use Rattle.soundness_forms.specs.Forms.{Fine, FitsSuffice, at}
+use Rattle.soundness_forms.specs.Patterns.{Owes}
 use Rattle.soundness_forms.specs.Worlds.{Surrounds}
 use Rattle.soundness_forms.proofs.Basics.{aim_on, settles, then_walks, wanted_on}
 use Rattle.soundness_forms.proofs.Casts.{aimed_due, aimed_given, free_is, no_guard}
@@ -123,6 +126,18 @@ module _ (q : Scene) (w : World Item) where
   bound_steady {f = f} {names} {falls} (Some t) there =
       aimed_given q.set q.work f (written_in (here q) t) (written_wanted (at q w names falls) w f t.typ q.numbers w.numbers there.numbers)
 
+  -- what is owed already further in is so
+  pub bound_owes : {n : ℕ} {f : Point n} {names : List Kept} {falls : Bool} {scope : Scope} (o : Option Written)
+      → Surrounds (at q w names falls) w f scope → (cast nested never_ends : Bool) (i : Indices) (x : Item)
+      → Comes q.set q.work f cast nested never_ends (written_aim (here q) o) i x → Owes q f o (is_written o && nested) x
+  bound_owes None there cast nested never_ends i x c e t is = no e
+  bound_owes (Some wr) there cast false never_ends i x c e t is = no e
+  bound_owes {f = f} {names} {falls} (Some wr) there cast true never_ends i x c e t is =
+      let r = written_in (here q) wr in
+      let wanted : IsWanted q.set q.work f r = written_wanted (at q w names falls) w f wr.typ q.numbers w.numbers there.numbers in
+      subst (λ (s : Written). Belongs q.set q.work f (written_in (here q) s) x.val) (some_same wr t is)
+      (subst (λ aim. Comes q.set q.work f cast true never_ends aim i x) (aimed_is Aims.Given r wanted.1) c).met
+
   -- ---- `let`
 
   module _ (arm : Arm) (matches : LetsMatch q w arm) where
@@ -143,6 +158,7 @@ module _ (q : Scene) (w : World Item) where
         (λ m g fs i x l c.
         let_runs (at q w names falls) w arm (matches names) scope place (record { in_case = false; is_owed = how }) i x k r
         (surrounds_on (at q w names falls) w scope l there) (bound_is q.set q.work g (here q) o cast a.is_nested a.never_ends i x c)
+        (bound_owes o (surrounds_on (at q w names falls) w scope l there) cast a.is_nested a.never_ends i x c)
         (λ m2 g2 fs2 found ks l2 there2. next m2 g2 fs2 found ks (later_on l l2) c.ends there2)))
 
     pub let_fine : {n : ℕ} {f : Point n} {facts : List Fact} (names : List Kept) (falls : Bool) (scope : Scope) (place : Place) (k : ℕ) (aim : Aim)

@@ -1,5 +1,5 @@
 -- Patterns that stand match: what they bind are names of the indices that the walk gives them.
-use Rattle.std.proofs.Common.{◌≡◌, ℕ, true, List, [], ◌∷◌, refl, sym, ap, ◌∙◌}
+use Rattle.std.proofs.Common.{◌≡◌, ℕ, true, List, [], ◌∷◌, Option, Some, None, refl, sym, ap, ◌∙◌}
 use Rattle.std.proofs.lemmas.Bool.{and_parts}
 use Rattle.sail_core.specs.Making.{World}
 use Rattle.sail_core.specs.Run.{Local}
@@ -7,6 +7,7 @@ use Rattle.sail_core.specs.declared.patterns.Arm.{Arm}
 use Rattle.sail_core.specs.declared.tree.Statement.{Statement}
 use Rattle.sail_core.specs.declared.tree.Statement.TheVariants as S
 use Rattle.value_indices.specs.declared.indices.Indices.{Indices}
+use Rattle.value_indices.specs.declared.indices.Reading.{Reading}
 use Rattle.pattern_leaves.specs.declared.names.Bound.{Bound}
 use Rattle.pattern_leaves.specs.declared.names.Held.{Held}
 use Rattle.pattern_leaves.specs.declared.names.Held.TheVariants as H
@@ -15,7 +16,7 @@ use Rattle.value_laws.specs.Belonging.{standing, meant}
 use Rattle.value_laws.specs.Known.{Point}
 use Rattle.value_laws.proofs.Steps.{same}
 use Rattle.pattern_laws.specs.Standing.{arm_stands}
-use Rattle.pattern_laws.specs.Typing.{AllBear, Bears, HeldBears, NamesBear}
+use Rattle.pattern_laws.specs.Typing.{AllBear, Bears, HeldBears, NamesBear, TypeBears}
 use Rattle.pattern_laws.proofs.Steady.{meant_same}
 use Rattle.soundness_steps.specs.Values.{AllAre, HeldValue, Is}
 use Rattle.soundness_steps.specs.Works.{Scene, is_value}
@@ -25,6 +26,7 @@ use Rattle.soundness_forms.specs.Patterns.{AllMatch, ArmMatches, Binds, LetMatch
 use Rattle.soundness_binding.specs.Matches.{AllLetsMatch, LetsMatch}
 use Rattle.soundness_binding.specs.Patterned.{arms_stand, lets_stand}
 use Rattle.soundness_binding.specs.Scenes.{ModelFits}
+use Rattle.soundness_binding.specs.Told.{AreTold, IsTold, IsValue, LetTells}
 use Rattle.soundness_binding.proofs.Scened.{arm_stands_there, let_stands, y}
 
 module _ (q : Scene) (w : World Item) (model : ModelFits q.set q.work) where
@@ -68,21 +70,45 @@ module _ (q : Scene) (w : World Item) (model : ModelFits q.set q.work) where
   held_of f (H.Var r) x h = absurd h
 
   names_bind : {n : ℕ} {f : Point n} (bs : List Bound) (ls : List (Local Item))
-      → NamesBear q.set.around.types q.set.past q.work.types (y q w model) n f bs ls → Binds q.set q.work f bs ls
+      → NamesBear q.set.around.types q.set.past q.work.types (y q w model) q.numbers n f bs ls → Binds q.set q.work f bs ls
   names_bind [] [] h = record { names = []; in_scope = tt; kept = tt }
   names_bind [] (l ∷ ls) h = absurd h
   names_bind (b ∷ bs) [] h = absurd h
   names_bind {f = f} (b ∷ bs) (l ∷ ls) h =
-      let more = names_bind bs ls h.2 in
+      let more = names_bind bs ls h.3 in
       record {
         names = is_value l.name l.held ∷ more.names;
         in_scope = ((h.0, held_of f b.held l.held h.1), more.in_scope);
         kept = ((refl, refl), more.kept);
       }
 
+  -- ---- what is told of them
+
+  of_value : {n : ℕ} (f : Point n) (held : Held) (x : Item) → HeldBears q.set.around.types q.set.past q.work.types (y q w model) f held x → IsValue held
+  of_value f (H.Value i) x h = tt
+  of_value f (H.Var r) x h = absurd h
+
+  type_told : {n : ℕ} (f : Point n) (o : Option Reading) (x : Item)
+      → TypeBears q.set.around.types q.set.past q.work.types (y q w model) q.numbers f o x → IsTold q.set q.work q.numbers f o x.val
+  type_told f None x h = tt
+  type_told f (Some r) x h = h
+
+  names_told : {n : ℕ} (f : Point n) (bs : List Bound) (ls : List (Local Item))
+      → NamesBear q.set.around.types q.set.past q.work.types (y q w model) q.numbers n f bs ls → AreTold q.set q.work q.numbers f bs ls
+  names_told f [] [] h = tt
+  names_told f [] (l ∷ ls) h = absurd h
+  names_told f (b ∷ bs) [] h = absurd h
+  names_told f (b ∷ bs) (l ∷ ls) h =
+      (of_value f b.held l.held h.1, (λ e. type_told f b.written l.held (h.2 e)), names_told f bs ls h.3)
+
+  pub let_tells : q.may_fall ≡ true → (arm : Arm) → arm_stands q.set.around.types q.numbers arm ≡ true → LetTells q w arm
+  let_tells fall arm stands n f facts scope place how i x there s owes =
+      means (λ m g bs ls l h. (names_bind bs ls h, names_told g bs ls h))
+      (let_stands q w model fall n f facts scope place arm how i x there (bears_of i x s) owes stands)
+
   pub let_matches : q.may_fall ≡ true → (arm : Arm) → arm_stands q.set.around.types q.numbers arm ≡ true → LetMatches q w arm
-  let_matches fall arm stands n f facts scope place how i x there s =
-      means (λ m g bs ls l h. names_bind bs ls h) (let_stands q w model fall n f facts scope place arm how i x there (bears_of i x s) stands)
+  let_matches fall arm stands n f facts scope place how i x there s owes =
+      means (λ m g bs ls l h. h.0) (let_tells fall arm stands n f facts scope place how i x there s owes)
 
   pub arm_matches : q.may_fall ≡ true → (arm : Arm) → arm_stands q.set.around.types q.numbers arm ≡ true → ArmMatches q w arm
   arm_matches fall arm stands n f facts scope place how is xs there s =

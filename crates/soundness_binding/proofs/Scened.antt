@@ -29,10 +29,10 @@ use Rattle.value_laws.specs.Known.{given_in, Point, Agree}
 use Rattle.checked_meaning.specs.Checked.{Noted, checked}
 use Rattle.checked_meaning.specs.Items.{Item}
 use Rattle.pattern_leaves.specs.Settings.{Scope}
-use Rattle.pattern_notes.specs.Patterns.{arm_match, looks, one_match}
+use Rattle.pattern_notes.specs.Patterns.{arm_match, arm_written, looks, one_match}
 use Rattle.pattern_notes.specs.declared.matching.Matching.{Matching}
 use Rattle.pattern_laws.specs.Beside as P
-use Rattle.pattern_laws.specs.Grounds.{Grounded, IsGiven, Ways}
+use Rattle.pattern_laws.specs.Grounds.{Grounded, IsGiven, IsOwed, Ways}
 use Rattle.pattern_laws.specs.Standing.{arm_stands}
 use Rattle.pattern_laws.specs.Typing.{AllBear, Bears, NamesBear, Typing}
 use Rattle.pattern_laws.proofs.Patterns.{arm_is_sound, let_is_sound}
@@ -213,19 +213,20 @@ module _ (q : Scene) (w : World Item) (model : ModelFits q.set q.work) where
 
   -- the pattern of a `let` there, and the patterns of an arm: where they match, the names are those of the walk
   pub let_stands : q.may_fall ≡ true → (n : ℕ) (f : Point n) (facts : List Fact) (scope : Scope) (place : Place) (arm : Arm) (how : Matching) (i : Indices)
-      (x : Item) → Surrounds q w f scope → Bears q.set.around.types q.set.past q.work.types y f i x → arm_stands q.set.around.types q.numbers arm ≡ true
+      (x : Item) → Surrounds q w f scope → Bears q.set.around.types q.set.past q.work.types y f i x
+      → IsOwed (here q) q.set.past q.work.types f how (arm_written arm) x → arm_stands q.set.around.types q.numbers arm ≡ true
       → Beside q n f facts (one_match place (looks arm) (here q) how i) (arm_meaning (checked q.set.around.types q.cases) w arm (x ∷ []))
-      (NamesBear q.set.around.types q.set.past q.work.types y)
-  let_stands fall n f facts scope place arm how i x there bears stands =
+      (NamesBear q.set.around.types q.set.past q.work.types y q.numbers)
+  let_stands fall n f facts scope place arm how i x there bears owed stands =
       in_scene q fall (λ noted.
       let_is_sound (here q) q.set.past q.work.types y (ends q noted) q.cases w (ways there.calls noted) place arm how i x n f facts bears
-      (grounded q w f there.numbers) stands)
+      (grounded q w f there.numbers) owed stands)
 
   pub arm_stands_there : q.may_fall ≡ true → (n : ℕ) (f : Point n) (facts : List Fact) (scope : Scope) (place : Place) (arm : Arm) (how : Matching)
       (is : List Indices) (xs : List Item) → Surrounds q w f scope → AllBear q.set.around.types q.set.past q.work.types y f is xs
       → arm_stands q.set.around.types q.numbers arm ≡ true
       → Beside q n f facts (arm_match place arm (here q) how is) (arm_meaning (checked q.set.around.types q.cases) w arm xs)
-      (NamesBear q.set.around.types q.set.past q.work.types y)
+      (NamesBear q.set.around.types q.set.past q.work.types y q.numbers)
   arm_stands_there fall n f facts scope place arm how is xs there bears stands =
       in_scene q fall (λ noted.
       arm_is_sound (here q) q.set.past q.work.types y (ends q noted) q.cases w (ways there.calls noted) place arm how is xs n f facts bears

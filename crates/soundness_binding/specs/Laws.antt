@@ -13,6 +13,7 @@ use Rattle.soundness_forms.specs.Forms.{FitsSuffice}
 use Rattle.soundness_forms.specs.Patterns.{ArmMatches, LetMatches}
 use Rattle.soundness_binding.specs.Patterned.{patterns_stand}
 use Rattle.soundness_binding.specs.Scenes.{ModelFits}
+use Rattle.soundness_binding.specs.Told.{LetTells}
 
 -- `let`, where its pattern stands
 abbrev pub LetsAreFine : Type 0
@@ -28,7 +29,7 @@ abbrev pub BlocksAreFine : Type 0
 BlocksAreFine = FitsSuffice → (q : Scene) (w : World Item) → ModelFits q.set q.work → (statements : List Statement)
     → patterns_stand q.set.around.types q.numbers (K.Block statements) ≡ true → KindFine q w (K.Block statements)
 
--- a pattern that stands, of a `let` or of an arm, matches where a piece may say No
+-- a pattern that stands, of a `let` or of an arm, matches where a piece may say No, and that of a `let` tells of its names
 abbrev pub PatternsMatch : Type 0
 PatternsMatch = (q : Scene) (w : World Item) → ModelFits q.set q.work → q.may_fall ≡ true → (arm : Arm)
-    → arm_stands q.set.around.types q.numbers arm ≡ true → LetMatches q w arm × ArmMatches q w arm
+    → arm_stands q.set.around.types q.numbers arm ≡ true → LetMatches q w arm × ArmMatches q w arm × LetTells q w arm

@@ -1,4 +1,5 @@
 pub mod Laws
 pub mod Matches
+pub mod Told
 pub mod Patterned
 pub mod Scenes

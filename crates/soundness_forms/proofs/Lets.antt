@@ -11,7 +11,7 @@ use Rattle.value_indices.specs.declared.notes.Fact.{Fact}
 use Rattle.value_indices.specs.Steps.{Walk, bind}
 use Rattle.pattern_leaves.specs.Settings.{Scope}
 use Rattle.pattern_leaves.specs.declared.names.Bound.{Bound}
-use Rattle.pattern_notes.specs.Patterns.{looks, one_match}
+use Rattle.pattern_notes.specs.Patterns.{arm_written, looks, one_match}
 use Rattle.pattern_notes.specs.declared.matching.Matching.{Matching}
 use Rattle.checked_meaning.specs.Checked.{checked}
 use Rattle.checked_meaning.specs.Items.{Item}
@@ -22,7 +22,7 @@ use Rattle.soundness_steps.specs.Steps.{Beside, well_stopped}
 use Rattle.soundness_steps.specs.Values.{Is}
 use Rattle.soundness_steps.proofs.Scenes.{falling, naming, or_well, under_names}
 use Rattle.soundness_steps.proofs.Steps.{binds}
-use Rattle.soundness_forms.specs.Patterns.{LetMatches}
+use Rattle.soundness_forms.specs.Patterns.{LetMatches, Owes}
 use Rattle.soundness_forms.specs.Worlds.{Surrounds}
 use Rattle.soundness_forms.proofs.Worlds.{surrounds_falling, surrounds_more, surrounds_on}
 
@@ -42,12 +42,12 @@ module _ (q : Scene) (w : World Item) (arm : Arm) (matches : LetMatches (falling
   -- names that a pattern binds, and a walk under them
   pub let_runs : {A : Type 0} {n : ℕ} {f : Point n} {facts : List Fact} (k : List Bound → Walk A) (r : Run Item Item)
       {Holds : (m : ℕ) → Point m → A → Item → Type 0} → Surrounds q w f scope → Is q.set q.work f i x
-      → ((m : ℕ) (g : Point m) (fs : List Fact) (found : List Bound) (ks : List Kept) → Later f g → Surrounds (naming ks (falling q)) w g (found ++ scope)
+      → Owes q f (arm_written arm) how.is_owed x → ((m : ℕ) (g : Point m) (fs : List Fact) (found : List Bound) (ks : List Kept) → Later f g → Surrounds (naming ks (falling q)) w g (found ++ scope)
       → Beside (naming ks (falling q)) m g fs (k found) r Holds)
       → Beside q n f facts (bind (one_match place (looks arm) (here q) how i) k) (let_in (checked q.set.around.types q.cases) w place arm x r) Holds
-  let_runs k r {Holds} there is next =
+  let_runs k r {Holds} there is owes next =
       stopping place (arm_taken (checked q.set.around.types q.cases) w arm r (x ∷ []))
-      (binds k (λ found. within found r) (matches _ _ _ scope place how i x (surrounds_falling q w _ scope true there) is) (λ m g fs found ls l b.
+      (binds k (λ found. within found r) (matches _ _ _ scope place how i x (surrounds_falling q w _ scope true there) is owes) (λ m g fs found ls l b.
       under_names b.names ls b.kept
       (next m g fs found b.names l
       (surrounds_more (falling q) w g scope found b.names b.in_scope (surrounds_falling q w g scope true (surrounds_on q w scope l there))))))

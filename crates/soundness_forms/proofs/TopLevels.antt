@@ -79,8 +79,9 @@ module _ (fit : FitsSuffice) (q : Scene) (w : World Item) {n : ℕ} (f : Point n
       settled_node fit place k aim (needs (slice_get w.lets i)) (λ v. []) (λ v. v) st
       (runs_then (read_opened q.set.around.types k name r) (λ v. (checked q.set.around.types q.cases).make k [] v)
       (needed (λ now. slice_get w.lets i) {P = λ v. LetIs q.set q.work (T.Read name r) v} (λ now ok. (found.0, found.1, found.2))) (λ g v l h.
-      walks_then (made_read k name) (known_walk {q = q} (h.2 n g facts)) (λ m g2 fs s l2 e.
-      made_named k name s v (λ x a. e x a ∙ sym (e g2.integers (same g2))) (λ x a. ap (belongs q.set.around.types v) (e x a) ∙ h.1))))
+      let there = h n g facts in
+      walks_then (made_read k name) (known_walk {q = q} there.2) (λ m g2 fs s l2 e.
+      made_named k name s v (λ x a. e x a ∙ sym (e g2.integers (same g2))) (λ x a. ap (belongs q.set.around.types v) (e x a) ∙ there.1))))
 
   pub top_level_fine : (i : ℕ)
       → Beside q n f facts (kind_walk place k (K.TopLevel i) [] (here q) scope aim)

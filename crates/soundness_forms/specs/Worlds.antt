@@ -20,14 +20,13 @@ use Rattle.soundness_steps.specs.Covers.{given_there}
 use Rattle.soundness_steps.specs.Calls.{SoundCalls}
 use Rattle.soundness_steps.specs.Values.{InScope}
 
--- ---- top-level lets: a value of constant indices, or of the type that is read wherever the name is
+-- ---- top-level lets: a value of constant indices, or of the type that is read, wherever the name is
 
 abbrev pub LetIs : Setting → Work → TopLevel → Value → Type 0
 LetIs set work (T.Known i) v =
     (m : Meant) × (m.holds v ≡ true) × ((g : Integers) → meant set.around.types (standing set.past g) work.types i ≡ m)
-LetIs set work (T.Read name r) v = (t : Closed) × (belongs set.around.types v t ≡ true)
-    × ((n : ℕ) (f : Point n) (facts : List Fact)
-    → Goes set.past n f facts (type_read set.around.types r) (λ g q. closed set.around.types (standing set.past g) work.types q ≡ t))
+LetIs set work (T.Read name r) v = (n : ℕ) (f : Point n) (facts : List Fact) → (t : Closed) × (belongs set.around.types v t ≡ true)
+    × Goes set.past n f facts (type_read set.around.types r) (λ g q. closed set.around.types (standing set.past g) work.types q ≡ t)
 
 abbrev pub LetsAre : Setting → Work → List TopLevel → List Value → Type 0
 LetsAre set work [] [] = Unit {0}

@@ -22,6 +22,7 @@ use Rattle.soundness_steps.specs.Works.{Setting, Work, nobody}
 use Rattle.soundness_steps.specs.States.{StateBelongs, nothing_stands}
 use Rattle.soundness_forms.specs.Patterns.{Binds}
 use Rattle.soundness_forms.specs.Worlds.{LetsAre}
+use Rattle.soundness_binding.specs.Told.{AreTold}
 use Rattle.whole_runs.specs.Initials.{OpeningEnds, opening_gives, opening_stops, pure_setting}
 use Rattle.whole_runs.specs.Lets.{let_found}
 use Rattle.whole_runs.specs.AllOpenings.{AreOfModel, KindStands, LetStands, OpenedRight, OpeningsAreSound, OpeningsStand}
@@ -58,12 +59,13 @@ module _ (m : CoreModel) (past : Positive) (covered : Work → Bool) where
       → LetStands (record { model = m; past = past; covered = covered; registers = []; names = names; values = vs }) cases o arm
       → (p : Point (let_found m [] names o arm [] 0).next) (locals : List (Local Item))
       → Binds (pure_setting m past covered [] names) nobody p (let_found m [] names o arm [] 0).value locals
+      → AreTold (pure_setting m past covered [] names) nobody [] p (let_found m [] names o arm [] 0).value locals
       → Are (names_of (around_with m names) o (O.Let arm)) (map (λ (l : Local Item). l.held.val) locals)
-  names_are names vs cases o arm s p locals binds =
+  names_are names vs cases o arm s p locals binds told =
       let found : List Bound = (let_found m [] names o arm [] 0).value in
       let values : List Value = map (λ (l : Local Item). l.held.val) locals in
       subst (λ (bs : List Bound). Are (map top_level bs) values) s.same_names (before names (map top_level found) values
-      (names_told (pure_setting m past covered [] names) (let_found m [] names o arm [] 0).next p found locals (s.told p) binds))
+      (names_told (pure_setting m past covered [] names) (let_found m [] names o arm [] 0).next p found locals s.apart binds told))
 
   both : (names others : List TopLevel) (vs us : List Value) → Are names vs → Are others us → Are (names ++ others) (vs ++ us)
   both [] others [] us a b = b
@@ -100,7 +102,7 @@ module _ (m : CoreModel) (past : Positive) (covered : Work → Bool) where
         as_adds (names_of (around_with m names) o (O.Let arm)) _
         (λ a h. record {
           are = subst (λ (c : Added). Are (names_of (around_with m names) o (O.Let arm)) c.values)
-              (sym h.is_added) (names_are names vs cases o arm s h.point h.locals h.binds);
+              (sym h.is_added) (names_are names vs cases o arm s h.point h.locals h.binds h.told);
           keeps = λ now there. subst (λ (c : Added). StateBelongs full (c.change now)) (sym h.is_added) there;
         })
         (lets_end m past covered [] names vs cases (behind names names vs are) o arm is s.value s.matches s.met blank (blank_belongs names))

@@ -29,11 +29,12 @@ use Rattle.soundness_steps.specs.Works.{Scene, Setting, Work, here, nobody}
 use Rattle.soundness_steps.specs.Steps.{Beside, EndsWell, well_given, well_no, well_returned, well_stopped, well_thrown}
 use Rattle.soundness_steps.proofs.Scenes.{falling}
 use Rattle.soundness_steps.proofs.Steps.{binds}
-use Rattle.soundness_forms.specs.Patterns.{Binds, LetMatches}
+use Rattle.soundness_forms.specs.Patterns.{Binds}
 use Rattle.soundness_forms.specs.Standing.{standing}
 use Rattle.soundness_forms.specs.Worlds.{LetsAre}
 use Rattle.soundness_forms.proofs.Worlds.{surrounds_falling, surrounds_on}
-use Rattle.soundness_binding.proofs.Bound.{bound_is, bound_steady}
+use Rattle.soundness_binding.specs.Told.{AreTold, LetTells}
+use Rattle.soundness_binding.proofs.Bound.{bound_is, bound_owes, bound_steady}
 use Rattle.sail_soundness.proofs.Whole.{whole}
 use Rattle.soundness_calls.proofs.Directions.{start_point}
 use Rattle.whole_runs.specs.Initials.{OpeningEnds, ValueStands, opening_gives, opening_stops, pure_scene, pure_setting}
@@ -79,10 +80,14 @@ module _ (m : CoreModel) (past : Positive) (covered : Work → Bool) (registers 
   abbrev w : World Item
   w = opening_world vs
 
-  let_beside : (place : Place) (arm : Arm) (c : Core) → ValueStands q w c → LetMatches (falling q) w arm
+  -- what is found, and what is told of it
+  abbrev Found : {n : ℕ} → Point n → List Bound → List (Local Item) → Type 0
+  Found g found locals = Binds set nobody g found locals × AreTold set nobody [] g found locals
+
+  let_beside : (place : Place) (arm : Arm) (c : Core) → ValueStands q w c → LetTells (falling q) w arm
       → Beside q 0 start_point [] (let_names place arm (part c) (here q) [])
       (meaning (checked m.types cases) w c then λ x. arm_meaning (checked m.types cases) w arm (x ∷ []) or_else stops (MatchFailure place))
-      (λ j g found locals. Binds set nobody g found locals)
+      (λ j g found locals. Found g found locals)
   let_beside place arm c stands matches =
       let h = whole q w c stands.right stands.others in
       binds (bind_names place arm (here q) (is_written (arm_written arm) && (part c).is_nested))
@@ -92,15 +97,17 @@ module _ (m : CoreModel) (past : Positive) (covered : Work → Bool) (registers 
       (λ j g fs i x l comes. or_stopped place (arm_meaning (checked m.types cases) w arm (x ∷ []))
       (matches j g fs [] place (record { in_case = false; is_owed = is_written (arm_written arm) && (part c).is_nested }) i x
       (surrounds_falling q w g [] true (surrounds_on q w [] l (surrounds m past covered registers lets vs cases are)))
-      (bound_is set nobody g (here q) (arm_written arm) (standing q.set.around c).cast (part c).is_nested (part c).never_ends i x comes)))
+      (bound_is set nobody g (here q) (arm_written arm) (standing q.set.around c).cast (part c).is_nested (part c).never_ends i x comes)
+      (bound_owes q w (arm_written arm) (surrounds_on q w [] l (surrounds m past covered registers lets vs cases are)) (standing q.set.around c).cast
+      (part c).is_nested (part c).never_ends i x comes)))
 
   let_ends : {n : ℕ} {facts : List Fact} (found : List Bound) (e : Ended Item (List (Local Item)))
-      → EndsWell q start_point n facts (λ g locals. Binds set nobody g found locals) e
+      → EndsWell q start_point n facts (λ g locals. Found g found locals) e
       → OpeningEnds (LetAdds set n found)
       (goes_on e (λ locals. gives (record { values = values_of (checked m.types cases) locals; change = λ state. state })))
   let_ends found e (well_given locals now h s) =
       opening_gives (record { values = values_of (checked m.types cases) locals; change = λ state. state }) now
-      (record { point = h.point; locals = locals; binds = h.holds; is_added = refl })
+      (record { point = h.point; locals = locals; binds = h.holds.0; told = h.holds.1; is_added = refl })
   let_ends found e (well_no now a s) = absurd (true≢false (sym a))
   let_ends found e (well_returned v now b s) = absurd b
   let_ends found e (well_thrown v now b s) = absurd b

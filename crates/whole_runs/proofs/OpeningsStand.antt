@@ -19,7 +19,7 @@ use Rattle.met_notes.specs.Met.{WalksAreMet}
 use Rattle.soundness_steps.specs.Works.{Setting, Work, nobody}
 use Rattle.soundness_steps.specs.Covers.{AreMet}
 use Rattle.soundness_forms.specs.Forms.{at}
-use Rattle.soundness_binding.proofs.Matched.{let_matches}
+use Rattle.soundness_binding.proofs.Matched.{let_tells}
 use Rattle.whole_runs.specs.Initials.{initial_aim, pure_scene, pure_setting}
 use Rattle.whole_runs.specs.AllOpenings.{Behind, KindStands, OpeningsStand}
 use Rattle.whole_runs.specs.Covers.{CoversOpenings}
@@ -58,10 +58,10 @@ module _ (m : CoreModel) (past : Positive) (covered : Work → Bool) (registers 
       → KindStands (behind names vs) cases o kind
   kind_stands names vs cases o (O.Let arm) alike right met = record {
     value = right.value;
-    matches = let_matches (at (pure_scene (set names) cases) (opening_world vs) [] true) (opening_world vs) right.value.others.0.fits refl arm right.pattern;
+    matches = let_tells (at (pure_scene (set names) cases) (opening_world vs) [] true) (opening_world vs) right.value.others.0.fits refl arm right.pattern;
     met = subst (Met names cases) (bare_notes (let_walk (around_of m) o.place arm (part o.value)) [] 0 ∙ sym alike.notes) met;
     same_names = alike.found;
-    told = right.told;
+    apart = right.apart;
   }
   kind_stands names vs cases o (O.Register r) alike right met =
       let there : slice_get (around_of m).registers r ≡ Some alike.register =

@@ -15,16 +15,15 @@ use Rattle.pattern_leaves.specs.declared.names.TopLevel.{TopLevel}
 use Rattle.expression_steps.specs.Expressions.{part}
 use Rattle.constraint_gen.specs.Models.{around_of, around_with, let_walk, names_of}
 use Rattle.checked_meaning.specs.Checked.{Cases, Checks, checking}
-use Rattle.value_laws.specs.Known.{Point}
 use Rattle.soundness_steps.specs.Works.{Work, nobody}
 use Rattle.soundness_steps.specs.Covers.{AreMet}
 use Rattle.soundness_steps.specs.States.{StateBelongs}
 use Rattle.soundness_forms.specs.Forms.{at}
-use Rattle.soundness_forms.specs.Patterns.{LetMatches}
 use Rattle.soundness_forms.specs.Worlds.{LetsAre}
+use Rattle.soundness_binding.specs.Told.{LetTells}
 use Rattle.whole_runs.specs.Initials.{ValueStands, initial_aim, pure_around, pure_scene, pure_setting}
 use Rattle.whole_runs.specs.Lets.{let_found}
-use Rattle.whole_runs.specs.Told.{EachStands}
+use Rattle.whole_runs.specs.Told.{are_apart}
 
 -- over which registers an opening stands, and behind which names, with the values that they have there
 pub record Behind : Type 0 where
@@ -46,16 +45,15 @@ pub record RegisterStands (b : Behind) (cases : Cases) (o : Opening) (r : ℕ) :
 -- a let
 pub record LetStands (b : Behind) (cases : Cases) (o : Opening) (arm : Arm) : Type 0 where
   pub value : ValueStands (pure_scene (pure_setting b.model b.past b.covered b.registers b.names) cases) (opening_world b.values) o.value
-  pub matches : LetMatches (at (pure_scene (pure_setting b.model b.past b.covered b.registers b.names) cases) (opening_world b.values) [] true)
+  pub matches : LetTells (at (pure_scene (pure_setting b.model b.past b.covered b.registers b.names) cases) (opening_world b.values) [] true)
       (opening_world b.values) arm
   pub met : AreMet (pure_setting b.model b.past b.covered b.registers b.names) nobody (λ d. false) cases
       (let_found b.model b.registers b.names o arm [] 0).notes
   -- the walk finds the same where it knows all of the model
   pub same_names : (let_found b.model b.registers b.names o arm [] 0).value
       ≡ (let_walk (around_with b.model b.names) o.place arm (part o.value) [] 0).value
-  -- names whose indices aren't constant are of the type that is read
-  pub told : (p : Point (let_found b.model b.registers b.names o arm [] 0).next)
-      → EachStands (pure_setting b.model b.past b.covered b.registers b.names) p (let_found b.model b.registers b.names o arm [] 0).value
+  -- its names are apart
+  pub apart : are_apart (let_found b.model b.registers b.names o arm [] 0).value ≡ true
 
 abbrev pub KindStands : Behind → Cases → Opening → OpeningKind → Type 0
 KindStands b cases o (O.Let arm) = LetStands b cases o arm

@@ -22,15 +22,17 @@ use Rattle.soundness_steps.specs.Works.{Setting, Work, nobody}
 use Rattle.soundness_steps.specs.Covers.{AreMet}
 use Rattle.soundness_steps.specs.States.{StateBelongs}
 use Rattle.soundness_forms.specs.Forms.{at}
-use Rattle.soundness_forms.specs.Patterns.{Binds, LetMatches}
+use Rattle.soundness_forms.specs.Patterns.{Binds}
 use Rattle.soundness_forms.specs.Worlds.{LetsAre}
+use Rattle.soundness_binding.specs.Told.{AreTold, LetTells}
 use Rattle.whole_runs.specs.Initials.{OpeningEnds, ValueStands, pure_around, pure_scene, pure_setting}
 
--- the names of a let, as the walk over it finds them, get the values of what its pattern binds; the state stays
+-- the names of a let, as the walk over it finds them, get the values of what its pattern binds, of the types that are written at them; the state stays
 pub record LetAdds (set : Setting) (n : ℕ) (found : List Bound) (a : Added) : Type 0 where
   pub point : Point n
   pub locals : List (Local Item)
   pub binds : Binds set nobody point found locals
+  pub told : AreTold set nobody [] point found locals
   pub is_added : a ≡ record { values = map (λ l. l.held.val) locals; change = λ state. state }
 
 abbrev pub let_found : CoreModel → List Register → List TopLevel → Opening → Arm → Walk (List Bound)
@@ -41,7 +43,7 @@ LetsEndWell = (m : CoreModel) (past : Positive) (covered : Work → Bool) (regis
     (cases : Cases)
     → LetsAre (pure_setting m past covered registers lets) nobody lets vs → (o : Opening) (arm : Arm) → o.kind ≡ O.Let arm
     → ValueStands (pure_scene (pure_setting m past covered registers lets) cases) (opening_world vs) o.value
-    → LetMatches (at (pure_scene (pure_setting m past covered registers lets) cases) (opening_world vs) [] true) (opening_world vs) arm
+    → LetTells (at (pure_scene (pure_setting m past covered registers lets) cases) (opening_world vs) [] true) (opening_world vs) arm
     → AreMet (pure_setting m past covered registers lets) nobody (λ d. false) cases (let_found m registers lets o arm [] 0).notes
     → (state : RunState) → StateBelongs (pure_setting m past covered registers lets) state
     → OpeningEnds (LetAdds (pure_setting m past covered registers lets) (let_found m registers lets o arm [] 0).next

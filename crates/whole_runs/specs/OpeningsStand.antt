@@ -1,5 +1,5 @@
 -- Openings beside what instances are read for: the walk over one finds the same in a model of which nothing is called or thrown, behind the names of lets
--- before it. And what isn't proved yet of each.
+-- before it. And what is asked of each: values and patterns stand, and names are apart.
 use Rattle.std.specs.Prelude.{◌≡◌, ℕ, Bool, suc, true, List, [], ◌∷◌, ◌++◌, slice_get, Some}
 use Rattle.sail_types.specs.Numbers.{Positive}
 use Rattle.sail_types.specs.declared.values.Value.{Value}
@@ -14,13 +14,12 @@ use Rattle.pattern_leaves.specs.declared.names.TopLevel.{TopLevel}
 use Rattle.expression_steps.specs.Expressions.{part}
 use Rattle.constraint_gen.specs.Models.{around_of, around_with, let_walk, names_of}
 use Rattle.checked_meaning.specs.Checked.{Cases, Checks}
-use Rattle.value_laws.specs.Known.{Point}
 use Rattle.pattern_laws.specs.Standing.{arm_stands}
 use Rattle.soundness_steps.specs.Works.{Work, nobody}
 use Rattle.soundness_forms.specs.Worlds.{LetsAre}
 use Rattle.whole_runs.specs.Initials.{ValueStands, initial_aim, pure_around, pure_scene, pure_setting}
 use Rattle.whole_runs.specs.Lets.{let_found}
-use Rattle.whole_runs.specs.Told.{EachStands}
+use Rattle.whole_runs.specs.Told.{are_apart}
 use Rattle.whole_runs.specs.AllOpenings.{Behind}
 
 -- ---- walks over openings find the same
@@ -47,13 +46,12 @@ OpeningsAlike m registers names [] = Unit {0}
 OpeningsAlike m registers names (o ∷ os) =
     KindAlike m registers names o o.kind × OpeningsAlike m registers (names ++ names_of (around_with m names) o o.kind) os
 
--- ---- what isn't proved yet: values, patterns that stand, and names whose indices aren't constant
+-- ---- values and patterns that stand, and names that are apart
 
 pub record LetIsRight (b : Behind) (cases : Cases) (o : Opening) (arm : Arm) : Type 0 where
   pub value : ValueStands (pure_scene (pure_setting b.model b.past b.covered b.registers b.names) cases) (opening_world b.values) o.value
   pub pattern : arm_stands b.model.types [] arm ≡ true
-  pub told : (p : Point (let_found b.model b.registers b.names o arm [] 0).next)
-      → EachStands (pure_setting b.model b.past b.covered b.registers b.names) p (let_found b.model b.registers b.names o arm [] 0).value
+  pub apart : are_apart (let_found b.model b.registers b.names o arm [] 0).value ≡ true
 
 abbrev pub KindIsRight : Behind → Cases → Opening → OpeningKind → Type 0
 KindIsRight b cases o (O.Let arm) = LetIsRight b cases o arm

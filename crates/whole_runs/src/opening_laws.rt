@@ -19,7 +19,7 @@ pub fn openings_are_sound()
     ensures { OpeningsAreSound }
 {}
 
-/// What a let binds is as its names are told elsewhere, where that is so of those whose indices aren't constant.
+/// What a let binds is as its names are told elsewhere, where no two of them are the same.
 pub fn names_are_told()
     ensures { NamesAreTold }
 {}
