@@ -21,4 +21,4 @@ fitting text end cycle accepted kept written past hart covered k rank test left 
       directions = left.directions;
     } in
     let stands = tested m past hart covered k rank test known in
-    record { openings = left.openings; anywhere = left.anywhere; functions = stands.0; directions = stands.1 }
+    record { openings = left.openings; functions = stands.0; directions = stands.1 }

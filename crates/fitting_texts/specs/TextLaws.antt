@@ -18,7 +18,7 @@ use Rattle.soundness_steps.specs.Works.{Setting, Work}
 use Rattle.soundness_calls.specs.Directions.{bodies_of, scene_across}
 use Rattle.soundness_calls.specs.Events.{checks_of}
 use Rattle.fitting_texts.specs.CoreLaws.{EachWays}
-use Rattle.whole_runs.specs.Never.{AreAnywhere, Stands, setting_in}
+use Rattle.whole_runs.specs.Never.{Stands, setting_in}
 use Rattle.whole_runs.specs.OpeningsStand.{Open}
 use Rattle.fitting_texts.specs.ModelLaws.{FunctionWays}
 use Rattle.fitting_texts.specs.ModelTests.{model_fits}
@@ -28,7 +28,6 @@ pub record ModelLeft (set : Setting) (m : CoreModel) (k : Checks) (rank : ℕ �
   pub functions : (x : Work) (f : Function) → set.covered x ≡ true → slice_get m.functions x.function ≡ Some f → FunctionWays set k x f
   pub directions : (d e : ℕ) (n : Direction) → slice_get m.directions e ≡ Some n → EachWays (scene_across set k rank d) (bodies_of n)
   pub openings : Open m set.past set.covered [] (checks_of m k)
-  pub anywhere : AreAnywhere set
 
 abbrev pub FittingTextsStand : Type 0
 FittingTextsStand =
