@@ -1,6 +1,5 @@
 -- Obligations give the goals, what instances are read for all other notes; calls and events follow.
 use Rattle.std.proofs.Common.{◌≡◌, refl, sym, subst, ap, ℕ, zero, suc, Bool, true, List, [], ◌∷◌, ◌++◌, None, Some, slice_get}
-use Rattle.sail_types.specs.Belongs.{Reading as Closed}
 use Rattle.sail_types.specs.Numbers.{Positive}
 use Rattle.sail_types.specs.declared.table.Types.{Types}
 use Rattle.sail_types.specs.declared.values.Value.{Value}
@@ -13,7 +12,6 @@ use Rattle.sail_core.specs.declared.model.Function.{Function}
 use Rattle.sail_core.specs.declared.model.Opening.{Opening}
 use Rattle.pattern_leaves.specs.Settings.{Around}
 use Rattle.pattern_leaves.specs.declared.names.TopLevel.{TopLevel}
-use Rattle.pattern_leaves.specs.declared.names.TopLevel.TheVariants as L
 use Rattle.function_notes.specs.Functions.{mapping_walk}
 use Rattle.constraint_gen.specs.Models.{around_of, around_with, lets_behind, names_of}
 use Rattle.checked_meaning.specs.Checked.{Cases, Checks, checking}
@@ -22,7 +20,7 @@ use Rattle.met_notes.specs.Met.{WalksAreMet, pairs}
 use Rattle.met_notes.proofs.Whole.{notes_met}
 use Rattle.soundness_steps.specs.Works.{Setting, Work, nobody}
 use Rattle.soundness_steps.specs.Covers.{AreMet}
-use Rattle.soundness_forms.specs.Worlds.{LetIs, LetsAre}
+use Rattle.soundness_forms.specs.Worlds.{LetsAre}
 use Rattle.soundness_calls.specs.Calls.{CoveredModel}
 use Rattle.soundness_calls.specs.Directions.{Side, is_ahead, is_back, lower, mapping_of}
 use Rattle.soundness_calls.specs.Events.{IsOfModel, checks_of}
@@ -30,13 +28,14 @@ use Rattle.soundness_calls.specs.Premises.{all_reached}
 use Rattle.soundness_calls.proofs.Events.{events_sound}
 use Rattle.whole_runs.specs.Initials.{pure_around, pure_setting}
 use Rattle.whole_runs.specs.AllOpenings.{OpenedRight}
+use Rattle.whole_runs.proofs.Anywhere.{lets_anywhere, lets_told}
 use Rattle.whole_runs.proofs.AllOpenings.{openings_sound}
 use Rattle.sail_calls.specs.Models as S
 use Rattle.sail_calls.proofs.Models.{calls_from}
 use Rattle.whole_runs.proofs.OpeningsStand.{openings_stand}
 use Rattle.whole_runs.proofs.Own.{constraint_stands}
 use Rattle.whole_runs.specs.Covers.{Covers, CoversDirection, CoversFunction, pair_of, side_at}
-use Rattle.whole_runs.specs.Never.{AllEnd, AreAnywhere, DirectionStands, FunctionStands, IsFound, NeverStuck, Stands, setting_in}
+use Rattle.whole_runs.specs.Never.{AllEnd, DirectionStands, FunctionStands, IsFound, NeverStuck, Stands, setting_in}
 
 -- ---- what is known of a model behind its top-level lets
 
@@ -85,24 +84,6 @@ pairs_at (a ∷ b ∷ ds) (suc (suc d)) n side e k = pairs_at ds d n side e k
 
 no_register : (r : ℕ) (x : Register) → slice_get [] r ≡ Some x → ⊥
 no_register r x e = cc
-
--- ---- names of lets where no Type variable is around
-
-module _ (set : Setting) (x : Work) (none_there : x.types ≡ []) where
-  let_there : (l : TopLevel) (v : Value) → LetIs set nobody l v → LetIs set x l v
-  let_there (L.Known i) v h = subst (λ ts. LetIs set (record nobody { types = ts }) (L.Known i) v) (sym none_there) h
-  let_there (L.Read name r) v h = subst (λ ts. LetIs set (record nobody { types = ts }) (L.Read name r) v) (sym none_there) h
-
-  lets_there : (names : List TopLevel) (vs : List Value) → LetsAre set nobody names vs → LetsAre set x names vs
-  lets_there [] [] a = tt
-  lets_there (l ∷ ls) (v ∷ vs) a = (let_there l v a.0, lets_there ls vs a.1)
-  lets_there [] (v ∷ vs) a = absurd a
-  lets_there (l ∷ ls) [] a = absurd a
-
-lets_anywhere : (set : Setting) → AreAnywhere set → (x : Work) (ts : List Closed) → x.types ≡ ts → (vs : List Value)
-    → LetsAre set nobody set.around.lets vs → LetsAre set x set.around.lets vs
-lets_anywhere set anywhere x [] is vs a = lets_there set x is set.around.lets vs a
-lets_anywhere set anywhere x (t ∷ ts) is vs a = anywhere x t ts vs is a
 
 module _ (m : CoreModel) (walks : WalksAreMet m (around_of m)) (past : Positive) (hart : ℕ) (covered : Work → Bool) (k : Checks) (rank : ℕ → ℕ)
     (covers : Covers (setting_in m past hart covered) m k rank) (found : IsFound (setting_in m past hart covered) m)
@@ -191,7 +172,8 @@ module _ (m : CoreModel) (walks : WalksAreMet m (around_of m)) (past : Positive)
       (record { harts = tt; at_work = tt }))).0 in
       let typed : LetsAre (of_types (around_of m).types) nobody names end.0 =
       subst (λ types. LetsAre (of_types types) nobody names end.0) (sym (types_kept m [] m.openings)) (pure_lets names end.0 right) in
-      subst (LetsAre set x names) (sym (ap lets_in end.2)) (lets_anywhere set stands.anywhere x x.types refl end.0 (in_setting names end.0 typed))
+      subst (LetsAre set x names) (sym (ap lets_in end.2))
+      (lets_anywhere set x names end.0 (lets_told m) (in_setting names end.0 typed))
 
   all_covered : CoveredModel set k rank (lets_of (checking (checks_of m k)) m)
   all_covered = calls_from set k rank (lets_of (checking (checks_of m k)) m) (record {

@@ -4,6 +4,7 @@ pub mod States
 pub mod Told
 pub mod AllOpenings
 pub mod OpeningsStand
+pub mod Anywhere
 pub mod Own
 pub mod Events
 pub mod Fit

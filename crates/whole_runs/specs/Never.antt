@@ -1,6 +1,5 @@
 -- An accepted model is never stuck under the checked meaning: what is known of it beside its instances, and that its events end right.
 use Rattle.std.specs.Prelude.{◌≡◌, ℕ, Bool, true, List, [], ◌∷◌, slice_get, Some}
-use Rattle.sail_types.specs.Belongs.{Reading as Closed}
 use Rattle.sail_types.specs.Numbers.{Positive}
 use Rattle.sail_types.specs.declared.values.Value.{Value}
 use Rattle.sail_types.specs.declared.values.Value.TheVariants as V
@@ -20,7 +19,6 @@ use Rattle.value_laws.specs.Belonging.{Integers}
 use Rattle.goal_laws.specs.Goals.{AllHold}
 use Rattle.soundness_steps.specs.Works.{Setting, Work, nobody}
 use Rattle.soundness_steps.specs.States.{StateBelongs}
-use Rattle.soundness_forms.specs.Worlds.{LetsAre}
 use Rattle.soundness_binding.specs.Patterned.{arms_stand}
 use Rattle.sail_soundness.specs.Whole.{ModelStands}
 use Rattle.soundness_calls.specs.Laws.{scene_of}
@@ -66,15 +64,9 @@ pub record DirectionStands (set : Setting) (rank : ℕ → ℕ) (k : Checks) (d 
 abbrev pub AllEnd : CoreModel → Checks → Type 0
 AllEnd m k = (vs : List Value) × (state : RunState) × (openings_of (checking (checks_of m k)) m (nowhere m.types) ≡ opened vs state)
 
--- the names of lets have their values in functions with Type variables too
-abbrev pub AreAnywhere : Setting → Type 0
-AreAnywhere set = (x : Work) (t : Closed) (ts : List Closed) (vs : List Value) → x.types ≡ t ∷ ts → LetsAre set nobody set.around.lets vs
-    → LetsAre set x set.around.lets vs
-
 pub record Stands (set : Setting) (m : CoreModel) (k : Checks) (rank : ℕ → ℕ) : Type 0 where
   -- top-level lets and initial values, where there is no register
   pub openings : Open m set.past set.covered [] (checks_of m k)
-  pub anywhere : AreAnywhere set
   pub functions : (x : Work) (f : Function) → set.covered x ≡ true → slice_get m.functions x.function ≡ Some f → FunctionStands set k x f
   pub directions : (d : ℕ) (n : Direction) (side : Side) → slice_get m.directions d ≡ Some n → side_at m.directions d ≡ Some side
       → DirectionStands set rank k d n side
