@@ -1,3 +1,6 @@
+pub mod AlikePatterns
+pub mod AlikeForms
+pub mod Alike
 pub mod Cores
 pub mod Models
 pub mod Within

@@ -1,3 +1,4 @@
+pub mod Apart
 pub mod CoreTests
 pub mod CoreLaws
 pub mod ModelTests

@@ -22,13 +22,15 @@ use Rattle.shapes.specs.Tabled.{tabled_of}
 use Rattle.known_texts.specs.Texts as T
 use Rattle.known_texts.specs.Accepted.{NothingFails, NothingOfItFails}
 use Rattle.known_texts.specs.KnownTexts.{DefinitionsAreSigned}
+use Rattle.known_texts.specs.Written.{IsWritten}
 use Rattle.text_progress.specs.ParsedTexts.{ParsedTextsAreWritten}
 use Rattle.goal_laws.specs.Goals.{AllHold}
 use Rattle.text_progress.specs.Laws.{core_of}
 use Rattle.sail_top.specs.Checked.{no_cycle}
 use Rattle.sail_top.specs.Models as Models
 use Rattle.sail_top.specs.Models.{end_of_all}
-use Rattle.whole_runs.specs.Safe.{IsFoundThroughout, ModelsRunSafely}
+use Rattle.whole_runs.specs.Safe.{IsFoundThroughout, ModelsRunSafely, StandsThroughout}
+use Rattle.fitting_texts.specs.TextLaws.{FittingTextsStand}
 use Rattle.sail_top.specs.laws.Holding.{AcceptedHold}
 use Rattle.accepted_models.specs.Models.{AcceptedModelsMeanText}
 use Rattle.safe_models.specs.Safe.{AcceptedCoresRunSafely, AcceptedModelsRunSafely, Cycles, IsOfText, TextsRunSafely, meant_of}
@@ -76,17 +78,19 @@ checked_are core os (Err error) c e = absurd (no_ok error c e)
 
 -- ---- put together
 
-pub cores_safe : AcceptedModelsMeanText → NothingOfItFails → ParsedTextsAreWritten → DefinitionsAreSigned → ModelsRunSafely → TextsRunSafely
-    → AcceptedCoresRunSafely
-cores_safe mean nothing written sign models texts_safe texts made accepted cycles held past covered k rank count some few covers stands entry schedule
+pub cores_safe : AcceptedModelsMeanText → NothingOfItFails → ParsedTextsAreWritten → DefinitionsAreSigned → FittingTextsStand → ModelsRunSafely
+    → TextsRunSafely → AcceptedCoresRunSafely
+cores_safe mean nothing written sign stand models texts_safe texts made accepted cycles held past covered k rank count some few covers core entry schedule
     there state ok =
     let text : List Def = gathered accepted.definitions in
     let m : CoreModel = core_of text cycles in
     let clear : NothingFails text = nothing text (end_of_all texts) accepted.tables in
+    let as_written : IsWritten text = (written (Models.joined texts accepted.tokens) accepted.definitions accepted.parsed).1 in
     let found : IsFoundThroughout m past covered count =
-    found_throughout text cycles
-    (sign text (end_of_all texts) accepted.tables (written (Models.joined texts accepted.tokens) accepted.definitions accepted.parsed).1)
+    found_throughout text cycles (sign text (end_of_all texts) accepted.tables as_written)
     clear.step clear.reset past covered count few in
+    let stands : StandsThroughout m past covered k rank count =
+    λ hart low. stand text (end_of_all texts) cycles accepted.tables accepted.shapes as_written past hart covered k rank core in
     texts_safe (meant_of text cycles) m past count (of_text text cycles) (mean texts made accepted cycles) entry schedule state ok
     ((models m past covered k rank count some held found covers stands).1 entry schedule there state ok)
 

@@ -80,6 +80,6 @@ pub lists_cover : ModelsAreRead → TestedListsCover
 lists_cover are m rank c h past count hart low = model_covered m rank c past hart (are m past hart rank c h.found h.tested) h
 
 pub tested_safe : TestedListsCover → AcceptedModelsRunSafely → TestedModelsRunSafely
-tested_safe cover safe texts made accepted rank c h past count some few stands =
+tested_safe cover safe texts made accepted rank c h core past count some few =
     let m : CoreModel = core_of (gathered accepted.definitions) no_cycle in
-    safe texts made accepted past (covered_by c) (checks_of m c) rank count some few (cover m rank c h past count) stands
+    safe texts made accepted past (covered_by c) (checks_of m c) rank count some few (cover m rank c h past count) core

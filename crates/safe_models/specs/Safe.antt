@@ -21,7 +21,8 @@ use Rattle.sail_top.specs.Models.{AreAccepted}
 use Rattle.sail_top.specs.declared.models.Accepted.{Accepted}
 use Rattle.accepted_models.specs.Starts.{HaveZeros}
 use Rattle.whole_runs.specs.Runs.{AreThere, Parts, RunGoes}
-use Rattle.whole_runs.specs.Safe.{CoversThroughout, IsFit, StandsThroughout, core_parts}
+use Rattle.whole_runs.specs.Safe.{CoversThroughout, IsFit, core_parts}
+use Rattle.fitting_texts.specs.TextLaws.{ModelTested}
 
 -- the parts of a text's runs, by its own meaning
 abbrev pub text_parts : Text → Parts
@@ -60,10 +61,10 @@ RunsSafely text cycle past count =
     (entry : ℕ) (schedule : List ℕ) → AreThere count schedule → (state : RunState) → IsFit (core_of text cycle) past count state
     → RunGoes (text_parts (meant_of text cycle)) (IsFit (core_of text cycle) past count) count entry schedule state
 
--- where instances cover what is read of the core, and it stands whatever the hart at work
+-- where instances cover what is read of the core, and the core passes its tests
 abbrev pub RunsIfCovered : List Def → Cycles → Type 0
 RunsIfCovered text cycle = (past : Positive) (covered : Work → Bool) (k : Checks) (rank : ℕ → ℕ) (count : ℕ) → 0 < count → count ≤ 8
-    → CoversThroughout (core_of text cycle) past covered k rank count → StandsThroughout (core_of text cycle) past covered k rank count
+    → CoversThroughout (core_of text cycle) past covered k rank count → ModelTested (core_of text cycle)
     → RunsSafely text cycle past count
 
 -- whatever the numbers of its cycles of calls, where the obligations of the core hold

@@ -1,4 +1,4 @@
--- Texts that the program accepts are never stuck where their lists of instances are tested.
+-- Texts that the program accepts are never stuck where their lists of instances and their cores are tested.
 use Rattle.std.specs.Prelude.{◌≡◌, ◌<◌, ◌≤◌, ℕ, true, List, Ok}
 use Rattle.sail_types.specs.Numbers.{Positive}
 use Rattle.scattered.specs.Gathered.{gathered}
@@ -11,7 +11,8 @@ use Rattle.text_progress.specs.Laws.{core_of}
 use Rattle.sail_top.specs.Checked.{no_cycle}
 use Rattle.sail_top.specs.Models.{AreAccepted}
 use Rattle.sail_top.specs.declared.models.Accepted.{Accepted}
-use Rattle.whole_runs.specs.Safe.{CoversThroughout, StandsThroughout}
+use Rattle.whole_runs.specs.Safe.{CoversThroughout}
+use Rattle.fitting_texts.specs.TextLaws.{ModelTested}
 use Rattle.safe_models.specs.Safe.{RunsSafely}
 
 -- the list of instances of a core is found and tested
@@ -27,7 +28,5 @@ TestedListsCover = (m : CoreModel) (rank : ℕ → ℕ) (c : SizedCore) → IsTe
 -- so the text isn't stuck
 abbrev pub TestedModelsRunSafely : Type 0
 TestedModelsRunSafely = (texts : List (List ℕ)) (made : Accepted) (accepted : AreAccepted texts made) (rank : ℕ → ℕ) (c : SizedCore)
-    → IsTested (core_of (gathered accepted.definitions) no_cycle) rank c → (past : Positive) (count : ℕ) → 0 < count → count ≤ 8
-    → StandsThroughout (core_of (gathered accepted.definitions) no_cycle) past (covered_by c)
-    (checks_of (core_of (gathered accepted.definitions) no_cycle) c) rank count
-    → RunsSafely (gathered accepted.definitions) no_cycle past count
+    → IsTested (core_of (gathered accepted.definitions) no_cycle) rank c → ModelTested (core_of (gathered accepted.definitions) no_cycle)
+    → (past : Positive) (count : ℕ) → 0 < count → count ≤ 8 → RunsSafely (gathered accepted.definitions) no_cycle past count

@@ -2,6 +2,7 @@
 ghost use Rattle.safe_models.specs.Safe.{AcceptedCoresRunSafely, AcceptedModelsRunSafely, FreshStatesFit, TextsRunSafely};
 
 use accepted_models::accepted_models_mean_text;
+use fitting_texts::fitting_texts_stand;
 use known_texts::{definitions_are_signed, nothing_fails};
 use sail_top::obligations_of_accepted_texts_hold;
 use text_progress::parsed_texts_are_written;
@@ -18,7 +19,7 @@ pub fn texts_run_safely()
     ensures { TextsRunSafely }
 {}
 
-/// Texts that the program accepts are never stuck, where the obligations of their cores hold, instances cover the rest and cores stand as is said: not
+/// Texts that the program accepts are never stuck, where the obligations of their cores hold, instances cover the rest and cores pass their tests: not
 /// in their top-level lets and initial values, not in `reset` of a hart, and in no event of any schedule; and registers belong to their types behind
 /// each.
 pub fn accepted_cores_run_safely()
@@ -26,6 +27,7 @@ pub fn accepted_cores_run_safely()
 {
     accepted_models_mean_text();
     definitions_are_signed();
+    fitting_texts_stand();
     nothing_fails();
     parsed_texts_are_written();
     models_run_safely();
