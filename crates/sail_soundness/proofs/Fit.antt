@@ -1,13 +1,12 @@
 -- Where each node of an expression passes the tests of its kind, nothing more is asked of it.
-use Rattle.std.proofs.Common.{◌≡◌, Bool, true, ◌&&◌, List, [], ◌∷◌, ◌++◌, map, sym, ◌∙◌, subst}
+use Rattle.std.proofs.Common.{◌≡◌, Bool, true, List, [], ◌∷◌, ◌++◌, map, sym, ◌∙◌, subst}
 use Rattle.std.proofs.lemmas.Bool.{and_parts}
 use Rattle.std.specs.List.{list_all}
 use Rattle.sail_core.specs.Making.{World}
 use Rattle.sail_core.specs.declared.tree.Core.{Core, Core-F, fold-roll-Core, ind-Core, map-Core, roll-Core}
 use Rattle.checked_meaning.specs.Items.{Item}
-use Rattle.value_laws.proofs.Basics.{no}
 use Rattle.soundness_steps.specs.Works.{Scene}
-use Rattle.sail_soundness.specs.Whole.{CoresFit, EachFine, core_fits, is_proved, joined, kind_asks, node_fits, nodes}
+use Rattle.sail_soundness.specs.Whole.{CoresFit, EachFine, core_fits, joined, kind_asks, node_fits, nodes}
 use Rattle.sail_soundness.proofs.Whole.{nodes_are}
 
 module _ (q : Scene) (w : World Item) where
@@ -36,10 +35,9 @@ module _ (q : Scene) (w : World Item) where
   node_fine : (y : Core-F SuchCore) → Such (roll-Core (map-Core SuchCore Core (λ p. p.0) y))
   node_fine y h =
       let d : Core-F Core = map-Core SuchCore Core (λ p. p.0) y in
-      let k = and_parts (is_proved d.kind && kind_asks q.set.around.types q.numbers d.kind) (list_all (λ b. b) (map fits d.parts))
+      let k = and_parts (kind_asks q.set.around.types q.numbers d.kind) (list_all (λ b. b) (map fits d.parts))
       (sym (fold-roll-Core Bool (node_fits q.set.around.types q.numbers) d) ∙ h) in
-      let own = and_parts (is_proved d.kind) (kind_asks q.set.around.types q.numbers d.kind) k.0 in
-      subst (EachFine q w) (sym (nodes_are d)) (record { others = λ e. no (sym e ∙ own.0); asks = own.1 }, parts_fine y.parts k.1)
+      subst (EachFine q w) (sym (nodes_are d)) (record { asks = k.0 }, parts_fine y.parts k.1)
 
   all_fit : (c : Core) → Such c
   all_fit = ind-Core Such (λ c y e. subst (λ d. Such (roll-Core d)) e (node_fine y))

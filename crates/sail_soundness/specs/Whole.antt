@@ -23,18 +23,18 @@ use Rattle.soundness_sizes.specs.Kinds.{sizes_stand}
 use Rattle.soundness_values.specs.Named.{TypesNarrow}
 use Rattle.soundness_targets.specs.Plain.{all_plain}
 
--- kinds of nodes that are fine: all but assignments to tuples and to calls
-abbrev pub is_proved : Kind → Bool
-is_proved (K.Assign targets) = all_plain targets
-is_proved kind = true
+-- an assignment is to names, to parts of names, by calls, and to tuples of names and calls
+abbrev pub targets_stand : Kind → Bool
+targets_stand (K.Assign targets) = all_plain targets
+targets_stand kind = true
 
--- what a kind asks besides: its patterns stand, and numbers and conditions that it reads stand for themselves
+-- what a kind asks: its patterns stand, numbers and conditions that it reads stand for themselves, and so do its targets
 abbrev pub kind_asks : Types → List Index → Kind → Bool
-kind_asks types numbers kind = patterns_stand types numbers kind && sizes_stand numbers kind
+kind_asks types numbers kind = (patterns_stand types numbers kind && sizes_stand numbers kind) && targets_stand kind
 
--- each node of an expression is of a proved kind, and what that asks holds
+-- what its kind asks holds of each node of an expression
 abbrev pub node_fits : Types → List Index → Core-F Bool → Bool
-node_fits types numbers c = (is_proved c.kind && kind_asks types numbers c.kind) && list_all (λ b. b) c.parts
+node_fits types numbers c = kind_asks types numbers c.kind && list_all (λ b. b) c.parts
 
 abbrev pub core_fits : Types → List Index → Core → Bool
 core_fits types numbers = fold-Core Bool (node_fits types numbers)
@@ -73,21 +73,18 @@ module _ (q : Scene) (w : World Item) where
 
   -- what is asked of each node
   pub record NodeStands (c : Core-F Core) : Type 0 where
-    -- one that isn't of a proved kind is fine
-    pub others : is_proved c.kind ≡ false → NodeFine c
-    -- what its kind asks besides
+    -- what its kind asks
     pub asks : kind_asks q.set.around.types q.numbers c.kind ≡ true
 
   abbrev pub EachFine : List (Core-F Core) → Type 0
   EachFine [] = Unit {0}
   EachFine (c ∷ cs) = NodeStands c × EachFine cs
 
-  -- nodes of the other kinds are, and what kinds ask holds, in a model whose registers, functions, mappings and types are as the resolver has them
+  -- what kinds ask holds, in a model whose registers, functions, mappings and types are as the resolver has them
   abbrev pub OthersFine : List (Core-F Core) → Type 0
   OthersFine cs = ModelStands q.set q.work × EachFine cs
 
--- an expression in which casts, guards, literals and patterns stand as the resolver puts them is fine, where those of its nodes are that aren't of a
--- proved kind
+-- an expression in which casts, guards, literals, patterns and targets stand as the resolver puts them is fine
 abbrev pub EachFollows : Type 0
 EachFollows = (q : Scene) (w : World Item) (c : Core) → (standing q.set.around c).right ≡ true → OthersFine q w (nodes c)
     → Fine q w (standing q.set.around c).cast (standing q.set.around c).guard (part c) (meaning (z q w) w c)

@@ -16,7 +16,9 @@ use Rattle.checked_meaning.specs.Items.{Item}
 use Rattle.soundness_steps.specs.Works.{Kept, Scene, here}
 use Rattle.soundness_steps.proofs.Steps.{given_back}
 use Rattle.soundness_forms.specs.EachKind.{KindFine, node}
+use Rattle.soundness_forms.specs.Calls.{CalleeFits}
 use Rattle.soundness_forms.specs.Forms.{AllFine, Fine, FitsSuffice, at, z}
+use Rattle.soundness_forms.specs.Mappings.{MappingsClosed}
 use Rattle.soundness_forms.specs.Registers.{RegistersClosed}
 use Rattle.soundness_forms.specs.Standing.{is_value, kind_stands}
 use Rattle.soundness_forms.proofs.Basics.{aim_on, settles, then_walks}
@@ -30,14 +32,15 @@ use Rattle.soundness_targets.proofs.Chains.{chain_goes}
 use Rattle.soundness_targets.proofs.TargetGrowth.{grow_of}
 
 -- parts that are fine are so in the scene of a moment
-all_at : (q : Scene) (w : World Item) (names : List Kept) (falls : Bool) (ps : List Part) (us : List (Run Item Item)) → AllFine q w ps us
+pub all_at : (q : Scene) (w : World Item) (names : List Kept) (falls : Bool) (ps : List Part) (us : List (Run Item Item)) → AllFine q w ps us
     → AllFine (at q w names falls) w ps us
 all_at q w names falls [] [] h = tt
 all_at q w names falls (p ∷ ps) (u ∷ us) h = (fine_at q w names falls h.0, all_at q w names falls ps us h.1)
 all_at q w names falls [] (u ∷ us) h = absurd h
 all_at q w names falls (p ∷ ps) [] h = absurd h
 
-module _ (fit : FitsSuffice) (q : Scene) (w : World Item) (narrow : TypesNarrow q.set.around.types) (closed : RegistersClosed q.set) (targets : List Target)
+module _ (fit : FitsSuffice) (q : Scene) (w : World Item) (narrow : TypesNarrow q.set.around.types) (closed : RegistersClosed q.set)
+    (places : (i : ℕ) → CalleeFits q.set i) (mappings : MappingsClosed q.set) (targets : List Target)
     (plain : all_plain targets ≡ true) where
   assigned_fine : (place : Place) (k : ℕ) (ps : List Part) (us : List (Run Item Item)) → AllFine q w ps us
       → Fine q w false false (node q w place k (K.Assign targets) ps) (kind_meaning (z q w) w place k (K.Assign targets) us)
@@ -46,7 +49,7 @@ module _ (fit : FitsSuffice) (q : Scene) (w : World Item) (narrow : TypesNarrow 
       (λ names falls g n f facts scope aim there st.
       then_walks (λ i. give i)
       (then_walks (settled (here q) place aim)
-      (chain_goes fit (at q w names falls) w narrow closed place scope targets plain n f facts ps us (all_at q w names falls ps us fine) there)
+      (chain_goes fit (at q w names falls) w narrow closed places mappings place scope targets plain n f facts ps us (all_at q w names falls ps us fine) there)
       (λ m p fs i x l h. settles fit place aim i x (aim_on q.set q.work aim l st) h)) (λ m p fs i x l h. given_back i h))
       (λ around scope aim.
       grows_bind (bind (assigned place (map spotting targets) around scope ps) (settled around place aim)) (λ j. give j)

@@ -1,10 +1,11 @@
 -- Walks over chains of targets count variables on.
-use Rattle.std.proofs.Common.{◌≡◌, ◌∙◌, ℕ, Bool, true, false, List, [], ◌∷◌, ◌-◌, map, length, take, slice_get, Option, Some, None, refl, sym, ap}
+use Rattle.std.proofs.Common.{◌≡◌, ◌∙◌, ℕ, Bool, true, false, List, [], ◌∷◌, ◌-◌, drop, map, length, take, slice_get, Option, Some, None, refl, sym, ap}
 use Rattle.std.proofs.Common.{subst, arith}
 use Rattle.std.proofs.lemmas.Bool.{and_parts}
 use Rattle.sail_base.specs.declared.place.Place.{Place}
 use Rattle.sail_types.specs.Zero.{deepest}
 use Rattle.model_state.specs.declared.state.Register.{Register}
+use Rattle.sail_core.specs.declared.targets.Caller.{Caller}
 use Rattle.sail_core.specs.declared.targets.Suffix.{Suffix}
 use Rattle.sail_core.specs.declared.targets.Target.{Target, fold-roll-Target}
 use Rattle.sail_core.specs.declared.targets.TargetKind.{TargetKind}
@@ -22,26 +23,30 @@ use Rattle.pattern_leaves.specs.declared.names.Held.{Held}
 use Rattle.pattern_leaves.specs.declared.names.Held.TheVariants as H
 use Rattle.call_arguments.specs.Aims.{aimed}
 use Rattle.call_arguments.specs.declared.aims.Aim.TheVariants as Aims
+use Rattle.call_notes.specs.Calls.{callee_types}
 use Rattle.call_notes.specs.Ends.{wrong_value}
 use Rattle.call_notes.specs.Noted.{numbers_given, numbers_noted}
 use Rattle.value_indices.specs.Steps.{given_note, note}
 use Rattle.expression_forms.specs.Nodes.{put}
-use Rattle.expression_forms.specs.Spots.{Spot, gives, held_spot, named_spot, owed_answer, owes_itself, part_left, part_put, part_spot, part_write}
+use Rattle.expression_forms.specs.Spots.{Spot, call_spot, gives, held_spot, named_spot, owed_answer, owes_itself, part_left, part_put, part_spot, part_write}
 use Rattle.expression_forms.specs.Spots.{register_spot, rewritten, written_by, wrong_spot, wrote}
 use Rattle.expression_forms.specs.Ways.{owe_part, part_fits}
 use Rattle.expression_forms.specs.declared.ways.Reached.{Reached}
-use Rattle.expression_steps.specs.Parts.{Part}
-use Rattle.expression_steps.specs.Targets.{Spotted, Spotting, assigned, assigned_to, kind_spot, part_of, spotted, spotting, suffixes_spot}
+use Rattle.expression_steps.specs.Calls.{argument_aims, nestings}
+use Rattle.expression_steps.specs.Parts.{Part, each_walk}
+use Rattle.expression_steps.specs.Targets.{Spotted, Spotting, assigned, assigned_to, call_spotted, kind_spot, part_of, spotted, spotting, suffixes_spot}
 use Rattle.expression_steps.specs.Targets.{then_assigned, then_spot}
 use Rattle.soundness_steps.specs.Noted.{variables_given}
 use Rattle.soundness_steps.specs.Steps.{Grows}
 use Rattle.soundness_forms.proofs.Giving.{gives_all}
 use Rattle.soundness_forms.proofs.Growth.{grows_bind, grows_give, grows_gives, grows_named, grows_note, grows_owe_fit, grows_wrong}
 use Rattle.soundness_parts.proofs.PartGrowth.{Gives, any, gives_back, gives_bind, grows_bind_at}
-use Rattle.soundness_targets.specs.Plain.{Shape, a_name, a_part, all_plain, another, is_plain, shape}
+use Rattle.soundness_targets.specs.Plain.{Shape, a_call, a_name, a_part, a_tuple, all_plain, another, is_plain, shape}
+use Rattle.soundness_targets.proofs.CallGrowth.{call_grows, each_grows, says_counts, taken_grow}
 use Rattle.soundness_targets.proofs.WriteGrowth.{named_written, put_grows, written_grows, wrong_count}
-use Rattle.soundness_targets.proofs.Shapes.{IsName, ShapeIs, shape_is}
-use Rattle.soundness_targets.proofs.TargetGrowth.{AnyGrow, SpottedGrow, spots_give, spots_grow}
+use Rattle.soundness_targets.proofs.Shapes.{IsName, ShapeIs, shape_is, tuple_is_member}
+use Rattle.soundness_targets.proofs.TargetGrowth.{AnyGrow, SpottedGrow, left_grow, spots_give, spots_grow}
+use Rattle.soundness_targets.proofs.TupleGrowth.{WriteGrows, member_grows}
 
 noted_grows : (k : ℕ) (i : Indices) → Grows (numbers_noted k i)
 noted_grows k i =
@@ -52,9 +57,6 @@ part_counts : (around : Around) (x : Reached) (nested : Bool) (i : Indices) → 
 unfolding joined
 part_counts around x true i = λ n. omega arith
 part_counts around x false i = λ n. fits_count around.types deepest i x.typ n
-
-says_counts : Counts (says [])
-says_counts = λ n. omega arith
 
 module _ (around : Around) (scope : Scope) (place : Place) where
   abbrev pub Good : Spot → Type 0
@@ -130,7 +132,7 @@ module _ (around : Around) (scope : Scope) (place : Place) where
 
   -- ---- targets
 
-  abbrev Spots : (List Part → Walk (Option Spotted)) → Type 0
+  abbrev pub Spots : (List Part → Walk (Option Spotted)) → Type 0
   Spots t = (ps : List Part) → AnyGrow around scope ps → Grows (t ps) × Gives (SpottedGrow around scope Good) (t ps)
 
   -- a name is there at once
@@ -160,9 +162,29 @@ module _ (around : Around) (scope : Scope) (place : Place) where
             spots_give around scope Good at k s held (good held) (slice_get ss (length ss - 1)) (take (length ss - 1) ss) ps grow),
       )
 
+  -- a call has its arguments
+  pub call_spots : (at : Place) (k count : ℕ) (reader : Option Caller) (writer : Caller)
+      → Spots (kind_spot at k (T.Call count reader writer) [] around scope)
+  call_spots at k count reader writer ps grow =
+      let arguments : Walk (List Indices) = each_walk (take count ps) around scope (argument_aims (callee_types around writer.callee)) in
+      let next : List Indices → Walk (Option Spotted) = call_spotted around at k count reader writer ps in (
+        grows_bind arguments next (each_grows around scope (take count ps) (argument_aims (callee_types around writer.callee)) (taken_grow around scope count ps grow))
+            (λ is. grows_give (next_spot is)),
+        gives_bind (λ is. Unit {0}) (SpottedGrow around scope Good) arguments next (any arguments) (λ is u.
+            gives_back (SpottedGrow around scope Good) (next_spot is)
+            (left_grow around scope count ps grow, λ nested j. call_grows around at k reader writer (nestings (take count ps)) is nested j place)),
+      )
+    where
+      next_spot : List Indices → Option Spotted
+      next_spot is = spotted (call_spot around at k reader writer (nestings (take count ps)) is) (drop count ps)
+
   given_first : {A B : Type 0} (a : A) (k : A → Walk B) → bind (give a) k ≡ k a
   unfolding bind give
   given_first a k = refl
+
+  written_good : (o : Option Spotted) → SpottedGrow around scope WriteGrows o → SpottedGrow around scope Good o
+  written_good None e = tt
+  written_good (Some s) e = (e.0, λ nested i. written_grows (s.spot.write nested i) place (e.1 nested i).1 (e.1 nested i).0)
 
   target_spots : (t : Target) (c : Shape) → ShapeIs t c → is_plain c ≡ true → Spots (spotting t around scope)
   target_spots t a_name h e ps grow =
@@ -181,14 +203,21 @@ module _ (around : Around) (scope : Scope) (place : Place) where
       (subst (λ v. Grows v × Gives (SpottedGrow around scope Good) v)
       (sym (given_first (spotted n.0 ps) (then_spot (part_of h.place h.number h.suffixes around scope))))
       (part_spots h.place h.number h.suffixes n.0 n.1 ps grow)))
+  target_spots t a_call h e ps grow =
+      subst (λ (s : Spotting). Grows (s around scope ps) × Gives (SpottedGrow around scope Good) (s around scope ps))
+      (sym (ap spotting h.same ∙ fold-roll-Target Spotting (λ u. kind_spot u.place u.number u.kind u.parts) _))
+      (call_spots h.place h.number h.count h.reader h.writer ps grow)
+  target_spots t a_tuple h e ps grow =
+      let g = member_grows around scope t (tuple_is_member t h) ps grow in
+      (g.0, λ facts m. written_good (spotting t around scope ps facts m).value (g.1 facts m))
   target_spots t another h e ps grow = absurd (cc)
 
   -- ---- chains
 
-  abbrev Goes : (Spot → List Part → Walk Indices) → Type 0
+  abbrev pub Goes : (Spot → List Part → Walk Indices) → Type 0
   Goes further = (s : Spot) (ps : List Part) → Good s → AnyGrow around scope ps → Grows (further s ps)
 
-  behind_grows : (t : List Part → Walk (Option Spotted)) (further : Spot → List Part → Walk Indices) → Spots t → Goes further → (ps : List Part)
+  pub behind_grows : (t : List Part → Walk (Option Spotted)) (further : Spot → List Part → Walk Indices) → Spots t → Goes further → (ps : List Part)
       → AnyGrow around scope ps → Grows (bind (t ps) (then_assigned further))
   behind_grows t further spots goes ps grow = grows_bind_at (SpottedGrow around scope Good) (t ps) (then_assigned further) (spots ps grow).1 (spots ps grow).0 next
     where
@@ -196,7 +225,7 @@ module _ (around : Around) (scope : Scope) (place : Place) where
       next None h = grows_give I.Never
       next (Some s) h = goes s.spot s.left h.1 h.0
 
-  value_goes : (further : List Part → Walk Indices) → Goes (assigned_to place [] further around scope)
+  pub value_goes : (further : List Part → Walk Indices) → Goes (assigned_to place [] further around scope)
   value_goes further s [] good h = grows_wrong place
   value_goes further s (p ∷ []) good h =
       grows_bind (p.walk around scope (aimed Aims.Given s.typ)) (written_by place s p.is_nested) (h.0 (aimed Aims.Given s.typ)) (λ i. good p.is_nested i)

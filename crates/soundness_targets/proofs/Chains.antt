@@ -1,4 +1,4 @@
--- Assignments to chains of targets, each of which is a name or a part of one.
+-- Assignments to chains of targets: names, parts of names, calls, and tuples.
 use Rattle.std.proofs.Common.{◌≡◌, ◌∙◌, ℕ, true, List, [], ◌∷◌, map, sym, ap, subst}
 use Rattle.std.proofs.lemmas.Bool.{and_parts}
 use Rattle.sail_base.specs.declared.place.Place.{Place}
@@ -19,19 +19,25 @@ use Rattle.value_laws.specs.Known.{Point}
 use Rattle.soundness_steps.specs.Works.{Scene, here}
 use Rattle.soundness_steps.specs.Steps.{Beside}
 use Rattle.soundness_steps.specs.Values.{Is}
+use Rattle.soundness_forms.specs.Calls.{CalleeFits}
 use Rattle.soundness_forms.specs.Forms.{AllFine, FitsSuffice}
+use Rattle.soundness_forms.specs.Mappings.{MappingsClosed}
 use Rattle.soundness_forms.specs.Registers.{RegistersClosed}
 use Rattle.soundness_forms.specs.Worlds.{Surrounds}
 use Rattle.soundness_forms.proofs.Basics.{wrongs}
 use Rattle.soundness_parts.proofs.Taken.{z}
 use Rattle.soundness_values.specs.Named.{TypesNarrow}
-use Rattle.soundness_targets.specs.Plain.{Shape, a_name, a_part, all_plain, another, is_plain, shape}
+use Rattle.soundness_targets.specs.Plain.{Shape, a_call, a_name, a_part, a_tuple, all_plain, another, is_plain, shape}
+use Rattle.soundness_targets.proofs.CallTargets.{call_target}
 use Rattle.soundness_targets.proofs.ChainGrowth.{chain_grows}
 use Rattle.soundness_targets.proofs.OneTarget.{Goes, name_target, part_target}
+use Rattle.soundness_targets.proofs.Members.{each_finds}
+use Rattle.soundness_targets.proofs.TupleTargets.{tuple_target}
 use Rattle.soundness_targets.proofs.Rights.{chain_fine, chain_right, chain_splits, value_fine, value_right, value_splits}
 use Rattle.soundness_targets.proofs.Shapes.{ShapeIs, shape_is}
 
-module _ (fit : FitsSuffice) (q : Scene) (w : World Item) (narrow : TypesNarrow q.set.around.types) (closed : RegistersClosed q.set) (place : Place) (scope : Scope) where
+module _ (fit : FitsSuffice) (q : Scene) (w : World Item) (narrow : TypesNarrow q.set.around.types) (closed : RegistersClosed q.set)
+    (places : (i : ℕ) → CalleeFits q.set i) (mappings : MappingsClosed q.set) (place : Place) (scope : Scope) where
   abbrev GoesOn : Spotting → Runs.Spotting Item (Runs.Spot Item) → Type 0
   GoesOn t s = Goes fit q w narrow closed place scope t s
 
@@ -59,6 +65,19 @@ module _ (fit : FitsSuffice) (q : Scene) (w : World Item) (narrow : TypesNarrow 
       (ap meaning b.same
       ∙ fold-roll-Target (Runs.Spotting Item (Runs.Spot Item)) (λ u. target_meaning (z q) w u.place u.number u.kind u.parts) _)))
       (part_target fit q w narrow closed place scope h.place h.number h.suffixes b.place b.number b.kind b.is_name))
+  target_goes t a_call h e =
+      subst (λ (s : Spotting). GoesOn s (meaning t)) (sym (ap spotting h.same ∙ fold-roll-Target Spotting (λ u. kind_spot u.place u.number u.kind u.parts) _))
+      (subst (λ (s : Runs.Spotting Item (Runs.Spot Item)). GoesOn (kind_spot h.place h.number (T.Call h.count h.reader h.writer) []) s)
+      (sym (ap meaning h.same
+      ∙ fold-roll-Target (Runs.Spotting Item (Runs.Spot Item)) (λ u. target_meaning (z q) w u.place u.number u.kind u.parts) _))
+      (call_target fit q w narrow closed places mappings place scope h.place h.number h.count h.reader h.writer h.is_there))
+  target_goes t a_tuple h e =
+      subst (λ (s : Spotting). GoesOn s (meaning t)) (sym (ap spotting h.same ∙ fold-roll-Target Spotting (λ u. kind_spot u.place u.number u.kind u.parts) _))
+      (subst (λ (s : Runs.Spotting Item (Runs.Spot Item)). GoesOn (kind_spot h.place h.number T.Tuple (map spotting h.parts)) s)
+      (sym (ap meaning h.same
+      ∙ fold-roll-Target (Runs.Spotting Item (Runs.Spot Item)) (λ u. target_meaning (z q) w u.place u.number u.kind u.parts) _))
+      (tuple_target fit q w narrow closed place scope h.place h.number (map spotting h.parts) (map meaning h.parts)
+      (each_finds fit q w closed places mappings scope h.parts h.members)))
   target_goes t another h e = absurd (cc)
 
   abbrev Chain : List Target → Type 0

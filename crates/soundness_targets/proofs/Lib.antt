@@ -18,7 +18,17 @@ pub mod PartAssigned
 pub mod TargetNames
 pub mod Shapes
 pub mod WriteGrowth
+pub mod CallGrowth
+pub mod TupleGrowth
 pub mod ChainGrowth
 pub mod OneTarget
+pub mod Callings
+pub mod TupleTypes
+pub mod TupleValues
+pub mod TupleWrites
+pub mod CallTargets
+pub mod MemberSpots
+pub mod Members
+pub mod TupleTargets
 pub mod Chains
 pub mod AssignKind

@@ -43,7 +43,7 @@ front_more earlier facts more h = (h.0 ++ more, ap (λ fs. fs ++ more) h.1 ∙ a
 pub front_on : {A : Type 0} (earlier facts : List Fact) (n : ℕ) (w : Walk A) → Grows w → Front earlier facts → Front earlier (w facts n).facts
 front_on earlier facts n w g h = subst (Front earlier) (sym (g.extends facts n)) (front_more earlier facts (g.more facts n) h)
 
-stands_before : (q : Scene) {noted : Noted} {n : ℕ} {f : Point n} (earlier facts : List Fact) → Front earlier facts → Stands q.set q.work noted f facts
+pub stands_before : (q : Scene) {noted : Noted} {n : ℕ} {f : Point n} (earlier facts : List Fact) → Front earlier facts → Stands q.set q.work noted f facts
     → Stands q.set q.work noted f earlier
 stands_before q {noted} {n} {f} earlier facts h s = stands_front earlier h.0 (subst (Stands q.set q.work noted f) h.1 s)
 

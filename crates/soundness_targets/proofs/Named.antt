@@ -49,10 +49,10 @@ hole_made r i W.Hole e h =
 
 module _ (fit : FitsSuffice) (q : Scene) (place : Place) (k : ℕ) (name : List ℕ) (r : Reading) where
   -- what is left to owe
-  abbrev left : Bool → Indices → Wrote
+  abbrev pub left : Bool → Indices → Wrote
   left nested i = wrote (fits_unless nested (here q) i r) I.Unit
 
-  abbrev puts : Bool → Indices → Walk Wrote
+  abbrev pub puts : Bool → Indices → Walk Wrote
   puts nested i = bind (put k (i ∷ []) r i) (λ t. give (left nested i))
 
   module _ {n : ℕ} {f : Point n} (nested : Bool) (i : Indices) (x : Item) (h : Is q.set q.work f i x)
@@ -68,7 +68,7 @@ module _ (fit : FitsSuffice) (q : Scene) (place : Place) (k : ℕ) (name : List 
         (subst (λ c. AllMet q (owed_answer place (left c i) (with_given facts (variables_given i)) n).notes) e
         (subst (λ s. AllMet q (owed_answer place (left nested i) s.facts s.next).notes) (gives_all i facts n) all)))
 
-    put_fine : {facts : List Fact} → Belongs q.set q.work f r x.val → Beside q n f facts (puts nested i) (made (checked q.set.around.types q.cases) k (x ∷ []) x.val)
+    pub put_fine : {facts : List Fact} → Belongs q.set q.work f r x.val → Beside q n f facts (puts nested i) (made (checked q.set.around.types q.cases) k (x ∷ []) x.val)
         (λ m g a y. (a ≡ left nested i) × (y.val ≡ x.val))
     put_fine {facts} is_so =
         then_walks (λ t. give (left nested i))

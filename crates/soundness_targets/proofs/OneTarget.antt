@@ -76,12 +76,12 @@ module _ (fit : FitsSuffice) (q : Scene) (w : World Item) (narrow : TypesNarrow 
 
     -- ---- a spot that is there at once
 
-    abbrev Writes : Spot → Runs.Spot Item → Type 0
+    abbrev pub Writes : Spot → Runs.Spot Item → Type 0
     Writes s sr = (m : ℕ) (g : Point m) (fs : List Fact) (nested : Bool) (i : Indices) (y : Item) → Later f g → Is q.set q.work g i y
         → IsMet q.set q.work g (aimed Aims.Given s.typ) nested y.val
         → Beside q m g fs (written_by place s nested i) (sr.write y) (λ d c j u. Is q.set q.work c j u)
 
-    at_once : (s : Spot) (sr : Runs.Spot Item) → AimSteady q.set q.work f (aimed Aims.Given s.typ) → Writes s sr
+    pub at_once : (s : Spot) (sr : Runs.Spot Item) → AimSteady q.set q.work f (aimed Aims.Given s.typ) → Writes s sr
         → Beside q n f facts (bind (give (spotted s ps)) (then_assigned further)) (right.run us then sr.write) (λ m g j u. Is q.set q.work g j u)
     at_once s sr aim writes =
         starts (spotted s ps) (then_assigned further)

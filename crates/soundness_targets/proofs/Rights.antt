@@ -111,7 +111,7 @@ module _ (right : Right) where
   spot_last None i = give i
   spot_last (Some s) i = right.last s.spot s.left i
 
-last_given : (w : Walk Indices) → bind w (λ i. give i) ≡ w
+pub last_given : (w : Walk Indices) → bind w (λ i. give i) ≡ w
 unfolding bind give
 last_given w = λ j. λ facts n. went (w facts n).value (w facts n).facts (w facts n).next (append-nil (w facts n).notes j)
 

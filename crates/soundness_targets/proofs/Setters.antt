@@ -66,7 +66,7 @@ module _ (q : Scene) (w : World Item) where
   abbrev pub unit : Item
   unit = nothing (checked q.set.around.types q.cases)
 
-  unit_is : {n : ℕ} (f : Point n) → Is q.set q.work f I.Unit unit
+  pub unit_is : {n : ℕ} (f : Point n) → Is q.set q.work f I.Unit unit
   unit_is f = record { has = literal_has q.set q.work f L.Unit refl; typ = λ g a. literal_sized q.set.around.types q.work.own g L.Unit }
 
   -- ---- a `var`

@@ -1,11 +1,13 @@
 -- Which targets are names and parts of names.
-use Rattle.std.proofs.Common.{◌≡◌, ℕ, List, [], ◌∷◌, map, refl, sym, subst}
+use Rattle.std.proofs.Common.{◌≡◌, ℕ, Bool, true, false, List, [], ◌∷◌, Option, if◌then◌else◌, map, refl, sym, ap, subst, ◌∙◌}
+use Rattle.std.specs.List.{list_all}
 use Rattle.sail_base.specs.declared.place.Place.{Place}
+use Rattle.sail_core.specs.declared.targets.Caller.{Caller}
 use Rattle.sail_core.specs.declared.targets.Suffix.{Suffix}
 use Rattle.sail_core.specs.declared.targets.Target.{Target, Target-F, fold-roll-Target, ind-Target, map-Target, roll-Target}
 use Rattle.sail_core.specs.declared.targets.TargetKind.{TargetKind}
 use Rattle.sail_core.specs.declared.targets.TargetKind.TheVariants as T
-use Rattle.soundness_targets.specs.Plain.{Shape, a_name, a_part, another, shape, shape_form}
+use Rattle.soundness_targets.specs.Plain.{Shape, a_call, a_name, a_part, a_tuple, another, is_called, is_member, shape, shape_form}
 
 -- a target without targets inside it
 abbrev pub target : Place → ℕ → TargetKind → Target
@@ -33,10 +35,30 @@ pub record PartIs (t : Target) : Type 0 where
   pub is_name : NameIs base
   pub same : t ≡ roll-Target (record { place = place; number = number; kind = T.Part suffixes; parts = base ∷ [] })
 
+-- a call
+pub record CallIs (t : Target) : Type 0 where
+  pub place : Place
+  pub number : ℕ
+  pub count : ℕ
+  pub reader : Option Caller
+  pub writer : Caller
+  pub is_there : is_called writer.callee ≡ true
+  pub same : t ≡ target place number (T.Call count reader writer)
+
+-- a tuple
+pub record TupleIs (t : Target) : Type 0 where
+  pub place : Place
+  pub number : ℕ
+  pub parts : List Target
+  pub members : list_all is_member (map shape parts) ≡ true
+  pub same : t ≡ roll-Target (record { place = place; number = number; kind = T.Tuple; parts = parts })
+
 -- what its shape says
 abbrev pub ShapeIs : Target → Shape → Type 0
 ShapeIs t a_name = NameIs t
 ShapeIs t a_part = PartIs t
+ShapeIs t a_call = CallIs t
+ShapeIs t a_tuple = TupleIs t
 ShapeIs t another = Unit {0}
 
 abbrev Shaped : Target → Type 0
@@ -56,6 +78,8 @@ module _ (at : Place) (k : ℕ) where
       → ShapeIs (roll-Target (record { place = at; number = k; kind = T.Part ss; parts = t ∷ [] })) (shape_form (T.Part ss) (c ∷ []))
   part_by ss t a_name h = record { place = at; number = k; suffixes = ss; base = t; is_name = h; same = refl }
   part_by ss t a_part h = tt
+  part_by ss t a_call h = tt
+  part_by ss t a_tuple h = tt
   part_by ss t another h = tt
 
   -- of more than one target nothing is a part
@@ -63,7 +87,21 @@ module _ (at : Place) (k : ℕ) where
       → ShapeIs (roll-Target (record { place = at; number = k; kind = T.Part ss; parts = ts })) (shape_form (T.Part ss) (c ∷ d ∷ cs))
   more_by ss ts a_name d cs = tt
   more_by ss ts a_part d cs = tt
+  more_by ss ts a_call d cs = tt
+  more_by ss ts a_tuple d cs = tt
   more_by ss ts another d cs = tt
+
+  -- a call of what a target may call
+  call_by : (count : ℕ) (reader : Option Caller) (writer : Caller) (b : Bool) → is_called writer.callee ≡ b
+      → ShapeIs (target at k (T.Call count reader writer)) (if b then a_call else another)
+  call_by count reader writer true e =
+      record { place = at; number = k; count = count; reader = reader; writer = writer; is_there = e; same = refl }
+  call_by count reader writer false e = tt
+
+  tuple_by : (ys : List Such) (b : Bool) → list_all is_member (map shape (targets_of ys)) ≡ b
+      → ShapeIs (made_of T.Tuple ys) (if b then a_tuple else another)
+  tuple_by ys true e = record { place = at; number = k; parts = targets_of ys; members = e; same = refl }
+  tuple_by ys false e = tt
 
   form_by : (kind : TargetKind) (ys : List Such) → ShapeIs (made_of kind ys) (shape_form kind (map shape (targets_of ys)))
   form_by (T.Variable name) [] = record { place = at; number = k; kind = T.Variable name; is_name = tt; same = refl }
@@ -73,8 +111,9 @@ module _ (at : Place) (k : ℕ) where
   form_by (T.Part ss) (y ∷ x ∷ ys) = more_by ss (y.0 ∷ x.0 ∷ targets_of ys) (shape y.0) (shape x.0) (map shape (targets_of ys))
   form_by (T.Variable name) (y ∷ ys) = tt
   form_by (T.Register i) (y ∷ ys) = tt
-  form_by T.Tuple ys = tt
-  form_by (T.Call count reader writer) ys = tt
+  form_by T.Tuple ys = tuple_by ys (list_all is_member (map shape (targets_of ys))) refl
+  form_by (T.Call count reader writer) [] = call_by count reader writer (is_called writer.callee) refl
+  form_by (T.Call count reader writer) (y ∷ ys) = tt
 
 step : (y : Target-F Such) → Shaped (roll-Target (map-Target Such Target (λ p. p.0) y))
 step y =
@@ -83,3 +122,8 @@ step y =
 
 pub shape_is : (t : Target) → ShapeIs t (shape t)
 shape_is = ind-Target Shaped (λ e y same_form. subst (λ d. Shaped (roll-Target d)) same_form (step y))
+
+-- a tuple may be a part of one
+pub tuple_is_member : (t : Target) → TupleIs t → is_member (shape t) ≡ true
+tuple_is_member t h =
+    ap is_member (ap shape h.same ∙ fold-roll-Target Shape (λ u. shape_form u.kind u.parts) _ ∙ ap (λ b. if b then a_tuple else another) h.members)

@@ -48,7 +48,7 @@ module _ (around : Around) (scope : Scope) where
   free_grow [] h = tt
   free_grow (p ∷ ps) h = (h.0 Aims.Free, free_grow ps h.1)
 
-  left_grow : (k : ℕ) (ps : List Part) → AnyGrow ps → AnyGrow (drop k ps)
+  pub left_grow : (k : ℕ) (ps : List Part) → AnyGrow ps → AnyGrow (drop k ps)
   left_grow zero ps h = h
   left_grow (suc k) [] h = tt
   left_grow (suc k) (p ∷ ps) h = left_grow k ps h.1

@@ -53,7 +53,7 @@ module _ (around : Around) (nested : Bool) (k : ℕ) (r : Reading) (i : Indices)
   abbrev left : Wrote
   left = wrote (fits_unless nested around i r) I.Unit
 
-  puts_count : (facts : List Fact) (n : ℕ) → Counts (bind (put k (i ∷ []) r i) (λ t. give left) facts n).value.left
+  pub puts_count : (facts : List Fact) (n : ℕ) → Counts (bind (put k (i ∷ []) r i) (λ t. give left) facts n).value.left
   unfolding bind give
   puts_count facts n = unless_counts around nested i r
 

@@ -90,19 +90,19 @@ regroups m l (R.Stops cause now) = refl
 regroups m l R.Stuck = refl
 
 module _ (q : Scene) (w : World Item) (scope : Scope) (place : Place) (k i : ℕ) (fit : FitsSuffice) (suffice : CalleeFits q.set i) where
-  abbrev calling : List Item → Run Item Value
+  abbrev pub calling : List Item → Run Item Value
   calling xs = (checked q.set.around.types q.cases).calls k xs then λ awaited. w.call place i awaited (vals xs)
 
-  called_as : (xs : List Item)
+  pub called_as : (xs : List Item)
       → (calling xs then λ v. made (checked q.set.around.types q.cases) k xs v) ≡ called (checked q.set.around.types q.cases) w place k (D.Function i) xs
   called_as xs j now = sym (regroups (λ awaited. w.call place i awaited (vals xs)) (λ v. made (checked q.set.around.types q.cases) k xs v)
       ((checked q.set.around.types q.cases).calls k xs now)) j
 
-  abbrev Ends : {n : ℕ} → Point n → List Fact → Walk Indices → List Item → Type 0
+  abbrev pub Ends : {n : ℕ} → Point n → List Fact → Walk Indices → List Item → Type 0
   Ends {n} f facts walk xs = Beside q n f facts walk (calling xs then λ v. (checked q.set.around.types q.cases).make k xs v)
       (λ j g z y. Is q.set q.work g z y)
 
-  of_function : SoundCalls q.set q.reached w → (o : Option Function) → slice_get q.set.around.functions i ≡ o → {n : ℕ} {f : Point n} {facts : List Fact}
+  pub of_function : SoundCalls q.set q.reached w → (o : Option Function) → slice_get q.set.around.functions i ≡ o → {n : ℕ} {f : Point n} {facts : List Fact}
       → (ps : List Part) (is : List Indices) (xs : List Item) → CountStands ps o → EachIs q.set q.work f ps (argument_aims (parameter_types o)) is xs
       → Ends f facts (function_call (here q) place k i o (nestings ps) is) xs
   of_function calls None e ps is xs c h = none_beside (wrong_walks place)
@@ -143,7 +143,7 @@ function_grows around place k i fn js qs bs is =
     grows_bind (sized_by place (Q.Of fn.result js qs)) _ (grows_note (λ facts. size_note facts place (Makes.ByType (Q.Of fn.result js qs)))) (λ y.
     grows_opening (Q.Of fn.result js qs) false M.Unnamed))))
 
-call_grows : (around : Around) (place : Place) (k i : ℕ) (o : Option Function) (bs : List Bool) (is : List Indices)
+pub call_grows : (around : Around) (place : Place) (k i : ℕ) (o : Option Function) (bs : List Bool) (is : List Indices)
     → Grows (function_call around place k i o bs is)
 call_grows around place k i None bs is = grows_wrong place
 call_grows around place k i (Some fn) bs is = by (any_never is)

@@ -227,18 +227,18 @@ module _ (q : Scene) (w : World Item) (scope : Scope) (place : Place) (k d : ℕ
       (λ p a. nameless_of q.set q.work p m.result v (closed d m is_it).1 ∙ o))))
 
   -- one argument alone
-  abbrev entering : List Item → Run Item Value
+  abbrev pub entering : List Item → Run Item Value
   entering (x ∷ []) = tick then λ t. w.enter d x.val or_else stops (MatchFailure place)
   entering xs = stuck
 
-  called_as : (xs : List Item)
+  pub called_as : (xs : List Item)
       → (entering xs then λ v. made (checked q.set.around.types q.cases) k xs v) ≡ called (checked q.set.around.types q.cases) w place k (D.Converts d) xs
   called_as [] = refl
   called_as (x ∷ []) = refl
   called_as (x ∷ y ∷ xs) = refl
 
   -- on arguments that have been walked
-  abbrev Ends : {n : ℕ} → Point n → List Fact → Walk Indices → List Item → Type 0
+  abbrev pub Ends : {n : ℕ} → Point n → List Fact → Walk Indices → List Item → Type 0
   Ends {n} f facts walk xs = Beside q n f facts walk (entering xs then λ v. (checked q.set.around.types q.cases).make k xs v)
       (λ j g z y. Is q.set q.work g z y)
 
@@ -257,7 +257,7 @@ module _ (q : Scene) (w : World Item) (scope : Scope) (place : Place) (k d : ℕ
   on_arguments closed calls m is_it (p ∷ p2 ∷ ps) (i ∷ []) (x ∷ xs) h = absurd h.2
   on_arguments closed calls m is_it (p ∷ p2 ∷ ps) (i ∷ i2 ∷ is) (x ∷ []) h = absurd h.2
 
-  of_direction : (closed : MappingsClosed q.set) (calls : SoundCalls q.set q.reached w) (o : Option Direction) → slice_get q.set.around.directions d ≡ o
+  pub of_direction : (closed : MappingsClosed q.set) (calls : SoundCalls q.set q.reached w) (o : Option Direction) → slice_get q.set.around.directions d ≡ o
       → {n : ℕ} {f : Point n} {facts : List Fact} (ps : List Part) (is : List Indices) (xs : List Item)
       → EachIs q.set q.work f ps (argument_aims (direction_types o)) is xs → Ends f facts (direction_call (here q) place k d o (nestings ps) is) xs
   of_direction closed calls None e ps is xs h = none_beside (wrong_walks place)
@@ -308,7 +308,7 @@ called_grows around place k d m (b ∷ []) [] = grows_wrong place
 called_grows around place k d m (b ∷ []) (i ∷ i2 ∷ is) = grows_wrong place
 called_grows around place k d m (b ∷ b2 ∷ bs) is = grows_wrong place
 
-call_grows : (around : Around) (place : Place) (k d : ℕ) (o : Option Direction) (bs : List Bool) (is : List Indices)
+pub call_grows : (around : Around) (place : Place) (k d : ℕ) (o : Option Direction) (bs : List Bool) (is : List Indices)
     → Grows (direction_call around place k d o bs is)
 call_grows around place k d None bs is = grows_wrong place
 call_grows around place k d (Some m) bs is = by (any_never is)

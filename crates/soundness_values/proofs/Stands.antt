@@ -52,7 +52,7 @@ parts_stand q w [] (p ∷ ps) rs h = absurd h
 parts_stand q w (s ∷ ss) [] rs h = absurd h
 parts_stand q w (s ∷ ss) (p ∷ ps) [] h = absurd h
 
-same_count : (n m : ℕ) → nat_eq n m ≡ true → n ≡ m
+pub same_count : (n m : ℕ) → nat_eq n m ≡ true → n ≡ m
 same_count n m e = (Decides-eqb n m).0 e
 
 -- ---- functions
