@@ -9,12 +9,12 @@ use Rattle.checked_meaning.specs.Items.{Item}
 use Rattle.soundness_steps.specs.Works.{Scene}
 use Rattle.soundness_forms.specs.EachKind.{KindFine}
 use Rattle.soundness_forms.specs.Forms.{FitsSuffice}
-use Rattle.soundness_sizes.specs.Own.{size_stands, truth_stands}
+use Rattle.soundness_sizes.specs.Own.{con_own, number_own}
 
 abbrev pub SizesAreFine : Type 0
-SizesAreFine = FitsSuffice → (q : Scene) (w : World Item) (t : Num) (ns : List WrittenNumber) → size_stands q.numbers ns t ≡ true
+SizesAreFine = FitsSuffice → (q : Scene) (w : World Item) (t : Num) (ns : List WrittenNumber) → number_own q.numbers t ≡ true
     → KindFine q w (K.SizeOf t ns)
 
 abbrev pub ConstraintsAreFine : Type 0
-ConstraintsAreFine = FitsSuffice → (q : Scene) (w : World Item) (c : Con) (ns : List WrittenNumber) → truth_stands q.numbers ns c ≡ true
+ConstraintsAreFine = FitsSuffice → (q : Scene) (w : World Item) (c : Con) (ns : List WrittenNumber) → con_own q.numbers c ≡ true
     → KindFine q w (K.Constraint c ns)
