@@ -330,8 +330,8 @@ module _ (types : Types) (past : Positive) (own : List Closed) {m : ℕ} (f : Po
         (each_kept (opened_or_not false (map (kept_value types m) is)) ss)
     unfolding KeepsAs
     wides_as [] [] k ss n p facts l = ([], tt, gives [] (λ g a. refl))
-    wides_as [] (j ∷ js) k ss n p facts l = uneven j js (sym k.3)
-    wides_as (i ∷ is) [] k ss n p facts l = uneven i is k.3
+    wides_as [] (j ∷ js) k ss n p facts l = uneven j js (sym k.2)
+    wides_as (i ∷ is) [] k ss n p facts l = uneven i is k.2
     wides_as (i ∷ is) (j ∷ js) k [] n p facts l =
         let one = first_part i is j js k in
         both_give types past own wide (WidesOf types past own f full h agree) (wide_now j) (wides (map (meant types mu own) js)) (λ g x xs. refl)
@@ -347,8 +347,8 @@ module _ (types : Types) (past : Positive) (own : List Closed) {m : ℕ} (f : Po
     unfolding KeepsAs
     opens_as [] [] k ss n p facts l [] e = ([], refl, gives [] (λ g a. refl))
     opens_as [] [] k ss n p facts l (v ∷ vs) e = no e
-    opens_as [] (j ∷ js) k ss n p facts l vs e = uneven j js (sym k.3)
-    opens_as (i ∷ is) [] k ss n p facts l vs e = uneven i is k.3
+    opens_as [] (j ∷ js) k ss n p facts l vs e = uneven j js (sym k.2)
+    opens_as (i ∷ is) [] k ss n p facts l vs e = uneven i is k.2
     opens_as (i ∷ is) (j ∷ js) k ss n p facts l [] e = no e
     opens_as (i ∷ is) (j ∷ js) k [] n p facts l (v ∷ vs) e =
         let one = first_part i is j js k in
