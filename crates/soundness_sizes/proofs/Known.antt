@@ -182,9 +182,9 @@ module _ (past : Positive) (f : Integers) (numbers : List Index) (ns : List Writ
 
   -- a term that is read, within the limit
   pub record Alone (t : Term) : Type 0 where
-    pub as : Num
-    pub reads : term_read numbers t ≡ Some as
-    pub is : number al as ≡ number_of_term be t
+    pub found : Num
+    pub reads : term_read numbers t ≡ Some found
+    pub is : number al found ≡ number_of_term be t
     pub within : is_small (number_of_term be t) ≡ true
 
   alone : (t : Term) → Said al (in_bounds (term_read numbers t)) → Alone t
@@ -194,7 +194,7 @@ module _ (past : Positive) (f : Integers) (numbers : List Index) (ns : List Writ
       by None e h = absurd h
       by (Some u) e h =
           let is : number al u ≡ number_of_term be t = number_read past f numbers (single t) u e ∙ single_number be t in
-          record { as = u; reads = e; is = is; within = ap is_small (sym is) ∙ bounds_said al u h }
+          record { found = u; reads = e; is = is; within = ap is_small (sym is) ∙ bounds_said al u h }
 
   -- the constant, behind a sum that is within the limit
   constant_adds : (s : Num) (before c : ℤ) → number al s ≡ before → is_small before ≡ true → Said al (constant_bounded (Some s) c)
@@ -242,20 +242,20 @@ module _ (past : Positive) (f : Integers) (numbers : List Index) (ns : List Writ
       let rest = said_behind al (term_owed numbers (with_owed numbers y.0) ++ in_bounds t) (more_bounded numbers t (map (with_owed numbers) (terms ys)) c) said in
       let parts = term_parts y.0 (said_front al (term_owed numbers (with_owed numbers y.0)) (in_bounds t) first) in
       let a = alone y.0 parts.1 in
-      let same : t ≡ sum s a.as = ap (with_term (Some s)) a.reads in
-      by a owns.0 parts.0 through_parts.0 (λ m sums within h. more_add ys m (before +ℤ number_of_term be y.0) c sums within owns.1 h through_parts.1) (sum s a.as) refl
+      let same : t ≡ sum s a.found = ap (with_term (Some s)) a.reads in
+      by a owns.0 parts.0 through_parts.0 (λ m sums within h. more_add ys m (before +ℤ number_of_term be y.0) c sums within owns.1 h through_parts.1) (sum s a.found) refl
       (subst (λ o. Said al (in_bounds o)) same (said_behind al (term_owed numbers (with_owed numbers y.0)) (in_bounds t) first))
       (subst (λ o. Said al (more_bounded numbers o (map (with_owed numbers) (terms ys)) c)) same rest)
     where
       by : (a : Alone y.0) → term_own numbers y.0 ≡ true → Said al (bounded_atom numbers (atom_of y.0)) → Said al (through_atom numbers ns (atom_of y.0))
           → ((m : Num) → number al m ≡ before +ℤ number_of_term be y.0 → is_small (before +ℤ number_of_term be y.0) ≡ true
           → Said al (more_bounded numbers (Some m) (map (with_owed numbers) (terms ys)) c) → Adds ys (before +ℤ number_of_term be y.0) c)
-          → (o : Option Num) → sum s a.as ≡ o → Said al (in_bounds o) → Said al (more_bounded numbers o (map (with_owed numbers) (terms ys)) c)
+          → (o : Option Num) → sum s a.found ≡ o → Said al (in_bounds o) → Said al (more_bounded numbers o (map (with_owed numbers) (terms ys)) c)
           → Adds (y ∷ ys) before c
       by a owns atom through_it next None e h rest = absurd h
       by a owns atom through_it next (Some m) e h rest =
           let z : ℤ = number_of_term be y.0 in
-          let sums : number al m ≡ before +ℤ z = sum_number_is al s a.as m e ∙ (λ j. is j +ℤ a.is j) in
+          let sums : number al m ≡ before +ℤ z = sum_number_is al s a.found m e ∙ (λ j. is j +ℤ a.is j) in
           let fits_now : is_small (before +ℤ z) ≡ true = ap is_small (sym sums) ∙ bounds_said al m h in
           let later = next m sums fits_now rest in (
             ap (λ o. and_then o (λ x. and_then (small (before +ℤ x)) (added (map term_known (terms ys))))) (y.1 owns atom through_it a.within)
@@ -277,7 +277,7 @@ module _ (past : Positive) (f : Integers) (numbers : List Index) (ns : List Writ
       let a = alone y.0 parts.1 in
       let z : ℤ = number_of_term be y.0 in
       let fits_now : is_small (pos 0 +ℤ z) ≡ true = ap is_small (zero_plus z) ∙ a.within in
-      let later = more_add ys a.as (pos 0 +ℤ z) c (a.is ∙ sym (zero_plus z)) fits_now owns.1
+      let later = more_add ys a.found (pos 0 +ℤ z) c (a.is ∙ sym (zero_plus z)) fits_now owns.1
       (subst (λ o. Said al (more_bounded numbers o (map (with_owed numbers) (terms ys)) c)) a.reads rest) through_parts.1 in (
         ap (λ o. and_then o (λ x. and_then (small (pos 0 +ℤ x)) (added (map term_known (terms ys))))) (y.1 owns.0 parts.0 through_parts.0 a.within)
             ∙ ap (λ o. and_then o (added (map term_known (terms ys)))) (small_is (pos 0 +ℤ z) fits_now) ∙ later.0
