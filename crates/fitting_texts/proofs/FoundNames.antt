@@ -33,7 +33,7 @@ use Rattle.pattern_leaves.specs.declared.names.TopLevel.{TopLevel}
 use Rattle.pattern_notes.specs.Patterns.{Look, after_inner, also, annotated_met, arm_written, cons_met, direction_met, each_match, each_met_never, form_match}
 use Rattle.pattern_notes.specs.Patterns.{head_met}
 use Rattle.pattern_notes.specs.Patterns.{inside, item_met, items_met, look, look_form, looks, one_match, opens_met, option_of, parts_match, result_of}
-use Rattle.pattern_notes.specs.Patterns.{union_met}
+use Rattle.pattern_notes.specs.Patterns.{typed_met, union_met}
 use Rattle.pattern_notes.specs.declared.matching.Matching.{Matching}
 use Rattle.expression_steps.specs.Expressions.{part}
 use Rattle.expression_steps.specs.Statements.{is_written, written_aim}
@@ -253,8 +253,8 @@ module _ (around : Around) where
   form_finds place (F.As name) how (ns ∷ []) (p ∷ q ∷ ps) h i = absurd h.1
   form_finds place (F.As name) how (ns ∷ ms ∷ nss) (p ∷ []) h i = absurd h.1
   form_finds place (F.Typed w) how (ns ∷ []) (p ∷ []) h i =
-      alone_finds ns _ (typed_finds ns (out-Naming p.naming) (written_in around w) (annotated_met place w p around how i)
-      (after_finds ns _ _ (h.0 (inside how) i)))
+      alone_finds ns (typed_met place w p around how i)
+      (typed_finds ns (out-Naming p.naming) (written_in around w) (annotated_met place w p around how i) (after_finds ns _ _ (h.0 (inside how) i)))
   form_finds place (F.Typed w) how [] [] h i = wrong_finds [] place
   form_finds place (F.Typed w) how (ns ∷ ms ∷ nss) (p ∷ q ∷ ps) h i = wrong_finds (in_order (ns ∷ ms ∷ nss)) place
   form_finds place (F.Typed w) how [] (p ∷ ps) h i = absurd h
@@ -263,7 +263,8 @@ module _ (around : Around) where
   form_finds place (F.Typed w) how (ns ∷ ms ∷ nss) (p ∷ []) h i = absurd h.1
   form_finds place (F.Opens head) how nss ps h i = opens_find place head how nss ps h (out-Indices i)
   form_finds place (F.Maps d) how (ns ∷ []) (p ∷ []) h i =
-      alone_finds ns _ (direction_finds place d (slice_get around.directions d) result_of how ns p h.0 i)
+      alone_finds ns (direction_met place d (slice_get around.directions d) result_of p around how i)
+      (direction_finds place d (slice_get around.directions d) result_of how ns p h.0 i)
   form_finds place (F.Maps d) how [] [] h i = wrong_finds [] place
   form_finds place (F.Maps d) how (ns ∷ ms ∷ nss) (p ∷ q ∷ ps) h i = wrong_finds (in_order (ns ∷ ms ∷ nss)) place
   form_finds place (F.Maps d) how [] (p ∷ ps) h i = absurd h
@@ -271,7 +272,8 @@ module _ (around : Around) where
   form_finds place (F.Maps d) how (ns ∷ []) (p ∷ q ∷ ps) h i = absurd h.1
   form_finds place (F.Maps d) how (ns ∷ ms ∷ nss) (p ∷ []) h i = absurd h.1
   form_finds place (F.Sees d) how (ns ∷ []) (p ∷ []) h i =
-      alone_finds ns _ (direction_finds place d (slice_get around.directions d) option_of how ns p h.0 i)
+      alone_finds ns (direction_met place d (slice_get around.directions d) option_of p around how i)
+      (direction_finds place d (slice_get around.directions d) option_of how ns p h.0 i)
   form_finds place (F.Sees d) how [] [] h i = wrong_finds [] place
   form_finds place (F.Sees d) how (ns ∷ ms ∷ nss) (p ∷ q ∷ ps) h i = wrong_finds (in_order (ns ∷ ms ∷ nss)) place
   form_finds place (F.Sees d) how [] (p ∷ ps) h i = absurd h
@@ -310,7 +312,7 @@ module _ (around : Around) where
       → (ns : List (List ℕ)) × (once_each ns ≡ true) × Finds ns (one_match place (looks arm) around how i)
   arm_finds place how (A.Nested []) once i = ([], refl, wrong_finds [] place)
   arm_finds place how (A.Nested (p ∷ [])) once i =
-      (pattern_names p ++ [], once, alone_finds (pattern_names p) _ (look_finds p how i))
+      (pattern_names p ++ [], once, alone_finds (pattern_names p) ((look p).match_with around how i) (look_finds p how i))
   arm_finds place how (A.Nested (p ∷ q ∷ ps)) once i = ([], refl, wrong_finds [] place)
   arm_finds place how (A.Flat count steps) once i = no once
 

@@ -11,23 +11,23 @@ pub data Within : List (List ℕ) → List (List ℕ) → Type 0 where
   within_more : (n : List ℕ) (ms ns : List (List ℕ)) → Within ms ns → Within ms (n ∷ ns)
 
 -- behind others
-pub within_behind : (as ms ns : List (List ℕ)) → Within ms ns → Within ms (as ++ ns)
+pub within_behind : (ks ms ns : List (List ℕ)) → Within ms ns → Within ms (ks ++ ns)
 within_behind [] ms ns h = h
-within_behind (a ∷ as) ms ns h = within_more a ms (as ++ ns) (within_behind as ms ns h)
+within_behind (a ∷ ks) ms ns h = within_more a ms (ks ++ ns) (within_behind ks ms ns h)
 
-pub within_joined : (as bs ms ns : List (List ℕ)) → Within as ms → Within bs ns → Within (as ++ bs) (ms ++ ns)
-within_joined as bs ms ns (within_none all) k = within_behind all bs ns k
-within_joined as bs ms ns (within_both n xs ys h) k = within_both n (xs ++ bs) (ys ++ ns) (within_joined xs bs ys ns h k)
-within_joined as bs ms ns (within_more n xs ys h) k = within_more n (xs ++ bs) (ys ++ ns) (within_joined xs bs ys ns h k)
+pub within_joined : (ks bs ms ns : List (List ℕ)) → Within ks ms → Within bs ns → Within (ks ++ bs) (ms ++ ns)
+within_joined ks bs ms ns (within_none all) k = within_behind all bs ns k
+within_joined ks bs ms ns (within_both n xs ys h) k = within_both n (xs ++ bs) (ys ++ ns) (within_joined xs bs ys ns h k)
+within_joined ks bs ms ns (within_more n xs ys h) k = within_more n (xs ++ bs) (ys ++ ns) (within_joined xs bs ys ns h k)
 
 pub within_self : (ns : List (List ℕ)) → Within ns ns
 within_self [] = within_none []
 within_self (n ∷ ns) = within_both n ns ns (within_self ns)
 
-pub within_first : (as ms ns : List (List ℕ)) → Within as ms → Within as (ms ++ ns)
-within_first as ms ns (within_none all) = within_none (all ++ ns)
-within_first as ms ns (within_both n xs ys h) = within_both n xs (ys ++ ns) (within_first xs ys ns h)
-within_first as ms ns (within_more n xs ys h) = within_more n xs (ys ++ ns) (within_first xs ys ns h)
+pub within_first : (ks ms ns : List (List ℕ)) → Within ks ms → Within ks (ms ++ ns)
+within_first ks ms ns (within_none all) = within_none (all ++ ns)
+within_first ks ms ns (within_both n xs ys h) = within_both n xs (ys ++ ns) (within_first xs ys ns h)
+within_first ks ms ns (within_more n xs ys h) = within_more n xs (ys ++ ns) (within_first xs ys ns h)
 
 -- ---- none twice
 

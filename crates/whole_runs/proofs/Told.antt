@@ -10,9 +10,9 @@ use Rattle.sail_core.specs.Run.{Local}
 use Rattle.value_indices.specs.declared.indices.Indices.{Indices}
 use Rattle.value_indices.specs.declared.indices.Indices.TheFolds.{fold-roll-Reading}
 use Rattle.value_indices.specs.declared.indices.Indices.TheOpen as W
+use Rattle.value_indices.specs.declared.indices.Indices.TheViews.{out-roll-Reading}
 use Rattle.value_indices.specs.declared.indices.Reading.{Reading, out-Reading}
 use Rattle.value_indices.specs.declared.indices.Reading.TheVariants as R
-use Rattle.value_indices.specs.declared.indices.Reading.TheViews.{out-roll-Reading}
 use Rattle.value_indices.specs.Steps.{Walk, give}
 use Rattle.wide_types.specs.Widening.{wide_value, widened}
 use Rattle.expression_forms.specs.Names.{read_form, type_read}
@@ -40,7 +40,7 @@ use Rattle.whole_runs.specs.Told.{NamesAreTold, are_apart}
 
 -- ---- before the first variable
 
-start : Point 0
+abbrev start : Point 0
 start = record { fixed = λ i. false; integers = λ i. pos 0; before = λ i e. no e }
 
 start_agrees : (g : Integers) → Agree start g
