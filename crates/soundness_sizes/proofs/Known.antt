@@ -27,6 +27,7 @@ use Rattle.row_types.specs.Formulas.{least, most}
 use Rattle.sail_core.specs.Numbers.{Givens, added, given_int, known, known_atom, known_sum, known_term, small}
 use Rattle.sail_core.specs.declared.written.WrittenNumber.{WrittenNumber}
 use Rattle.value_indices.specs.Opening.{least_num, largest_num}
+use Rattle.value_indices.specs.Steps.{Conditions}
 use Rattle.expression_forms.specs.Sizes.{all_owed, bounded, bounded_atom, constant_bounded, exponent_through, in_bounds, more_bounded, single, term_owed}
 use Rattle.expression_forms.specs.Sizes.{term_read, terms_bounded, through, through_atom, through_term, with_constant, with_owed, with_term}
 use Rattle.expression_forms.proofs.Bounds.{number_is, power_is, power_through, term_is, through_inside, through_is}

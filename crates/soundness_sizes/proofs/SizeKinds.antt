@@ -360,7 +360,7 @@ module _ (q : Scene) (w : World Item) where
         (λ i e. truth_given q w f h a q.numbers w.numbers given i e)
         (exponents_found q.set.past q.numbers compared_there (λ x. refl) h ns sides)
         (side_found q.set.past q.numbers compared_there (λ x. refl) h (λ x. refl) ns sides) c own all
-        ∙ ap (λ b. Some b) (sym (truth_read (standing q.set.past h) q.numbers c d reads))
+        ∙ ap (λ b. Some b) (sym (truth_read q.set.past h q.numbers c d reads))
 
     abbrev Decided : (m : ℕ) → Point m → Indices → Type 0
     Decided m g i = (b : Bool) × (known_truth w.numbers c ≡ Some b) × Is q.set q.work g i (item (fixed_typ q.set.around.types U.Bool) (Y.Truth b))
