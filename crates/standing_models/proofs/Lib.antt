@@ -2,3 +2,13 @@ pub mod Numbered
 pub mod Sides
 pub mod Clauses
 pub mod Models
+pub mod CorePasses
+pub mod Passing
+pub mod Covering
+pub mod PassingSteps
+pub mod PassingTrees
+pub mod PassingFound
+pub mod ReadingFound
+pub mod PassingSides
+pub mod PassingNumbered
+pub mod PassingClauses

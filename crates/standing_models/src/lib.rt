@@ -1,6 +1,6 @@
-//! Bodies of a model's clauses, and how casts and guards stand in them.
+//! Bodies of a model's clauses, how casts and guards stand in them, and what their nodes pass.
 #![tactic(auto)]
 
 mod laws;
 
-pub use laws::models_stand;
+pub use laws::{found_pass, found_read, models_stand};
