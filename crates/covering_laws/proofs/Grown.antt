@@ -54,10 +54,10 @@ Keeps read = (found all : List Found) → read found ≡ Ok all → Extends foun
 nothing_more : (found all : List Found) → found ≡ all → Extends found all
 nothing_more found all e = ([], sym e ∙ sym (append-nil found))
 
-as_found : (found all : List Found) → outcome None found ≡ Ok all → found ≡ all
+pub as_found : (found all : List Found) → outcome None found ≡ Ok all → found ≡ all
 as_found found all e = cc e
 
-further : (found some all : List Found) → Extends found some → Extends some all → Extends found all
+pub further : (found some all : List Found) → Extends found some → Extends some all → Extends found all
 further found some all first next =
     (first.0 ++ next.0, next.1 ∙ ap (λ (l : List Found). l ++ next.0) first.1 ∙ append_assoc found first.0 next.0)
 
@@ -68,7 +68,7 @@ then_keeps read next k l found all h = by (read found) refl h
     by (Ok some) e g = further found some all (k found some e) (l some all g)
     by (Err why) e g = absurd (cc)
 
-over_keeps : {A : Type 0} (read : A → List Found → Answer) → ((x : A) → Keeps (read x)) → (xs : List A) → Keeps (over read xs)
+pub over_keeps : {A : Type 0} (read : A → List Found → Answer) → ((x : A) → Keeps (read x)) → (xs : List A) → Keeps (over read xs)
 over_keeps read k [] found all h = nothing_more found all (as_found found all h)
 over_keeps read k (x ∷ xs) found all h = then_keeps (read x) (over read xs) (k x) (over_keeps read k xs) found all h
 
@@ -95,7 +95,7 @@ add_keeps place x found all h = by (list_any (found_eq (F.Function x)) found) h
     by true g = nothing_more found all (as_found found all g)
     by false g = room_keeps place (F.Function x) found all g
 
-mapping_keeps : (i : ℕ) → Keeps (λ found. Ok (add_mapping i found))
+pub mapping_keeps : (i : ℕ) → Keeps (λ found. Ok (add_mapping i found))
 mapping_keeps i found all h = by (list_any (found_eq (F.Mapping i)) found) (as_found (add_mapping i found) all h)
   where
     by : (b : Bool) → (if b then found else found ++ F.Mapping i ∷ []) ≡ all → Extends found all
@@ -111,14 +111,14 @@ called_keeps r place of (D.Applies d) js qs found all h = mapping_keeps (d / 2) 
 called_keeps r place of (D.Row row) js qs found all h = fine_keeps found all h
 called_keeps r place of (D.Constructor u c) js qs found all h = fine_keeps found all h
 
-call_keeps : (r : Inside) (place : Place) (operands : List Indices) (callee : Callee) (js : List Index) (qs : List Reading) (ps : List Picked)
+pub call_keeps : (r : Inside) (place : Place) (operands : List Indices) (callee : Callee) (js : List Index) (qs : List Reading) (ps : List Picked)
     → Keeps (read_call r place operands callee js qs ps)
 call_keeps r place operands callee js qs ps found all h =
     unless_keeps (numbers_refused r place operands callee js ps)
     (λ more. unless (types_refused r place qs ps) (called r place (under r ps) callee js qs more))
     (unless_keeps (types_refused r place qs ps) (called r place (under r ps) callee js qs) (called_keeps r place (under r ps) callee js qs)) found all h
 
-sizes_keep : (r : Inside) (place : Place) (i : Indices) (ps : List Picked) → Keeps (read_sizes r place i ps)
+pub sizes_keep : (r : Inside) (place : Place) (i : Indices) (ps : List Picked) → Keeps (read_sizes r place i ps)
 sizes_keep r place i ps found all h = unless_keeps (sizes_refused place r.names (value_sizes r.types (under r ps) i)) (λ more. Ok more) fine_keeps found all h
 
 each_keeps : (r : Inside) (facts own : List Fact) (read : List Picked → List Found → Answer) → ((ps : List Picked) → Keeps (read ps))
@@ -137,7 +137,7 @@ note_keeps r (made_note facts k operands made) named found all h = fine_keeps fo
 note_keeps r (given_note facts k i) named found all h = fine_keeps found all h
 note_keeps r (name_note v name) named found all h = fine_keeps found all h
 
-notes_keep : (r : Inside) (ns : List Note) → Keeps (read_notes r ns)
+pub notes_keep : (r : Inside) (ns : List Note) → Keeps (read_notes r ns)
 notes_keep r [] found all h = fine_keeps found all h
 notes_keep r (n ∷ ns) found all h =
     then_keeps (read_note r n (first_named ns)) (read_notes r ns) (note_keeps r n (first_named ns)) (notes_keep r ns) found all h
@@ -145,15 +145,15 @@ notes_keep r (n ∷ ns) found all h =
 -- ---- a model
 
 module _ (m : Model) where
-  bodies_keep : (zs : List (Option ℤ)) (own : List Sized) (bs : List Body) → Keeps (read_bodies m zs own bs)
+  pub bodies_keep : (zs : List (Option ℤ)) (own : List Sized) (bs : List Body) → Keeps (read_bodies m zs own bs)
   bodies_keep zs own bs found all h =
       over_keeps (read_body m.core.types m.sizing zs own) (λ b. notes_keep (reading_of m.core.types m.sizing zs own b) b.notes) bs found all h
 
-  found_keeps : (x : Found) → Keeps (read_found m x)
+  pub found_keeps : (x : Found) → Keeps (read_found m x)
   found_keeps (F.Function x) found all h = bodies_keep x.numbers x.types (or_none (slice_get m.bodies.functions x.function)) found all h
   found_keeps (F.Mapping i) found all h = bodies_keep [] [] (one_or_none (slice_get m.bodies.mappings i)) found all h
 
-  grow_keeps : (times i : ℕ) → Keeps (grow times m i)
+  pub grow_keeps : (times i : ℕ) → Keeps (grow times m i)
   grow_keeps zero i found all h = fine_keeps found all h
   grow_keeps (suc times) i found all h = by (slice_get found i) (grow_keeps times (suc i)) h
     where
@@ -166,7 +166,7 @@ module _ (m : Model) where
       then_keeps (read_bodies m [] [] bs) (λ more. unless (register_refused m.core.types r text) (Ok more)) (bodies_keep [] [] bs)
       (unless_keeps (register_refused m.core.types r text) (λ more. Ok more) fine_keeps) found all h
 
-  last_keeps : (rs : List Register) (texts : List RegisterText) (os : List Opening) (bs : List Body) → Keeps (last_from m rs texts os bs)
+  pub last_keeps : (rs : List Register) (texts : List RegisterText) (os : List Opening) (bs : List Body) → Keeps (last_from m rs texts os bs)
   last_keeps [] texts os bs found all h = bodies_keep [] [] bs found all h
   last_keeps (r ∷ rs) [] os bs found all h = bodies_keep [] [] bs found all h
   last_keeps (r ∷ rs) (text ∷ texts) os bs found all h =

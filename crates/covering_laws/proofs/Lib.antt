@@ -7,4 +7,5 @@ pub mod Entering
 pub mod Joined
 pub mod Read
 pub mod Grown
+pub mod Closed
 pub mod Across

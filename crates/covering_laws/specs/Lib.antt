@@ -1,3 +1,4 @@
 pub mod Tested
 pub mod Laws
 pub mod Covered
+pub mod Closed

@@ -1,8 +1,9 @@
 //! Laws of what instances cover: where the bodies of an accepted list of instances are tested, all that their walks note, but goals, is met.
 //!
-//! `specs/Tested` and `specs/Covered` have the tests, `specs/Laws` and `specs/Covered` the laws.
+//! `specs/Tested` and `specs/Covered` have the tests, `specs/Laws`, `specs/Covered` and `specs/Closed` the laws.
 #![tactic(auto)]
 
+ghost use Rattle.covering_laws.specs.Closed.{ListsAreRead};
 ghost use Rattle.covering_laws.specs.Covered.{ModelsAreRead};
 ghost use Rattle.covering_laws.specs.Laws.{BodiesAreMet};
 
@@ -14,4 +15,9 @@ pub fn bodies_are_met()
 /// A model whose accepted list of instances is tested is read: its functions, mappings and openings. It does nothing.
 pub fn models_are_read()
     ensures { ModelsAreRead }
+{}
+
+/// Of what is found without refusal sizes are constants within their limits, and what is called is found. It does nothing.
+pub fn lists_are_read()
+    ensures { ListsAreRead }
 {}
