@@ -154,7 +154,7 @@ module _ (models_alike : ModelsAreAlike) (models_keep : ModelsKeep) (m : CoreMod
       → Goes p (λ ran. ResetsGo (core_parts plain m) Fit entry (EventsGo (core_parts plain m) Fit schedule) (range_with_len 0 count) ran.state)
   opened_goes entry schedule there state ok (opened vs now) eq h p is go =
       let end = end_anywhere (checking c) vs m state (nowhere m.types) (now, eq) in
-      let parts = plain_goes (vs, end) in
+      let parts = plain_goes (vs, end.0, end.1) in
       goes_on (λ ran. Fit ran.state)
       (λ ran. ResetsGo (core_parts plain m) Fit entry (EventsGo (core_parts plain m) Fit schedule) (range_with_len 0 count) ran.state) p
       (λ ran k. resets_on (core_parts plain m) count Fit parts entry schedule there ran.state k) go
