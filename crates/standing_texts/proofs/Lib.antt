@@ -1,0 +1,4 @@
+pub mod OwnSizes
+pub mod NamesFit
+pub mod BodiesPass
+pub mod MappingsPass

@@ -1,0 +1,121 @@
+-- Directions of the mappings of an accepted text pass the tests of their nodes.
+use Rattle.std.proofs.Common.{◌≡◌, ℕ, zero, suc, List, [], ◌∷◌, ◌++◌, map, sym, subst, Bool, true, Option, Some, None}
+use Rattle.std.proofs.lemmas.Bool.{and_parts}
+use Rattle.std.specs.Prelude.{slice_get}
+use Rattle.sail_base.specs.declared.place.Place.{Place}
+use Rattle.sail_syntax.specs.declared.definitions.Def.{Def}
+use Rattle.sail_syntax.specs.declared.definitions.Def.TheVariants as D
+use Rattle.sail_syntax.specs.declared.definitions.MappingClause.{MappingClause}
+use Rattle.sail_core.specs.declared.model.Direction.{Direction}
+use Rattle.sail_core.specs.declared.patterns.Pattern.{Pattern}
+use Rattle.core_numbers.specs.Numbers.{numbered}
+use Rattle.sail_names.specs.Known as Tables
+use Rattle.sail_signatures.specs.declared.signature.Signature.{Signature}
+use Rattle.pattern_leaves.specs.Settings.{Around}
+use Rattle.shape_joins.proofs.JoinsLeast.{none, some_same}
+use Rattle.shape_rules.specs.declared.callees.Mapping.{Mapping}
+use Rattle.shape_rules.specs.declared.error.ShapeError.{ShapeError}
+use Rattle.shape_rules.specs.Scopes.{Setting, answering}
+use Rattle.shape_rules.specs.Written.{joined}
+use Rattle.shape_models.specs.Models.{mapping_of, within_variables}
+use Rattle.shape_declarations.specs.Failures.{sides_faults}
+use Rattle.shape_clauses.specs.Clauses.{clauses_core, clauses_faults}
+use Rattle.shape_clauses.specs.Mappings.{backwards_clauses, backwards_core, behind_forwards, both_faults, directions_faults, directions_if, directions_of}
+use Rattle.shape_clauses.specs.Mappings.{forwards_clauses, forwards_core, mapping_faults}
+use Rattle.shape_meanings.proofs.Settling.{both_empty}
+use Rattle.body_meanings.specs.Directions.{CrossingsAreNamed}
+use Rattle.shapes.specs.Tabled.{tabled_of}
+use Rattle.known_texts.specs.Accepted.{NothingFails}
+use Rattle.known_texts.specs.Known.{DefinitionsKnown, EachKnown, MappingKnown}
+use Rattle.known_texts.specs.Values.{RegistersTyped}
+use Rattle.known_texts.specs.Whole.{setting_in}
+use Rattle.known_texts.specs.Written.{IsWritten}
+use Rattle.known_texts.proofs.Assembled.{definitions_known}
+use Rattle.known_texts.proofs.Failures.{nothing_fails}
+use Rattle.known_texts.proofs.Parts.{tuples_have_parts}
+use Rattle.known_texts.proofs.Registers.{registers_typed}
+use Rattle.known_texts.proofs.Tuples.{TuplesHaveParts}
+use Rattle.known_texts.proofs.Types.{types_known}
+use Rattle.standing_cores.specs.Types.{every}
+use Rattle.standing_models.specs.Tests.{Fits, crossing_limited, definition_limited}
+use Rattle.standing_models.proofs.PassingClauses.{EachCrossed, ahead_clauses, back_clauses}
+use Rattle.text_progress.proofs.Stand.{unfailed}
+use Rattle.text_progress.proofs.TextInsides as Insides
+use Rattle.standing_texts.specs.Bodies.{DirectionPasses, DirectionsPass, TextPatterns}
+use Rattle.standing_texts.proofs.BodiesPass.{body_fits, clauses_are}
+
+crossed : (names : Tables.Setting) (cs : List MappingClause) → CrossingsAreNamed names cs → EachCrossed names cs
+crossed names [] h = tt
+crossed names (c ∷ cs) h = (h.1, crossed names cs h.2)
+
+-- ---- directions in a list
+
+abbrev AllCross : Around → (Pattern → Bool) → List Direction → Type 0
+AllCross around fits [] = Unit {0}
+AllCross around fits (d ∷ ds) = DirectionPasses around fits d × AllCross around fits ds
+
+cross_at : (around : Around) (fits : Pattern → Bool) (ds : List Direction) → AllCross around fits ds → (i : ℕ) (d : Direction) → slice_get ds i ≡ Some d
+    → DirectionPasses around fits d
+cross_at around fits [] h i d e = none e
+cross_at around fits (x ∷ ds) h zero d e = subst (DirectionPasses around fits) (some_same x d e) h.0
+cross_at around fits (x ∷ ds) h (suc i) d e = cross_at around fits ds h.1 i d e
+
+module _ (text : List Def) (cycle : List ℕ → Option ℕ) (known : DefinitionsKnown (tabled_of text) text (setting_in (tabled_of text) text))
+    (typed : RegistersTyped (tabled_of text) text) (clear : NothingFails text) (is_written : IsWritten text) (tuples : TuplesHaveParts text)
+    (fits : Pattern → Bool) (patterns : TextPatterns text fits) (around : Around)
+    (types : around.types ≡ (Insides.parts text cycle known typed).types)
+    (functions : around.functions ≡ (Insides.parts text cycle known typed).functions) where
+  abbrev setting : Setting
+  setting = setting_in (tabled_of text) text []
+
+  both_pass : (place : Place) (name : List ℕ) (cs : List MappingClause) (s : Signature)
+      → MappingKnown (tabled_of text).types (setting_in (tabled_of text) text []) name cs s → every (map crossing_limited cs) ≡ true
+      → both_faults (setting_in (tabled_of text) text []) (mapping_of name 0 s) cs ≡ []
+      → DirectionPasses around fits (forwards_core (setting_in (tabled_of text) text []) place (mapping_of name 0 s) cs)
+      × DirectionPasses around fits (backwards_core (setting_in (tabled_of text) text []) place (mapping_of name 0 s) cs)
+  both_pass place name cs s is q f =
+      let m : Mapping = mapping_of name 0 s in
+      let fit : Fits around [] fits (answering None setting) is.names =
+      body_fits text cycle known typed clear is_written tuples fits patterns around types functions [] None is.names is.known
+      (patterns.mappings is.names is.known) in
+      let g = both_empty (clauses_faults (forwards_clauses setting m cs)) (clauses_faults (backwards_clauses setting m cs)) f in
+      (
+        clauses_are text cycle known typed clear is_written tuples fits patterns around types functions []
+            (numbered (clauses_core place (forwards_clauses setting m cs)) 0).it
+            (ahead_clauses around [] fits setting is.names fit (patterns.sides is.names is.known) place m cs 0 q (crossed is.names cs is.named) g.0),
+        clauses_are text cycle known typed clear is_written tuples fits patterns around types functions []
+            (numbered (clauses_core place (backwards_clauses setting m cs)) (behind_forwards setting place m cs)).it
+            (back_clauses around [] fits setting is.names fit (patterns.sides is.names is.known) place m cs (behind_forwards setting place m cs) q
+            (crossed is.names cs is.named) g.1),
+      )
+
+  abbrev mapped : List Def → List ShapeError
+  mapped more = joined (map (mapping_faults (tabled_of text) setting) more)
+
+  abbrev directions_for : Def → List Direction
+  directions_for d = directions_of (tabled_of text) setting d
+
+  each_cross : (rest : List Def) → EachKnown (tabled_of text) text (setting_in (tabled_of text) text) rest → every (map definition_limited rest) ≡ true
+      → mapped rest ≡ [] → AllCross around fits (joined (map directions_for rest))
+  each_cross [] knows q f = tt
+  each_cross ((D.Mapping place name sides cs) ∷ rest) knows q f =
+      let d : Def = D.Mapping place name sides cs in
+      let s : Signature = knows.0.0 in
+      let k = and_parts (every (map crossing_limited cs)) (every (map definition_limited rest)) q in
+      let e = both_empty (mapping_faults (tabled_of text) setting d) (mapped rest) f in
+      let e2 = both_empty (sides_faults (within_variables (tabled_of text) []) sides)
+      (directions_faults setting name.text cs ((tabled_of text).signature name.text)) e.0 in
+      let pair = both_pass place name.text cs s knows.0.2 k.0 (subst (λ o. directions_faults setting name.text cs o ≡ []) knows.0.1 e2.1) in
+      subst (λ o. AllCross around fits (directions_if setting place name.text cs o ++ joined (map directions_for rest))) (sym knows.0.1)
+      (pair.0, (pair.1, each_cross rest knows.1 k.1 e.1))
+  each_cross (d ∷ rest) knows q f =
+      each_cross rest knows.1 (and_parts (definition_limited d) (every (map definition_limited rest)) q).1 f
+
+pub text_directions : DirectionsPass
+text_directions text end cycle accepted kept is_written small fits patterns around types functions i d there =
+    let clear : NothingFails text = nothing_fails text end accepted in
+    let tuples : TuplesHaveParts text = tuples_have_parts text is_written in
+    let known : DefinitionsKnown (tabled_of text) text (setting_in (tabled_of text) text) = definitions_known text clear is_written tuples kept in
+    let typed : RegistersTyped (tabled_of text) text = registers_typed text (types_known text clear.types) 0 text clear.bodies in
+    cross_at around fits (joined (map (directions_of (tabled_of text) (setting_in (tabled_of text) text [])) text))
+    (each_cross text cycle known typed clear is_written tuples fits patterns around types functions text known.1 small (unfailed text kept).mapped) i d there

@@ -1,0 +1,12 @@
+//! Laws of accepted texts: each function's contract is one, and it does nothing.
+ghost use Rattle.standing_texts.specs.Bodies.{DirectionsPass, FunctionsPass};
+
+/// Nodes of bodies and measures pass the tests of their kinds.
+pub fn functions_pass()
+    ensures { FunctionsPass }
+{}
+
+/// So do those of both directions of each mapping.
+pub fn directions_pass()
+    ensures { DirectionsPass }
+{}
