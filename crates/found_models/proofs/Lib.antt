@@ -11,3 +11,4 @@ pub mod Registers
 pub mod Mappings
 pub mod Payloads
 pub mod Models
+pub mod PatternNames

@@ -7,6 +7,6 @@ mod type_laws;
 mod variable_laws;
 
 pub use constraint_laws::constraints_are_own;
-pub use model_laws::models_of_texts_stand;
+pub use model_laws::{models_of_texts_stand, patterns_of_texts_meant};
 pub use type_laws::{mappings_are_closed, registers_are_closed, tables_are_narrow};
 pub use variable_laws::variables_have_places;

@@ -59,7 +59,7 @@ payload_counts t (T.Tuple (a ∷ b ∷ ts)) is several =
     ap (λ form. is_size many (size_of form)) is ∙ ap (λ n. nat_eq n many) (sym (mapped_count shape (a ∷ b ∷ ts))) ∙ itself many
 payload_counts t form is several = refl
 
-constructor_there : (types : Types) (f : Candidate) (u k : ℕ) → IsConstructor types f u k → constructor_stands types u k (length f.params) ≡ true
+pub constructor_there : (types : Types) (f : Candidate) (u k : ℕ) → IsConstructor types f u k → constructor_stands types u k (length f.params) ≡ true
 constructor_there types f u k made =
     ap (union_stands (length f.params)) made.there
     ∙ ap (λ ss. payload_stands (length ss) made.typ) made.params

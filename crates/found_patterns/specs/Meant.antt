@@ -1,17 +1,20 @@
 -- What the names in a pattern mean, as the test of patterns wants it: members that their enums have, constructors over as many parts as they take, and
--- widths that are numbers over the own variables of what is around.
-use Rattle.std.specs.Prelude.{◌≡◌, ℕ, nat_lt, Bool, true, ◌&&◌, List, [], ◌∷◌, length, Some}
+-- widths that are numbers over the own variables of what is around; and patterns whose widths are in normal form.
+use Rattle.std.specs.Prelude.{◌≡◌, ℕ, nat_lt, Bool, true, ◌&&◌, List, [], ◌∷◌, length, map, Option, Some, None}
 use Rattle.sail_base.specs.declared.kind.Kind.TheVariants as Sort
-use Rattle.sail_syntax.specs.declared.patterns.Pat.{Pat}
-use Rattle.sail_syntax.specs.declared.patterns.Pat.TheFolds.{fold-Pat}
-use Rattle.sail_syntax.specs.declared.patterns.Pat.TheOpen as P
-use Rattle.sail_syntax.specs.declared.patterns.Pat.TheOpen.{Joined-F, Pat-F}
 use Rattle.sail_syntax.specs.declared.types.TyExp.{TyExp}
 use Rattle.sail_types.specs.Named.{members}
+use Rattle.sail_types.specs.Sums.{read}
 use Rattle.sail_types.specs.declared.numbers.Index.{Index}
 use Rattle.sail_types.specs.declared.numbers.Num.{Num}
 use Rattle.sail_types.specs.declared.table.Types.{Types}
 use Rattle.sail_types.specs.declared.types.Typ.{Typ}
+use Rattle.sail_core.specs.declared.patterns.Arm.{Arm}
+use Rattle.sail_core.specs.declared.patterns.Arm.TheVariants as A
+use Rattle.sail_core.specs.declared.patterns.Form.{Form}
+use Rattle.sail_core.specs.declared.patterns.Form.TheVariants as F
+use Rattle.sail_core.specs.declared.patterns.Head.TheVariants as H
+use Rattle.sail_core.specs.declared.patterns.Pattern.{Pattern, fold-Pattern}
 use Rattle.sail_core.specs.declared.tree.Callee.TheVariants as C
 use Rattle.sail_names.specs.Known as Tables
 use Rattle.sail_names.specs.Known.{is_construction}
@@ -19,10 +22,10 @@ use Rattle.sail_names.specs.Patterns.{type_failures}
 use Rattle.shape_rules.specs.declared.callees.Candidate.{Candidate}
 use Rattle.shape_rules.specs.declared.callees.Doing.TheVariants as D
 use Rattle.shape_rules.specs.declared.callees.Meant.TheVariants as M
-use Rattle.shape_rules.specs.Patterns.{Widths, construct_width, literal_width, width_of}
+use Rattle.shape_rules.specs.Patterns.{Widths, construct_width, width_of}
 use Rattle.shape_rules.specs.Scopes.{Setting}
 use Rattle.shape_rules.specs.Written.{typ_in}
-use Rattle.pattern_laws.specs.Standing.{constructor_stands, each_stands, width_stands, widths_stand}
+use Rattle.pattern_laws.specs.Standing.{constructor_stands, each_stands, is_number, number_owns}
 
 -- members and constructors, where a pattern can name them
 pub record NamesStand (types : Types) (setting : Setting) (names : Tables.Setting) : Type 0 where
@@ -34,28 +37,28 @@ module _ (numbers : List Index) where
   -- widths of what a mapping or a direction matches, and of types that are written
   pub record WidthsOwn (setting : Setting) (names : Tables.Setting) : Type 0 where
     pub heads : (name : List ℕ) (n : Num) → is_construction names name ≡ true → construct_width setting (setting.value name) ≡ Some n
-        → width_stands numbers n ≡ true
+        → number_owns numbers n ≡ true
     pub typs : (typ : TyExp) (t : Typ) (n : Num) → type_failures Sort.Type typ names ≡ [] → typ_in setting.within typ ≡ Some t → width_of t ≡ Some n
-        → width_stands numbers n ≡ true
+        → number_owns numbers n ≡ true
 
   -- of bare names, where they are known
   abbrev pub WidthsStand : Widths → Type 0
-  WidthsStand widths = (name : List ℕ) (n : Num) → widths name ≡ Some n → width_stands numbers n ≡ true
+  WidthsStand widths = (name : List ℕ) (n : Num) → widths name ≡ Some n → number_owns numbers n ≡ true
 
-  -- ---- bits that are written have as many as a number can tell
+  -- ---- widths of the parts of `@` that stay the numbers that they are where variables stand for themselves: they are in normal form
 
-  abbrev pub literals_form : Pat-F Bool Bool → Bool
-  literals_form (P.Constant place literal) = widths_stand numbers (literal_width literal ∷ [])
-  literals_form (P.Construct name bs) = each_stands bs
-  literals_form (P.Group place brackets bs) = each_stands bs
-  literals_form (P.Concat place a b bs) = (a && b) && each_stands bs
-  literals_form (P.Cons place a b) = a && b
-  literals_form (P.As place b name) = b
-  literals_form (P.Typed place b typ) = b
-  literals_form form = true
+  abbrev pub each_reads : List (Option Num) → Bool
+  each_reads [] = true
+  each_reads (Some t ∷ ws) = is_number t (read numbers t) && each_reads ws
+  each_reads (None ∷ ws) = each_reads ws
 
-  abbrev pub literals_joined : Joined-F Bool Bool → Bool
-  literals_joined j = j.part
+  abbrev pub form_reads : Form → List Bool → Bool
+  form_reads (F.Opens (H.Cut ws)) bs = each_reads ws && each_stands bs
+  form_reads form bs = each_stands bs
 
-  abbrev pub literals_stand : Pat → Bool
-  literals_stand = fold-Pat Bool Bool literals_form literals_joined
+  abbrev pub pattern_reads : Pattern → Bool
+  pattern_reads = fold-Pattern Bool (λ p. form_reads p.form p.parts)
+
+  abbrev pub arm_reads : Arm → Bool
+  arm_reads (A.Nested ps) = each_stands (map pattern_reads ps)
+  arm_reads (A.Flat count steps) = true
