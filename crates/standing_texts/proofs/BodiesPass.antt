@@ -248,13 +248,15 @@ module _ (text : List Def) (cycle : List ℕ → Option ℕ) (known : Definition
     def_passes : (at : ℕ) (d : Def) → body_failures text (known_in text) (types_of text) at d ≡ [] → IsSigned text d → definition_limited d ≡ true
         → called_faults tabled within d ≡ [] → AllPass around fits (functions_of tabled text within cycle d)
     def_passes at (D.Function place extent name cs) u sig q f =
-        subst (λ o. AllPass around fits (functions_if tabled text within place name.text cs o (cycle name.text))) (sym sig.1)
-        ((
-          body_passes name.text sig.0 sig.1 at place cs q u (subst (λ o. function_faults within o cs ≡ []) sig.1 f),
-          λ y e.
-              measured name.text sig.0 sig.1 (measure_of name.text text) refl
-              (numbered (clauses_core place (signed_clauses (within sig.0.variables) sig.0 cs)) 0).next y e,
-        ), tt)
+        subst (λ o. AllPass around fits (functions_if tabled text within place name.text cs o (cycle name.text))) (sym sig.1) (
+          (
+            body_passes name.text sig.0 sig.1 at place cs q u (subst (λ o. function_faults within o cs ≡ []) sig.1 f),
+            λ y e.
+                measured name.text sig.0 sig.1 (measure_of name.text text) refl
+                (numbered (clauses_core place (signed_clauses (within sig.0.variables) sig.0 cs)) 0).next y e,
+          ),
+          tt,
+        )
     def_passes at d u sig q f = tt
 
     each_passes : (at : ℕ) (rest : List Def) → body_failures_from text (known_in text) (types_of text) at rest ≡ [] → EachSigned text rest

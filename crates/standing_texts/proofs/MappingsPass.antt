@@ -78,8 +78,7 @@ module _ (text : List Def) (cycle : List ℕ → Option ℕ) (known : Definition
       let fit : Fits around [] fits (answering None setting) is.names =
       body_fits text cycle known typed clear is_written tuples fits patterns around types functions [] None is.names is.known
       (patterns.mappings is.names is.known) in
-      let g = both_empty (clauses_faults (forwards_clauses setting m cs)) (clauses_faults (backwards_clauses setting m cs)) f in
-      (
+      let g = both_empty (clauses_faults (forwards_clauses setting m cs)) (clauses_faults (backwards_clauses setting m cs)) f in (
         clauses_are text cycle known typed clear is_written tuples fits patterns around types functions []
             (numbered (clauses_core place (forwards_clauses setting m cs)) 0).it
             (ahead_clauses around [] fits setting is.names fit (patterns.sides is.names is.known) place m cs 0 q (crossed is.names cs is.named) g.0),
