@@ -82,16 +82,17 @@ each_named names (c ∷ cs) u = let h = apart (function_clause_failures names c)
 
 -- ---- functions in a list
 
-abbrev AllPass : Around → (Pattern → Bool) → List Function → Type 0
+abbrev AllPass : Around → (List Index → Pattern → Bool) → List Function → Type 0
 AllPass around fits [] = Unit {0}
 AllPass around fits (f ∷ fs) = FunctionPasses around fits f × AllPass around fits fs
 
-all_join : (around : Around) (fits : Pattern → Bool) (fs gs : List Function) → AllPass around fits fs → AllPass around fits gs
+all_join : (around : Around) (fits : List Index → Pattern → Bool) (fs gs : List Function) → AllPass around fits fs → AllPass around fits gs
     → AllPass around fits (fs ++ gs)
 all_join around fits [] gs h k = k
 all_join around fits (f ∷ fs) gs h k = (h.0, all_join around fits fs gs h.1 k)
 
-pass_at : (around : Around) (fits : Pattern → Bool) (fs : List Function) → AllPass around fits fs → (i : ℕ) (f : Function) → slice_get fs i ≡ Some f
+pass_at : (around : Around) (fits : List Index → Pattern → Bool) (fs : List Function) → AllPass around fits fs → (i : ℕ) (f : Function)
+    → slice_get fs i ≡ Some f
     → FunctionPasses around fits f
 pass_at around fits [] h i f e = none e
 pass_at around fits (x ∷ fs) h zero f e = subst (FunctionPasses around fits) (some_same x f e) h.0
@@ -99,7 +100,7 @@ pass_at around fits (x ∷ fs) h (suc i) f e = pass_at around fits fs h.1 i f e
 
 module _ (text : List Def) (cycle : List ℕ → Option ℕ) (known : DefinitionsKnown (tabled_of text) text (setting_in (tabled_of text) text))
     (typed : RegistersTyped (tabled_of text) text) (clear : NothingFails text) (is_written : IsWritten text) (tuples : TuplesHaveParts text)
-    (fits : Pattern → Bool) (patterns : TextPatterns text fits) (around : Around)
+    (fits : List Index → Pattern → Bool) (patterns : TextPatterns text fits) (around : Around)
     (types : around.types ≡ (Insides.parts text cycle known typed).types)
     (functions : around.functions ≡ (Insides.parts text cycle known typed).functions) where
   abbrev tabled : Tabled
@@ -126,7 +127,8 @@ module _ (text : List Def) (cycle : List ℕ → Option ℕ) (known : Definition
   -- ---- what is around a body or a measure
 
   pub body_fits : (variables : List Variable) (answer : Option Shape) (names : Tables.Setting) → AreKnown (answering answer (within variables)) names
-      → PatternsPass fits (answering answer (within variables)) names → Fits around (own variables) fits (answering answer (within variables)) names
+      → PatternsPass (fits (own variables)) (answering answer (within variables)) names
+      → Fits around (own variables) (fits (own variables)) (answering answer (within variables)) names
   body_fits variables answer names are pass = record {
     types = sym types;
     known = are;
@@ -139,11 +141,12 @@ module _ (text : List Def) (cycle : List ℕ → Option ℕ) (known : Definition
     truths = λ typ c u e. truths_own variables (within_variables tabled variables) refl typ c e;
     patterns = pass.0;
     measures = pass.1;
-    unit = patterns.unit;
+    unit = λ place. patterns.unit (own variables) place;
   }
 
   plain_fits : (variables : List Variable) (names : Tables.Setting) → AreKnown (plainly (within variables)) names
-      → PatternsPass fits (plainly (within variables)) names → Fits around (own variables) fits (plainly (within variables)) names
+      → PatternsPass (fits (own variables)) (plainly (within variables)) names
+      → Fits around (own variables) (fits (own variables)) (plainly (within variables)) names
   plain_fits variables names are pass = record {
     types = sym types;
     known = are;
@@ -155,18 +158,20 @@ module _ (text : List Def) (cycle : List ℕ → Option ℕ) (known : Definition
     truths = λ typ c u e. truths_own variables (within_variables tabled variables) refl typ c e;
     patterns = pass.0;
     measures = pass.1;
-    unit = patterns.unit;
+    unit = λ place. patterns.unit (own variables) place;
   }
 
   -- ---- one function
 
-  each_passes_it : (variables : List Variable) (cs : List Core) → EachPasses around (own variables) fits cs
-      → list_all (λ b. b) (map (passes around (own variables) fits) cs) ≡ true
+  each_passes_it : (variables : List Variable) (cs : List Core) → EachPasses around (own variables) (fits (own variables)) cs
+      → list_all (λ b. b) (map (passes around (own variables) (fits (own variables))) cs) ≡ true
   each_passes_it variables [] h = refl
   each_passes_it variables (c ∷ cs) h =
-      two (passes around (own variables) fits c) (list_all (λ b. b) (map (passes around (own variables) fits) cs)) h.0 (each_passes_it variables cs h.1)
+      two (passes around (own variables) (fits (own variables)) c) (list_all (λ b. b) (map (passes around (own variables) (fits (own variables))) cs)) h.0
+      (each_passes_it variables cs h.1)
 
-  pub clauses_are : (variables : List Variable) (body : Core) → ClausesPass around (own variables) fits body → BodyPasses around (own variables) fits body
+  pub clauses_are : (variables : List Variable) (body : Core) → ClausesPass around (own variables) (fits (own variables)) body
+      → BodyPasses around (own variables) (fits (own variables)) body
   clauses_are variables body h = record {
     arms = h.arms;
     kind = h.kind;
@@ -176,7 +181,7 @@ module _ (text : List Def) (cycle : List ℕ → Option ℕ) (known : Definition
 
   body_passes : (name : List ℕ) (s : Signature) → signature_in text name ≡ Some s → (at : ℕ) (place : Place) (cs : List FunctionClause)
       → every (map clause_limited cs) ≡ true → clauses_failures (names_at at name) cs ≡ [] → function_faults within (Some s) cs ≡ []
-      → BodyPasses around (own s.variables) fits (numbered (clauses_core place (signed_clauses (within s.variables) s cs)) 0).it
+      → BodyPasses around (own s.variables) (fits (own s.variables)) (numbered (clauses_core place (signed_clauses (within s.variables) s cs)) 0).it
   body_passes name s signed at place cs q u f =
       let are : AreKnown (answering (Some (shape s.to)) (within s.variables)) (names_at at name) =
       known_here text clear is_written tuples s.variables (Some (shape s.to)) (names_at at name) refl (under_signature name s signed)
@@ -185,20 +190,20 @@ module _ (text : List Def) (cycle : List ℕ → Option ℕ) (known : Definition
         subst (λ x. below (type_variables s.variables) x ≡ true) (some_same (shape s.to) a h) (signature_whole text name s signed).gives,
       )) in
       clauses_are s.variables (numbered (clauses_core place (signed_clauses (within s.variables) s cs)) 0).it
-      (body_clauses around (own s.variables) fits (within s.variables) (param_shapes s.from) (shape s.to) (names_at at name)
+      (body_clauses around (own s.variables) (fits (own s.variables)) (within s.variables) (param_shapes s.from) (shape s.to) (names_at at name)
       (body_fits s.variables (Some (shape s.to)) (names_at at name) are (patterns.bodies name s signed at)) place cs 0 q
       (each_named (names_at at name) cs u) f)
 
   measure_passes : (name : List ℕ) (s : Signature) → signature_in text name ≡ Some s → (x : Measure) (at n : ℕ)
       → MeasureNamed (plain_at text at name) x → (every (map pattern_limited x.parameters) && limited x.value) ≡ true
       → measure_faults within (Some s) x.place x.parameters x.value ≡ []
-      → BodyPasses around (own s.variables) fits (numbered (measure_tree (within s.variables) (param_shapes s.from) x) n).it
+      → BodyPasses around (own s.variables) (fits (own s.variables)) (numbered (measure_tree (within s.variables) (param_shapes s.from) x) n).it
   measure_passes name s signed x at n it q f =
       let k = and_parts (every (map pattern_limited x.parameters)) (limited x.value) q in
       let are : AreKnown (plainly (within s.variables)) (plain_at text at name) =
       known_plainly text clear is_written tuples s.variables (plain_at text at name) refl (under_signature name s signed) in
       clauses_are s.variables (numbered (measure_tree (within s.variables) (param_shapes s.from) x) n).it
-      (measure_clauses around (own s.variables) fits (within s.variables) (param_shapes s.from) (plain_at text at name)
+      (measure_clauses around (own s.variables) (fits (own s.variables)) (within s.variables) (param_shapes s.from) (plain_at text at name)
       (plain_fits s.variables (plain_at text at name) are (patterns.measures name s signed at)) x n k.0 k.1 it.parameters it.value f)
 
   -- ---- what the text says of its measure
@@ -235,14 +240,15 @@ module _ (text : List Def) (cycle : List ℕ → Option ℕ) (known : Definition
 
   module _ (fine : faults text ≡ []) (small : text_limited text ≡ true) where
     measured : (name : List ℕ) (s : Signature) → signature_in text name ≡ Some s → (o : Option Measure) → measure_of name text ≡ o → (n : ℕ) (y : Core)
-        → (measure_core (within s.variables) (param_shapes s.from) o n).it ≡ Some y → BodyPasses around (own s.variables) fits y
+        → (measure_core (within s.variables) (param_shapes s.from) o n).it ≡ Some y → BodyPasses around (own s.variables) (fits (own s.variables)) y
     measured name s signed None is n y e = none e
     measured name s signed (Some x) is n y e =
         let found = measure_found text clear.bodies is_written name x is in
         let k = measures_fine name text x fine small is in
         let faultless : measure_faults within (Some s) x.place x.parameters x.value ≡ [] =
         subst (λ t. measure_faults within t x.place x.parameters x.value ≡ []) signed k.0 in
-        subst (BodyPasses around (own s.variables) fits) (some_same (numbered (measure_tree (within s.variables) (param_shapes s.from) x) n).it y e)
+        subst (BodyPasses around (own s.variables) (fits (own s.variables)))
+        (some_same (numbered (measure_tree (within s.variables) (param_shapes s.from) x) n).it y e)
         (measure_passes name s signed x found.0 n found.1 k.1 faultless)
 
     def_passes : (at : ℕ) (d : Def) → body_failures text (known_in text) (types_of text) at d ≡ [] → IsSigned text d → definition_limited d ≡ true

@@ -2,3 +2,5 @@ pub mod OwnSizes
 pub mod NamesFit
 pub mod BodiesPass
 pub mod MappingsPass
+pub mod SidesRead
+pub mod TextsRead

@@ -6,6 +6,7 @@ use Rattle.sail_base.specs.declared.place.Place.{Place}
 use Rattle.sail_syntax.specs.declared.definitions.Def.{Def}
 use Rattle.sail_syntax.specs.declared.definitions.Def.TheVariants as D
 use Rattle.sail_syntax.specs.declared.definitions.MappingClause.{MappingClause}
+use Rattle.sail_types.specs.declared.numbers.Index.{Index}
 use Rattle.sail_core.specs.declared.model.Direction.{Direction}
 use Rattle.sail_core.specs.declared.patterns.Pattern.{Pattern}
 use Rattle.core_numbers.specs.Numbers.{numbered}
@@ -50,11 +51,12 @@ crossed names (c ∷ cs) h = (h.1, crossed names cs h.2)
 
 -- ---- directions in a list
 
-abbrev AllCross : Around → (Pattern → Bool) → List Direction → Type 0
+abbrev AllCross : Around → (List Index → Pattern → Bool) → List Direction → Type 0
 AllCross around fits [] = Unit {0}
 AllCross around fits (d ∷ ds) = DirectionPasses around fits d × AllCross around fits ds
 
-cross_at : (around : Around) (fits : Pattern → Bool) (ds : List Direction) → AllCross around fits ds → (i : ℕ) (d : Direction) → slice_get ds i ≡ Some d
+cross_at : (around : Around) (fits : List Index → Pattern → Bool) (ds : List Direction) → AllCross around fits ds → (i : ℕ) (d : Direction)
+    → slice_get ds i ≡ Some d
     → DirectionPasses around fits d
 cross_at around fits [] h i d e = none e
 cross_at around fits (x ∷ ds) h zero d e = subst (DirectionPasses around fits) (some_same x d e) h.0
@@ -62,7 +64,7 @@ cross_at around fits (x ∷ ds) h (suc i) d e = cross_at around fits ds h.1 i d 
 
 module _ (text : List Def) (cycle : List ℕ → Option ℕ) (known : DefinitionsKnown (tabled_of text) text (setting_in (tabled_of text) text))
     (typed : RegistersTyped (tabled_of text) text) (clear : NothingFails text) (is_written : IsWritten text) (tuples : TuplesHaveParts text)
-    (fits : Pattern → Bool) (patterns : TextPatterns text fits) (around : Around)
+    (fits : List Index → Pattern → Bool) (patterns : TextPatterns text fits) (around : Around)
     (types : around.types ≡ (Insides.parts text cycle known typed).types)
     (functions : around.functions ≡ (Insides.parts text cycle known typed).functions) where
   abbrev setting : Setting
@@ -75,16 +77,16 @@ module _ (text : List Def) (cycle : List ℕ → Option ℕ) (known : Definition
       × DirectionPasses around fits (backwards_core (setting_in (tabled_of text) text []) place (mapping_of name 0 s) cs)
   both_pass place name cs s is q f =
       let m : Mapping = mapping_of name 0 s in
-      let fit : Fits around [] fits (answering None setting) is.names =
+      let fit : Fits around [] (fits []) (answering None setting) is.names =
       body_fits text cycle known typed clear is_written tuples fits patterns around types functions [] None is.names is.known
       (patterns.mappings is.names is.known) in
       let g = both_empty (clauses_faults (forwards_clauses setting m cs)) (clauses_faults (backwards_clauses setting m cs)) f in (
         clauses_are text cycle known typed clear is_written tuples fits patterns around types functions []
             (numbered (clauses_core place (forwards_clauses setting m cs)) 0).it
-            (ahead_clauses around [] fits setting is.names fit (patterns.sides is.names is.known) place m cs 0 q (crossed is.names cs is.named) g.0),
+            (ahead_clauses around [] (fits []) setting is.names fit (patterns.sides is.names is.known) place m cs 0 q (crossed is.names cs is.named) g.0),
         clauses_are text cycle known typed clear is_written tuples fits patterns around types functions []
             (numbered (clauses_core place (backwards_clauses setting m cs)) (behind_forwards setting place m cs)).it
-            (back_clauses around [] fits setting is.names fit (patterns.sides is.names is.known) place m cs (behind_forwards setting place m cs) q
+            (back_clauses around [] (fits []) setting is.names fit (patterns.sides is.names is.known) place m cs (behind_forwards setting place m cs) q
             (crossed is.names cs is.named) g.1),
       )
 

@@ -1,5 +1,5 @@
 //! Laws of accepted texts: each function's contract is one, and it does nothing.
-ghost use Rattle.standing_texts.specs.Bodies.{DirectionsPass, FunctionsPass};
+ghost use Rattle.standing_texts.specs.Bodies.{DirectionsPass, FunctionsPass, TextsRead};
 
 /// Nodes of bodies and measures pass the tests of their kinds.
 pub fn functions_pass()
@@ -9,4 +9,9 @@ pub fn functions_pass()
 /// So do those of both directions of each mapping.
 pub fn directions_pass()
     ensures { DirectionsPass }
+{}
+
+/// The types that are written in an accepted text read.
+pub fn texts_read()
+    ensures { TextsRead }
 {}

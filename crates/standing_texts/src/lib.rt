@@ -3,4 +3,4 @@
 
 mod laws;
 
-pub use laws::{directions_pass, functions_pass};
+pub use laws::{directions_pass, functions_pass, texts_read};
