@@ -1,11 +1,10 @@
 -- Directions of mappings of a model that is tested are read, and take what belongs to their parameters; so are its openings.
-use Rattle.std.proofs.Common.{◌≡◌, ◌∙◌, ap, sym, refl, subst, ℕ, zero, suc, pos, ◌/◌, ◌*◌, ◌+◌, Bool, true, false, ◌&&◌, ◌⊎◌, inl, inr, List, [], ◌∷◌}
+use Rattle.std.proofs.Common.{◌≡◌, ◌∙◌, ap, sym, refl, subst, ℕ, zero, suc, ◌/◌, ◌*◌, ◌+◌, Bool, true, ◌&&◌, ◌⊎◌, inl, inr, List, [], ◌∷◌}
 use Rattle.std.proofs.Common.{map, slice_get, arith}
-use Rattle.std.specs.Prelude.{Some, option_map}
+use Rattle.std.specs.Prelude.{Option, Some, option_map}
 use Rattle.std.specs.List.{list_all}
 use Rattle.std.proofs.lemmas.Bool.{and_parts}
 use Rattle.std.proofs.lemmas.Option.{slice_get-map}
-use Rattle.sail_types.specs.Belongs.{assigned, belongs, no_readings, reading}
 use Rattle.sail_types.specs.Numbers.{Positive}
 use Rattle.sail_types.specs.Sums.{read}
 use Rattle.sail_types.specs.declared.table.Types.{Types}
@@ -14,14 +13,11 @@ use Rattle.sail_types.specs.declared.values.Value.{Value}
 use Rattle.sail_core.specs.declared.model.CoreModel.{CoreModel}
 use Rattle.sail_core.specs.declared.model.Direction.{Direction}
 use Rattle.sail_core.specs.declared.model.Opening.{Opening}
-use Rattle.sail_types.proofs.Substituted.{number_constant}
 use Rattle.value_indices.specs.declared.indices.Indices.TheOpen as W
 use Rattle.value_indices.specs.declared.indices.Reading.TheVariants as R
 use Rattle.pattern_leaves.specs.Settings.{Around}
 use Rattle.constraint_gen.specs.Models.{around_of}
-use Rattle.value_laws.specs.Belonging.{Integers, standing}
-use Rattle.value_laws.proofs.Numbers.{beyond_past, truth_is}
-use Rattle.value_laws.proofs.Values.{closed_is}
+use Rattle.value_laws.specs.Belonging.{Integers}
 use Rattle.size_values.specs.Numbers.{known_at, nothing_known}
 use Rattle.size_values.specs.Sized.{reading_sized}
 use Rattle.size_laws.proofs.Forms.{of_is}
@@ -32,40 +28,29 @@ use Rattle.monomorph.specs.declared.found.Instance.{Instance}
 use Rattle.monomorph.specs.Instances.{model_of}
 use Rattle.monomorph.specs.Lasts.{Model}
 use Rattle.checked_meaning.specs.Items.{fixed_typ}
-use Rattle.sized_trees.specs.declared.trees.NodeSizes.{NodeSizes}
 use Rattle.sized_trees.specs.declared.trees.SizedCore.{SizedCore}
-use Rattle.sized_trees.specs.Bodies.{sized_body}
 use Rattle.sized_trees.specs.Trees.{sized_list}
-use Rattle.checked_meaning.specs.Fits.{has_sizes}
-use Rattle.sized_meanings.specs.Sized.{cases_of, checks_of, or_none, taken}
+use Rattle.checked_meaning.specs.Checked.{Cases, Checks}
 use Rattle.met_notes.specs.Met.{pairs}
 use Rattle.soundness_steps.specs.Works.{Setting, nobody}
 use Rattle.soundness_steps.specs.Noted.{OpensAs, known}
-use Rattle.soundness_steps.specs.States.{nothing_stands}
 use Rattle.soundness_calls.specs.Events.{entered_by}
 use Rattle.soundness_calls.specs.Directions.{Side, bare_type, is_ahead, is_back}
 use Rattle.exact_sizes.specs.Exact.{reading_passes, reading_settles}
 use Rattle.exact_sizes.specs.Laws.{Stands}
-use Rattle.exact_sizes.proofs.Had.{values_fit}
 use Rattle.exact_sizes.proofs.Known.{none}
 use Rattle.exact_sizes.proofs.Settling.{types_settle}
-use Rattle.covering_laws.specs.Covered.{AreRead, DirectionIsRead, ModelIsRead, ModelsAreRead, bare_tested, body_tested, covered_by, direction_tested}
+use Rattle.covering_laws.specs.Covered.{AreRead, DirectionIsRead, ModelIsRead, ModelsAreRead, bare_tested, body_cases, body_tested, checks_given}
+use Rattle.covering_laws.specs.Covered.{covered_by, direction_tested, model_checks, taken_sized}
 use Rattle.covering_laws.specs.Covered.{instance_tested, mappings_tested, model_tested, none_reached, pair_of, reached_from}
 use Rattle.covering_laws.specs.Covered.{setting_of, side_at}
 use Rattle.covering_laws.proofs.Grown.{first_covered, list_starts, second_covered}
-use Rattle.covering_laws.proofs.Joined.{accepted}
+use Rattle.covering_laws.proofs.Joined.{accepted, same_instances}
 use Rattle.covering_laws.proofs.Places.{all_in}
-use Rattle.covering_laws.proofs.Read.{alone_read, function_is_read, only_so, same_types}
+use Rattle.covering_laws.proofs.Read.{alone_read, function_is_read, same_types}
 use Rattle.covering_laws.proofs.Working.{there}
 
 -- ---- a type that names no variable
-
-nothing_assigned : (past : Positive) (g : Integers) → assigned (standing past g) [] ≡ nothing_stands past
-nothing_assigned past g = λ j. record {
-  int = λ i. number_constant (standing past g) (pos 0) j;
-  bool = λ i. truth_is (standing past g) false j;
-  beyond = λ t. beyond_past past g (read [] t) j;
-}
 
 module _ (types : Types) (past : Positive) (t : Typ) (tested : bare_tested types t ≡ true) where
   abbrev sizes : (reading_passes types 0 (known_at nothing_known) (bare_type t) ≡ true)
@@ -77,14 +62,6 @@ module _ (types : Types) (past : Positive) (t : Typ) (tested : bare_tested types
 
   bare_is : (g : Integers) → fixed_typ types t ≡ reading_sized types [] (known g) (bare_type t)
   bare_is g = sym (of_is types [] (known g) t [] [])
-
-  pub bare_fits : (v : Value) → belongs types v (reading t (nothing_stands past) no_readings) ≡ true → has_sizes types v (fixed_typ types t) ≡ true
-  bare_fits v b =
-      let g : Integers = λ i. pos 0 in
-      ap (has_sizes types v) (bare_is g)
-      ∙ (values_fit types past g [] [] tt (known_at nothing_known) (nothing_stands_for g)).1 (bare_type t) v sizes.0
-      (ap (belongs types v) (closed_is types (standing past g) [] (bare_type t) (W.Of t [] []) (R.rolls-Of t [] [])
-      ∙ ap (λ nu. reading t nu no_readings) (nothing_assigned past g)) ∙ b)
 
   pub bare_opens : (g : Integers) (v : Value) → OpensAs types past nobody g (bare_type t) v (fixed_typ types t)
   bare_opens g v = record {
@@ -152,7 +129,8 @@ module _ (around : Around) where
       }
 
 mapping_tested : (m : Model) (list : List Instance) (rank : ℕ → ℕ) (i : ℕ) (bs : List Body) → mappings_tested m list rank i bs ≡ true → (k : ℕ) (b : Body)
-    → slice_get bs k ≡ Some b → (body_tested m list (reached_from rank (2 * (i + k))) b ≡ true) × (body_tested m list (reached_from rank (suc (2 * (i + k)))) b ≡ true)
+    → slice_get bs k ≡ Some b → (body_tested m list (reached_from rank (2 * (i + k))) b ≡ true)
+    × (body_tested m list (reached_from rank (suc (2 * (i + k)))) b ≡ true)
 mapping_tested m list rank i [] h k b e = none e
 mapping_tested m list rank i (c ∷ bs) h zero b e =
     let p = and_parts (body_tested m list (reached_from rank (2 * i)) c && body_tested m list (reached_from rank (suc (2 * i))) c)
@@ -189,6 +167,9 @@ module _ (core : CoreModel) (past : Positive) (hart : ℕ) (rank : ℕ → ℕ) 
   abbrev set : Setting
   set = setting_of core past hart c
 
+  abbrev k : Checks
+  k = model_checks model list c.instances
+
   abbrev instances_pass : Bool
   instances_pass = list_all (instance_tested model list) list
 
@@ -204,7 +185,8 @@ module _ (core : CoreModel) (past : Positive) (hart : ℕ) (rank : ℕ → ℕ) 
   quarters : (takes_pass ≡ true) × (others_pass ≡ true)
   quarters = and_parts takes_pass others_pass halves.1
 
-  bodies_parts : (mappings_tested model list rank 0 model.bodies.mappings ≡ true) × (list_all (body_tested model list none_reached) model.bodies.openings ≡ true)
+  bodies_parts : (mappings_tested model list rank 0 model.bodies.mappings ≡ true)
+      × (list_all (body_tested model list none_reached) model.bodies.openings ≡ true)
   bodies_parts =
       and_parts (mappings_tested model list rank 0 model.bodies.mappings) (list_all (body_tested model list none_reached) model.bodies.openings) quarters.1
 
@@ -222,44 +204,38 @@ module _ (core : CoreModel) (past : Positive) (hart : ℕ) (rank : ℕ → ℕ) 
       (mapping_tested model list rank 0 model.bodies.mappings bodies_parts.0 k b e).1)
 
   direction_read : (d : ℕ) (n : Direction) (side : Side) → slice_get core.directions d ≡ Some n → side_at core.directions d ≡ Some side
-      → DirectionIsRead set core rank (checks_of core c) d n side
+      → DirectionIsRead set core rank k d n side
   direction_read d n side e is_its =
       let at = direction_placed around core.directions d n side e is_its in
       let b : Body = body_of (mapping_read around (pair_of side n).forwards (pair_of side n).backwards) in
-      let nodes : or_none (slice_get c.mappings (d / 2)) ≡ sized_body model list [] [] b =
-      ap (λ (i : ℕ). or_none (slice_get c.mappings i)) at.half
-      ∙ ap or_none (slice_get-map (sized_body model list [] []) model.bodies.mappings at.mapping ∙ ap (option_map (sized_body model list [] [])) at.body_there) in
+      let cases : body_cases model list (slice_get model.bodies.mappings (d / 2)) ≡ body_cases model list (Some b) =
+      ap (λ (i : ℕ). body_cases model list (slice_get model.bodies.mappings i)) at.half ∙ ap (body_cases model list) at.body_there in
       let bare = all_in (direction_tested core.types) core.directions n quarters.0 (there core.directions d n e) in
       let s = fixed_typ core.types n.parameter in
       record {
         mapping = at.mapping;
         is_there = at.is_there;
-        read = subst (λ (l : List NodeSizes). AreRead set nobody (reached_from rank d) (cases_of core.types c.instances l) b.notes) (sym nodes)
+        read = subst (λ (l : Cases). AreRead set nobody (reached_from rank d) l b.notes) (sym cases)
             (alone_read core past hart list (reached_from rank d) b (mapping_passes d at.mapping b at.body_there at.double));
         takes = λ v is. (
           s,
-          ap (taken core.types v) e
-              ∙ only_so (has_sizes core.types v s) s
-              (bare_fits core.types past n.parameter bare v
-              (subst (λ (ty : Types). belongs ty v (reading n.parameter (nothing_stands past) no_readings) ≡ true) (same_types core past hart list) is)),
+          ap (option_map (taken_sized core.types)) e,
           λ g. subst (λ (ty : Types). OpensAs ty past nobody g (bare_type n.parameter) v s) (sym (same_types core past hart list))
               (bare_opens core.types past n.parameter bare g v),
         );
       }
 
   opening_is_read : (i : ℕ) (o : Opening) → slice_get core.openings i ≡ Some o
-      → AreRead set nobody none_reached ((checks_of core c).opening i) (opening_read around o [] 0).notes
+      → AreRead set nobody none_reached (k.opening i) (opening_read around o [] 0).notes
   opening_is_read i o e =
       let b : Body = opening_body around o in
       let body_there : slice_get model.bodies.openings i ≡ Some b =
       slice_get-map (opening_body around) core.openings i ∙ ap (option_map (opening_body around)) e in
-      let nodes : or_none (slice_get c.openings i) ≡ sized_body model list [] [] b =
-      ap or_none (slice_get-map (sized_body model list [] []) model.bodies.openings i ∙ ap (option_map (sized_body model list [] [])) body_there) in
-      subst (λ (l : List NodeSizes). AreRead set nobody none_reached (cases_of core.types c.instances l) b.notes) (sym nodes)
+      subst (λ (o : Option Body). AreRead set nobody none_reached (body_cases model list o) b.notes) (sym body_there)
       (alone_read core past hart list none_reached b
       (all_in (body_tested model list none_reached) model.bodies.openings b bodies_parts.1 (there model.bodies.openings i b body_there)))
 
-  pub model_is_read : covered_by c (entered_by core.step) ≡ true → covered_by c (entered_by core.reset) ≡ true → ModelIsRead core past hart rank c
+  pub model_is_read : covered_by c (entered_by core.step) ≡ true → covered_by c (entered_by core.reset) ≡ true → ModelIsRead core past hart rank c k
   model_is_read step reset = record {
     functions = λ x f covered own e. function_is_read core past hart list halves.0 x f covered own e;
     directions = direction_read;
@@ -280,5 +256,7 @@ models_are_read m past hart rank c accept h =
     let reset : covered_by (sized_list model found.0) (entered_by m.reset) ≡ true =
     subst (λ (l : List Instance). covered_by (sized_list model l) (entered_by m.reset) ≡ true) (sym starts.1)
     (first_covered model starts.0 m.reset m.step) in
-    subst (λ (d : SizedCore). ModelIsRead m past hart rank d) (sym same)
-    (model_is_read m past hart rank found.0 (subst (λ (l : List Instance). model_tested m rank l ≡ true) found.3 h) step reset)
+    subst (λ (d : SizedCore). ModelIsRead m past hart rank d (checks_given m d)) (sym same)
+    (subst (λ (l : List Instance). ModelIsRead m past hart rank (sized_list model found.0) (model_checks model l (sized_list model found.0).instances))
+    (sym (same_instances model found.0 found.0))
+    (model_is_read m past hart rank found.0 (subst (λ (l : List Instance). model_tested m rank l ≡ true) found.3 h) step reset))

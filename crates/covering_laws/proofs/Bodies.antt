@@ -15,7 +15,7 @@ use Rattle.covering_laws.proofs.Notes.{note_met}
 use Rattle.covering_laws.proofs.Places.{all_in}
 
 -- a note of one of them
-noted_there : (bs : List Body) (b : Body) (n : Note) → IsIn b bs → IsIn n b.notes → IsIn (note_in b n) (all_noted bs)
+pub noted_there : (bs : List Body) (b : Body) (n : Note) → IsIn b bs → IsIn n b.notes → IsIn (note_in b n) (all_noted bs)
 noted_there [] b n h i = absurd h
 noted_there (c ∷ bs) b n (inl e) i = in_front (note_in b n) (map (note_in c) c.notes) (all_noted bs) (same_body b c n e i)
   where
@@ -23,7 +23,7 @@ noted_there (c ∷ bs) b n (inl e) i = in_front (note_in b n) (map (note_in c) c
     same_body b c n e i = subst (λ (d : Body). IsIn (note_in b n) (map (note_in d) d.notes)) e (in_mapped (note_in b) n b.notes i)
 noted_there (c ∷ bs) b n (inr h) i = in_back (note_in b n) (map (note_in c) c.notes) (all_noted bs) (noted_there bs b n h i)
 
-each_there : (P : Note → Type 0) (ns : List Note) → ((n : Note) → IsIn n ns → P n) → EachNote P ns
+pub each_there : (P : Note → Type 0) (ns : List Note) → ((n : Note) → IsIn n ns → P n) → EachNote P ns
 each_there P [] h = tt
 each_there P (n ∷ ns) h = (h n (inl refl), each_there P ns (λ m i. h m (inr i)))
 

@@ -3,7 +3,6 @@ use Rattle.std.proofs.Common.{◌≡◌, ◌∙◌, ap, sym, refl, subst, ℕ, z
 use Rattle.std.proofs.Common.{◌⊎◌, inl, inr, List, [], ◌∷◌, ◌++◌, map, length, slice_get, Option, Some, None, if◌then◌else◌, arith}
 use Rattle.std.specs.Prelude.{Ok, Err}
 use Rattle.std.specs.List.{list_any}
-use Rattle.std.proofs.lemmas.Bool.{and_parts}
 use Rattle.std.proofs.lemmas.Bool.Decides.{Decides-eqb}
 use Rattle.sail_base.specs.declared.place.Place.{Place}
 use Rattle.sail_types.specs.Places.{first}
@@ -13,7 +12,6 @@ use Rattle.sail_core.specs.declared.tree.Callee.TheVariants as D
 use Rattle.value_indices.specs.Steps.{Note, goal_note, size_note, made_note, call_note, way_note, given_note, name_note}
 use Rattle.value_indices.specs.declared.indices.Indices.{Indices}
 use Rattle.value_indices.specs.declared.indices.Reading.{Reading}
-use Rattle.value_indices.specs.declared.notes.Fact.{Fact}
 use Rattle.value_indices.specs.declared.notes.Made.{Made}
 use Rattle.value_laws.proofs.Basics.{no, two}
 use Rattle.size_values.specs.declared.constants.Constant.{Constant}
@@ -33,7 +31,7 @@ use Rattle.monomorph.specs.declared.error.MonoError.TheVariants.{InstanceLimit, 
 use Rattle.monomorph.specs.declared.found.Found.{Found}
 use Rattle.monomorph.specs.declared.found.Found.TheVariants as F
 use Rattle.monomorph.specs.declared.found.Instance.{Instance}
-use Rattle.monomorph.specs.Found.{Answer, add, add_mapping, and_then, found_eq, instance_eq, instances_in, most_instances, outcome, over, unless, unless_full}
+use Rattle.monomorph.specs.Found.{Answer, add, add_mapping, and_then, found_eq, instances_in, most_instances, outcome, over, unless, unless_full}
 use Rattle.monomorph.specs.Instances.{entry, found_from, grow, grow_from, one_or_none, or_none, read_found, times_enough}
 use Rattle.monomorph.specs.Lasts.{Model, read_bodies, read_lasts}
 use Rattle.monomorph.specs.Reading.{Inside, called, instance_of, numbers_refused, read_body, read_call, read_note, read_notes, read_sizes, read_way}
@@ -43,7 +41,7 @@ use Rattle.sized_trees.specs.Within.{all_numbers, all_within, is_number, is_with
 use Rattle.exact_sizes.proofs.Equal.{all_itself, numbers_itself}
 use Rattle.exact_sizes.proofs.Known.{none}
 use Rattle.covering_laws.specs.Closed.{BodiesAreRead, CallIsRead, CalleeIsAmong, IsAmong, IsRead, ListsAreRead, NoteIsRead, NotesAreRead, SizeIsRead}
-use Rattle.covering_laws.proofs.Grown.{Extends, Keeps, as_found, bodies_keep, call_keeps, further, found_keeps, grow_keeps, mapping_keeps, notes_keep}
+use Rattle.covering_laws.proofs.Grown.{Extends, Keeps, as_found, call_keeps, further, found_keeps, grow_keeps, mapping_keeps, notes_keep}
 use Rattle.covering_laws.proofs.Grown.{last_keeps, over_keeps, sizes_keep}
 
 -- ---- what refuses nothing

@@ -6,7 +6,7 @@ use Rattle.std.proofs.lemmas.Bool.{and_parts}
 use Rattle.std.proofs.lemmas.Bool.Decides.{Decides-int_eq}
 use Rattle.sail_base.specs.declared.kind.Kind.{Kind}
 use Rattle.sail_base.specs.declared.kind.Kind.TheVariants as K
-use Rattle.sail_types.specs.Belongs.{assigned, belongs}
+use Rattle.sail_types.specs.Belongs.{assigned}
 use Rattle.sail_types.specs.Numbers.{Positive}
 use Rattle.sail_types.specs.Places.{an_int}
 use Rattle.sail_types.specs.Sums.{variable}
@@ -18,15 +18,13 @@ use Rattle.sail_core.specs.Numbers.{agrees, all_agree}
 use Rattle.sail_core.specs.declared.model.Function.{Function}
 use Rattle.value_indices.specs.declared.indices.Indices.TheOpen as W
 use Rattle.value_indices.specs.declared.indices.Reading.TheVariants as R
-use Rattle.value_laws.specs.Belonging.{Integers, over, standing}
-use Rattle.value_laws.proofs.Basics.{no, two}
-use Rattle.value_laws.proofs.Values.{closed_is}
+use Rattle.value_laws.specs.Belonging.{Integers, standing}
+use Rattle.value_laws.proofs.Basics.{no}
 use Rattle.size_values.specs.declared.constants.Constant.{Constant}
 use Rattle.size_values.specs.Numbers.{argument_of, known_of, number_in, or_open, value_of}
 use Rattle.size_values.specs.Sized.{reading_sized}
 use Rattle.size_laws.proofs.Opening.{opening_keeps_sizes}
 use Rattle.sized_trees.specs.Trees.{all_sized_for, constants_of, sized_for}
-use Rattle.checked_meaning.specs.Fits.{AllFit, all_have_sizes, has_sizes}
 use Rattle.soundness_steps.specs.Works.{Setting, Work}
 use Rattle.soundness_steps.specs.Noted.{OpensAs, known}
 use Rattle.soundness_steps.specs.Calls.{AllBelong, given_of, givens_at, own_variables, variable_index}
@@ -34,7 +32,6 @@ use Rattle.soundness_calls.specs.Premises.{AllMade, OwnSame, own_of, own_type}
 use Rattle.exact_sizes.specs.Exact.{exact_constants, exact_index, reading_passes, reading_settles}
 use Rattle.exact_sizes.specs.Laws.{More, Stands}
 use Rattle.exact_sizes.proofs.Alike.{Grows, exact_open}
-use Rattle.exact_sizes.proofs.Had.{values_fit}
 use Rattle.exact_sizes.proofs.Known.{none, variable_known}
 use Rattle.exact_sizes.proofs.Settling.{types_settle}
 use Rattle.exact_sizes.proofs.Standing.{typ_stands}
@@ -147,13 +144,6 @@ module _ (types : Types) (past : Positive) (x : Work) (f : Function) (zs : List 
   typ_is g same t p =
       typ_stands types x.own (length x.own) (known_in zs) (known g) (more_known g same) t (own_of f) (constants_of zs) own_grows (sizes t p).0
 
-  one_fits : AllFit types x.types x.own → (t : Typ) → parameter_tested types zs x.own f t ≡ true → (v : Value)
-      → belongs types v (over (assigned (standing past h) (own_of f)) t x.types) ≡ true → has_sizes types v (sized_for types x.own (constants_of zs) t) ≡ true
-  one_fits fit t p v b =
-      ap (has_sizes types v) (typ_is h here_same t p)
-      ∙ (values_fit types past h x.types x.own fit (known_in zs) (own_stands h here_same)).1 (own_type f t) v (sizes t p).0
-      (ap (belongs types v) (closed_is types (standing past h) x.types (own_type f t) (W.Of t (own_of f) []) (R.rolls-Of t (own_of f) [])) ∙ b)
-
   pub one_opens : (g : Integers) → OwnSame f h g → (t : Typ) → parameter_tested types zs x.own f t ≡ true → (v : Value)
       → OpensAs types past x g (own_type f t) v (sized_for types x.own (constants_of zs) t)
   one_opens g same t p v = record {
@@ -161,17 +151,6 @@ module _ (types : Types) (past : Positive) (x : Work) (f : Function) (zs : List 
         ∙ sym (opening_keeps_sizes types x.own (known g) (own_type f t)
         (types_settle types x.own (length x.own) g (known_in zs) (own_stands g same) (own_type f t) (sizes t p).1) tells name facts n);
   }
-
-  pub all_fit_in : AllFit types x.types x.own → (ts : List Typ) → list_all (parameter_tested types zs x.own f) ts ≡ true → (vs : List Value)
-      → AllBelong types (assigned (standing past h) (own_of f)) x.types ts vs
-      → all_have_sizes types vs (all_sized_for types x.own (constants_of zs) ts) ≡ true
-  all_fit_in fit [] p [] b = refl
-  all_fit_in fit [] p (v ∷ vs) b = absurd b
-  all_fit_in fit (t ∷ ts) p [] b = absurd b
-  all_fit_in fit (t ∷ ts) p (v ∷ vs) b =
-      let q = and_parts (parameter_tested types zs x.own f t) (list_all (parameter_tested types zs x.own f) ts) p in
-      two (has_sizes types v (sized_for types x.own (constants_of zs) t)) (all_have_sizes types vs (all_sized_for types x.own (constants_of zs) ts))
-      (one_fits fit t q.0 v b.0) (all_fit_in fit ts q.1 vs b.1)
 
 -- each in a setting of these types
 pub all_made_in : (set : Setting) (types : Types) → set.around.types ≡ types → (x : Work) (f : Function) (zs : List (Option ℤ)) (h : Integers)

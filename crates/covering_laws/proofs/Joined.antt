@@ -1,43 +1,18 @@
 -- Instances and bodies of a list, each at its place; the nodes of bodies that are read together.
-use Rattle.std.proofs.Common.{◌≡◌, ◌∙◌, ap, sym, refl, ℤ, inl, inr, List, [], ◌∷◌, ◌++◌, map}
-use Rattle.std.proofs.Common.{Option, append_assoc}
+use Rattle.std.proofs.Common.{◌≡◌, ◌∙◌, ap, sym, refl, inl, inr, List, [], ◌∷◌, map}
 use Rattle.std.specs.Prelude.{option_map, Result, Ok, Err}
 use Rattle.std.proofs.lemmas.Option.{slice_get-map}
 use Rattle.sail_core.specs.declared.model.CoreModel.{CoreModel}
-use Rattle.value_indices.specs.Steps.{Note}
-use Rattle.size_values.specs.declared.sized.Sized.{Sized}
-use Rattle.size_splits.specs.Bodies.{Body}
 use Rattle.size_notes.specs.Bodies.{bodies_of}
 use Rattle.split_laws.specs.Counted.{IsIn}
 use Rattle.monomorph.specs.declared.error.MonoError.{MonoError}
 use Rattle.monomorph.specs.declared.found.Instance.{Instance}
 use Rattle.monomorph.specs.Instances.{instances_of, model_of}
 use Rattle.monomorph.specs.Lasts.{Model}
-use Rattle.sized_trees.specs.declared.trees.NodeSizes.{NodeSizes}
 use Rattle.sized_trees.specs.declared.trees.SizedCore.{SizedCore}
-use Rattle.sized_trees.specs.Bodies.{at_note, at_notes, sized_body}
 use Rattle.sized_trees.specs.Trees.{sized_core, sized_instance, sized_instances, sized_list, sized_of}
-use Rattle.sized_meanings.specs.Sized.{joined_nodes}
 use Rattle.covering_laws.specs.Laws.{ArePlaced}
-use Rattle.covering_laws.specs.Tested.{all_nodes, all_noted, inside, note_in}
 use Rattle.covering_laws.specs.Covered.{instance_of}
-
--- ---- bodies that are read together
-
-module _ (m : Model) (list : List Instance) (zs : List (Option ℤ)) (own : List Sized) where
-  front_nodes : (b : Body) (ns : List Note) (bs : List Body)
-      → at_notes (inside m.core.types m.sizing zs own b) list ns ++ all_nodes m.core.types m.sizing zs own list (all_noted bs)
-      ≡ all_nodes m.core.types m.sizing zs own list (map (note_in b) ns ++ all_noted bs)
-  front_nodes b [] bs = refl
-  front_nodes b (n ∷ ns) bs =
-      let r = inside m.core.types m.sizing zs own b in
-      append_assoc (at_note r list n) (at_notes r list ns) (all_nodes m.core.types m.sizing zs own list (all_noted bs))
-      ∙ ap (λ (l : List NodeSizes). at_note r list n ++ l) (front_nodes b ns bs)
-
-  pub nodes_joined : (bs : List Body) → joined_nodes (map (sized_body m list zs own) bs) ≡ all_nodes m.core.types m.sizing zs own list (all_noted bs)
-  nodes_joined [] = refl
-  nodes_joined (b ∷ bs) =
-      ap (λ (l : List NodeSizes). at_notes (inside m.core.types m.sizing zs own b) list b.notes ++ l) (nodes_joined bs) ∙ front_nodes b b.notes bs
 
 -- ---- instances
 
@@ -52,7 +27,7 @@ mapped_there f (x ∷ xs) b (inr h) =
     let more = mapped_there f xs b h in
     (more.0, inr more.1, more.2)
 
-same_instances : (m : Model) (list xs : List Instance) → map instance_of (sized_instances m list xs) ≡ xs
+pub same_instances : (m : Model) (list xs : List Instance) → map instance_of (sized_instances m list xs) ≡ xs
 same_instances m list [] = refl
 same_instances m list (x ∷ xs) = ap (λ (l : List Instance). x ∷ l) (same_instances m list xs)
 

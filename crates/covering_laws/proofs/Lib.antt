@@ -2,6 +2,7 @@ pub mod Places
 pub mod Giving
 pub mod Notes
 pub mod Bodies
+pub mod Given
 pub mod Working
 pub mod Entering
 pub mod Joined

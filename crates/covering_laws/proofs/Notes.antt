@@ -87,7 +87,7 @@ use Rattle.covering_laws.proofs.Places.{all_in, is_not, numbers_agree, place_fou
 
 -- ---- what is in force
 
-given_noted : (noted : Noted) (f : Integers) (facts : List Fact) → EachNoted noted f (given_in facts) → (v : ℕ) → is_given facts v ≡ true
+pub given_noted : (noted : Noted) (f : Integers) (facts : List Fact) → EachNoted noted f (given_in facts) → (v : ℕ) → is_given facts v ≡ true
     → noted v ≡ Some (f v)
 given_noted noted f [] h v g = no g
 given_noted noted f (Y.Holds c ∷ facts) h v g = given_noted noted f facts h v g
@@ -121,7 +121,7 @@ more_given noted f (Y.IsGiven u ∷ facts) vs before now = (before u (inl refl),
 
 -- ---- what is found first
 
-only_there : {A : Type 0} (b : Bool) (x : A) → b ≡ true → only b x ≡ Some x
+pub only_there : {A : Type 0} (b : Bool) (x : A) → b ≡ true → only b x ≡ Some x
 only_there true x h = refl
 only_there false x h = no h
 
@@ -145,13 +145,13 @@ only_unless true c x h = no (sym h)
 as_many : (r : Inside) (ps : List Picked) (is : List Indices) → length (all_sized_under r ps is) ≡ length is
 as_many r ps is = length-map is (value_sized r.types r.own (under r ps))
 
-abbrev work_of : ℕ → Awaits → List Sized → List Closed → Work
+abbrev pub work_of : ℕ → Awaits → List Sized → List Closed → Work
 work_of g awaited own ts = record { function = g; instance = awaited; own = own; types = ts }
 
 -- ---- operands
 
 module _ (set : Setting) (x : Work) where
-  sized_as_many : (f : Integers) (is : List Indices) (ss : List Sized) → AreSized set x f is ss → length ss ≡ length is
+  pub sized_as_many : (f : Integers) (is : List Indices) (ss : List Sized) → AreSized set x f is ss → length ss ≡ length is
   sized_as_many f [] [] h = refl
   sized_as_many f [] (s ∷ ss) h = absurd h
   sized_as_many f (i ∷ is) [] h = absurd h
@@ -171,14 +171,14 @@ module _ (set : Setting) (x : Work) (sizing : Sizing) (zs : List (Option ℤ)) (
   abbrev inside_of : Body → Inside
   inside_of b = inside types sizing zs x.own b
 
-  so_there : (b : Body) (f : Integers) (noted : Noted) (facts : List Fact) → IsSo set.past x noted f facts → C.IsSo set.past f (inside_of b) facts noted
+  pub so_there : (b : Body) (f : Integers) (noted : Noted) (facts : List Fact) → IsSo set.past x noted f facts → C.IsSo set.past f (inside_of b) facts noted
   so_there b f noted facts so = record {
     known = numbers_agree f zs (subst (λ gs. HasNumbers 0 gs f) awaits so.numbers);
     true_there = so.true_there;
     given = given_noted noted f facts so.given;
   }
 
-  stands_there : (b : Body) (f : Integers) (ps : List Picked) → S.Agrees (known_of zs) f → AreTaken f ps → Stands (under (inside_of b) ps) f
+  pub stands_there : (b : Body) (f : Integers) (ps : List Picked) → S.Agrees (known_of zs) f → AreTaken f ps → Stands (under (inside_of b) ps) f
   stands_there b f ps agrees are = at_agrees f (with_picked (known_of zs) ps) (picked_agrees f (known_of zs) agrees ps are)
 
   more_there : (of : ℕ → Constant) (f : Integers) → Stands of f → More of (known f)
@@ -242,7 +242,7 @@ module _ (set : Setting) (x : Work) (sizing : Sizing) (zs : List (Option ℤ)) (
   made_fits b f ps stands (Makes.ByIndices i) h = form_fits (under (inside_of b) ps) f stands (out-Indices i) h
   made_fits b f ps stands (Makes.ByType q) h = types_settle types x.own (length x.own) f (under (inside_of b) ps) stands q h
 
-  size_met : (b : Body) (facts : List Fact) (made : Made)
+  pub size_met : (b : Body) (facts : List Fact) (made : Made)
       → list_all (size_passes (inside_of b) made) (counted (known_of zs) (inside_of b).split facts []) ≡ true
       → (f : Integers) (noted : Noted) → IsSo set.past x noted f facts → SizesFit types x.own set.past f made
   size_met b facts made h f noted so =
@@ -445,7 +445,7 @@ module _ (set : Setting) (x : Work) (sizing : Sizing) (zs : List (Option ℤ)) (
   one_agrees of f stands true j h = index_is of f stands j h
   one_agrees of f stands false j h = tt
 
-  numbers_given : (of : ℕ → Constant) (f : Integers) → Stands of f → (bs : List Bool) (js : List Index) → numbers_pass of bs js ≡ true
+  pub numbers_given : (of : ℕ → Constant) (f : Integers) → Stands of f → (bs : List Bool) (js : List Index) → numbers_pass of bs js ≡ true
       → AllAgree set.past f (map (option_map an_int) (given bs (map (index_under of) js))) js
   numbers_given of f stands [] [] h = tt
   numbers_given of f stands [] (j ∷ js) h = no h
@@ -454,7 +454,7 @@ module _ (set : Setting) (x : Work) (sizing : Sizing) (zs : List (Option ℤ)) (
       let p = and_parts (only_if b (is_exact_index of j)) (numbers_pass of bs js) h in
       (one_agrees of f stands b j p.0, numbers_given of f stands bs js p.1)
 
-  readings_same : (b : Body) (f : Integers) (ps : List Picked) → Stands (under (inside_of b) ps) f → (qs : List Reading)
+  pub readings_same : (b : Body) (f : Integers) (ps : List Picked) → Stands (under (inside_of b) ps) f → (qs : List Reading)
       → readings_pass (inside_of b) ps qs ≡ true → map (reading_sized types x.own (under (inside_of b) ps)) qs ≡ map (type_sized types x.own f) qs
   readings_same b f ps stands [] h = refl
   readings_same b f ps stands (q ∷ qs) h =
@@ -464,7 +464,7 @@ module _ (set : Setting) (x : Work) (sizing : Sizing) (zs : List (Option ℤ)) (
       λ j. one j ∷ rest j
 
   -- values of what is given to Type variables
-  given_fit : (b : Body) (f : Integers) (ps : List Picked) → Stands (under (inside_of b) ps) f → (qs : List Reading)
+  pub given_fit : (b : Body) (f : Integers) (ps : List Picked) → Stands (under (inside_of b) ps) f → (qs : List Reading)
       → readings_pass (inside_of b) ps qs ≡ true
       → AllFit types (map (closed types (standing set.past f) x.types) qs) (map (type_sized types x.own f) qs)
   given_fit b f ps stands [] h = tt
@@ -588,7 +588,7 @@ module _ (set : Setting) (x : Work) (sizing : Sizing) (zs : List (Option ℤ)) (
 
     -- ---- numbers that a value gives
 
-    given_met : (b : Body) (facts : List Fact) (k : ℕ) (i : Indices) → IsIn (note_in b (given_note facts k i)) ys
+    pub given_met : (b : Body) (facts : List Fact) (k : ℕ) (i : Indices) → IsIn (note_in b (given_note facts k i)) ys
         → list_all (agrees_there facts i) (gives_at nodes k) ≡ true → IsMet set x reached cases (given_note facts k i)
     given_met b facts k i it h f noted so v had =
         let js = gives_at nodes k in

@@ -1,13 +1,12 @@
 -- A model whose accepted list is tested is read: its functions, directions and openings.
-use Rattle.std.proofs.Common.{◌≡◌, ◌∙◌, ap, sym, refl, subst, ℕ, ◌+◌, ℤ, Bool, true, false, inl, List, [], ◌∷◌, ◌++◌}
-use Rattle.std.proofs.Common.{map, slice_get, append-nil}
+use Rattle.std.proofs.Common.{◌≡◌, ◌∙◌, ap, sym, refl, subst, ℕ, ◌+◌, ℤ, Bool, true, inl, List, [], ◌∷◌, ◌++◌}
+use Rattle.std.proofs.Common.{map, slice_get}
 use Rattle.std.specs.Prelude.{Option, Some, None, option_map}
 use Rattle.std.specs.List.{list_all}
 use Rattle.std.proofs.lemmas.Bool.{and_parts}
 use Rattle.std.proofs.lemmas.Option.{slice_get-map}
 use Rattle.sail_types.specs.Numbers.{Positive}
-use Rattle.sail_types.specs.Places.{an_int, only}
-use Rattle.sail_types.specs.Sums.{and_then}
+use Rattle.sail_types.specs.Places.{an_int}
 use Rattle.sail_types.specs.declared.table.Types.{Types}
 use Rattle.sail_types.specs.declared.values.Value.{Value}
 use Rattle.sail_core.specs.Numbers.{Givens, all_agree}
@@ -27,26 +26,24 @@ use Rattle.split_laws.proofs.Basics.{in_back, in_front}
 use Rattle.monomorph.specs.declared.found.Instance.{Instance}
 use Rattle.monomorph.specs.Instances.{model_of, or_none}
 use Rattle.monomorph.specs.Lasts.{Model}
-use Rattle.sized_trees.specs.declared.trees.NodeSizes.{NodeSizes}
-use Rattle.sized_trees.specs.declared.trees.Signature.{Signature}
 use Rattle.sized_trees.specs.declared.trees.SizedInstance.{SizedInstance}
 use Rattle.sized_trees.specs.declared.trees.SizedCore.{SizedCore}
-use Rattle.sized_trees.specs.Bodies.{sized_body}
-use Rattle.sized_trees.specs.Trees.{all_sized_for, constants_of, sized_instance, sized_list, signature_of, signature_within}
-use Rattle.sized_trees.specs.Trees as Trees
-use Rattle.checked_meaning.specs.Fits.{AllFit, all_have_sizes}
-use Rattle.sized_meanings.specs.Sized.{cases_of, checks_of, entered, entering, joined_nodes, nodes_for, numbers_of, signature_for}
+use Rattle.sized_trees.specs.Trees.{all_sized_for, constants_of, sized_instance, sized_list}
+use Rattle.checked_meaning.specs.Fits.{AllFit}
+use Rattle.checked_meaning.specs.Checked.{Cases, Checks}
+use Rattle.sized_meanings.specs.Sized.{entered, numbers_of}
 use Rattle.soundness_steps.specs.Works.{Work, nobody}
 use Rattle.soundness_steps.specs.Calls.{Enters, AllBelong, givens_at, inside}
 use Rattle.soundness_calls.specs.Premises.{EntersAs, all_reached}
 use Rattle.exact_sizes.proofs.Equal.{all_same}
 use Rattle.exact_sizes.proofs.Known.{none, some_there}
-use Rattle.covering_laws.specs.Covered.{AreRead, FunctionIsRead, body_tested, covered_by, function_tested, instance_tested, parameter_tested}
-use Rattle.covering_laws.specs.Covered.{at_work, setting_of}
-use Rattle.covering_laws.specs.Tested.{all_nodes, all_noted, bodies_tested}
-use Rattle.covering_laws.proofs.Bodies.{bodies_are_met}
-use Rattle.covering_laws.proofs.Entering.{all_fit_in, all_made_in}
-use Rattle.covering_laws.proofs.Joined.{mapped_there, nodes_joined, placed_there}
+use Rattle.covering_laws.specs.Covered.{AreRead, FunctionIsRead, at_work, body_cases, body_tested, covered_by, entered_sized, function_tested}
+use Rattle.covering_laws.specs.Covered.{instance_cases, instance_tested, model_checks, parameter_tested, parameters_sized, setting_of}
+use Rattle.covering_laws.specs.Given.{bodies_given, cases_given}
+use Rattle.covering_laws.specs.Tested.{all_noted}
+use Rattle.covering_laws.proofs.Entering.{all_made_in}
+use Rattle.covering_laws.proofs.Given.{bodies_are_given}
+use Rattle.covering_laws.proofs.Joined.{mapped_there, placed_there}
 use Rattle.covering_laws.proofs.Places.{all_in}
 use Rattle.covering_laws.proofs.Working.{awaited_are, covered_at, function_is, types_are, working}
 
@@ -58,10 +55,6 @@ functions_kept : (m : CoreModel) (lets : List TopLevel) (os : List Opening) → 
 functions_kept m lets [] = refl
 functions_kept m lets (o ∷ os) = functions_kept m (lets ++ names_of (around_with m lets) o o.kind) os
 
-pub only_so : {A : Type 0} (b : Bool) (x : A) → b ≡ true → only b x ≡ Some x
-only_so true x h = refl
-only_so false x h = absurd (cc)
-
 module _ (core : CoreModel) (past : Positive) (hart : ℕ) (list : List Instance) where
   abbrev pub around : Around
   around = around_of core
@@ -72,21 +65,22 @@ module _ (core : CoreModel) (past : Positive) (hart : ℕ) (list : List Instance
   abbrev pub sized : SizedCore
   sized = sized_list model list
 
+  abbrev pub checks : Checks
+  checks = model_checks model list sized.instances
+
   pub same_types : around.types ≡ core.types
   same_types = types_kept core [] core.openings
 
   -- bodies that are read together
   pub read_in : (x : Work) → AllFit around.types x.types x.own → (zs : List (Option ℤ)) → x.instance.numbers ≡ map (option_map an_int) zs
       → (reached : ℕ → Bool) (bs : List Body)
-      → bodies_tested core.types model.sizing zs x.own reached list bs ≡ true → (b : Body) → IsIn b bs
-      → AreRead (setting_of core past hart sized) x reached
-      (cases_of core.types sized.instances (all_nodes core.types model.sizing zs x.own list (all_noted bs))) b.notes
+      → bodies_given core.types model.sizing zs x.own reached list bs ≡ true → (b : Body) → IsIn b bs
+      → AreRead (setting_of core past hart sized) x reached (cases_given core.types model.sizing zs x.own list (all_noted bs)) b.notes
   read_in x own_fit zs awaits reached bs h b i =
-      subst (λ (ty : Types). AreRead (setting_of core past hart sized) x reached
-      (cases_of ty sized.instances (all_nodes ty model.sizing zs x.own list (all_noted bs))) b.notes) same_types
-      (bodies_are_met (setting_of core past hart sized) x model.sizing zs awaits list sized.instances reached (placed_there model list) (covered_at sized)
+      subst (λ (ty : Types). AreRead (setting_of core past hart sized) x reached (cases_given ty model.sizing zs x.own list (all_noted bs)) b.notes) same_types
+      (bodies_are_given (setting_of core past hart sized) x model.sizing zs awaits list sized.instances reached (placed_there model list) (covered_at sized)
       own_fit bs
-      (subst (λ (ty : Types). bodies_tested ty model.sizing zs x.own reached list bs ≡ true) (sym same_types) h) b i)
+      (subst (λ (ty : Types). bodies_given ty model.sizing zs x.own reached list bs ≡ true) (sym same_types) h) b i)
 
   -- ---- functions
 
@@ -120,67 +114,57 @@ module _ (core : CoreModel) (past : Positive) (hart : ℕ) (list : List Instance
     function_there : slice_get core.functions y.function ≡ Some f
     function_there = ap (slice_get core.functions) place_is ∙ here
 
-    abbrev tests : (bodies_tested core.types model.sizing y.numbers y.types all_reached list (or_none (slice_get model.bodies.functions y.function)) ≡ true)
+    abbrev tests : (bodies_given core.types model.sizing y.numbers y.types all_reached list (or_none (slice_get model.bodies.functions y.function)) ≡ true)
         × (function_tested core.types y (slice_get core.functions y.function) ≡ true)
     tests =
-        and_parts (bodies_tested core.types model.sizing y.numbers y.types all_reached list (or_none (slice_get model.bodies.functions y.function)))
+        and_parts (bodies_given core.types model.sizing y.numbers y.types all_reached list (or_none (slice_get model.bodies.functions y.function)))
         (function_tested core.types y (slice_get core.functions y.function)) tested
 
-    nodes_are : (nu : Givens) → all_agree x.instance.numbers nu ≡ true → nodes_for (entered sized.instances x.function x.instance.place nu)
-        ≡ all_nodes core.types model.sizing y.numbers x.own list (all_noted (function_bodies around f))
-    nodes_are nu a =
-        ap nodes_for (entered_there nu a)
-        ∙ ap (λ (z : SizedInstance). joined_nodes z.bodies) same
-        ∙ nodes_joined model list y.numbers y.types (or_none (slice_get model.bodies.functions y.function))
-        ∙ ap (λ (l : List Body). all_nodes core.types model.sizing y.numbers y.types list (all_noted l)) bodies_are
-        ∙ ap (λ (l : List Sized). all_nodes core.types model.sizing y.numbers l list (all_noted (function_bodies around f))) own_is
+    cases_are : (nu : Givens) → all_agree x.instance.numbers nu ≡ true
+        → instance_cases model list (entered sized.instances x.function x.instance.place nu)
+        ≡ cases_given core.types model.sizing y.numbers x.own list (all_noted (function_bodies around f))
+    cases_are nu a =
+        ap (instance_cases model list) (entered_there nu a)
+        ∙ ap (λ (z : Instance). cases_given core.types model.sizing z.numbers z.types list (all_noted (or_none (slice_get model.bodies.functions z.function))))
+        instance_is
+        ∙ ap (λ (l : List Body). cases_given core.types model.sizing y.numbers y.types list (all_noted l)) bodies_are
+        ∙ ap (λ (l : List Sized). cases_given core.types model.sizing y.numbers l list (all_noted (function_bodies around f))) own_is
 
-    bodies_pass : bodies_tested core.types model.sizing y.numbers x.own all_reached list (function_bodies around f) ≡ true
+    bodies_pass : bodies_given core.types model.sizing y.numbers x.own all_reached list (function_bodies around f) ≡ true
     bodies_pass =
-        subst (λ (l : List Sized). bodies_tested core.types model.sizing y.numbers l all_reached list (function_bodies around f) ≡ true) own_is
-        (subst (λ (l : List Body). bodies_tested core.types model.sizing y.numbers y.types all_reached list l ≡ true) bodies_are tests.0)
+        subst (λ (l : List Sized). bodies_given core.types model.sizing y.numbers l all_reached list (function_bodies around f) ≡ true) own_is
+        (subst (λ (l : List Body). bodies_given core.types model.sizing y.numbers y.types all_reached list l ≡ true) bodies_are tests.0)
 
     one_read : (nu : Givens) → all_agree x.instance.numbers nu ≡ true → (b : Body) → IsIn b (function_bodies around f)
-        → AreRead (setting_of core past hart sized) x all_reached ((checks_of core sized).function x.function x.instance.place nu) b.notes
+        → AreRead (setting_of core past hart sized) x all_reached (checks.function x.function x.instance.place nu) b.notes
     one_read nu a b i =
-        subst (λ (l : List NodeSizes). AreRead (setting_of core past hart sized) x all_reached (cases_of core.types sized.instances l) b.notes)
-        (sym (nodes_are nu a)) (read_in x own_fit y.numbers awaits all_reached (function_bodies around f) bodies_pass b i)
+        subst (λ (l : Cases). AreRead (setting_of core past hart sized) x all_reached l b.notes)
+        (sym (cases_are nu a)) (read_in x own_fit y.numbers awaits all_reached (function_bodies around f) bodies_pass b i)
 
-    signature_passes : (signature_within core.types (constants_of y.numbers) f ≡ true)
-        × (list_all (parameter_tested core.types y.numbers y.types f) f.parameters ≡ true)
-    signature_passes =
-        and_parts (signature_within core.types (constants_of y.numbers) f) (list_all (parameter_tested core.types y.numbers y.types f) f.parameters)
-        (subst (λ (o : Option Function). function_tested core.types y o ≡ true) function_there tests.1)
+    parameters_tested : list_all (parameter_tested core.types y.numbers y.types f) f.parameters ≡ true
+    parameters_tested = subst (λ (o : Option Function). function_tested core.types y o ≡ true) function_there tests.1
 
     parameters_pass : list_all (parameter_tested core.types y.numbers x.own f) f.parameters ≡ true
-    parameters_pass = subst (λ (l : List Sized). list_all (parameter_tested core.types y.numbers l f) f.parameters ≡ true) own_is signature_passes.1
-
-    signature_is : s.signature ≡ Some (signature_of core.types x.own (constants_of y.numbers) f)
-    signature_is =
-        ap (λ (z : SizedInstance). z.signature) same
-        ∙ ap (Trees.signature_for core.types y) function_there
-        ∙ only_so (signature_within core.types (constants_of y.numbers) f) (signature_of core.types y.types (constants_of y.numbers) f) signature_passes.0
-        ∙ ap (λ (l : List Sized). Some (signature_of core.types l (constants_of y.numbers) f)) own_is
+    parameters_pass = subst (λ (l : List Sized). list_all (parameter_tested core.types y.numbers l f) f.parameters ≡ true) own_is parameters_tested
 
     enters_as : (vs : List Value) (h : Integers) (e : Enters (setting_of core past hart sized) x f vs h)
-        → EntersAs (setting_of core past hart sized) (checks_of core sized) x f vs h e
+        → EntersAs (setting_of core past hart sized) checks x f vs h e
     enters_as vs h e =
         let ss = all_sized_for core.types x.own (constants_of y.numbers) f.parameters in
         let a : all_agree (map (option_map an_int) y.numbers) (givens_at h 0 f.variables) ≡ true =
         subst (λ ns. all_agree ns (givens_at h 0 f.variables) ≡ true) awaits e.awaited in
         let b : AllBelong core.types (inside (setting_of core past hart sized) f h) x.types f.parameters vs =
         subst (λ (ty : Types). AllBelong ty (inside (setting_of core past hart sized) f h) x.types f.parameters vs) same_types e.belong in
-        let fit : AllFit core.types x.types x.own = subst (λ (ty : Types). AllFit ty x.types x.own) same_types own_fit in
         record {
           sizes = ss;
-          is_there = ap (λ (o : Option SizedInstance). and_then (signature_for o) (entering core.types vs)) (entered_there (givens_at h 0 f.variables) e.awaited)
-              ∙ ap (λ (o : Option Signature). and_then o (entering core.types vs)) signature_is
-              ∙ only_so (all_have_sizes core.types vs ss) ss
-              (all_fit_in core.types past x f y.numbers h a fit f.parameters parameters_pass vs b);
+          is_there = ap (entered_sized core) (entered_there (givens_at h 0 f.variables) e.awaited)
+              ∙ ap (λ (z : Instance). parameters_sized core.types z (slice_get core.functions z.function)) instance_is
+              ∙ ap (parameters_sized core.types y) function_there
+              ∙ ap (λ (l : List Sized). Some (all_sized_for core.types l (constants_of y.numbers) f.parameters)) own_is;
           are_right = λ g own. all_made_in (setting_of core past hart sized) core.types same_types x f y.numbers h a g own f.parameters parameters_pass vs b;
         }
 
-    pub one_is_read : FunctionIsRead (setting_of core past hart sized) core (checks_of core sized) x f
+    pub one_is_read : FunctionIsRead (setting_of core past hart sized) core checks x f
     one_is_read = record {
       body = λ nu a. one_read nu a (body_of (function_read around f))
           (in_back (body_of (function_read around f)) (measure_bodies around f f.measure) (body_of (function_read around f) ∷ []) (inl refl));
@@ -192,7 +176,7 @@ module _ (core : CoreModel) (past : Positive) (hart : ℕ) (list : List Instance
 
   pub function_is_read : list_all (instance_tested model list) list ≡ true → (x : Work) (f : Function) → covered_by sized x ≡ true
       → AllFit around.types x.types x.own → slice_get core.functions x.function ≡ Some f
-      → FunctionIsRead (setting_of core past hart sized) core (checks_of core sized) x f
+      → FunctionIsRead (setting_of core past hart sized) core checks x f
   function_is_read h x f c own_fit here =
       let found = some_there (at_work sized.instances x) c in
       let s = found.0 in
@@ -203,11 +187,6 @@ module _ (core : CoreModel) (past : Positive) (hart : ℕ) (list : List Instance
 
   -- ---- bodies of no function
 
-  alone_there : (b : Body) → sized_body model list [] [] b ≡ all_nodes core.types model.sizing [] [] list (all_noted (b ∷ []))
-  alone_there b = sym (append-nil (sized_body model list [] [] b)) ∙ nodes_joined model list [] [] (b ∷ [])
-
   pub alone_read : (reached : ℕ → Bool) (b : Body) → body_tested model list reached b ≡ true
-      → AreRead (setting_of core past hart sized) nobody reached (cases_of core.types sized.instances (sized_body model list [] [] b)) b.notes
-  alone_read reached b h =
-      subst (λ (l : List NodeSizes). AreRead (setting_of core past hart sized) nobody reached (cases_of core.types sized.instances l) b.notes)
-      (sym (alone_there b)) (read_in nobody tt [] refl reached (b ∷ []) h b (inl refl))
+      → AreRead (setting_of core past hart sized) nobody reached (body_cases model list (Some b)) b.notes
+  alone_read reached b h = read_in nobody tt [] refl reached (b ∷ []) h b (inl refl)

@@ -1,6 +1,6 @@
 -- Which functions at work are covered by the instances of a model, what is tested of an accepted list, and what it gives.
-use Rattle.std.specs.Prelude.{◌≡◌, ◌*◌, ℕ, zero, suc, ℤ, nat_eq, Bool, true, false, ◌&&◌, List, [], ◌∷◌, length, map, slice_get}
-use Rattle.std.specs.Prelude.{Option, Some, None, Ok, is_some, if◌then◌else◌}
+use Rattle.std.specs.Prelude.{◌≡◌, ◌*◌, ◌/◌, ℕ, zero, suc, ℤ, nat_eq, Bool, true, false, ◌&&◌, List, [], ◌∷◌, length, map, slice_get}
+use Rattle.std.specs.Prelude.{Option, Some, None, Ok, is_some, option_map, if◌then◌else◌}
 use Rattle.std.specs.List.{list_all}
 use Rattle.sail_types.specs.Numbers.{Positive}
 use Rattle.sail_types.specs.Places.{Given, only}
@@ -23,15 +23,16 @@ use Rattle.size_values.specs.Sized.{all_eq}
 use Rattle.size_splits.specs.Bodies.{Body}
 use Rattle.size_notes.specs.Bodies.{bodies_of, function_read, mapping_read, measure_read, opening_read}
 use Rattle.monomorph.specs.declared.found.Instance.{Instance}
-use Rattle.monomorph.specs.Instances.{model_of, or_none}
+use Rattle.monomorph.specs.Instances.{model_of, one_or_none, or_none}
 use Rattle.monomorph.specs.Lasts.{Model}
 use Rattle.checked_meaning.specs.Checked.{Cases, Checks}
 use Rattle.checked_meaning.specs.Fits.{AllFit}
+use Rattle.checked_meaning.specs.Items.{fixed_typ}
 use Rattle.value_laws.specs.Belonging.{Integers}
 use Rattle.sized_trees.specs.declared.trees.SizedInstance.{SizedInstance}
 use Rattle.sized_trees.specs.declared.trees.SizedCore.{SizedCore}
-use Rattle.sized_trees.specs.Trees.{constants_of, signature_within, sized_core}
-use Rattle.sized_meanings.specs.Sized.{checks_of, numbers_of}
+use Rattle.sized_trees.specs.Trees.{all_sized_for, constants_of, sized_core}
+use Rattle.sized_meanings.specs.Sized.{entered, numbers_of}
 use Rattle.exact_sizes.specs.Exact.{reading_passes, reading_settles}
 use Rattle.note_laws.specs.Notes.{EachNote, OfOthers}
 use Rattle.met_notes.specs.Met.{Pair, pairs}
@@ -42,7 +43,8 @@ use Rattle.soundness_steps.specs.Calls.{Enters, IsOf}
 use Rattle.soundness_calls.specs.Events.{entered_by}
 use Rattle.soundness_calls.specs.Directions.{Side, bare_type, is_ahead, is_back, lower}
 use Rattle.soundness_calls.specs.Premises.{EntersAs, all_reached, own_type}
-use Rattle.covering_laws.specs.Tested.{bodies_tested}
+use Rattle.covering_laws.specs.Given.{bodies_given, cases_given}
+use Rattle.covering_laws.specs.Tested.{all_noted}
 
 -- ---- which functions at work are covered: for the numbers and types of the instance at their place; or the first of a function, as an event enters it
 
@@ -91,11 +93,11 @@ parameter_tested types zs own f t =
 abbrev pub function_tested : Types → Instance → Option Function → Bool
 function_tested types y None = true
 function_tested types y (Some f) =
-    signature_within types (constants_of y.numbers) f && list_all (parameter_tested types y.numbers y.types f) f.parameters
+    list_all (parameter_tested types y.numbers y.types f) f.parameters
 
 abbrev pub instance_tested : Model → List Instance → Instance → Bool
 instance_tested m list y =
-    bodies_tested m.core.types m.sizing y.numbers y.types all_reached list (or_none (slice_get m.bodies.functions y.function))
+    bodies_given m.core.types m.sizing y.numbers y.types all_reached list (or_none (slice_get m.bodies.functions y.function))
     && function_tested m.core.types y (slice_get m.core.functions y.function)
 
 -- ---- mappings, whose patterns reach directions of a lower rank; what they take has the sizes of its type
@@ -110,7 +112,7 @@ abbrev pub reached_from : (ℕ → ℕ) → ℕ → ℕ → Bool
 reached_from rank d = lower rank (rank d)
 
 abbrev pub body_tested : Model → List Instance → (ℕ → Bool) → Body → Bool
-body_tested m list reached b = bodies_tested m.core.types m.sizing [] [] reached list (b ∷ [])
+body_tested m list reached b = bodies_given m.core.types m.sizing [] [] reached list (b ∷ [])
 
 -- from this mapping on
 abbrev pub mappings_tested : Model → List Instance → (ℕ → ℕ) → ℕ → List Body → Bool
@@ -140,6 +142,45 @@ instance_of s = s.instance
 
 abbrev pub core_tested : CoreModel → (ℕ → ℕ) → SizedCore → Bool
 core_tested core rank c = model_tested core rank (map instance_of c.instances)
+
+-- ---- the checks: of the instance that is entered, of a mapping, and of what is worked out once
+
+-- where nothing is said of nodes
+abbrev pub no_cases : Cases
+no_cases = record { makes = λ k takes v noted. None; notes = λ k v noted. None; calls = λ k takes noted. None }
+
+abbrev pub instance_cases : Model → List Instance → Option SizedInstance → Cases
+instance_cases m list None = no_cases
+instance_cases m list (Some s) =
+    cases_given m.core.types m.sizing s.instance.numbers s.instance.types list (all_noted (or_none (slice_get m.bodies.functions s.instance.function)))
+
+abbrev pub body_cases : Model → List Instance → Option Body → Cases
+body_cases m list o = cases_given m.core.types m.sizing [] [] list (all_noted (one_or_none o))
+
+-- parameters come in at their types
+abbrev pub parameters_sized : Types → Instance → Option Function → Option (List Sized)
+parameters_sized types y None = None
+parameters_sized types y (Some f) = Some (all_sized_for types y.types (constants_of y.numbers) f.parameters)
+
+abbrev pub entered_sized : CoreModel → Option SizedInstance → Option (List Sized)
+entered_sized core None = None
+entered_sized core (Some s) = parameters_sized core.types s.instance (slice_get core.functions s.instance.function)
+
+abbrev pub taken_sized : Types → Direction → Sized
+taken_sized types d = fixed_typ types d.parameter
+
+abbrev pub model_checks : Model → List Instance → List SizedInstance → Checks
+model_checks m list instances = record {
+  types = m.core.types;
+  function = λ f place nu. instance_cases m list (entered instances f place nu);
+  enters = λ f place nu vs. entered_sized m.core (entered instances f place nu);
+  direction = λ d. body_cases m list (slice_get m.bodies.mappings (d / 2));
+  takes = λ d v. option_map (taken_sized m.core.types) (slice_get m.core.directions d);
+  opening = λ i. body_cases m list (slice_get m.bodies.openings i);
+}
+
+abbrev pub checks_given : CoreModel → SizedCore → Checks
+checks_given core c = model_checks (model_of core (bodies_of core)) (map instance_of c.instances) c.instances
 
 -- ---- what it gives
 
@@ -178,14 +219,14 @@ pub record DirectionIsRead (set : Setting) (m : CoreModel) (rank : ℕ → ℕ) 
   pub takes : (v : Value) → IsOf set n.parameter v → (s : Sized) × (k.takes d v ≡ Some s)
       × ((g : Integers) → OpensAs set.around.types set.past nobody g (bare_type n.parameter) v s)
 
-pub record ModelIsRead (m : CoreModel) (past : Positive) (hart : ℕ) (rank : ℕ → ℕ) (c : SizedCore) : Type 0 where
+pub record ModelIsRead (m : CoreModel) (past : Positive) (hart : ℕ) (rank : ℕ → ℕ) (c : SizedCore) (k : Checks) : Type 0 where
   -- where values of its Type variables have the sizes of its instance
   pub functions : (x : Work) (f : Function) → covered_by c x ≡ true → AllFit (setting_of m past hart c).around.types x.types x.own
-      → slice_get m.functions x.function ≡ Some f → FunctionIsRead (setting_of m past hart c) m (checks_of m c) x f
+      → slice_get m.functions x.function ≡ Some f → FunctionIsRead (setting_of m past hart c) m k x f
   pub directions : (d : ℕ) (n : Direction) (side : Side) → slice_get m.directions d ≡ Some n → side_at m.directions d ≡ Some side
-      → DirectionIsRead (setting_of m past hart c) m rank (checks_of m c) d n side
+      → DirectionIsRead (setting_of m past hart c) m rank k d n side
   pub openings : (i : ℕ) (o : Opening) → slice_get m.openings i ≡ Some o
-      → AreRead (setting_of m past hart c) nobody none_reached ((checks_of m c).opening i) (opening_read (around_of m) o [] 0).notes
+      → AreRead (setting_of m past hart c) nobody none_reached (k.opening i) (opening_read (around_of m) o [] 0).notes
   -- the functions that a hart enters
   pub step : covered_by c (entered_by m.step) ≡ true
   pub reset : covered_by c (entered_by m.reset) ≡ true
@@ -193,4 +234,4 @@ pub record ModelIsRead (m : CoreModel) (past : Positive) (hart : ℕ) (rank : �
 -- an accepted list that is tested
 abbrev pub ModelsAreRead : Type 0
 ModelsAreRead = (m : CoreModel) (past : Positive) (hart : ℕ) (rank : ℕ → ℕ) (c : SizedCore) → sized_core m ≡ Ok c → core_tested m rank c ≡ true
-    → ModelIsRead m past hart rank c
+    → ModelIsRead m past hart rank c (checks_given m c)

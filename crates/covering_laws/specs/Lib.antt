@@ -1,4 +1,5 @@
 pub mod Tested
+pub mod Given
 pub mod Laws
 pub mod Covered
 pub mod Closed

@@ -1,13 +1,13 @@
 //! Laws of what instances cover: where the bodies of an accepted list of instances are tested, all that their walks note, but goals, is met.
 //!
-//! `specs/Tested` and `specs/Covered` have the tests, `specs/Laws`, `specs/Covered` and `specs/Closed` the laws.
+//! `specs/Given`, `specs/Tested` and `specs/Covered` have the tests, `specs/Laws`, `specs/Covered` and `specs/Closed` the laws.
 #![tactic(auto)]
 
 ghost use Rattle.covering_laws.specs.Closed.{ListsAreRead};
 ghost use Rattle.covering_laws.specs.Covered.{ModelsAreRead};
 ghost use Rattle.covering_laws.specs.Laws.{BodiesAreMet};
 
-/// The notes of bodies that are tested are met. It does nothing.
+/// The notes of bodies that are tested are met by the cases of their tables. It does nothing.
 pub fn bodies_are_met()
     ensures { BodiesAreMet }
 {}

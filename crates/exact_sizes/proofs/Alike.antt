@@ -31,7 +31,7 @@ number_same of to more t h =
     let k = exact_value of t h in
     number_constant_is of t k.0 k.1 ∙ sym (number_more of to more t k.0 k.1)
 
-index_same : (of to : ℕ → Constant) → More of to → (a : Index) → is_exact_index of a ≡ true → index_under of a ≡ index_under to a
+pub index_same : (of to : ℕ → Constant) → More of to → (a : Index) → is_exact_index of a ≡ true → index_under of a ≡ index_under to a
 index_same of to more (N.Number t) h = number_same of to more t h
 index_same of to more (N.Truth c) h = no h
 

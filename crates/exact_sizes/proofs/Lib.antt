@@ -5,3 +5,4 @@ pub mod Standing
 pub mod Had
 pub mod Settling
 pub mod Equal
+pub mod Among

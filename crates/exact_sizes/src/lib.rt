@@ -4,6 +4,7 @@
 //! `specs/Exact` has the tests, `specs/Laws` the laws.
 #![tactic(auto)]
 
+ghost use Rattle.exact_sizes.specs.Among.{SizesHang};
 ghost use Rattle.exact_sizes.specs.Laws.{SizesStand, TypesSettle, ValuesFit};
 
 /// Types under constants are the same where more is known. It does nothing.
@@ -19,4 +20,9 @@ pub fn values_fit()
 /// The sizes of a type stay what they are where a value of it is opened. It does nothing.
 pub fn types_settle()
     ensures { TypesSettle }
+{}
+
+/// Types hang on the variables alone that their sizes name. It does nothing.
+pub fn sizes_hang()
+    ensures { SizesHang }
 {}

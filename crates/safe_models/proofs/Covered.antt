@@ -11,12 +11,11 @@ use Rattle.pattern_leaves.specs.declared.names.TopLevel.{TopLevel}
 use Rattle.constraint_gen.specs.Models.{around_of}
 use Rattle.size_notes.specs.Bodies.{mapping_read, opening_read}
 use Rattle.sized_trees.specs.declared.trees.SizedCore.{SizedCore}
-use Rattle.sized_meanings.specs.Sized.{checks_of}
 use Rattle.soundness_steps.specs.Works.{Setting, Work, nobody}
 use Rattle.soundness_calls.specs.Directions.{Side, is_ahead, is_back, lower}
 use Rattle.whole_runs.specs.Initials.{pure_around}
 use Rattle.covering_laws.specs.Covered as Tests
-use Rattle.covering_laws.specs.Covered.{DirectionIsRead, FunctionIsRead, ModelIsRead, ModelsAreRead, covered_by}
+use Rattle.covering_laws.specs.Covered.{DirectionIsRead, FunctionIsRead, ModelIsRead, ModelsAreRead, checks_given, covered_by}
 use Rattle.whole_runs.specs.Covers.{Covers, CoversDirection, CoversFunction, CoversOpenings, Read, pair_of, side_at}
 use Rattle.whole_runs.specs.Never.{setting_in}
 use Rattle.whole_runs.proofs.Events.{types_kept}
@@ -35,23 +34,23 @@ sides_same (m ∷ n ∷ ms) zero = refl
 sides_same (m ∷ n ∷ ms) (suc zero) = refl
 sides_same (m ∷ n ∷ ms) (suc (suc d)) = sides_same ms d
 
-module _ (m : CoreModel) (rank : ℕ → ℕ) (c : SizedCore) (past : Positive) (hart : ℕ) (is_read : ModelIsRead m past hart rank c) where
+module _ (m : CoreModel) (rank : ℕ → ℕ) (c : SizedCore) (past : Positive) (hart : ℕ) (is_read : ModelIsRead m past hart rank c (checks_given m c)) where
   abbrev set : Setting
   set = setting_in m past hart (covered_by c)
 
-  function_covered : (x : Work) (f : Function) → FunctionIsRead set m (checks_of m c) x f → CoversFunction set (checks_of m c) x f
+  function_covered : (x : Work) (f : Function) → FunctionIsRead set m (checks_given m c) x f → CoversFunction set (checks_given m c) x f
   function_covered x f h = record { body = h.body; measure = h.measure; enters = h.enters }
 
   way_read : (d : ℕ) (n : Direction) (side : Side)
-      → Read set nobody (lower rank (rank d)) ((checks_of m c).direction d)
+      → Read set nobody (lower rank (rank d)) ((checks_given m c).direction d)
       (mapping_read set.around (Tests.pair_of side n).forwards (Tests.pair_of side n).backwards [] 0).notes
-      → Read set nobody (lower rank (rank d)) ((checks_of m c).direction d)
+      → Read set nobody (lower rank (rank d)) ((checks_given m c).direction d)
       (mapping_read set.around (pair_of side n).forwards (pair_of side n).backwards [] 0).notes
   way_read d n (is_ahead o) h = h
   way_read d n (is_back o) h = h
 
-  direction_covered : (d : ℕ) (n : Direction) (side : Side) → DirectionIsRead set m rank (checks_of m c) d n side
-      → CoversDirection set rank (checks_of m c) d n side
+  direction_covered : (d : ℕ) (n : Direction) (side : Side) → DirectionIsRead set m rank (checks_given m c) d n side
+      → CoversDirection set rank (checks_given m c) d n side
   direction_covered d n side h = record { read = way_read d n side h.read; takes = h.takes }
 
   -- ---- openings
@@ -60,14 +59,14 @@ module _ (m : CoreModel) (rank : ℕ → ℕ) (c : SizedCore) (past : Positive) 
   of_types registers names types =
       record { around = record (pure_around m registers names) { types = types }; past = past; hart = 0; covered = covered_by c }
 
-  openings_covered : CoversOpenings m past (covered_by c) (checks_of m c)
+  openings_covered : CoversOpenings m past (covered_by c) (checks_given m c)
   openings_covered i o at registers names =
-      subst (λ (types : Types). Read (of_types registers names types) nobody (λ d. false) ((checks_of m c).opening i)
+      subst (λ (types : Types). Read (of_types registers names types) nobody (λ d. false) ((checks_given m c).opening i)
       (opening_read (around_of m) o [] 0).notes) (types_kept m [] m.openings)
-      (all_met set (pure_around m registers names) 0 nobody (λ d. false) ((checks_of m c).opening i) (opening_read (around_of m) o [] 0).notes
+      (all_met set (pure_around m registers names) 0 nobody (λ d. false) ((checks_given m c).opening i) (opening_read (around_of m) o [] 0).notes
       (is_read.openings i o at))
 
-  model_covered : IsTested m rank c → Covers set m (checks_of m c) rank
+  model_covered : IsTested m rank c → Covers set m (checks_given m c) rank
   model_covered h = record {
     functions = λ x f covered own at. function_covered x f (is_read.functions x f covered own at);
     directions = λ d n side at is_it. direction_covered d n side (is_read.directions d n side at (sides_same m.directions d ∙ is_it));
@@ -82,4 +81,4 @@ lists_cover are m rank c h past count hart low = model_covered m rank c past har
 pub tested_safe : TestedListsCover → AcceptedModelsRunSafely → TestedModelsRunSafely
 tested_safe cover safe texts made accepted rank c h core past count some few =
     let m : CoreModel = core_of (gathered accepted.definitions) no_cycle in
-    safe texts made accepted past (covered_by c) (checks_of m c) rank count some few (cover m rank c h past count) core
+    safe texts made accepted past (covered_by c) (checks_given m c) rank count some few (cover m rank c h past count) core

@@ -5,8 +5,7 @@ use Rattle.scattered.specs.Gathered.{gathered}
 use Rattle.sail_core.specs.declared.model.CoreModel.{CoreModel}
 use Rattle.sized_trees.specs.declared.trees.SizedCore.{SizedCore}
 use Rattle.sized_trees.specs.Trees.{sized_core}
-use Rattle.sized_meanings.specs.Sized.{checks_of}
-use Rattle.covering_laws.specs.Covered.{core_tested, covered_by}
+use Rattle.covering_laws.specs.Covered.{checks_given, core_tested, covered_by}
 use Rattle.text_progress.specs.Laws.{core_of}
 use Rattle.sail_top.specs.Checked.{no_cycle}
 use Rattle.sail_top.specs.Models.{AreAccepted}
@@ -23,7 +22,7 @@ pub record IsTested (m : CoreModel) (rank : ℕ → ℕ) (c : SizedCore) : Type 
 -- such a list covers the core
 abbrev pub TestedListsCover : Type 0
 TestedListsCover = (m : CoreModel) (rank : ℕ → ℕ) (c : SizedCore) → IsTested m rank c → (past : Positive) (count : ℕ)
-    → CoversThroughout m past (covered_by c) (checks_of m c) rank count
+    → CoversThroughout m past (covered_by c) (checks_given m c) rank count
 
 -- so the text isn't stuck
 abbrev pub TestedModelsRunSafely : Type 0

@@ -1,0 +1,293 @@
+-- A note that is tested is met by cases that are worked out from the numbers of the instance and from those that are noted.
+use Rattle.std.proofs.Common.{◌≡◌, ◌∙◌, ap, sym, refl, subst, ℕ, nat_eq, ℤ, Bool, true, false, ◌&&◌, ◌||◌, inl, inr, List, [], ◌∷◌, map, length}
+use Rattle.std.proofs.Common.{slice_get, Option, Some, None, if◌then◌else◌, append-nil}
+use Rattle.std.specs.Prelude.{is_some, option_map}
+use Rattle.std.specs.List.{list_all}
+use Rattle.std.proofs.lemmas.Bool.{and_parts}
+use Rattle.std.proofs.lemmas.Bool.Decides.{Decides-eqb}
+use Rattle.sail_base.specs.declared.place.Place.{Place}
+use Rattle.sail_types.specs.Places.{an_int, first, only}
+use Rattle.sail_types.specs.declared.numbers.Index.{Index}
+use Rattle.sail_types.specs.declared.table.Types.{Types}
+use Rattle.sail_types.specs.declared.values.Value.{Value}
+use Rattle.sail_core.specs.Numbers.{Instance as Awaits}
+use Rattle.sail_core.specs.declared.tree.Callee.{Callee}
+use Rattle.sail_core.specs.declared.tree.Callee.TheVariants as D
+use Rattle.value_indices.specs.Steps.{Note, goal_note, size_note, made_note, call_note, way_note, given_note, name_note, conditions}
+use Rattle.value_indices.specs.declared.indices.Indices.{Indices}
+use Rattle.value_indices.specs.declared.indices.Reading.{Reading}
+use Rattle.value_indices.specs.declared.notes.Fact.{Fact}
+use Rattle.value_indices.specs.declared.notes.Made.{Made}
+use Rattle.value_indices.specs.declared.notes.Made.TheVariants as Makes
+use Rattle.value_laws.specs.Belonging.{Integers, standing}
+use Rattle.value_laws.specs.Known.{AllTrue}
+use Rattle.value_laws.proofs.Basics.{no, two}
+use Rattle.size_values.specs.declared.constants.Constant.{Constant}
+use Rattle.size_values.specs.declared.constants.Constant.TheVariants as C
+use Rattle.size_values.specs.Numbers.{index_under, known_of}
+use Rattle.size_values.specs.Sized.{all_eq, integer_of, number_where, numbers_eq, reading_sized}
+use Rattle.size_laws.proofs.Opening.{opening_keeps_sizes}
+use Rattle.size_splits.specs.Bodies.{Body}
+use Rattle.size_splits.specs.Sizing.{Sizing, flags_of}
+use Rattle.size_splits.specs.Splits.{counted}
+use Rattle.split_laws.specs.Counted.{IsIn}
+use Rattle.split_laws.proofs.Combinations.{present_counted}
+use Rattle.monomorph.specs.declared.found.Instance.{Instance}
+use Rattle.monomorph.specs.Reading.{Inside, given, instance_of, under}
+use Rattle.checked_meaning.specs.Checked.{Cases, Noted}
+use Rattle.checked_meaning.specs.Fits.{AllFit}
+use Rattle.sized_trees.specs.declared.trees.SizedInstance.{SizedInstance}
+use Rattle.sized_trees.specs.Cases.{place_in}
+use Rattle.sized_trees.specs.Combinations.{is_given}
+use Rattle.sized_meanings.specs.Sized.{numbers_of}
+use Rattle.soundness_steps.specs.Works.{Setting, Work}
+use Rattle.soundness_steps.specs.Noted.{HasNumbers, IsSo, MadeAs, known, type_sized}
+use Rattle.soundness_steps.specs.Covers.{AllAgree, IsMet}
+use Rattle.note_laws.specs.Notes.{EachNote, OfOthers}
+use Rattle.exact_sizes.specs.Among.{SameAmong, index_among, reading_among}
+use Rattle.exact_sizes.specs.Exact.{is_exact_index, only_if}
+use Rattle.exact_sizes.specs.Laws.{More, Stands}
+use Rattle.exact_sizes.proofs.Alike as Alike
+use Rattle.exact_sizes.proofs.Among as Among
+use Rattle.exact_sizes.proofs.Among.{sizes_hang}
+use Rattle.exact_sizes.proofs.Equal.{numbers_same}
+use Rattle.exact_sizes.proofs.Known.{some_there}
+use Rattle.covering_laws.specs.Given.{bodies_given, call_given, call_passes, called_at, called_in, calls_at, cases_given, first_noted}
+use Rattle.covering_laws.specs.Given.{function_given, is_certain, is_node, made_given, made_in, made_now, makes_at, note_given, noted_given}
+use Rattle.covering_laws.specs.Given.{now, numbers_among, or_noted}
+use Rattle.covering_laws.specs.Laws.{ArePlaced, AreCovered}
+use Rattle.covering_laws.specs.Tested.{NoteIn, all_nodes, all_noted, are_alike, are_apart, inside, is_apart, note_in, numbers_pass, readings_pass}
+use Rattle.covering_laws.proofs.Bodies.{each_there, noted_there}
+use Rattle.covering_laws.proofs.Notes as Notes
+use Rattle.covering_laws.proofs.Notes.{given_noted, only_there, sized_as_many, work_of}
+use Rattle.covering_laws.proofs.Places.{all_in, is_not, numbers_agree, place_found}
+
+-- ---- what is found first
+
+only_false : {A : Type 0} (b : Bool) (x : A) → b ≡ false → only b x ≡ None
+only_false true x h = no (sym h)
+only_false false x h = refl
+
+unless_node : {A : Type 0} (b : Bool) (o : Option A) → b ≡ false → (if b then o else None) ≡ None
+unless_node true o h = no (sym h)
+unless_node false o h = refl
+
+where_node : {A : Type 0} (b : Bool) (o : Option A) → b ≡ true → (if b then o else None) ≡ o
+where_node true o h = refl
+where_node false o h = no h
+
+module _ {A : Type 0} (g : NoteIn → Option A) (it : NoteIn) (a : A) (here : g it ≡ Some a)
+    (passes : (y : NoteIn) → are_alike y.note it.note ≡ false → g y ≡ None) where
+  first_found : (ys : List NoteIn) → are_apart ys ≡ true → IsIn it ys → first_noted g ys ≡ Some a
+  first_found [] h i = absurd i
+  first_found (y ∷ ys) h (inl e) = ap (λ (o : Option A). first o (first_noted g ys)) (ap g (sym e) ∙ here)
+  first_found (y ∷ ys) h (inr i) =
+      let p = and_parts (list_all (is_apart y) ys) (are_apart ys) h in
+      let other = is_not (are_alike y.note it.note) (all_in (is_apart y) ys it p.0 i) in
+      ap (λ (o : Option A). first o (first_noted g ys)) (passes y other) ∙ first_found ys p.1 i
+
+-- a node of this number and so many operands
+is_itself : (k n : ℕ) (is : List Indices) → n ≡ length is → is_node k n k is ≡ true
+is_itself k n is e = two (nat_eq k k) (nat_eq (length is) n) ((Decides-eqb k k).1 refl) ((Decides-eqb (length is) n).1 (sym e))
+
+is_another : (k n j : ℕ) (is others : List Indices) → n ≡ length is → (nat_eq k j && nat_eq (length others) (length is)) ≡ false → is_node k n j others ≡ false
+is_another k n j is others e h = subst (λ (l : ℕ). (nat_eq k j && nat_eq (length others) l) ≡ false) (sym e) h
+
+-- ---- bodies that are read together
+
+module _ (set : Setting) (x : Work) (sizing : Sizing) (zs : List (Option ℤ)) (awaits : x.instance.numbers ≡ map (option_map an_int) zs)
+    (list : List Instance) (instances : List SizedInstance) (reached : ℕ → Bool)
+    (placed : (i : ℕ) (y : Instance) → slice_get list i ≡ Some y → (s : SizedInstance) × (slice_get instances i ≡ Some s) × (s.instance ≡ y))
+    (covers : (p : ℕ) (s : SizedInstance) (y : Work) → slice_get instances p ≡ Some s → s.instance.function ≡ y.function
+    → y.instance ≡ record { place = p; numbers = numbers_of s.instance } → all_eq y.own s.instance.types ≡ true → set.covered y ≡ true)
+    (own_fit : AllFit set.around.types x.types x.own) where
+  abbrev types : Types
+  types = set.around.types
+
+  abbrev inside_of : Body → Inside
+  inside_of b = inside types sizing zs x.own b
+
+  -- what is certain is right
+  certain_same : (f : Integers) (noted : Noted) (facts : List Fact) → IsSo set.past x noted f facts → SameAmong (is_certain zs facts) (now zs noted) (known f)
+  certain_same f noted facts so i h = by (known_of zs i) refl h
+    where
+      by : (o : Option ℤ) → known_of zs i ≡ o → (is_some o || is_given facts i) ≡ true → or_noted o (noted i) ≡ known f i
+      by (Some z) e g = ap (λ (y : ℤ). C.Number y) (sym (numbers_agree f zs (subst (λ gs. HasNumbers 0 gs f) awaits so.numbers) i z e))
+      by None e g = ap (or_noted None) (given_noted noted f facts so.given i g)
+
+  -- ---- what a node makes
+
+  made_right : (b : Body) (facts : List Fact) (made : Made) → made_given (inside_of b) facts made ≡ true → (f : Integers) (noted : Noted)
+      → IsSo set.past x noted f facts → (v : Value) → MadeAs types set.past x f made v (made_now types x.own (now zs noted) made)
+  made_right b facts (Makes.ByIndices i) h f noted so v =
+      (sizes_hang types x.own (is_certain zs facts) (now zs noted) (known f) (certain_same f noted facts so)).0 i h
+  made_right b facts (Makes.ByType q) h f noted so v =
+      let p = and_parts (reading_among types (is_certain zs facts) q) _ h in
+      record {
+        each = λ tells name fs n had. (sizes_hang types x.own (is_certain zs facts) (now zs noted) (known f) (certain_same f noted facts so)).1 q p.0
+            ∙ sym (opening_keeps_sizes types x.own (known f) q
+            (Notes.size_met set x sizing zs awaits list instances reached placed covers own_fit b facts (Makes.ByType q) p.1 f noted so) tells name fs n);
+      }
+
+  -- ---- what a call gives to size variables and to Type variables
+
+  module _ (has : ℕ → Bool) (at of : ℕ → Constant) (f : Integers) (same : SameAmong has at (known f)) (stands : Stands of f) where
+    more : More of (known f)
+    more i z h = ap (λ (y : ℤ). Some y) (stands i z h)
+
+    one_given : (b : Bool) (j : Index) → only_if b (index_among has j) ≡ true → only_if b (is_exact_index of j) ≡ true
+        → number_where b (index_under at j) ≡ number_where b (index_under of j)
+    one_given true j h e =
+        ap (λ (c : Constant). Some (integer_of c)) (Among.index_same has at (known f) same j h ∙ sym (Alike.index_same of (known f) more j e))
+    one_given false j h e = refl
+
+    numbers_given : (bs : List Bool) (js : List Index) → numbers_among has bs js ≡ true → numbers_pass of bs js ≡ true
+        → given bs (map (index_under at) js) ≡ given bs (map (index_under of) js)
+    numbers_given [] [] h e = refl
+    numbers_given [] (j ∷ js) h e = no e
+    numbers_given (b ∷ bs) [] h e = no e
+    numbers_given (b ∷ bs) (j ∷ js) h e =
+        let p = and_parts (only_if b (index_among has j)) (numbers_among has bs js) h in
+        let q = and_parts (only_if b (is_exact_index of j)) (numbers_pass of bs js) e in
+        let one = one_given b j p.0 q.0 in
+        let rest = numbers_given bs js p.1 q.1 in
+        λ i. one i ∷ rest i
+
+    types_given : (qs : List Reading) → list_all (reading_among types has) qs ≡ true
+        → map (reading_sized types x.own at) qs ≡ map (type_sized types x.own f) qs
+    types_given [] h = refl
+    types_given (q ∷ qs) h =
+        let p = and_parts (reading_among types has q) (list_all (reading_among types has) qs) h in
+        let one = (sizes_hang types x.own has at (known f) same).1 q p.0 in
+        let rest = types_given qs p.1 in
+        λ i. one i ∷ rest i
+
+  module _ (ys : List NoteIn) (apart : are_apart ys ≡ true) where
+    abbrev cases : Cases
+    cases = cases_given types sizing zs x.own list ys
+
+    made_met : (b : Body) (facts : List Fact) (k : ℕ) (operands : List Indices) (made : Made) → IsIn (note_in b (made_note facts k operands made)) ys
+        → made_given (inside_of b) facts made ≡ true → IsMet set x reached cases (made_note facts k operands made)
+    made_met b facts k operands made it h f noted so ss are v is =
+        let many : length ss ≡ length operands = sized_as_many set x f operands ss are in
+        let typ = made_now types x.own (now zs noted) made in
+        record {
+          typ = typ;
+          is_there = first_found (made_in types sizing zs x.own list k (length ss) noted) (note_in b (made_note facts k operands made)) typ
+              (only_there (is_node k (length ss) k operands) typ (is_itself k (length ss) operands many))
+              (λ y other. passed y.note noted many other) ys apart it;
+          is_right = made_right b facts made h f noted so v;
+        }
+      where
+        passed : (n : Note) (noted : Noted) → length ss ≡ length operands → are_alike n (made_note facts k operands made) ≡ false
+            → makes_at types sizing zs x.own list k (length ss) noted n ≡ None
+        passed (made_note more j others value) noted many other =
+            only_false (is_node k (length ss) j others) (made_now types x.own (now zs noted) value) (is_another k (length ss) j operands others many other)
+        passed (goal_note more place goal) noted many other = refl
+        passed (size_note more place value) noted many other = refl
+        passed (call_note more place j others callee js qs) noted many other = refl
+        passed (way_note more d) noted many other = refl
+        passed (given_note more j i) noted many other = refl
+        passed (name_note w name) noted many other = refl
+
+    called_met : (b : Body) (facts : List Fact) (place : Place) (k : ℕ) (operands : List Indices) (g : ℕ) (js : List Index) (qs : List Reading)
+        → IsIn (note_in b (call_note facts place k operands (D.Function g) js qs)) ys → function_given (inside_of b) list facts g js qs ≡ true
+        → IsMet set x reached cases (call_note facts place k operands (D.Function g) js qs)
+    called_met b facts place k operands g js qs it h f noted so ss are =
+        let r = inside_of b in
+        let has = is_certain zs facts in
+        let at = now zs noted in
+        let many : length ss ≡ length operands = sized_as_many set x f operands ss are in
+        let certain = certain_same f noted facts so in
+        let tests = and_parts (numbers_among has (flags_of sizing g) js && list_all (reading_among types has) qs)
+        (list_all (call_passes r list g js qs) (counted (known_of zs) r.split facts [])) h in
+        let p = and_parts (numbers_among has (flags_of sizing g) js) (list_all (reading_among types has) qs) tests.0 in
+        let there = Notes.so_there set x sizing zs awaits list instances reached placed covers own_fit b f noted facts so in
+        let both = subst (λ (fs : List Fact). AllTrue (standing set.past f) (conditions fs)) (sym (append-nil facts)) so.true_there in
+        let present = present_counted set.past f (known_of zs) r.split facts [] there.known so.true_there both in
+        let own = all_in (call_passes r list g js qs) (counted (known_of zs) r.split facts []) present.taken tests.1 present.is_there in
+        let of = under r present.taken in
+        let stands = Notes.stands_there set x sizing zs awaits list instances reached placed covers own_fit b f present.taken there.known present.are in
+        let q = and_parts (is_some (place_in list (instance_of r of g js qs)))
+        (readings_pass r present.taken qs && numbers_pass of (flags_of sizing g) js) own in
+        let w = and_parts (readings_pass r present.taken qs) (numbers_pass of (flags_of sizing g) js) q.1 in
+        let wanted = instance_of r of g js qs in
+        let asked = instance_of r at g js qs in
+        let same_numbers : asked.numbers ≡ wanted.numbers = numbers_given has at of f certain stands (flags_of sizing g) js p.0 w.1 in
+        let wide = Notes.readings_same set x sizing zs awaits list instances reached placed covers own_fit b f present.taken stands qs w.0 in
+        let now_types : asked.types ≡ map (type_sized types x.own f) qs = types_given has at of f certain stands qs p.1 in
+        let same_types : asked.types ≡ wanted.types = now_types ∙ sym wide in
+        let same : asked ≡ wanted = λ i. record { function = g; numbers = same_numbers i; types = same_types i } in
+        let found = some_there (place_in list wanted) q.0 in
+        let y = place_found found.0 wanted list found.1 in
+        let s = placed found.0 y.0 y.1 in
+        let equal = and_parts (nat_eq wanted.function (y.0).function) (numbers_eq wanted.numbers (y.0).numbers && all_eq wanted.types (y.0).types) y.2 in
+        let parts = and_parts (numbers_eq wanted.numbers (y.0).numbers) (all_eq wanted.types (y.0).types) equal.1 in
+        let numbers : asked.numbers ≡ (s.0).instance.numbers =
+        same_numbers ∙ numbers_same wanted.numbers (y.0).numbers parts.0 ∙ ap (λ (z : Instance). z.numbers) (sym s.2) in
+        let awaited : Awaits = record { place = found.0; numbers = numbers_of asked } in
+        let listed : called_at types sizing zs x.own list b noted (D.Function g) js qs ≡ Some awaited =
+        ap (option_map (λ (n : ℕ). record { place = n; numbers = numbers_of asked })) (ap (place_in list) same ∙ found.1) in
+        let function : (s.0).instance.function ≡ g = ap (λ (z : Instance). z.function) s.2 ∙ sym ((Decides-eqb g (y.0).function).0 equal.0) in
+        let owns : all_eq (map (type_sized types x.own f) qs) (s.0).instance.types ≡ true =
+        ap (λ (z : Instance). all_eq (map (type_sized types x.own f) qs) z.types) s.2
+        ∙ ap (λ l. all_eq l (y.0).types) (sym wide) ∙ parts.1 in
+        record {
+          instance = awaited;
+          is_there = first_found (called_in types sizing zs x.own list k (length ss) noted) (note_in b (call_note facts place k operands (D.Function g) js qs))
+              awaited (where_node (is_node k (length ss) k operands) _ (is_itself k (length ss) operands many) ∙ listed)
+              (λ z other. passed z.body z.note noted many other) ys apart it;
+          agree = subst (λ ns. AllAgree set.past f (map (option_map an_int) ns) js) (sym same_numbers)
+              (Notes.numbers_given set x sizing zs awaits list instances reached placed covers own_fit of f stands (flags_of sizing g) js w.1);
+          is_covered = λ ts. covers found.0 s.0 (work_of g awaited (map (type_sized types x.own f) qs) ts) s.1 function
+              (λ i. record { place = found.0; numbers = map (option_map an_int) (numbers i) }) owns;
+          own_fit = Notes.given_fit set x sizing zs awaits list instances reached placed covers own_fit b f present.taken stands qs w.0;
+        }
+      where
+        passed : (c : Body) (n : Note) (noted : Noted) → length ss ≡ length operands
+            → are_alike n (call_note facts place k operands (D.Function g) js qs) ≡ false
+            → calls_at types sizing zs x.own list k (length ss) noted c n ≡ None
+        passed c (call_note more spot j others callee is rs) noted many other =
+            unless_node (is_node k (length ss) j others) (called_at types sizing zs x.own list c noted callee is rs)
+            (is_another k (length ss) j operands others many other)
+        passed c (goal_note more spot goal) noted many other = refl
+        passed c (size_note more spot value) noted many other = refl
+        passed c (made_note more j others value) noted many other = refl
+        passed c (way_note more d) noted many other = refl
+        passed c (given_note more j i) noted many other = refl
+        passed c (name_note w name) noted many other = refl
+
+    call_met : (b : Body) (facts : List Fact) (place : Place) (k : ℕ) (operands : List Indices) (callee : Callee) (js : List Index) (qs : List Reading)
+        → IsIn (note_in b (call_note facts place k operands callee js qs)) ys → call_given (inside_of b) list facts callee js qs ≡ true
+        → IsMet set x reached cases (call_note facts place k operands callee js qs)
+    call_met b facts place k operands (D.Function g) js qs it h = called_met b facts place k operands g js qs it h
+    call_met b facts place k operands (D.Row row) js qs it h = tt
+    call_met b facts place k operands (D.Constructor u c) js qs it h = tt
+    call_met b facts place k operands (D.Converts d) js qs it h = tt
+    call_met b facts place k operands (D.Applies d) js qs it h = tt
+
+    -- ---- a note
+
+    pub note_met : (b : Body) (n : Note) → IsIn (note_in b n) ys
+        → note_given reached list (all_nodes types sizing zs x.own list ys) (inside_of b) n ≡ true → OfOthers (IsMet set x reached cases) n
+    note_met b (goal_note facts place goal) it h = tt
+    note_met b (size_note facts place made) it h =
+        Notes.size_met set x sizing zs awaits list instances reached placed covers own_fit b facts made h
+    note_met b (made_note facts k operands made) it h = made_met b facts k operands made it h
+    note_met b (call_note facts place k operands callee js qs) it h = call_met b facts place k operands callee js qs it h
+    note_met b (way_note facts d) it h = h
+    note_met b (given_note facts k i) it h =
+        Notes.given_met set x sizing zs awaits list instances reached placed covers own_fit ys apart b facts k i it h
+    note_met b (name_note v name) it h = tt
+
+pub bodies_are_given : (set : Setting) (x : Work) (sizing : Sizing) (zs : List (Option ℤ)) → x.instance.numbers ≡ map (option_map an_int) zs
+    → (list : List Instance) (instances : List SizedInstance) (reached : ℕ → Bool) → ArePlaced list instances → AreCovered set instances
+    → AllFit set.around.types x.types x.own → (bs : List Body) → bodies_given set.around.types sizing zs x.own reached list bs ≡ true → (b : Body) → IsIn b bs
+    → EachNote (OfOthers (IsMet set x reached (cases_given set.around.types sizing zs x.own list (all_noted bs)))) b.notes
+bodies_are_given set x sizing zs awaits list instances reached placed covers own_fit bs h b i =
+    let ys = all_noted bs in
+    let nodes = all_nodes set.around.types sizing zs x.own list ys in
+    let p = and_parts (are_apart ys) (list_all (noted_given set.around.types sizing zs x.own reached list nodes) ys) h in
+    each_there (OfOthers (IsMet set x reached (cases_given set.around.types sizing zs x.own list ys))) b.notes (λ n k.
+    note_met set x sizing zs awaits list instances reached placed covers own_fit ys p.0 b n (noted_there bs b n i k)
+    (all_in (noted_given set.around.types sizing zs x.own reached list nodes) ys (note_in b n) p.1 (noted_there bs b n i k)))
