@@ -4,3 +4,5 @@ pub mod BodiesPass
 pub mod MappingsPass
 pub mod SidesRead
 pub mod TextsRead
+pub mod FoundOpenings
+pub mod OpeningsPass

@@ -1,5 +1,6 @@
 //! Laws of accepted texts: each function's contract is one, and it does nothing.
 ghost use Rattle.standing_texts.specs.Bodies.{DirectionsPass, FunctionsPass, TextsRead};
+ghost use Rattle.standing_texts.specs.Openings.{OpeningsPass};
 
 /// Nodes of bodies and measures pass the tests of their kinds.
 pub fn functions_pass()
@@ -14,4 +15,9 @@ pub fn directions_pass()
 /// The types that are written in an accepted text read.
 pub fn texts_read()
     ensures { TextsRead }
+{}
+
+/// Nodes of the values of openings pass theirs too, and so do the patterns of top-level lets.
+pub fn openings_pass()
+    ensures { OpeningsPass }
 {}

@@ -3,4 +3,4 @@
 
 mod laws;
 
-pub use laws::{directions_pass, functions_pass, texts_read};
+pub use laws::{directions_pass, functions_pass, openings_pass, texts_read};
