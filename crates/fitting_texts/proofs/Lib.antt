@@ -10,3 +10,4 @@ pub mod LetsOnce
 pub mod PureValues
 pub mod Openings
 pub mod Texts
+pub mod AcceptedFit

@@ -7,3 +7,4 @@ pub mod Names
 pub mod OpeningTests
 pub mod OpeningLaws
 pub mod TextLaws
+pub mod Accepted
