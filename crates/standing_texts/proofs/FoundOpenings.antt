@@ -1,5 +1,5 @@
 -- Each opening that is found passes its tests, in the order of the text.
-use Rattle.std.proofs.Common.{◌≡◌, ◌&&◌, ℕ, Bool, true, List, [], ◌∷◌, ◌++◌, map, take, drop, Option, Some, None, ap, ◌∙◌, refl}
+use Rattle.std.proofs.Common.{◌≡◌, ◌&&◌, ℕ, Bool, true, List, [], ◌∷◌, ◌++◌, map, take, drop, Some, None, ap, ◌∙◌, refl}
 use Rattle.std.proofs.lemmas.Bool.{and_parts}
 use Rattle.sail_base.specs.declared.place.Place.{Place}
 use Rattle.sail_core.specs.declared.model.Opening.{Opening}
@@ -25,7 +25,7 @@ use Rattle.shape_rules.proofs.Firsts.{none_failed}
 use Rattle.shape_meanings.proofs.Settling.{both_empty}
 use Rattle.shapes.specs.Failures.{all_faults, all_lets, initial_found, let_under, lets_faults, lets_with, others_faults, own_in, state_faults}
 use Rattle.shapes.specs.Resolved.{binding_opening, in_text_order, initial_openings, initials_left, initials_openings, let_openings, lets_left}
-use Rattle.shapes.specs.Resolved.{lets_openings, register_opening, register_openings, registers_with, took}
+use Rattle.shapes.specs.Resolved.{lets_openings, register_opening, registers_with, took}
 use Rattle.standing_cores.specs.Types.{every}
 use Rattle.standing_models.specs.Tests.{definition_limited, limited, passes, pattern_limited}
 use Rattle.standing_models.proofs.CorePasses.{cast_passes}

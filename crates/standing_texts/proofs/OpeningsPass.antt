@@ -7,7 +7,7 @@ use Rattle.sail_core.specs.declared.patterns.Pattern.{Pattern}
 use Rattle.sail_names.specs.Patterns.{binds, clashes, uses_failures}
 use Rattle.pattern_leaves.specs.Settings.{Around}
 use Rattle.shape_rules.specs.declared.locals.Local.{Local}
-use Rattle.shape_rules.specs.Scopes.{Setting, plainly}
+use Rattle.shape_rules.specs.Scopes.{Setting}
 use Rattle.shape_models.specs.Models.{Tabled, setting_of, within_variables}
 use Rattle.shape_meanings.proofs.Settling.{both_empty}
 use Rattle.shapes.specs.Failures.{all_lets, lets_with, own_in}
