@@ -10,4 +10,5 @@ pub mod LetsOnce
 pub mod PureValues
 pub mod Openings
 pub mod Texts
+pub mod PatternsPass
 pub mod AcceptedFit

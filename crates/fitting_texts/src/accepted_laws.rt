@@ -1,7 +1,12 @@
-//! The law of accepted texts: its contract is one, and it does nothing.
-ghost use Rattle.fitting_texts.specs.Accepted.{AcceptedTextsFit};
+//! The laws of accepted texts: their contracts are one each, and they do nothing.
+ghost use Rattle.fitting_texts.specs.Accepted.{AcceptedTextsFit, PatternsOfTextsPass};
 
-/// The core of an accepted text passes the test of models where its patterns and targets stand.
+/// Patterns of an accepted text stand where the widths of their `@` read.
+pub fn patterns_of_texts_pass()
+    ensures { PatternsOfTextsPass }
+{}
+
+/// The core of an accepted text passes the test of models where these widths read and targets stand.
 pub fn accepted_texts_fit()
     ensures { AcceptedTextsFit }
 {}

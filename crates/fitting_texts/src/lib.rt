@@ -8,7 +8,7 @@ mod model_laws;
 mod opening_laws;
 mod text_laws;
 
-pub use accepted_laws::accepted_texts_fit;
+pub use accepted_laws::{accepted_texts_fit, patterns_of_texts_pass};
 pub use apart_laws::openings_find_the_same;
 pub use core_laws::{clauses_stand, values_stand, ways_stand};
 pub use model_laws::tested_models_stand;

@@ -220,8 +220,9 @@ module _ (around : Around) (numbers : List Index) (fits : Pattern → Bool) wher
   -- ---- mappings: the patterns of their sides stand, whatever widths the other side gives
 
   module _ (setting : Setting) (names : Tables.Setting) (fit : Fits around numbers fits (answering None setting) names)
-      (sides : (from to : Pat) (from_typ to_typ : Typ) → uses_failures names from ≡ [] → uses_failures names to ≡ [] → pattern_limited from ≡ true
-      → pattern_limited to ≡ true → (look from setting (width_given (gives to setting (Some to_typ))) (shape from_typ)).faults ≡ []
+      (right : Typ → Bool)
+      (sides : (from to : Pat) (from_typ to_typ : Typ) → right to_typ ≡ true → uses_failures names from ≡ [] → uses_failures names to ≡ []
+      → pattern_limited from ≡ true → pattern_limited to ≡ true → (look from setting (width_given (gives to setting (Some to_typ))) (shape from_typ)).faults ≡ []
       → Stands (look from setting (width_given (gives to setting (Some to_typ))) (shape from_typ)).pattern) where
     guard_is : (guard : Option Exp) → guard_limited guard ≡ true → (bound : Bound.Locals)
         → maybe_failures (option_map expression_failures guard) names bound ≡ []
@@ -229,10 +230,11 @@ module _ (around : Around) (numbers : List Index) (fits : Pattern → Bool) wher
     guard_is None q bound u = tt
     guard_is (Some e) q bound u = found_passes around numbers fits e q names bound u (answering None setting) fit
 
-    direction_passes : (from to : Side) (from_typ to_typ : Typ) → side_limited from ≡ true → side_limited to ≡ true → side_failures names from ≡ []
+    direction_passes : (from to : Side) (from_typ to_typ : Typ) → right to_typ ≡ true → side_limited from ≡ true → side_limited to ≡ true
+        → side_failures names from ≡ []
         → side_failures names to ≡ [] → (direction_clause setting from from_typ to to_typ).faults ≡ []
         → ClausePasses (direction_clause setting from from_typ to to_typ)
-    direction_passes from to from_typ to_typ q k u v f =
+    direction_passes from to from_typ to_typ of_typ q k u v f =
         let p : Looked = look from.pattern setting (width_given (gives to.pattern setting (Some to_typ))) (shape from_typ) in
         let s : Setting = answering None setting in
         let locals : Locals = under p.binds [] in
@@ -248,7 +250,7 @@ module _ (around : Around) (numbers : List Index) (fits : Pattern → Bool) wher
         let v1 = both_empty (pattern_failures names to.pattern) _ v in
         let v2 = both_empty (uses_failures names to.pattern) (clashes (binds names.known to.pattern)) v1.0 in
         record {
-          arm = two (fits p.pattern) true (sides from.pattern to.pattern from_typ to_typ u2.0 v2.0 q1.0 k1.0 f2.0) refl;
+          arm = two (fits p.pattern) true (sides from.pattern to.pattern from_typ to_typ of_typ u2.0 v2.0 q1.0 k1.0 f2.0) refl;
           body = guarded_passes around numbers fits s names fit (guard_part from.guard) (cast given.core (read_side to.pattern).place)
               (guard_is from.guard q1.1 bound u1.1) locals f2.1
               (cast_passes around numbers fits given.core (read_side to.pattern).place
@@ -264,30 +266,32 @@ module _ (around : Around) (numbers : List Index) (fits : Pattern → Bool) wher
         let b = both_empty (side_failures names c.left ++ one) (side_failures names c.right) a.0 in
         ((both_empty (side_failures names c.left) one b.0).0, b.1)
 
-    forwards_pass : (m : Mapping) (cs : List MappingClause) → every (map crossing_limited cs) ≡ true → EachCrossed names cs
+    forwards_pass : (m : Mapping) (cs : List MappingClause) → right m.right ≡ true → every (map crossing_limited cs) ≡ true → EachCrossed names cs
         → clauses_faults (forwards_clauses setting m cs) ≡ [] → EachClause (forwards_clauses setting m cs)
-    forwards_pass m [] q u f = tt
-    forwards_pass m (c ∷ cs) q u f =
+    forwards_pass m [] of_typ q u f = tt
+    forwards_pass m (c ∷ cs) of_typ q u f =
         let k = and_parts (crossing_limited c) (every (map crossing_limited cs)) q in
         let l = and_parts (side_limited c.left) (side_limited c.right) k.0 in
         let g = both_empty (direction_clause setting c.left m.left c.right m.right).faults (clauses_faults (forwards_clauses setting m cs)) f in
         let s = both_sides c u.0 in
-        (direction_passes c.left c.right m.left m.right l.0 l.1 s.0 s.1 g.0, forwards_pass m cs k.1 u.1 g.1)
+        (direction_passes c.left c.right m.left m.right of_typ l.0 l.1 s.0 s.1 g.0, forwards_pass m cs of_typ k.1 u.1 g.1)
 
-    backwards_pass : (m : Mapping) (cs : List MappingClause) → every (map crossing_limited cs) ≡ true → EachCrossed names cs
+    backwards_pass : (m : Mapping) (cs : List MappingClause) → right m.left ≡ true → every (map crossing_limited cs) ≡ true → EachCrossed names cs
         → clauses_faults (backwards_clauses setting m cs) ≡ [] → EachClause (backwards_clauses setting m cs)
-    backwards_pass m [] q u f = tt
-    backwards_pass m (c ∷ cs) q u f =
+    backwards_pass m [] of_typ q u f = tt
+    backwards_pass m (c ∷ cs) of_typ q u f =
         let k = and_parts (crossing_limited c) (every (map crossing_limited cs)) q in
         let l = and_parts (side_limited c.left) (side_limited c.right) k.0 in
         let g = both_empty (direction_clause setting c.right m.right c.left m.left).faults (clauses_faults (backwards_clauses setting m cs)) f in
         let s = both_sides c u.0 in
-        (direction_passes c.right c.left m.right m.left l.1 l.0 s.1 s.0 g.0, backwards_pass m cs k.1 u.1 g.1)
+        (direction_passes c.right c.left m.right m.left of_typ l.1 l.0 s.1 s.0 g.0, backwards_pass m cs of_typ k.1 u.1 g.1)
 
-    pub ahead_clauses : (place : Place) (m : Mapping) (cs : List MappingClause) (n : ℕ) → every (map crossing_limited cs) ≡ true → EachCrossed names cs
+    pub ahead_clauses : (place : Place) (m : Mapping) (cs : List MappingClause) (n : ℕ) → right m.right ≡ true → every (map crossing_limited cs) ≡ true
+        → EachCrossed names cs
         → clauses_faults (forwards_clauses setting m cs) ≡ [] → ClausesPass (numbered (clauses_core place (forwards_clauses setting m cs)) n).it
-    ahead_clauses place m cs n q u f = clauses_pass place (forwards_clauses setting m cs) n (forwards_pass m cs q u f)
+    ahead_clauses place m cs n of_typ q u f = clauses_pass place (forwards_clauses setting m cs) n (forwards_pass m cs of_typ q u f)
 
-    pub back_clauses : (place : Place) (m : Mapping) (cs : List MappingClause) (n : ℕ) → every (map crossing_limited cs) ≡ true → EachCrossed names cs
+    pub back_clauses : (place : Place) (m : Mapping) (cs : List MappingClause) (n : ℕ) → right m.left ≡ true → every (map crossing_limited cs) ≡ true
+        → EachCrossed names cs
         → clauses_faults (backwards_clauses setting m cs) ≡ [] → ClausesPass (numbered (clauses_core place (backwards_clauses setting m cs)) n).it
-    back_clauses place m cs n q u f = clauses_pass place (backwards_clauses setting m cs) n (backwards_pass m cs q u f)
+    back_clauses place m cs n of_typ q u f = clauses_pass place (backwards_clauses setting m cs) n (backwards_pass m cs of_typ q u f)

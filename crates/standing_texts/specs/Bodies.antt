@@ -38,6 +38,7 @@ use Rattle.known_texts.specs.Written.{IsWritten}
 use Rattle.standing_cores.specs.Types.{every}
 use Rattle.standing_models.specs.Reads.{text_reads}
 use Rattle.standing_models.specs.Tests.{PatternsFit, arms_tested, passes, pattern_limited, text_limited, unit_pattern}
+use Rattle.text_progress.specs.GivenTypes.{typ_given}
 use Rattle.text_progress.specs.Laws.{core_of}
 
 -- clauses whose patterns pass the test of patterns, and whose bodies pass
@@ -61,11 +62,11 @@ FunctionPasses around fits f =
 abbrev pub PatternsPass : (Pattern → Bool) → Setting → Tables.Setting → Type 0
 PatternsPass fits setting names = PatternsFit fits setting names × PatternsFit fits (plainly setting) (in_measure names)
 
--- a side of a mapping passes whatever widths the other side gives
+-- a side of a mapping passes whatever widths the other side gives, whose type has no variables
 abbrev pub SidesPass : (Pattern → Bool) → Setting → Tables.Setting → Type 0
 SidesPass fits setting names =
-    (from to : Pat) (from_typ to_typ : Typ) → uses_failures names from ≡ [] → uses_failures names to ≡ [] → pattern_limited from ≡ true
-    → pattern_limited to ≡ true → (look from setting (width_given (gives to setting (Some to_typ))) (shape from_typ)).faults ≡ []
+    (from to : Pat) (from_typ to_typ : Typ) → typ_given [] to_typ ≡ true → uses_failures names from ≡ [] → uses_failures names to ≡ []
+    → pattern_limited from ≡ true → pattern_limited to ≡ true → (look from setting (width_given (gives to setting (Some to_typ))) (shape from_typ)).faults ≡ []
     → fits (look from setting (width_given (gives to setting (Some to_typ))) (shape from_typ)).pattern ≡ true
 
 -- those in each body, in each measure and in mappings
