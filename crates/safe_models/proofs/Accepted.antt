@@ -30,7 +30,7 @@ use Rattle.sail_top.specs.Checked.{no_cycle}
 use Rattle.sail_top.specs.Models as Models
 use Rattle.sail_top.specs.Models.{end_of_all}
 use Rattle.whole_runs.specs.Safe.{IsFoundThroughout, ModelsRunSafely, StandsThroughout}
-use Rattle.fitting_texts.specs.TextLaws.{FittingTextsStand}
+use Rattle.safe_models.specs.TextLaws.{FittingTextsStand}
 use Rattle.sail_top.specs.laws.Holding.{AcceptedHold}
 use Rattle.accepted_models.specs.Models.{AcceptedModelsMeanText}
 use Rattle.safe_models.specs.Safe.{AcceptedCoresRunSafely, AcceptedModelsRunSafely, Cycles, IsOfText, TextsRunSafely, meant_of}

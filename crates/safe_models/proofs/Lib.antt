@@ -1,3 +1,17 @@
+pub mod AlikePatterns
+pub mod AlikeForms
+pub mod Alike
+pub mod Cores
+pub mod Models
+pub mod Within
+pub mod FoundNames
+pub mod LookedNames
+pub mod LetsOnce
+pub mod PureValues
+pub mod Openings
+pub mod FittingTexts
+pub mod PatternsPass
+pub mod AcceptedFit
 pub mod Entries
 pub mod Constraints
 pub mod Functions

@@ -1,2 +1,12 @@
+pub mod Apart
+pub mod CoreTests
+pub mod CoreLaws
+pub mod ModelTests
+pub mod ModelLaws
+pub mod Names
+pub mod OpeningTests
+pub mod OpeningLaws
+pub mod TextLaws
+pub mod Accepted
 pub mod Safe
 pub mod Tested

@@ -22,7 +22,7 @@ use Rattle.sail_top.specs.declared.models.Accepted.{Accepted}
 use Rattle.accepted_models.specs.Starts.{HaveZeros}
 use Rattle.whole_runs.specs.Runs.{AreThere, Parts, RunGoes}
 use Rattle.whole_runs.specs.Safe.{CoversThroughout, IsFit, core_parts}
-use Rattle.fitting_texts.specs.TextLaws.{ModelTested}
+use Rattle.safe_models.specs.TextLaws.{ModelTested}
 
 -- the parts of a text's runs, by its own meaning
 abbrev pub text_parts : Text → Parts

@@ -11,7 +11,7 @@ use Rattle.sail_top.specs.Checked.{no_cycle}
 use Rattle.sail_top.specs.Models.{AreAccepted}
 use Rattle.sail_top.specs.declared.models.Accepted.{Accepted}
 use Rattle.whole_runs.specs.Safe.{CoversThroughout}
-use Rattle.fitting_texts.specs.TextLaws.{ModelTested}
+use Rattle.safe_models.specs.TextLaws.{ModelTested}
 use Rattle.safe_models.specs.Safe.{RunsSafely}
 
 -- the list of instances of a core is found and tested

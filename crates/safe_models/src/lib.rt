@@ -1,10 +1,22 @@
-//! Texts that the program accepts run safely: no part of a run is stuck; so where their lists of instances are tested. Laws alone.
+//! Texts that the program accepts run safely: no part of a run is stuck where their cores pass tests; and what of these tests their texts give.
 #![tactic(auto)]
 
+mod accepted_laws;
+mod apart_laws;
+mod core_laws;
+mod model_laws;
+mod opening_laws;
 mod safe_laws;
 mod tested_laws;
+mod text_laws;
 
+pub use accepted_laws::{accepted_texts_fit, patterns_of_texts_pass};
+pub use apart_laws::openings_find_the_same;
+pub use core_laws::{clauses_stand, values_stand, ways_stand};
+pub use model_laws::tested_models_stand;
+pub use opening_laws::tested_openings_stand;
 pub use safe_laws::{
     accepted_cores_run_safely, accepted_models_run_safely, fresh_states_belong, texts_run_safely,
 };
 pub use tested_laws::{tested_lists_cover, tested_models_run_safely};
+pub use text_laws::fitting_texts_stand;

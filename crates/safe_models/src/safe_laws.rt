@@ -1,8 +1,8 @@
 //! The laws: each function's contract is one, and it does nothing.
 ghost use Rattle.safe_models.specs.Safe.{AcceptedCoresRunSafely, AcceptedModelsRunSafely, FreshStatesFit, TextsRunSafely};
 
+use crate::text_laws::fitting_texts_stand;
 use accepted_models::accepted_models_mean_text;
-use fitting_texts::fitting_texts_stand;
 use known_texts::{definitions_are_signed, nothing_fails};
 use sail_top::obligations_of_accepted_texts_hold;
 use text_progress::parsed_texts_are_written;
