@@ -23,7 +23,7 @@ use Rattle.soundness_sizes.specs.Kinds.{sizes_stand}
 use Rattle.soundness_values.specs.Named.{TypesNarrow}
 use Rattle.soundness_targets.specs.Plain.{all_plain}
 
--- an assignment is to names, to parts of names, by calls, and to tuples of names and calls
+-- an assignment is to names, to parts of names, by calls, and to tuples of these
 abbrev pub targets_stand : Kind → Bool
 targets_stand (K.Assign targets) = all_plain targets
 targets_stand kind = true

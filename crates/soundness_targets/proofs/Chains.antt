@@ -27,11 +27,13 @@ use Rattle.soundness_forms.specs.Worlds.{Surrounds}
 use Rattle.soundness_forms.proofs.Basics.{wrongs}
 use Rattle.soundness_parts.proofs.Taken.{z}
 use Rattle.soundness_values.specs.Named.{TypesNarrow}
-use Rattle.soundness_targets.specs.Plain.{Shape, a_call, a_name, a_part, a_tuple, all_plain, another, is_plain, shape}
+use Rattle.soundness_targets.specs.Plain.{Shape, a_call, a_name, a_part, a_parted, a_tuple, all_plain, another, is_plain, shape}
 use Rattle.soundness_targets.proofs.CallTargets.{call_target}
 use Rattle.soundness_targets.proofs.ChainGrowth.{chain_grows}
 use Rattle.soundness_targets.proofs.OneTarget.{Goes, name_target, part_target}
+use Rattle.soundness_targets.proofs.Items.{items_found}
 use Rattle.soundness_targets.proofs.Members.{each_finds}
+use Rattle.soundness_targets.proofs.PartTuples.{parts_target}
 use Rattle.soundness_targets.proofs.TupleTargets.{tuple_target}
 use Rattle.soundness_targets.proofs.Rights.{chain_fine, chain_right, chain_splits, value_fine, value_right, value_splits}
 use Rattle.soundness_targets.proofs.Shapes.{ShapeIs, shape_is}
@@ -78,6 +80,13 @@ module _ (fit : FitsSuffice) (q : Scene) (w : World Item) (narrow : TypesNarrow 
       ∙ fold-roll-Target (Runs.Spotting Item (Runs.Spot Item)) (λ u. target_meaning (z q) w u.place u.number u.kind u.parts) _))
       (tuple_target fit q w narrow closed place scope h.place h.number (map spotting h.parts) (map meaning h.parts)
       (each_finds fit q w closed places mappings scope h.parts h.members)))
+  target_goes t a_parted h e =
+      subst (λ (s : Spotting). GoesOn s (meaning t)) (sym (ap spotting h.same ∙ fold-roll-Target Spotting (λ u. kind_spot u.place u.number u.kind u.parts) _))
+      (subst (λ (s : Runs.Spotting Item (Runs.Spot Item)). GoesOn (kind_spot h.place h.number T.Tuple (map spotting h.parts)) s)
+      (sym (ap meaning h.same
+      ∙ fold-roll-Target (Runs.Spotting Item (Runs.Spot Item)) (λ u. target_meaning (z q) w u.place u.number u.kind u.parts) _))
+      (parts_target fit q w narrow closed place scope h.place h.number (map spotting h.parts) (map meaning h.parts) (λ n f there.
+      items_found fit q w narrow closed places mappings scope f there h.parts h.items)))
   target_goes t another h e = absurd (cc)
 
   abbrev Chain : List Target → Type 0

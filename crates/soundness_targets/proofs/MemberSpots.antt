@@ -1,10 +1,8 @@
 -- Names, calls and tuples that may be parts of a tuple of targets.
-use Rattle.std.proofs.Common.{◌≡◌, ◌∙◌, ℕ, suc, Bool, true, false, List, [], ◌∷◌, if◌then◌else◌, Option, Some, None, refl, sym, ap, subst}
+use Rattle.std.proofs.Common.{◌≡◌, ◌∙◌, ℕ, Bool, true, false, List, [], ◌∷◌, if◌then◌else◌, Option, refl, sym, ap, subst}
 use Rattle.sail_base.specs.declared.place.Place.{Place}
 use Rattle.sail_types.specs.Belongs.{belongs}
 use Rattle.sail_types.specs.declared.types.Typ.{Typ}
-use Rattle.sail_types.specs.declared.values.Value.{Value, out-Value}
-use Rattle.sail_types.specs.declared.values.Value.TheOpen as V
 use Rattle.sail_core.specs.Making.{World, made}
 use Rattle.sail_core.specs.Patterns.{components}
 use Rattle.sail_core.specs.Run.{Run, needs, ◌then◌}
@@ -12,26 +10,23 @@ use Rattle.sail_core.specs.Targets as Runs
 use Rattle.sail_core.specs.Values.{parts_in}
 use Rattle.sail_core.specs.declared.targets.Caller.{Caller}
 use Rattle.value_indices.specs.Steps.{bind, give}
-use Rattle.value_indices.specs.declared.indices.Indices.{Indices, out-Indices, roll-Indices}
+use Rattle.value_indices.specs.declared.indices.Indices.{Indices, out-Indices}
 use Rattle.value_indices.specs.declared.indices.Indices.TheOpen as W
 use Rattle.value_indices.specs.declared.indices.Indices.TheOpen.{Indices-F}
 use Rattle.value_indices.specs.declared.indices.Indices.TheVariants as I
-use Rattle.value_indices.specs.declared.indices.Indices.TheViews.{roll-out-Indices}
 use Rattle.value_indices.specs.declared.indices.Reading.{Reading}
 use Rattle.value_indices.specs.declared.indices.Reading.TheVariants as R
 use Rattle.value_indices.specs.declared.notes.Fact.{Fact}
 use Rattle.value_fits.specs.Fitting.{says}
 use Rattle.value_fits.specs.declared.fitted.Fitted.{Fitted}
 use Rattle.pattern_leaves.specs.Settings.{Scope}
-use Rattle.call_arguments.specs.Aims.{aimed, is_hole}
 use Rattle.call_arguments.specs.Callees.{is_closed}
-use Rattle.call_arguments.specs.Holes.{has_hole}
 use Rattle.call_arguments.specs.declared.aims.Aim.TheVariants as Aims
 use Rattle.call_notes.specs.Calls.{callee_types}
 use Rattle.call_notes.specs.Ends.{fits_unless, is_never_form, wrong_value}
 use Rattle.expression_forms.specs.Nodes.{put}
 use Rattle.expression_forms.specs.Spots as Walked
-use Rattle.expression_forms.specs.Spots.{Spot, Wrote, any_hole, call_spot, call_written, each_typ, last_type, named_spot, parts_nested}
+use Rattle.expression_forms.specs.Spots.{Spot, Wrote, call_spot, call_written, last_type, named_spot, parts_nested}
 use Rattle.expression_forms.specs.Spots.{tuple_spot, tuple_write, wrong_write, wrote}
 use Rattle.expression_steps.specs.Calls.{argument_aims, nestings}
 use Rattle.expression_steps.specs.Parts.{Part}
@@ -46,7 +41,7 @@ use Rattle.soundness_steps.specs.Points.{Later}
 use Rattle.soundness_steps.proofs.Points.{agree_on, later_on, no_later}
 use Rattle.soundness_steps.specs.Works.{Scene, here}
 use Rattle.soundness_steps.specs.Steps.{Beside, Grows}
-use Rattle.soundness_steps.specs.Values.{AllAre, Belongs, Is, IsMet}
+use Rattle.soundness_steps.specs.Values.{Belongs, Is, IsMet}
 use Rattle.soundness_steps.proofs.Steps.{means, runs_as, runs_on}
 use Rattle.soundness_forms.specs.Calls.{CalleeFits}
 use Rattle.soundness_forms.specs.Forms.{FitsSuffice}
@@ -65,27 +60,12 @@ use Rattle.soundness_targets.proofs.CallGrowth.{written_grow}
 use Rattle.soundness_targets.proofs.CallTargets.{each_on, value_written}
 use Rattle.soundness_targets.proofs.Named.{put_fine}
 use Rattle.soundness_targets.proofs.PartWrites.{NameFine, run_base}
-use Rattle.soundness_targets.proofs.TupleTypes.{Typed, first_false, parts_hole, tuple_typed}
-use Rattle.soundness_targets.proofs.TupleValues.{AllBelong, all_belong, parted}
-use Rattle.soundness_targets.proofs.TupleWrites.{AllDue, AllMeet, AllWritable, Dues, Meets, Writable, all_dues, all_grow, all_left, all_left_is, all_same_dues}
+use Rattle.soundness_targets.proofs.Pieces.{give_any}
+use Rattle.soundness_targets.proofs.TupleTypes.{Typed, tuple_typed}
+use Rattle.soundness_targets.proofs.TupleShares.{Shared, items_of, shared, shared_items}
+use Rattle.soundness_targets.proofs.TupleWrites.{AllDue, AllWritable, Dues, Meets, Writable, all_dues, all_grow, all_left, all_left_is, all_same_dues}
 use Rattle.soundness_targets.proofs.TupleWrites.{all_suffice, all_types, all_written}
 use Rattle.soundness_targets.proofs.WriteGrowth.{put_grows}
-
--- what is given doesn't count
-give_any : {q : Scene} {n : ℕ} {f : Point n} {facts : List Fact} {A B C : Type 0} {H : (m : ℕ) → Point m → A → C → Type 0} {c : Run Item C} (b : A) (a : B)
-    (P : B → Type 0) → P a → Beside q n f facts (give b) c H → Beside q n f facts (give a) c (λ m p x r. P x)
-unfolding give
-give_any {q} {n} {f} {facts} {c = c} b a P h beside =
-    let said : Beside q n f facts (give b) c (λ m p x r. P a) = means (λ m g x r l k. h) beside in
-    record { run = λ now stands met ok. said.run now stands met ok }
-
--- nothing is owed of what isn't nested
-not_owed : (q : Scene) {n : ℕ} (f : Point n) (s : Spot) (v : Value) → IsMet q.set q.work f (aimed Aims.Given s.typ) false v
-not_owed q f s v = by (is_hole s.typ)
-  where
-    by : (b : Bool) → IsMet q.set q.work f (if b then Aims.Free else Aims.Given s.typ) false v
-    by true = tt
-    by false = tt
 
 -- ---- a name
 
@@ -197,17 +177,12 @@ module _ (q : Scene) (w : World Item) {n : ℕ} (f : Point n) (at : Place) (k : 
   abbrev pub run_tuple : Runs.Spot Item
   run_tuple = Runs.tuple_spot (z q) k srs
 
-  -- the items of a value
-  abbrev pub items_of : Item → Option (List Value) → List Item
-  items_of u None = []
-  items_of u (Some vs) = components (z q) u 0 vs
-
   abbrev pub form_left : Bool → Indices-F Indices Reading → ℕ → Fitted
   form_left nested (W.Tuple is) = all_left q f ss srs all (parts_nested ss nested) is
   form_left nested form = says []
 
   abbrev pub form_dues : Bool → Indices-F Indices Reading → Item → Dues
-  form_dues nested (W.Tuple is) u = all_dues q f ss srs all (parts_nested ss nested) is (items_of u (parts_in u.val))
+  form_dues nested (W.Tuple is) u = all_dues q f ss srs all (parts_nested ss nested) is (items_of q u (parts_in u.val))
   form_dues nested form u = []
 
   wrong_left : (facts : List Fact) (m : ℕ) → (wrong_write at facts m).value.left ≡ says []
@@ -232,60 +207,11 @@ module _ (q : Scene) (w : World Item) {n : ℕ} (f : Point n) (at : Place) (k : 
   form_grows nested W.Never = grows_give (wrote (says []) I.Unit)
   form_grows nested form = wrong_grows
 
-  -- ---- a value of a tuple's indices, part by part
+  -- ---- its parts
 
-  -- where nothing is owed further in
-  all_free : {m : ℕ} (g : Point m) (ts : List Spot) (is : List Indices) (us : List Item) → AllAre q.set q.work g is us → AllMeet q g ts false is us
-  all_free g [] [] [] h = tt
-  all_free g (s ∷ ts) [] [] h = tt
-  all_free g [] (i ∷ is) (u ∷ us) h = tt
-  all_free g (s ∷ ts) (i ∷ is) (u ∷ us) h = ((h.0, not_owed q g s u.val), all_free g ts is us h.1)
-  all_free g ts [] (u ∷ us) h = absurd h
-  all_free g ts (i ∷ is) [] h = absurd h
-
-  -- where it is, each part belongs to its type
-  all_given : {m : ℕ} (g : Point m) (u : Item) (j : ℕ) (ts : List Spot) (is : List Indices) (vs : List Value) → any_hole (each_typ ts) ≡ false
-      → AllAre q.set q.work g is (components (z q) u j vs) → AllBelong q g (each_typ ts) vs → AllMeet q g ts true is (components (z q) u j vs)
-  all_given g u j [] [] [] whole h b = tt
-  all_given g u j (s ∷ ts) (i ∷ is) (v ∷ vs) whole h b =
-      let both = first_false q (has_hole s.typ) (any_hole (each_typ ts)) whole in
-      ((h.0, subst (λ aim. IsMet q.set q.work g aim true v) (sym (aimed_is Aims.Given s.typ both.0)) b.0), all_given g u (suc j) ts is vs both.1 h.1 b.1)
-  all_given g u j [] is (v ∷ vs) whole h b = absurd b
-  all_given g u j (s ∷ ts) is [] whole h b = absurd b
-  all_given g u j [] (i ∷ is) [] whole h b = absurd h
-  all_given g u j (s ∷ ts) [] (v ∷ vs) whole h b = absurd h
-
-  meet_by : {m : ℕ} (g : Point m) (is : List Indices) (u : Item) (vs : List Value) → out-Value u.val ≡ V.Tuple vs
-      → AllAre q.set q.work g is (components (z q) u 0 vs) → (nested c : Bool) → any_hole (each_typ ss) ≡ c
-      → IsMet q.set q.work g (aimed Aims.Given (if c then R.Hole else R.Parts (each_typ ss))) nested u.val
-      → AllMeet q g ss (if c then false else nested) is (components (z q) u 0 vs)
-  meet_by g is u vs out parts nested true e met = all_free g ss is (components (z q) u 0 vs) parts
-  meet_by g is u vs out parts false false e met = all_free g ss is (components (z q) u 0 vs) parts
-  meet_by g is u vs out parts true false e met =
-      let whole = parts_hole q (each_typ ss) ∙ e in
-      all_given g u 0 ss is vs e parts (all_belong q g (each_typ ss) u.val vs out
-      (subst (λ aim. IsMet q.set q.work g aim true u.val) (aimed_is Aims.Given (R.Parts (each_typ ss)) whole) met))
-
-  -- what its parts are
-  pub record Shared {m : ℕ} (g : Point m) (nested : Bool) (is : List Indices) (u : Item) : Type 0 where
-    pub values : List Value
-    pub are_parts : parts_in u.val ≡ Some values
-    pub meet : AllMeet q g ss (parts_nested ss nested) is (components (z q) u 0 values)
-
-  shared : {m : ℕ} (g : Point m) (nested : Bool) (i : Indices) (is : List Indices) (u : Item) → out-Indices i ≡ W.Tuple is → Meets q g a_tuple nested i u
-      → Shared g nested is u
-  shared g nested i is u e meet =
-      let same_indices : i ≡ I.Tuple is = sym (roll-out-Indices i) ∙ ap roll-Indices e ∙ I.rolls-Tuple is in
-      let p = parted q g is u (subst (λ j. Is q.set q.work g j u) same_indices meet.0) in
-      record {
-        values = p.values;
-        are_parts = p.are_parts;
-        meet = meet_by g is u p.values p.out p.parts nested (any_hole (each_typ ss)) refl meet.1;
-      }
-
-  shared_items : {m : ℕ} (g : Point m) (nested : Bool) (is : List Indices) (u : Item) → Shared g nested is u
-      → AllMeet q g ss (parts_nested ss nested) is (items_of u (parts_in u.val))
-  shared_items g nested is u s = subst (λ o. AllMeet q g ss (parts_nested ss nested) is (items_of u o)) (sym s.are_parts) s.meet
+  shared_here : {m : ℕ} (g : Point m) (nested : Bool) (i : Indices) (is : List Indices) (u : Item) → out-Indices i ≡ W.Tuple is → Meets q g a_tuple nested i u
+      → Shared q ss g nested is u
+  shared_here g nested i is u e meet = shared q ss g nested i is u e meet.0 meet.1
 
   -- ---- what is left, and how it is written
 
@@ -293,16 +219,16 @@ module _ (q : Scene) (w : World Item) {n : ℕ} (f : Point n) (at : Place) (k : 
       → (form : Indices-F Indices Reading) → out-Indices i ≡ form → (c d : Integers) → Agree g c → Agree g d → AllDue q c (form_dues nested form u)
       → AllDue q d (form_dues nested form u)
   form_same m g l nested i u meet (W.Tuple is) e c d a b due =
-      all_same_dues q f ss srs all m g l (parts_nested ss nested) is (items_of u (parts_in u.val))
-      (shared_items g nested is u (shared g nested i is u e meet)) c d a b due
+      all_same_dues q f ss srs all m g l (parts_nested ss nested) is (items_of q u (parts_in u.val))
+      (shared_items q ss g nested is u (shared_here g nested i is u e meet)) c d a b due
   form_same m g l nested i u meet form e c d a b due = tt
 
   pub form_suffices : (m : ℕ) (g : Point m) → Later f g → (nested : Bool) (i : Indices) (u : Item) → Meets q g a_tuple nested i u
       → (form : Indices-F Indices Reading) → out-Indices i ≡ form → (d : ℕ) (p : Point d) → Later g p
       → Suffices q.set.past d p (form_left nested form d) (λ c. AllDue q c (form_dues nested form u))
   form_suffices m g l nested i u meet (W.Tuple is) e d p lp =
-      all_suffice q f ss srs all m g l (parts_nested ss nested) is (items_of u (parts_in u.val))
-      (shared_items g nested is u (shared g nested i is u e meet)) d p lp
+      all_suffice q f ss srs all m g l (parts_nested ss nested) is (items_of q u (parts_in u.val))
+      (shared_items q ss g nested is u (shared_here g nested i is u e meet)) d p lp
   form_suffices m g l nested i u meet form e d p lp = says_so [] (λ c a s. tt)
 
   form_written : (m : ℕ) (g : Point m) (fs : List Fact) → Later f g → (nested : Bool) (i : Indices) (u : Item) → Meets q g a_tuple nested i u
@@ -310,10 +236,10 @@ module _ (q : Scene) (w : World Item) {n : ℕ} (f : Point n) (at : Place) (k : 
       → Beside q m g fs (tuple_write at ss nested form) (run_tuple.write u)
       (λ d p a r. (a.left ≡ form_left nested form) × ((a.answer ≡ I.Unit) × Is q.set q.work p I.Unit r))
   form_written m g fs l nested i u meet (W.Tuple is) e due =
-      let s = shared g nested i is u e meet in
+      let s = shared_here g nested i is u e meet in
       runs_as (λ now. λ j. (needs (sym s.are_parts j) then λ vs. Runs.writes (z q) srs (components (z q) u 0 vs)) now)
       (all_written q f w at ss srs all m g fs l (parts_nested ss nested) is (components (z q) u 0 s.values) s.meet
-      (subst (λ o. (c : Integers) → Agree g c → AllDue q c (all_dues q f ss srs all (parts_nested ss nested) is (items_of u o))) s.are_parts due))
+      (subst (λ o. (c : Integers) → Agree g c → AllDue q c (all_dues q f ss srs all (parts_nested ss nested) is (items_of q u o))) s.are_parts due))
   form_written m g fs l nested i u meet W.Never e due =
       let bad : true ≡ false = sym (ap is_never_form e) ∙ not_never q.set q.work i u.val meet.0.has in
       absurd (cc)

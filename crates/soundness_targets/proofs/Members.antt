@@ -40,7 +40,7 @@ use Rattle.soundness_forms.proofs.Worlds.{surrounds_on}
 use Rattle.soundness_values.proofs.Mappings.{arguments_steady}
 use Rattle.soundness_values.proofs.NamedKinds.{all_taken}
 use Rattle.soundness_parts.proofs.Taken.{z}
-use Rattle.soundness_targets.specs.Plain.{Shape, a_call, a_name, a_part, a_tuple, another, is_called, is_member, shape, shape_form}
+use Rattle.soundness_targets.specs.Plain.{Shape, a_call, a_name, a_part, a_parted, a_tuple, another, is_called, is_item, is_member, shape, shape_form}
 use Rattle.soundness_targets.proofs.CallTargets.{all_dropped}
 use Rattle.soundness_targets.proofs.MemberSpots.{call_writable, name_writable, tuple_writable}
 use Rattle.soundness_targets.proofs.Setters.{Var, held_keeps}
@@ -173,10 +173,12 @@ module _ (fit : FitsSuffice) (q : Scene) (w : World Item) (closed : RegistersClo
       more_found (spotting y.0) (meaning y.0) (map spotting (targets_of ys)) (map meaning (targets_of ys)) (y.1 both.0) (all_members ys both.1)
 
   module _ (at : Place) (k : ℕ) where
-    by_tuple : (ys : List Such) (b : Bool) → list_all is_member (map shape (targets_of ys)) ≡ b → is_member (if b then a_tuple else another) ≡ true
+    by_tuple : (ys : List Such) (b c : Bool) → list_all is_member (map shape (targets_of ys)) ≡ b
+        → is_member (if b then a_tuple else if c then a_parted else another) ≡ true
         → Finds (kind_spot at k T.Tuple (map spotting (targets_of ys))) (target_meaning (z q) w at k T.Tuple (map meaning (targets_of ys)))
-    by_tuple ys true e m = tuple_found at k (map spotting (targets_of ys)) (map meaning (targets_of ys)) (all_members ys e)
-    by_tuple ys false e m = absurd (cc)
+    by_tuple ys true c e m = tuple_found at k (map spotting (targets_of ys)) (map meaning (targets_of ys)) (all_members ys e)
+    by_tuple ys false true e m = absurd (cc)
+    by_tuple ys false false e m = absurd (cc)
 
     by_call : (count : ℕ) (reader : Option Caller) (writer : Caller) (b : Bool) → is_called writer.callee ≡ b
         → is_member (if b then a_call else another) ≡ true
@@ -190,11 +192,13 @@ module _ (fit : FitsSuffice) (q : Scene) (w : World Item) (closed : RegistersClo
     no_part ss (a_part ∷ []) = refl
     no_part ss (a_call ∷ []) = refl
     no_part ss (a_tuple ∷ []) = refl
+    no_part ss (a_parted ∷ []) = refl
     no_part ss (another ∷ []) = refl
     no_part ss (a_name ∷ c ∷ cs) = refl
     no_part ss (a_part ∷ c ∷ cs) = refl
     no_part ss (a_call ∷ c ∷ cs) = refl
     no_part ss (a_tuple ∷ c ∷ cs) = refl
+    no_part ss (a_parted ∷ c ∷ cs) = refl
     no_part ss (another ∷ c ∷ cs) = refl
 
     form_by : (kind : TargetKind) (ys : List Such) → is_member (shape_form kind (map shape (targets_of ys))) ≡ true
@@ -204,7 +208,7 @@ module _ (fit : FitsSuffice) (q : Scene) (w : World Item) (closed : RegistersClo
     form_by (T.Register i) [] m = λ n f facts ps us fine there.
         register_found f facts ps us fine there at k i (slice_get q.set.around.registers i) refl
     form_by (T.Call count reader writer) [] m = by_call count reader writer (is_called writer.callee) refl m
-    form_by T.Tuple ys m = by_tuple ys (list_all is_member (map shape (targets_of ys))) refl m
+    form_by T.Tuple ys m = by_tuple ys (list_all is_member (map shape (targets_of ys))) (list_all is_item (map shape (targets_of ys))) refl m
     form_by (T.Part ss) ys m =
         let bad : true ≡ false = sym m ∙ no_part ss (map shape (targets_of ys)) in
         absurd (cc)
@@ -222,7 +226,7 @@ module _ (fit : FitsSuffice) (q : Scene) (w : World Item) (closed : RegistersClo
       (form_by y.place y.number y.kind y.parts
       (subst (λ c. is_member c ≡ true) (fold-roll-Target Shape (λ t. shape_form t.kind t.parts) (map-Target Such Target (λ p. p.0) y)) m)))
 
-  member_finds : (t : Target) → FindsSo t
+  pub member_finds : (t : Target) → FindsSo t
   member_finds = ind-Target FindsSo (λ e y same_form. subst (λ d. FindsSo (roll-Target d)) same_form (step y))
 
   pub each_finds : (ts : List Target) → list_all is_member (map shape ts) ≡ true → FindsAll (map spotting ts) (map meaning ts)

@@ -1,5 +1,5 @@
 -- A value that is written to a part of a name, beside its walk: the name is read again, and gets the value of which the part was replaced.
-use Rattle.std.proofs.Common.{◌≡◌, ◌∙◌, ℕ, Bool, true, false, List, [], ◌∷◌, ◌++◌, Some, sym, ap, subst}
+use Rattle.std.proofs.Common.{◌≡◌, ◌∙◌, ℕ, Bool, true, false, List, [], ◌∷◌, ◌++◌, Some, refl, sym, ap, subst}
 use Rattle.sail_base.specs.declared.place.Place.{Place}
 use Rattle.sail_types.specs.Belongs.{belongs}
 use Rattle.sail_types.specs.declared.values.Value.{Value}
@@ -48,6 +48,7 @@ use Rattle.soundness_targets.proofs.Again.{CanMake}
 use Rattle.soundness_targets.proofs.Foreseen.{conditions_given, owed_before}
 use Rattle.soundness_targets.proofs.Moments.{At, Front, at_again, at_as, at_give, at_given, at_last, at_put, at_regrouped, at_walks, front_given}
 use Rattle.soundness_targets.proofs.Moments.{front_owed, noted_is, put_is}
+use Rattle.soundness_targets.proofs.Pieces.{give_any}
 use Rattle.soundness_targets.proofs.Spots.{Is_at, WayTo}
 
 -- what is known of the value of a name that is foreseen, where it is read
@@ -109,6 +110,15 @@ module _ (q : Scene) (place at : Place) (k : ℕ) (way : Way) (base_at : Place) 
     Behind facts = with_given facts (variables_given i)
 
     -- by an index
+    index_owed_alone : (n : ℕ) (facts : List Fact) → has_hole x.typ ≡ false → AllMet q (part_put (here q) at k true x again nested i facts n).notes
+        → AllMet q (owe_fit at fits (Behind facts) n).notes
+    unfolding bind
+    index_owed_alone n facts whole met =
+        let p : Went (Unit {0}) = puts facts n in
+        let w : Walk Wrote = part_write (here q) at true x again nested i in
+        met_front q (owe_fit at fits (Behind facts) n).notes _
+        (subst (λ (s : Went (Unit {0})). AllMet q (w s.facts s.next).notes) (put_is n facts k i x.typ whole) (met_behind q p.notes _ met))
+
     index_owed : (n : ℕ) (facts : List Fact) → has_hole x.typ ≡ false
         → AllMet q (bind (part_put (here q) at k true x again nested i) (owed_answer place) facts n).notes
         → AllMet q (owe_fit at fits (Behind facts) n).notes
@@ -223,6 +233,50 @@ module _ (q : Scene) (place at : Place) (k : ℕ) (way : Way) (base_at : Place) 
         part_owed d c gs l =
             walks_mean (λ e h t s. tt) (part_owed_fits q x i y.val (is_on l is).has (wanted_on q.set q.work x.typ l reaches.wanted) place nested
             (met_on q.set q.work (Aims.Given x.typ) nested y.val l met))
+
+        -- where what is left is owed elsewhere
+        left_alone : (left : ℕ → Fitted) (m : ℕ) (g : Point m) (fs : List Fact) → Later f g → Front earlier fs → (o : Noted) (u : Item) → u.val ≡ y.val → Fits f
+            → At q m g fs (bind again (λ a. give (wrote left a))) o (renewed (z q) named ways u.val (record now { opened = o })) (λ d c a t. a.left ≡ left)
+        left_alone left m g fs l there o u e fit =
+            let a = renewed_is fit in
+            at_regrouped (numbers_noted b held) (λ t. give I.Unit) (λ c. give (wrote left c))
+            (at_as (read_is o u e)
+            (at_given (bind (give I.Unit) (λ c. give (wrote left c))) replaced_then (record now { opened = o }) b held r v earlier seen.makes there
+            (has_on l seen.has_v) (λ c h. seen.keeps v seen.has_v.is_so c (agree_on l h)) (λ more old s note.
+            at_as (replaces more old a.0 s a.1)
+            (at_again (bind (give I.Unit) (λ c. give (wrote left c))) set (record now { opened = more }) b held r a.0 earlier seen.makes there note
+            (has_on l a.2) (λ c h. a.3 c (agree_on l h)) (λ last w same_value.
+            at_give I.Unit (λ c. give (wrote left c))
+            (at_last (record now { opened = last })
+            (give_any I.Unit (wrote left I.Unit) (λ (x : Wrote). x.left ≡ left) refl
+            (sets m g _ w l (λ c h. ap (is_of q.set.around.types (standing q.set.past c) q.work.types r) same_value ∙ a.3 c (agree_on l h))))
+            (record { state = ok.state; names = ok.names })))))))
+
+        abbrev Alone : Bool → (ℕ → Fitted) → Type 0
+        Alone owes left = At q n f facts (part_put (here q) at k owes x again nested i) now.opened ((part_spot (z q) k named ways).write y now)
+            (λ d c a t. a.left ≡ left)
+
+        index_alone : Fits f → Alone true (says [])
+        index_alone fit =
+            at_put (part_write (here q) at true x again nested i) (λ u. renewed (z q) named ways u.val) now k i x.typ y
+            reaches.wanted.1 is fit.belongs_to (λ more u e.
+            at_walks (λ t. bind again gives) (part_owed_fits q x i y.val is.has reaches.wanted at nested met) (λ g l h.
+            left_alone (says []) _ g _ l (front_owed earlier (Behind facts) n at fits (front_given earlier facts (variables_given i) front)) more u e fit))
+
+        -- by an index
+        pub index_put : Alone true (says [])
+        index_put = record {
+          go = λ stands all.
+              (index_alone (fits_there facts (Behind facts) at (λ more. conditions_given facts (variables_given i) more) is reaches.wanted met now.opened stands
+              (index_owed_alone n facts reaches.wanted.1 all))).go stands all;
+        }
+
+        -- by a field
+        pub field_put : Fits f → Alone false fits
+        field_put fit =
+            at_put (part_write (here q) at false x again nested i) (λ u. renewed (z q) named ways u.val) now k i x.typ y
+            reaches.wanted.1 is fit.belongs_to (λ more u e.
+            left_alone fits n f (Behind facts) (no_later f) (front_given earlier facts (variables_given i) front) more u e fit)
 
         abbrev Ends : Bool → Type 0
         Ends owes = At q n f facts (bind (part_put (here q) at k owes x again nested i) (owed_answer place)) now.opened

@@ -13,11 +13,11 @@ use Rattle.soundness_steps.specs.Steps.{AllMet, Beside, EndsWell, Reach, Stands,
 use Rattle.soundness_steps.proofs.Steps.{met_behind, met_front, well_on}
 
 -- how a piece that gave something did
-abbrev Gave : (q : Scene) {n : ℕ} (f : Point n) (m : ℕ) (facts : List Fact) {B : Type 0} → (Point m → B → Type 0) → Ended Item B → Type 0
+abbrev pub Gave : (q : Scene) {n : ℕ} (f : Point n) (m : ℕ) (facts : List Fact) {B : Type 0} → (Point m → B → Type 0) → Ended Item B → Type 0
 Gave q f m facts Holds (R.Gives x now) = Reach q.set q.work now.opened f m facts (λ p. Holds p x) × Sound q now
 Gave q f m facts Holds e = Unit {0}
 
-gave : {q : Scene} {n : ℕ} {f : Point n} {m : ℕ} {facts : List Fact} {B : Type 0} {Holds : Point m → B → Type 0} {e : Ended Item B}
+pub gave : {q : Scene} {n : ℕ} {f : Point n} {m : ℕ} {facts : List Fact} {B : Type 0} {Holds : Point m → B → Type 0} {e : Ended Item B}
     → EndsWell q f m facts Holds e → Gave q f m facts Holds e
 gave (well_given x now r h) = (r, h)
 gave (well_no now a h) = tt

@@ -54,3 +54,11 @@ pub starts : {q : Scene} {n : ℕ} {f : Point n} {facts : List Fact} {A C D : Ty
     {Holds : (m : ℕ) → Point m → C → D → Type 0} → Beside q n f facts (k a) c Holds → Beside q n f facts (bind (give a) k) c Holds
 unfolding bind give
 starts a k b = record { run = b.run }
+
+-- what is given doesn't count
+pub give_any : {q : Scene} {n : ℕ} {f : Point n} {facts : List Fact} {A B C : Type 0} {H : (m : ℕ) → Point m → A → C → Type 0} {c : Run Item C} (b : A) (a : B)
+    (P : B → Type 0) → P a → Beside q n f facts (give b) c H → Beside q n f facts (give a) c (λ m p x r. P x)
+unfolding give
+give_any {q} {n} {f} {facts} {c = c} b a P h beside =
+    let said : Beside q n f facts (give b) c (λ m p x r. P a) = means (λ m g x r l k. h) beside in
+    record { run = λ now stands met ok. said.run now stands met ok }

@@ -33,11 +33,13 @@ pub record Right : Type 0 where
   pub first : Spot → List Part → Walk Indices
   pub last : Spot → List Part → Indices → Walk Indices
   pub run : List (Run Item Item) → Run Item Item
+  -- whether what is owed of it is owed further in
+  pub nested : List Part → Bool
 
 module _ (q : Scene) (w : World Item) (place : Place) (scope : Scope) where
   abbrev pub IsWritten : Right → {n : ℕ} → Point n → Spot → List Part → Indices → Item → Type 0
   IsWritten right f s ps i y = (nested : Bool) × (right.last s ps i ≡ written_by place s nested i) × Is q.set q.work f i y
-      × IsMet q.set q.work f (aimed Aims.Given s.typ) nested y.val
+      × IsMet q.set q.work f (aimed Aims.Given s.typ) nested y.val × (nested ≡ right.nested ps)
 
   -- it ends well, and is written to the spot
   pub record RightFine (right : Right) : Type 0 where
@@ -56,8 +58,12 @@ module _ (q : Scene) (w : World Item) (place : Place) (scope : Scope) where
   value_last s (a ∷ []) i = written_by place s a.is_nested i
   value_last s ps i = give i
 
+  abbrev value_nested : List Part → Bool
+  value_nested (a ∷ []) = a.is_nested
+  value_nested ps = false
+
   abbrev pub value_right : Right
-  value_right = record { first = value_first; last = value_last; run = Runs.assigned [] }
+  value_right = record { first = value_first; last = value_last; run = Runs.assigned []; nested = value_nested }
 
   value_goes : (n : ℕ) (f : Point n) (facts : List Fact) (s : Spot) (ps : List Part) (us : List (Run Item Item)) → AllFine q w ps us → Surrounds q w f scope
       → AimSteady q.set q.work f (aimed Aims.Given s.typ)
@@ -65,7 +71,7 @@ module _ (q : Scene) (w : World Item) (place : Place) (scope : Scope) where
   value_goes n f facts s [] us fine there st = wrongs place _
   value_goes n f facts s (p ∷ c ∷ ps) us fine there st = wrongs place _
   value_goes n f facts s (p ∷ []) (u ∷ []) fine there st =
-      means (λ m g i y l c. (p.is_nested, refl, comes_is p.is_nested p.never_ends (aimed Aims.Given s.typ) i y c, c.met))
+      means (λ m g i y l c. (p.is_nested, refl, comes_is p.is_nested p.never_ends (aimed Aims.Given s.typ) i y c, c.met, refl))
       (fine.0.walks q.names q.may_fall no_guard n f facts scope (aimed Aims.Given s.typ) there st)
   value_goes n f facts s (p ∷ []) [] fine there st = absurd fine
   value_goes n f facts s (p ∷ []) (u ∷ d ∷ us) fine there st = absurd fine.1
@@ -81,7 +87,7 @@ module _ (q : Scene) (w : World Item) (place : Place) (scope : Scope) where
   -- ---- what further targets give
 
   abbrev pub chain_right : (List Part → Walk Indices) → (List (Run Item Item) → Run Item Item) → Right
-  chain_right walk run = record { first = λ s ps. walk ps; last = λ s ps i. written_by place s false i; run = run }
+  chain_right walk run = record { first = λ s ps. walk ps; last = λ s ps i. written_by place s false i; run = run; nested = λ ps. false }
 
   -- nothing is owed of what is given
   not_met : {n : ℕ} (f : Point n) (s : Spot) (y : Item) → IsMet q.set q.work f (aimed Aims.Given s.typ) false y.val
@@ -96,7 +102,7 @@ module _ (q : Scene) (w : World Item) (place : Place) (scope : Scope) where
       → Beside q n f facts (walk ps) (run us) (λ m g i y. Is q.set q.work g i y))
       → ((ps : List Part) → AnyGrow (here q) scope ps → Grows (walk ps)) → RightFine (chain_right walk run)
   chain_fine walk run goes grows = record {
-    goes = λ n f facts s ps us fine there st. means (λ m g i y l h. (false, refl, h, not_met g s y)) (goes n f facts ps us fine there);
+    goes = λ n f facts s ps us fine there st. means (λ m g i y l h. (false, refl, h, not_met g s y, refl)) (goes n f facts ps us fine there);
     grows = λ s ps h. grows ps h;
   }
 

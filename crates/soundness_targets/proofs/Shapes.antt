@@ -7,7 +7,7 @@ use Rattle.sail_core.specs.declared.targets.Suffix.{Suffix}
 use Rattle.sail_core.specs.declared.targets.Target.{Target, Target-F, fold-roll-Target, ind-Target, map-Target, roll-Target}
 use Rattle.sail_core.specs.declared.targets.TargetKind.{TargetKind}
 use Rattle.sail_core.specs.declared.targets.TargetKind.TheVariants as T
-use Rattle.soundness_targets.specs.Plain.{Shape, a_call, a_name, a_part, a_tuple, another, is_called, is_member, shape, shape_form}
+use Rattle.soundness_targets.specs.Plain.{Shape, a_call, a_name, a_part, a_parted, a_tuple, another, is_called, is_item, is_member, shape, shape_form}
 
 -- a target without targets inside it
 abbrev pub target : Place → ℕ → TargetKind → Target
@@ -53,12 +53,21 @@ pub record TupleIs (t : Target) : Type 0 where
   pub members : list_all is_member (map shape parts) ≡ true
   pub same : t ≡ roll-Target (record { place = place; number = number; kind = T.Tuple; parts = parts })
 
+-- a tuple with parts of names
+pub record PartedIs (t : Target) : Type 0 where
+  pub place : Place
+  pub number : ℕ
+  pub parts : List Target
+  pub items : list_all is_item (map shape parts) ≡ true
+  pub same : t ≡ roll-Target (record { place = place; number = number; kind = T.Tuple; parts = parts })
+
 -- what its shape says
 abbrev pub ShapeIs : Target → Shape → Type 0
 ShapeIs t a_name = NameIs t
 ShapeIs t a_part = PartIs t
 ShapeIs t a_call = CallIs t
 ShapeIs t a_tuple = TupleIs t
+ShapeIs t a_parted = PartedIs t
 ShapeIs t another = Unit {0}
 
 abbrev Shaped : Target → Type 0
@@ -80,6 +89,7 @@ module _ (at : Place) (k : ℕ) where
   part_by ss t a_part h = tt
   part_by ss t a_call h = tt
   part_by ss t a_tuple h = tt
+  part_by ss t a_parted h = tt
   part_by ss t another h = tt
 
   -- of more than one target nothing is a part
@@ -89,6 +99,7 @@ module _ (at : Place) (k : ℕ) where
   more_by ss ts a_part d cs = tt
   more_by ss ts a_call d cs = tt
   more_by ss ts a_tuple d cs = tt
+  more_by ss ts a_parted d cs = tt
   more_by ss ts another d cs = tt
 
   -- a call of what a target may call
@@ -98,10 +109,11 @@ module _ (at : Place) (k : ℕ) where
       record { place = at; number = k; count = count; reader = reader; writer = writer; is_there = e; same = refl }
   call_by count reader writer false e = tt
 
-  tuple_by : (ys : List Such) (b : Bool) → list_all is_member (map shape (targets_of ys)) ≡ b
-      → ShapeIs (made_of T.Tuple ys) (if b then a_tuple else another)
-  tuple_by ys true e = record { place = at; number = k; parts = targets_of ys; members = e; same = refl }
-  tuple_by ys false e = tt
+  tuple_by : (ys : List Such) (b : Bool) → list_all is_member (map shape (targets_of ys)) ≡ b → (c : Bool) → list_all is_item (map shape (targets_of ys)) ≡ c
+      → ShapeIs (made_of T.Tuple ys) (if b then a_tuple else if c then a_parted else another)
+  tuple_by ys true e c d = record { place = at; number = k; parts = targets_of ys; members = e; same = refl }
+  tuple_by ys false e true d = record { place = at; number = k; parts = targets_of ys; items = d; same = refl }
+  tuple_by ys false e false d = tt
 
   form_by : (kind : TargetKind) (ys : List Such) → ShapeIs (made_of kind ys) (shape_form kind (map shape (targets_of ys)))
   form_by (T.Variable name) [] = record { place = at; number = k; kind = T.Variable name; is_name = tt; same = refl }
@@ -111,7 +123,8 @@ module _ (at : Place) (k : ℕ) where
   form_by (T.Part ss) (y ∷ x ∷ ys) = more_by ss (y.0 ∷ x.0 ∷ targets_of ys) (shape y.0) (shape x.0) (map shape (targets_of ys))
   form_by (T.Variable name) (y ∷ ys) = tt
   form_by (T.Register i) (y ∷ ys) = tt
-  form_by T.Tuple ys = tuple_by ys (list_all is_member (map shape (targets_of ys))) refl
+  form_by T.Tuple ys =
+      tuple_by ys (list_all is_member (map shape (targets_of ys))) refl (list_all is_item (map shape (targets_of ys))) refl
   form_by (T.Call count reader writer) [] = call_by count reader writer (is_called writer.callee) refl
   form_by (T.Call count reader writer) (y ∷ ys) = tt
 
@@ -126,4 +139,4 @@ shape_is = ind-Target Shaped (λ e y same_form. subst (λ d. Shaped (roll-Target
 -- a tuple may be a part of one
 pub tuple_is_member : (t : Target) → TupleIs t → is_member (shape t) ≡ true
 tuple_is_member t h =
-    ap is_member (ap shape h.same ∙ fold-roll-Target Shape (λ u. shape_form u.kind u.parts) _ ∙ ap (λ b. if b then a_tuple else another) h.members)
+    ap is_member (ap shape h.same ∙ fold-roll-Target Shape (λ u. shape_form u.kind u.parts) _ ∙ ap (λ b. if b then a_tuple else if list_all is_item (map shape h.parts) then a_parted else another) h.members)

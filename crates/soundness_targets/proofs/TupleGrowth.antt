@@ -34,7 +34,7 @@ use Rattle.expression_steps.specs.Targets.{Spotted, SpottedAll, Spotting, call_s
 use Rattle.soundness_steps.specs.Steps.{Grows}
 use Rattle.soundness_forms.proofs.Growth.{grows_bind, grows_give, grows_scoped, grows_wrong}
 use Rattle.soundness_parts.proofs.PartGrowth.{Gives, any, gives_back, gives_bind, grows_bind_at}
-use Rattle.soundness_targets.specs.Plain.{Shape, a_call, a_name, a_part, a_tuple, another, is_member, shape, shape_form}
+use Rattle.soundness_targets.specs.Plain.{Shape, a_call, a_name, a_part, a_parted, a_tuple, another, is_item, is_member, shape, shape_form}
 use Rattle.soundness_targets.proofs.CallGrowth.{each_grows, left_counts, says_counts, taken_grow, written_grow}
 use Rattle.soundness_targets.proofs.TargetGrowth.{AnyGrow, SpottedGrow, left_grow}
 use Rattle.soundness_targets.proofs.WriteGrowth.{put_grows, puts_count, wrong_count}
@@ -48,7 +48,7 @@ abbrev pub AllWriteGrow : List Spot → Type 0
 AllWriteGrow [] = Unit {0}
 AllWriteGrow (s ∷ ss) = WriteGrows s × AllWriteGrow ss
 
-wrong_write_grows : (at : Place) → WriteGrows (wrong_spot at)
+pub wrong_write_grows : (at : Place) → WriteGrows (wrong_spot at)
 wrong_write_grows at nested i = (
   grows_bind (wrong_value at) Walked.gives (grows_wrong at) (λ j. grows_give (wrote (says []) j)),
   λ facts m. wrong_count at facts m,
@@ -130,7 +130,7 @@ module _ (around : Around) (scope : Scope) where
   AllGrown None = Unit {0}
   AllGrown (Some all) = AnyGrow around scope all.left × AllWriteGrow all.spots
 
-  abbrev AllMembersGrow : List Spotting → Type 0
+  abbrev pub AllMembersGrow : List Spotting → Type 0
   AllMembersGrow ts = (ps : List Part) → AnyGrow around scope ps → Grows (each_spot ts around scope ps) × Gives AllGrown (each_spot ts around scope ps)
 
   once_grows : (s : Spot) → WriteGrows s → (ps : List Part) → AnyGrow around scope ps
@@ -153,7 +153,7 @@ module _ (around : Around) (scope : Scope) where
 
   -- ---- several, one after the other
 
-  none_grow : AllMembersGrow []
+  pub none_grow : AllMembersGrow []
   none_grow ps grow = (grows_give (spotted_all [] ps), gives_back AllGrown (spotted_all [] ps) (grow, tt))
 
   module _ (t : Spotting) (ts : List Spotting) (h : MemberGrows (t around scope)) (more : AllMembersGrow ts) where
@@ -177,13 +177,13 @@ module _ (around : Around) (scope : Scope) where
     next_gives (Some s) e =
         gives_bind AllGrown AllGrown (each_spot ts around scope s.left) (with_spot s.spot) (more s.left e.0).1 (with_gives s.spot e.1)
 
-    more_grow : AllMembersGrow (t ∷ ts)
+    pub more_grow : AllMembersGrow (t ∷ ts)
     more_grow ps grow = (
       grows_bind_at (SpottedGrow around scope WriteGrows) (t around scope ps) (then_spot others) (h ps grow).1 (h ps grow).0 next_grows,
       gives_bind (SpottedGrow around scope WriteGrows) AllGrown (t around scope ps) (then_spot others) (h ps grow).1 next_gives,
     )
 
-  tuple_member : (at : Place) (k : ℕ) (ts : List Spotting) → AllMembersGrow ts → MemberGrows (kind_spot at k T.Tuple ts around scope)
+  pub tuple_member : (at : Place) (k : ℕ) (ts : List Spotting) → AllMembersGrow ts → MemberGrows (kind_spot at k T.Tuple ts around scope)
   tuple_member at k ts h ps grow = (
     grows_bind (each_spot ts around scope ps) (λ all. give (tuple_spotted at k all)) (h ps grow).0 (λ all. grows_give (tuple_spotted at k all)),
     gives_bind AllGrown (SpottedGrow around scope WriteGrows) (each_spot ts around scope ps) (λ all. give (tuple_spotted at k all)) (h ps grow).1 (λ all e.
@@ -212,10 +212,12 @@ module _ (around : Around) (scope : Scope) where
       more_grow (spotting y.0) (map spotting (targets_of ys)) (y.1 both.0) (all_members ys both.1)
 
   module _ (at : Place) (k : ℕ) where
-    by_tuple : (ys : List Such) (b : Bool) → list_all is_member (map shape (targets_of ys)) ≡ b → is_member (if b then a_tuple else another) ≡ true
+    by_tuple : (ys : List Such) (b c : Bool) → list_all is_member (map shape (targets_of ys)) ≡ b
+        → is_member (if b then a_tuple else if c then a_parted else another) ≡ true
         → MemberGrows (kind_spot at k T.Tuple (map spotting (targets_of ys)) around scope)
-    by_tuple ys true e m = tuple_member at k (map spotting (targets_of ys)) (all_members ys e)
-    by_tuple ys false e m = absurd (cc)
+    by_tuple ys true c e m = tuple_member at k (map spotting (targets_of ys)) (all_members ys e)
+    by_tuple ys false true e m = absurd (cc)
+    by_tuple ys false false e m = absurd (cc)
 
     no_part : (ss : List Suffix) (cs : List Shape) → is_member (shape_form (T.Part ss) cs) ≡ false
     no_part ss [] = refl
@@ -223,11 +225,13 @@ module _ (around : Around) (scope : Scope) where
     no_part ss (a_part ∷ []) = refl
     no_part ss (a_call ∷ []) = refl
     no_part ss (a_tuple ∷ []) = refl
+    no_part ss (a_parted ∷ []) = refl
     no_part ss (another ∷ []) = refl
     no_part ss (a_name ∷ c ∷ cs) = refl
     no_part ss (a_part ∷ c ∷ cs) = refl
     no_part ss (a_call ∷ c ∷ cs) = refl
     no_part ss (a_tuple ∷ c ∷ cs) = refl
+    no_part ss (a_parted ∷ c ∷ cs) = refl
     no_part ss (another ∷ c ∷ cs) = refl
 
     form_by : (kind : TargetKind) (ys : List Such) → is_member (shape_form kind (map shape (targets_of ys))) ≡ true
@@ -236,7 +240,7 @@ module _ (around : Around) (scope : Scope) where
     form_by (T.Register i) [] m =
         once_grows (register_spot around at k (slice_get around.registers i)) (register_write_grows around at k (slice_get around.registers i))
     form_by (T.Call count reader writer) [] m = call_member at k count reader writer
-    form_by T.Tuple ys m = by_tuple ys (list_all is_member (map shape (targets_of ys))) refl m
+    form_by T.Tuple ys m = by_tuple ys (list_all is_member (map shape (targets_of ys))) (list_all is_item (map shape (targets_of ys))) refl m
     form_by (T.Part ss) ys m =
         let bad : true ≡ false = sym m ∙ no_part ss (map shape (targets_of ys)) in
         absurd (cc)

@@ -50,7 +50,7 @@ use Rattle.soundness_targets.proofs.TupleWrites.{AllDue, AllWritable, Meets, all
 
 -- ---- what its writes put in force isn't in force behind them
 
-all_facts : (at : Place) (ss : List Spot) (nested : Bool) (is : List Indices) (facts : List Fact) (m : ℕ)
+pub all_facts : (at : Place) (ss : List Spot) (nested : Bool) (is : List Indices) (facts : List Fact) (m : ℕ)
     → (each_written at ss nested is facts m).facts ≡ facts
 unfolding bind give owe scoped
 all_facts at [] nested [] facts m = refl

@@ -38,7 +38,7 @@ use Rattle.soundness_targets.proofs.TupleTypes.{AllTypes, Typed, typed_on}
 
 -- ---- a scope around a walk beside its run
 
-ends_before : {q : Scene} {n : ℕ} {f : Point n} {m : ℕ} {fs gs : List Fact} {B : Type 0} {Holds : Point m → B → Type 0} {e : Ended Item B} → Front gs fs
+pub ends_before : {q : Scene} {n : ℕ} {f : Point n} {m : ℕ} {fs gs : List Fact} {B : Type 0} {Holds : Point m → B → Type 0} {e : Ended Item B} → Front gs fs
     → EndsWell q f m fs Holds e → EndsWell q f m gs Holds e
 ends_before {q} {fs = fs} {gs = gs} h (well_given x now r ok) =
     well_given x now (record { point = r.point; later = r.later; stands = stands_before q gs fs h r.stands; holds = r.holds }) ok
