@@ -1,4 +1,4 @@
--- The core of an accepted text that passes tests stands, as the law that nothing gets stuck takes it: but for its openings.
+-- The core of an accepted text that passes tests stands, with its openings, as the law that nothing gets stuck takes it.
 use Rattle.std.specs.Prelude.{◌≡◌, ℕ, Bool, true, List, [], Option, None}
 use Rattle.sail_base.specs.declared.place.Place.{Place}
 use Rattle.sail_types.specs.Numbers.{Positive}
