@@ -23,7 +23,7 @@ use Rattle.sail_syntax.specs.declared.expressions.FieldValue.{FieldValue}
 use Rattle.sail_syntax.specs.declared.expressions.Index.{Index}
 use Rattle.sail_syntax.specs.declared.expressions.Range.{Range}
 use Rattle.sail_syntax.specs.declared.expressions.Target.{Target}
-use Rattle.sail_grammar.specs.Targets.{target, target_step, both_there, all_there, some_of, arguments}
+use Rattle.sail_grammar.specs.Targets.{target, target_step, part_target, both_there, all_there, some_of, arguments}
 use Rattle.sail_parse_expr.specs.TargetLists.{all_targets, each_is_target, some_targets}
 
 -- an expression with what it is as a target
@@ -71,9 +71,9 @@ of_call n es = ap target (sym (V.rolls-Call n es)) ∙ of_form (E.Call n es)
 pub of_tuple : (p : Place) (es : List Exp) → target (V.Group p Tuple es) ≡ option_map (L.ToTuple p) (some_targets es)
 of_tuple p es = ap target (sym (V.rolls-Group p Tuple es)) ∙ of_form (E.Group p Tuple es) ∙ ap (option_map (L.ToTuple p)) (some_of_is es)
 
-pub of_part : (p : Place) (base : Exp) (ss : List Suffix) → target (V.Part p base ss) ≡ option_map (λ l. L.ToPart p l ss) (target base)
+pub of_part : (p : Place) (base : Exp) (ss : List Suffix) → target (V.Part p base ss) ≡ option_map (part_target p ss) (target base)
 of_part p base ss = ap target (sym (V.rolls-Part p base ss)) ∙ of_form (E.Part p base ss) ∙
-    ap (λ xs. option_map (λ l. L.ToPart p l xs) (target base)) (firsts ss)
+    ap (λ xs. option_map (part_target p xs) (target base)) (firsts ss)
 
 pub of_group : (p : Place) (b : Brackets) (es : List Exp) → (b ≡ Tuple → ⊥) → target (V.Group p b es) ≡ None
 of_group p Tuple es h = absurd (h refl)
@@ -161,7 +161,7 @@ group_is e p b es h n = sym (ap is_some (ap target h ∙ of_group p b es n))
 pub part_is : (e base lent : Exp) (p : Place) (ss : List Suffix) {r : Bool} → e ≡ V.Part p base ss → lent ≡ base → r ≡ is_some (target lent) →
     r ≡ is_some (target e)
 part_is e base lent p ss h k a =
-    a ∙ ap (λ x. is_some (target x)) k ∙ sym (mapped_is_some (λ l. L.ToPart p l ss) (target base)) ∙ sym (ap is_some (ap target h ∙ of_part p base ss))
+    a ∙ ap (λ x. is_some (target x)) k ∙ sym (mapped_is_some (part_target p ss) (target base)) ∙ sym (ap is_some (ap target h ∙ of_part p base ss))
 
 pub other_is : (e : Exp) → target e ≡ None → false ≡ is_some (target e)
 other_is e h = sym (ap is_some h)
@@ -222,7 +222,7 @@ new_tuple e p b es h t = sym (of_tuple p es) ∙ ap (λ b. target (V.Group p b e
 pub no_group : (e : Exp) (p : Place) (b : Brackets) (es : List Exp) → V.Group p b es ≡ e → (b ≡ Tuple → ⊥) → None ≡ target e
 no_group e p b es h n = sym (of_group p b es n) ∙ ap target h
 
-pub new_part : (e : Exp) (p : Place) (base : Exp) (ss : List Suffix) → V.Part p base ss ≡ e → option_map (λ l. L.ToPart p l ss) (target base) ≡ target e
+pub new_part : (e : Exp) (p : Place) (base : Exp) (ss : List Suffix) → V.Part p base ss ≡ e → option_map (part_target p ss) (target base) ≡ target e
 new_part e p base ss h = sym (of_part p base ss) ∙ ap target h
 
 -- what holds of the result of a call

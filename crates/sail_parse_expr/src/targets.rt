@@ -1,7 +1,7 @@
 ghost use Rattle.std.specs.Prelude.{◌≡◌, IfOk, option_map};
 ghost use Rattle.std.specs.Option.{is_some};
 ghost use Rattle.sail_syntax.specs.declared.expressions.LExp.TheVariants as L;
-ghost use Rattle.sail_grammar.specs.Targets.{target};
+ghost use Rattle.sail_grammar.specs.Targets.{part_target, target};
 ghost use Rattle.sail_parse_expr.specs.TargetLists.{all_targets, each_is_target, some_targets};
 
 use sail_base::{Boxed, Items, Place};
@@ -69,11 +69,32 @@ fn to_part(
     base: Boxed<Exp>,
     suffixes: Items<Suffix>,
 ) -> Result<Option<Boxed<LExp>>, AllocError>
-    ensures { IfOk result (λ found. found ≡ option_map (λ l. L.ToPart place l suffixes) (target base)) }
+    ensures { IfOk result (λ found. found ≡ option_map (part_target place suffixes) (target base)) }
 {
     match target_of(alloc, base)? {
-        Some(base) => Ok(Some(Boxed::new(alloc, LExp::ToPart(place, base, suffixes))?)),
+        Some(base) => Ok(Some(with_further(alloc, place, base, suffixes)?)),
         None => Ok(None),
+    }
+}
+
+// A target with further suffixes behind it: they stand behind those that it has.
+fn with_further(
+    alloc: Global,
+    place: Place,
+    target: Boxed<LExp>,
+    further: Items<Suffix>,
+) -> Result<Boxed<LExp>, AllocError>
+    ensures { IfOk result (λ made. made ≡ part_target place further target) }
+{
+    match target.into_inner() {
+        LExp::ToPart(_, base, mut suffixes) => {
+            suffixes.append(further)?;
+            Boxed::new(alloc, LExp::ToPart(place, base, suffixes))
+        }
+        other => Boxed::new(
+            alloc,
+            LExp::ToPart(place, Boxed::new(alloc, other)?, further),
+        ),
     }
 }
 

@@ -4,7 +4,7 @@ use denote.Param.Weighed.{most}
 use Rattle.std.specs.Vec.Iter.{into_iter_items}
 use Rattle.sail_syntax.specs.declared.expressions.LExp.TheVariants as L
 use Rattle.sail_syntax.proofs.expressions.Exp.TheLaws.{the_size}
-use Rattle.sail_grammar.specs.Targets.{target}
+use Rattle.sail_grammar.specs.Targets.{part_target, target}
 use Rattle.sail_parse_expr.specs.TargetLists.{some_targets}
 use Rattle.sail_parse_expr.proofs.TargetRows as R
 use Rattle.sail_parse_expr.proofs.targets.+target_of.Goals as goal
@@ -31,7 +31,7 @@ target_of-returns-in-Group t c =
 
 pub target_of-returns-in-Part : goal.target_of-returns-in-Part
 target_of-returns-in-Part t c =
-    R.of_result {P = λ found. found ≡ option_map (λ l. L.ToPart c.in-Part.place l c.in-Part.suffixes) (target c.in-Part.base)} c.to_part.result
+    R.of_result {P = λ found. found ≡ option_map (part_target c.in-Part.place c.in-Part.suffixes) (target c.in-Part.base)} c.to_part.result
     c.to_part.ensures (λ found h. h ∙ R.new_part c.args.value c.in-Part.place c.in-Part.base c.in-Part.suffixes c.in-Part.ensures)
 
 pub target_of-returns : goal.target_of-returns
