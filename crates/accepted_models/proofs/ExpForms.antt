@@ -1,5 +1,6 @@
 -- Expressions over their parts: read in a mode, where their parts are, also as what is assigned to.
-use Rattle.std.proofs.Common.{◌≡◌, ℕ, true, List, [], ◌∷◌, map, refl, sym, ◌∙◌, ap, subst, Option, Some, None, option_map}
+use Rattle.std.proofs.Common.{◌≡◌, ℕ, true, List, [], ◌∷◌, ◌++◌, map, refl, sym, ◌∙◌, ap, subst, Option, Some, None, option_map}
+use Rattle.std.proofs.lemmas.Bool.{and_parts}
 use Rattle.sail_base.specs.declared.operators.Operator.{Operator}
 use Rattle.sail_base.specs.declared.operators.Prefix.{Prefix}
 use Rattle.sail_base.specs.declared.place.Place.{Place}
@@ -16,7 +17,7 @@ use Rattle.sail_syntax.specs.declared.expressions.Exp.{Exp, Exp-F, map-Exp, para
 use Rattle.sail_syntax.specs.declared.expressions.Exp.TheFolds.{fold-roll-Exp, fold-roll-LExp}
 use Rattle.sail_syntax.specs.declared.expressions.Exp.TheOpen as E
 use Rattle.sail_syntax.specs.declared.expressions.Exp.TheVariants as V
-use Rattle.sail_syntax.specs.declared.expressions.LExp.{LExp, roll-LExp}
+use Rattle.sail_syntax.specs.declared.expressions.LExp.{LExp, out-LExp, roll-LExp, roll-out-LExp}
 use Rattle.sail_syntax.specs.declared.expressions.LExp.TheVariants as L
 use Rattle.sail_syntax.specs.declared.expressions.Stmt.{Stmt}
 use Rattle.sail_syntax.specs.declared.expressions.Suffix.{Suffix}
@@ -29,7 +30,7 @@ use Rattle.sail_grammar.specs.declared.mode.Mode.{Mode}
 use Rattle.sail_grammar.specs.declared.mode.Mode.TheVariants.{Full, Limited}
 use Rattle.sail_grammar.specs.ExpTrees.{in_brackets, target_or, target_value, with_suffixes}
 use Rattle.sail_grammar.specs.Leaves.{nowhere}
-use Rattle.sail_grammar.specs.Targets.{all_there, arguments, both_there, some_of, target, target_step}
+use Rattle.sail_grammar.specs.Targets.{all_there, arguments, both_there, further_suffixes, part_target, some_of, target, target_step}
 use Rattle.shape_joins.proofs.JoinsLeast.{none, some_same}
 use Rattle.shape_joins.proofs.Order.{two}
 use Rattle.shape_meanings.proofs.Folds.{OverTrees}
@@ -72,6 +73,12 @@ of_lexp x l same h =
     ∙ ap (λ (m : Manner). m.is_full) (fold-roll-LExp Manner Manner Manner Manner Manner Manner Manner Manner Manner
     M.expression_form M.target_form M.statement_form M.suffix_form M.case_form M.field_form M.index_form M.range_form M.further_form x) ∙ h
 
+-- a form in whose `with`s are fields
+form_of : (x : OverTrees E.LExp-F) (l : LExp) → roll-LExp x ≡ l → (manner_lexp l).is_full ≡ true → (M.target_form (manner_LExp x)).is_full ≡ true
+form_of x l same h = sym (ap (λ k. (manner_lexp k).is_full) (sym same)
+    ∙ ap (λ (m : Manner). m.is_full) (fold-roll-LExp Manner Manner Manner Manner Manner Manner Manner Manner Manner
+    M.expression_form M.target_form M.statement_form M.suffix_form M.case_form M.field_form M.index_form M.range_form M.further_form x)) ∙ h
+
 name_target : (name : Name) → (manner_lexp (L.ToName name)).is_full ≡ true
 name_target name = of_lexp (E.ToName name) (L.ToName name) (L.rolls-ToName name) refl
 
@@ -81,9 +88,30 @@ call_target name es h = of_lexp (E.ToCall name es) (L.ToCall name es) (L.rolls-T
 tuple_target : (place : Place) (ls : List LExp) → AllFull ls → (manner_lexp (L.ToTuple place ls)).is_full ≡ true
 tuple_target place ls h = of_lexp (E.ToTuple place ls) (L.ToTuple place ls) (L.rolls-ToTuple place ls) h
 
-part_target : (place : Place) (l : LExp) (ss : List Suffix) → (manner_lexp l).is_full ≡ true → (every (map manner_suffix ss)).is_full ≡ true
+part_of : (place : Place) (l : LExp) (ss : List Suffix) → (manner_lexp l).is_full ≡ true → (every (map manner_suffix ss)).is_full ≡ true
     → (manner_lexp (L.ToPart place l ss)).is_full ≡ true
-part_target place l ss h k = of_lexp (E.ToPart place l ss) (L.ToPart place l ss) (L.rolls-ToPart place l ss) (two _ _ h k)
+part_of place l ss h k = of_lexp (E.ToPart place l ss) (L.ToPart place l ss) (L.rolls-ToPart place l ss) (two _ _ h k)
+
+behind : (ys more : List Suffix) → (every (map manner_suffix ys)).is_full ≡ true → (every (map manner_suffix more)).is_full ≡ true
+    → (every (map manner_suffix (ys ++ more))).is_full ≡ true
+behind [] more h k = k
+behind (y ∷ ys) more h k =
+    let parts = and_parts (manner_suffix y).is_full (every (map manner_suffix ys)).is_full h in
+    two _ _ parts.0 (behind ys more parts.1 k)
+
+-- a target with further suffixes behind it
+further_of : (place : Place) (more : List Suffix) (l : LExp) (x : OverTrees E.LExp-F) → roll-LExp x ≡ l → (manner_lexp l).is_full ≡ true
+    → (every (map manner_suffix more)).is_full ≡ true → (manner_lexp (further_suffixes place more l x)).is_full ≡ true
+further_of place more l (E.ToPart first base ys) same h k =
+    let parts = and_parts _ _ (form_of _ l same h) in
+    part_of place base (ys ++ more) parts.0 (behind ys more parts.1 k)
+further_of place more l (E.ToName name) same h k = part_of place l more h k
+further_of place more l (E.ToCall name es) same h k = part_of place l more h k
+further_of place more l (E.ToTuple first ls) same h k = part_of place l more h k
+
+further_full : (place : Place) (more : List Suffix) (l : LExp) → (manner_lexp l).is_full ≡ true → (every (map manner_suffix more)).is_full ≡ true
+    → (manner_lexp (part_target place more l)).is_full ≡ true
+further_full place more l h k = further_of place more l (out-LExp l) (roll-out-LExp l) h k
 
 both_aimed : (o : Option LExp) (os : Option (List LExp)) (ls : List LExp) → ((l : LExp) → o ≡ Some l → (manner_lexp l).is_full ≡ true)
     → ((ks : List LExp) → os ≡ Some ks → AllFull ks) → both_there o os ≡ Some ls → AllFull ls
@@ -197,8 +225,8 @@ part_fine : (mode : Mode) (place : Place) (a : Exp) (ss : List Suffix) → FineE
     → FineExp mode (V.Part place a ss)
 part_fine mode place a ss h k =
     of_form mode (E.Part place a ss) (V.Part place a ss) (V.rolls-Part place a ss) (suits_both mode (manner a) (every (map manner_suffix ss)) h.suits k)
-    (λ l e. map_aimed (λ x. L.ToPart place x (map (λ (p : Suffix × Unit {0}). p.0) (map (λ (s : Suffix). (s, tt {0})) ss))) (target a) l
-    (λ x is. subst (λ xs. (manner_lexp (L.ToPart place x xs)).is_full ≡ true) (sym (suffix_firsts ss)) (part_target place x ss (h.aims x is) k.full)) e)
+    (λ l e. map_aimed (part_target place (map (λ (p : Suffix × Unit {0}). p.0) (map (λ (s : Suffix). (s, tt {0})) ss))) (target a) l
+    (λ x is. subst (λ xs. (manner_lexp (part_target place xs x)).is_full ≡ true) (sym (suffix_firsts ss)) (further_full place ss x (h.aims x is) k.full)) e)
 
 -- a base with its suffixes
 pub with_suffixes_fine : (mode : Mode) (place : Place) (a : Exp) (ss : List Suffix) → FineExp mode a → Suits mode (every (map manner_suffix ss))

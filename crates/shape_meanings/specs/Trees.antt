@@ -1,6 +1,9 @@
--- What the grammar leaves out though the trees have it: a tuple of one part, a part of a target without an index or a field, and `_` and `as` in
--- a side of a mapping that is read as an expression.
-use Rattle.std.specs.Prelude.{Bool, true, false, ◌&&◌, List, [], ◌∷◌, Option, Some, None}
+-- What the grammar leaves out though the trees have it: a tuple of one part, a part of a target without an index or a field, a literal that is past its
+-- limits, and `_` and `as` in a side of a mapping that is read as an expression.
+use Rattle.std.specs.Prelude.{Bool, true, false, ◌&&◌, List, [], ◌∷◌, length, Option, Some, None}
+use Rattle.sail_types.specs.Limits.{is_small, is_width}
+use Rattle.sail_syntax.specs.declared.name.Literal.{Literal}
+use Rattle.sail_syntax.specs.declared.name.Literal.TheVariants as L
 use Rattle.sail_syntax.specs.declared.words.Brackets.{Brackets}
 use Rattle.sail_syntax.specs.declared.words.Brackets.TheVariants as B
 use Rattle.sail_syntax.specs.declared.patterns.Pat.{Pat, Pat-F, fold-Pat}
@@ -20,9 +23,17 @@ abbrev pub group_written : Brackets → List Bool → Bool
 group_written B.Tuple (b ∷ []) = false
 group_written brackets bs = all_of bs
 
+-- a number is at most the 126th power of two, and a word has at most 128 bits (Sail language manual, "Literals")
+abbrev pub literal_written : Literal → Bool
+literal_written (L.Number z) = is_small z
+literal_written (L.Bits bits) = is_width (length bits)
+literal_written literal = true
+
 -- ---- patterns
 
 abbrev pub pattern_form : Pat-F Bool Bool → Bool
+pattern_form (P.Constant place literal) = literal_written literal
+pattern_form (P.Negative place z) = is_small z
 pattern_form (P.Construct name bs) = all_of bs
 pattern_form (P.Group place brackets bs) = group_written brackets bs
 pattern_form (P.Concat place a b bs) = a && b && all_of bs
@@ -52,6 +63,7 @@ abbrev pub Form : (Type 0 → Type 0 → Type 0 → Type 0 → Type 0 → Type 0
 Form F = F Bool Bool Bool Bool Bool Bool Bool Bool Bool
 
 abbrev pub expression_form : Form Exp-F → Bool
+expression_form (E.Constant place literal) = literal_written literal
 expression_form (E.Call name bs) = all_of bs
 expression_form (E.Prefixed place prefix a) = a
 expression_form (E.Infix place operator a b) = a && b

@@ -1,5 +1,6 @@
 -- Expressions over their parts: as the grammar has them, where their parts are, also as what is assigned to.
-use Rattle.std.proofs.Common.{◌≡◌, ℕ, Bool, true, List, [], ◌∷◌, map, refl, sym, ◌∙◌, ap, subst, Option, Some, None, option_map}
+use Rattle.std.proofs.Common.{◌≡◌, ℕ, Bool, true, List, [], ◌∷◌, ◌++◌, map, refl, sym, ◌∙◌, ap, subst, Option, Some, None, option_map}
+use Rattle.std.proofs.lemmas.Bool.{and_parts}
 use Rattle.sail_base.specs.declared.operators.Operator.{Operator}
 use Rattle.sail_base.specs.declared.operators.Prefix.{Prefix}
 use Rattle.sail_base.specs.declared.place.Place.{Place}
@@ -16,7 +17,7 @@ use Rattle.sail_syntax.specs.declared.expressions.Exp.{Exp, Exp-F, map-Exp, para
 use Rattle.sail_syntax.specs.declared.expressions.Exp.TheFolds.{fold-roll-Exp, fold-roll-LExp}
 use Rattle.sail_syntax.specs.declared.expressions.Exp.TheOpen as E
 use Rattle.sail_syntax.specs.declared.expressions.Exp.TheVariants as V
-use Rattle.sail_syntax.specs.declared.expressions.LExp.{LExp, roll-LExp}
+use Rattle.sail_syntax.specs.declared.expressions.LExp.{LExp, out-LExp, roll-LExp, roll-out-LExp}
 use Rattle.sail_syntax.specs.declared.expressions.LExp.TheVariants as L
 use Rattle.sail_syntax.specs.declared.expressions.Stmt.{Stmt}
 use Rattle.sail_syntax.specs.declared.expressions.Suffix.{Suffix}
@@ -27,11 +28,11 @@ use Rattle.sail_syntax.specs.declared.expressions.Range.{Range}
 use Rattle.sail_syntax.specs.declared.expressions.Target.{Target}
 use Rattle.sail_grammar.specs.ExpTrees.{in_brackets, target_or, target_value, with_suffixes}
 use Rattle.sail_grammar.specs.Leaves.{nowhere}
-use Rattle.sail_grammar.specs.Targets.{all_there, arguments, both_there, some_of, target, target_step}
+use Rattle.sail_grammar.specs.Targets.{all_there, arguments, both_there, further_suffixes, part_target, some_of, target, target_step}
 use Rattle.shape_joins.proofs.JoinsLeast.{none, some_same}
 use Rattle.shape_joins.proofs.Order.{two}
 use Rattle.shape_meanings.specs.Trees as Trees
-use Rattle.shape_meanings.specs.Trees.{group_written, pattern_written, written}
+use Rattle.shape_meanings.specs.Trees.{group_written, literal_written, pattern_written, written}
 use Rattle.shape_meanings.specs.Whole.{all_of}
 use Rattle.shape_meanings.proofs.Folds.{OverTrees, written_Exp, written_LExp, written_case, written_field, written_index, written_lexp}
 use Rattle.shape_meanings.proofs.Folds.{written_range, written_stmt, written_suffix, written_target}
@@ -66,6 +67,12 @@ of_lexp x l same h = ap written_lexp (sym same) ∙ fold-roll-LExp Bool Bool Boo
     Trees.expression_form Trees.target_form Trees.statement_form Trees.suffix_form Trees.case_form Trees.field_form Trees.index_form
     Trees.range_form Trees.further_form x ∙ h
 
+-- a form that is as the grammar has it
+form_of : (x : OverTrees E.LExp-F) (l : LExp) → roll-LExp x ≡ l → written_lexp l ≡ true → Trees.target_form (written_LExp x) ≡ true
+form_of x l same h = sym (ap written_lexp (sym same) ∙ fold-roll-LExp Bool Bool Bool Bool Bool Bool Bool Bool Bool
+    Trees.expression_form Trees.target_form Trees.statement_form Trees.suffix_form Trees.case_form Trees.field_form Trees.index_form
+    Trees.range_form Trees.further_form x) ∙ h
+
 name_target : (name : Name) → written_lexp (L.ToName name) ≡ true
 name_target name = of_lexp (E.ToName name) (L.ToName name) (L.rolls-ToName name) refl
 
@@ -75,10 +82,32 @@ call_target name es h = of_lexp (E.ToCall name es) (L.ToCall name es) (L.rolls-T
 tuple_target : (place : Place) (ls : List LExp) → all_of (map written_lexp ls) ≡ true → written_lexp (L.ToTuple place ls) ≡ true
 tuple_target place ls h = of_lexp (E.ToTuple place ls) (L.ToTuple place ls) (L.rolls-ToTuple place ls) h
 
-part_target : (place : Place) (l : LExp) (s : Suffix) (ss : List Suffix) → written_lexp l ≡ true → all_of (map written_suffix (s ∷ ss)) ≡ true
+part_of : (place : Place) (l : LExp) (s : Suffix) (ss : List Suffix) → written_lexp l ≡ true → all_of (map written_suffix (s ∷ ss)) ≡ true
     → written_lexp (L.ToPart place l (s ∷ ss)) ≡ true
-part_target place l s ss h k =
+part_of place l s ss h k =
     of_lexp (E.ToPart place l (s ∷ ss)) (L.ToPart place l (s ∷ ss)) (L.rolls-ToPart place l (s ∷ ss)) (two _ _ (two _ _ h k) refl)
+
+behind : (ys more : List Suffix) → all_of (map written_suffix ys) ≡ true → all_of (map written_suffix more) ≡ true
+    → all_of (map written_suffix (ys ++ more)) ≡ true
+behind [] more h k = k
+behind (y ∷ ys) more h k =
+    let parts = and_parts (written_suffix y) (all_of (map written_suffix ys)) h in
+    two _ _ parts.0 (behind ys more parts.1 k)
+
+-- a target with further suffixes behind it
+further_of : (place : Place) (s : Suffix) (ss : List Suffix) (l : LExp) (x : OverTrees E.LExp-F) → roll-LExp x ≡ l → written_lexp l ≡ true
+    → all_of (map written_suffix (s ∷ ss)) ≡ true → written_lexp (further_suffixes place (s ∷ ss) l x) ≡ true
+further_of place s ss l (E.ToPart first base []) same h k = part_of place base s ss (and_parts _ _ (and_parts _ _ (form_of _ l same h)).0).0 k
+further_of place s ss l (E.ToPart first base (y ∷ ys)) same h k =
+    let parts = and_parts _ _ (and_parts _ _ (form_of _ l same h)).0 in
+    part_of place base y (ys ++ s ∷ ss) parts.0 (behind (y ∷ ys) (s ∷ ss) parts.1 k)
+further_of place s ss l (E.ToName name) same h k = part_of place l s ss h k
+further_of place s ss l (E.ToCall name es) same h k = part_of place l s ss h k
+further_of place s ss l (E.ToTuple first ls) same h k = part_of place l s ss h k
+
+further_written : (place : Place) (s : Suffix) (ss : List Suffix) (l : LExp) → written_lexp l ≡ true → all_of (map written_suffix (s ∷ ss)) ≡ true
+    → written_lexp (part_target place (s ∷ ss) l) ≡ true
+further_written place s ss l h k = further_of place s ss l (out-LExp l) (roll-out-LExp l) h k
 
 both_aimed : (o : Option LExp) (os : Option (List LExp)) (ls : List LExp) → ((l : LExp) → o ≡ Some l → written_lexp l ≡ true)
     → ((ks : List LExp) → os ≡ Some ks → all_of (map written_lexp ks) ≡ true) → both_there o os ≡ Some ls → all_of (map written_lexp ls) ≡ true
@@ -125,8 +154,8 @@ pub all_written : (es : List Exp) → FineExps es → all_of (map written es) �
 all_written [] f = refl
 all_written (e ∷ es) f = two _ _ f.0.is_written (all_written es f.1)
 
-pub constant_fine : (place : Place) (literal : Literal) → FineExp (V.Constant place literal)
-constant_fine place literal = of_other (E.Constant place literal) (V.Constant place literal) (V.rolls-Constant place literal) refl refl
+pub constant_fine : (place : Place) (literal : Literal) → literal_written literal ≡ true → FineExp (V.Constant place literal)
+constant_fine place literal h = of_other (E.Constant place literal) (V.Constant place literal) (V.rolls-Constant place literal) h refl
 
 pub variable_fine : (name : Name) → FineExp (V.Variable name)
 variable_fine name = of_form (E.Variable name) (V.Variable name) (V.rolls-Variable name) refl
@@ -183,8 +212,8 @@ part_fine : (place : Place) (a : Exp) (s : Suffix) (ss : List Suffix) → FineEx
     → FineExp (V.Part place a (s ∷ ss))
 part_fine place a s ss h k =
     of_form (E.Part place a (s ∷ ss)) (V.Part place a (s ∷ ss)) (V.rolls-Part place a (s ∷ ss)) (two _ _ h.is_written k)
-    (λ l e. map_aimed (λ x. L.ToPart place x (map (λ (p : Suffix × Unit {0}). p.0) (map (λ (s : Suffix). (s, tt {0})) (s ∷ ss)))) (target a) l
-    (λ x is. subst (λ xs. written_lexp (L.ToPart place x xs) ≡ true) (sym (suffix_firsts (s ∷ ss))) (part_target place x s ss (h.aims x is) k)) e)
+    (λ l e. map_aimed (part_target place (map (λ (p : Suffix × Unit {0}). p.0) (map (λ (s : Suffix). (s, tt {0})) (s ∷ ss)))) (target a) l
+    (λ x is. subst (λ xs. written_lexp (part_target place xs x) ≡ true) (sym (suffix_firsts (s ∷ ss))) (further_written place s ss x (h.aims x is) k)) e)
 
 -- a base with its suffixes
 pub with_suffixes_fine : (place : Place) (a : Exp) (ss : List Suffix) → FineExp a → all_of (map written_suffix ss) ≡ true → FineExp (with_suffixes place a ss)

@@ -1,6 +1,7 @@
 pub mod Trees
 pub mod TypeForms
 pub mod PatternForms
+pub mod Literals
 pub mod ExpForms
 pub mod PartForms
 pub mod DefForms

@@ -9,6 +9,7 @@ use Rattle.sail_grammar.specs.ExpTrees as T
 use Rattle.shape_joins.proofs.Order.{two}
 use Rattle.text_progress.proofs.Trees.{Made, word, empty, left, right, both, row}
 use Rattle.text_progress.proofs.TreeRows.{Fine}
+use Rattle.text_progress.proofs.Literals.{literal_within}
 use Rattle.text_progress.proofs.ExpForms.{FineIf, assert_fine, call_fine, constant_fine, in_brackets_fine, infix_fine, list_fine, of_type_fine}
 use Rattle.text_progress.proofs.ExpForms.{prefixed_fine, struct_fine, update_fine, variable_fine, vector_fine, with_suffixes_fine}
 use Rattle.text_progress.proofs.PartForms.{at_fine, dot_fine, index_fine}
@@ -60,7 +61,7 @@ negation_row (both (word s) (row a)) = prefixed_fine _ _ _ a
 
 pub two_row : {m : Mode} {t : Tree} → Made Fine (rule (N.Power m)) t → Fine (N.Power m) t
 two_row (both (word s) (left (both (word o) (row a)))) = prefixed_fine _ _ _ a
-two_row (both (word s) (right (both empty (row more)))) = with_suffixes_fine _ _ _ (constant_fine _ _) more
+two_row (both (word {s = s} w) (right (both empty (row more)))) = with_suffixes_fine _ _ _ (constant_fine _ _ (literal_within s.kind s.text)) more
 
 pub postfix_row : {m : Mode} {t : Tree} → Made Fine (rule (N.Postfix m)) t → Fine (N.Postfix m) t
 postfix_row (both (row a) (row more)) = with_suffixes_fine _ _ _ a more
@@ -79,7 +80,7 @@ index_row (both (word o) (both (row a) (both k (word c)))) = at_fine _ _ (index_
 -- ---- operands
 
 pub atom_row : {m : Mode} {t : Tree} → Made Fine (rule (N.Atom m)) t → Fine (N.Atom m) t
-atom_row (left (word s)) = constant_fine _ _
+atom_row (left (word {s = s} w)) = constant_fine _ _ (literal_within s.kind s.text)
 atom_row (right (left (row a))) = a
 atom_row (right (right (left (row a)))) = a
 atom_row (right (right (right (left (row a))))) = a

@@ -2,6 +2,7 @@
 use Rattle.std.proofs.Common.{◌≡◌, Bool, true, false, List, [], ◌∷◌, map, refl, ◌∙◌, ap, subst}
 use Rattle.std.specs.Prelude.{ℤ}
 use Rattle.sail_base.specs.declared.place.Place.{Place}
+use Rattle.sail_types.specs.Limits.{is_small}
 use Rattle.sail_syntax.specs.declared.name.Name.{Name}
 use Rattle.sail_syntax.specs.declared.name.Literal.{Literal}
 use Rattle.sail_syntax.specs.declared.words.Brackets.{Brackets}
@@ -17,7 +18,7 @@ use Rattle.sail_grammar.specs.declared.mode.Mode.TheVariants.{Full, Limited}
 use Rattle.sail_grammar.specs.PatternTrees.{grouped_pattern, joined}
 use Rattle.sail_signatures.specs.Signatures.{annotation, form_annotation}
 use Rattle.shape_joins.proofs.Order.{no, two}
-use Rattle.shape_meanings.specs.Trees.{group_written, joined_form, pattern_form, pattern_written, side_form, side_written}
+use Rattle.shape_meanings.specs.Trees.{group_written, joined_form, literal_written, pattern_form, pattern_written, side_form, side_written}
 use Rattle.shape_meanings.specs.Whole.{all_of}
 use Rattle.known_texts.specs.Written.{maybe_type_written, type_written}
 
@@ -85,12 +86,12 @@ not_limited e = no (ap is_limited e)
 pub wildcard_fine : (place : Place) → FinePattern Full (V.Wildcard place)
 wildcard_fine place = of_form Full (P.Wildcard place) (V.Wildcard place) (V.rolls-Wildcard place) refl refl (λ e. not_limited e)
 
-pub constant_fine : (m : Mode) (place : Place) (literal : Literal) → FinePattern m (V.Constant place literal)
-constant_fine m place literal =
-    of_form m (P.Constant place literal) (V.Constant place literal) (V.rolls-Constant place literal) refl refl (λ e. refl)
+pub constant_fine : (m : Mode) (place : Place) (literal : Literal) → literal_written literal ≡ true → FinePattern m (V.Constant place literal)
+constant_fine m place literal h =
+    of_form m (P.Constant place literal) (V.Constant place literal) (V.rolls-Constant place literal) h refl (λ e. h)
 
-pub negative_fine : (m : Mode) (place : Place) (n : ℤ) → FinePattern m (V.Negative place n)
-negative_fine m place n = of_form m (P.Negative place n) (V.Negative place n) (V.rolls-Negative place n) refl refl (λ e. refl)
+pub negative_fine : (m : Mode) (place : Place) (n : ℤ) → is_small n ≡ true → FinePattern m (V.Negative place n)
+negative_fine m place n h = of_form m (P.Negative place n) (V.Negative place n) (V.rolls-Negative place n) h refl (λ e. h)
 
 pub bind_fine : (m : Mode) (name : Name) → FinePattern m (V.Bind name)
 bind_fine m name = of_form m (P.Bind name) (V.Bind name) (V.rolls-Bind name) refl refl (λ e. refl)

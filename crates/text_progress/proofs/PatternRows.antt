@@ -7,6 +7,7 @@ use Rattle.sail_grammar.specs.Table.{rule}
 use Rattle.shape_joins.proofs.Order.{no}
 use Rattle.text_progress.proofs.Trees.{Made, word, empty, left, right, both, row}
 use Rattle.text_progress.proofs.TreeRows.{Fine}
+use Rattle.text_progress.proofs.Literals.{literal_within, number_within}
 use Rattle.text_progress.proofs.PatternForms.{as_fine, bind_fine, concat_fine, cons_fine, constant_fine, construct_fine, grouped_fine, list_fine}
 use Rattle.text_progress.proofs.PatternForms.{more_joined, more_patterns, negative_fine, no_joined, no_patterns, typed_fine, vector_fine, wildcard_fine}
 
@@ -33,7 +34,7 @@ typed_row (both (row a) (right empty)) = a
 
 pub base_row : {m : Mode} {t : Tree} → Made Fine (rule (N.PatternBase m)) t → Fine (N.PatternBase m) t
 base_row (left (row a)) = a
-base_row (right (left (word s))) = constant_fine _ _ _
+base_row (right (left (word {s = s} w))) = constant_fine _ _ _ (literal_within s.kind s.text)
 base_row (right (right (left (row a)))) = a _
 base_row (right (right (right (left (row a))))) = a
 base_row (right (right (right (right (left (row a)))))) = a.group
@@ -45,7 +46,7 @@ wildcard_row Full (word w) = wildcard_fine _
 wildcard_row Limited (word w) = no w
 
 pub negative_row : {t : Tree} → Made Fine (rule N.PatternNegative) t → Fine N.PatternNegative t
-negative_row (both (word s) (word n)) m = negative_fine _ _ _
+negative_row (both (word w) (word {s = s} n)) m = negative_fine _ _ _ (number_within s.text)
 
 pub named_row : {m : Mode} {t : Tree} → Made Fine (rule (N.PatternNamed m)) t → Fine (N.PatternNamed m) t
 named_row (both (word n) (left (row a))) = construct_fine _ _ _ a.list
