@@ -1,7 +1,6 @@
 -- Forms of patterns: what is found of each passes the test, where what is found of its parts does.
 use Rattle.std.proofs.Common.{◌≡◌, ℕ, suc, List, [], ◌∷◌, ◌++◌, map, length, replicate, ap, sym, ◌∙◌, refl, Bool, true, false, ◌&&◌}
 use Rattle.std.proofs.Common.{Option, Some, None, nat_eq, if◌then◌else◌, ℤ}
-use Rattle.std.proofs.lemmas.Bool.{and_parts}
 use Rattle.std.proofs.lemmas.Bool.Decides.{Decides-eqb}
 use Rattle.sail_base.specs.declared.place.Place.{Place}
 use Rattle.sail_syntax.specs.declared.name.Literal.{Literal}
@@ -16,7 +15,6 @@ use Rattle.sail_types.specs.declared.shapes.Shape.{Shape}
 use Rattle.sail_types.specs.declared.shapes.Shape.TheVariants as V
 use Rattle.sail_types.specs.declared.table.Types.{Types}
 use Rattle.sail_types.specs.Shapes.{at, put}
-use Rattle.sail_types.specs.Sums.{read}
 use Rattle.sail_core.specs.declared.patterns.Form.{Form}
 use Rattle.sail_core.specs.declared.patterns.Form.TheVariants as F
 use Rattle.sail_core.specs.declared.patterns.Head.{Head}
@@ -47,9 +45,8 @@ use Rattle.shape_rules.specs.Scopes.{Setting}
 use Rattle.shape_rules.specs.Written.{shape_in, written, written_faults}
 use Rattle.shape_meanings.proofs.Opening.{mapped_count, same_count}
 use Rattle.shape_stands.proofs.Standing.{both_empty}
-use Rattle.pattern_laws.specs.Standing.{constructor_stands, each_stands, form_stands, head_stands, is_number, literal_stands, number_owns, stands}
-use Rattle.pattern_laws.specs.Standing.{width_stands, widths_stand}
-use Rattle.found_patterns.specs.Meant.{NamesStand, each_reads, form_reads, pattern_reads}
+use Rattle.pattern_laws.specs.Standing.{constructor_stands, each_stands, form_stands, head_stands, literal_stands, number_owns, stands, widths_stand}
+use Rattle.found_patterns.specs.Meant.{NamesStand}
 
 no_faults : {A : Type 0} {x : A} {xs : List A} → (x ∷ xs) ≡ [] → ⊥
 no_faults e = cc
@@ -61,12 +58,9 @@ module _ (types : Types) (numbers : List Index) where
   abbrev test : Pattern → Bool
   test = stands types numbers
 
-  abbrev reads : Pattern → Bool
-  reads = pattern_reads numbers
-
   -- it passes, where nothing is wrong with it
   abbrev pub IsFine : Looked → Type 0
-  IsFine l = l.faults ≡ [] → reads l.pattern ≡ true → test l.pattern ≡ true
+  IsFine l = l.faults ≡ [] → test l.pattern ≡ true
 
   abbrev pub PieceFine : Setting → Widths → Piece → Type 0
   PieceFine setting widths p = (subject : Shape) → IsFine (p.look setting widths subject)
@@ -89,15 +83,6 @@ module _ (types : Types) (numbers : List Index) where
       → test (pattern place form parts) ≡ true
   formed place form parts h =
       fold-roll-Pattern Bool (λ p. form_stands types numbers p.form p.parts) (record { place = place; form = form; parts = parts }) ∙ h
-
-  -- and its widths, by its form
-  read_form : (place : Place) (form : Form) (parts : List Pattern) → reads (pattern place form parts) ≡ true → form_reads numbers form (map reads parts) ≡ true
-  read_form place form parts h =
-      sym (fold-roll-Pattern Bool (λ p. form_reads numbers p.form p.parts) (record { place = place; form = form; parts = parts })) ∙ h
-
-  parts_read : (head : Head) (bs : List Bool) → form_reads numbers (F.Opens head) bs ≡ true → each_stands bs ≡ true
-  parts_read (H.Cut ws) bs h = (and_parts (each_reads numbers ws) (each_stands bs) h).1
-  parts_read head bs h = h
 
   is_fine : (place : Place) (own : Shape) (literal : CoreLiteral) (setting : Setting) (widths : Widths) (subject : Shape)
       → literal_stands types literal ≡ true → test (is_found place own literal setting widths subject).pattern ≡ true
@@ -132,21 +117,18 @@ module _ (types : Types) (numbers : List Index) where
   -- ---- several parts
 
   pub each_fine : (ps : List Piece) (setting : Setting) (widths : Widths) (ss : List Shape) → EachFine setting widths ps
-      → (each_looked ps setting widths ss).faults ≡ [] → each_stands (map reads (each_looked ps setting widths ss).patterns) ≡ true
-      → each_stands (map test (each_looked ps setting widths ss).patterns) ≡ true
-  each_fine [] setting widths ss fine e r = refl
-  each_fine (p ∷ ps) setting widths [] fine e r =
+      → (each_looked ps setting widths ss).faults ≡ [] → each_stands (map test (each_looked ps setting widths ss).patterns) ≡ true
+  each_fine [] setting widths ss fine e = refl
+  each_fine (p ∷ ps) setting widths [] fine e =
       let first : Looked = p.look setting widths V.Never in
       let others : LookedAll = each_looked ps setting widths [] in
       let h = both_empty first.faults others.faults e in
-      let k = and_parts (reads first.pattern) (each_stands (map reads others.patterns)) r in
-      two (test first.pattern) (each_stands (map test others.patterns)) (fine.0 V.Never h.0 k.0) (each_fine ps setting widths [] fine.1 h.1 k.1)
-  each_fine (p ∷ ps) setting widths (s ∷ ss) fine e r =
+      two (test first.pattern) (each_stands (map test others.patterns)) (fine.0 V.Never h.0) (each_fine ps setting widths [] fine.1 h.1)
+  each_fine (p ∷ ps) setting widths (s ∷ ss) fine e =
       let first : Looked = p.look setting widths s in
       let others : LookedAll = each_looked ps setting widths ss in
       let h = both_empty first.faults others.faults e in
-      let k = and_parts (reads first.pattern) (each_stands (map reads others.patterns)) r in
-      two (test first.pattern) (each_stands (map test others.patterns)) (fine.0 s h.0 k.0) (each_fine ps setting widths ss fine.1 h.1 k.1)
+      two (test first.pattern) (each_stands (map test others.patterns)) (fine.0 s h.0) (each_fine ps setting widths ss fine.1 h.1)
 
   -- as many as there are parts
   so_many : (ps : List Piece) (setting : Setting) (widths : Widths) (ss : List Shape) → length (each_looked ps setting widths ss).patterns ≡ length ps
@@ -164,24 +146,23 @@ module _ (types : Types) (numbers : List Index) where
       → (each_stands (map test (each_looked ps setting widths ss).patterns) ≡ true
       → head_stands types numbers head (map test (each_looked ps setting widths ss).patterns) ≡ true)
       → IsFine (opened place head faults (each_looked ps setting widths ss))
-  opens_fine place head faults ps setting widths ss fine passes e r =
+  opens_fine place head faults ps setting widths ss fine passes e =
       let parts : LookedAll = each_looked ps setting widths ss in
       let h = both_empty faults parts.faults e in
-      let k = parts_read head (map reads parts.patterns) (read_form place (F.Opens head) parts.patterns r) in
-      formed place (F.Opens head) parts.patterns (passes (each_fine ps setting widths ss fine h.1 k))
+      formed place (F.Opens head) parts.patterns (passes (each_fine ps setting widths ss fine h.1))
 
   pub group_fine : (place : Place) (brackets : Brackets) (ps : List Piece) (setting : Setting) (widths : Widths) → EachFine setting widths ps
       → (subject : Shape) → IsFine (group_look place brackets ps setting widths subject)
-  group_fine place B.Tuple [] setting widths fine subject e r = unit_fine place setting widths subject
-  group_fine place B.Tuple (p ∷ ps) setting widths fine subject e r = opens_fine place H.Tuple _ (p ∷ ps) setting widths _ fine (λ h. h) e r
-  group_fine place B.Vector ps setting widths fine subject e r = opens_fine place H.Vector _ ps setting widths _ fine (λ h. h) e r
-  group_fine place B.List ps setting widths fine subject e r = opens_fine place H.List _ ps setting widths _ fine (λ h. h) e r
+  group_fine place B.Tuple [] setting widths fine subject e = unit_fine place setting widths subject
+  group_fine place B.Tuple (p ∷ ps) setting widths fine subject e = opens_fine place H.Tuple _ (p ∷ ps) setting widths _ fine (λ h. h) e
+  group_fine place B.Vector ps setting widths fine subject e = opens_fine place H.Vector _ ps setting widths _ fine (λ h. h) e
+  group_fine place B.List ps setting widths fine subject e = opens_fine place H.List _ ps setting widths _ fine (λ h. h) e
 
   as_one_fine : (place : Place) (ps : List Piece) (setting : Setting) (widths : Widths) → EachFine setting widths ps
       → (subject : Shape) → IsFine (as_one place ps setting widths subject)
-  as_one_fine place [] setting widths fine subject e r = unit_fine place setting widths subject
-  as_one_fine place (p ∷ []) setting widths fine subject e r = fine.0 subject e r
-  as_one_fine place (p ∷ q ∷ ps) setting widths fine subject e r = opens_fine place H.Tuple _ (p ∷ q ∷ ps) setting widths _ fine (λ h. h) e r
+  as_one_fine place [] setting widths fine subject e = unit_fine place setting widths subject
+  as_one_fine place (p ∷ []) setting widths fine subject e = fine.0 subject e
+  as_one_fine place (p ∷ q ∷ ps) setting widths fine subject e = opens_fine place H.Tuple _ (p ∷ q ∷ ps) setting widths _ fine (λ h. h) e
 
   -- a head and the rest of a list
   pair_last : (a b : Bool) → each_stands (a ∷ b ∷ []) ≡ true → (a && b) ≡ true
@@ -191,96 +172,83 @@ module _ (types : Types) (numbers : List Index) where
 
   pub cons_fine : (place : Place) (p q : Piece) (setting : Setting) (widths : Widths) → PieceFine setting widths p → PieceFine setting widths q
       → (subject : Shape) → IsFine (cons_look place p q setting widths subject)
-  cons_fine place p q setting widths first others subject e r =
-      opens_fine place H.Cons _ (p ∷ q ∷ []) setting widths (_ ∷ _ ∷ []) (first, (others, tt)) (λ h. pair_last _ _ h) e r
+  cons_fine place p q setting widths first others subject e =
+      opens_fine place H.Cons _ (p ∷ q ∷ []) setting widths (_ ∷ _ ∷ []) (first, (others, tt)) (λ h. pair_last _ _ h) e
 
   -- ---- parts of `@`, each with its width
 
   width_in : (o : Option Num) (ws : List (Option Num)) → ((n : Num) → o ≡ Some n → number_owns numbers n ≡ true)
-      → each_reads numbers (o ∷ ws) ≡ true → (each_reads numbers ws ≡ true → widths_stand numbers ws ≡ true) → widths_stand numbers (o ∷ ws) ≡ true
-  width_in None ws is r others = others r
-  width_in (Some n) ws is r others =
-      let k = and_parts (is_number n (read numbers n)) (each_reads numbers ws) r in
-      two (width_stands numbers n) (widths_stand numbers ws) (two (number_owns numbers n) (is_number n (read numbers n)) (is n refl) k.0) (others k.1)
+      → widths_stand numbers ws ≡ true → widths_stand numbers (o ∷ ws) ≡ true
+  width_in None ws is others = others
+  width_in (Some n) ws is others = two (number_owns numbers n) (widths_stand numbers ws) (is n refl) others
 
   widths_in : (ps : List Piece) (setting : Setting) (widths : Widths) → EachWidth setting widths ps
-      → each_reads numbers (map (λ (p : Piece). p.width setting widths) ps) ≡ true
       → widths_stand numbers (map (λ (p : Piece). p.width setting widths) ps) ≡ true
-  widths_in [] setting widths fine r = refl
-  widths_in (p ∷ ps) setting widths fine r =
-      width_in (p.width setting widths) (map (λ (p : Piece). p.width setting widths) ps) fine.0 r (widths_in ps setting widths fine.1)
+  widths_in [] setting widths fine = refl
+  widths_in (p ∷ ps) setting widths fine =
+      width_in (p.width setting widths) (map (λ (p : Piece). p.width setting widths) ps) fine.0 (widths_in ps setting widths fine.1)
 
   same_many : (n k m : ℕ) → n ≡ m → k ≡ m → nat_eq n k ≡ true
   same_many n k m a b = ap (λ (x : ℕ). nat_eq x k) (a ∙ sym b) ∙ itself k
 
   pub concat_fine : (place : Place) (ps : List Piece) (setting : Setting) (widths : Widths) → EachFine setting widths ps → EachWidth setting widths ps
       → (subject : Shape) → IsFine (concat_look place ps setting widths subject)
-  concat_fine place ps setting widths fine wide subject e r =
+  concat_fine place ps setting widths fine wide subject e =
       let ws : List (Option Num) = map (λ (p : Piece). p.width setting widths) ps in
       let parts : LookedAll = each_looked ps setting widths (replicate (length ps) V.Bits) in
-      let k = and_parts (each_reads numbers ws) (each_stands (map reads parts.patterns)) (read_form place (F.Opens (H.Cut ws)) parts.patterns r) in
       opens_fine place (H.Cut ws) (shape_faults place subject V.Bits ++ width_faults false setting widths ps) ps setting widths (replicate (length ps) V.Bits)
       fine
       (λ h. two (nat_eq (length ws) (length (map test parts.patterns)) && widths_stand numbers ws) (each_stands (map test parts.patterns))
       (two (nat_eq (length ws) (length (map test parts.patterns))) (widths_stand numbers ws)
       (same_many (length ws) (length (map test parts.patterns)) (length ps) (mapped_count (λ (p : Piece). p.width setting widths) ps)
       (tested_many ps setting widths (replicate (length ps) V.Bits)))
-      (widths_in ps setting widths wide k.0)) h) e r
+      (widths_in ps setting widths wide)) h) e
 
   -- ---- `p as x`, `p : T`
 
   pub as_fine : (place : Place) (p : Piece) (name : Name) (setting : Setting) (widths : Widths) → PieceFine setting widths p
       → (subject : Shape) → IsFine (as_look place p name setting widths subject)
-  as_fine place p name setting widths fine subject e r =
-      let inner : Looked = p.look setting widths subject in
-      let k = and_parts (reads inner.pattern) true (read_form place (F.As name.text) (inner.pattern ∷ []) r) in
-      formed place (F.As name.text) (inner.pattern ∷ []) (fine subject e k.0)
+  as_fine place p name setting widths fine subject e =
+      formed place (F.As name.text) ((p.look setting widths subject).pattern ∷ []) (fine subject e)
 
   typed_in : (o : Option Written) (x : Written) (b : Bool) → o ≡ Some x → b ≡ true → form_stands types numbers (typed_form o) (b ∷ []) ≡ true
   typed_in o x b is h = ap (λ (y : Option Written). form_stands types numbers (typed_form y) (b ∷ [])) is ∙ h
 
-  typed_reads : (o : Option Written) (b : Bool) → form_reads numbers (typed_form o) (b ∷ []) ≡ true → b ≡ true
-  typed_reads None b h = (and_parts b true h).0
-  typed_reads (Some x) b h = (and_parts b true h).0
-
   pub typed_fine : (place : Place) (p : Piece) (typ : TyExp) (setting : Setting) (widths : Widths) (x : Written) → written setting.within typ ≡ Some x
       → PieceFine setting widths p → (subject : Shape) → IsFine (typed_look place p typ setting widths subject)
-  typed_fine place p typ setting widths x is fine subject e r =
+  typed_fine place p typ setting widths x is fine subject e =
       let inner : Looked = p.look setting widths (seen_as subject (shape_in setting.within typ)) in
       let h = both_empty (written_faults setting.within typ ++ shape_faults place subject (shape_in setting.within typ)) inner.faults e in
       formed place (typed_form (written setting.within typ)) (inner.pattern ∷ [])
-      (typed_in (written setting.within typ) x (test inner.pattern) is (fine (seen_as subject (shape_in setting.within typ)) h.1
-      (typed_reads (written setting.within typ) (reads inner.pattern) (read_form place (typed_form (written setting.within typ)) (inner.pattern ∷ []) r))))
+      (typed_in (written setting.within typ) x (test inner.pattern) is (fine (seen_as subject (shape_in setting.within typ)) h.1))
 
   -- ---- `id(p, q)`
 
-  maps_fine : (place : Place) (d : ℕ) (part : Looked) → (reads part.pattern ≡ true → test part.pattern ≡ true)
-      → reads (pattern place (F.Maps d) (part.pattern ∷ [])) ≡ true → test (pattern place (F.Maps d) (part.pattern ∷ [])) ≡ true
-  maps_fine place d part h r =
-      formed place (F.Maps d) (part.pattern ∷ []) (h (and_parts (reads part.pattern) true (read_form place (F.Maps d) (part.pattern ∷ []) r)).0)
+  maps_fine : (place : Place) (d : ℕ) (part : Looked) → test part.pattern ≡ true → test (pattern place (F.Maps d) (part.pattern ∷ [])) ≡ true
+  maps_fine place d part h = formed place (F.Maps d) (part.pattern ∷ []) h
 
   mapping_fine : (place : Place) (m : Mapping) (ps : List Piece) (side : Which) (setting : Setting) (widths : Widths) → EachFine setting widths ps
       → (subject : Shape) → IsFine (mapping_look_as place m ps side setting widths subject)
-  mapping_fine place m ps forwards setting widths fine subject e r =
-      maps_fine place _ (as_one place ps setting widths _) (as_one_fine place ps setting widths fine _ e) r
-  mapping_fine place m ps backwards setting widths fine subject e r =
-      maps_fine place _ (as_one place ps setting widths _) (as_one_fine place ps setting widths fine _ e) r
-  mapping_fine place m ps neither setting widths fine subject e r = absurd (no_faults e)
-  mapping_fine place m ps either setting widths fine subject e r = absurd (no_faults e)
+  mapping_fine place m ps forwards setting widths fine subject e =
+      maps_fine place _ (as_one place ps setting widths _) (as_one_fine place ps setting widths fine _ e)
+  mapping_fine place m ps backwards setting widths fine subject e =
+      maps_fine place _ (as_one place ps setting widths _) (as_one_fine place ps setting widths fine _ e)
+  mapping_fine place m ps neither setting widths fine subject e = absurd (no_faults e)
+  mapping_fine place m ps either setting widths fine subject e = absurd (no_faults e)
 
   direction_fine : (name : Name) (d : ℕ) (f : Candidate) (ps : List Piece) (setting : Setting) (widths : Widths) → EachFine setting widths ps
       → (subject : Shape) → IsFine (direction_look name d f ps setting widths subject)
-  direction_fine name d f ps setting widths fine subject e r =
+  direction_fine name d f ps setting widths fine subject e =
       let part : Looked = as_one name.place ps setting widths f.answer in
       let h = both_empty _ part.faults e in
-      maps_fine name.place d part (as_one_fine name.place ps setting widths fine f.answer h.1) r
+      maps_fine name.place d part (as_one_fine name.place ps setting widths fine f.answer h.1)
 
   pieces_fine : (place : Place) (params : List Shape) (ps : List Piece) (setting : Setting) (widths : Widths) → EachFine setting widths ps
       → EachFine setting widths (pieces_for place params ps)
   pieces_fine place params [] setting widths fine = by_unit (takes_unit params)
     where
       by_unit : (b : Bool) → EachFine setting widths (if b then unit_piece place ∷ [] else [])
-      by_unit true = ((λ subject e r. unit_fine place setting widths subject), tt)
+      by_unit true = ((λ subject e. unit_fine place setting widths subject), tt)
       by_unit false = tt
   pieces_fine place params (p ∷ ps) setting widths fine = fine
 
@@ -301,12 +269,12 @@ module _ (types : Types) (numbers : List Index) where
           then constructor_parts name (H.Constructor u k) f pieces (learn f.answer subject (nevers f.variables)) setting widths subject
           else opened name.place (H.Constructor u k) (error.Arity name.place (length f.params) (length pieces) ∷ [])
           (each_looked pieces setting widths []))
-      by_count false is = λ e r. absurd (no_faults e)
-      by_count true is = λ e r.
+      by_count false is = λ e. absurd (no_faults e)
+      by_count true is = λ e.
           opens_fine name.place (H.Constructor u k) _ pieces setting widths (part_shapes f subject) fine
           (λ h. two (constructor_stands types u k (length tested)) (each_stands tested)
           (ap (constructor_stands types u k)
-          (tested_many pieces setting widths (part_shapes f subject) ∙ sym (same_count (length f.params) (length pieces) is)) ∙ has) h) e r
+          (tested_many pieces setting widths (part_shapes f subject) ∙ sym (same_count (length f.params) (length pieces) is)) ∙ has) h) e
 
   callee_fine : (name : Name) (f : Candidate) (doing : Doing) (ps : List Piece) (setting : Setting) (names : Tables.Setting) (widths : Widths)
       → is_construction names name.text ≡ true → setting.value name.text ≡ Some (M.Callee f) → f.doing ≡ doing
@@ -317,7 +285,7 @@ module _ (types : Types) (numbers : List Index) where
       (pieces_fine name.place f.params ps setting widths fine) subject
   callee_fine name f (D.Calls (C.Converts d)) ps setting names widths constructs is does stand fine subject =
       direction_fine name d f ps setting widths fine subject
-  callee_fine name f doing ps setting names widths constructs is does stand fine subject = λ e r. formed name.place F.Any [] refl
+  callee_fine name f doing ps setting names widths constructs is does stand fine subject = λ e. formed name.place F.Any [] refl
 
   pub construct_fine : (name : Name) (meant : Option Meant) (ps : List Piece) (setting : Setting) (names : Tables.Setting) (widths : Widths)
       → is_construction names name.text ≡ true → setting.value name.text ≡ meant
@@ -326,4 +294,4 @@ module _ (types : Types) (numbers : List Index) where
       callee_fine name f f.doing ps setting names widths constructs is refl stand fine subject
   construct_fine name (Some (M.Mapping m)) ps setting names widths constructs is stand fine subject =
       mapping_fine name.place m ps (which_side m subject) setting widths fine subject
-  construct_fine name meant ps setting names widths constructs is stand fine subject = λ e r. formed name.place F.Any [] refl
+  construct_fine name meant ps setting names widths constructs is stand fine subject = λ e. formed name.place F.Any [] refl

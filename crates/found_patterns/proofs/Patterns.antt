@@ -115,15 +115,15 @@ module _ (types : Types) (numbers : List Index) where
 
   again : (y : Pat-F SuchP SuchJ) → FormFine (first y)
   again (P.Wildcard place) setting names known u stand wide widths given =
-      ((λ subject e r. formed types numbers place F.Any [] refl), (λ n is. no_width n is))
+      ((λ subject e. formed types numbers place F.Any [] refl), (λ n is. no_width n is))
   again (P.Constant place literal) setting names known u stand wide widths given = (
-    λ subject e r. literal_fine types numbers place (literal_shape literal) literal setting widths subject,
+    λ subject e. literal_fine types numbers place (literal_shape literal) literal setting widths subject,
     λ n is. literal_wide literal n is,
   )
   again (P.Negative place z) setting names known u stand wide widths given =
-      ((λ subject e r. number_fine types numbers place (pos 0 -ℤ z) setting widths subject), (λ n is. no_width n is))
+      ((λ subject e. number_fine types numbers place (pos 0 -ℤ z) setting widths subject), (λ n is. no_width n is))
   again (P.Bind name) setting names known u stand wide widths given = (
-    λ subject e r. name_fine types numbers name (setting.value name.text) setting names widths subject refl stand,
+    λ subject e. name_fine types numbers name (setting.value name.text) setting names widths subject refl stand,
     λ n is. name_wide name (setting.value name.text) widths given n is,
   )
   again (P.Construct name ys) setting names known u stand wide widths given =
@@ -189,5 +189,5 @@ module _ (types : Types) (numbers : List Index) where
       (λ e y is. subst (λ d. JoinedFine (roll-Joined d)) is (rolled_joined y))
 
 pub found_patterns_stand : FoundPatternsStand
-found_patterns_stand types numbers p setting names known u stand wide widths given subject e r =
-    (pat_fine types numbers p setting names known u stand wide widths given).0 subject e r
+found_patterns_stand types numbers p setting names known u stand wide widths given subject e =
+    (pat_fine types numbers p setting names known u stand wide widths given).0 subject e

@@ -14,15 +14,14 @@ use Rattle.shape_meanings.specs.Naming.{AreKnown}
 use Rattle.shape_meanings.specs.Whole.{Choice}
 use Rattle.shape_stands.specs.Inside.{Inside, Position}
 use Rattle.pattern_laws.specs.Standing.{stands}
-use Rattle.found_patterns.specs.Meant.{NamesStand, WidthsOwn, WidthsStand, pattern_reads}
+use Rattle.found_patterns.specs.Meant.{NamesStand, WidthsOwn, WidthsStand}
 
--- whatever shape comes to it, where its widths are in normal form
+-- whatever shape comes to it
 abbrev pub FoundPatternsStand : Type 0
 FoundPatternsStand =
     (types : Types) (numbers : List Index) (p : Pat) (setting : Setting) (names : Tables.Setting) → AreKnown setting names → uses_failures names p ≡ []
     → NamesStand types setting names → WidthsOwn numbers setting names → (widths : Widths) → WidthsStand numbers widths → (subject : Shape)
-    → (look p setting widths subject).faults ≡ [] → pattern_reads numbers (look p setting widths subject).pattern ≡ true
-    → stands types numbers (look p setting widths subject).pattern ≡ true
+    → (look p setting widths subject).faults ≡ [] → stands types numbers (look p setting widths subject).pattern ≡ true
 
 -- what can be named in a world is in its table of types
 abbrev pub NamesAreThere : Type 0

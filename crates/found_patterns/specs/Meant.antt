@@ -1,20 +1,13 @@
 -- What the names in a pattern mean, as the test of patterns wants it: members that their enums have, constructors over as many parts as they take, and
--- widths that are numbers over the own variables of what is around; and patterns whose widths are in normal form.
-use Rattle.std.specs.Prelude.{◌≡◌, ℕ, nat_lt, Bool, true, ◌&&◌, List, [], ◌∷◌, length, map, Option, Some, None}
+-- widths that are numbers over the own variables of what is around.
+use Rattle.std.specs.Prelude.{◌≡◌, ℕ, nat_lt, true, List, [], length, Some}
 use Rattle.sail_base.specs.declared.kind.Kind.TheVariants as Sort
 use Rattle.sail_syntax.specs.declared.types.TyExp.{TyExp}
 use Rattle.sail_types.specs.Named.{members}
-use Rattle.sail_types.specs.Sums.{read}
 use Rattle.sail_types.specs.declared.numbers.Index.{Index}
 use Rattle.sail_types.specs.declared.numbers.Num.{Num}
 use Rattle.sail_types.specs.declared.table.Types.{Types}
 use Rattle.sail_types.specs.declared.types.Typ.{Typ}
-use Rattle.sail_core.specs.declared.patterns.Arm.{Arm}
-use Rattle.sail_core.specs.declared.patterns.Arm.TheVariants as A
-use Rattle.sail_core.specs.declared.patterns.Form.{Form}
-use Rattle.sail_core.specs.declared.patterns.Form.TheVariants as F
-use Rattle.sail_core.specs.declared.patterns.Head.TheVariants as H
-use Rattle.sail_core.specs.declared.patterns.Pattern.{Pattern, fold-Pattern}
 use Rattle.sail_core.specs.declared.tree.Callee.TheVariants as C
 use Rattle.sail_names.specs.Known as Tables
 use Rattle.sail_names.specs.Known.{is_construction}
@@ -25,7 +18,7 @@ use Rattle.shape_rules.specs.declared.callees.Meant.TheVariants as M
 use Rattle.shape_rules.specs.Patterns.{Widths, construct_width, width_of}
 use Rattle.shape_rules.specs.Scopes.{Setting}
 use Rattle.shape_rules.specs.Written.{typ_in}
-use Rattle.pattern_laws.specs.Standing.{constructor_stands, each_stands, is_number, number_owns}
+use Rattle.pattern_laws.specs.Standing.{constructor_stands, number_owns}
 
 -- members and constructors, where a pattern can name them
 pub record NamesStand (types : Types) (setting : Setting) (names : Tables.Setting) : Type 0 where
@@ -44,21 +37,3 @@ module _ (numbers : List Index) where
   -- of bare names, where they are known
   abbrev pub WidthsStand : Widths → Type 0
   WidthsStand widths = (name : List ℕ) (n : Num) → widths name ≡ Some n → number_owns numbers n ≡ true
-
-  -- ---- widths of the parts of `@` that stay the numbers that they are where variables stand for themselves: they are in normal form
-
-  abbrev pub each_reads : List (Option Num) → Bool
-  each_reads [] = true
-  each_reads (Some t ∷ ws) = is_number t (read numbers t) && each_reads ws
-  each_reads (None ∷ ws) = each_reads ws
-
-  abbrev pub form_reads : Form → List Bool → Bool
-  form_reads (F.Opens (H.Cut ws)) bs = each_reads ws && each_stands bs
-  form_reads form bs = each_stands bs
-
-  abbrev pub pattern_reads : Pattern → Bool
-  pattern_reads = fold-Pattern Bool (λ p. form_reads p.form p.parts)
-
-  abbrev pub arm_reads : Arm → Bool
-  arm_reads (A.Nested ps) = each_stands (map pattern_reads ps)
-  arm_reads (A.Flat count steps) = true

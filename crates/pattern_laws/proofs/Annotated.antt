@@ -308,7 +308,7 @@ module _ (around : Around) (past : Positive) (own : List Closed) {fit : OfSizes}
   maps_on ways place how d a m k h i x b s None e t = wrongs place
   maps_on {n} {f} {facts} ways place how d a m k h i x b s (Some dir) e t =
       let inner = item_met place a around how (result_of dir) in
-      knowing (λ met stands. way_reached q past n facts d (after_inner inner (parameter_owed around place dir i)) met)
+      knowing (λ met stands. way_reached q past n f facts d (after_inner inner (parameter_owed around place dir i)) met stands)
       (λ reached. notes (λ fs. way_note fs d) (knowing (λ met stands.
       taken_by place dir i x b inner (item_grows around place how a h.grows (result_of dir)) met stands)
       (λ takes. first_runs (ways d dir x reached e takes) (λ v given.

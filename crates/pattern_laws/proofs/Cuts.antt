@@ -8,10 +8,10 @@ use Rattle.std.proofs.lemmas.Bool.Decides.{Decides-eqb, Decides-int_eq}
 use Rattle.std.proofs.lemmas.Int.{ints}
 use Rattle.std.proofs.lemmas.List.{length-map}
 use Rattle.sail_base.specs.declared.place.Place.{Place}
-use Rattle.sail_types.specs.Belongs.{Reading as Closed, assigned}
+use Rattle.sail_types.specs.Belongs.{Reading as Closed}
 use Rattle.sail_types.specs.Limits.{largest, is_small, is_width}
 use Rattle.sail_types.specs.Numbers.{Assignment, Positive, number}
-use Rattle.sail_types.specs.Sums.{and_then, constant, difference, read, sum, zero_num}
+use Rattle.sail_types.specs.Sums.{and_then, constant, difference, sum, zero_num}
 use Rattle.sail_types.proofs.SumNumbers.{some_same, then_parts, sum_number_is, difference_number}
 use Rattle.sail_types.proofs.Substituted.{number_constant}
 use Rattle.sail_types.specs.declared.numbers.Con.TheVariants as C
@@ -20,7 +20,9 @@ use Rattle.sail_types.specs.declared.values.Value.{Value, Value-F, out-Value}
 use Rattle.sail_types.specs.declared.values.Value.TheOpen as V
 use Rattle.sail_types.specs.declared.values.Value.TheVariants as VV
 use Rattle.sail_types.specs.declared.values.Value.TheViews.{out-roll-Value}
+use Rattle.size_values.specs.declared.constants.Constant.TheVariants as K
 use Rattle.size_values.specs.declared.sized.Sized.{Sized}
+use Rattle.size_laws.proofs.Numbers.{known_number}
 use Rattle.sail_core.specs.Run.{Local, ◌then◌}
 use Rattle.sail_core.specs.Numbers.{Givens, known}
 use Rattle.sail_core.specs.Making.{Making, World}
@@ -37,7 +39,7 @@ use Rattle.checked_meaning.specs.Items.{Item, item, fixed_typ}
 use Rattle.checked_meaning.specs.Checked.{Cases}
 use Rattle.pattern_leaves.specs.declared.names.Bound.{Bound}
 use Rattle.pattern_leaves.specs.Settings.{Around}
-use Rattle.pattern_leaves.specs.Widths.{known_widths, sum_of, sum_from, first_sum, all_known, one_rest, cut_condition, cut_conditions, bits_part, sized_bits}
+use Rattle.pattern_leaves.specs.Widths.{sum_of, sum_from, first_sum, all_known, one_rest, cut_condition, cut_conditions, bits_part, sized_bits}
 use Rattle.pattern_leaves.specs.Widths.{cut_width, cut_owed}
 use Rattle.pattern_notes.specs.declared.matching.Matching.{Matching}
 use Rattle.pattern_notes.specs.Patterns.{Look, cut_parts, cut_met}
@@ -45,18 +47,17 @@ use Rattle.value_laws.specs.Belonging.{Integers, standing, form_holds}
 use Rattle.value_laws.specs.Known.{Point, Agree, Later, Goes}
 use Rattle.value_laws.proofs.Basics.{no, two}
 use Rattle.value_laws.proofs.Steps.{same, agree_on, gives, goes_as, goes_on, goes_then}
-use Rattle.value_laws.proofs.Numbers.{at_most_is, number_read, truth_is}
+use Rattle.value_laws.proofs.Numbers.{at_most_is, truth_is}
 use Rattle.value_laws.proofs.Values.{meant_is}
 use Rattle.value_laws.proofs.Meanings.{bits_same}
 use Rattle.value_laws.proofs.Knowing.{form_meant, number_goes}
 use Rattle.pattern_laws.specs.Beside.{AllMet, Stands, Ends, OfSizes, Behind, Beside}
 use Rattle.fitting_laws.specs.Fitting.{Said}
 use Rattle.pattern_laws.specs.Typing.{Typing, Bears}
-use Rattle.pattern_laws.specs.Standing.{each_stands, is_number, number_owns, width_stands, widths_stand}
+use Rattle.pattern_laws.specs.Standing.{each_stands, number_owns, widths_stand}
 use Rattle.pattern_laws.proofs.Conditions.{equal_numbers, goals_said, met_behind, met_front}
 use Rattle.pattern_laws.proofs.Steps.{walks, knowing, after_beside, owed_quiet, met_after}
-use Rattle.pattern_laws.proofs.KnownNumbers.{known_number}
-use Rattle.pattern_laws.proofs.OwnNumbers.{number_is, own_known}
+use Rattle.pattern_laws.proofs.OwnNumbers.{own_known}
 use Rattle.pattern_laws.proofs.Literals.{pos_same}
 use Rattle.pattern_laws.proofs.Values.{bits_had, wide_as}
 use Rattle.pattern_laws.proofs.Points.{Kept, Is, EachIs, EachSuits, all_bear, names_on, note_goes}
@@ -197,29 +198,29 @@ module _ (around : Around) (past : Positive) (own : List Closed) {fit : OfSizes}
       (sized_goes place (wide facts n).value k (λ g c. noted.0 g (now.there g c) (now.so g c)) first.goes.holds)
 
   -- what a part's width is said to be
-  abbrev said : Option Num → Option (Option Num) → Option Num
+  abbrev said : Option Num → Option Num → Option Num
   said rest None = rest
-  said rest (Some o) = o
+  said rest (Some t) = Some t
 
-  abbrev EachGives : {n : ℕ} → Point n → Option Num → List (Option (Option Num)) → List ℕ → Type 0
+  abbrev EachGives : {n : ℕ} → Point n → Option Num → List (Option Num) → List ℕ → Type 0
   EachGives f rest [] [] = Unit {0}
   EachGives f rest (o ∷ os) (k ∷ ks) = Gives f (said rest o) k × EachGives f rest os ks
   EachGives f rest os ks = ⊥
 
-  gives_on : {n m : ℕ} {f : Point n} {g : Point m} (rest : Option Num) (os : List (Option (Option Num))) (ks : List ℕ) → Later f g → EachGives f rest os ks
+  gives_on : {n m : ℕ} {f : Point n} {g : Point m} (rest : Option Num) (os : List (Option Num)) (ks : List ℕ) → Later f g → EachGives f rest os ks
       → EachGives g rest os ks
   gives_on rest [] [] l h = tt
   gives_on rest [] (k ∷ ks) l h = absurd h
   gives_on rest (o ∷ os) [] l h = absurd h
   gives_on rest (o ∷ os) (k ∷ ks) l h = ((h.0.0, λ u e g a. h.0.1 u e g (agree_on l a)), gives_on rest os ks l h.1)
 
-  width_goes : {n : ℕ} {f : Point n} {facts : List Fact} (place : Place) (rest : Option Num) (o : Option (Option Num)) (k : ℕ)
+  width_goes : {n : ℕ} {f : Point n} {facts : List Fact} (place : Place) (rest : Option Num) (o : Option Num) (k : ℕ)
       → AllMet q past (cut_width place rest o facts n).notes → Stands q past f facts → Gives f (said rest o) k
       → Goes past n f facts (cut_width place rest o) (λ g i. Is around.types past own y (bits_kept k) g i)
   width_goes place rest None k met stands h = part_goes place rest k met stands h
-  width_goes place rest (Some o) k met stands h = part_goes place o k met stands h
+  width_goes place rest (Some t) k met stands h = part_goes place (Some t) k met stands h
 
-  widths_go : (place : Place) (rest : Option Num) (os : List (Option (Option Num))) (ks : List ℕ) {n : ℕ} {f : Point n} {facts : List Fact}
+  widths_go : (place : Place) (rest : Option Num) (os : List (Option Num)) (ks : List ℕ) {n : ℕ} {f : Point n} {facts : List Fact}
       → AllMet q past (each (cut_width place rest) os facts n).notes → Stands q past f facts → EachGives f rest os ks
       → Goes past n f facts (each (cut_width place rest) os) (λ g is. EachIs around.types past own y (map bits_kept ks) g is)
   unfolding bind
@@ -259,31 +260,28 @@ module _ (around : Around) (past : Positive) (own : List Closed) {fit : OfSizes}
   abbrev Widths : List (Option Num) → Type 0
   Widths ws = (ns : List (Option ℕ)) × (widths_of w.numbers ws ≡ Some ns) × EachKnown w.numbers ws ns
 
-  width_found : {n : ℕ} {f : Point n} {facts : List Fact} (place : Place) (t : Num) → Good f → width_stands around.numbers t ≡ true
-      → AllMet q past (bits_part place (read around.numbers t) facts n).notes → Stands q past f facts → (k : ℕ) × (known w.numbers t ≡ Some (pos k))
+  width_found : {n : ℕ} {f : Point n} {facts : List Fact} (place : Place) (t : Num) → Good f → number_owns around.numbers t ≡ true
+      → AllMet q past (bits_part place (Some t) facts n).notes → Stands q past f facts → (k : ℕ) × (known w.numbers t ≡ Some (pos k))
   width_found {n} {f} {facts} place t s h met stands =
-      let both = and_parts (number_owns around.numbers t) (is_number t (read around.numbers t)) h in
-      let size = part_sized {n = n} {f = f} {facts = facts} place t
-      (subst (λ o. AllMet q past (bits_part place o facts n).notes) (number_is t (read around.numbers t) both.1) met) stands in
-      let k = y.kept.width f.integers t size in
-      (k.0, own_known past around.numbers w.numbers f.integers (s.given f.integers (same f)) t both.0 ∙ k.1)
+      let k = y.kept.width f.integers t (part_sized {n = n} {f = f} {facts = facts} place t met stands) in
+      (k.0, own_known past around.numbers w.numbers f.integers (s.given f.integers (same f)) t h ∙ k.1)
 
   widths_found : (place : Place) (rest : Option Num) (ws : List (Option Num)) → widths_stand around.numbers ws ≡ true → {n : ℕ} {f : Point n}
-      {facts : List Fact} → Good f → AllMet q past (each (cut_width place rest) (known_widths around ws) facts n).notes → Stands q past f facts → Widths ws
+      {facts : List Fact} → Good f → AllMet q past (each (cut_width place rest) ws facts n).notes → Stands q past f facts → Widths ws
   unfolding bind
   widths_found place rest [] h s met stands = ([], refl, tt)
   widths_found place rest (None ∷ ws) h {n} {f} {facts} s met stands =
       let one = bits_part place rest in
-      let others = each (cut_width place rest) (known_widths around ws) in
+      let others = each (cut_width place rest) ws in
       let quiet : Goes past n f facts one (λ g i. Unit {0}) = part_quiet place rest in
       let behind = met_front q past (others (one facts n).facts (one facts n).next).notes _ (met_behind q past (one facts n).notes _ met) in
       let more = widths_found place rest ws h (grounds_on around past own y q cases w quiet.goes.later s) behind (stands_behind quiet stands) in
       (None ∷ more.0, ap (λ o. and_then (Some None) (λ m. option_map (λ ns. m ∷ ns) o)) more.1, more.2)
   widths_found place rest (Some t ∷ ws) h {n} {f} {facts} s met stands =
-      let both = and_parts (width_stands around.numbers t) (widths_stand around.numbers ws) h in
-      let one = bits_part place (read around.numbers t) in
-      let others = each (cut_width place rest) (known_widths around ws) in
-      let quiet : Goes past n f facts one (λ g i. Unit {0}) = part_quiet place (read around.numbers t) in
+      let both = and_parts (number_owns around.numbers t) (widths_stand around.numbers ws) h in
+      let one = bits_part place (Some t) in
+      let others = each (cut_width place rest) ws in
+      let quiet : Goes past n f facts one (λ g i. Unit {0}) = part_quiet place (Some t) in
       let behind = met_front q past (others (one facts n).facts (one facts n).next).notes _ (met_behind q past (one facts n).notes _ met) in
       let first = width_found {n = n} {f = f} {facts = facts} place t s both.0 (met_front q past (one facts n).notes _ met) stands in
       let more = widths_found place rest ws both.1 (grounds_on around past own y q cases w quiet.goes.later s) behind (stands_behind quiet stands) in (
@@ -293,14 +291,13 @@ module _ (around : Around) (past : Positive) (own : List Closed) {fit : OfSizes}
       )
 
   cut_found : {n : ℕ} {f : Point n} {facts : List Fact} (place : Place) (how : Matching) (looks : List Look) (ws : List (Option Num)) (t : Num)
-      → widths_stand around.numbers ws ≡ true → Good f → AllMet q past (cut_met place looks around how (known_widths around ws) t facts n).notes
-      → Stands q past f facts → Widths ws
+      → widths_stand around.numbers ws ≡ true → Good f → AllMet q past (cut_met place looks around how ws t facts n).notes → Stands q past f facts
+      → Widths ws
   unfolding bind
   cut_found {n} {f} {facts} place how looks ws t h s met stands =
-      let os = known_widths around ws in
-      let rest = and_then (first_sum os) (difference t) in
-      let parts = (met_after q past n facts (cut_parts place looks around how os rest) (cut_owed place os t) met).0 in
-      widths_found place rest ws h s (met_front q past (each (cut_width place rest) os facts n).notes _ parts) stands
+      let rest = and_then (first_sum ws) (difference t) in
+      let parts = (met_after q past n facts (cut_parts place looks around how ws rest) (cut_owed place ws t) met).0 in
+      widths_found place rest ws h s (met_front q past (each (cut_width place rest) ws facts n).notes _ parts) stands
 
   -- ---- the run's parts
 
@@ -346,57 +343,64 @@ module _ (around : Around) (past : Positive) (own : List Closed) {fit : OfSizes}
   -- ---- sums of widths
 
   module _ {n : ℕ} (f : Point n) (s : Good f) where
-    widths_read : (t u : Num) (k : ℕ) → known w.numbers t ≡ Some (pos k) → read around.numbers t ≡ Some u → (g : Integers) → Agree f g
-        → number (there g) u ≡ pos k
-    widths_read t u k e r g a = number_read past g around.numbers t u r ∙ known_number w.numbers (assigned (there g) around.numbers) (s.says g a) t (pos k) e
+    -- a width that the run knows is the number that it knows
+    width_is : (t : Num) (k : ℕ) → number_owns around.numbers t ≡ true → known w.numbers t ≡ Some (pos k) → (g : Integers) → Agree f g
+        → number (there g) t ≡ pos k
+    width_is t k o e g a =
+        (known_number (λ i. K.Number (g i)) (there g) (λ i z c. some_same (g i) z c) t (pos k)
+        (sym (own_known past around.numbers w.numbers g (s.given g a) t o) ∙ e)).0
 
-    sums_from : (total : Option Num) (ws : List (Option Num)) (ns : List (Option ℕ)) → EachKnown w.numbers ws ns → (u : Num)
-        → sum_from total (known_widths around ws) ≡ Some u → (g : Integers) → Agree f g → (k : ℕ)
+    sums_from : (total : Option Num) (ws : List (Option Num)) (ns : List (Option ℕ)) → widths_stand around.numbers ws ≡ true
+        → EachKnown w.numbers ws ns → (u : Num) → sum_from total ws ≡ Some u → (g : Integers) → Agree f g → (k : ℕ)
         → ((v : Num) → total ≡ Some v → number (there g) v ≡ pos k) → number (there g) u ≡ pos (k + known_sum ns)
-    sums_from total [] [] h u e g a k t = t u e ∙ ap pos (omega arith)
-    sums_from total [] (m ∷ ns) h u e g a k t = absurd h
-    sums_from total (None ∷ ws) [] h u e g a k t = absurd h
-    sums_from total (None ∷ ws) (None ∷ ns) h u e g a k t = sums_from total ws ns h u e g a k t
-    sums_from total (None ∷ ws) (Some m ∷ ns) h u e g a k t = absurd h
-    sums_from total (Some v ∷ ws) [] h u e g a k t = absurd h
-    sums_from total (Some v ∷ ws) (None ∷ ns) h u e g a k t = absurd h
-    sums_from total (Some v ∷ ws) (Some m ∷ ns) h u e g a k t =
-        sums_from (sum_of total (read around.numbers v)) ws ns h.1 u e g a (k + m) (λ c d.
-        let first = then_parts total (λ x. and_then (read around.numbers v) (sum x)) c d in
-        let second = then_parts (read around.numbers v) (sum first.0) c first.2 in
-        sum_number_is (there g) first.0 second.0 c second.2
-        ∙ (λ j. t first.0 first.1 j +ℤ widths_read v second.0 m h.0 second.1 g a j))
+    sums_from total [] [] o h u e g a k t = t u e ∙ ap pos (omega arith)
+    sums_from total [] (m ∷ ns) o h u e g a k t = absurd h
+    sums_from total (None ∷ ws) [] o h u e g a k t = absurd h
+    sums_from total (None ∷ ws) (None ∷ ns) o h u e g a k t = sums_from total ws ns o h u e g a k t
+    sums_from total (None ∷ ws) (Some m ∷ ns) o h u e g a k t = absurd h
+    sums_from total (Some v ∷ ws) [] o h u e g a k t = absurd h
+    sums_from total (Some v ∷ ws) (None ∷ ns) o h u e g a k t = absurd h
+    sums_from total (Some v ∷ ws) (Some m ∷ ns) o h u e g a k t =
+        let both = and_parts (number_owns around.numbers v) (widths_stand around.numbers ws) o in
+        sums_from (sum_of total v) ws ns both.1 h.1 u e g a (k + m) (λ c d.
+        let first = then_parts total (λ x. sum x v) c d in
+        sum_number_is (there g) first.0 v c first.2 ∙ (λ j. t first.0 first.1 j +ℤ width_is v m both.0 h.0 g a j))
         ∙ ap pos (omega arith)
 
-    first_sums : (ws : List (Option Num)) (ns : List (Option ℕ)) → EachKnown w.numbers ws ns → (u : Num)
-        → first_sum (known_widths around ws) ≡ Some u → (g : Integers) → Agree f g → number (there g) u ≡ pos (known_sum ns)
-    first_sums [] [] h u e g a = ap (number (there g)) (sym (some_same zero_num u e)) ∙ number_constant (there g) (pos 0)
-    first_sums [] (m ∷ ns) h u e g a = absurd h
-    first_sums (None ∷ ws) [] h u e g a = absurd h
-    first_sums (None ∷ ws) (None ∷ ns) h u e g a = first_sums ws ns h u e g a
-    first_sums (None ∷ ws) (Some m ∷ ns) h u e g a = absurd h
-    first_sums (Some v ∷ ws) [] h u e g a = absurd h
-    first_sums (Some v ∷ ws) (None ∷ ns) h u e g a = absurd h
-    first_sums (Some v ∷ ws) (Some m ∷ ns) h u e g a =
-        sums_from (read around.numbers v) ws ns h.1 u e g a m (λ c d. widths_read v c m h.0 d g a)
+    first_sums : (ws : List (Option Num)) (ns : List (Option ℕ)) → widths_stand around.numbers ws ≡ true → EachKnown w.numbers ws ns → (u : Num)
+        → first_sum ws ≡ Some u → (g : Integers) → Agree f g → number (there g) u ≡ pos (known_sum ns)
+    first_sums [] [] o h u e g a = ap (number (there g)) (sym (some_same zero_num u e)) ∙ number_constant (there g) (pos 0)
+    first_sums [] (m ∷ ns) o h u e g a = absurd h
+    first_sums (None ∷ ws) [] o h u e g a = absurd h
+    first_sums (None ∷ ws) (None ∷ ns) o h u e g a = first_sums ws ns o h u e g a
+    first_sums (None ∷ ws) (Some m ∷ ns) o h u e g a = absurd h
+    first_sums (Some v ∷ ws) [] o h u e g a = absurd h
+    first_sums (Some v ∷ ws) (None ∷ ns) o h u e g a = absurd h
+    first_sums (Some v ∷ ws) (Some m ∷ ns) o h u e g a =
+        let both = and_parts (number_owns around.numbers v) (widths_stand around.numbers ws) o in
+        sums_from (Some v) ws ns both.1 h.1 u e g a m
+        (λ c d. ap (number (there g)) (sym (some_same v c d)) ∙ width_is v m both.0 h.0 g a)
 
     -- what each part of the walk is said to be
-    each_said : (rest : Option Num) (ws : List (Option Num)) (ns : List (Option ℕ)) (left : ℕ) → EachKnown w.numbers ws ns → all (map (solved left) ns) ≤ 128
-        → ((u : Num) → rest ≡ Some u → (g : Integers) → Agree f g → number (there g) u ≡ pos left)
-        → EachGives f rest (known_widths around ws) (map (solved left) ns)
-    each_said rest [] [] left h l t = tt
-    each_said rest [] (m ∷ ns) left h l t = absurd h
-    each_said rest (None ∷ ws) [] left h l t = absurd h
-    each_said rest (None ∷ ws) (None ∷ ns) left h l t =
-        let le : left + all (map (solved left) ns) ≤ 128 = l in ((omega (arith, le), t), each_said rest ws ns left h (omega (arith, le)) t)
-    each_said rest (None ∷ ws) (Some m ∷ ns) left h l t = absurd h
-    each_said rest (Some v ∷ ws) [] left h l t = absurd h
-    each_said rest (Some v ∷ ws) (None ∷ ns) left h l t = absurd h
-    each_said rest (Some v ∷ ws) (Some m ∷ ns) left h l t =
+    each_said : (rest : Option Num) (ws : List (Option Num)) (ns : List (Option ℕ)) (left : ℕ) → widths_stand around.numbers ws ≡ true
+        → EachKnown w.numbers ws ns → all (map (solved left) ns) ≤ 128
+        → ((u : Num) → rest ≡ Some u → (g : Integers) → Agree f g → number (there g) u ≡ pos left) → EachGives f rest ws (map (solved left) ns)
+    each_said rest [] [] left o h l t = tt
+    each_said rest [] (m ∷ ns) left o h l t = absurd h
+    each_said rest (None ∷ ws) [] left o h l t = absurd h
+    each_said rest (None ∷ ws) (None ∷ ns) left o h l t =
+        let le : left + all (map (solved left) ns) ≤ 128 = l in ((omega (arith, le), t), each_said rest ws ns left o h (omega (arith, le)) t)
+    each_said rest (None ∷ ws) (Some m ∷ ns) left o h l t = absurd h
+    each_said rest (Some v ∷ ws) [] left o h l t = absurd h
+    each_said rest (Some v ∷ ws) (None ∷ ns) left o h l t = absurd h
+    each_said rest (Some v ∷ ws) (Some m ∷ ns) left o h l t =
         let le : m + all (map (solved left) ns) ≤ 128 = l in
-        ((omega (arith, le), λ u e g a. widths_read v u m h.0 e g a), each_said rest ws ns left h.1 (omega (arith, le)) t)
+        let both = and_parts (number_owns around.numbers v) (widths_stand around.numbers ws) o in (
+          (omega (arith, le), λ u e g a. ap (number (there g)) (sym (some_same v u e)) ∙ width_is v m both.0 h.0 g a),
+          each_said rest ws ns left both.1 h.1 (omega (arith, le)) t,
+        )
 
-    known_all : (ws : List (Option Num)) (ns : List (Option ℕ)) → EachKnown w.numbers ws ns → rests ns ≡ 0 → all_known (known_widths around ws) ≡ true
+    known_all : (ws : List (Option Num)) (ns : List (Option ℕ)) → EachKnown w.numbers ws ns → rests ns ≡ 0 → all_known ws ≡ true
     known_all [] [] h e = refl
     known_all [] (m ∷ ns) h e = absurd h
     known_all (None ∷ ws) [] h e = absurd h
@@ -420,7 +424,7 @@ module _ (around : Around) (past : Positive) (own : List Closed) {fit : OfSizes}
         at_most_pos : (a b : ℕ) → int_le (pos a) (pos b) ≡ true → a ≤ b
         at_most_pos a b h = leb-true a b h
 
-    few_rests : (may : Bool) (ws : List (Option Num)) (ns : List (Option ℕ)) → EachKnown w.numbers ws ns → one_rest may (known_widths around ws) ≡ true
+    few_rests : (may : Bool) (ws : List (Option Num)) (ns : List (Option ℕ)) → EachKnown w.numbers ws ns → one_rest may ws ≡ true
         → rests ns ≤ allowed may
     few_rests may [] [] h e = omega arith
     few_rests may [] (m ∷ ns) h e = absurd h
@@ -441,31 +445,31 @@ module _ (around : Around) (past : Positive) (own : List Closed) {fit : OfSizes}
   -- ---- a word and its parts
 
   cut_fits : {n : ℕ} {f : Point n} {facts : List Fact} (s : Good f) (place : Place) (how : Matching) (looks : List Look) (ws : List (Option Num))
-      (ns : List (Option ℕ)) → EachKnown w.numbers ws ns → (t : Num) (width : ℕ) → number (there f.integers) t ≡ pos width
-      → AllMet q past (cut_met place looks around how (known_widths around ws) t facts n).notes → Stands q past f facts → Fits width ns
+      (ns : List (Option ℕ)) → widths_stand around.numbers ws ≡ true → EachKnown w.numbers ws ns → (t : Num) (width : ℕ)
+      → number (there f.integers) t ≡ pos width → AllMet q past (cut_met place looks around how ws t facts n).notes → Stands q past f facts
+      → Fits width ns
   unfolding owe_under
-  cut_fits {n} {f} {facts} s place how looks ws ns h t width e met stands =
-      let os = known_widths around ws in
-      let rest = and_then (first_sum os) (difference t) in
-      let owed = (met_after q past n facts (cut_parts place looks around how os rest) (cut_owed place os t) met).1 in
-      let told = conditions_by f s t (first_sum os) (one_rest true os) (all_known os)
-      (goals_said q past facts place (cut_conditions t (first_sum os) os) owed f.integers (stands.there f.integers (same f))) in
-      let fit = fits_by f s t (first_sum os) (all_known os) width (known_sum ns) e (λ u k. first_sums f s ws ns h u k f.integers (same f)) told.1 in
+  cut_fits {n} {f} {facts} s place how looks ws ns o h t width e met stands =
+      let rest = and_then (first_sum ws) (difference t) in
+      let owed = (met_after q past n facts (cut_parts place looks around how ws rest) (cut_owed place ws t) met).1 in
+      let told = conditions_by f s t (first_sum ws) (one_rest true ws) (all_known ws)
+      (goals_said q past facts place (cut_conditions t (first_sum ws) ws) owed f.integers (stands.there f.integers (same f))) in
+      let fit = fits_by f s t (first_sum ws) (all_known ws) width (known_sum ns) e (λ u k. first_sums f s ws ns o h u k f.integers (same f)) told.1 in
       (fit.0, (λ none. fit.1 (known_all f s ws ns h none)), few_rests f s true ws ns h told.0)
 
-  rest_is : {n : ℕ} {f : Point n} (s : Good f) (ws : List (Option Num)) (ns : List (Option ℕ)) → EachKnown w.numbers ws ns → (t : Num) (width : ℕ)
-      → ((g : Integers) → Agree f g → number (there g) t ≡ pos width) → known_sum ns ≤ width → (u : Num)
-      → and_then (first_sum (known_widths around ws)) (difference t) ≡ Some u → (g : Integers) → Agree f g → number (there g) u ≡ pos (width - known_sum ns)
-  rest_is {f = f} s ws ns h t width e l u k g a =
-      let p = then_parts (first_sum (known_widths around ws)) (difference t) u k in
-      difference_number (there g) t p.0 u p.2 ∙ (λ j. e g a j -ℤ first_sums f s ws ns h p.0 p.1 g a j) ∙ less width (known_sum ns) l
+  rest_is : {n : ℕ} {f : Point n} (s : Good f) (ws : List (Option Num)) (ns : List (Option ℕ)) → widths_stand around.numbers ws ≡ true
+      → EachKnown w.numbers ws ns → (t : Num) (width : ℕ) → ((g : Integers) → Agree f g → number (there g) t ≡ pos width) → known_sum ns ≤ width
+      → (u : Num) → and_then (first_sum ws) (difference t) ≡ Some u → (g : Integers) → Agree f g → number (there g) u ≡ pos (width - known_sum ns)
+  rest_is {f = f} s ws ns o h t width e l u k g a =
+      let p = then_parts (first_sum ws) (difference t) u k in
+      difference_number (there g) t p.0 u p.2 ∙ (λ j. e g a j -ℤ first_sums f s ws ns o h p.0 p.1 g a j) ∙ less width (known_sum ns) l
     where
       less : (a b : ℕ) → b ≤ a → pos a -ℤ pos b ≡ pos (a - b)
       less a b l = omega (arith, ints, l)
 
   -- the parts, whose sizes are noted
   parts_go : {n : ℕ} {f : Point n} {facts : List Fact} (place : Place) (how : Matching) (looks : List Look) (rest : Option Num)
-      (os : List (Option (Option Num))) (ks : List ℕ) → EachGives f rest os ks → AllMet q past (cut_parts place looks around how os rest facts n).notes
+      (os : List (Option Num)) (ks : List ℕ) → EachGives f rest os ks → AllMet q past (cut_parts place looks around how os rest facts n).notes
       → Stands q past f facts → Goes past n f facts (each (cut_width place rest) os) (λ g is. EachIs around.types past own y (map bits_kept ks) g is)
   unfolding bind
   parts_go {n} {f} {facts} place how looks rest os ks h met stands =
@@ -476,7 +480,7 @@ module _ (around : Around) (past : Positive) (own : List Closed) {fit : OfSizes}
       → Bears around.types past own y f (I.Bits t) x → Good f
       → ((nat_eq (length ws) (length ss) && widths_stand around.numbers ws) && each_stands ss) ≡ true
       → (v : Value-F Value) → out-Value x.val ≡ v
-      → Beside q past n f facts (cut_met place looks around how (known_widths around ws) t)
+      → Beside q past n f facts (cut_met place looks around how ws t)
       (as_run (so_many (length ms) (opened z w.numbers (H.Cut ws) (length ms) x v)) then run_parts ms) Found
   cut_beside {n} {f} {facts} place how looks ms ss fine ws t x b s d (V.Bits bs) e =
       let one = and_parts (nat_eq (length ws) (length ss) && widths_stand around.numbers ws) (each_stands ss) d in
@@ -488,7 +492,7 @@ module _ (around : Around) (past : Positive) (own : List Closed) {fit : OfSizes}
       leb-true (length bs) 128 (and_parts (int_eq (pos (length bs)) (number (there f.integers) t)) (is_width (length bs)) (held f.integers (same f))).1 in
       knowing (cut_found place how looks ws t both.1 s) (λ found.
       let ns = found.0 in
-      knowing (cut_fits s place how looks ws ns found.2 t (length bs) (wide f.integers (same f))) (λ fits.
+      knowing (cut_fits s place how looks ws ns both.1 found.2 t (length bs) (wide f.integers (same f))) (λ fits.
       let left = length bs - known_sum ns in
       let widths = map (solved left) ns in
       let up : all widths ≡ length bs = used_up (length bs) ns fits in
@@ -496,15 +500,15 @@ module _ (around : Around) (past : Positive) (own : List Closed) {fit : OfSizes}
       let enough : all widths ≤ 128 = omega (arith, up, few) in
       let many : length widths ≡ length ss =
       length-map ns (solved left) ∙ known_long w.numbers ws ns found.2 ∙ (Decides-eqb (length ws) (length ss)).0 both.0 in
-      let rest = and_then (first_sum (known_widths around ws)) (difference t) in
-      subst (λ o. Beside q past n f facts (cut_met place looks around how (known_widths around ws) t)
+      let rest = and_then (first_sum ws) (difference t) in
+      subst (λ o. Beside q past n f facts (cut_met place looks around how ws t)
       (as_run (so_many (length ms) (parts_or_wrong o)) then run_parts ms) Found)
       (sym (ap (λ o. and_then o (cut_by z bs)) found.1 ∙ parts.1))
       (seen_parts around past own y q cases w ms parts.0
       (bits_long widths parts.0 parts.2 ∙ many ∙ as_many_stand around past own y q cases w looks ms ss fine)
-      (after_beside (cut_owed place (known_widths around ws) t)
-      (knowing (parts_go place how looks rest (known_widths around ws) widths
-      (each_said f s rest ws ns left found.2 enough (rest_is s ws ns found.2 t (length bs) wide fits.0))) (λ go. walks go
+      (after_beside (cut_owed place ws t)
+      (knowing (parts_go place how looks rest ws widths
+      (each_said f s rest ws ns left both.1 found.2 enough (rest_is s ws ns both.1 found.2 t (length bs) wide fits.0))) (λ go. walks go
       (λ m g fs is l is_so. parts_beside around past own y q cases w place how looks ms ss fine is parts.0
       (all_bear around.types past own y is (map bits_kept widths) parts.0 (bits_suit widths parts.0 enough parts.2) is_so)
       (grounds_on around past own y q cases w l s) (all_stand around past own y q cases w ss one.1))))

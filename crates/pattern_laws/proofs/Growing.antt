@@ -122,9 +122,9 @@ literal_grows place in_case l i = where_grows place (is_of l i)
 part_grows : (place : Place) (o : Option Num) → Grows (bits_part place o)
 part_grows place o = bind_grows _ _ (number_grows o) (λ n. bind_grows _ _ (note_grows _) (λ t. give_grows _))
 
-width_grows : (place : Place) (rest : Option Num) (o : Option (Option Num)) → Grows (cut_width place rest o)
+width_grows : (place : Place) (rest : Option Num) (o : Option Num) → Grows (cut_width place rest o)
 width_grows place rest None = part_grows place rest
-width_grows place rest (Some o) = part_grows place o
+width_grows place rest (Some t) = part_grows place (Some t)
 
 pub exponents_grows : (around : Around) (ns : List WrittenNumber) → Grows (exponents_owed around ns)
 exponents_grows around [] = give_grows tt

@@ -1,5 +1,4 @@
 pub mod Conditions
-pub mod KnownNumbers
 pub mod OwnNumbers
 pub mod Steps
 pub mod Values

@@ -23,7 +23,7 @@ use Rattle.sail_core.specs.Numbers.{Givens, given_int, small, known_atom, known_
 use Rattle.value_laws.specs.Belonging.{Integers, standing}
 use Rattle.value_laws.proofs.Basics.{no}
 use Rattle.value_laws.proofs.Numbers.{variable_is}
-use Rattle.pattern_laws.specs.Standing.{each_stands, atom_owns, is_number, is_variable, number_owns, same_num, sum_owns, term_owns}
+use Rattle.pattern_laws.specs.Standing.{each_stands, atom_owns, is_variable, number_owns, same_num, sum_owns, term_owns}
 
 -- ---- numbers that are the same
 
@@ -37,10 +37,6 @@ exponent_is t u = ap (exponent_of t) (ap out-Atom (sym (A.rolls-Power u)) ∙ ou
 pub nums_same : (t u : Num) → same_num t u ≡ true → t ≡ u
 nums_same t u h =
     sym (exponent_is t t) ∙ ap (λ a. exponent_of t (out-Atom a)) ((eq_atom-Decides (A.Power t) (A.Power u)).0 h) ∙ exponent_is t u
-
-pub number_is : (t : Num) (o : Option Num) → is_number t o ≡ true → o ≡ Some t
-number_is t None h = no h
-number_is t (Some u) h = ap Some (sym (nums_same t u h))
 
 variable_there : (i : ℕ) (o : Option Index) → is_variable i o ≡ true → o ≡ Some (I.Number (variable i))
 variable_there i (Some (I.Number t)) h = ap (λ (u : Num). Some (I.Number u)) (nums_same t (variable i) h)

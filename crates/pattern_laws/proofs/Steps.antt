@@ -196,10 +196,10 @@ module _ {fit : OfSizes} {q : Ends fit} {past : Positive} where
   }
 
 -- of a direction that the pattern goes through
-pub way_reached : {fit : OfSizes} (q : Ends fit) (past : Positive) (n : ℕ) (facts : List Fact) {C : Type 0} (d : ℕ) (k : Walk C)
-    → AllMet q past (bind (note (λ fs. way_note fs d)) (λ t. k) facts n).notes → q.reached d ≡ true
+pub way_reached : {fit : OfSizes} (q : Ends fit) (past : Positive) (n : ℕ) (f : Point n) (facts : List Fact) {C : Type 0} (d : ℕ) (k : Walk C)
+    → AllMet q past (bind (note (λ fs. way_note fs d)) (λ t. k) facts n).notes → Stands q past f facts → q.reached d ≡ true
 unfolding bind note
-way_reached q past n facts d k met = met.0
+way_reached q past n f facts d k met stands = met.0 f.integers (stands.there f.integers (same f)) (stands.so f.integers (same f))
 
 -- ---- what is false is owed
 

@@ -41,11 +41,11 @@ pub record Reach {fit : OfSizes} (q : Ends fit) (past : Positive) {n : ℕ} (f :
   pub given : given_in more ≡ given_in facts
   pub holds : Then point
 
--- an obligation holds where its goal is true wherever what is in force there is; sizes that are noted fit there
+-- an obligation holds where its goal is true wherever what is in force there is; there sizes that are noted fit, and directions are reached
 abbrev pub Met : {fit : OfSizes} → Ends fit → Positive → Note → Type 0
 Met q past (goal_note facts place c) = (g : Integers) → InForce past g facts → true_in (standing past g) c ≡ true
 Met {fit} q past (size_note facts place made) = (g : Integers) → InForce past g facts → q.so g (given_in facts) → fit g made
-Met q past (way_note facts d) = q.reached d ≡ true
+Met q past (way_note facts d) = (g : Integers) → InForce past g facts → q.so g (given_in facts) → q.reached d ≡ true
 Met q past note = Unit {0}
 
 abbrev pub AllMet : {fit : OfSizes} → Ends fit → Positive → List Note → Type 0

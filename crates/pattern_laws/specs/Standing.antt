@@ -3,7 +3,7 @@
 use Rattle.std.specs.Prelude.{ℕ, zero, suc, nat_eq, nat_lt, Bool, true, false, ◌&&◌, List, [], ◌∷◌, length, map, slice_get, Option, Some, None}
 use Rattle.std.specs.List.{list_all}
 use Rattle.sail_types.specs.Named.{members, payload as payload_type}
-use Rattle.sail_types.specs.Sums.{eq_atom, read, variable}
+use Rattle.sail_types.specs.Sums.{eq_atom, variable}
 use Rattle.sail_types.specs.declared.numbers.Atom.TheFolds.{fold-Num}
 use Rattle.sail_types.specs.declared.numbers.Atom.TheOpen as O
 use Rattle.sail_types.specs.declared.numbers.Atom.TheOpen.{Atom-F, Num-F, Term-F}
@@ -56,16 +56,11 @@ union_stands k (Some t) = payload_stands k t
 abbrev pub constructor_stands : Types → ℕ → ℕ → ℕ → Bool
 constructor_stands types u c k = union_stands k (payload_type types u c)
 
--- ---- widths of the parts of `@`: numbers that stay themselves under what the walk has for the function's variables, which are Int variables that
--- stand for themselves
+-- ---- widths of the parts of `@`: numbers over the function's own variables, which are Int variables that stand for themselves
 
 -- the same number: where powers of it are the same atom
 abbrev pub same_num : Num → Num → Bool
 same_num t u = eq_atom (V.Power t) (V.Power u)
-
-abbrev pub is_number : Num → Option Num → Bool
-is_number t None = false
-is_number t (Some u) = same_num t u
 
 abbrev pub is_variable : ℕ → Option Index → Bool
 is_variable i (Some (N.Number t)) = same_num t (variable i)
@@ -85,12 +80,9 @@ module _ (numbers : List Index) where
   abbrev pub number_owns : Num → Bool
   number_owns = fold-Num Bool Bool Bool atom_owns sum_owns term_owns
 
-  abbrev pub width_stands : Num → Bool
-  width_stands t = number_owns t && is_number t (read numbers t)
-
   abbrev pub widths_stand : List (Option Num) → Bool
   widths_stand [] = true
-  widths_stand (Some t ∷ ws) = width_stands t && widths_stand ws
+  widths_stand (Some t ∷ ws) = number_owns t && widths_stand ws
   widths_stand (None ∷ ws) = widths_stand ws
 
 -- ---- forms

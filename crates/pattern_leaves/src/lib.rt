@@ -23,4 +23,4 @@ pub use literals::{meet_literal, wrong_pattern};
 pub use names::{Bound, Held, TopLevel};
 pub use payloads::{payload, payload_readings};
 pub use readings::{type_in, written_in};
-pub use widths::{cut_conditions, cut_widths, first_sum, known_widths, rest_of};
+pub use widths::{cut_conditions, cut_widths, first_sum, rest_of};

@@ -1,46 +1,15 @@
 //! Widths of the parts of a concatenation.
-ghost use Rattle.std.specs.Prelude.{◌≡◌, ◌∷◌, IfOk, OnOk, map, option_map, true};
-ghost use Rattle.sail_types.specs.Sums.{read, and_then, difference};
+ghost use Rattle.std.specs.Prelude.{◌≡◌, ◌∷◌, IfOk, OnOk, true};
+ghost use Rattle.sail_types.specs.Sums.{and_then, difference};
 ghost use Rattle.value_indices.specs.Steps.{each};
 ghost use Rattle.value_indices.specs.Walking as walk;
-ghost use Rattle.pattern_leaves.specs.Settings as settings;
 ghost use Rattle.pattern_leaves.specs.Widths as spec;
 
-use crate::around::Around;
 use crate::exponents::one_condition;
 use sail_base::{Items, Place};
-use sail_types::{Con, Num, add, copy_num, read_number, subtract};
+use sail_types::{Con, Num, add, copy_num, subtract};
 use std::alloc::{AllocError, Global};
 use value_indices::{Indices, Made, Walking, at_most, equal, number_or_fresh};
-
-/// What is known of the widths. It fails where memory is wanting.
-pub fn known_widths(
-    alloc: Global,
-    around: &Around<'_>,
-    widths: &[Option<Num>],
-) -> Result<Items<Option<Option<Num>>>, AllocError>
-    ensures { IfOk result (λ made. made ≡ spec.known_widths (settings.around_of around.now) widths.now) }
-{
-    let mut known = Items::new(alloc);
-    for width in widths {
-        known.push(known_width(alloc, around, width)?)?;
-    }
-    Ok(known)
-}
-
-/// What is known of a width. It fails where memory is wanting.
-fn known_width(
-    alloc: Global,
-    around: &Around<'_>,
-    width: &Option<Num>,
-) -> Result<Option<Option<Num>>, AllocError>
-    ensures { IfOk result (λ made. made ≡ option_map (read around.now.numbers.now) width.now) }
-{
-    match width {
-        None => Ok(None),
-        Some(width) => Ok(Some(read_number(alloc, width, around.numbers)?)),
-    }
-}
 
 /// The same number once more. It fails where memory is wanting.
 fn copy_number(alloc: Global, number: &Option<Num>) -> Result<Option<Num>, AllocError>
@@ -52,16 +21,13 @@ fn copy_number(alloc: Global, number: &Option<Num>) -> Result<Option<Num>, Alloc
     }
 }
 
-/// A sum of two numbers, where both can be said. It fails where memory is wanting.
-fn sum_of(alloc: Global, total: Option<Num>, width: &Option<Num>) -> Result<Option<Num>, AllocError>
+/// A sum with one number more, where both it and what comes of it can be said. It fails where memory is wanting.
+fn sum_of(alloc: Global, total: Option<Num>, width: &Num) -> Result<Option<Num>, AllocError>
     ensures { IfOk result (λ made. made ≡ spec.sum_of total width.now) }
 {
     match total {
         None => Ok(None),
-        Some(total) => match width {
-            None => Ok(None),
-            Some(width) => add(alloc, &total, width),
-        },
+        Some(total) => add(alloc, &total, width),
     }
 }
 
@@ -69,21 +35,21 @@ fn sum_of(alloc: Global, total: Option<Num>, width: &Option<Num>) -> Result<Opti
 fn with_width(
     alloc: Global,
     total: Option<Option<Num>>,
-    width: &Option<Option<Num>>,
+    width: &Option<Num>,
 ) -> Result<Option<Option<Num>>, AllocError>
     ensures { IfOk result (λ made. made ≡ spec.with_width total width.now) }
 {
     match width {
         None => Ok(total),
         Some(width) => match total {
-            None => Ok(Some(copy_number(alloc, width)?)),
+            None => Ok(Some(Some(copy_num(alloc, width)?))),
             Some(total) => Ok(Some(sum_of(alloc, total, width)?)),
         },
     }
 }
 
 /// The sum of the widths that are known, from the left; none where it can't be said. It fails where memory is wanting.
-pub fn first_sum(alloc: Global, widths: &[Option<Option<Num>>]) -> Result<Option<Num>, AllocError>
+pub fn first_sum(alloc: Global, widths: &[Option<Num>]) -> Result<Option<Num>, AllocError>
     ensures { IfOk result (λ made. made ≡ spec.first_sum widths.now) }
 {
     let mut total = None;
@@ -97,7 +63,7 @@ pub fn first_sum(alloc: Global, widths: &[Option<Option<Num>>]) -> Result<Option
 }
 
 /// Whether all of the widths are known.
-fn all_known(widths: &[Option<Option<Num>>]) -> bool
+fn all_known(widths: &[Option<Num>]) -> bool
     ensures { result ≡ spec.all_known widths.now }
 {
     for width in widths {
@@ -109,7 +75,7 @@ fn all_known(widths: &[Option<Option<Num>>]) -> bool
 }
 
 /// Whether one of the parts at most has the rest.
-fn one_rest(widths: &[Option<Option<Num>>]) -> bool
+fn one_rest(widths: &[Option<Num>]) -> bool
     ensures { result ≡ spec.one_rest true widths.now }
 {
     let mut may = true;
@@ -140,7 +106,7 @@ pub fn cut_conditions(
     alloc: Global,
     width: &Num,
     total: Option<Num>,
-    widths: &[Option<Option<Num>>],
+    widths: &[Option<Num>],
 ) -> Result<Items<Option<Con>>, AllocError>
     ensures { IfOk result (λ made. made ≡ spec.cut_conditions width.now total widths.now) }
 {
@@ -178,7 +144,7 @@ fn cut_width(
     alloc: Global,
     place: Place,
     rest: &Option<Num>,
-    width: &Option<Option<Num>>,
+    width: &Option<Num>,
     walking: &mut Walking,
 ) -> Result<Indices, AllocError>
     ensures made { IfOk result (λ made. made ≡ walk.got (spec.cut_width place rest.now width.now) (walk.seen walking.old)) }
@@ -186,7 +152,7 @@ fn cut_width(
 {
     match width {
         None => bits_of(alloc, place, rest, walking),
-        Some(width) => bits_of(alloc, place, width, walking),
+        Some(_) => bits_of(alloc, place, width, walking),
     }
 }
 
@@ -225,7 +191,7 @@ pub fn cut_widths(
     alloc: Global,
     place: Place,
     rest: &Option<Num>,
-    widths: &[Option<Option<Num>>],
+    widths: &[Option<Num>],
     walking: &mut Walking,
 ) -> Result<Items<Indices>, AllocError>
     ensures made { IfOk result (λ made. made ≡ walk.got (each (spec.cut_width place rest.now) widths.now) (walk.seen walking.old)) }

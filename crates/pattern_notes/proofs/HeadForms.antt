@@ -17,7 +17,6 @@ use Rattle.pattern_leaves.specs.declared.names.Bound.{Bound}
 use Rattle.pattern_leaves.proofs.Opened.{out_bits, out_list, out_named, out_tuple, out_vector}
 use Rattle.pattern_leaves.specs.Literals.{wrong_pattern}
 use Rattle.pattern_leaves.specs.Payloads.{payload_types, payload_readings}
-use Rattle.pattern_leaves.specs.Widths.{known_widths}
 use Rattle.pattern_leaves.specs.Settings.{Around}
 use Rattle.pattern_notes.specs.declared.matching.Matching.{Matching}
 use Rattle.pattern_notes.specs.Patterns.{Look, constructor_met, cons_met, cut_met, head_met, is_union, items_met, opens_met, parts_match, union_met, vector_met}
@@ -50,8 +49,7 @@ module _ (place : Place) (ps : List Look) (around : Around) (how : Matching) (i 
   pub first_met : (item r : Reading) → i ≡ I.List item → r ≡ item → met H.Cons (out-Indices i) ≡ cons_met place ps around how r
   first_met item r is same = ap (met H.Cons) (out_list i item is) ∙ ap (cons_met place ps around how) (sym same)
 
-  pub bits_met : (ws : List (Option Num)) (w : Num) → i ≡ I.Bits w
-      → met (H.Cut ws) (out-Indices i) ≡ cut_met place ps around how (known_widths around ws) w
+  pub bits_met : (ws : List (Option Num)) (w : Num) → i ≡ I.Bits w → met (H.Cut ws) (out-Indices i) ≡ cut_met place ps around how ws w
   bits_met ws w is = ap (met (H.Cut ws)) (out_bits i w is)
 
   -- ---- values that it doesn't

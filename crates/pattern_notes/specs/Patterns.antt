@@ -34,7 +34,7 @@ use Rattle.pattern_leaves.specs.declared.names.Bound.{Bound}
 use Rattle.pattern_leaves.specs.Settings.{Around, bound, written_in, exponents_owed}
 use Rattle.pattern_leaves.specs.Literals.{no_names, wrong_pattern, literal_met}
 use Rattle.pattern_leaves.specs.Payloads.{payload_types, payload_readings}
-use Rattle.pattern_leaves.specs.Widths.{known_widths, first_sum, cut_width, cut_owed}
+use Rattle.pattern_leaves.specs.Widths.{first_sum, cut_width, cut_owed}
 use Rattle.pattern_leaves.specs.Annotations.{written_at}
 use Rattle.call_arguments.specs.Callees.{type_parameters}
 use Rattle.pattern_notes.specs.declared.matching.Matching.{Matching}
@@ -118,11 +118,11 @@ vector_met place ps around how n r = after_inner (items_met place ps around how 
 -- ---- `p @ q`
 
 -- the parts, each of its width
-abbrev pub cut_parts : Place → List Look → Around → Matching → List (Option (Option Num)) → Option Num → Walk (List Bound)
+abbrev pub cut_parts : Place → List Look → Around → Matching → List (Option Num) → Option Num → Walk (List Bound)
 cut_parts place ps around how ws rest = bind (each (cut_width place rest) ws) (parts_match place ps around how)
 
 -- the parts, then the sum of their widths
-abbrev pub cut_met : Place → List Look → Around → Matching → List (Option (Option Num)) → Num → Walk (List Bound)
+abbrev pub cut_met : Place → List Look → Around → Matching → List (Option Num) → Num → Walk (List Bound)
 cut_met place ps around how ws w = after_inner (cut_parts place ps around how ws (and_then (first_sum ws) (difference w))) (cut_owed place ws w)
 
 -- ---- heads
@@ -146,7 +146,7 @@ head_met place (H.Constructor u c) ps around how (W.Named v is rs) =
 head_met place H.Vector ps around how (W.Vector n r) = vector_met place ps around how n r
 head_met place H.List ps around how (W.List r) = items_met place ps around how r
 head_met place H.Cons ps around how (W.List r) = cons_met place ps around how r
-head_met place (H.Cut ws) ps around how (W.Bits w) = cut_met place ps around how (known_widths around ws) w
+head_met place (H.Cut ws) ps around how (W.Bits w) = cut_met place ps around how ws w
 head_met place head ps around how i = wrong_pattern place
 
 -- of a value that doesn't exist names are of none

@@ -8,14 +8,13 @@ ghost use Rattle.pattern_leaves.specs.Literals as literals;
 ghost use Rattle.pattern_notes.specs.Patterns as patterns;
 ghost use Rattle.pattern_leaves.specs.Payloads as payloads;
 ghost use Rattle.pattern_leaves.specs.Settings as settings;
-ghost use Rattle.pattern_leaves.specs.Widths as cuts;
 
 use crate::matching::{Matching, inside};
 use crate::parts::{match_given, match_pattern};
 use crate::taking::take_all;
 use pattern_leaves::{
-    Around, Bound, cut_conditions, cut_widths, first_sum, known_widths, one_condition, payload,
-    payload_readings, rest_of, wrong_pattern,
+    Around, Bound, cut_conditions, cut_widths, first_sum, one_condition, payload, payload_readings,
+    rest_of, wrong_pattern,
 };
 use sail_base::{Boxed, Items, Place};
 use sail_core::Pattern;
@@ -290,49 +289,17 @@ pub(crate) fn match_cut(
     walking: &mut Walking,
 ) -> Result<Items<Bound>, AllocError>
     ensures found { IfOk result (λ found. found
-        ≡ walk.got (patterns.cut_met place (map patterns.look parts.now) (settings.around_of around.now) how
-        (cuts.known_widths (settings.around_of around.now) widths.now) width.now) (walk.seen walking.old)) }
-    ensures walked { OnOk result (walk.seen walking.new
-        ≡ walk.run (patterns.cut_met place (map patterns.look parts.now) (settings.around_of around.now) how
-        (cuts.known_widths (settings.around_of around.now) widths.now) width.now) (walk.seen walking.old)) }
-{
-    let known = known_widths(alloc, around, widths)?;
-    match_known(
-        alloc,
-        place,
-        parts,
-        around,
-        how,
-        known.as_slice(),
-        width,
-        walking,
-    )
-}
-
-/// A concatenation of parts of which these widths are known. The one error is want of memory.
-#[cycle(matched)]
-fn match_known(
-    alloc: Global,
-    place: Place,
-    parts: &[Pattern],
-    around: &Around<'_>,
-    how: Matching,
-    known: &[Option<Option<Num>>],
-    width: &Num,
-    walking: &mut Walking,
-) -> Result<Items<Bound>, AllocError>
-    ensures found { IfOk result (λ found. found
-        ≡ walk.got (patterns.cut_met place (map patterns.look parts.now) (settings.around_of around.now) how known.now width.now)
+        ≡ walk.got (patterns.cut_met place (map patterns.look parts.now) (settings.around_of around.now) how widths.now width.now)
         (walk.seen walking.old)) }
     ensures walked { OnOk result (walk.seen walking.new
-        ≡ walk.run (patterns.cut_met place (map patterns.look parts.now) (settings.around_of around.now) how known.now width.now)
+        ≡ walk.run (patterns.cut_met place (map patterns.look parts.now) (settings.around_of around.now) how widths.now width.now)
         (walk.seen walking.old)) }
 {
-    let total = first_sum(alloc, known)?;
+    let total = first_sum(alloc, widths)?;
     let rest = rest_of(alloc, width, &total)?;
-    let conditions = cut_conditions(alloc, width, total, known)?;
+    let conditions = cut_conditions(alloc, width, total, widths)?;
     walking.remember()?;
-    let found = match_cut_parts(alloc, place, parts, around, how, known, &rest, walking)?;
+    let found = match_cut_parts(alloc, place, parts, around, how, widths, &rest, walking)?;
     walking.owe_earlier(alloc, place, conditions)?;
     walking.forget()?;
     Ok(found)
@@ -346,17 +313,17 @@ fn match_cut_parts(
     parts: &[Pattern],
     around: &Around<'_>,
     how: Matching,
-    known: &[Option<Option<Num>>],
+    widths: &[Option<Num>],
     rest: &Option<Num>,
     walking: &mut Walking,
 ) -> Result<Items<Bound>, AllocError>
     ensures found { IfOk result (λ found. found
-        ≡ walk.got (patterns.cut_parts place (map patterns.look parts.now) (settings.around_of around.now) how known.now rest.now)
+        ≡ walk.got (patterns.cut_parts place (map patterns.look parts.now) (settings.around_of around.now) how widths.now rest.now)
         (walk.seen walking.old)) }
     ensures walked { OnOk result (walk.seen walking.new
-        ≡ walk.run (patterns.cut_parts place (map patterns.look parts.now) (settings.around_of around.now) how known.now rest.now)
+        ≡ walk.run (patterns.cut_parts place (map patterns.look parts.now) (settings.around_of around.now) how widths.now rest.now)
         (walk.seen walking.old)) }
 {
-    let values = cut_widths(alloc, place, rest, known, walking)?;
+    let values = cut_widths(alloc, place, rest, widths, walking)?;
     match_parts(alloc, place, parts, around, how, values.as_slice(), walking)
 }

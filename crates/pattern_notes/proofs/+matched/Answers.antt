@@ -30,7 +30,7 @@ use Rattle.pattern_leaves.proofs.Walked.{then_got, then_run, made_got, made_run,
 use Rattle.pattern_notes.specs.declared.matching.Matching.{Matching}
 use Rattle.pattern_notes.specs.Patterns.{look, matched, inside, form_match, direction_met, given_met, result_of, option_of, written_owed, annotated_met}
 use Rattle.pattern_notes.specs.Patterns.{parameter_owed, after_inner, item_met, items_met, each_met_never, cons_met, each_match, parts_match, taken_out}
-use Rattle.pattern_notes.specs.Patterns.{all_taken, named_readings, constructor_met, length_owed, cut_met, cut_parts, head_met, is_union, opens_met, union_met}
+use Rattle.pattern_notes.specs.Patterns.{all_taken, named_readings, constructor_met, length_owed, cut_parts, head_met, is_union, opens_met, union_met}
 use Rattle.pattern_notes.proofs.Found.{found_as, left_as, taken_found, taken_left, after_got, after_run, more_got, more_run, on_ok, also_got, also_run, ended_got}
 use Rattle.pattern_notes.proofs.HeadForms.{bits_met, first_met, items_of, list_met, named_met, tuple_met}
 use Rattle.pattern_notes.proofs.HeadForms.{not_bits, not_first, not_list, not_named, not_never, not_tuple, not_vector}
@@ -165,11 +165,11 @@ several::match_vector-returns t c =
           c.in_ok-forget.ensures;
     }
 
-pub several::match_known-returns : goal.several::match_known-returns
-several::match_known-returns t c =
+pub several::match_cut-returns : goal.several::match_cut-returns
+several::match_cut-returns t c =
     let around = around_of c.args.around.now in
     let ps = map look c.args.parts.now in
-    let ws = c.args.known.now in
+    let ws = c.args.widths.now in
     let w = c.args.width.now in
     let rest : c.in_ok-rest.rest ≡ and_then (first_sum ws) (difference w) =
     c.in_ok-rest.ensures ∙ ap (λ (s : Option Num). and_then s (difference w)) c.in_ok-total.ensures in
@@ -669,17 +669,6 @@ heads::match_bits-returns-in_default t c =
       walked = left_as c.wrong_pattern.result _ _ v _ is c.wrong_pattern.ensures.walked;
     }
 
-pub several::match_cut-returns : goal.several::match_cut-returns
-several::match_cut-returns t c =
-    let ps = map look c.args.parts.now in
-    let v = seen c.args.walking.now in
-    let known = c.as_slice.ensures ∙ c.in_ok-known.ensures in
-    let is = ap (λ (ws : List (Option (Option Num))). cut_met c.args.place ps (around_of c.args.around.now) c.args.how ws c.args.width.now) known in
-    record {
-      found = found_as c.match_known.result _ _ v is c.match_known.ensures.found;
-      walked = left_as c.match_known.result _ _ v _ is c.match_known.ensures.walked;
-    }
-
 pub parts::match_given-returns : goal.parts::match_given-returns
 parts::match_given-returns t c =
     let around = around_of c.args.around.now in
@@ -723,7 +712,7 @@ pub several::match_cut_parts-returns : goal.several::match_cut_parts-returns
 several::match_cut_parts-returns t c =
     let v = seen c.args.walking.now in
     let w = seen c.cut_widths.new.walking in
-    let widths = each (cut_width c.args.place c.args.rest.now) c.args.known.now in
+    let widths = each (cut_width c.args.place c.args.rest.now) c.args.widths.now in
     let inner = parts_match c.args.place (map look c.args.parts.now) (around_of c.args.around.now) c.args.how in
     let same = ap inner c.as_slice.ensures in
     record {

@@ -88,9 +88,6 @@ decreases-several::match_vector l = 32 * most the_size l.parts.now + 3
 abbrev pub decreases-several::match_cut : goal.decreases-several::match_cut
 decreases-several::match_cut l = 32 * most the_size l.parts.now + 6
 
-abbrev pub decreases-several::match_known : goal.decreases-several::match_known
-decreases-several::match_known l = 32 * most the_size l.parts.now + 5
-
 abbrev pub decreases-several::match_cut_parts : goal.decreases-several::match_cut_parts
 decreases-several::match_cut_parts l = 32 * most the_size l.parts.now + 4
 
