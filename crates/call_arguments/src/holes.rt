@@ -35,9 +35,9 @@ fn any_has_hole(readings: &[Reading]) -> bool
     false
 }
 
-/// The same of the type of a value.
+/// Whether the type of a value has a hole inside.
 #[cycle(has_hole)]
-fn value_has_hole(value: &Indices) -> bool
+pub fn value_has_hole(value: &Indices) -> bool
     ensures { result ≡ holes.value_has_hole value.now }
 {
     match value {

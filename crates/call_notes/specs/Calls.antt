@@ -104,12 +104,12 @@ parameter_types (Some f) = f.parameters
 abbrev pub row_called : Types → Place → ℕ → Row → List Indices → Walk Indices
 row_called types place k row is = bind (noted_call place k is (D.Row row) [] []) (λ t. bind (row_call types place row is) (node_ended k is))
 
--- on arguments that have been walked
+-- on arguments that have been walked; no direction is a function that gives an option yet
 abbrev pub called : Around → Place → ℕ → Callee → List Bool → List Indices → Walk Indices
 called around place k (D.Function f) bs is = function_call around place k f (slice_get around.functions f) bs is
 called around place k (D.Row row) bs is = row_called around.types place k row is
 called around place k (D.Converts d) bs is = direction_call around place k d (slice_get around.directions d) bs is
-called around place k (D.Applies d) bs is = direction_call around place k d (slice_get around.directions d) bs is
+called around place k (D.Applies d) bs is = wrong_value place
 called around place k (D.Constructor u c) bs is = wrong_value place
 
 abbrev pub callee_types : Around → Callee → List Typ

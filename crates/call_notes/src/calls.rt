@@ -306,8 +306,8 @@ fn row_called(
 }
 
 /// What a call, by the node of a number at a place, owes and gives, on arguments that have been walked, of which some owe what they owe
-/// further in. A constructor is called by `made_named`, and is wrong here. It fails where memory is wanting, and where variables are too
-/// many.
+/// further in. A constructor is called by `made_named`, and is wrong here; so is a direction that is applied, since none is a function
+/// that gives an option yet. It fails where memory is wanting, and where variables are too many.
 pub fn called(
     alloc: Global,
     walking: &mut Walking,
@@ -332,9 +332,7 @@ pub fn called(
         Callee::Converts(direction) => direction_call(
             alloc, walking, around, place, number, direction, nested, arguments,
         ),
-        Callee::Applies(direction) => direction_call(
-            alloc, walking, around, place, number, direction, nested, arguments,
-        ),
+        Callee::Applies(_) => wrong_value(alloc, walking, place),
     }
 }
 

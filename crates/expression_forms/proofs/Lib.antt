@@ -7,3 +7,4 @@ pub mod SpotForms
 pub mod Forms
 pub mod Tuples
 pub mod Groups
+pub mod Forced

@@ -14,9 +14,10 @@ use Rattle.value_indices.specs.declared.indices.Reading.{Reading}
 use Rattle.pattern_leaves.specs.Settings.{Around}
 use Rattle.pattern_leaves.proofs.Opened.{out_tuple}
 use Rattle.pattern_leaves.proofs.Walked.{consed}
-use Rattle.expression_forms.specs.Spots.{Spot, Wrote, call_spot, each_read, each_written, named_spot, parts_nested, reached_spot, spot_form, spot_of}
-use Rattle.expression_forms.specs.Spots.{tuple_spot, tuple_write, wrong_spot, wrong_write, wrote_of}
+use Rattle.expression_forms.specs.Spots.{Spot, Wrote, call_spot, each_read, each_written, late_spot, named_spot, parts_nested, reached_spot}
+use Rattle.expression_forms.specs.Spots.{spot_form, spot_of, tuple_spot, tuple_write, wrong_spot, wrong_write, wrote_of}
 use Rattle.expression_forms.specs.declared.pending.Wrote as written
+use Rattle.expression_forms.specs.declared.spots.Known.{Known}
 use Rattle.expression_forms.specs.declared.spots.Spot as code
 use Rattle.expression_forms.specs.declared.spots.Spot.TheOpen as S
 use Rattle.expression_forms.specs.declared.spots.Spot.TheVariants as V
@@ -44,6 +45,12 @@ call_is around s place k reader writer bs cs is js at same like =
     ap (spot_of around) (at ∙ sym (V.rolls-Call place k reader writer bs is))
     ∙ code.fold-roll-Spot Spot (spot_form around) (S.Call place k reader writer bs is)
     ∙ (λ j. call_spot around place k reader writer (sym same j) (sym like j))
+
+pub late_is : (around : Around) (s : code.Spot) (place : Place) (k : ℕ) (base : code.Spot) (held : Indices) (x : Reached) (known : Known)
+    → s ≡ V.Late place k base held x known → spot_of around s ≡ late_spot around place k (spot_of around base) held x known
+late_is around s place k base held x known is =
+    ap (spot_of around) (is ∙ sym (V.rolls-Late place k base held x known))
+    ∙ code.fold-roll-Spot Spot (spot_form around) (S.Late place k base held x known)
 
 pub tuple_is : (around : Around) (s : code.Spot) (place : Place) (k : ℕ) (ss ts : List code.Spot) → s ≡ V.Tuple place k ss → ts ≡ ss
     → spot_of around s ≡ tuple_spot place k (map (spot_of around) ts)

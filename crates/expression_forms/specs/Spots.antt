@@ -1,19 +1,20 @@
 -- What is assigned to, once the indexes in it have been walked (Sail language manual, "Variables and assignment").
 use Rattle.std.specs.List.{list_any}
-use Rattle.std.specs.Prelude.{Bool, List, None, Option, Some, false, if◌then◌else◌, map, true, ℕ, [], ◌++◌, ◌∷◌}
+use Rattle.std.specs.Prelude.{Bool, List, None, Option, Some, false, if◌then◌else◌, length, map, replicate, true, ℕ, [], ◌&&◌, ◌++◌, ◌∷◌}
 use Rattle.sail_base.specs.declared.place.Place.{Place}
 use Rattle.sail_types.specs.declared.types.Typ.{Typ}
 use Rattle.model_state.specs.declared.state.Register.{Register}
 use Rattle.sail_core.specs.declared.targets.Caller.{Caller}
 use Rattle.sail_core.specs.declared.targets.Way.{Way}
 use Rattle.sail_core.specs.declared.targets.Way.TheVariants as Y
-use Rattle.value_indices.specs.Steps.{Walk, bind, give, scoped}
+use Rattle.value_indices.specs.Steps.{Walk, bind, give, scoped, went}
 use Rattle.value_indices.specs.declared.indices.Indices.{Indices, out-Indices}
 use Rattle.value_indices.specs.declared.indices.Indices.TheOpen as W
 use Rattle.value_indices.specs.declared.indices.Indices.TheOpen.{Indices-F}
 use Rattle.value_indices.specs.declared.indices.Indices.TheVariants as I
 use Rattle.value_indices.specs.declared.indices.Reading.{Reading}
 use Rattle.value_indices.specs.declared.indices.Reading.TheVariants as R
+use Rattle.value_indices.specs.declared.notes.Fact.{Fact}
 use Rattle.value_fits.specs.Fitting.{also, owe_fit, says}
 use Rattle.value_fits.specs.declared.fitted.Fitted.{Fitted}
 use Rattle.pattern_leaves.specs.Settings.{Around}
@@ -22,14 +23,16 @@ use Rattle.pattern_leaves.specs.declared.names.Held.TheVariants as H
 use Rattle.call_notes.specs.Ends.{fits_unless, wrong_value}
 use Rattle.call_notes.specs.Noted.{node_ended, node_given, numbers_noted}
 use Rattle.call_arguments.specs.Callees.{is_closed}
-use Rattle.call_arguments.specs.Holes.{has_hole}
+use Rattle.call_arguments.specs.Holes.{has_hole, value_has_hole}
 use Rattle.call_notes.specs.Calls.{called, callee_types}
+use Rattle.expression_forms.specs.Inside.{is_type_below, is_value_below}
 use Rattle.expression_forms.specs.Names.{named_read, register_type}
 use Rattle.expression_forms.specs.Nodes.{put}
 use Rattle.expression_forms.specs.Ways.{owe_part, part_fits, part_made}
 use Rattle.expression_forms.specs.declared.pending.Left as pending
 use Rattle.expression_forms.specs.declared.pending.Left.TheOpen as L
 use Rattle.expression_forms.specs.declared.pending.Wrote as written
+use Rattle.expression_forms.specs.declared.spots.Known.{Known}
 use Rattle.expression_forms.specs.declared.spots.Spot as code
 use Rattle.expression_forms.specs.declared.spots.Spot.TheOpen as S
 use Rattle.expression_forms.specs.declared.ways.Reached.{Reached}
@@ -42,9 +45,12 @@ pub record Wrote : Type 0 where
 abbrev pub wrote : (ℕ → Fitted) → Indices → Wrote
 wrote left answer = record { left = left; answer = answer }
 
--- the type of what is assigned; how it is read as the base of a part, and what that gives: a run reads it once its part's new value is there;
--- what a new value owes, and what one of which a part is replaced does
+-- whether it can be the base of a part, with all suffixes, and whether its value is there only behind the new one of its part, as what a call gives; the
+-- type of what is assigned; how it is read as the base of a part, and what that gives: a run reads it once its part's new value is there; what a new value
+-- owes, and what one of which a part is replaced does
 pub record Spot : Type 0 where
+  pub is_base : Bool
+  pub is_late : Bool
   pub typ : Reading
   pub read : Walk Indices
   pub given : Indices → Walk (Unit {0})
@@ -62,6 +68,8 @@ wrong_write place = bind (wrong_value place) gives
 
 abbrev pub named_spot : Around → Place → ℕ → List ℕ → Reading → Spot
 named_spot around place k name r = record {
+  is_base = true;
+  is_late = false;
   typ = r;
   read = named_read place k name r;
   given = numbers_noted k;
@@ -71,6 +79,8 @@ named_spot around place k name r = record {
 
 abbrev pub wrong_spot : Place → Spot
 wrong_spot place = record {
+  is_base = true;
+  is_late = false;
   typ = R.Hole;
   read = wrong_value place;
   given = λ i. give tt;
@@ -109,6 +119,8 @@ rewritten base held = bind (base.given held) (λ t. base.renew held)
 
 abbrev pub reached_spot : Around → Place → ℕ → Way → Spot → Indices → Reached → Spot
 reached_spot around place k way base held x = record {
+  is_base = false;
+  is_late = false;
   typ = x.typ;
   read = part_made place k [] x;
   given = λ j. bind (base.given held) (λ t. numbers_noted k j);
@@ -157,14 +169,65 @@ call_written around place k writer bs is b i =
 abbrev pub call_renewed : Around → Place → ℕ → Caller → List Bool → List Indices → Indices → Walk Indices
 call_renewed around place k writer bs is i = bind (put k [] R.Hole i) (λ t. answered around place writer bs is false i)
 
+-- it is read by another function than the one whose types are wanted of the arguments, so these owe nothing of it further in
+abbrev pub call_read : Around → Place → Option Caller → List Indices → Walk Indices
+call_read around place reader is = asked around place reader (replicate (length is) false) is
+
 abbrev pub call_spot : Around → Place → ℕ → Option Caller → Caller → List Bool → List Indices → Spot
 call_spot around place k reader writer bs is = record {
+  is_base = true;
+  is_late = true;
   typ = writer_type around writer;
-  read = asked around place reader bs is;
+  read = call_read around place reader is;
   given = reader_given reader;
   write = λ is_nested i. bind (call_written around place k writer bs is is_nested i) gives;
   renew = call_renewed around place k writer bs is;
 }
+
+-- ---- parts of what is there late: what is known of it comes into force behind the new value, where the base is read and written again
+
+-- facts that are known come into force
+unfoldable pub in_force : List Fact → Walk (Unit {0})
+in_force fs facts n = went tt (facts ++ fs) n []
+
+-- what a walk makes known from a variable on
+abbrev pub known_from : {A : Type 0} → ℕ → Walk A → List Fact
+known_from m w = (w [] m).facts
+
+-- from which variable on a type names what is there late: the base is read from the first on, and the ways into it are from the second on, with what
+-- their indexes name between, which is there; so a base that names none from the first on has parts that may name those
+abbrev pub late_bound : ℕ → ℕ → Indices → ℕ
+late_bound m n held = if is_value_below m held then n else m
+
+-- no type is wanted that names such a variable, or has a hole inside, and so nothing is owed further in
+abbrev pub is_late_wanted : ℕ → Reading → Bool
+is_late_wanted m r = if has_hole r then false else is_type_below m r
+
+abbrev pub late_type : ℕ → Reading → Reading
+late_type m r = if is_late_wanted m r then r else R.Hole
+
+-- it gets the new value as what it is: that this fits is owed where the base is read, before it is written again
+abbrev pub late_put : Around → Place → ℕ → Reached → Known → Walk Indices → Bool → Indices → Walk Wrote
+late_put around place k x known again is_nested i =
+    bind (put k (i ∷ []) R.Hole i) (λ t.
+    bind (in_force known.facts) (λ u. part_write around place true x again (is_nested && is_late_wanted known.before x.typ) i))
+
+abbrev pub late_spot : Around → Place → ℕ → Spot → Indices → Reached → Known → Spot
+late_spot around place k base held x known = record {
+  is_base = false;
+  is_late = false;
+  typ = late_type known.before x.typ;
+  read = wrong_value place;
+  given = λ i. give tt;
+  write = late_put around place k x known (rewritten base held);
+  renew = λ i. wrong_value place;
+}
+
+-- of a hole nothing is owed, so what a call leaves open has no such part
+abbrev pub late_part : Around → Place → ℕ → Spot → Indices → Option Reached → Known → Spot
+late_part around place k base held None known = wrong_spot place
+late_part around place k base held (Some x) known =
+    if value_has_hole held then wrong_spot place else late_spot around place k base held x known
 
 -- ---- tuples
 
@@ -216,6 +279,8 @@ tuple_write place ss is_nested form = wrong_write place
 
 abbrev pub tuple_spot : Place → ℕ → List Spot → Spot
 tuple_spot place k ss = record {
+  is_base = false;
+  is_late = false;
   typ = parts_typ (each_typ ss);
   read = bind (each_read ss) (λ is. node_ended k is (I.Tuple is));
   given = λ i. give tt;
@@ -238,6 +303,7 @@ spot_form around (S.Wrong place) = wrong_spot place
 spot_form around (S.Named place k name r) = named_spot around place k name r
 spot_form around (S.Part place k way base held x) = reached_spot around place k way base held x
 spot_form around (S.Call place k reader writer bs is) = call_spot around place k reader writer bs is
+spot_form around (S.Late place k base held x known) = late_spot around place k base held x known
 spot_form around (S.Tuple place k ss) = tuple_spot place k ss
 
 abbrev pub spot_of : Around → code.Spot → Spot

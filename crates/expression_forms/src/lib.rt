@@ -5,6 +5,7 @@
 //! `specs/Scopes` the names in scope, `specs/Nodes` where a value comes to the type that is wanted.
 #![tactic(auto)]
 
+mod call_spots;
 mod inside;
 mod meeting;
 mod names;
@@ -22,7 +23,7 @@ pub use nodes::{cast_ended, cast_given};
 pub use pending::{Left, Wrote};
 pub use scopes::{Scope, look_up};
 pub use sizes::{constraint, size};
-pub use spots::Spot;
+pub use spots::{Known, Spot, late_bound, owes_itself};
 pub use truths::{and_right, claim_of, negated, or_right, truth_of};
 pub use ways::{
     Ends, Reached, fields_of, if_never_value, into_field, into_item, into_slice, is_struct,

@@ -1,5 +1,5 @@
 //! What is assigned to, once the indexes in it have been walked.
-ghost use Rattle.std.specs.Prelude.{◌≡◌, [], ◌∷◌, map, IfOk, OnOk};
+ghost use Rattle.std.specs.Prelude.{◌≡◌, [], ◌∷◌, ◌&&◌, map, IfOk, OnOk};
 ghost use Rattle.std.specs.Option.{option_copied};
 ghost use Rattle.value_indices.specs.Walking as walk;
 ghost use Rattle.value_indices.specs.declared.indices.Indices.{out-Indices};
@@ -11,21 +11,29 @@ ghost use Rattle.call_notes.specs.Noted as noted;
 ghost use Rattle.expression_forms.specs.Nodes as nodes;
 ghost use Rattle.expression_forms.specs.Spots as spec;
 
+use crate::call_spots::{read_call, reader_given, renew_call, write_call, writer_type};
+use crate::inside::{is_type_below, is_value_below};
 use crate::names::{named_read, register_type};
 use crate::nodes::put;
 use crate::pending::Wrote;
 use crate::ways::{Reached, owe_part};
-use call_arguments::has_hole;
-use call_notes::{
-    called, callee_types, is_closed, node_ended, node_given, note_numbers, under, wrong_value,
-};
+use call_arguments::{has_hole, value_has_hole};
+use call_notes::{node_ended, note_numbers, wrong_value};
 use model_state::Register;
 use pattern_leaves::{Around, Held};
 use sail_base::{Boxed, Items, Place, Text};
 use sail_core::{Caller, Way};
-use sail_types::Typ;
 use std::alloc::{AllocError, Global};
-use value_indices::{Indices, Reading, Walking, copy_each, copy_indices, copy_reading};
+use value_indices::{Fact, Indices, Reading, Walking, copy_each, copy_facts, copy_reading};
+
+/// What is known of what is there late, which comes into force where a part of it is written.
+#[derive(Drop)]
+pub struct Known {
+    /// The variable before which those are that the part's type may name where it is wanted.
+    pub before: u32,
+    /// What is known.
+    pub facts: Items<Fact>,
+}
 
 /// What is assigned to, once the indexes in it have been walked.
 pub enum Spot {
@@ -38,6 +46,9 @@ pub enum Spot {
     /// A call at a place: its number, what reads it, what writes it, and the arguments, each with whether it owes what is wanted of it
     /// further in.
     Call(Place, u32, Option<Caller>, Caller, Items<bool>, Items<Indices>),
+    /// A part of what is there late, as what a call gives, at the place where it owes: its number, the spot of which it is a part, the value there,
+    /// the part, and what is known of it.
+    Late(Place, u32, Boxed<Spot>, Indices, Reached, Known),
     /// A tuple at a place, and its number.
     Tuple(Place, u32, Items<Spot>),
 }
@@ -50,6 +61,7 @@ impl Drop for Spot {
             Spot::Named(_, _, _, _) => {}
             Spot::Part(_, _, _, _, _, _) => {}
             Spot::Call(_, _, _, _, _, _) => {}
+            Spot::Late(_, _, _, _, _, _) => {}
             Spot::Tuple(_, _, _) => {}
         }
     }
@@ -119,6 +131,60 @@ impl Spot {
         }
     }
 
+    /// The same of a spot that is there late, by what is known of it; none where the value's type has a hole inside. It fails where memory is
+    /// wanting.
+    pub fn late(
+        alloc: Global,
+        place: Place,
+        number: u32,
+        base: Spot,
+        held: Indices,
+        reached: Option<Reached>,
+        known: Known,
+    ) -> Result<Spot, AllocError>
+        ensures { IfOk result (λ made. (around : settings.Around)
+            → spec.spot_of around made ≡ spec.late_part around place number (spec.spot_of around base) held reached known) }
+    {
+        match reached {
+            None => Ok(Spot::Wrong(place)),
+            Some(reached) => {
+                if value_has_hole(&held) {
+                    return Ok(Spot::Wrong(place));
+                }
+                let base = Boxed::new(alloc, base)?;
+                Ok(Spot::Late(place, number, base, held, reached, known))
+            }
+        }
+    }
+
+    /// Whether it can be the base of a part, which has all suffixes.
+    pub fn is_base(&self) -> bool
+        ensures { (around : settings.Around) → result ≡ spec.Spot.is_base (spec.spot_of around self.now) }
+    {
+        match self {
+            Spot::Wrong(_) => true,
+            Spot::Named(_, _, _, _) => true,
+            Spot::Part(_, _, _, _, _, _) => false,
+            Spot::Call(_, _, _, _, _, _) => true,
+            Spot::Late(_, _, _, _, _, _) => false,
+            Spot::Tuple(_, _, _) => false,
+        }
+    }
+
+    /// Whether its value is there only behind the new one of its part, as what a call gives.
+    pub fn is_late(&self) -> bool
+        ensures { (around : settings.Around) → result ≡ spec.Spot.is_late (spec.spot_of around self.now) }
+    {
+        match self {
+            Spot::Wrong(_) => false,
+            Spot::Named(_, _, _, _) => false,
+            Spot::Part(_, _, _, _, _, _) => false,
+            Spot::Call(_, _, _, _, _, _) => true,
+            Spot::Late(_, _, _, _, _, _) => false,
+            Spot::Tuple(_, _, _) => false,
+        }
+    }
+
     /// The type of what is assigned. It fails where memory is wanting, and where binders are too many.
     #[cycle(spot_typ)]
     pub fn typ(&self, alloc: Global, around: &Around<'_>) -> Result<Reading, AllocError>
@@ -129,6 +195,9 @@ impl Spot {
             Spot::Named(_, _, _, reading) => copy_reading(alloc, reading),
             Spot::Part(_, _, _, _, _, reached) => copy_reading(alloc, &reached.typ),
             Spot::Call(_, _, _, writer, _, _) => writer_type(alloc, around, writer),
+            Spot::Late(_, _, _, _, reached, known) => {
+                late_type(alloc, known.before, &reached.typ)
+            }
             Spot::Tuple(_, _, spots) => {
                 let parts = each_typ(alloc, around, spots.as_slice())?;
                 Ok(parts_typ(parts))
@@ -158,15 +227,11 @@ impl Spot {
             Spot::Part(place, number, _, _, _, reached) => {
                 reached.make(alloc, walking, *place, *number, &[])
             }
-            Spot::Call(place, _, reader, _, nested, arguments) => asked(
-                alloc,
-                walking,
-                around,
-                *place,
-                *reader,
-                nested.as_slice(),
-                arguments.as_slice(),
-            ),
+            Spot::Call(place, _, reader, _, _, arguments) => {
+                let arguments = arguments.as_slice();
+                read_call(alloc, walking, around, *place, *reader, arguments)
+            }
+            Spot::Late(place, _, _, _, _, _) => wrong_value(alloc, walking, *place),
             Spot::Tuple(_, number, spots) => {
                 let parts = read_each(alloc, walking, around, spots.as_slice())?;
                 tuple_ended(alloc, walking, *number, parts)
@@ -195,6 +260,7 @@ impl Spot {
                 note_numbers(alloc, walking, *number, value)
             }
             Spot::Call(_, _, reader, _, _, _) => reader_given(alloc, walking, *reader, value),
+            Spot::Late(_, _, _, _, _, _) => Ok(()),
             Spot::Tuple(_, _, _) => Ok(()),
         }
     }
@@ -232,6 +298,7 @@ impl Spot {
                 arguments.as_slice(),
                 value,
             ),
+            Spot::Late(place, _, _, _, _, _) => wrong_value(alloc, walking, *place),
             Spot::Tuple(place, _, _) => wrong_value(alloc, walking, *place),
         }
     }
@@ -285,6 +352,19 @@ impl Spot {
                 )?;
                 Ok(Wrote::gives(answer))
             }
+            Spot::Late(place, number, base, held, reached, known) => put_late(
+                alloc,
+                walking,
+                around,
+                *place,
+                *number,
+                base.get(),
+                held,
+                reached,
+                known,
+                is_nested,
+                value,
+            ),
             Spot::Tuple(place, _, spots) => write_tuple(
                 alloc,
                 walking,
@@ -319,33 +399,45 @@ impl Spot {
     }
 }
 
-/// The type of a parameter, where it names no variable; no type of another one. It fails where memory is wanting, and where binders are
-/// too many.
-fn closed_type(alloc: Global, typ: &Typ) -> Result<Reading, AllocError>
-    ensures { IfOk result (λ made. made ≡ spec.closed_type typ.now) }
+/// The variable before which those are that a part of what is there late may name where its type is wanted: a base that names none from its
+/// read on has parts that name those of its indexes too.
+pub fn late_bound(before: u32, behind: u32, held: &Indices) -> u32
+    ensures { result ≡ spec.late_bound before behind held.now }
 {
-    if is_closed(typ)? {
-        under(alloc, typ, &[], &[])
+    if is_value_below(before, held) {
+        behind
+    } else {
+        before
+    }
+}
+
+/// Whether the type of a part of what is there late is wanted: where it names only variables before this one, and has no hole inside.
+fn is_late_wanted(before: u32, typ: &Reading) -> bool
+    ensures { result ≡ spec.is_late_wanted before typ.now }
+{
+    if has_hole(typ) {
+        false
+    } else {
+        is_type_below(before, typ)
+    }
+}
+
+/// What is wanted of such a part. It fails where memory is wanting.
+fn late_type(alloc: Global, before: u32, typ: &Reading) -> Result<Reading, AllocError>
+    ensures { IfOk result (λ made. made ≡ spec.late_type before typ.now) }
+{
+    if is_late_wanted(before, typ) {
+        copy_reading(alloc, typ)
     } else {
         Ok(Reading::Hole)
     }
 }
 
-/// That of the last of these. It fails where memory is wanting, and where binders are too many.
-fn last_type(alloc: Global, types: &[Typ]) -> Result<Reading, AllocError>
-    ensures { IfOk result (λ made. made ≡ spec.last_type types.now) }
+/// Whether its new value owes the type further in: where it is wanted.
+fn late_nested(before: u32, typ: &Reading, is_nested: bool) -> bool
+    ensures { result ≡ (is_nested && spec.is_late_wanted before typ.now) }
 {
-    match types.last() {
-        None => Ok(Reading::Hole),
-        Some(typ) => closed_type(alloc, typ),
-    }
-}
-
-/// What is wanted of what a call writes: the type of its last parameter. It fails where memory is wanting, and where binders are too many.
-fn writer_type(alloc: Global, around: &Around<'_>, writer: &Caller) -> Result<Reading, AllocError>
-    ensures { IfOk result (λ made. made ≡ spec.writer_type (around_of around.now) writer.now) }
-{
-    last_type(alloc, callee_types(around, writer.callee))
+    is_nested && is_late_wanted(before, typ)
 }
 
 /// The types of what is assigned to several. It fails where memory is wanting, and where binders are too many.
@@ -405,169 +497,6 @@ fn parts_nested(
     }
 }
 
-/// A call on these arguments; what is false is owed where there is none. It fails where memory is wanting, and where variables are too
-/// many.
-fn asked(
-    alloc: Global,
-    walking: &mut Walking,
-    around: &Around<'_>,
-    place: Place,
-    caller: Option<Caller>,
-    nested: &[bool],
-    arguments: &[Indices],
-) -> Result<Indices, AllocError>
-    ensures value { IfOk result (λ made. made
-        ≡ walk.got (spec.asked (around_of around.now) place caller nested.now arguments.now) (walk.seen walking.old)) }
-    ensures walked { OnOk result (walk.seen walking.new
-        ≡ walk.run (spec.asked (around_of around.now) place caller nested.now arguments.now) (walk.seen walking.old)) }
-{
-    match caller {
-        None => wrong_value(alloc, walking, place),
-        Some(caller) => called(
-            alloc,
-            walking,
-            around,
-            place,
-            caller.number,
-            caller.callee,
-            nested,
-            arguments,
-        ),
-    }
-}
-
-/// A call on these arguments and a new value behind them. It fails where memory is wanting, and where variables are too many.
-fn asked_with(
-    alloc: Global,
-    walking: &mut Walking,
-    around: &Around<'_>,
-    place: Place,
-    writer: Caller,
-    nested: &[bool],
-    arguments: &[Indices],
-    is_nested: bool,
-    value: &Indices,
-) -> Result<Indices, AllocError>
-    ensures value { IfOk result (λ made. made
-        ≡ walk.got (spec.asked_with (around_of around.now) place writer nested.now arguments.now is_nested value.now) (walk.seen walking.old)) }
-    ensures walked { OnOk result (walk.seen walking.new
-        ≡ walk.run (spec.asked_with (around_of around.now) place writer nested.now arguments.now is_nested value.now) (walk.seen walking.old)) }
-{
-    let mut all_nested = Items::from_slice(alloc, nested)?;
-    all_nested.push(is_nested)?;
-    let mut all = copy_each(alloc, arguments)?;
-    all.push(copy_indices(alloc, value)?)?;
-    asked(
-        alloc,
-        walking,
-        around,
-        place,
-        Some(writer),
-        all_nested.as_slice(),
-        all.as_slice(),
-    )
-}
-
-/// The same with the numbers of what it gives, which are noted from here on. It fails where memory is wanting, and where variables are too
-/// many.
-#[tactic(auto, using(value_indices::proofs::Walks::walks))]
-fn answered(
-    alloc: Global,
-    walking: &mut Walking,
-    around: &Around<'_>,
-    place: Place,
-    writer: Caller,
-    nested: &[bool],
-    arguments: &[Indices],
-    is_nested: bool,
-    value: &Indices,
-) -> Result<Indices, AllocError>
-    ensures value { IfOk result (λ made. made
-        ≡ walk.got (spec.answered (around_of around.now) place writer nested.now arguments.now is_nested value.now) (walk.seen walking.old)) }
-    ensures walked { OnOk result (walk.seen walking.new
-        ≡ walk.run (spec.answered (around_of around.now) place writer nested.now arguments.now is_nested value.now) (walk.seen walking.old)) }
-{
-    let answer = asked_with(
-        alloc, walking, around, place, writer, nested, arguments, is_nested, value,
-    )?;
-    node_given(alloc, walking, writer.number, answer)
-}
-
-/// Notes the numbers of what is read by a call, if one reads. It fails where memory is wanting.
-#[tactic(auto, using(value_indices::proofs::Walks::walks))]
-fn reader_given(
-    alloc: Global,
-    walking: &mut Walking,
-    reader: Option<Caller>,
-    value: &Indices,
-) -> Result<(), AllocError>
-    ensures { OnOk result (walk.seen walking.new ≡ walk.run (spec.reader_given reader value.now) (walk.seen walking.old)) }
-{
-    match reader {
-        None => Ok(()),
-        Some(reader) => note_numbers(alloc, walking, reader.number, value),
-    }
-}
-
-/// Writes a new value by a call, which gets it at its own number. It fails where memory is wanting, and where variables are too many.
-#[tactic(auto, using(value_indices::proofs::Walks::walks))]
-fn write_call(
-    alloc: Global,
-    walking: &mut Walking,
-    around: &Around<'_>,
-    place: Place,
-    number: u32,
-    writer: Caller,
-    nested: &[bool],
-    arguments: &[Indices],
-    is_nested: bool,
-    value: &Indices,
-) -> Result<Indices, AllocError>
-    ensures value { IfOk result (λ made. made
-        ≡ walk.got (spec.call_written (around_of around.now) place number writer nested.now arguments.now is_nested value.now)
-        (walk.seen walking.old)) }
-    ensures walked { OnOk result (walk.seen walking.new
-        ≡ walk.run (spec.call_written (around_of around.now) place number writer nested.now arguments.now is_nested value.now)
-        (walk.seen walking.old)) }
-{
-    put(
-        alloc,
-        walking,
-        number,
-        std::slice::from_ref(value),
-        &Reading::Hole,
-        value,
-    )?;
-    answered(
-        alloc, walking, around, place, writer, nested, arguments, is_nested, value,
-    )
-}
-
-/// Writes it again by a call, with this value, of which a part was replaced. It fails where memory is wanting, and where variables are too
-/// many.
-#[tactic(auto, using(value_indices::proofs::Walks::walks))]
-fn renew_call(
-    alloc: Global,
-    walking: &mut Walking,
-    around: &Around<'_>,
-    place: Place,
-    number: u32,
-    writer: Caller,
-    nested: &[bool],
-    arguments: &[Indices],
-    value: &Indices,
-) -> Result<Indices, AllocError>
-    ensures value { IfOk result (λ made. made
-        ≡ walk.got (spec.call_renewed (around_of around.now) place number writer nested.now arguments.now value.now) (walk.seen walking.old)) }
-    ensures walked { OnOk result (walk.seen walking.new
-        ≡ walk.run (spec.call_renewed (around_of around.now) place number writer nested.now arguments.now value.now) (walk.seen walking.old)) }
-{
-    put(alloc, walking, number, &[], &Reading::Hole, value)?;
-    answered(
-        alloc, walking, around, place, writer, nested, arguments, false, value,
-    )
-}
-
 /// A tuple of what several hold, as the node of a number makes it, which is noted. It fails where memory is wanting.
 fn tuple_ended(
     alloc: Global,
@@ -603,8 +532,8 @@ fn read_each(
     Ok(made)
 }
 
-/// Whether a part owes at its own place.
-fn owes_itself(way: Way) -> bool
+/// Whether a part owes at its own place: by an index.
+pub fn owes_itself(way: Way) -> bool
     ensures { result ≡ spec.owes_itself way }
 {
     match way {
@@ -732,6 +661,44 @@ fn write_part(
         let answer = rewrite(alloc, walking, around, base, held)?;
         Wrote::of_part(alloc, reached, is_nested, value, answer)
     }
+}
+
+/// Writes a part of what is there late, which gets the new value at its own number: behind that, what is known of it comes into force, and the
+/// part owes before the base is written again. It fails where memory is wanting, and where variables are too many.
+fn put_late(
+    alloc: Global,
+    walking: &mut Walking,
+    around: &Around<'_>,
+    place: Place,
+    number: u32,
+    base: &Spot,
+    held: &Indices,
+    reached: &Reached,
+    known: &Known,
+    is_nested: bool,
+    value: &Indices,
+) -> Result<Wrote, AllocError>
+    ensures value { IfOk result (λ made. spec.wrote_of (around_of around.now) made
+        ≡ walk.got (spec.late_put (around_of around.now) place number reached.now known.now
+        (spec.rewritten (spec.spot_of (around_of around.now) base.now) held.now) is_nested value.now) (walk.seen walking.old)) }
+    ensures walked { OnOk result (walk.seen walking.new
+        ≡ walk.run (spec.late_put (around_of around.now) place number reached.now known.now
+        (spec.rewritten (spec.spot_of (around_of around.now) base.now) held.now) is_nested value.now) (walk.seen walking.old)) }
+{
+    put(
+        alloc,
+        walking,
+        number,
+        std::slice::from_ref(value),
+        &Reading::Hole,
+        value,
+    )?;
+    let facts = copy_facts(alloc, known.facts.as_slice())?;
+    walking.assume_facts(facts)?;
+    let nested = late_nested(known.before, &reached.typ, is_nested);
+    owe_part(alloc, walking, around, place, reached, nested, value)?;
+    let answer = rewrite(alloc, walking, around, base, held)?;
+    Ok(Wrote::gives(answer))
 }
 
 /// Writes a tuple: each its part of the value. It fails where memory is wanting, and where variables are too many.

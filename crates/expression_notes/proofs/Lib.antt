@@ -15,3 +15,4 @@ pub mod RowLaws
 pub mod MadeLaws
 pub mod BranchLaws
 pub mod WayLaws
+pub mod LateSpots

@@ -9,13 +9,13 @@ ghost use Rattle.expression_steps.specs.Targets as target_spec;
 ghost use Rattle.expression_notes.specs.Chains.{written_back};
 
 use crate::expressions::walk_expression;
-use crate::parts::walk_each;
+use crate::parts::{walk_each, walk_numbers};
 use crate::reading::{walk_suffixes, walk_way};
 use call_notes::{Aim, callee_types, wrong_value};
 use expression_forms::{Scope, Spot};
 use expression_steps::{
-    argument_aims, call_found, first_parts, is_nested, left_at, no_spot, part_found, spot_name,
-    spot_register, tuple_found,
+    argument_aims, behind, call_found, first_parts, has_no_way, is_nested, late_count, late_found,
+    left_at, no_spot, part_found, read_ahead, spot_name, spot_register, tuple_found,
 };
 use pattern_leaves::Around;
 use sail_base::{Items, Place};
@@ -23,8 +23,7 @@ use sail_core::{Core, Suffix, Target, TargetKind};
 use std::alloc::{AllocError, Global};
 use value_indices::{Indices, Walking, copy_indices};
 
-/// A part of what a target is, if it is there: all but the last suffix are read. It fails where memory is wanting, and where variables are
-/// too many.
+/// A part of a spot, if it is there: all but the last suffix are read. It fails where memory is wanting, and where variables are too many.
 #[cycle(walk)]
 #[tactic(auto, using(value_indices::proofs::Walks::walks))]
 fn spot_within(
@@ -35,36 +34,113 @@ fn spot_within(
     place: Place,
     number: u32,
     suffixes: &[Suffix],
+    base: Spot,
+    parts: &[Core],
+    at: usize,
+) -> Result<Option<(Spot, usize)>, AllocError>
+    ensures value { IfOk result (λ made. coded.spotted_in (around_of around.now) parts.now made ≡ walk.got (target_spec.part_of place number suffixes.now
+        (around_of around.now) (scope_of scope.now) (spot_of (around_of around.now) base) (coded.left_behind parts.now at)) (walk.seen walking.old)) }
+    ensures walked { OnOk result (walk.seen walking.new ≡ walk.run (target_spec.part_of place number suffixes.now (around_of around.now) (scope_of
+        scope.now) (spot_of (around_of around.now) base) (coded.left_behind parts.now at)) (walk.seen walking.old)) }
+{
+    let held = base.read(alloc, walking, around)?;
+    match suffixes {
+        [] => no_spot(alloc, walking, place),
+        [read @ .., last] => {
+            let value = copy_indices(alloc, &held)?;
+            match walk_suffixes(alloc, walking, around, scope, true, read, parts, at, value)? {
+                None => Ok(None),
+                Some((value, at)) => {
+                    let reached = walk_way(
+                        alloc, walking, around, scope, last.place, parts, at, &value, last.way,
+                    )?;
+                    part_found(alloc, number, last, base, held, reached)
+                }
+            }
+        }
+    }
+}
+
+/// A part of what is there late: it is read, then come the indexes of all suffixes, then the ways. It fails where memory is wanting, and where
+/// variables are too many.
+#[cycle(walk)]
+#[tactic(auto, using(value_indices::proofs::Walks::walks))]
+fn spot_late(
+    alloc: Global,
+    walking: &mut Walking,
+    around: &Around<'_>,
+    scope: &Scope<'_>,
+    place: Place,
+    number: u32,
+    suffixes: &[Suffix],
+    base: Spot,
+    parts: &[Core],
+    at: usize,
+) -> Result<Option<(Spot, usize)>, AllocError>
+    ensures value { IfOk result (λ made. coded.spotted_in (around_of around.now) parts.now made ≡ walk.got (target_spec.spotted_late place number
+        suffixes.now (around_of around.now) (scope_of scope.now) (spot_of (around_of around.now) base) (coded.left_behind parts.now at))
+        (walk.seen walking.old)) }
+    ensures walked { OnOk result (walk.seen walking.new ≡ walk.run (target_spec.spotted_late place number suffixes.now (around_of around.now)
+        (scope_of scope.now) (spot_of (around_of around.now) base) (coded.left_behind parts.now at)) (walk.seen walking.old)) }
+{
+    let left = left_at(parts, at);
+    let many = left.len();
+    if has_no_way(suffixes, many) {
+        return no_spot(alloc, walking, place);
+    }
+    let ahead = read_ahead(alloc, walking, around, &base)?;
+    let count = late_count(suffixes, many);
+    match walk_numbers(alloc, walking, around, scope, first_parts(left, count))? {
+        None => Ok(None),
+        Some(numbers) => late_found(
+            alloc,
+            walking,
+            around,
+            place,
+            number,
+            suffixes,
+            base,
+            ahead,
+            numbers.as_slice(),
+            behind(at, count),
+        ),
+    }
+}
+
+/// A part of what a target is, if it is there. It fails where memory is wanting, and where variables are too many.
+#[cycle(walk)]
+#[tactic(auto, using(value_indices::proofs::Walks::walks))]
+fn spot_part(
+    alloc: Global,
+    walking: &mut Walking,
+    around: &Around<'_>,
+    scope: &Scope<'_>,
+    place: Place,
+    number: u32,
+    suffixes: &[Suffix],
     found: Option<(Spot, usize)>,
     parts: &[Core],
 ) -> Result<Option<(Spot, usize)>, AllocError>
-    ensures value { IfOk result (λ made. coded.spotted_in (around_of around.now) parts.now made ≡ walk.got (target_spec.then_spot (target_spec.part_of
+    ensures value { IfOk result (λ made. coded.spotted_in (around_of around.now) parts.now made ≡ walk.got (target_spec.then_spot (target_spec.part_within
         place number suffixes.now (around_of around.now) (scope_of scope.now)) (coded.spotted_in (around_of around.now) parts.now found))
         (walk.seen walking.old)) }
-    ensures walked { OnOk result (walk.seen walking.new ≡ walk.run (target_spec.then_spot (target_spec.part_of place number suffixes.now
+    ensures walked { OnOk result (walk.seen walking.new ≡ walk.run (target_spec.then_spot (target_spec.part_within place number suffixes.now
         (around_of around.now) (scope_of scope.now)) (coded.spotted_in (around_of around.now) parts.now found)) (walk.seen walking.old)) }
 {
     match found {
         None => Ok(None),
         Some((base, at)) => {
-            let held = base.read(alloc, walking, around)?;
-            match suffixes {
-                [] => no_spot(alloc, walking, place),
-                [read @ .., last] => {
-                    let value = copy_indices(alloc, &held)?;
-                    match walk_suffixes(
-                        alloc, walking, around, scope, true, read, parts, at, value,
-                    )? {
-                        None => Ok(None),
-                        Some((value, at)) => {
-                            let reached = walk_way(
-                                alloc, walking, around, scope, last.place, parts, at, &value,
-                                last.way,
-                            )?;
-                            part_found(alloc, number, last, base, held, reached)
-                        }
-                    }
-                }
+            if !base.is_base() {
+                return no_spot(alloc, walking, place);
+            }
+            if base.is_late() {
+                spot_late(
+                    alloc, walking, around, scope, place, number, suffixes, base, parts, at,
+                )
+            } else {
+                spot_within(
+                    alloc, walking, around, scope, place, number, suffixes, base, parts, at,
+                )
             }
         }
     }
@@ -148,7 +224,7 @@ fn spot_target(
             [base] => {
                 let found = spot_target(alloc, walking, around, scope, base, parts, at)?;
                 let suffixes = suffixes.as_slice();
-                spot_within(
+                spot_part(
                     alloc, walking, around, scope, place, number, suffixes, found, parts,
                 )
             }

@@ -1,7 +1,9 @@
 -- What is left of a list, of which some items have been taken.
-use Rattle.std.proofs.Common.{◌≡◌, ◌∙◌, ◌≤◌, ◌+◌, ◌-◌, ap, refl, sym, arith, ℕ, zero, suc, add-one, Option, Some, None, is_some, IfSome, option_copied, Bor}
+use Rattle.std.proofs.Common.{◌≡◌, ◌∙◌, ◌≤◌, ◌<◌, ◌+◌, ◌-◌, ap, refl, sym, arith, ℕ, zero, suc, add-one, Option, Some, None, is_some, IfSome, option_copied}
+use Rattle.std.proofs.Common.{Bor}
 use Rattle.std.proofs.Common.{List, [], ◌∷◌, ◌++◌, length, drop, take, get_or, slice_get, drop-drop, ltb, ltb-true, ltb-false}
 use Rattle.std.proofs.lemmas.Option.{slice_get_past, slice_get_read}
+use Rattle.call_arguments.proofs.Lists.{item_is}
 
 behind_taken : {A : Type 0} (n : ℕ) (xs : List A) → drop n xs ≡ drop (length (take n xs)) xs
 behind_taken zero xs = refl
@@ -36,6 +38,12 @@ ends_of xs a c some is too =
     let e : length xs - 1 ≡ length xs - 2 + 1 = omega (arith, some) in
     let count : length xs - 2 + 2 ≡ length xs = omega (arith, some) in
     ends_at xs (length xs - 2) a c count is (too ∙ (λ j. get_or xs (e j) c))
+
+-- the last item, as it is read
+pub last_there : {A : Type 0} (xs : List A) (d : A) → 1 ≤ length xs → slice_get xs (length xs - 1) ≡ Some (get_or xs (length xs - 1) d)
+last_there xs d some =
+    let within : length xs - 1 < length xs = omega (arith, some) in
+    slice_get_read xs (length xs) (length xs - 1) (get_or xs (length xs - 1) d) refl within (item_is xs (length xs - 1) d within)
 
 -- what is lent of a list, if it is there
 pub item_there : {A : Type 0} (xs : List A) (i : ℕ) (r : Option (Bor A)) → is_some r ≡ ltb i (length xs)

@@ -16,3 +16,4 @@ pub mod BranchEnds
 pub mod LeafKinds
 pub mod Fillings
 pub mod Constructed
+pub mod LateParts

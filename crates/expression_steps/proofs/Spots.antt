@@ -28,7 +28,7 @@ use Rattle.expression_steps.specs.Coded.{each_part, left_behind, spotted_in}
 use Rattle.expression_steps.specs.Expressions.{part}
 use Rattle.expression_steps.specs.Parts.{Part, each_walk}
 use Rattle.expression_steps.specs.Targets.{Spotted, assigned, assigned_one, assigned_to, call_spotted, call_target, kind_spot, last_suffix, no_spot}
-use Rattle.expression_steps.specs.Targets.{part_of, part_spotted, spotted, spotting, suffixes_spot, then_spot, value_for}
+use Rattle.expression_steps.specs.Targets.{part_of, part_spotted, part_within, spotted, spotting, suffixes_spot, then_spot, value_for}
 use Rattle.expression_steps.specs.Values.{Passed, Taken, passed, suffixes_walk, then_on, way_walk}
 use Rattle.expression_steps.proofs.Left.{left_more}
 use Rattle.expression_steps.proofs.Onward.{given_got, given_run}
@@ -157,7 +157,7 @@ module _ (place : Place) (number : ℕ) (around : Around) (scope : Scope) (parts
 
   pub part_opens : (ss : List Suffix) (ts : List Target) (t : Target) → 1 ≤ length ts → length ts < 2 → t ≡ get_or ts 0 t
       → kind_spot place number (T.Part ss) (map spotting ts) around scope parts
-      ≡ bind (spotting t around scope parts) (then_spot (part_of place number ss around scope))
+      ≡ bind (spotting t around scope parts) (then_spot (part_within place number ss around scope))
   part_opens ss ts t some few is = (λ j. kind_spot place number (T.Part ss) (map spotting (one_of ts t some few is j)) around scope parts)
 
   pub no_base : (ss : List Suffix) (ts : List Target) → length ts ≢ 1

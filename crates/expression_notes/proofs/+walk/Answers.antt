@@ -1,3 +1,4 @@
+mod Late
 use Rattle.std.proofs.Common.{take, ◌≡◌, ◌∙◌, ◌+◌, ◌++◌, ◌∷◌, [], List, Some, map, slice_get, ap, sym, refl, arith, ◌≤◌, length, ◌-◌, not}
 use Rattle.std.proofs.lemmas.List.{map-append}
 use Rattle.sail_types.specs.declared.numbers.Con.TheVariants as C
@@ -28,7 +29,7 @@ use Rattle.expression_steps.specs.Coded.{aim_or_free, each_part, left_behind, sp
 use Rattle.expression_steps.specs.Expressions.{part}
 use Rattle.expression_steps.specs.Parts.{under}
 use Rattle.expression_steps.specs.Statements.{measure_walk, joined_under, turn_part}
-use Rattle.expression_steps.specs.Targets.{spotting, part_of, tuple_spotted, assigned, assigned_one}
+use Rattle.expression_steps.specs.Targets.{spotting, tuple_spotted, assigned, assigned_one}
 use Rattle.expression_steps.specs.Values.{Row, taken, no_way}
 use Rattle.expression_notes.proofs.Bindings.{names_alike}
 use Rattle.expression_steps.proofs.Conditions.{value_same, walked_same}
@@ -45,7 +46,7 @@ use Rattle.expression_steps.proofs.Rests.{first_of, none_of, others, three_of}
 use Rattle.expression_steps.proofs.Rows.{item_got, item_run, items_got, items_run, no_items, no_row}
 use Rattle.expression_steps.proofs.Spots.{call_got, call_run, one_assigned, call_alone, of_any, part_opens}
 use Rattle.expression_notes.proofs.Spotted.{last_there, none_within_got, spots_onward, spots_stop, none_within_run, part_got, part_run, last_is, kind_opens}
-use Rattle.expression_notes.proofs.Spotted.{absent_alike, spots_ended, stopped_alike}
+use Rattle.expression_notes.proofs.Spotted.{spots_ended, stopped_alike}
 use Rattle.expression_notes.proofs.Taken.{never_alike, part_alike, part_left, step_alike, stop_alike, taken_got, reached_got, reached_run, updated_got}
 use Rattle.expression_notes.proofs.Taken.{updated_run, way_opens, few_way, no_way_got, one_value, suffixes_ended, uncounted}
 use Rattle.expression_steps.proofs.Turns.{alone_run, measured_run, tested_run, turns_got, turns_run}
@@ -61,32 +62,29 @@ use Rattle.expression_notes.proofs.Blocks.{assert_alike, if_alike, in_alike, mor
 use Rattle.expression_notes.proofs.BranchLaws.{no_either_alike, no_turns, no_when_alike, some_either_alike, some_turns, some_when_alike, ways_met, ways_onward}
 use Rattle.expression_notes.proofs.FewParts.{few_alike, many_alike}
 use Rattle.expression_notes.proofs.WayLaws.{way_alike}
+use Rattle.expression_notes.proofs.+walk.Answers.Late.{here_part, late_part, no_way_late, none_late, none_part, some_late, wrong_part}
 
 pub expressions::walk_expression-returns-in_ok-value : goal.expressions::walk_expression-returns-in_ok-value
-expressions::walk_expression-returns-in_ok-value t c = let around = around_of c.args.around.now in let scope = scope_of c.args.scope.now in
-    let aim = c.args.aim.now in
-    let opens = inward_is _ _ around scope aim c.as_slice.ensures _ c.makes_value.ensures (sym c.goes_inward.ensures ∙ c.if-goes_inward.true) in
-    let is = c.in_ok-value.ensures.value in let was = c.in_ok-value.ensures.walked in let by = c.end_node.ensures in
+expressions::walk_expression-returns-in_ok-value t c = let around = around_of c.args.around.now in let scope = scope_of c.args.scope.now in let aim =
+    c.args.aim.now in let opens = inward_is _ _ around scope aim c.as_slice.ensures _ c.makes_value.ensures (sym c.goes_inward.ensures ∙ c.if-goes_inward.true)
+    in let is = c.in_ok-value.ensures.value in let was = c.in_ok-value.ensures.walked in let by = c.end_node.ensures in
     record { value = then_got_in _ (λ (i : Indices). i) _ _ _ _ _ _ opens is was by.value; walked = then_run_in _ _ _ _ _ _ _ _ opens is was by.walked }
 
 pub expressions::walk_expression-returns-in_ok-ended : goal.expressions::walk_expression-returns-in_ok-ended
-expressions::walk_expression-returns-in_ok-ended t c = let around = around_of c.args.around.now in let scope = scope_of c.args.scope.now in
-    let aim = c.args.aim.now in let core = c.args.core.now in let settles = settled around (out-Core core).place aim in
-    let opens = plain_is _ _ around scope aim c.as_slice-else-goes_inward.ensures _ c.makes_value-else-goes_inward.ensures (sym c.goes_inward.ensures ∙
-    c.if-goes_inward.false) in let is = c.in_ok-ended.ensures.value ∙ then_got _ settles _ _ _ c.in_ok-plain.ensures.value c.in_ok-plain.ensures.walked in
-    let was = c.in_ok-ended.ensures.walked ∙ then_run _ settles _ _ _ c.in_ok-plain.ensures.value c.in_ok-plain.ensures.walked in
-    let by = c.end_node-else-goes_inward.ensures in
+expressions::walk_expression-returns-in_ok-ended t c = let around = around_of c.args.around.now in let scope = scope_of c.args.scope.now in let aim =
+    c.args.aim.now in let core = c.args.core.now in let settles = settled around (out-Core core).place aim in let opens = plain_is _ _ around scope aim
+    c.as_slice-else-goes_inward.ensures _ c.makes_value-else-goes_inward.ensures (sym c.goes_inward.ensures ∙ c.if-goes_inward.false) in let is =
+    c.in_ok-ended.ensures.value ∙ then_got _ settles _ _ _ c.in_ok-plain.ensures.value c.in_ok-plain.ensures.walked in let was = c.in_ok-ended.ensures.walked ∙
+    then_run _ settles _ _ _ c.in_ok-plain.ensures.value c.in_ok-plain.ensures.walked in let by = c.end_node-else-goes_inward.ensures in
     record { value = then_got_in _ (λ (i : Indices). i) _ _ _ _ _ _ opens is was by.value; walked = then_run_in _ _ _ _ _ _ _ _ opens is was by.walked }
 
 pub parts::walk_each-loop-index-preserved : goal.parts::walk_each-loop-index-preserved
 parts::walk_each-loop-index-preserved t c = let around = around_of c.args.around.now in let scope = scope_of c.args.scope.now in let aims = c.args.aims.now in
-    let k = c.loop-index.index in let a = c.index-parts-index.result in let first = (part a).walk around scope (aim_or_free (slice_get aims k)) in
-    let opens = each_more _ around scope aims _ _ c.loop-index-test.true c.index-parts-index.is in let v = seen c.loop-index.walking in
-    let w = seen c.walk_expression.new.walking in
-    let is : c.in_ok-walk_expression.field-0 ≡ got first v = c.in_ok-walk_expression.ensures.value ∙ ap (λ (o : Aim). got ((part a).walk around scope o) v)
-    c.aim_at-aim.ensures in
-    let was : w ≡ run first v = c.in_ok-walk_expression.ensures.walked ∙ ap (λ (o : Aim). run ((part a).walk around scope o) v) c.aim_at-aim.ensures in
-    let by = c.loop-index.invariant in
+    let k = c.loop-index.index in let a = c.index-parts-index.result in let first = (part a).walk around scope (aim_or_free (slice_get aims k)) in let opens =
+    each_more _ around scope aims _ _ c.loop-index-test.true c.index-parts-index.is in let v = seen c.loop-index.walking in let w = seen
+    c.walk_expression.new.walking in let is : c.in_ok-walk_expression.field-0 ≡ got first v = c.in_ok-walk_expression.ensures.value ∙ ap (λ (o : Aim). got
+    ((part a).walk around scope o) v) c.aim_at-aim.ensures in let was : w ≡ run first v = c.in_ok-walk_expression.ensures.walked ∙ ap (λ (o : Aim). run ((part
+    a).walk around scope o) v) c.aim_at-aim.ensures in let by = c.loop-index.invariant in
     record { value = pushed_got _ _ _ _ _ _ _ _ c.in_ok-push.ensures.pushed is was opens ∙ by.value; walked = pushed_run _ _ _ _ _ was opens ∙ by.walked }
 
 pub parts::walk_each-returns : goal.parts::walk_each-returns
@@ -126,25 +124,22 @@ truths::walk_joined-returns-in-None t c = let truth = c.in_ok-walk_truth-in-len2
     record { value = rw two none.value; walked = rw two none.walked }
 
 pub truths::walk_guarded-returns-in_ok-assume-in-Some : goal.truths::walk_guarded-returns-in_ok-assume-in-Some
-truths::walk_guarded-returns-in_ok-assume-in-Some t c = let truth = c.in_ok-walk_truth-in-len2.ensures in
-    let same = guarded_alike (part c.guard-item.result) (part c.body-item.result) _ _ c.args.aim.now _ _ _ _ _ truth.value truth.walked c.in-Some.is
-    c.in_ok-assume-in-Some.ensures in let two = two_of _ _ _ c.in-len2.len_at_least c.in-len2.len_below c.guard-item.is c.body-item.is in
-    let by = c.walk_expression.ensures in
+truths::walk_guarded-returns-in_ok-assume-in-Some t c = let truth = c.in_ok-walk_truth-in-len2.ensures in let same = guarded_alike (part c.guard-item.result)
+    (part c.body-item.result) _ _ c.args.aim.now _ _ _ _ _ truth.value truth.walked c.in-Some.is c.in_ok-assume-in-Some.ensures in let two = two_of _ _ _
+    c.in-len2.len_at_least c.in-len2.len_below c.guard-item.is c.body-item.is in let by = c.walk_expression.ensures in
     record { value = rw two (value_same _ _ _ same.value by.value); walked = rw two (walked_same _ _ _ _ same.walked by.walked) }
 
 pub truths::walk_guarded-returns-in-None : goal.truths::walk_guarded-returns-in-None
-truths::walk_guarded-returns-in-None t c = let truth = c.in_ok-walk_truth-in-len2.ensures in let b = part c.body-item.result in let aim = c.args.aim.now in
-    let guards = λ (d : Con). under d b (around_of c.args.around.now) (scope_of c.args.scope.now) aim in
-    let none = none_alike (part c.guard-item.result) _ _ _ _ guards _ truth.value truth.walked c.in-None.is in
-    let two = two_of _ _ _ c.in-len2.len_at_least c.in-len2.len_below c.guard-item.is c.body-item.is in
+truths::walk_guarded-returns-in-None t c = let truth = c.in_ok-walk_truth-in-len2.ensures in let b = part c.body-item.result in let aim = c.args.aim.now in let
+    guards = λ (d : Con). under d b (around_of c.args.around.now) (scope_of c.args.scope.now) aim in let none = none_alike (part c.guard-item.result) _ _ _ _
+    guards _ truth.value truth.walked c.in-None.is in let two = two_of _ _ _ c.in-len2.len_at_least c.in-len2.len_below c.guard-item.is c.body-item.is in
     record { value = rw two none.value; walked = rw two none.walked }
 
 pub values::walk_like-loop-item-preserved : goal.values::walk_like-loop-item-preserved
-values::walk_like-loop-item-preserved t c = let around = around_of c.args.around.now in let scope = scope_of c.args.scope.now in
-    let a = part c.item-item.result in let r = c.args.reading.now in let z = c.in_ok-value.ensures in let here = c.place_of.ensures in
-    let opens = like_more _ around scope r _ _ c.loop-item-test.true c.item-item.is in let by = c.loop-item.invariant in
-    let is = item_got a around scope r _ _ _ _ here z.value z.walked in let was = item_run a around scope r _ _ _ _ here z.value z.walked _
-    c.in_ok-owe_item.ensures in
+values::walk_like-loop-item-preserved t c = let around = around_of c.args.around.now in let scope = scope_of c.args.scope.now in let a = part c.item-item.result
+    in let r = c.args.reading.now in let z = c.in_ok-value.ensures in let here = c.place_of.ensures in let opens = like_more _ around scope r _ _
+    c.loop-item-test.true c.item-item.is in let by = c.loop-item.invariant in let is = item_got a around scope r _ _ _ _ here z.value z.walked in let was =
+    item_run a around scope r _ _ _ _ here z.value z.walked _ c.in_ok-owe_item.ensures in
     record { value = pushed_got _ _ _ _ _ _ _ _ c.in_ok-push.ensures.pushed is was opens ∙ by.value; walked = pushed_run _ _ _ _ _ was opens ∙ by.walked }
 
 pub values::walk_like-returns : goal.values::walk_like-returns
@@ -207,10 +202,9 @@ made::walk_place-returns-in_ok-value-in-len1 t c = let one = one_of _ _ c.in-len
     }
 
 pub reading::walk_way-returns-then-left-count : goal.reading::walk_way-returns-then-left-count
-reading::walk_way-returns-then-left-count t c = let around = around_of c.args.around.now in let scope = scope_of c.args.scope.now in
-    let parts = c.args.parts.now in
-    let none = few_way c.args.place around scope c.args.value.now c.args.way c.args.at c.indexes_of-count.result parts c.left_at-left.result.now
-    c.left_at-left.ensures c.indexes_of-count.ensures c.if-left-count.true in let by = c.no_way.ensures in let r = c.no_way.result in
+reading::walk_way-returns-then-left-count t c = let around = around_of c.args.around.now in let scope = scope_of c.args.scope.now in let parts =
+    c.args.parts.now in let none = few_way c.args.place around scope c.args.value.now c.args.way c.args.at c.indexes_of-count.result parts
+    c.left_at-left.result.now c.left_at-left.ensures c.indexes_of-count.ensures c.if-left-count.true in let by = c.no_way.ensures in let r = c.no_way.result in
     record { value = no_way_got r parts c.args.place _ (seen c.args.walking.now) none by.value; walked = same_run r (no_way c.args.place) _ _ _ none by.walked }
 
 pub reading::walk_way-returns-in-None : goal.reading::walk_way-returns-in-None
@@ -220,13 +214,12 @@ reading::walk_way-returns-in-None t c = let numbers = c.in_ok-walk_numbers.ensur
     numbers.value numbers.walked c.in-None.is in record { value = same.value; walked = same.walked }
 
 pub reading::walk_way-returns-in-Some : goal.reading::walk_way-returns-in-Some
-reading::walk_way-returns-in-Some t c = let around = around_of c.args.around.now in let scope = scope_of c.args.scope.now in let parts = c.args.parts.now in
-    let opens = way_opens c.args.place around scope c.args.value.now c.args.way c.args.at c.indexes_of-count.result parts c.left_at-left.result.now
-    c.first_parts.result.now c.left_at-left.ensures c.indexes_of-count.ensures c.if-left-count.false c.first_parts.ensures in
-    let found = (λ j. Some (c.as_slice.ensures j)) ∙ sym c.in-Some.is ∙ c.in_ok-walk_numbers.ensures.value in
-    let was = c.in_ok-walk_numbers.ensures.walked in let z = c.args.value.now in let v = seen c.args.walking.now in let w = seen c.walk_numbers.new.walking in
-    let next = c.args.at + c.indexes_of-count.result in let left = left_behind parts next in let ns = c.as_slice.result.now in
-    let way = c.args.way in let r = c.way_reached.result in let by = c.way_reached.ensures in
+reading::walk_way-returns-in-Some t c = let around = around_of c.args.around.now in let scope = scope_of c.args.scope.now in let parts = c.args.parts.now in let
+    opens = way_opens c.args.place around scope c.args.value.now c.args.way c.args.at c.indexes_of-count.result parts c.left_at-left.result.now
+    c.first_parts.result.now c.left_at-left.ensures c.indexes_of-count.ensures c.if-left-count.false c.first_parts.ensures in let found = (λ j. Some
+    (c.as_slice.ensures j)) ∙ sym c.in-Some.is ∙ c.in_ok-walk_numbers.ensures.value in let was = c.in_ok-walk_numbers.ensures.walked in let z = c.args.value.now
+    in let v = seen c.args.walking.now in let w = seen c.walk_numbers.new.walking in let next = c.args.at + c.indexes_of-count.result in let left = left_behind
+    parts next in let ns = c.as_slice.result.now in let way = c.args.way in let r = c.way_reached.result in let by = c.way_reached.ensures in
     record {
       value = taken_got r parts _ c.behind.result next _ v c.behind.ensures (reached_got around z way left _ _ ns v w opens found was) by.value;
       walked = ok_then r (reached_run around z way left _ _ ns v w (seen c.way_reached.new.walking) opens found was) by.walked;
@@ -272,20 +265,17 @@ reading::walk_part-returns-in_ok-found-in-len1-up t c = let first = first_of _ _
 pub reading::walk_update-returns-in-None : goal.reading::walk_update-returns-in-None
 reading::walk_update-returns-in-None t c = let around = around_of c.args.around.now in let scope = scope_of c.args.scope.now in let parts = c.args.parts.now in
     let opens = one_value c.args.place c.args.number c.args.way around scope parts (between parts) c.base-item.result c.core-item.result (ends_are _ _ _
-    c.in-len2-up.len_at_least c.base-item.is c.core-item.is) (c.if-indexes-count.false ∙ c.indexes_of-count.ensures) in
-    let value = c.in_ok-value-in-len2-up.ensures in
-    let same = never_alike c.args.place c.args.number c.args.way around scope c.base-item.result c.core-item.result (between parts) _ _ _ _ value.value
-    value.walked (sym c.in-None.is ∙ c.in_ok-walk_numbers-in-len2-up.ensures.value) c.in_ok-walk_numbers-in-len2-up.ensures.walked in
+    c.in-len2-up.len_at_least c.base-item.is c.core-item.is) (c.if-indexes-count.false ∙ c.indexes_of-count.ensures) in let value =
+    c.in_ok-value-in-len2-up.ensures in let same = never_alike c.args.place c.args.number c.args.way around scope c.base-item.result c.core-item.result (between
+    parts) _ _ _ _ value.value value.walked (sym c.in-None.is ∙ c.in_ok-walk_numbers-in-len2-up.ensures.value) c.in_ok-walk_numbers-in-len2-up.ensures.walked in
     let w = seen c.args.walking.now in record { value = same.value ∙ (λ j. got (sym opens j) w); walked = same.walked ∙ (λ j. run (sym opens j) w) }
 
 pub reading::walk_update-returns-in_ok-reached-in-Some : goal.reading::walk_update-returns-in_ok-reached-in-Some
-reading::walk_update-returns-in_ok-reached-in-Some t c = let around = around_of c.args.around.now in let scope = scope_of c.args.scope.now in
-    let parts = c.args.parts.now in
-    let opens = one_value c.args.place c.args.number c.args.way around scope parts (between parts) c.base-item.result c.core-item.result (ends_are _ _ _
-    c.in-len2-up.len_at_least c.base-item.is c.core-item.is) (c.if-indexes-count.false ∙ c.indexes_of-count.ensures) in
-    let value = c.in_ok-value-in-len2-up.ensures in let numbers = c.in_ok-walk_numbers-in-len2-up.ensures in let reached = c.in_ok-reached-in-Some.ensures in
-    let found = (λ j. Some (c.as_slice.ensures j)) ∙ sym c.in-Some.is ∙ numbers.value in let is = c.as_ref.ensures.value ∙ reached.value in
-    record {
+reading::walk_update-returns-in_ok-reached-in-Some t c = let around = around_of c.args.around.now in let scope = scope_of c.args.scope.now in let parts =
+    c.args.parts.now in let opens = one_value c.args.place c.args.number c.args.way around scope parts (between parts) c.base-item.result c.core-item.result
+    (ends_are _ _ _ c.in-len2-up.len_at_least c.base-item.is c.core-item.is) (c.if-indexes-count.false ∙ c.indexes_of-count.ensures) in let value =
+    c.in_ok-value-in-len2-up.ensures in let numbers = c.in_ok-walk_numbers-in-len2-up.ensures in let reached = c.in_ok-reached-in-Some.ensures in
+    let found = (λ j. Some (c.as_slice.ensures j)) ∙ sym c.in-Some.is ∙ numbers.value in let is = c.as_ref.ensures.value ∙ reached.value in record {
       value = same_got c.updated.result (λ made. made) _ _ _ opens (updated_got _ _ _ _ _ c.base-item.result _ (between parts) _ _ _ _ _ _ _ _ value.value
           value.walked found numbers.walked is reached.walked c.updated.ensures.value);
       walked = same_run c.updated.result _ _ _ _ opens (updated_run _ _ _ _ _ c.base-item.result _ (between parts) _ _ _ _ _ _ _ _ _ value.value value.walked
@@ -311,37 +301,54 @@ targets::spot_each-returns t c = let around = around_of c.args.around.now in
     c.loop-target.spots) (seen c.loop-target.walking) c.loop-target-test.false in
     record { value = same.value ∙ c.loop-target.invariant.value; walked = same.walked ∙ c.loop-target.invariant.walked }
 
-pub targets::spot_within-returns-in-None : goal.targets::spot_within-returns-in-None
-targets::spot_within-returns-in-None t c = let around = around_of c.args.around.now in
-    let next = part_of c.args.place c.args.number c.args.suffixes.now around (scope_of c.args.scope.now) in
-    let same = absent_alike around c.args.parts.now c.args.found next (seen c.args.walking.now) c.in-None.is in
-    record { value = same.value; walked = same.walked }
-
 pub targets::spot_within-returns-in-empty : goal.targets::spot_within-returns-in-empty
-targets::spot_within-returns-in-empty t c = let scope = scope_of c.args.scope.now in let parts = c.args.parts.now in let held = c.in_ok-held-in-Some.ensures in
+targets::spot_within-returns-in-empty t c = let scope = scope_of c.args.scope.now in let parts = c.args.parts.now in let held = c.in_ok-held.ensures in
+    let found = Some (c.args.base, c.args.at) in let by = c.no_spot.ensures in let none = c.in-empty.len_below in
     record {
-      value = none_within_got _ scope _ c.args.number _ parts _ _ _ c.in-Some.is _ _ _ held.value held.walked _ c.in-empty.len_below c.no_spot.ensures.value;
-      walked = none_within_run _ scope _ c.args.number _ parts _ _ _ c.in-Some.is _ _ _ held.value held.walked _ _ c.in-empty.len_below
-          c.no_spot.ensures.walked;
+      value = none_within_got _ scope _ c.args.number _ parts found _ _ refl _ _ _ held.value held.walked _ none by.value;
+      walked = none_within_run _ scope _ c.args.number _ parts found _ _ refl _ _ _ held.value held.walked _ _ none by.walked;
     }
 
-pub targets::spot_within-returns-in-None-2 : goal.targets::spot_within-returns-in-None-2
-targets::spot_within-returns-in-None-2 t c = let ss = c.args.suffixes.now in let held = c.in_ok-held-in-Some.ensures in
+pub targets::spot_within-returns-in-None : goal.targets::spot_within-returns-in-None
+targets::spot_within-returns-in-None t c = let ss = c.args.suffixes.now in let held = c.in_ok-held.ensures in
     let went = c.in_ok-walk_suffixes-in-len1-up.ensures in let last = last_is ss c.in-len1-up.len_at_least in
-    let same = stopped_alike (around_of c.args.around.now) (scope_of c.args.scope.now) c.args.place c.args.number ss c.args.parts.now _ _ _ c.in-Some.is _ _ _
-    held.value held.walked _ last.0 last.1 refl _ c.in_ok-value-in-len1-up.ensures _ _ went.value went.walked c.in-None-2.is in
+    let same = stopped_alike (around_of c.args.around.now) (scope_of c.args.scope.now) c.args.place c.args.number ss c.args.parts.now (Some (
+      c.args.base,
+      c.args.at,
+    )) _ _ refl _ _ _ held.value held.walked _ last.0 last.1 refl _ c.in_ok-value-in-len1-up.ensures _ _ went.value went.walked c.in-None.is in
     record { value = same.value; walked = same.walked }
 
-pub targets::spot_within-returns-in_ok-reached-in-Some-2 : goal.targets::spot_within-returns-in_ok-reached-in-Some-2
-targets::spot_within-returns-in_ok-reached-in-Some-2 t c = let ss = c.args.suffixes.now in let held = c.in_ok-held-in-Some.ensures in
-    let went = c.in_ok-walk_suffixes-in-len1-up.ensures in let reached = c.in_ok-reached-in-Some-2.ensures in
-    record {
-      value = part_got _ _ c.args.place c.args.number ss _ _ _ _ c.in-Some.is _ _ _ held.value held.walked _ _ (last_there _ _ c.in-len1-up.len_at_least) refl _
-          c.in_ok-value-in-len1-up.ensures _ _ went.value went.walked _ _ c.in-Some-2.is _ (seen c.walk_way.new.walking) _ reached.value c.part_found.ensures;
-      walked = part_run _ _ c.args.place c.args.number ss _ _ _ _ c.in-Some.is _ _ _ held.value held.walked _ _ (last_there _ _ c.in-len1-up.len_at_least)
-          refl _ c.in_ok-value-in-len1-up.ensures _ _ went.value went.walked _ _ c.in-Some-2.is c.in_ok-reached-in-Some-2.reached _ c.part_found.result
-          reached.walked;
+pub targets::spot_within-returns-in_ok-reached-in-Some : goal.targets::spot_within-returns-in_ok-reached-in-Some
+targets::spot_within-returns-in_ok-reached-in-Some t c = let ss = c.args.suffixes.now in let held = c.in_ok-held.ensures in
+    let went = c.in_ok-walk_suffixes-in-len1-up.ensures in let by = c.in_ok-reached-in-Some.ensures in let number = c.args.number in
+    let found = Some (c.args.base, c.args.at) in let value = c.in_ok-value-in-len1-up.ensures in let x = c.in_ok-reached-in-Some.reached in
+    let w = seen c.walk_way.new.walking in let r = c.part_found.result in let some = c.in-Some.is in let long = c.in-len1-up.len_at_least in record {
+      value = part_got _ _ c.args.place number ss _ found _ _ refl _ _ _ held.value held.walked _ _ (last_there _ _ long) refl _ value _ _ went.value
+          went.walked _ _ some x w r by.value c.part_found.ensures;
+      walked = part_run _ _ c.args.place number ss _ found _ _ refl _ _ _ held.value held.walked _ _ (last_there _ _ long) refl _ value _ _ went.value
+          went.walked _ _ some x w r by.walked;
     }
+
+pub targets::spot_late-returns-then-has_no_way : goal.targets::spot_late-returns-then-has_no_way
+targets::spot_late-returns-then-has_no_way t c = no_way_late t c
+
+pub targets::spot_late-returns-in-None : goal.targets::spot_late-returns-in-None
+targets::spot_late-returns-in-None t c = none_late t c
+
+pub targets::spot_late-returns-in-Some : goal.targets::spot_late-returns-in-Some
+targets::spot_late-returns-in-Some t c = some_late t c
+
+pub targets::spot_part-returns-in-None : goal.targets::spot_part-returns-in-None
+targets::spot_part-returns-in-None t c = none_part t c
+
+pub targets::spot_part-returns-then-not-is_base : goal.targets::spot_part-returns-then-not-is_base
+targets::spot_part-returns-then-not-is_base t c = wrong_part t c
+
+pub targets::spot_part-returns-then-is_late : goal.targets::spot_part-returns-then-is_late
+targets::spot_part-returns-then-is_late t c = late_part t c
+
+pub targets::spot_part-returns-else-is_late : goal.targets::spot_part-returns-else-is_late
+targets::spot_part-returns-else-is_late t c = here_part t c
 
 pub targets::spot_target-returns-in-Variable : goal.targets::spot_target-returns-in-Variable
 targets::spot_target-returns-in-Variable t c = let opens = kind_opens _ _ _ (around_of c.args.around.now) (scope_of c.args.scope.now) (left_behind
@@ -369,11 +376,10 @@ targets::spot_target-returns-in_ok-values-in-empty t c = let around = around_of 
     let taken = c.first_parts-arguments.ensures ∙ ap (take _) c.left_at.ensures in
     let aims = c.as_slice.ensures ∙ c.in_ok-aims-in-empty.ensures ∙ ap argument_aims c.callee_types.ensures in let left = left_behind parts c.args.at in
     let ts = c.as_slice-targets.result.now in
-    let opens = kind_opens _ _ _ around scope left c.as_slice-targets.ensures c.in-Call.is ∙ call_alone place (out-Target c.args.target.now).number around scope
-    left _ _ _ ts c.in-empty.len_below in let first = c.first_parts-arguments.result.now in let due = c.as_slice.result.now in
+    let opens = kind_opens _ _ _ around scope left c.as_slice-targets.ensures c.in-Call.is ∙ call_alone place (out-Target c.args.target.now).number around
+    scope left _ _ _ ts c.in-empty.len_below in let first = c.first_parts-arguments.result.now in let due = c.as_slice.result.now in
     let held = c.in_ok-values-in-empty in let is = held.ensures.value in let was = held.ensures.walked in let v = seen c.args.walking.now in
-    let w = seen c.walk_each.new.walking in let k = c.args.at in let r = c.call_found.result in let by = c.call_found.ensures in
-    record {
+    let w = seen c.walk_each.new.walking in let k = c.args.at in let r = c.call_found.result in let by = c.call_found.ensures in record {
       value = of_any r _ around parts _ (call_got around scope _ _ _ _ _ k parts first due held.values v w taken aims is was ∙ (λ j. got (sym opens j) v)) by;
       walked = on_ok r (call_run around scope _ _ _ _ _ k parts first due held.values v w taken aims is was ∙ (λ j. run (sym opens j) v));
     }
@@ -384,7 +390,7 @@ targets::spot_target-returns-in_ok-found-in-len1 t c = let around = around_of c.
     let kind = c.in-Part.is ∙ (λ j. T.Part (sym c.as_slice-suffixes.ensures j)) in let left = left_behind parts c.args.at in
     let opens = kind_opens _ _ _ around scope left c.as_slice-targets.ensures kind ∙ part_opens place (out-Target c.args.target.now).number around scope left
     c.as_slice-suffixes.result.now _ _ c.in-len1.len_at_least c.in-len1.len_below c.base-item.is in
-    let is = c.in_ok-found-in-len1.ensures in let by = c.spot_within.ensures in
+    let is = c.in_ok-found-in-len1.ensures in let by = c.spot_part.ensures in
     record { value = then_got_in _ _ _ _ _ _ _ _ opens is.value is.walked by.value; walked = then_run_in _ _ _ _ _ _ _ _ opens is.value is.walked by.walked }
 
 pub targets::assign-returns-in-empty : goal.targets::assign-returns-in-empty
@@ -439,8 +445,8 @@ targets::assign_to-returns t c = let around = around_of c.args.around.now in let
     let left = ap each_part c.left_at-left.ensures in let spot = spot_of around l.spot in
     let is = c.in_ok-value.ensures.value ∙ (λ j. got (assigned_one c.args.place around scope spot (left j)) (seen l.walking)) in
     let was = c.in_ok-value.ensures.walked ∙ (λ j. run (assigned_one c.args.place around scope spot (left j)) (seen l.walking)) in
-    let same = last_alike c.args.place around scope c.args.targets.now l.target-index spot (left_behind c.args.parts.now l.at) (map (spot_of around) l.before) _
-    (seen l.walking) _ c.loop-target-test.false is was in let before = ap (map (spot_of around)) c.as_slice-2.ensures in let z = c.in_ok-value.value in
+    let same = last_alike c.args.place around scope c.args.targets.now l.target-index spot (left_behind c.args.parts.now l.at) (map (spot_of around) l.before)
+    _ (seen l.walking) _ c.loop-target-test.false is was in let before = ap (map (spot_of around)) c.as_slice-2.ensures in let z = c.in_ok-value.value in
     let w = seen c.assign_last.new.walking in let on = l.invariant in let by = c.assign_back-2.ensures in
     record {
       value = value_same _ _ _ ((λ j. got (written_back c.args.place (before j) z) w) ∙ same.value ∙ on.value) by.value;
@@ -462,10 +468,9 @@ branches::walk_ways-loop-way-preserved t c = let way = c.in_ok-first.ensures in
     record { value = same.value ∙ c.loop-way.invariant.value; walked = same.walked ∙ c.loop-way.invariant.walked }
 
 pub branches::walk_ways-returns : goal.branches::walk_ways-returns
-branches::walk_ways-returns t c = let same = ways_met c.is_free-free.result c.next-before.result c.args.shape.now (around_of c.args.around.now)
-    (scope_of c.args.scope.now) c.args.aim.now c.args.ways.now c.args.place c.args.number c.is_free-free.ensures c.loop-way.first _ _
-    (seen c.args.walking.now) (seen c.loop-way.walking) c.next-before.ensures c.loop-way-test.false c.as_ref.ensures.value c.loop-way.invariant.value
-    c.loop-way.invariant.walked in
+branches::walk_ways-returns t c = let same = ways_met c.is_free-free.result c.next-before.result c.args.shape.now (around_of c.args.around.now) (scope_of
+    c.args.scope.now) c.args.aim.now c.args.ways.now c.args.place c.args.number c.is_free-free.ensures c.loop-way.first _ _ (seen c.args.walking.now) (seen
+    c.loop-way.walking) c.next-before.ensures c.loop-way-test.false c.as_ref.ensures.value c.loop-way.invariant.value c.loop-way.invariant.walked in
     record { value = value_same _ _ _ same.value c.met_value.ensures.value; walked = walked_same _ _ _ _ same.walked c.met_value.ensures.walked }
 
 pub branches::walk_either-returns-in-None : goal.branches::walk_either-returns-in-None
@@ -518,8 +523,8 @@ branches::walk_cases-returns-in-empty t c = let none = none_of _ c.in-empty.len_
 pub branches::walk_cases-returns-in_ok-ways-in-len1-up : goal.branches::walk_cases-returns-in_ok-ways-in-len1-up
 branches::walk_cases-returns-in_ok-ways-in-len1-up t c = let around = around_of c.args.around.now in let scope = scope_of c.args.scope.now in
     let aim = c.args.aim.now in let first = first_of _ _ c.in-len1-up.len_at_least c.core-item.is in let caught = c.in_ok-catch_at-in-len1-up.ensures in
-    let ways = ap (ways_seen around scope aim) c.as_slice.ensures ∙ c.in_ok-ways-in-len1-up.ensures.ways around scope aim in
-    let shape = c.args.shape.now in let yes = c.if-is_try.true in let sent = c.thrown-sent.ensures in let by = c.walk_ways.ensures in
+    let ways = ap (ways_seen around scope aim) c.as_slice.ensures ∙ c.in_ok-ways-in-len1-up.ensures.ways around scope aim in let shape = c.args.shape.now in
+    let yes = c.if-is_try.true in let sent = c.thrown-sent.ensures in let by = c.walk_ways.ensures in
     record {
       value = value_same _ _ _ (try_got _ _ _ shape _ _ _ _ _ _ _ first _ _ _ _ yes sent caught ways) by.value;
       walked = walked_same _ _ _ _ (try_run _ _ _ shape _ _ _ _ _ _ _ first _ _ _ _ yes sent caught ways) by.walked;
@@ -587,12 +592,14 @@ statements::walk_block-loop-index-preserved t c = let l = c.loop-index in let sc
     let grown = names_grown _ c.in_ok-found-in-Some.found (newest l.groups) scope c.in_ok-bring_in-in-Some.ensures in
     let counted = ap (λ n. l.claims + n) claimed.value in
     let same = statement_alike c.args.place (around_of c.args.around.now) c.args.aim.now c.args.statements.now c.args.parts.now l.index
-    c.index-statements-index.result c.loop-index-test.true c.index-statements-index.is c.in-Some.core.now (sym there ∙ ap option_copied c.in-Some.is) _ _ inside
-    (seen l.walking) _ c.in_ok-found-in-Some.found c.in_ok-found-in-Some.condition stepped.value stepped.walked l.claims _ _ _ counted claimed.walked grown in
+    c.index-statements-index.result c.loop-index-test.true c.index-statements-index.is c.in-Some.core.now (sym there ∙ ap option_copied c.in-Some.is) _ _
+    inside (seen l.walking) _ c.in_ok-found-in-Some.found c.in_ok-found-in-Some.condition stepped.value stepped.walked l.claims _ _ _ counted claimed.walked
+    grown in
     record {
       value = same.value ∙ l.invariant.value;
       walked = same.walked ∙ l.invariant.walked;
-      few = few_more l.claims l.index c.in_ok-claims-in-Some.field-0 c.in_ok-found-in-Some.condition claimed.value l.invariant.few;
+      few = few_more l.claims l.index c.in_ok-claims-in-Some.field-0 c.in_ok-found-in-Some.condition claimed.value
+          l.invariant.few;
       within = omega (arith, c.loop-index-test.true);
     }
 
@@ -611,9 +618,8 @@ loops::walk_foreach-returns-in_ok-restore-in-Some t c = let n = c.in_ok-numbers-
     record { value = same.value; walked = same.walked }
 
 pub loops::walk_measure-returns : goal.loops::walk_measure-returns
-loops::walk_measure-returns t c = let value = c.in_ok-value.ensures in
-    measured_run _ _ c.args.core.now _ c.natural_aim-aim.ensures _ c.place_of.ensures _ _ _ _ _ _ c.in_ok-remember.ensures value.value value.walked
-    c.in_ok-integer_number.ensures.walked c.in_ok-restore.ensures
+loops::walk_measure-returns t c = let value = c.in_ok-value.ensures in measured_run _ _ c.args.core.now _ c.natural_aim-aim.ensures _ c.place_of.ensures _ _ _
+    _ _ _ c.in_ok-remember.ensures value.value value.walked c.in_ok-integer_number.ensures.walked c.in_ok-restore.ensures
 
 pub loops::walk_turn-returns-in_ok-restore : goal.loops::walk_turn-returns-in_ok-restore
 loops::walk_turn-returns-in_ok-restore t c =
@@ -630,8 +636,7 @@ loops::walk_loop-returns-in_ok-walk_turn-in-len3-2 t c = let around = around_of 
     let m = part c.measure-item.result in let a = part c.first-item.result in let b = part c.second-item.result in
     record {
       value = rw parts (turns_got (measure_walk m around scope) (turn_part is_while a around scope) (turn_part (not is_while) b around scope) v);
-      walked = rw parts (turns_run _ _ _ _ _ _ _ c.in_ok-walk_measure-in-len3.ensures c.in_ok-walk_turn-in-len3.ensures
-          c.in_ok-walk_turn-in-len3-2.ensures);
+      walked = rw parts (turns_run _ _ _ _ _ _ _ c.in_ok-walk_measure-in-len3.ensures c.in_ok-walk_turn-in-len3.ensures c.in_ok-walk_turn-in-len3-2.ensures);
     }
 
 -- ---- what calls require: that there is less to walk over
@@ -704,8 +709,7 @@ pub reading::walk_part-walk_suffixes-requires : goal.reading::walk_part-walk_suf
 reading::walk_part-walk_suffixes-requires t c = (omega (arith, rest_mass _ _ c.in-len1-up.len_at_least c.base-item.is, c.decreases), tt)
 
 pub reading::walk_update-walk_expression-requires : goal.reading::walk_update-walk_expression-requires
-reading::walk_update-walk_expression-requires t c =
-    (omega (arith, ends_masses _ _ _ c.in-len2-up.len_at_least c.base-item.is c.core-item.is, c.decreases), tt)
+reading::walk_update-walk_expression-requires t c = (omega (arith, ends_masses _ _ _ c.in-len2-up.len_at_least c.base-item.is c.core-item.is, c.decreases), tt)
 
 pub reading::walk_update-walk_numbers-requires : goal.reading::walk_update-walk_numbers-requires
 reading::walk_update-walk_numbers-requires t c = (omega (arith, ends_masses _ _ _ c.in-len2-up.len_at_least c.base-item.is c.core-item.is, c.decreases), tt)
@@ -734,8 +738,7 @@ pub targets::assign_to-spot_target-requires : goal.targets::assign_to-spot_targe
 targets::assign_to-spot_target-requires t c = (omega (arith, target_at _ _ _ c.loop-target-test.true c.target-item.is, c.decreases), tt)
 
 pub targets::assign_to-assign_last-requires : goal.targets::assign_to-assign_last-requires
-targets::assign_to-assign_last-requires t c =
-    (omega (arith, ap masses c.left_at-left.ensures, masses_drop c.args.parts.now c.loop-target.at, c.decreases), tt)
+targets::assign_to-assign_last-requires t c = (omega (arith, ap masses c.left_at-left.ensures, masses_drop c.args.parts.now c.loop-target.at, c.decreases), tt)
 
 pub targets::assign-spot_target-requires : goal.targets::assign-spot_target-requires
 targets::assign-spot_target-requires t c = (omega (arith, rest_target _ _ c.in-len1-up.len_at_least c.target-item.is, c.decreases), tt)
@@ -744,8 +747,12 @@ pub targets::assign-assign_to-requires : goal.targets::assign-assign_to-requires
 targets::assign-assign_to-requires t c =
     (omega (arith, rest_target _ _ c.in-len1-up.len_at_least c.target-item.is, target_some c.target-item.result, c.decreases), tt)
 
-pub targets::spot_target-spot_within-requires : goal.targets::spot_target-spot_within-requires
-targets::spot_target-spot_within-requires t c = (omega (arith, target_some c.args.target.now, c.decreases), tt)
+pub targets::spot_target-spot_part-requires : goal.targets::spot_target-spot_part-requires
+targets::spot_target-spot_part-requires t c = (omega (arith, target_some c.args.target.now, c.decreases), tt)
+
+pub targets::spot_late-walk_numbers-requires : goal.targets::spot_late-walk_numbers-requires
+targets::spot_late-walk_numbers-requires t c =
+    (omega (arith, taken_mass c.args.at _ c.args.parts.now _ _ c.left_at-left.ensures c.first_parts.ensures, c.decreases), tt)
 
 pub branches::walk_branch-walk_expression-requires : goal.branches::walk_branch-walk_expression-requires
 branches::walk_branch-walk_expression-requires t c = let e : mass c.core-core.result.now ≡ way_mass c.args.way.now = ap mass c.core-core.ensures in

@@ -171,7 +171,13 @@ abbrev pub decreases-reading::walk_update : goal.decreases-reading::walk_update
 decreases-reading::walk_update l = masses l.parts.now + 20
 
 abbrev pub decreases-targets::spot_within : goal.decreases-targets::spot_within
-decreases-targets::spot_within l = masses l.parts.now + 19
+decreases-targets::spot_within l = masses l.parts.now + 18
+
+abbrev pub decreases-targets::spot_late : goal.decreases-targets::spot_late
+decreases-targets::spot_late l = masses l.parts.now + 18
+
+abbrev pub decreases-targets::spot_part : goal.decreases-targets::spot_part
+decreases-targets::spot_part l = masses l.parts.now + 19
 
 abbrev pub decreases-targets::spot_each : goal.decreases-targets::spot_each
 decreases-targets::spot_each l = masses l.parts.now + target_masses l.targets.now + 18

@@ -16,8 +16,8 @@ pub Spot::read-returns-in_ok-parts-in-Tuple : goal.Spot::read-returns-in_ok-part
 Spot::read-returns-in_ok-parts-in-Tuple t c =
     let around = around_of c.args.around.now in
     let k = c.in-Tuple.number in
-    let spots = c.as_slice-in-Tuple.result.now in
-    let is = tuple_is around c.args.self.now c.in-Tuple.field-0 k c.in-Tuple.spots spots c.in-Tuple.is c.as_slice-in-Tuple.ensures in
+    let spots = c.as_slice.result.now in
+    let is = tuple_is around c.args.self.now c.in-Tuple.field-0 k c.in-Tuple.spots spots c.in-Tuple.is c.as_slice.ensures in
     let all = each_read (map (spot_of around) spots) in
     let ends = λ (parts : List Indices). node_ended k parts (I.Tuple parts) in
     let w = seen c.args.walking.now in

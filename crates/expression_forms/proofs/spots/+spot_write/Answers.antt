@@ -12,8 +12,9 @@ use Rattle.pattern_leaves.specs.Settings.{around_of}
 use Rattle.pattern_leaves.proofs.Opened.{out_never}
 use Rattle.call_notes.specs.Ends.{fits_unless, wrong_value}
 use Rattle.expression_forms.specs.Nodes.{put}
-use Rattle.expression_forms.specs.Spots.{Spot, Wrote, call_written, left_of, spot_of, tuple_write, wrong_write, wrote, wrote_of}
-use Rattle.expression_forms.proofs.SpotForms.{call_is, named_is, no_tuple, tuple_written, wrong_is, wrote_as, wrote_in}
+use Rattle.expression_forms.specs.Spots.{Spot, Wrote, call_written, late_put, left_of, rewritten, spot_of, tuple_write, wrong_write}
+use Rattle.expression_forms.specs.Spots.{wrote, wrote_of}
+use Rattle.expression_forms.proofs.SpotForms.{call_is, late_is, named_is, no_tuple, tuple_written, wrong_is, wrote_as, wrote_in}
 use Rattle.expression_forms.proofs.SpotMasses.{one_spot, spot_mass, spot_masses, tuple_opens}
 use Rattle.expression_forms.proofs.Tuples.{all_written, even_end, scoped_value, scoped_walked, uneven_end, written_got, written_run}
 use Rattle.expression_forms.proofs.spots.+spot_write.Goals as goal
@@ -97,6 +98,31 @@ Spot::write-returns-in_ok-answer-in-Call-clause-walked t c =
     once_run (call_written around c.in-Call.place c.in-Call.number c.in-Call.writer bs is n i) (λ (answer : Indices). wrote (says []) answer)
     ((spot_of around c.args.self.now).write n i) (seen c.args.walking.now) (seen c.write_call.new.walking) (ap (λ (s : Spot). s.write n i) whole)
     c.in_ok-answer-in-Call.ensures.walked
+
+-- of a part of what is there late
+pub Spot::write-returns-in-Late-clause-value : goal.Spot::write-returns-in-Late-clause-value
+Spot::write-returns-in-Late-clause-value t c =
+    let around = around_of c.args.around.now in
+    let n = c.args.is_nested in
+    let i = c.args.value.now in
+    let w = seen c.args.walking.now in
+    let held = c.in-Late.held in
+    let is = late_is around c.args.self.now c.in-Late.place c.in-Late.number c.in-Late.base held c.in-Late.reached c.in-Late.known c.in-Late.is in
+    wrote_as c.put_late.result around _ _ c.put_late.ensures.value
+    ((λ j. got (late_put around c.in-Late.place c.in-Late.number c.in-Late.reached c.in-Late.known
+    (rewritten (spot_of around (c.get-in-Late.ensures j)) held) n i) w) ∙ sym (ap (λ (s : Spot). got (s.write n i) w) is))
+
+pub Spot::write-returns-in-Late-clause-walked : goal.Spot::write-returns-in-Late-clause-walked
+Spot::write-returns-in-Late-clause-walked t c =
+    let around = around_of c.args.around.now in
+    let n = c.args.is_nested in
+    let i = c.args.value.now in
+    let w = seen c.args.walking.now in
+    let held = c.in-Late.held in
+    let is = late_is around c.args.self.now c.in-Late.place c.in-Late.number c.in-Late.base held c.in-Late.reached c.in-Late.known c.in-Late.is in
+    left_as c.put_late.result (seen c.put_late.new.walking) _ _ c.put_late.ensures.walked
+    ((λ j. run (late_put around c.in-Late.place c.in-Late.number c.in-Late.reached c.in-Late.known
+    (rewritten (spot_of around (c.get-in-Late.ensures j)) held) n i) w) ∙ sym (ap (λ (s : Spot). run (s.write n i) w) is))
 
 -- ---- several
 

@@ -6,7 +6,7 @@ use Rattle.pattern_leaves.specs.Settings.{around_of}
 use Rattle.pattern_leaves.proofs.Walked.{then_run}
 use Rattle.call_notes.specs.Noted.{numbers_noted}
 use Rattle.expression_forms.specs.Spots.{Spot, spot_of}
-use Rattle.expression_forms.proofs.SpotForms.{part_is, tuple_is, wrong_is}
+use Rattle.expression_forms.proofs.SpotForms.{late_is, part_is, tuple_is, wrong_is}
 use Rattle.expression_forms.proofs.spots.Spot.+note_given.Goals as goal
 
 pub returns-in-Wrong : goal.returns-in-Wrong
@@ -20,6 +20,13 @@ returns-in-Tuple t c =
     let w = seen c.args.walking.now in
     let is = tuple_is (around_of c.args.around.now) c.args.self.now c.in-Tuple.field-0 c.in-Tuple.field-1 c.in-Tuple.field-2 c.in-Tuple.field-2
     c.in-Tuple.is refl in
+    sym (ap (λ (s : Spot). run (s.given c.args.value.now) w) is ∙ run_give tt w)
+
+pub returns-in-Late : goal.returns-in-Late
+returns-in-Late t c =
+    let w = seen c.args.walking.now in
+    let is = late_is (around_of c.args.around.now) c.args.self.now c.in-Late.field-0 c.in-Late.field-1 c.in-Late.field-2 c.in-Late.field-3 c.in-Late.field-4
+    c.in-Late.field-5 c.in-Late.is in
     sym (ap (λ (s : Spot). run (s.given c.args.value.now) w) is ∙ run_give tt w)
 
 -- of a part, first what its base gives

@@ -2,7 +2,7 @@ use Rattle.std.proofs.Common.{◌≡◌, ◌∙◌, IfOk, ap, subst, sym}
 use Rattle.std.specs.Option.{option_copied}
 use Rattle.value_indices.specs.declared.indices.Reading.{Reading}
 use Rattle.expression_forms.proofs.Forms.{last_some}
-use Rattle.expression_forms.proofs.spots.last_type.Goals as goal
+use Rattle.expression_forms.proofs.call_spots.last_type.Goals as goal
 
 pub returns-in-Some : goal.returns-in-Some
 returns-in-Some c =
