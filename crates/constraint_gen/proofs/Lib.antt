@@ -6,5 +6,6 @@ pub mod Owing
 pub mod Gathered
 pub mod Before
 pub mod Halves
+pub mod LetsBefore
 pub mod Placing
 pub mod Lets

@@ -1,5 +1,5 @@
 -- The walk over a model: functions, mappings, top-level lets, registers and measures, in the order of the text.
-use Rattle.std.specs.Prelude.{ℕ, nat_eq, nat_lt, Bool, true, ◌&&◌, ◌||◌, List, [], ◌∷◌, ◌++◌, map, slice_get}
+use Rattle.std.specs.Prelude.{ℕ, nat_eq, nat_lt, Bool, true, ◌&&◌, ◌||◌, List, [], ◌∷◌, ◌++◌, map, slice_get, take}
 use Rattle.std.specs.Prelude.{Option, Some, None, if◌then◌else◌}
 use Rattle.std.specs.List.{list_all}
 use Rattle.sail_base.specs.declared.place.Place.{Place}
@@ -35,22 +35,39 @@ use Rattle.expression_steps.specs.Statements.{let_names as bound_by_let}
 use Rattle.expression_steps.specs.Expressions.{part}
 use Rattle.function_notes.specs.Functions.{function_walk, measure_walk, mapping_walk}
 
--- ---- top-level lets and initial values
+-- ---- top-level lets and initial values: they are plain (Sail language manual, "Let bindings", "Registers")
+
+-- what is known in them: named types, and names of lets; nothing is called or thrown, and no register is read
+abbrev pub apart : Around → Around
+apart around = record {
+  types = around.types;
+  exception = None;
+  registers = [];
+  functions = [];
+  directions = [];
+  lets = around.lets;
+  numbers = [];
+  answer = None;
+}
 
 -- a `let` with no name in scope
 abbrev pub let_walk : Around → Place → Arm → Part → Walk (List Bound)
-let_walk around place arm a = bound_by_let place arm a around []
+let_walk around place arm a = bound_by_let place arm a (apart around) []
 
-abbrev pub register_aim : Option Register → Aim
-register_aim None = Aims.Due R.Hole
-register_aim (Some r) = aimed Aims.Due (R.Of r.typ [] [])
+abbrev pub initial_aim : Register → Aim
+initial_aim r = aimed Aims.Due (R.Of r.typ [] [])
 
-abbrev pub initial_walk : Around → ℕ → Part → Walk (Unit {0})
-initial_walk around r a = bind (a.walk around [] (register_aim (slice_get around.registers r))) (λ i. give tt)
+abbrev pub initial_walk : Around → Register → Part → Walk (Unit {0})
+initial_walk around r a = bind (a.walk (apart around) [] (initial_aim r)) (λ i. give tt)
+
+-- an initial value is of a register that is there
+abbrev pub initial_of : Around → Place → Option Register → Part → Walk (Unit {0})
+initial_of around place None a = wrong place
+initial_of around place (Some r) a = initial_walk around r a
 
 abbrev pub opening_walk : Around → Place → OpeningKind → Part → Walk (Unit {0})
 opening_walk around place (O.Let arm) a = bind (let_walk around place arm a) (λ found. give tt)
-opening_walk around place (O.Register r) a = initial_walk around r a
+opening_walk around place (O.Register r) a = initial_of around place (slice_get around.registers r) a
 
 -- ---- what a name of a top-level let is elsewhere
 
@@ -99,10 +116,14 @@ abbrev pub names_of : Around → Opening → OpeningKind → List TopLevel
 names_of around o (O.Let arm) = let_names around o.place arm o.value
 names_of around o (O.Register r) = []
 
+-- behind an opening its names are known
+abbrev pub behind_opening : Around → Opening → Around
+behind_opening around o = record around { lets = around.lets ++ names_of around o o.kind }
+
 -- each let sees those before it
 abbrev pub lets_behind : Around → List Opening → Around
 lets_behind around [] = around
-lets_behind around (o ∷ os) = lets_behind (record around { lets = around.lets ++ names_of around o o.kind }) os
+lets_behind around (o ∷ os) = lets_behind (behind_opening around o) os
 
 -- a model, where top-level lets bound these names
 abbrev pub around_with : CoreModel → List TopLevel → Around
@@ -119,6 +140,10 @@ around_with m lets = record {
 
 abbrev pub around_of : CoreModel → Around
 around_of m = lets_behind (around_with m []) m.openings
+
+-- around the opening at a place, which sees the lets before it alone
+abbrev pub around_opening : CoreModel → ℕ → Around
+around_opening m i = lets_behind (around_with m []) (take i m.openings)
 
 -- ---- definitions in the order of the text
 
@@ -172,11 +197,11 @@ opening_listed around o = definition o.place (opening_walk around o.place o.kind
 
 abbrev pub opening_definitions : Around → List Opening → List Definition
 opening_definitions around [] = []
-opening_definitions around (o ∷ os) = opening_listed around o ++ opening_definitions around os
+opening_definitions around (o ∷ os) = opening_listed around o ++ opening_definitions (behind_opening around o) os
 
 abbrev pub listed : CoreModel → Around → List Definition
 listed m around =
-    function_definitions around m.functions ++ mapping_definitions around m.directions ++ opening_definitions around m.openings
+    function_definitions around m.functions ++ mapping_definitions around m.directions ++ opening_definitions (around_with m []) m.openings
 
 abbrev pub definitions_under : CoreModel → Around → List Definition
 definitions_under m around = in_order (listed m around)

@@ -123,7 +123,7 @@ fn put_mappings(list: &mut Items<Placed>, directions: &[Direction]) -> Result<()
 fn put_opening(list: &mut Items<Placed>, opening: &Opening, at: usize) -> Result<(), AllocError>
     ensures { (core : Model) (around : Settings) → slice_get core.openings at ≡ Some opening.now
         → OnOk result (spec.definitions_of core around list.new
-        ≡ spec.definitions_of core around list.old ++ models.opening_listed around opening.now) }
+        ≡ spec.definitions_of core around list.old ++ models.opening_listed (models.around_opening core at) opening.now) }
 {
     put(list, opening.place, Defined::Opening(at))
 }
@@ -131,7 +131,7 @@ fn put_opening(list: &mut Items<Placed>, opening: &Opening, at: usize) -> Result
 /// Puts top-level lets and initial values. The one error is want of memory.
 fn put_openings(list: &mut Items<Placed>, openings: &[Opening]) -> Result<(), AllocError>
     ensures { (core : Model) (around : Settings) → core.openings ≡ openings.now → OnOk result (spec.definitions_of core around list.new
-        ≡ spec.definitions_of core around list.old ++ models.opening_definitions around openings.now) }
+        ≡ spec.definitions_of core around list.old ++ models.opening_definitions (models.around_with core []) openings.now) }
 {
     for at in 0..openings.len() {
         put_opening(list, &openings[at], at)?;

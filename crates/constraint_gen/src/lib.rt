@@ -14,4 +14,4 @@ mod top_levels;
 pub use models::{notes, obligations};
 pub use naming::names_of;
 pub use openings::walk_opening;
-pub use top_levels::{around_model, top_levels as top_level_names};
+pub use top_levels::{TopLevels, around_model, around_opening, top_levels as top_level_names};

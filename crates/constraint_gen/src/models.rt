@@ -2,7 +2,7 @@
 ghost use Rattle.std.specs.Prelude.{◌≡◌, IfOk, OnOk, map, slice_get};
 ghost use Rattle.value_indices.specs.Walking as walk;
 ghost use Rattle.pattern_leaves.specs.Settings.{around_of};
-ghost use Rattle.constraint_gen.specs.Defined.{walk_of, function_at, measure_of, measure_at, mapping_at, half_at, opening_at};
+ghost use Rattle.constraint_gen.specs.Defined.{AreNames, walk_of, function_at, measure_of, measure_at, mapping_at, half_at, opening_at};
 ghost use Rattle.constraint_gen.specs.Models as models;
 ghost use Rattle.constraint_gen.specs.Obligations as spec;
 ghost use Rattle.constraint_gen.specs.Reading.{notes_of};
@@ -10,7 +10,7 @@ ghost use Rattle.constraint_gen.specs.Reading.{notes_of};
 use crate::defined::{Defined, in_order};
 use crate::goals::push_obligations;
 use crate::openings::walk_opening;
-use crate::top_levels::{around_model, top_levels};
+use crate::top_levels::{TopLevels, around_model, around_opening, top_levels};
 use function_notes::{walk_function, walk_mapping, walk_measure};
 use obligations::Obligation;
 use pattern_leaves::Around;
@@ -115,16 +115,18 @@ fn walk_half_at(
 fn walk_opening_at(
     alloc: Global,
     walking: &mut Walking,
-    around: &Around<'_>,
     core: &CoreModel,
+    lets: &TopLevels,
     at: usize,
 ) -> Result<(), AllocError>
-    ensures { OnOk result (walk.seen walking.new ≡ walk.run (opening_at (around_of around.now) (slice_get core.now.openings at))
+    requires { AreNames core.now lets.now }
+    ensures { OnOk result (walk.seen walking.new ≡ walk.run (opening_at (models.around_opening core.now at) (slice_get core.now.openings at))
         (walk.seen walking.old)) }
 {
+    let around = around_opening(core, lets, at);
     match core.openings.get(at) {
         None => Ok(()),
-        Some(opening) => walk_opening(alloc, walking, around, opening),
+        Some(opening) => walk_opening(alloc, walking, &around, opening),
     }
 }
 
@@ -134,8 +136,10 @@ fn walk_defined(
     walking: &mut Walking,
     around: &Around<'_>,
     core: &CoreModel,
+    lets: &TopLevels,
     defined: Defined,
 ) -> Result<(), AllocError>
+    requires { AreNames core.now lets.now }
     ensures { OnOk result (walk.seen walking.new ≡ walk.run (walk_of core.now (around_of around.now) defined) (walk.seen walking.old)) }
 {
     match defined {
@@ -143,7 +147,7 @@ fn walk_defined(
         Defined::Measure(at) => walk_measure_at(alloc, walking, around, core, at),
         Defined::Mapping(at, behind) => walk_mapping_at(alloc, walking, around, core, at, behind),
         Defined::Half(at) => walk_half_at(alloc, walking, core, at),
-        Defined::Opening(at) => walk_opening_at(alloc, walking, around, core, at),
+        Defined::Opening(at) => walk_opening_at(alloc, walking, core, lets, at),
     }
 }
 
@@ -152,12 +156,14 @@ fn walk_alone(
     alloc: Global,
     around: &Around<'_>,
     core: &CoreModel,
+    lets: &TopLevels,
     defined: Defined,
 ) -> Result<Walking, AllocError>
+    requires { AreNames core.now lets.now }
     ensures { IfOk result (λ made. walk.seen made ≡ walk.run (walk_of core.now (around_of around.now) defined) (walk.begun 0)) }
 {
     let mut walking = Walking::new(alloc, 0);
-    walk_defined(alloc, &mut walking, around, core, defined)?;
+    walk_defined(alloc, &mut walking, around, core, lets, defined)?;
     Ok(walking)
 }
 
@@ -168,11 +174,11 @@ pub fn notes(alloc: Global, core: &CoreModel) -> Result<Items<Walking>, AllocErr
     ensures { IfOk result (λ made. map notes_of made ≡ models.notes core.now) }
 {
     let lets = top_levels(alloc, core)?;
-    let around = around_model(core, lets.as_slice());
+    let around = around_model(core, lets.names.as_slice());
     let definitions = in_order(alloc, core)?;
     let mut made = Items::new(alloc);
     for placed in definitions.as_slice() {
-        let walking = walk_alone(alloc, &around, core, placed.defined)?;
+        let walking = walk_alone(alloc, &around, core, &lets, placed.defined)?;
         made.push(walking)?;
     }
     Ok(made)
@@ -185,11 +191,11 @@ pub fn obligations(alloc: Global, core: &CoreModel) -> Result<Items<Obligation>,
     ensures { IfOk result (λ made. made ≡ spec.obligations core.now) }
 {
     let lets = top_levels(alloc, core)?;
-    let around = around_model(core, lets.as_slice());
+    let around = around_model(core, lets.names.as_slice());
     let definitions = in_order(alloc, core)?;
     let mut made = Items::new(alloc);
     for placed in definitions.as_slice() {
-        let walking = walk_alone(alloc, &around, core, placed.defined)?;
+        let walking = walk_alone(alloc, &around, core, &lets, placed.defined)?;
         push_obligations(alloc, &mut made, walking)?;
     }
     Ok(made)

@@ -1,7 +1,8 @@
 //! What names of top-level lets are elsewhere.
-ghost use Rattle.std.specs.Prelude.{◌≡◌, IfOk, map};
+ghost use Rattle.std.specs.Prelude.{◌≡◌, IfOk, Some, map, slice_get};
 ghost use Rattle.std.specs.List.{list_all};
 ghost use Rattle.pattern_leaves.specs.Settings.{around_of};
+ghost use Rattle.constraint_gen.specs.Defined.{AreNames, first_names as first_names_of};
 ghost use Rattle.constraint_gen.specs.Models as models;
 
 use crate::openings::walk_let;
@@ -12,6 +13,15 @@ use sail_types::Index;
 use std::alloc::{AllocError, Global};
 use value_indices::{Indices, Reading, Walking, copy_indices, copy_reading};
 use wide_types::{is_below, is_con_below, widened};
+
+/// The names of the top-level lets of a model.
+#[derive(Drop)]
+pub struct TopLevels {
+    /// What they are, in order.
+    pub names: Items<TopLevel>,
+    /// For each top-level `let` and initial value, how many of them stand before it.
+    pub counts: Items<usize>,
+}
 
 /// Whether an argument names no variable.
 fn is_index_constant(index: &Index) -> bool
@@ -177,15 +187,48 @@ pub fn around_model<'a>(core: &'a CoreModel, lets: &'a [TopLevel]) -> Around<'a>
     }
 }
 
-/// What the names of a model's top-level lets are, in order. It fails where memory is wanting, and where variables are too many.
-pub fn top_levels(alloc: Global, core: &CoreModel) -> Result<Items<TopLevel>, AllocError>
-    ensures { IfOk result (λ lets. models.around_with core.now lets ≡ models.around_of core.now) }
+/// The names of a model's top-level lets. It fails where memory is wanting, and where variables are too many.
+pub fn top_levels(alloc: Global, core: &CoreModel) -> Result<TopLevels, AllocError>
+    ensures { IfOk result (λ lets. AreNames core.now lets) }
 {
-    let mut lets = Items::new(alloc);
+    let mut names = Items::new(alloc);
+    let mut counts = Items::new(alloc);
     for opening in core.openings.as_slice() {
-        let around = around_model(core, lets.as_slice());
+        let count = names.len();
+        counts.push(count)?;
+        let around = around_model(core, names.as_slice());
         let more = names_of(alloc, &around, opening)?;
-        lets.append(more)?;
+        names.append(more)?;
     }
-    Ok(lets)
+    Ok(TopLevels { names, counts })
+}
+
+/// So many of these names, from the first on.
+fn names_before(names: &[TopLevel], count: usize) -> &[TopLevel]
+    ensures { result.now ≡ first_names_of names.now (Some count) }
+{
+    if count < names.len() {
+        &names[..count]
+    } else {
+        names
+    }
+}
+
+/// The names that stand before the top-level `let` or initial value at a place; all where there is no such one.
+fn first_names<'a>(names: &'a [TopLevel], counts: &[usize], at: usize) -> &'a [TopLevel]
+    ensures { result.now ≡ first_names_of names.now (slice_get counts.now at) }
+{
+    match counts.get(at) {
+        None => names,
+        Some(count) => names_before(names, *count),
+    }
+}
+
+/// What is known around the top-level `let` or initial value at a place.
+pub fn around_opening<'a>(core: &'a CoreModel, lets: &'a TopLevels, at: usize) -> Around<'a>
+    requires { AreNames core.now lets.now }
+    ensures { around_of result ≡ models.around_opening core.now at }
+{
+    let names = first_names(lets.names.as_slice(), lets.counts.as_slice(), at);
+    around_model(core, names)
 }

@@ -1,5 +1,5 @@
 -- Goals from obligations, all other notes from those that instances read.
-use Rattle.std.proofs.Common.{◌≡◌, subst, ℕ, zero, suc, Bool, List, [], ◌∷◌, ◌++◌, Some}
+use Rattle.std.proofs.Common.{◌≡◌, subst, ℕ, zero, suc, Bool, List, [], ◌∷◌, ◌++◌, take, Some}
 use Rattle.std.specs.Prelude.{slice_get}
 use Rattle.sail_core.specs.declared.model.CoreModel.{CoreModel}
 use Rattle.sail_core.specs.declared.model.Direction.{Direction}
@@ -11,6 +11,7 @@ use Rattle.pattern_leaves.specs.Settings.{Around}
 use Rattle.expression_steps.specs.Expressions.{part}
 use Rattle.function_notes.specs.Functions.{function_walk, mapping_walk, measure_walk}
 use Rattle.constraint_gen.specs.Models.{Definition, around_of, function_definitions, function_listed, listed, mapping_definitions, mapping_listed}
+use Rattle.constraint_gen.specs.Models.{around_opening, around_with, behind_opening, lets_behind}
 use Rattle.constraint_gen.specs.Models.{measure_definition, opening_definitions, opening_listed, opening_walk}
 use Rattle.size_notes.specs.Bodies.{function_read, mapping_read, measure_read, opening_read}
 use Rattle.goal_laws.specs.Goals.{EachOf, GoalIsTrue}
@@ -78,13 +79,16 @@ mapping_among around (m ∷ n ∷ ms) zero p e h =
 mapping_among around (m ∷ n ∷ ms) (suc i) p e h =
     mapping_among around ms i p e (behind (mapping_listed around m n) (mapping_definitions around ms) h)
 
+-- behind the lets before it
 opening_among : (around : Around) (os : List Opening) (i : ℕ) (o : Opening) → slice_get os i ≡ Some o
-    → EachOf GoalIsTrue (opening_definitions around os) → EachOf GoalIsTrue (opening_listed around o)
+    → EachOf GoalIsTrue (opening_definitions around os) → EachOf GoalIsTrue (opening_listed (lets_behind around (take i os)) o)
 opening_among around [] i o e h = absurd (cc)
 opening_among around (n ∷ os) zero o e h =
     let same : n ≡ o = cc in
-    subst (λ n. EachOf GoalIsTrue (opening_listed around n)) same (front (opening_listed around n) (opening_definitions around os) h)
-opening_among around (n ∷ os) (suc i) o e h = opening_among around os i o e (behind (opening_listed around n) (opening_definitions around os) h)
+    subst (λ n. EachOf GoalIsTrue (opening_listed around n)) same
+    (front (opening_listed around n) (opening_definitions (behind_opening around n) os) h)
+opening_among around (n ∷ os) (suc i) o e h =
+    opening_among (behind_opening around n) os i o e (behind (opening_listed around n) (opening_definitions (behind_opening around n) os) h)
 
 -- ---- all of a model
 
@@ -93,7 +97,7 @@ of_calls : (m : CoreModel) → EachOf GoalIsTrue (listed m (around_of m))
     → EachOf GoalIsTrue (function_definitions (around_of m) m.functions ++ mapping_definitions (around_of m) m.directions)
 of_calls m h =
     let around : Around = around_of m in
-    front (function_definitions around m.functions ++ mapping_definitions around m.directions) (opening_definitions around m.openings) h
+    front (function_definitions around m.functions ++ mapping_definitions around m.directions) (opening_definitions (around_with m []) m.openings) h
 
 of_function : (m : CoreModel) → EachOf GoalIsTrue (listed m (around_of m)) → (i : ℕ) (f : Function) → slice_get m.functions i ≡ Some f
     → EachOf GoalIsTrue (function_listed (around_of m) f)
@@ -108,11 +112,11 @@ of_mapping m h i p at =
     mapping_among around m.directions i p at (behind (function_definitions around m.functions) (mapping_definitions around m.directions) (of_calls m h))
 
 of_opening : (m : CoreModel) → EachOf GoalIsTrue (listed m (around_of m)) → (i : ℕ) (o : Opening) → slice_get m.openings i ≡ Some o
-    → EachOf GoalIsTrue (opening_listed (around_of m) o)
+    → EachOf GoalIsTrue (opening_listed (around_opening m i) o)
 of_opening m h i o at =
     let around : Around = around_of m in
     let others : List Definition = function_definitions around m.functions ++ mapping_definitions around m.directions in
-    opening_among around m.openings i o at (behind others (opening_definitions around m.openings) h)
+    opening_among (around_with m []) m.openings i o at (behind others (opening_definitions (around_with m []) m.openings) h)
 
 -- a measure stands behind its function
 measured : (around : Around) (f : Function) (measure : Core) → f.measure ≡ Some measure → EachOf GoalIsTrue (function_listed around f)
@@ -130,6 +134,9 @@ notes_met m held =
           (measured around f measure is (of_function m goals i f at)) (notes.measure f measure);
       mapping = λ i p at. met_where (mapping_read around p.forwards p.backwards [] 0).notes (mapping_walk around p.forwards p.backwards [] 0).notes
           (of_mapping m goals i p at).0 (notes.mapping p.forwards p.backwards);
-      opening = λ i o at. met_where (opening_read around o [] 0).notes (opening_walk around o.place o.kind (part o.value) [] 0).notes
-          (of_opening m goals i o at).0 (notes.opening o);
+      opening = λ i o at.
+          let here : Around = around_opening m i in
+          let own : HasNotes here = bodies_have here in
+          met_where (opening_read here o [] 0).notes (opening_walk here o.place o.kind (part o.value) [] 0).notes (of_opening m goals i o at).0
+          (own.opening o);
     }

@@ -10,7 +10,7 @@ use Rattle.value_indices.specs.Steps.{Note}
 use Rattle.pattern_leaves.specs.Settings.{Around}
 use Rattle.expression_steps.specs.Expressions.{part}
 use Rattle.function_notes.specs.Functions.{function_walk, mapping_walk, measure_walk}
-use Rattle.constraint_gen.specs.Models.{around_of, opening_walk}
+use Rattle.constraint_gen.specs.Models.{around_of, around_opening, opening_walk}
 use Rattle.constraint_gen.specs.Obligations.{obligations}
 use Rattle.size_notes.specs.Bodies.{function_read, mapping_read, measure_read, opening_read}
 use Rattle.goal_laws.specs.Goals.{AllHold}
@@ -40,8 +40,9 @@ pub record WalksAreMet (m : CoreModel) (around : Around) : Type 0 where
       → MetWhere (measure_read around f measure [] 0).notes (measure_walk around f measure [] 0).notes
   pub mapping : (i : ℕ) (p : Pair) → slice_get (pairs m.directions) i ≡ Some p
       → MetWhere (mapping_read around p.forwards p.backwards [] 0).notes (mapping_walk around p.forwards p.backwards [] 0).notes
+  -- behind the lets before it
   pub opening : (i : ℕ) (o : Opening) → slice_get m.openings i ≡ Some o
-      → MetWhere (opening_read around o [] 0).notes (opening_walk around o.place o.kind (part o.value) [] 0).notes
+      → MetWhere (opening_read (around_opening m i) o [] 0).notes (opening_walk (around_opening m i) o.place o.kind (part o.value) [] 0).notes
 
 abbrev pub NotesAreMet : Type 0
 NotesAreMet = (m : CoreModel) → AllHold (obligations m) → WalksAreMet m (around_of m)

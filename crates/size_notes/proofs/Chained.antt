@@ -1,5 +1,5 @@
 -- Walks of a body one after the other, and bodies in lists.
-use Rattle.std.proofs.Common.{◌≡◌, ◌∙◌, ap, sym, refl, ℕ, ◌+◌, ◌<◌, ◌≤◌, List, [], ◌∷◌, ◌++◌, drop, length, get_or, map, subst, true, Some, arith}
+use Rattle.std.proofs.Common.{◌≡◌, ◌∙◌, ap, sym, refl, ℕ, ◌+◌, ◌<◌, ◌≤◌, List, [], ◌∷◌, ◌++◌, take, drop, length, get_or, map, subst, true, Some, arith}
 use Rattle.std.proofs.Common.{append_assoc, append-nil, length-drop, Result, Ok, Err}
 use Rattle.std.specs.Prelude.{OnOk, IfOk}
 use Rattle.std.proofs.lemmas.List.{map-append}
@@ -8,6 +8,7 @@ use Rattle.sail_types.specs.declared.table.Parameter.{Parameter}
 use Rattle.sail_types.specs.declared.types.Typ.{Typ}
 use Rattle.sail_core.specs.declared.model.Direction.{Direction}
 use Rattle.sail_core.specs.declared.model.Function.{Function}
+use Rattle.sail_core.specs.declared.model.Opening.{Opening}
 use Rattle.sail_core.specs.declared.tree.Core.{Core, out-Core}
 use Rattle.value_indices.specs.declared.indices.Reading.{Reading}
 use Rattle.value_indices.specs.Steps.{Walk, bind}
@@ -18,13 +19,15 @@ use Rattle.call_arguments.specs.Aims.{aimed}
 use Rattle.call_arguments.specs.declared.aims.Aim.{Aim}
 use Rattle.call_arguments.specs.declared.aims.Aim.TheVariants as Aims
 use Rattle.expression_steps.specs.Statements.{natural_type}
+use Rattle.constraint_gen.specs.Models.{behind_opening, lets_behind}
+use Rattle.constraint_gen.proofs.LetsBefore.{next_opening}
 use Rattle.function_notes.proofs.Lists.{rest_at, none_left}
 use Rattle.function_notes.specs.Functions.{inside_function, own_indices, reading_under}
 use Rattle.size_splits.specs.declared.bodies.BodySteps.{BodySteps}
 use Rattle.size_splits.specs.Bodies.{Body, body_read}
 use Rattle.size_notes.specs.declared.behind.Behind.{Behind}
 use Rattle.size_notes.specs.Bodies.{alone, body_of, clauses_read, declared_read, function_arms, kind_arms, last_read, mapping_bodies, mapping_read}
-use Rattle.size_notes.specs.Bodies.{measured_read}
+use Rattle.size_notes.specs.Bodies.{measured_read, opening_bodies, opening_body}
 use Rattle.size_notes.specs.Reading.{IsAtRest, body_seen, with_alone}
 use Rattle.size_notes.proofs.Walked.{arms_rest, run_alone, whole_body}
 
@@ -108,6 +111,27 @@ module _ {A B C : Type 0} (g : A → C) (f : B → C) where
 
   pub mapped_pushed : (made new : List A) (y : A) (c : C) → g y ≡ c → new ≡ made ++ y ∷ [] → map g new ≡ map g made ++ c ∷ []
   mapped_pushed made new y c own put = ap (map g) put ∙ (map-append g made (y ∷ []) ∙ ap (λ z. map g made ++ z ∷ []) own)
+
+-- openings, each behind those before it
+module _ (around : Around) where
+  pub opening_next : (os : List Opening) (k : ℕ) (o : Opening) (made new : List BodySteps) (y : BodySteps) (all : List Body) (settings : Around)
+      → k < length os → o ≡ get_or os k o → settings ≡ lets_behind around (take k os) → body_read y ≡ opening_body settings o → new ≡ made ++ y ∷ []
+      → map body_read made ++ opening_bodies (lets_behind around (take k os)) (drop k os) ≡ all
+      → map body_read new ++ opening_bodies (lets_behind around (take (k + 1) os)) (drop (k + 1) os) ≡ all
+  opening_next os k o made new y all settings within read is own put h =
+      let here : Around = lets_behind around (take k os) in
+      let rest : List Body = opening_bodies (behind_opening here o) (drop (k + 1) os) in
+      ap (λ (s : Around). map body_read new ++ opening_bodies s (drop (k + 1) os)) (next_opening around os k o within read)
+      ∙ (ap (λ l. map body_read l ++ rest) put
+      ∙ (ap (λ l. l ++ rest) (map-append body_read made (y ∷ []))
+      ∙ (append_assoc (map body_read made) (body_read y ∷ []) rest
+      ∙ (ap (λ (z : Body). map body_read made ++ z ∷ rest) (own ∙ ap (λ (s : Around). opening_body s o) is)
+      ∙ (ap (λ l. map body_read made ++ opening_bodies here l) (sym (rest_at os k o within read)) ∙ h)))))
+
+  pub openings_read : (os : List Opening) (k : ℕ) (made : List BodySteps) (all : List Body) → length os ≤ k
+      → map body_read made ++ opening_bodies around (drop k os) ≡ all → map body_read made ≡ all
+  openings_read os k made all past h =
+      sym (append-nil (map body_read made)) ∙ (ap (λ l. map body_read made ++ opening_bodies around l) (sym (none_left os k past)) ∙ h)
 
 module _ (around : Around) where
   pub pair_read : (ds : List Direction) (k : ℕ) (m n : Direction) (made new : List BodySteps) (y : BodySteps) (all : List Body)

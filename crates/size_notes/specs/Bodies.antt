@@ -31,7 +31,7 @@ use Rattle.call_arguments.specs.declared.aims.Aim.TheVariants as Aims
 use Rattle.expression_steps.specs.Expressions.{part}
 use Rattle.expression_steps.specs.Statements.{natural_type}
 use Rattle.function_notes.specs.Functions.{arm_of, constrained, inside_function, last_made, own_indices, reading_under, unwritten, written_walk}
-use Rattle.constraint_gen.specs.Models.{around_of, opening_walk}
+use Rattle.constraint_gen.specs.Models.{around_of, around_with, behind_opening, opening_walk}
 use Rattle.constraint_gen.specs.Obligations.{names_of}
 use Rattle.size_splits.specs.Bodies.{Body, body_read}
 use Rattle.size_notes.specs.declared.written.WrittenSize.{WrittenSize}
@@ -194,6 +194,11 @@ mapping_bodies around ms = []
 abbrev pub opening_body : Around → Opening → Body
 opening_body around o = body_of (opening_read around o)
 
+-- each behind the names of the lets before it
+abbrev pub opening_bodies : Around → List Opening → List Body
+opening_bodies around [] = []
+opening_bodies around (o ∷ os) = opening_body around o ∷ opening_bodies (behind_opening around o) os
+
 pub record Bodies : Type 0 where
   -- for each function its measure, where it has one, and its body
   pub functions : List (List Body)
@@ -205,7 +210,7 @@ abbrev pub bodies_under : CoreModel → Around → Bodies
 bodies_under m around = record {
   functions = map (function_bodies around) m.functions;
   mappings = mapping_bodies around m.directions;
-  openings = map (opening_body around) m.openings;
+  openings = opening_bodies (around_with m []) m.openings;
 }
 
 abbrev pub bodies_of : CoreModel → Bodies

@@ -1,8 +1,9 @@
 //! What is read of a model.
-ghost use Rattle.std.specs.Prelude.{◌≡◌, ◌++◌, IfOk, OnOk, map};
+ghost use Rattle.std.specs.Prelude.{◌≡◌, ◌++◌, [], IfOk, OnOk, map};
 ghost use Rattle.value_indices.specs.Walking as walk;
 ghost use Rattle.pattern_leaves.specs.Settings.{around_of};
 ghost use Rattle.expression_steps.specs.Expressions.{part};
+ghost use Rattle.constraint_gen.specs.Defined.{AreNames};
 ghost use Rattle.constraint_gen.specs.Models as models;
 ghost use Rattle.size_splits.specs.Bodies.{body_read};
 ghost use Rattle.size_notes.specs.Bodies as spec;
@@ -12,7 +13,7 @@ use crate::functions::function_bodies;
 use crate::mappings::read_mapping;
 use crate::steps::{append_alone, ended_body};
 use crate::written::WrittenSize;
-use constraint_gen::{around_model, top_level_names, walk_opening};
+use constraint_gen::{TopLevels, around_model, around_opening, top_level_names, walk_opening};
 use pattern_leaves::Around;
 use sail_base::Items;
 use sail_core::{CoreModel, Direction, Function, Opening, OpeningKind};
@@ -129,17 +130,21 @@ fn read_mappings(
     Ok(made)
 }
 
-/// What is read of top-level lets and initial values. It fails where memory is wanting, and where variables are too many.
+/// What is read of the top-level lets and initial values of a model. It fails where memory is wanting, and where variables are too many.
 fn read_openings(
     alloc: Global,
-    around: &Around<'_>,
-    openings: &[Opening],
+    core: &CoreModel,
+    lets: &TopLevels,
 ) -> Result<Items<BodySteps>, AllocError>
-    ensures { IfOk result (λ made. map body_read made ≡ map (spec.opening_body (around_of around.now)) openings.now) }
+    requires { AreNames core.now lets.now }
+    ensures { IfOk result (λ made. map body_read made ≡ spec.opening_bodies (models.around_with core.now []) core.now.openings) }
 {
     let mut made = Items::new(alloc);
-    for opening in openings {
-        made.push(read_opening(alloc, around, opening)?)?;
+    let openings = core.openings.as_slice();
+    for at in 0..openings.len() {
+        let around = around_opening(core, lets, at);
+        let opening = &openings[at];
+        made.push(read_opening(alloc, &around, opening)?)?;
     }
     Ok(made)
 }
@@ -150,10 +155,10 @@ pub fn bodies(alloc: Global, core: &CoreModel) -> Result<ModelBodies, AllocError
     ensures { IfOk result (λ made. spec.model_read made ≡ spec.bodies_of core.now) }
 {
     let lets = top_level_names(alloc, core)?;
-    let around = around_model(core, lets.as_slice());
+    let around = around_model(core, lets.names.as_slice());
     let functions = read_functions(alloc, &around, core.functions.as_slice())?;
     let mappings = read_mappings(alloc, &around, core.directions.as_slice())?;
-    let openings = read_openings(alloc, &around, core.openings.as_slice())?;
+    let openings = read_openings(alloc, core, &lets)?;
     Ok(ModelBodies {
         functions,
         mappings,

@@ -14,7 +14,7 @@ loop-placed-init c =
     let around = around_of c.around_model-around.result in
     let items = c.as_slice-placed-items.result.now in
     let settings : around ≡ models.around_of core =
-    c.around_model-around.ensures ∙ (ap (around_with core) c.as_slice.ensures ∙ c.in_ok-lets.ensures) in
+    c.around_model-around.ensures ∙ (ap (around_with core) c.as_slice.ensures ∙ c.in_ok-lets.ensures.names) in
     let listed : definitions_of core around items ≡ definitions_under core around =
     ap (definitions_of core around) c.as_slice-placed-items.ensures ∙ c.in_ok-definitions.ensures around in
     ap (λ l. l ++ gathered owed_by core around items) c.new-made.ensures ∙ first_gathered owed_by core around items settings listed

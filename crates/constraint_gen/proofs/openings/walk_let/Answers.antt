@@ -9,20 +9,22 @@ use Rattle.constraint_gen.proofs.openings.walk_let.Goals as goal
 
 pub returns-clause-value : goal.returns-clause-value
 returns-clause-value c =
-    let around = around_of c.args.around.now in
+    let inner = around_of c.apart-inner.result in
     let a = part c.args.value.now in
-    let_value around c.args.place c.args.arm.now a (seen c.args.walking.now) (seen c.walk_expression.new.walking) _ c.in_ok-aim.aim
+    let_value inner c.args.place c.args.arm.now a (seen c.args.walking.now) (seen c.walk_expression.new.walking) _ c.in_ok-aim.aim
     c.in_ok-indices.indices c.is_owed_inside-is_owed.result c.empty.ensures
-    (c.in_ok-aim.ensures ∙ ap (written_aim around) c.arm_written-written.ensures)
+    (c.in_ok-aim.ensures ∙ ap (written_aim inner) c.arm_written-written.ensures)
     (c.is_owed_inside-is_owed.ensures ∙ ap (λ w. is_written w && parts.Part.is_nested a) c.arm_written-written.ensures)
-    c.in_ok-indices.ensures.value c.in_ok-indices.ensures.walked c.match_one.result c.match_one.ensures.found
+    c.in_ok-indices.ensures.value c.in_ok-indices.ensures.walked (around_of c.args.around.now) c.apart-inner.ensures
+    c.match_one.result c.match_one.ensures.found
 
 pub returns-clause-walked : goal.returns-clause-walked
 returns-clause-walked c =
-    let around = around_of c.args.around.now in
+    let inner = around_of c.apart-inner.result in
     let a = part c.args.value.now in
-    let_walked around c.args.place c.args.arm.now a (seen c.args.walking.now) (seen c.walk_expression.new.walking) _ c.in_ok-aim.aim
+    let_walked inner c.args.place c.args.arm.now a (seen c.args.walking.now) (seen c.walk_expression.new.walking) _ c.in_ok-aim.aim
     c.in_ok-indices.indices c.is_owed_inside-is_owed.result c.empty.ensures
-    (c.in_ok-aim.ensures ∙ ap (written_aim around) c.arm_written-written.ensures)
+    (c.in_ok-aim.ensures ∙ ap (written_aim inner) c.arm_written-written.ensures)
     (c.is_owed_inside-is_owed.ensures ∙ ap (λ w. is_written w && parts.Part.is_nested a) c.arm_written-written.ensures)
-    c.in_ok-indices.ensures.value c.in_ok-indices.ensures.walked c.match_one.result (seen c.match_one.new.walking) c.match_one.ensures.walked
+    c.in_ok-indices.ensures.value c.in_ok-indices.ensures.walked (around_of c.args.around.now) c.apart-inner.ensures
+    c.match_one.result (seen c.match_one.new.walking) c.match_one.ensures.walked

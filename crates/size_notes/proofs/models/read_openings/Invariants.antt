@@ -1,9 +1,9 @@
-use Rattle.std.proofs.Common.{◌≡◌, ◌++◌, drop, map}
-use Rattle.pattern_leaves.specs.Settings.{around_of}
+use Rattle.std.proofs.Common.{◌≡◌, ◌++◌, [], drop, map}
 use Rattle.size_splits.specs.Bodies.{body_read}
-use Rattle.size_notes.specs.Bodies.{opening_body}
+use Rattle.constraint_gen.specs.Models.{around_opening, around_with}
+use Rattle.size_notes.specs.Bodies.{opening_bodies}
 use Rattle.size_notes.proofs.models.read_openings.Given as goal
 
-abbrev pub invariant-loop-opening : goal.invariant-loop-opening
-invariant-loop-opening l = map body_read l.made ++ map (opening_body (around_of l.around)) (drop l.opening-index l.openings)
-    ≡ map (opening_body (around_of l.around)) l.openings
+abbrev pub invariant-loop-at : goal.invariant-loop-at
+invariant-loop-at l =
+    map body_read l.made ++ opening_bodies (around_opening l.core l.at) (drop l.at l.core.openings) ≡ opening_bodies (around_with l.core []) l.core.openings
