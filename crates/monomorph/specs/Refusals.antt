@@ -1,6 +1,7 @@
 -- Sizes that are refused: one that isn't constant, and one that passes its limit (Sail language manual, "Bitvectors", "Vectors").
 use Rattle.std.specs.Prelude.{ℕ, ℤ, pos, int_le, ◌&&◌, codes, List, [], ◌∷◌, slice_index_or, Option, Some, None, if◌then◌else◌}
 use Rattle.sail_base.specs.declared.place.Place.{Place}
+use Rattle.sail_types.specs.Limits.{largest}
 use Rattle.sail_types.specs.Places.{first}
 use Rattle.size_values.specs.declared.constants.Constant.{Constant}
 use Rattle.size_values.specs.declared.constants.Constant.TheVariants as C
@@ -12,9 +13,13 @@ use Rattle.monomorph.specs.declared.error.MonoError.TheVariants.{SizeOpen, Width
 abbrev pub name_of : List (List ℕ) → ℕ → List ℕ
 name_of names v = slice_index_or names v (codes "#")
 
+-- a number that is given: one past the largest integer counts as that, so that isn't given
+abbrev pub given_refused : Place → ℤ → Option MonoError
+given_refused place z = if int_le (pos largest) z then Some (WidthLimit place z) else None
+
 -- a number at a place that has to be constant
 abbrev pub constant_refused : Place → List (List ℕ) → Constant → Option MonoError
-constant_refused place names (C.Number z) = None
+constant_refused place names (C.Number z) = given_refused place z
 constant_refused place names (C.Open v) = Some (SizeOpen place (name_of names v))
 constant_refused place names (C.Bound name) = Some (SizeOpen place name)
 

@@ -7,6 +7,9 @@ use sail_base::{Items, Place, Text};
 use size_values::{Constant, Size};
 use std::alloc::{AllocError, Global};
 
+/// The largest integer.
+const LARGEST: i128 = 1 << 126;
+
 /// The name of a variable. It fails where memory is wanting.
 fn name_of(alloc: Global, names: &[Text], variable: u32) -> Result<Text, AllocError>
     ensures { IfOk result (λ name. name ≡ spec.name_of names.now variable) }
@@ -17,7 +20,19 @@ fn name_of(alloc: Global, names: &[Text], variable: u32) -> Result<Text, AllocEr
     }
 }
 
-/// Why a number at a place isn't constant, where it isn't. It fails where memory is wanting.
+/// Why a number that is given is refused: one past the largest integer counts as that, so that isn't given.
+#[tactic(auto, unfolding(sail_types::specs::Limits::largest))]
+fn given_refused(place: Place, number: i128) -> Option<MonoError>
+    ensures { result ≡ spec.given_refused place number }
+{
+    if LARGEST <= number {
+        Some(MonoError::WidthLimit(place, number))
+    } else {
+        None
+    }
+}
+
+/// Why a number at a place isn't constant or is the largest integer, where it is so. It fails where memory is wanting.
 fn constant_refused(
     alloc: Global,
     place: Place,
@@ -27,7 +42,7 @@ fn constant_refused(
     ensures { IfOk result (λ refused. refused ≡ spec.constant_refused place names.now constant.now) }
 {
     match constant {
-        Constant::Number(_) => Ok(None),
+        Constant::Number(number) => Ok(given_refused(place, *number)),
         Constant::Open(variable) => {
             let name = name_of(alloc, names, *variable)?;
             Ok(Some(MonoError::SizeOpen(place, name)))
@@ -36,7 +51,7 @@ fn constant_refused(
     }
 }
 
-/// Why the first of these numbers that isn't constant isn't. It fails where memory is wanting.
+/// Why the first of these numbers that isn't constant or is the largest integer is refused. It fails where memory is wanting.
 pub fn constants_refused(
     alloc: Global,
     place: Place,
