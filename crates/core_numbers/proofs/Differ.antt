@@ -1,5 +1,5 @@
 -- The numbers of a definition that is numbered come one after the other.
-use Rattle.std.proofs.Common.{◌≡◌, ℕ, ◌<◌, List, [], ◌∷◌, ◌++◌, map, refl, sym, ap, subst, arith, suc, Option, Some, None}
+use Rattle.std.proofs.Common.{◌≡◌, ℕ, ◌<◌, List, [], ◌∷◌, ◌++◌, map, refl, sym, ap, subst, arith, suc, Some, None}
 use Rattle.sail_core.specs.Nodes.{joined, suffix_numbers, target_kind_numbers, target_numbers, kind_numbers, numbers, is_new, AllDiffer}
 use Rattle.sail_core.specs.declared.targets.Suffix.{Suffix}
 use Rattle.sail_core.specs.declared.targets.TargetKind.{TargetKind}
@@ -12,11 +12,11 @@ use Rattle.core_numbers.specs.Numbers.{Numbered, Numbering, each_numbered, suffi
 use Rattle.core_numbers.specs.Numbers.{kind_numbered, core_with, numbered}
 
 -- these come one after the other from one on, and another comes next
-abbrev Runs : List ℕ → ℕ → ℕ → Type 0
+abbrev pub Runs : List ℕ → ℕ → ℕ → Type 0
 Runs [] n m = n ≡ m
 Runs (x ∷ xs) n m = (x ≡ n) × Runs xs (suc n) m
 
-runs_behind : (xs ys : List ℕ) (n m k : ℕ) → Runs xs n m → Runs ys m k → Runs (xs ++ ys) n k
+pub runs_behind : (xs ys : List ℕ) (n m k : ℕ) → Runs xs n m → Runs ys m k → Runs (xs ++ ys) n k
 runs_behind [] ys n m k h g = subst (λ i. Runs ys i k) (sym h) g
 runs_behind (x ∷ xs) ys n m k h g = (h.0, runs_behind xs ys (suc n) m k h.1 g)
 
@@ -90,12 +90,11 @@ kind_runs (K.Part ss) n = suffixes_run ss n
 kind_runs (K.Assign ts) n = targets_run ts n
 kind_runs kind n = refl
 
-CoreRuns : Core → Type 0
+abbrev pub CoreRuns : Core → Type 0
 CoreRuns c = (n : ℕ) → Runs (numbers (numbered c n).it) n (numbered c n).next
 
 parts_run : (ys : List ((c : Core) × CoreRuns c)) (n : ℕ)
     → Runs (joined (map numbers (each_numbered (map numbered (map (λ y. y.0) ys)) n).it)) n (each_numbered (map numbered (map (λ y. y.0) ys)) n).next
-unfolding CoreRuns
 parts_run [] n = refl
 parts_run (y ∷ ys) n =
     runs_behind (numbers (numbered y.0 n).it)
@@ -104,7 +103,6 @@ parts_run (y ∷ ys) n =
     (y.1 n) (parts_run ys (numbered y.0 n).next)
 
 core_step : (y : Core-F ((c : Core) × CoreRuns c)) → CoreRuns (roll-Core (map-Core ((c : Core) × CoreRuns c) Core (λ q. q.0) y))
-unfolding CoreRuns
 core_step y = λ n.
     let c = map-Core ((c : Core) × CoreRuns c) Core (λ q. q.0) y in
     let kind = kind_numbered y.kind (suc n) in
@@ -119,16 +117,14 @@ core_step y = λ n.
           (kind_runs y.kind (suc n)) (parts_run y.parts kind.next),
     ))
 
-core_runs : (c : Core) → CoreRuns c
+pub core_runs : (c : Core) → CoreRuns c
 core_runs = ind-Core CoreRuns (λ c y is. subst (λ d. CoreRuns (roll-Core d)) is (core_step y))
 
 pub numbers_differ : (c : Core) (n : ℕ) → AllDiffer (numbers (numbered c n).it)
-unfolding CoreRuns
 numbers_differ c n = differ (numbers (numbered c n).it) n (numbered c n).next (core_runs c n)
 
 -- and so do those of two trees of which one is numbered behind the other
 pub both_differ : (c d : Core) (n : ℕ) → AllDiffer (numbers (numbered c n).it ++ numbers (numbered d (numbered c n).next).it)
-unfolding CoreRuns
 both_differ c d n =
     differ (numbers (numbered c n).it ++ numbers (numbered d (numbered c n).next).it) n (numbered d (numbered c n).next).next
     (runs_behind (numbers (numbered c n).it) (numbers (numbered d (numbered c n).next).it) n (numbered c n).next (numbered d (numbered c n).next).next

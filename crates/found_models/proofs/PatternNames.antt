@@ -30,7 +30,6 @@ use Rattle.shape_rules.specs.declared.callees.Doing.TheVariants as D
 use Rattle.shape_rules.specs.declared.callees.Meant.{Meant}
 use Rattle.shape_rules.specs.declared.callees.Meant.TheVariants as M
 use Rattle.shape_rules.specs.declared.locals.Local.{Local}
-use Rattle.shape_rules.specs.Scopes.{Setting}
 use Rattle.shape_stands.specs.Inside.{Position}
 use Rattle.shapes.specs.Failures.{all_lets, own_in as meant_in, refusal}
 use Rattle.shapes.specs.Tabled.{tabled_of}
@@ -54,8 +53,8 @@ use Rattle.text_progress.proofs.TextsGiven.{behind_kind}
 use Rattle.pattern_laws.specs.Standing.{atom_owns, constructor_stands, is_variable, number_owns, same_num}
 use Rattle.found_patterns.proofs.Meant.{constructor_there}
 use Rattle.found_patterns.specs.Meant.{NamesStand, WidthsOwn}
-use Rattle.soundness_steps.specs.Calls.{own_variables, variable_index}
 use Rattle.found_models.specs.Patterns.{PatternsOfTextsMeant, own_in}
+use Rattle.call_fits.specs.Calls.{own_variables, variable_index}
 
 -- ---- a variable is a number of the walk, as what it stands for is
 

@@ -22,7 +22,7 @@ use Rattle.known_texts.specs.Written.{IsWritten}
 use Rattle.text_progress.specs.GivenTypes.{typ_given}
 use Rattle.text_progress.specs.Positions.{in_body, in_let, in_plain}
 use Rattle.found_patterns.specs.Meant.{NamesStand, WidthsOwn, WidthsStand}
-use Rattle.soundness_steps.specs.Calls.{own_variables}
+use Rattle.call_fits.specs.Calls.{own_variables}
 
 -- the Int and Bool variables of a function, as its walk has them
 abbrev pub own_in : List Variable → List Index

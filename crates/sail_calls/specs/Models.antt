@@ -10,7 +10,6 @@ use Rattle.sail_core.specs.declared.tree.Core.{Core, out-Core}
 use Rattle.sail_core.specs.declared.tree.Kind.TheVariants as K
 use Rattle.size_values.specs.declared.sized.Sized.{Sized}
 use Rattle.checked_meaning.specs.Checked.{Checks}
-use Rattle.checked_meaning.specs.Fits.{AllFit}
 use Rattle.checked_meaning.specs.Items.{Item}
 use Rattle.value_laws.specs.Belonging.{Integers}
 use Rattle.soundness_steps.specs.Works.{Scene, Setting, Work, nobody}
@@ -20,7 +19,7 @@ use Rattle.soundness_steps.specs.Calls.{IsOf}
 use Rattle.soundness_forms.specs.Worlds.{LetsAre}
 use Rattle.soundness_calls.specs.Premises.{Covered}
 use Rattle.soundness_calls.specs.Laws.{scene_of}
-use Rattle.soundness_calls.specs.Directions.{Side, bare_type, bodies_of, is_ahead, is_back, lower, mapping_of, scene_across}
+use Rattle.soundness_calls.specs.Directions.{Side, bare_type, below, bodies_of, is_ahead, is_back, mapping_of, scene_across}
 use Rattle.soundness_calls.specs.Calls.{CoveredModel}
 use Rattle.soundness_binding.specs.Patterned.{arms_stand}
 use Rattle.sail_soundness.specs.Whole as Whole
@@ -56,7 +55,7 @@ own_arms q (is_back n) m ways = ways.backs
 
 pub record DirectionStands (set : Setting) (rank : ℕ → ℕ) (k : Checks) (d : ℕ) (m : Direction) : Type 0 where
   pub side : Side
-  pub met : AreMet set nobody (lower rank (rank d)) (k.direction d) (mapping_of set side m [] 0).notes
+  pub met : AreMet set nobody (below set rank d) (k.direction d) (mapping_of set side m [] 0).notes
   pub takes : (v : Value) → IsOf set m.parameter v → (s : Sized) × (k.takes d v ≡ Some s)
       × ((g : Integers) → OpensAs set.around.types set.past nobody g (bare_type m.parameter) v s)
   pub model : Whole.ModelStands set nobody
@@ -67,9 +66,8 @@ pub record DirectionStands (set : Setting) (rank : ℕ → ℕ) (k : Checks) (d 
 
 pub record ModelStands (set : Setting) (k : Checks) (rank : ℕ → ℕ) (lets : List Value) : Type 0 where
   pub lets_are : (x : Work) → LetsAre set x set.around.lets lets
-  pub functions : (x : Work) (f : Function) → set.covered x ≡ true → AllFit set.around.types x.types x.own
-      → slice_get set.around.functions x.function ≡ Some f → FunctionStands set k x f
-  pub directions : (d : ℕ) (m : Direction) → slice_get set.around.directions d ≡ Some m → DirectionStands set rank k d m
+  pub functions : (x : Work) (f : Function) → set.covered.function x ≡ true → slice_get set.around.functions x.function ≡ Some f → FunctionStands set k x f
+  pub directions : (d : ℕ) (m : Direction) → set.covered.direction d ≡ true → slice_get set.around.directions d ≡ Some m → DirectionStands set rank k d m
 
 -- all that calls ask of it
 abbrev pub CallsFollow : Type 0

@@ -1,5 +1,5 @@
 -- A number that is known where its variables are constants is that number, and no variable of it is free.
-use Rattle.std.proofs.Common.{◌≡◌, ℕ, ℤ, pos, ◌+ℤ◌, ◌*ℤ◌, ◌≤ℤ◌, Bool, true, false, List, [], ◌∷◌, map, Option, Some, None, unwrap_or}
+use Rattle.std.proofs.Common.{◌≡◌, ℕ, ℤ, pos, ◌+ℤ◌, ◌*ℤ◌, ◌≤ℤ◌, int_le, Bool, true, false, List, [], ◌∷◌, map, Option, Some, None, unwrap_or}
 use Rattle.std.proofs.Common.{refl, sym, ap, ◌∙◌, subst, if◌then◌else◌, arith}
 use Rattle.std.proofs.lemmas.Int.{ints}
 use Rattle.sail_types.specs.Limits.{is_small, largest, small_power}
@@ -192,6 +192,17 @@ module _ (of : ℕ → Constant) where
       (λ e y is. subst (λ d. FreeA (roll-Atom d)) is (free_atom y))
       (λ e y is. subst (λ d. FreeN (roll-Num d)) is (free_num y))
       (λ e y is. subst (λ d. FreeT (roll-Term d)) is (free_term y))
+
+  -- a constant below the largest integer is known: one past it counts as that
+  pub below_known : (t : Num) (z : ℤ) → constant_under of t ≡ C.Number z → int_le (pos largest) z ≡ false → (y : ℤ) × (value_of of t ≡ Some y)
+  below_known t z h less = by (first_free of t) refl (value_of of t) refl h
+    where
+      by : (o : Option ℕ) → first_free of t ≡ o → (v : Option ℤ) → value_of of t ≡ v → unless_free of o v ≡ C.Number z → (y : ℤ) × (value_of of t ≡ Some y)
+      by None e (Some y) k g = (y, k)
+      by None e None k g =
+          let q : pos largest ≡ z = some_same (pos largest) z (ap number_in g) in
+          absurd (omega (arith, ints, q, less))
+      by (Some i) e v k g = no (sym (ap is_free g) ∙ free_there t i e)
 
   -- a constant within the limits of sizes is known: one past the largest integer counts as that
   pub within_known : (t : Num) (z : ℤ) → constant_under of t ≡ C.Number z → z ≤ℤ pos 4096 → (y : ℤ) × (value_of of t ≡ Some y)

@@ -43,7 +43,6 @@ abbrev pub noted_by_each : List Indices → Noting
 noted_by_each [] v noted = noted
 noted_by_each (i ∷ is) v noted = noted_by_each is v (noted_by i v noted)
 
--- where nothing says what a value gives, nothing may be made of it
+-- where nothing says what a value gives, it gives none: so where a function without clauses is entered
 abbrev pub noted_by_all : List Indices → Value → Noted → Option Noted
-noted_by_all [] v noted = None
 noted_by_all is v noted = Some (noted_by_each is v noted)

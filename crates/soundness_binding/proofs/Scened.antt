@@ -99,7 +99,10 @@ met_as q noted (size_note facts place made ∷ ns) met = (
 )
 met_as q noted (made_note facts k operands made ∷ ns) met = (tt, met_as q noted ns met.1)
 met_as q noted (call_note facts place k operands callee js qs ∷ ns) met = (tt, met_as q noted ns met.1)
-met_as q noted (way_note facts d ∷ ns) met = (met.0, met_as q noted ns met.1)
+met_as q noted (way_note facts d ∷ ns) met = (
+  λ g all so. met.0 g noted (record { numbers = so.0; true_there = all; given = so.1 }),
+  met_as q noted ns met.1,
+)
 met_as q noted (given_note facts k i ∷ ns) met = (tt, met_as q noted ns met.1)
 met_as q noted (name_note v name ∷ ns) met = (tt, met_as q noted ns met.1)
 

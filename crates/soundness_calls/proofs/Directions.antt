@@ -52,7 +52,7 @@ use Rattle.soundness_forms.specs.Worlds.{AreGiven, LetsAre, Surrounds}
 use Rattle.soundness_forms.proofs.Basics.{wanted_on}
 use Rattle.soundness_calls.specs.Premises.{ArmIsSound, Results, read_as}
 use Rattle.soundness_calls.specs.Laws.{running}
-use Rattle.soundness_calls.specs.Directions.{ArmsOf, ClausesOf, CoveredDirection, WaysAreSound, WaysGrow, bare_type, bodies_of, is_ahead, is_back, lower}
+use Rattle.soundness_calls.specs.Directions.{ArmsOf, ClausesOf, CoveredDirection, WaysAreSound, WaysGrow, bare_type, below, bodies_of, is_ahead, is_back}
 use Rattle.soundness_calls.specs.Directions.{Side}
 use Rattle.soundness_calls.specs.Directions.{mapping_of, nowhere_scene, scene_across}
 use Rattle.soundness_calls.proofs.Opens.{IsOf as IsMade, all_are_on, exponents, of_on, parameters_open}
@@ -285,7 +285,7 @@ module _ (set : Setting) (k : Checks) (rank : ℕ → ℕ) (lets : List Value) (
 
   -- of what comes in
   crossing : (w : World Item) (v : Value) → IsOf set m.parameter v → w.hart ≡ set.hart → w.numbers ≡ [] → w.lets ≡ lets
-      → SoundCalls set (lower rank (rank d)) w → (s : Sized) → ((g : Integers) → OpensAs set.around.types set.past nobody g (bare_type m.parameter) v s)
+      → SoundCalls set (below set rank d) w → (s : Sized) → ((g : Integers) → OpensAs set.around.types set.past nobody g (bare_type m.parameter) v s)
       → Crossing q w start_point [] m (item s v) nothing_noted
   crossing w v is hart numbers let_values sound s made = record {
     stands = record { there = λ g a. record { numbers = tt; true_there = tt; given = tt } };
@@ -342,7 +342,7 @@ module _ (set : Setting) (k : Checks) (rank : ℕ → ℕ) (lets : List Value) (
 
   pub gone_ends : (world : List Item → World Item) → ((xs : List Item) → (world xs).hart ≡ set.hart) → ((xs : List Item) → (world xs).numbers ≡ [])
       → ((xs : List Item) → (world xs).lets ≡ lets) → ((xs : List Item) → (world xs).arguments ≡ xs)
-      → ((xs : List Item) → SoundCalls set (lower rank (rank d)) (world xs)) → (v : Value) → IsOf set m.parameter v
+      → ((xs : List Item) → SoundCalls set (below set rank d) (world xs)) → (v : Value) → IsOf set m.parameter v
       → (before : Now Item) → StateBelongs set before.state
       → CallEnds set true before (IsOf set m.result) (gone (running set k lets) world d v (Some m) before)
   gone_ends world hart numbers let_values arguments sound v is before s =

@@ -40,6 +40,7 @@ use Rattle.checked_meaning.specs.Items.{Item, item, items_of, typs, vals}
 use Rattle.value_laws.specs.Belonging.{Integers, closed, standing}
 use Rattle.value_laws.specs.Known.{AllTrue, Point}
 use Rattle.value_laws.proofs.Steps.{same}
+use Rattle.call_fits.specs.Calls.{AllBelong, givens_at}
 use Rattle.soundness_steps.specs.Points.{Later}
 use Rattle.soundness_steps.proofs.Points.{agree_on, no_later}
 use Rattle.soundness_steps.specs.Works.{Scene, Setting, Work, here}
@@ -47,13 +48,13 @@ use Rattle.soundness_steps.specs.Noted.{EachNoted}
 use Rattle.soundness_steps.specs.States.{AllKept, IsAnswer, IsThrown, Sound, StateBelongs}
 use Rattle.soundness_steps.specs.Steps.{AllMet, Beside, EndsWell, Stands, well_given, well_no, well_returned, well_stopped, well_thrown}
 use Rattle.soundness_steps.specs.Values.{IsWanted}
-use Rattle.soundness_steps.specs.Calls.{AllBelong, CallEnds, Enters, IsResult, SoundCalls, call_falls, call_gives, call_stops, call_throws, givens_at}
+use Rattle.soundness_steps.specs.Calls.{CallEnds, Enters, IsResult, SoundCalls, call_falls, call_gives, call_stops, call_throws}
 use Rattle.soundness_steps.specs.Calls.{inside}
 use Rattle.soundness_steps.proofs.Steps.{binds, gives_numbers, makes, met_behind, met_front, stands_on, walks_then, well_then}
 use Rattle.soundness_forms.specs.Worlds.{LetsAre, Surrounds}
 use Rattle.soundness_forms.proofs.Basics.{has_there, is_on, wanted_on}
 use Rattle.soundness_forms.proofs.Giving.{gives_all}
-use Rattle.soundness_calls.specs.Premises.{AllMade, ClausesHold, CoreHolds, Covered, EntersAs, OwnSame, Results, all_reached, own_type, own_of, read_as}
+use Rattle.soundness_calls.specs.Premises.{AllMade, ClausesHold, CoreHolds, Covered, EntersAs, NotedAlone, OwnSame, Results, own_type, own_of, read_as}
 use Rattle.soundness_calls.specs.Laws.{FunctionsAreSound, PartsHold, running, scene_of}
 use Rattle.soundness_calls.proofs.Natural.{NaturalIsRead, natural_read}
 use Rattle.soundness_calls.proofs.Own.{all_agreed, all_given, constrained_is, constraint_facts, natural_hole, natural_steady, own_agree, own_aim}
@@ -261,7 +262,7 @@ core_out {X} z w c kind e =
 -- ---- one call
 
 module _ (set : Setting) (k : Checks) (lets : List Value) (x : Work) (f : Function) (lets_are : LetsAre set x set.around.lets lets) (calls : Calls Item)
-    (sound : (active : Measures) (nu : Givens) (xs : List Item) → SoundCalls set all_reached (world_of (running set k lets) calls active nu xs))
+    (sound : (active : Measures) (nu : Givens) (xs : List Item) → SoundCalls set set.covered.direction (world_of (running set k lets) calls active nu xs))
     (covered : Covered set k x f) (parts : PartsHold set k x f) (vs : List Value) (h : Integers) (enters : Enters set x f vs h) where
   abbrev nu : Givens
   nu = givens_at h 0 f.variables
@@ -360,12 +361,14 @@ module _ (set : Setting) (k : Checks) (lets : List Value) (x : Work) (f : Functi
         → AllMet q (kind_clauses form.place (Some f.entry) (here q) f.parameters once (Aims.Due r) declared kind form.parts cf (own_next 0 f.variables)).notes
         → (more : Noted) × (cases.notes f.entry (U.Tuple (vals xs)) nothing_noted ≡ Some more)
     unfolding bind
-    first_noted active (K.Clauses (arm ∷ arms)) hold met = by form.parts met
+    first_noted active (K.Clauses arms) hold met = by arms form.parts hold.0 met
       where
-        by : (bodies : List Core) → AllMet q (clauses_walk form.place (Some f.entry) (here q) f.parameters once (Aims.Due r) declared (arm ∷ arms) bodies cf
-            (own_next 0 f.variables)).notes → (more : Noted) × (cases.notes f.entry (U.Tuple (vals xs)) nothing_noted ≡ Some more)
-        by [] m = absurd (wrong_never q form.place stands m)
-        by (b ∷ bodies) m =
+        by : (arms : List Arm) (bodies : List Core) → NotedAlone cases arms → AllMet q (clauses_walk form.place (Some f.entry) (here q) f.parameters once
+            (Aims.Due r) declared arms bodies cf (own_next 0 f.variables)).notes
+            → (more : Noted) × (cases.notes f.entry (U.Tuple (vals xs)) nothing_noted ≡ Some more)
+        by [] bodies always m = always f.entry (U.Tuple (vals xs)) nothing_noted
+        by (arm ∷ arms) [] always m = absurd (wrong_never q form.place stands m)
+        by (arm ∷ arms) (b ∷ bodies) always m =
             let first = written_walk form.place (Some f.entry) (here q) f.parameters once (Aims.Due r) declared arm b cf (own_next 0 f.variables) in
             entry_noted q f form.place once (Aims.Due r) (arm_of declared arm) (body_part declared b) xs (vals xs) refl refl all stands
             (met_front q first.notes _ m)
@@ -392,12 +395,12 @@ module _ (set : Setting) (k : Checks) (lets : List Value) (x : Work) (f : Functi
         → FrameEnds set answer more (Given q p (kind_clauses form.place (Some f.entry) (here q) f.parameters once (Aims.Due r) declared kind form.parts cf
         (own_next 0 f.variables)).next r)
         (or_so (kind_meaning (read_as q) (w active) form.place form.number kind (map (meaning (read_as q) (w active)) form.parts) now) (stops cause))
-    core_ends active more cause (K.Clauses (arm ∷ arms)) is e hold met now opened s bare =
+    core_ends active more cause (K.Clauses arms) is e hold met now opened s bare =
         clauses_frame q refl more refl cause _
-        (subst (λ o. Leaves o (first_of (read_as q) (w active) (arm ∷ arms) (map (meaning (read_as q) (w active)) form.parts) falls xs now)) opened
-        (clauses_leave q (w active) (arm ∷ arms) (map (meaning (read_as q) (w active)) form.parts) xs now))
-        (clauses_end q (w active) f r xs more form.place declared (arm ∷ arms) form.parts once (own_next 0 f.variables) p cf (entering_there active more e)
-        hold.0 hold.1 met now opened (sound_now q refl now s bare))
+        (subst (λ o. Leaves o (first_of (read_as q) (w active) arms (map (meaning (read_as q) (w active)) form.parts) falls xs now)) opened
+        (clauses_leave q (w active) arms (map (meaning (read_as q) (w active)) form.parts) xs now))
+        (clauses_end q (w active) f r xs more form.place declared arms form.parts once (own_next 0 f.variables) p cf (entering_there active more e)
+        hold.1 hold.2 met now opened (sound_now q refl now s bare))
     core_ends active more cause kind is e hold met now opened s bare = let no : ⊥ = hold in absurd no
 
     -- a run of it, that stops where no clause is taken

@@ -39,10 +39,11 @@ use Rattle.value_laws.specs.Known.{Point, Agree}
 use Rattle.value_laws.proofs.Numbers.{beyond_past, holds_is, truth_is, variable_is}
 use Rattle.value_laws.proofs.Values.{closed_is}
 use Rattle.checked_meaning.specs.Items.{Item}
+use Rattle.call_fits.specs.Calls.{given_of, givens_at, own_variables, variable_index}
 use Rattle.soundness_steps.specs.Works.{Scene, Setting, Work}
 use Rattle.soundness_steps.specs.Covers.{given_there}
 use Rattle.soundness_steps.specs.Noted.{GivenIs, HasNumbers}
-use Rattle.soundness_steps.specs.Calls.{given_of, givens_at, inside, own_variables, variable_index}
+use Rattle.soundness_steps.specs.Calls.{inside}
 use Rattle.soundness_steps.specs.Values.{IsSteady}
 use Rattle.soundness_forms.specs.Worlds.{AreGiven}
 use Rattle.soundness_calls.specs.Premises.{OwnSame, own_of, own_type}

@@ -8,35 +8,34 @@ use Rattle.sail_core.specs.Numbers.{Givens}
 use Rattle.sail_core.specs.Program.{Calls, Measures, calls, world_of}
 use Rattle.sail_core.specs.Run.{Now}
 use Rattle.checked_meaning.specs.Checked.{Checks}
-use Rattle.checked_meaning.specs.Fits.{AllFit}
 use Rattle.checked_meaning.specs.Items.{Item}
 use Rattle.value_laws.specs.Belonging.{Integers}
 use Rattle.soundness_steps.specs.Works.{Setting, Work}
 use Rattle.soundness_steps.specs.States.{StateBelongs}
 use Rattle.soundness_steps.specs.Calls.{CallEnds, Enters, IsOf, IsResult, SoundCalls}
 use Rattle.soundness_forms.specs.Worlds.{LetsAre}
-use Rattle.soundness_calls.specs.Premises.{Covered, all_reached}
+use Rattle.soundness_calls.specs.Premises.{Covered}
 use Rattle.soundness_calls.specs.Laws.{PartsHold, running}
 use Rattle.soundness_calls.specs.Directions.{CoveredDirection}
 
--- calls of functions end well, and so do directions that calls enter
+-- calls of functions end well, and so do covered directions that calls enter
 pub record SoundBelow (set : Setting) (below : Calls Item) : Type 0 where
   pub call : (active : Measures) (place : Place) (x : Work) (f : Function) (vs : List Value) (h : Integers) → Enters set x f vs h
       → (before : Now Item) → StateBelongs set before.state
       → CallEnds set false before (IsResult set x f h) (below.call active place x.function (Some x.instance) vs before)
-  pub enter : (active : Measures) (d : ℕ) (m : Direction) (v : Value) → slice_get set.around.directions d ≡ Some m → IsOf set m.parameter v
-      → (before : Now Item) → StateBelongs set before.state → CallEnds set true before (IsOf set m.result) (below.enter active d v before)
+  pub enter : (active : Measures) (d : ℕ) (m : Direction) (v : Value) → set.covered.direction d ≡ true → slice_get set.around.directions d ≡ Some m
+      → IsOf set m.parameter v → (before : Now Item) → StateBelongs set before.state → CallEnds set true before (IsOf set m.result) (below.enter active d v before)
 
--- what is asked of the instances that are covered, of mappings, and of the values of top-level lets
+-- what is asked of the functions at work and of the directions that are covered, and of the values of top-level lets
 pub record CoveredModel (set : Setting) (k : Checks) (rank : ℕ → ℕ) (lets : List Value) : Type 0 where
   pub lets_are : (x : Work) → LetsAre set x set.around.lets lets
-  pub functions : (x : Work) (f : Function) → set.covered x ≡ true → AllFit set.around.types x.types x.own
-      → slice_get set.around.functions x.function ≡ Some f → Covered set k x f × PartsHold set k x f
-  pub directions : (d : ℕ) (m : Direction) → slice_get set.around.directions d ≡ Some m → CoveredDirection set rank k d m
+  pub functions : (x : Work) (f : Function) → set.covered.function x ≡ true → slice_get set.around.functions x.function ≡ Some f
+      → Covered set k x f × PartsHold set k x f
+  pub directions : (d : ℕ) (m : Direction) → set.covered.direction d ≡ true → slice_get set.around.directions d ≡ Some m → CoveredDirection set rank k d m
 
 -- so calls end well however deep
 abbrev pub CallsAreSound : Type 0
 CallsAreSound = (set : Setting) (k : Checks) (rank : ℕ → ℕ) (lets : List Value) → CoveredModel set k rank lets
     → (depth : ℕ) → SoundBelow set (calls (running set k lets) depth)
     × ((active : Measures) (nu : Givens) (xs : List Item)
-    → SoundCalls set all_reached (world_of (running set k lets) (calls (running set k lets) depth) active nu xs))
+    → SoundCalls set set.covered.direction (world_of (running set k lets) (calls (running set k lets) depth) active nu xs))

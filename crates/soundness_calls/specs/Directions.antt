@@ -1,5 +1,5 @@
 -- Directions of mappings: what is asked of their clauses and of how they are read, and that entering one ends well.
-use Rattle.std.specs.Prelude.{◌≡◌, ◌≤◌, nat_lt, ℕ, Bool, true, false, List, [], ◌∷◌, Some, None}
+use Rattle.std.specs.Prelude.{◌≡◌, ◌≤◌, nat_lt, ℕ, Bool, true, false, ◌&&◌, List, [], ◌∷◌, Some, None}
 use Rattle.sail_base.specs.declared.place.Place.{Place}
 use Rattle.sail_types.specs.declared.types.Typ.{Typ}
 use Rattle.sail_types.specs.declared.values.Value.{Value}
@@ -29,9 +29,9 @@ use Rattle.soundness_calls.specs.Premises.{ArmIsSound, read_as}
 abbrev pub bare_type : Typ → Reading
 bare_type t = R.Of t [] []
 
--- its patterns reach those of a lower rank
-abbrev pub lower : (ℕ → ℕ) → ℕ → ℕ → Bool
-lower rank r d = nat_lt (rank d) r
+-- the patterns of a direction reach those that are covered and of a lower rank
+abbrev pub below : Setting → (ℕ → ℕ) → ℕ → ℕ → Bool
+below set rank d e = nat_lt (rank e) (rank d) && set.covered.direction e
 
 -- no function is around it, nor variables of one
 abbrev pub scene_within : Setting → (ℕ → Bool) → Cases → Scene
@@ -84,7 +84,7 @@ pub data Side : Type 0 where
   is_back : Direction → Side
 
 abbrev pub scene_across : Setting → Checks → (ℕ → ℕ) → ℕ → Scene
-scene_across set k rank d = scene_within set (lower rank (rank d)) (k.direction d)
+scene_across set k rank d = scene_within set (below set rank d) (k.direction d)
 
 abbrev pub mapping_of : Setting → Side → Direction → Walk (Unit {0})
 mapping_of set (is_ahead n) m = mapping_walk (here (nowhere_scene set)) m n
@@ -100,7 +100,7 @@ ArmsOf q w (is_back n) m both = WaysAreSound q w n.place both.backs (bodies_of m
 
 pub record CoveredDirection (set : Setting) (rank : ℕ → ℕ) (k : Checks) (d : ℕ) (m : Direction) : Type 0 where
   pub side : Side
-  pub met : AreMet set nobody (lower rank (rank d)) (k.direction d) (mapping_of set side m [] 0).notes
+  pub met : AreMet set nobody (below set rank d) (k.direction d) (mapping_of set side m [] 0).notes
   pub takes : (v : Value) → IsOf set m.parameter v → (s : Sized) × (k.takes d v ≡ Some s)
       × ((g : Integers) → OpensAs set.around.types set.past nobody g (bare_type m.parameter) v s)
   pub clauses : ClausesOf (scene_across set k rank d) side m

@@ -17,7 +17,7 @@ use Rattle.soundness_steps.specs.Works.{Work, Setting, Scene}
 use Rattle.soundness_steps.specs.States.{StateBelongs}
 use Rattle.soundness_steps.specs.Calls.{CallEnds, Enters, IsResult, SoundCalls}
 use Rattle.soundness_forms.specs.Worlds.{LetsAre}
-use Rattle.soundness_calls.specs.Premises.{CoreHolds, Covered, all_reached, own_of, own_type}
+use Rattle.soundness_calls.specs.Premises.{CoreHolds, Covered, own_of, own_type}
 
 -- a model at work, each definition read with the checks
 abbrev pub running : Setting → Checks → List Value → P.Setting Item
@@ -37,7 +37,7 @@ scene_of set x f h cases = record {
   numbers = own_of f;
   result = Some (own_type f f.result);
   cases = cases;
-  reached = all_reached;
+  reached = set.covered.direction;
   answer = Some (closed set.around.types (standing set.past h) x.types (own_type f f.result));
   may_fall = true;
   names = [];
@@ -54,7 +54,7 @@ pub record PartsHold (set : Setting) (k : Checks) (x : Work) (f : Function) : Ty
 abbrev pub FunctionsAreSound : Type 0
 FunctionsAreSound = (set : Setting) (k : Checks) (lets : List Value) (x : Work) (f : Function) → LetsAre set x set.around.lets lets
     → (calls : Calls Item) → ((active : Measures) (nu : Givens) (xs : List Item)
-    → SoundCalls set all_reached (world_of (running set k lets) calls active nu xs))
+    → SoundCalls set set.covered.direction (world_of (running set k lets) calls active nu xs))
     → Covered set k x f → PartsHold set k x f → (vs : List Value) (h : Integers) → Enters set x f vs h
     → (active : Measures) (place : Place) (before : Now Item) → StateBelongs set before.state
     → CallEnds set false before (IsResult set x f h)

@@ -29,16 +29,17 @@ use Rattle.call_arguments.specs.declared.aims.Aim.{Aim}
 use Rattle.call_arguments.specs.declared.aims.Aim.TheVariants as Aims
 use Rattle.expression_steps.specs.Parts.{Part}
 use Rattle.function_notes.specs.Functions.{arm_of, body_part, function_walk, measure_walk, written_walk}
-use Rattle.checked_meaning.specs.Checked.{Checks, checked}
+use Rattle.checked_meaning.specs.Checked.{Cases, Checks, Noted, checked}
 use Rattle.checked_meaning.specs.Items.{Item}
 use Rattle.value_laws.specs.Belonging.{Integers, standing}
 use Rattle.value_laws.specs.Known.{Point}
+use Rattle.call_fits.specs.Calls.{givens_at, own_variables}
 use Rattle.soundness_steps.specs.Works.{Work, Setting, Scene, here}
 use Rattle.soundness_steps.specs.Noted.{OpensAs}
 use Rattle.soundness_steps.specs.Covers.{AreMet}
 use Rattle.soundness_steps.specs.Steps.{Beside}
 use Rattle.soundness_steps.specs.Values.{AllAre, Belongs, IsMadeAs, IsWanted}
-use Rattle.soundness_steps.specs.Calls.{Enters, givens_at, inside, own_variables}
+use Rattle.soundness_steps.specs.Calls.{Enters, inside}
 use Rattle.soundness_forms.specs.Worlds.{Surrounds}
 
 -- ---- types under a function's own variables, which are the first
@@ -84,10 +85,19 @@ ClausesGrow q place entry ts r declared (arm ∷ arms) (body ∷ bodies) =
     → n ≤ (written_walk place (Some entry) (here q) ts once (Aims.Due r) declared arm body facts n).next)
     × ClausesGrow q place entry ts r declared arms bodies
 
--- the arms of clauses, of which there is at least one
+-- behind each node numbers are noted, be there none
+abbrev pub NotesAlways : Cases → Type 0
+NotesAlways cases = (k : ℕ) (v : Value) (noted : Noted) → (more : Noted) × (cases.notes k v noted ≡ Some more)
+
+-- where there is no clause, no walk notes the numbers of the parameters: they are noted all the same
+abbrev pub NotedAlone : Cases → List Arm → Type 0
+NotedAlone cases [] = NotesAlways cases
+NotedAlone cases (arm ∷ arms) = Unit {0}
+
+-- the arms of clauses
 abbrev pub ClausesHold : Scene → World Item → ℕ → List Typ → Reading → Bool → Core-F Core → Kind → Type 0
-ClausesHold q w entry ts r declared c (K.Clauses (arm ∷ arms)) =
-    ArmsAreSound q w c.place declared (arm ∷ arms) c.parts × ClausesGrow q c.place entry ts r declared (arm ∷ arms) c.parts
+ClausesHold q w entry ts r declared c (K.Clauses arms) =
+    NotedAlone q.cases arms × ArmsAreSound q w c.place declared arms c.parts × ClausesGrow q c.place entry ts r declared arms c.parts
 ClausesHold q w entry ts r declared c kind = ⊥
 
 abbrev pub CoreHolds : Scene → World Item → Function → Reading → Bool → Core → Type 0
@@ -109,16 +119,12 @@ pub record EntersAs (set : Setting) (k : Checks) (x : Work) (f : Function) (vs :
   pub is_there : k.enters x.function x.instance.place (givens_at h 0 f.variables) vs ≡ Some sizes
   pub are_right : (g : Integers) → OwnSame f h g → AllMade set x f g f.parameters vs sizes
 
--- a function's patterns reach all directions of mappings
-abbrev pub all_reached : ℕ → Bool
-all_reached d = true
-
--- where its instance is read: all that its walks note is met, its arguments come in at their types, and its constraint names its
--- own variables alone, each by its kind
+-- where its instance is read: all that its walks note is met, of directions of mappings those that are covered; its arguments come in at their types, and
+-- its constraint names its own variables alone, each by its kind
 pub record Covered (set : Setting) (k : Checks) (x : Work) (f : Function) : Type 0 where
   pub body : (nu : Givens) → all_agree x.instance.numbers nu ≡ true
-      → AreMet set x all_reached (k.function x.function x.instance.place nu) (function_walk set.around f [] 0).notes
+      → AreMet set x set.covered.direction (k.function x.function x.instance.place nu) (function_walk set.around f [] 0).notes
   pub measure : (nu : Givens) → all_agree x.instance.numbers nu ≡ true → (core : Core) → f.measure ≡ Some core
-      → AreMet set x all_reached (k.function x.function x.instance.place nu) (measure_walk set.around f core [] 0).notes
+      → AreMet set x set.covered.direction (k.function x.function x.instance.place nu) (measure_walk set.around f core [] 0).notes
   pub enters : (vs : List Value) (h : Integers) (c : Enters set x f vs h) → EntersAs set k x f vs h c
   pub constraint_stands : (h g : Integers) → OwnSame f h g → true_in (inside set f h) f.constraint ≡ true → true_in (standing set.past g) f.constraint ≡ true

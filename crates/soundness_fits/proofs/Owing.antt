@@ -1,14 +1,10 @@
 -- What conditions suffice for holds beside the walk that owes them.
-use Rattle.std.proofs.Common.{◌≡◌, ℕ, suc, ℤ, Bool, true, false, List, [], ◌∷◌, ◌++◌, map, length, Some, refl, sym, ap, ◌∙◌, subst}
-use Rattle.sail_base.specs.declared.kind.Kind.{Kind}
-use Rattle.sail_base.specs.declared.kind.Kind.TheVariants as K
+use Rattle.std.proofs.Common.{◌≡◌, ℕ, Bool, true, false, List, [], ◌∷◌, ◌++◌, map, length, refl, sym, ap, ◌∙◌, subst}
 use Rattle.sail_base.specs.declared.place.Place.{Place}
-use Rattle.sail_types.specs.Belongs.{Reading as Closed, assigned}
-use Rattle.sail_types.specs.Numbers.{Assignment, Positive, true_in}
+use Rattle.sail_types.specs.Belongs.{Reading as Closed}
+use Rattle.sail_types.specs.Numbers.{Positive}
 use Rattle.sail_types.specs.declared.numbers.Index.{Index}
 use Rattle.sail_types.specs.declared.numbers.Index.TheVariants as N
-use Rattle.sail_types.specs.declared.table.Parameter.{Parameter}
-use Rattle.sail_types.specs.declared.table.Types.{Types}
 use Rattle.sail_types.specs.declared.types.Typ.{Typ}
 use Rattle.sail_types.specs.declared.values.Value.{Value}
 use Rattle.value_indices.specs.declared.indices.Indices.{Indices}
@@ -33,7 +29,6 @@ use Rattle.soundness_steps.proofs.Points.{agree_on, behind}
 use Rattle.soundness_steps.specs.Works.{Scene}
 use Rattle.soundness_steps.specs.Noted.{EachNoted}
 use Rattle.soundness_steps.specs.Covers.{given_there}
-use Rattle.soundness_steps.specs.Calls as Steps
 use Rattle.soundness_steps.specs.Steps.{AllMet, Walks}
 use Rattle.soundness_steps.proofs.Steps.{walks_mean}
 use Rattle.soundness_forms.specs.Calls.{ArgumentsAre}
@@ -113,24 +108,6 @@ module _ (q : Scene) {n : ℕ} (f : Point n) where
 
 -- ---- what the callee's variables stand for, in the framework's words
 
-index_same : (kind : Kind) (v : ℕ) → Fits.variable_index kind v ≡ Steps.variable_index kind v
-index_same K.Int v = refl
-index_same K.Bool v = refl
-index_same K.Type v = refl
-
-own_same : (v : ℕ) (ps : List Parameter) → Fits.own_variables v ps ≡ Steps.own_variables v ps
-own_same v [] = refl
-own_same v (p ∷ ps) = λ j. index_same p.kind v j ∷ own_same (suc v) ps j
-
-given_same : (kind : Kind) (z : ℤ) → Fits.given_of kind z ≡ Steps.given_of kind z
-given_same K.Int z = refl
-given_same K.Bool z = refl
-given_same K.Type z = refl
-
-givens_same : (h : Integers) (v : ℕ) (ps : List Parameter) → Fits.givens_at h v ps ≡ Steps.givens_at h v ps
-givens_same h v [] = refl
-givens_same h v (p ∷ ps) = λ j. given_same p.kind (h v) j ∷ givens_same h (suc v) ps j
-
 there_same : (past : Positive) (g : Integers) (x : Index) → given_there past g x ≡ Fits.given_there (standing past g) x
 there_same past g (N.Number t) = refl
 there_same past g (N.Truth c) = refl
@@ -138,13 +115,6 @@ there_same past g (N.Truth c) = refl
 all_there : (past : Positive) (g : Integers) (xs : List Index) → map (given_there past g) xs ≡ map (Fits.given_there (standing past g)) xs
 all_there past g [] = refl
 all_there past g (x ∷ xs) = λ j. there_same past g x j ∷ all_there past g xs j
-
-belong_same : (types : Types) (mu : Assignment) (rs : List Closed) (ts : List Typ) (vs : List Value) → Fits.AllBelong types mu rs ts vs
-    → Steps.AllBelong types mu rs ts vs
-belong_same types mu rs [] [] h = tt
-belong_same types mu rs [] (v ∷ vs) h = absurd h
-belong_same types mu rs (t ∷ ts) [] h = absurd h
-belong_same types mu rs (t ∷ ts) (v ∷ vs) h = (h.0, belong_same types mu rs ts vs h.1)
 
 pub calls_fit_standing : StandingCallsFit
 calls_fit_standing fn places q n f facts place bs is vs arguments =
@@ -156,7 +126,6 @@ calls_fit_standing fn places q n f facts place bs is vs arguments =
     let there = arguments_there q f bs fn.parameters is vs arguments in
     let h : Integers = Fits.integers_there (standing past f.integers) js in
     let types_at : Integers → List Closed = λ g. map (closed types (standing past g) own) qs in
-    let inside_same : Fits.inside past fn.variables h ≡ Steps.inside q.set fn h = ap (assigned (standing past h)) (own_same 0 fn.variables) in
     let owed : Walks q n f facts (owe_fit place (call_conditions (fits types) fn js qs bs is)) (λ m p t.
     (g : Integers) → Agree p g → Fits.Enters types past own fn js qs vs h g × (types_at g ≡ types_at f.integers)) =
     suffices_walks {q = q} place (call_conditions (fits types) fn js qs bs is)
@@ -167,11 +136,10 @@ calls_fit_standing fn places q n f facts place bs is vs arguments =
     record {
       integers = h;
       types = types_or_own (types_at p.integers) own;
-      same = λ g a. (e g a).0.same ∙ inside_same;
+      same = λ g a. (e g a).0.same;
       same_types = λ g a. ap (λ cs. types_or_own cs own) ((e g a).1 ∙ sym first.1);
-      given = λ g a. all_there past g js ∙ (e g a).0.given ∙ givens_same h 0 fn.variables;
-      belong = belong_same types (Steps.inside q.set fn h) (types_or_own (types_at p.integers) own) fn.parameters vs
-          (subst (λ mu. Fits.AllBelong types mu (types_or_own (types_at p.integers) own) fn.parameters vs) inside_same first.0.belong);
-      constraint = ap (λ mu. true_in mu fn.constraint) (sym inside_same) ∙ first.0.constraint;
-      are_given = first.0.are_given ∙ ap Some (givens_same h 0 fn.variables);
+      given = λ g a. all_there past g js ∙ (e g a).0.given;
+      belong = first.0.belong;
+      constraint = first.0.constraint;
+      are_given = first.0.are_given;
     }) owed

@@ -17,9 +17,10 @@ use Rattle.call_arguments.specs.Callees.{is_closed, numbers_from, types_from}
 use Rattle.call_arguments.specs.Placing.{call_conditions}
 use Rattle.value_laws.specs.Belonging.{Integers, standing, closed, types_or_own}
 use Rattle.value_laws.specs.Known.{Point, Agree}
+use Rattle.call_fits.specs.Calls.{AllBelong, givens_at}
 use Rattle.soundness_steps.specs.Works.{Work, Setting, Scene}
 use Rattle.soundness_steps.specs.Covers.{given_there}
-use Rattle.soundness_steps.specs.Calls.{AllBelong, givens_at, inside}
+use Rattle.soundness_steps.specs.Calls.{inside}
 use Rattle.soundness_steps.specs.Steps.{Walks}
 use Rattle.soundness_steps.specs.Values.{Has, Belongs}
 

@@ -1,29 +1,20 @@
 -- What is known of calls inside a piece: a call on values that belong to the parameters ends well, and what it gives belongs to the result.
-use Rattle.std.specs.Prelude.{◌≡◌, ℕ, suc, ℤ, pos, int_le, Bool, true, false, List, [], ◌∷◌, length, slice_get, Some}
-use Rattle.sail_base.specs.declared.kind.Kind.{Kind}
-use Rattle.sail_base.specs.declared.kind.Kind.TheVariants as K
+use Rattle.std.specs.Prelude.{◌≡◌, ℕ, Bool, true, false, List, ◌∷◌, length, slice_get, Some}
 use Rattle.sail_base.specs.declared.place.Place.{Place}
-use Rattle.sail_types.specs.Belongs.{Reading as Closed, reading, no_readings, assigned, belongs}
+use Rattle.sail_types.specs.Belongs.{reading, no_readings, assigned, belongs}
 use Rattle.sail_types.specs.Numbers.{Assignment, true_in}
-use Rattle.sail_types.specs.Places.{Given, an_int, a_bool}
-use Rattle.sail_types.specs.Sums.{variable}
-use Rattle.sail_types.specs.declared.numbers.Con.TheVariants as C
-use Rattle.sail_types.specs.declared.numbers.Index.{Index}
-use Rattle.sail_types.specs.declared.numbers.Index.TheVariants as N
-use Rattle.sail_types.specs.declared.table.Parameter.{Parameter}
-use Rattle.sail_types.specs.declared.table.Types.{Types}
 use Rattle.sail_types.specs.declared.types.Typ.{Typ}
 use Rattle.sail_types.specs.declared.values.Value.{Value}
 use Rattle.model_state.specs.declared.cause.Cause.{Cause}
 use Rattle.sail_core.specs.declared.model.Direction.{Direction}
 use Rattle.sail_core.specs.declared.model.Function.{Function}
 use Rattle.sail_core.specs.Making.{World}
-use Rattle.sail_core.specs.Numbers.{Givens, givens_of, all_agree}
+use Rattle.sail_core.specs.Numbers.{givens_of, all_agree}
 use Rattle.sail_core.specs.Run as R
 use Rattle.sail_core.specs.Run.{Now, Ended}
-use Rattle.checked_meaning.specs.Fits.{AllFit}
 use Rattle.checked_meaning.specs.Items.{Item, fixed_typ}
 use Rattle.value_laws.specs.Belonging.{Integers, standing, over}
+use Rattle.call_fits.specs.Calls.{AllBelong, givens_at, own_variables}
 use Rattle.soundness_steps.specs.Works.{Work, Setting}
 use Rattle.soundness_steps.specs.States.{nothing_stands, StateBelongs, IsThrown}
 
@@ -42,36 +33,12 @@ pub data CallEnds (set : Setting) (may_fall : Bool) (before : Now Item) {A : Typ
 
 -- ---- functions: arguments that belong to the parameters, for numbers that make the constraint true and are those of a covered instance
 
-abbrev pub variable_index : Kind → ℕ → Index
-variable_index K.Bool v = N.Truth (C.Holds v)
-variable_index kind v = N.Number (variable v)
-
--- the variables of a function, as the walk over its body has them
-abbrev pub own_variables : ℕ → List Parameter → List Index
-own_variables v [] = []
-own_variables v (p ∷ ps) = variable_index p.kind v ∷ own_variables (suc v) ps
-
+-- what they stand for
 abbrev pub inside : Setting → Function → Integers → Assignment
 inside set f h = assigned (standing set.past h) (own_variables 0 f.variables)
 
--- their numbers
-abbrev pub given_of : Kind → ℤ → Given
-given_of K.Bool z = a_bool (int_le (pos 1) z)
-given_of kind z = an_int z
-
-abbrev pub givens_at : Integers → ℕ → List Parameter → Givens
-givens_at h v [] = []
-givens_at h v (p ∷ ps) = given_of p.kind (h v) ∷ givens_at h (suc v) ps
-
-abbrev pub AllBelong : Types → Assignment → List Closed → List Typ → List Value → Type 0
-AllBelong types mu rs [] [] = Unit {0}
-AllBelong types mu rs (t ∷ ts) (v ∷ vs) = (belongs types v (over mu t rs) ≡ true) × AllBelong types mu rs ts vs
-AllBelong types mu rs ts vs = ⊥
-
 pub record Enters (set : Setting) (x : Work) (f : Function) (vs : List Value) (h : Integers) : Type 0 where
-  pub is_covered : set.covered x ≡ true
-  -- values of its Type variables have the sizes of its instance
-  pub own_fits : AllFit set.around.types x.types x.own
+  pub is_covered : set.covered.function x ≡ true
   pub is_it : slice_get set.around.functions x.function ≡ Some f
   pub belong : AllBelong set.around.types (inside set f h) x.types f.parameters vs
   pub constraint : true_in (inside set f h) f.constraint ≡ true
@@ -96,7 +63,7 @@ pub record SoundCalls (set : Setting) (reached : ℕ → Bool) (w : World Item) 
   pub call : (place : Place) (x : Work) (f : Function) (vs : List Value) (h : Integers) → Enters set x f vs h
       → (before : Now Item) → StateBelongs set before.state
       → CallEnds set false before (IsResult set x f h) (w.call place x.function (Some x.instance) vs before)
-  pub enter : (d : ℕ) (m : Direction) (v : Value) → slice_get set.around.directions d ≡ Some m → IsOf set m.parameter v
+  pub enter : (d : ℕ) (m : Direction) (v : Value) → set.covered.direction d ≡ true → slice_get set.around.directions d ≡ Some m → IsOf set m.parameter v
       → (before : Now Item) → StateBelongs set before.state → CallEnds set true before (IsOf set m.result) (w.enter d v before)
   pub way : (d : ℕ) (m : Direction) (x : Item) → reached d ≡ true → slice_get set.around.directions d ≡ Some m → IsOf set m.parameter x.val
       → (before : Now Item) → StateBelongs set before.state → CallEnds set true before (IsGiven set m) (w.way d x before)

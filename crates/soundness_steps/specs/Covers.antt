@@ -24,8 +24,7 @@ use Rattle.value_indices.specs.declared.notes.Made.{Made}
 use Rattle.value_indices.specs.declared.notes.Made.TheVariants as Makes
 use Rattle.value_indices.specs.Steps.{Note, goal_note, size_note, made_note, call_note, way_note, given_note, name_note, conditions}
 use Rattle.checked_meaning.specs.Checked.{Noted, Cases}
-use Rattle.checked_meaning.specs.Fits.{AllFit}
-use Rattle.value_laws.specs.Belonging.{Integers, closed, has, standing}
+use Rattle.value_laws.specs.Belonging.{Integers, has, standing}
 use Rattle.value_laws.specs.Known.{AllTrue}
 use Rattle.size_laws.specs.Settled.{Settled, of_reading}
 use Rattle.soundness_steps.specs.Works.{Work, Setting}
@@ -75,16 +74,13 @@ module _ (set : Setting) (work : Work) where
     pub is_there : found ≡ Some typ
     pub is_right : MadeAs set.around.types set.past work f made v typ
 
-  -- there is an instance, it is covered whatever its Type variables stand for, its numbers and sized types are those of the call, and values of what
-  -- the call gives to Type variables have those sizes
+  -- there is an instance, it is covered whatever its Type variables stand for, and its numbers and sized types are those of the call
   pub record Leads (f : Integers) (function : ℕ) (js : List Index) (qs : List Reading) (found : Option Instance) : Type 0 where
     pub instance : Instance
     pub is_there : found ≡ Some instance
     pub agree : AllAgree set.past f instance.numbers js
     pub is_covered : (types : List Closed)
-        → set.covered (record { function = function; instance = instance; own = map (type_sized set.around.types work.own f) qs; types = types }) ≡ true
-    pub own_fit : AllFit set.around.types (map (closed set.around.types (standing set.past f) work.types) qs)
-        (map (type_sized set.around.types work.own f) qs)
+        → set.covered.function (record { function = function; instance = instance; own = map (type_sized set.around.types work.own f) qs; types = types }) ≡ true
 
   -- more numbers are noted, and nothing else is known than before but that
   pub record Notes (f : Integers) (facts : List Fact) (vs : List ℕ) (found : Option Noted) : Type 0 where
@@ -100,6 +96,7 @@ module _ (set : Setting) (work : Work) where
   abbrev pub CoversCall : Cases → List Fact → ℕ → List Indices → Callee → List Index → List Reading → Type 0
   CoversCall cases facts k operands (D.Function function) js qs = (f : Integers) (noted : Noted) → IsSo set.past work noted f facts
       → (ss : List Sized) → AreSized f operands ss → Leads f function js qs (cases.calls k ss noted)
+  CoversCall cases facts k operands (D.Converts d) js qs = (f : Integers) (noted : Noted) → IsSo set.past work noted f facts → set.covered.direction d ≡ true
   CoversCall cases facts k operands callee js qs = Unit {0}
 
   abbrev pub IsMet : (ℕ → Bool) → Cases → Note → Type 0
@@ -110,7 +107,7 @@ module _ (set : Setting) (work : Work) where
       → (ss : List Sized) → AreSized f operands ss → (v : Value) → is_made set.around.types set.past work f made v ≡ true
       → HasCase f made v (cases.makes k ss v noted)
   IsMet reached cases (call_note facts place k operands callee js qs) = CoversCall cases facts k operands callee js qs
-  IsMet reached cases (way_note facts d) = reached d ≡ true
+  IsMet reached cases (way_note facts d) = (f : Integers) (noted : Noted) → IsSo set.past work noted f facts → reached d ≡ true
   IsMet reached cases (given_note facts k i) = (f : Integers) (noted : Noted) → IsSo set.past work noted f facts
       → (v : Value) → has set.around.types (standing set.past f) work.types i v ≡ true → Notes f facts (variables_given i) (cases.notes k v noted)
   IsMet reached cases (name_note v name) = Unit {0}

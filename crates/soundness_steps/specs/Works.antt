@@ -21,13 +21,18 @@ pub record Work : Type 0 where
 abbrev pub nobody : Work
 nobody = record { function = 0; instance = record { place = 0; numbers = [] }; own = []; types = [] }
 
+-- the functions at work and the directions of mappings that instances cover
+pub record Coverage : Type 0 where
+  pub function : Work → Bool
+  pub direction : ℕ → Bool
+
 -- what stays the same in all runs of a model by a hart: what the walk knows of the model, the integer that powers past the largest are taken for,
--- the hart, and the instances that are covered
+-- the hart, and what is covered
 pub record Setting : Type 0 where
   pub around : Around
   pub past : Positive
   pub hart : ℕ
-  pub covered : Work → Bool
+  pub covered : Coverage
 
 -- a name in scope: one that a pattern binds keeps its item; a `var` keeps a type, the numbers of which are those of the moment at which it was
 -- declared

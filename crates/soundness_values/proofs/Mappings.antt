@@ -31,7 +31,7 @@ use Rattle.value_indices.specs.declared.indices.Reading.TheVariants as Q
 use Rattle.value_indices.specs.declared.notes.Fact.{Fact}
 use Rattle.value_indices.specs.declared.notes.Made.TheVariants as Makes
 use Rattle.value_indices.specs.Opening.{opened}
-use Rattle.value_indices.specs.Steps.{Walk, bind, call_note, give, size_note}
+use Rattle.value_indices.specs.Steps.{Walk, bind, call_note, give, note, size_note}
 use Rattle.value_fits.specs.Fitting.{owe_fit, owe_made}
 use Rattle.fitting_laws.proofs.Counted.{Counts, fits_count}
 use Rattle.call_fits.proofs.Below.{SameBelow}
@@ -62,7 +62,7 @@ use Rattle.soundness_steps.specs.States.{AllKept, Sound, nothing_stands}
 use Rattle.soundness_steps.specs.Works.{Scene, Setting, Work, here}
 use Rattle.soundness_steps.specs.Steps.{Beside, EndsWell, Grows, Stands, Walks, no_walk, well_given, well_stopped, well_thrown}
 use Rattle.soundness_steps.specs.Values.{AimSteady, Belongs, Comes, Is, IsMet, IsWanted}
-use Rattle.soundness_steps.proofs.Steps.{binds, notes, runs_as, runs_then, walks_mean, walks_then}
+use Rattle.soundness_steps.proofs.Steps.{binds, runs_as, runs_then, walks_mean, walks_then}
 use Rattle.soundness_forms.specs.EachKind.{KindFine, node}
 use Rattle.soundness_forms.specs.Forms.{AllFine, FitsSuffice, at, z}
 use Rattle.soundness_forms.specs.Worlds.{Surrounds}
@@ -181,10 +181,10 @@ module _ (q : Scene) (w : World Item) (scope : Scope) (place : Place) (k d : ℕ
   enters_well cause before e stands ok (call_stops c now) = well_stopped c now
 
   enters : (calls : SoundCalls q.set q.reached w) (m : Direction) → slice_get q.set.around.directions d ≡ Some m → (v : Value) → IsOf q.set m.parameter v
-      → {n : ℕ} {f : Point n} {facts : List Fact}
+      → q.set.covered.direction d ≡ true → {n : ℕ} {f : Point n} {facts : List Fact}
       → Beside q n f facts no_walk (tick then λ t. w.enter d v or_else stops (MatchFailure place)) (λ j g t u. IsOf q.set m.result u)
   unfolding give
-  enters calls m is_it v h {n} {f} {facts} = record { run = λ now stands met ok. by now stands ok now.ticks }
+  enters calls m is_it v h covered {n} {f} {facts} = record { run = λ now stands met ok. by now stands ok now.ticks }
     where
       by : (now : Now Item) → Stands q.set q.work now.opened f facts → Sound q now → (t : ℕ)
           → EndsWell q f n facts (λ p u. IsOf q.set m.result u) (goes_on (tick_at t now) (λ x. w.enter d v or_else stops (MatchFailure place)))
@@ -192,7 +192,20 @@ module _ (q : Scene) (w : World Item) (scope : Scope) (place : Place) (k d : ℕ
       by now stands ok (suc t) =
           let left = record now { ticks = t } in
           let sound : Sound q left = record { state = ok.state; names = ok.names } in
-          enters_well (MatchFailure place) left (w.enter d v left) stands sound (calls.enter d m v is_it h left ok.state)
+          enters_well (MatchFailure place) left (w.enter d v left) stands sound (calls.enter d m v covered is_it h left ok.state)
+
+  -- where it is called, it is covered
+  is_covered : {n : ℕ} {f : Point n} {facts : List Fact} (is : List Indices)
+      → Walks q n f facts (noted_call place k is (D.Converts d) [] []) (λ j g t. q.set.covered.direction d ≡ true)
+  unfolding note
+  is_covered {f} is = record {
+    go = λ noted stands met. record {
+      point = f;
+      later = no_later f;
+      stands = stands;
+      holds = met.0 f.integers noted (stands.there f.integers (same f));
+    };
+  }
 
   -- the argument belongs to what the mapping takes
   owes_it : (closed : MappingsClosed q.set) (m : Direction) → slice_get q.set.around.directions d ≡ Some m → {n : ℕ} {f : Point n} {facts : List Fact}
@@ -218,10 +231,10 @@ module _ (q : Scene) (w : World Item) (scope : Scope) (place : Place) (k d : ℕ
   applied closed calls m is_it b i x h met =
       walks_then (λ t. bind (noted_call place k (i ∷ []) (D.Converts d) [] []) (λ u. made_opened place k (i ∷ []) (Q.Of m.result [] [])))
       (owes_it closed m is_it b i x h met) (λ j g fs t l c.
-      walks_then (λ u. made_opened place k (i ∷ []) (Q.Of m.result [] [])) (notes (λ facts. call_note facts place k (i ∷ []) (D.Converts d) [] []))
+      walks_then (λ u. made_opened place k (i ∷ []) (Q.Of m.result [] [])) (is_covered (i ∷ []))
       (λ j2 g2 fs2 u l2 e.
       runs_then (made_opened place k (i ∷ []) (Q.Of m.result [] [])) (λ v. (checked q.set.around.types q.cases).make k (x ∷ []) v)
-      (enters calls m is_it x.val c) (λ g3 v l3 o.
+      (enters calls m is_it x.val c e) (λ g3 v l3 o.
       made_opens place k (i ∷ []) (Q.Of m.result [] []) false M.Unnamed (x ∷ []) v ((is_on (later_on l (later_on l2 l3)) h).typ, tt)
       (nameless_wanted q.set q.work g3 m.result).0
       (λ p a. nameless_of q.set q.work p m.result v (closed d m is_it).1 ∙ o))))

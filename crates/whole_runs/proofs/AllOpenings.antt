@@ -1,5 +1,5 @@
 -- By induction: the values so far are those of the names so far, and registers belong to their types.
-use Rattle.std.proofs.Common.{◌≡◌, sym, refl, subst, ℕ, Bool, suc, true, List, [], ◌∷◌, ◌++◌, map, Option, Some, None, slice_get}
+use Rattle.std.proofs.Common.{◌≡◌, sym, refl, subst, ℕ, suc, true, List, [], ◌∷◌, ◌++◌, map, Option, Some, None, slice_get}
 use Rattle.sail_types.specs.Belongs.{belongs, no_readings, reading}
 use Rattle.sail_types.specs.Numbers.{Positive}
 use Rattle.sail_types.specs.declared.values.Value.{Value}
@@ -18,7 +18,7 @@ use Rattle.constraint_gen.specs.Models.{around_with, lets_behind, names_of, top_
 use Rattle.checked_meaning.specs.Checked.{Cases, Checks, checked, checking}
 use Rattle.checked_meaning.specs.Items.{Item}
 use Rattle.value_laws.specs.Known.{Point}
-use Rattle.soundness_steps.specs.Works.{Setting, Work, nobody}
+use Rattle.soundness_steps.specs.Works.{Coverage, Setting, nobody}
 use Rattle.soundness_steps.specs.States.{StateBelongs, nothing_stands}
 use Rattle.soundness_forms.specs.Patterns.{Binds}
 use Rattle.soundness_forms.specs.Worlds.{LetsAre}
@@ -31,7 +31,7 @@ use Rattle.whole_runs.proofs.Lets.{lets_end}
 use Rattle.whole_runs.proofs.States.{FitsThere, state_set}
 use Rattle.whole_runs.proofs.Told.{names_told}
 
-module _ (m : CoreModel) (past : Positive) (covered : Work → Bool) where
+module _ (m : CoreModel) (past : Positive) (covered : Coverage) where
   abbrev set : Setting
   set = pure_setting m past covered [] []
 
@@ -56,7 +56,7 @@ module _ (m : CoreModel) (past : Positive) (covered : Work → Bool) where
   blank_belongs lets = record { harts = tt; at_work = tt }
 
   names_are : (names : List TopLevel) (vs : List Value) (cases : Cases) (o : Opening) (arm : Arm)
-      → LetStands (record { model = m; past = past; covered = covered; registers = []; names = names; values = vs }) cases o arm
+      → LetStands (record { model = m; past = past; covered = covered; names = names; values = vs }) cases o arm
       → (p : Point (let_found m [] names o arm [] 0).next) (locals : List (Local Item))
       → Binds (pure_setting m past covered [] names) nobody p (let_found m [] names o arm [] 0).value locals
       → AreTold (pure_setting m past covered [] names) nobody [] p (let_found m [] names o arm [] 0).value locals
@@ -64,8 +64,8 @@ module _ (m : CoreModel) (past : Positive) (covered : Work → Bool) where
   names_are names vs cases o arm s p locals binds told =
       let found : List Bound = (let_found m [] names o arm [] 0).value in
       let values : List Value = map (λ (l : Local Item). l.held.val) locals in
-      subst (λ (bs : List Bound). Are (map top_level bs) values) s.same_names (before names (map top_level found) values
-      (names_told (pure_setting m past covered [] names) (let_found m [] names o arm [] 0).next p found locals s.apart binds told))
+      before names (map top_level found) values
+      (names_told (pure_setting m past covered [] names) (let_found m [] names o arm [] 0).next p found locals s.apart binds told)
 
   both : (names others : List TopLevel) (vs us : List Value) → Are names vs → Are others us → Are (names ++ others) (vs ++ us)
   both [] others [] us a b = b
@@ -96,7 +96,7 @@ module _ (m : CoreModel) (past : Positive) (covered : Work → Bool) where
         subst (λ (y : Register). belongs m.types v (reading y.typ (nothing_stands past) no_readings) ≡ true) (sym (is x (within r x e))) h
 
     one_ends : (names : List TopLevel) (vs : List Value) → Are names vs → (cases : Cases) (o : Opening) (kind : OpeningKind) → o.kind ≡ kind
-        → KindStands (record { model = m; past = past; covered = covered; registers = []; names = names; values = vs }) cases o kind
+        → KindStands (record { model = m; past = past; covered = covered; names = names; values = vs }) cases o kind
         → OpeningEnds (Adds (names_of (around_with m names) o kind)) (opening_run (checked m.types cases) vs o (begun 0 blank))
     one_ends names vs are cases o (O.Let arm) is s =
         as_adds (names_of (around_with m names) o (O.Let arm)) _
@@ -123,7 +123,7 @@ module _ (m : CoreModel) (past : Positive) (covered : Work → Bool) where
         next (vs ++ a.values) (a.change state) (both names others vs a.values are h.are) (h.keeps state ok)
     after names others vs are all e (opening_stops cause now) state ok more next = tt
 
-    each_ends : (k : Checks) → k.types ≡ m.types → (i : ℕ) (names : List TopLevel) (os : List Opening) → OpeningsStand m past covered [] k i names os
+    each_ends : (k : Checks) → k.types ≡ m.types → (i : ℕ) (names : List TopLevel) (os : List Opening) → OpeningsStand m past covered k i names os
         → (vs : List Value) → Are names vs → (state : RunState) → StateBelongs full state
         → OpenedRight m past covered registers (lets_behind (around_with m names) os).lets (openings_from (checking k) i os vs state)
     each_ends k same i names [] s vs are state ok = (are, ok)

@@ -15,16 +15,14 @@ use Rattle.pattern_leaves.specs.declared.names.TopLevel.{TopLevel}
 use Rattle.function_notes.specs.Functions.{mapping_walk}
 use Rattle.constraint_gen.specs.Models.{around_of, around_with, lets_behind, names_of}
 use Rattle.checked_meaning.specs.Checked.{Cases, Checks, checking}
-use Rattle.checked_meaning.specs.Fits.{AllFit}
 use Rattle.met_notes.specs.Met.{WalksAreMet, pairs}
 use Rattle.met_notes.proofs.Whole.{notes_met}
-use Rattle.soundness_steps.specs.Works.{Setting, Work, nobody}
+use Rattle.soundness_steps.specs.Works.{Coverage, Setting, Work, nobody}
 use Rattle.soundness_steps.specs.Covers.{AreMet}
 use Rattle.soundness_forms.specs.Worlds.{LetsAre}
 use Rattle.soundness_calls.specs.Calls.{CoveredModel}
-use Rattle.soundness_calls.specs.Directions.{Side, is_ahead, is_back, lower, mapping_of}
+use Rattle.soundness_calls.specs.Directions.{Side, below, is_ahead, is_back, mapping_of}
 use Rattle.soundness_calls.specs.Events.{IsOfModel, checks_of}
-use Rattle.soundness_calls.specs.Premises.{all_reached}
 use Rattle.soundness_calls.proofs.Events.{events_sound}
 use Rattle.whole_runs.specs.Initials.{pure_around, pure_setting}
 use Rattle.whole_runs.specs.AllOpenings.{OpenedRight}
@@ -46,6 +44,10 @@ types_kept m lets (o ∷ os) = types_kept m (lets ++ names_of (around_with m let
 pub functions_kept : (m : CoreModel) (lets : List TopLevel) (os : List Opening) → (lets_behind (around_with m lets) os).functions ≡ m.functions
 functions_kept m lets [] = refl
 functions_kept m lets (o ∷ os) = functions_kept m (lets ++ names_of (around_with m lets) o o.kind) os
+
+pub registers_kept : (m : CoreModel) (lets : List TopLevel) (os : List Opening) → (lets_behind (around_with m lets) os).registers ≡ m.registers
+registers_kept m lets [] = refl
+registers_kept m lets (o ∷ os) = registers_kept m (lets ++ names_of (around_with m lets) o o.kind) os
 
 directions_kept : (m : CoreModel) (lets : List TopLevel) (os : List Opening) → (lets_behind (around_with m lets) os).directions ≡ m.directions
 directions_kept m lets [] = refl
@@ -85,7 +87,7 @@ pairs_at (a ∷ b ∷ ds) (suc (suc d)) n side e k = pairs_at ds d n side e k
 no_register : (r : ℕ) (x : Register) → slice_get [] r ≡ Some x → ⊥
 no_register r x e = cc
 
-module _ (m : CoreModel) (walks : WalksAreMet m (around_of m)) (past : Positive) (hart : ℕ) (covered : Work → Bool) (k : Checks) (rank : ℕ → ℕ)
+module _ (m : CoreModel) (walks : WalksAreMet m (around_of m)) (past : Positive) (hart : ℕ) (covered : Coverage) (k : Checks) (rank : ℕ → ℕ)
     (covers : Covers (setting_in m past hart covered) m k rank) (found : IsFound (setting_in m past hart covered) m)
     (stands : Stands (setting_in m past hart covered) m k rank) (end : AllEnd m k) where
   abbrev set : Setting
@@ -93,18 +95,18 @@ module _ (m : CoreModel) (walks : WalksAreMet m (around_of m)) (past : Positive)
 
   -- ---- functions
 
-  function_stands : (x : Work) (f : Function) → set.covered x ≡ true → AllFit set.around.types x.types x.own
-      → slice_get set.around.functions x.function ≡ Some f → S.FunctionStands set k x f
-  function_stands x f is own at =
+  function_stands : (x : Work) (f : Function) → set.covered.function x ≡ true → slice_get set.around.functions x.function ≡ Some f
+      → S.FunctionStands set k x f
+  function_stands x f is at =
       let there : slice_get m.functions x.function ≡ Some f =
       subst (λ fs. slice_get fs x.function ≡ Some f) (functions_kept m [] m.openings) at in
-      let c : CoversFunction set k x f = covers.functions x f is own there in
+      let c : CoversFunction set k x f = covers.functions x f is there in
       let s : FunctionStands set k x f = stands.functions x f is there in
       record {
         covered = record {
-          body = λ nu agree. walks.function x.function f there set x all_reached (k.function x.function x.instance.place nu) (c.body nu agree);
+          body = λ nu agree. walks.function x.function f there set x set.covered.direction (k.function x.function x.instance.place nu) (c.body nu agree);
           measure = λ nu agree core e.
-              walks.measure x.function f there core e set x all_reached (k.function x.function x.instance.place nu) (c.measure nu agree core e);
+              walks.measure x.function f there core e set x set.covered.direction (k.function x.function x.instance.place nu) (c.measure nu agree core e);
           enters = c.enters;
           constraint_stands = constraint_stands set f (found.constraints x.function f there);
         };
@@ -126,16 +128,17 @@ module _ (m : CoreModel) (walks : WalksAreMet m (around_of m)) (past : Positive)
   direction_there : (d : ℕ) (n : Direction) → slice_get set.around.directions d ≡ Some n → slice_get m.directions d ≡ Some n
   direction_there d n at = subst (λ ds. slice_get ds d ≡ Some n) (directions_kept m [] m.openings) at
 
-  direction_stands : (d : ℕ) (n : Direction) → slice_get set.around.directions d ≡ Some n → S.DirectionStands set rank k d n
-  direction_stands d n at =
+  direction_stands : (d : ℕ) (n : Direction) → set.covered.direction d ≡ true → slice_get set.around.directions d ≡ Some n
+      → S.DirectionStands set rank k d n
+  direction_stands d n is at =
       let there : slice_get m.directions d ≡ Some n = direction_there d n at in
       let side = found.sides d n there in
-      let c : CoversDirection set rank k d n side.0 = covers.directions d n side.0 there side.1 in
+      let c : CoversDirection set rank k d n side.0 = covers.directions d n side.0 is there side.1 in
       let s : DirectionStands set rank k d n side.0 = stands.directions d n side.0 there side.1 in
       record {
         side = side.0;
-        met = side_met (lower rank (rank d)) (k.direction d) side.0 n
-            (walks.mapping (half d) (pair_of side.0 n) (pairs_at m.directions d n side.0 there side.1) set nobody (lower rank (rank d)) (k.direction d)
+        met = side_met (below set rank d) (k.direction d) side.0 n
+            (walks.mapping (half d) (pair_of side.0 n) (pairs_at m.directions d n side.0 there side.1) set nobody (below set rank d) (k.direction d)
             c.read);
         takes = c.takes;
         model = s.model;
@@ -165,7 +168,7 @@ module _ (m : CoreModel) (walks : WalksAreMet m (around_of m)) (past : Positive)
   lets_stand : (x : Work) → LetsAre set x set.around.lets (lets_of (checking (checks_of m k)) m)
   lets_stand x =
       let names : List TopLevel = (around_of m).lets in
-      let opens = openings_stand m past covered [] (checks_of m k) walks covers.openings stands.openings in
+      let opens = openings_stand m past covered (checks_of m k) walks covers.openings stands.openings in
       let right : LetsAre (pure_setting m past covered [] []) nobody names end.0 =
       (subst (OpenedRight m past covered [] names) end.2
       (openings_sound m past covered [] (λ r x e. absurd (no_register r x e)) (checks_of m k) refl opens (nowhere m.types)

@@ -1,5 +1,5 @@
 -- Registers of all harts belong to their types, whatever hart is at work; and what each part of a run keeps.
-use Rattle.std.proofs.Common.{◌≡◌, ◌∙◌, sym, refl, subst, arith, ◌<◌, ℕ, zero, suc, Bool, false, List, [], ◌∷◌, length, Option, Some, slice_get}
+use Rattle.std.proofs.Common.{◌≡◌, ◌∙◌, sym, refl, subst, arith, ◌<◌, ℕ, zero, suc, false, List, [], ◌∷◌, length, Option, Some, slice_get}
 use Rattle.sail_types.specs.Numbers.{Positive}
 use Rattle.sail_types.specs.declared.values.Value.TheVariants as Val
 use Rattle.model_state.specs.Folds.{after_step, resting, set_rests}
@@ -10,14 +10,13 @@ use Rattle.model_state.specs.declared.state.Hart.{Hart}
 use Rattle.sail_core.specs.Start.{or_nothing}
 use Rattle.sail_core.specs.Steady.{Keeping}
 use Rattle.sail_core.specs.declared.model.CoreModel.{CoreModel}
-use Rattle.soundness_steps.specs.Works.{Setting, Work}
+use Rattle.soundness_steps.specs.Works.{Coverage, Setting}
 use Rattle.soundness_steps.specs.States.{AllHarts, AreRegisters, StateBelongs, registers_of}
 use Rattle.whole_runs.specs.Initials.{pure_setting}
 use Rattle.whole_runs.proofs.States.{harts_in}
 use Rattle.whole_runs.specs.Never.{setting_in}
-use Rattle.whole_runs.proofs.OpeningsStand.{registers_kept}
-use Rattle.whole_runs.proofs.Events.{types_kept}
-use Rattle.whole_runs.specs.Safe.{IsFit}
+use Rattle.whole_runs.proofs.Events.{registers_kept, types_kept}
+use Rattle.whole_runs.specs.Safe.{IsFit, nothing_covered}
 
 -- ---- a hart that rests has the registers of before
 
@@ -34,7 +33,7 @@ rested_count (suc hart) (x ∷ hs) = λ j. suc (rested_count hart hs j)
 module _ (m : CoreModel) (past : Positive) (count : ℕ) where
   rest_fit : (hart : ℕ) (state : RunState) → IsFit m past count state → IsFit m past count (set_rests hart state)
   rest_fit hart state h = record {
-    registers = rested_harts (pure_setting m past (λ x. false) m.registers []) hart state.harts h.registers;
+    registers = rested_harts (pure_setting m past nothing_covered m.registers []) hart state.harts h.registers;
     harts = rested_count hart state.harts ∙ h.harts;
   }
 
@@ -52,12 +51,12 @@ at_hart set (x ∷ hs) (suc hart) low h = at_hart set hs hart (omega arith) h.1
 
 module _ (m : CoreModel) (past : Positive) (count : ℕ) where
   abbrev pure : Setting
-  pure = pure_setting m past (λ x. false) m.registers []
+  pure = pure_setting m past nothing_covered m.registers []
 
   there_in : (hart : ℕ) → hart < count → (state : RunState) → IsFit m past count state → hart < length state.harts
   there_in hart low state h = subst (λ n. hart < n) (sym h.harts) low
 
-  pub at_start : (covered : Work → Bool) → 0 < count → (state : RunState) → IsFit m past count state
+  pub at_start : (covered : Coverage) → 0 < count → (state : RunState) → IsFit m past count state
       → StateBelongs (pure_setting m past covered m.registers []) state
   at_start covered low state h =
       let all : AllHarts (pure_setting m past covered m.registers []) state.harts =
@@ -65,14 +64,14 @@ module _ (m : CoreModel) (past : Positive) (count : ℕ) where
       record { harts = all; at_work = at_hart (pure_setting m past covered m.registers []) state.harts 0 (there_in 0 low state h) all }
 
   -- behind openings
-  pub behind_start : (covered : Work → Bool) (state : RunState) → StateBelongs (pure_setting m past covered m.registers []) state
+  pub behind_start : (covered : Coverage) (state : RunState) → StateBelongs (pure_setting m past covered m.registers []) state
       → length state.harts ≡ count → IsFit m past count state
   behind_start covered state h long = record {
     registers = harts_in (pure_setting m past covered m.registers []) pure refl refl refl state.harts h.harts;
     harts = long;
   }
 
-  module _ (covered : Work → Bool) (hart : ℕ) where
+  module _ (covered : Coverage) (hart : ℕ) where
     abbrev set : Setting
     set = setting_in m past hart covered
 

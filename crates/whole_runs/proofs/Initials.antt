@@ -24,7 +24,7 @@ use Rattle.expression_steps.specs.Expressions.{part}
 use Rattle.checked_meaning.specs.Checked.{Cases, checked}
 use Rattle.checked_meaning.specs.Items.{Item}
 use Rattle.value_laws.proofs.Steps.{same}
-use Rattle.soundness_steps.specs.Works.{Scene, Setting, Work, nobody}
+use Rattle.soundness_steps.specs.Works.{Coverage, Scene, Setting, nobody}
 use Rattle.soundness_steps.specs.Calls.{SoundCalls}
 use Rattle.soundness_steps.specs.Covers.{AreMet}
 use Rattle.soundness_steps.specs.States.{Sound, StateBelongs}
@@ -38,7 +38,7 @@ use Rattle.soundness_calls.proofs.Directions.{bare_aim, bare_closed, bare_wanted
 use Rattle.whole_runs.specs.Initials.{InitialsAreSound, OpeningEnds, RegisterAdds, ValueStands, opening_gives, opening_stops, pure_around}
 use Rattle.whole_runs.specs.Initials.{pure_scene, pure_setting}
 
-module _ (m : CoreModel) (past : Positive) (covered : Work → Bool) (registers : List Register) (lets : List TopLevel) (vs : List Value) (cases : Cases) where
+module _ (m : CoreModel) (past : Positive) (covered : Coverage) (registers : List Register) (lets : List TopLevel) (vs : List Value) (cases : Cases) where
   abbrev set : Setting
   set = pure_setting m past covered registers lets
 
@@ -52,7 +52,7 @@ module _ (m : CoreModel) (past : Positive) (covered : Work → Bool) (registers 
   no_calls : SoundCalls set q.reached w
   no_calls = record {
     call = λ place x f us h enters before s. let e : None ≡ Some f = enters.is_it in absurd (cc);
-    enter = λ d n v at is before s. let e : None ≡ Some n = at in absurd (cc);
+    enter = λ d n v covers at is before s. let e : None ≡ Some n = at in absurd (cc);
     way = λ d n x reached at is before s. let e : None ≡ Some n = at in absurd (cc);
   }
 
@@ -93,7 +93,7 @@ initials_sound m past covered registers lets vs cases are o r t is stands met st
     let set : Setting = pure_setting m past covered registers lets in
     let c : Core = o.value in
     let ended = value_ends m past covered registers lets vs cases are c (Aims.Due (bare_type t)) stands (bare_wanted set start_point t)
-    (subst (λ aim. AreMet set nobody (λ d. false) cases ((part c).walk (pure_around m registers lets) [] aim [] 0).notes) (bare_aim t) met) state ok in
+    (subst (λ aim. AreMet set nobody (λ d. true) cases ((part c).walk (pure_around m registers lets) [] aim [] 0).notes) (bare_aim t) met) state ok in
     subst (λ (kind : OpeningKind). OpeningEnds (RegisterAdds m.types past r t) (goes_on (meaning (checked m.types cases) (opening_world vs) c
     (begun 0 state)) (opening_kind (checked m.types cases) (opening_world vs) o.place kind))) (sym is)
     (register_ends m past covered registers lets vs cases o.place r t (standing set.around c).cast (part c).is_nested (part c).never_ends

@@ -1,5 +1,5 @@
 -- A let's value, and what its pattern binds: where it doesn't match, the run stops.
-use Rattle.std.proofs.Common.{◌≡◌, ◌∙◌, sym, refl, subst, ℕ, Bool, true, false, true≢false, ◌&&◌, List, [], ◌∷◌}
+use Rattle.std.proofs.Common.{◌≡◌, ◌∙◌, sym, refl, subst, ℕ, true, false, true≢false, ◌&&◌, List, [], ◌∷◌}
 use Rattle.sail_base.specs.declared.place.Place.{Place}
 use Rattle.sail_types.specs.Numbers.{Positive}
 use Rattle.sail_types.specs.declared.values.Value.{Value}
@@ -25,7 +25,7 @@ use Rattle.expression_steps.specs.Statements.{bind_names, is_written, let_names,
 use Rattle.checked_meaning.specs.Checked.{Cases, checked}
 use Rattle.checked_meaning.specs.Items.{Item}
 use Rattle.value_laws.specs.Known.{Point}
-use Rattle.soundness_steps.specs.Works.{Scene, Setting, Work, here, nobody}
+use Rattle.soundness_steps.specs.Works.{Coverage, Scene, Setting, here, nobody}
 use Rattle.soundness_steps.specs.Steps.{Beside, EndsWell, well_given, well_no, well_returned, well_stopped, well_thrown}
 use Rattle.soundness_steps.proofs.Scenes.{falling}
 use Rattle.soundness_steps.proofs.Steps.{binds}
@@ -69,7 +69,7 @@ then_then (R.Throws v now) d k = refl
 then_then (R.Stops cause now) d k = refl
 then_then R.Stuck d k = refl
 
-module _ (m : CoreModel) (past : Positive) (covered : Work → Bool) (registers : List Register) (lets : List TopLevel) (vs : List Value) (cases : Cases)
+module _ (m : CoreModel) (past : Positive) (covered : Coverage) (registers : List Register) (lets : List TopLevel) (vs : List Value) (cases : Cases)
     (are : LetsAre (pure_setting m past covered registers lets) nobody lets vs) where
   abbrev set : Setting
   set = pure_setting m past covered registers lets

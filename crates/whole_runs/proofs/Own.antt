@@ -26,8 +26,9 @@ use Rattle.sail_types.proofs.SumNumbers.{weights, number_num, number_term}
 use Rattle.sail_core.specs.declared.model.Function.{Function}
 use Rattle.value_laws.specs.Belonging.{Integers, standing}
 use Rattle.value_laws.proofs.Numbers.{beyond_past, holds_is, variable_is}
+use Rattle.call_fits.specs.Calls.{own_variables, variable_index}
 use Rattle.soundness_steps.specs.Works.{Setting}
-use Rattle.soundness_steps.specs.Calls.{inside, own_variables, variable_index}
+use Rattle.soundness_steps.specs.Calls.{inside}
 use Rattle.soundness_calls.specs.Premises.{OwnSame}
 use Rattle.soundness_calls.proofs.Own.{own_assigned, same_from}
 use Rattle.whole_runs.specs.Own.{all_of, atom_own, atom_owns, form_owns, is_integer, is_own, is_truth, kind_at, number_own, sum_owns, term_own, term_owns}

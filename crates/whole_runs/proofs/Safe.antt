@@ -1,5 +1,5 @@
 -- Each part under the checked meaning, and so plainly.
-use Rattle.std.proofs.Common.{◌≡◌, ◌∙◌, sym, refl, subst, ◌<◌, ℕ, Bool, List, [], Option, Some}
+use Rattle.std.proofs.Common.{◌≡◌, ◌∙◌, sym, refl, subst, ◌<◌, ℕ, List, [], Option, Some}
 use Rattle.std.specs.List.{range_with_len}
 use Rattle.sail_types.specs.Numbers.{Positive}
 use Rattle.sail_types.specs.declared.values.Value.{Value}
@@ -17,7 +17,7 @@ use Rattle.checked_meaning.specs.Checked.{Checks, checking}
 use Rattle.checked_meaning.specs.Laws.{IsStuckOr, ModelsAreAlike}
 use Rattle.goal_laws.specs.Goals.{AllHold}
 use Rattle.met_notes.proofs.Whole.{notes_met}
-use Rattle.soundness_steps.specs.Works.{Work}
+use Rattle.soundness_steps.specs.Works.{Coverage}
 use Rattle.soundness_steps.specs.States.{StateBelongs}
 use Rattle.soundness_calls.specs.Events.{EndsRight, checks_of}
 use Rattle.whole_runs.specs.Initials.{pure_setting}
@@ -51,7 +51,7 @@ pub record There (o p : Option Ran) (Holds : Ran → Type 0) : Type 0 where
   pub plain_is : p ≡ Some ran
   pub holds : (v : Value) → ran.ended ≡ E.Value v → Holds ran
 
-module _ (models_alike : ModelsAreAlike) (models_keep : ModelsKeep) (m : CoreModel) (past : Positive) (covered : Work → Bool) (k : Checks)
+module _ (models_alike : ModelsAreAlike) (models_keep : ModelsKeep) (m : CoreModel) (past : Positive) (covered : Coverage) (k : Checks)
     (rank : ℕ → ℕ) (count : ℕ) (some : 0 < count)
     (held : AllHold (obligations m)) (found : IsFoundThroughout m past covered count)
     (covers : CoversThroughout m past covered k rank count) (stands : StandsThroughout m past covered k rank count) where
@@ -71,7 +71,7 @@ module _ (models_alike : ModelsAreAlike) (models_keep : ModelsKeep) (m : CoreMod
 
   opened_right : (state : RunState) → Fit state → OpenedRight m past covered m.registers (around_of m).lets (openings_of (checking c) m state)
   opened_right state ok =
-      let opens = openings_stand m past covered [] c (notes_met m held) (covers 0 some).openings (stands 0 some).openings in
+      let opens = openings_stand m past covered c (notes_met m held) (covers 0 some).openings (stands 0 some).openings in
       openings_sound m past covered m.registers (λ r x e. e) c refl opens state (at_start m past count covered some state ok)
 
   init_there : (state : RunState) → Fit state → There (init_ran (checking c) m state) (init_ran plain m state) (λ ran. Fit ran.state)

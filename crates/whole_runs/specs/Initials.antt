@@ -1,7 +1,7 @@
 -- Initial values of registers end well. An opening calls nothing and throws nothing: it is read in a model that has none of what is called or thrown,
 -- behind the top-level lets before it, over the registers of the state in which it is worked out: a run's start has those of the model, the state in
 -- which the values of lets are found has none.
-use Rattle.std.specs.Prelude.{◌≡◌, ℕ, Bool, true, false, List, [], None}
+use Rattle.std.specs.Prelude.{◌≡◌, ℕ, true, false, List, [], None}
 use Rattle.sail_types.specs.Belongs.{belongs, no_readings, reading}
 use Rattle.sail_types.specs.Numbers.{Positive}
 use Rattle.sail_types.specs.declared.table.Types.{Types}
@@ -26,7 +26,7 @@ use Rattle.call_arguments.specs.declared.aims.Aim.TheVariants as Aims
 use Rattle.expression_steps.specs.Expressions.{part}
 use Rattle.checked_meaning.specs.Checked.{Cases, checked}
 use Rattle.checked_meaning.specs.Items.{Item}
-use Rattle.soundness_steps.specs.Works.{Scene, Setting, Work, nobody}
+use Rattle.soundness_steps.specs.Works.{Coverage, Scene, Setting, nobody}
 use Rattle.soundness_steps.specs.Covers.{AreMet}
 use Rattle.soundness_steps.specs.States.{StateBelongs, nothing_stands}
 use Rattle.soundness_forms.specs.Standing.{standing}
@@ -46,8 +46,14 @@ pure_around m registers lets = record {
   answer = None;
 }
 
-abbrev pub pure_setting : CoreModel → Positive → (Work → Bool) → List Register → List TopLevel → Setting
-pure_setting m past covered registers lets = record { around = pure_around m registers lets; past = past; hart = 0; covered = covered }
+-- with no mapping, so that all that are there are covered
+abbrev pub pure_setting : CoreModel → Positive → Coverage → List Register → List TopLevel → Setting
+pure_setting m past covered registers lets = record {
+  around = pure_around m registers lets;
+  past = past;
+  hart = 0;
+  covered = record covered { direction = λ d. true };
+}
 
 abbrev pub pure_scene : Setting → Cases → Scene
 pure_scene set cases = record {
@@ -56,7 +62,7 @@ pure_scene set cases = record {
   numbers = [];
   result = None;
   cases = cases;
-  reached = λ d. false;
+  reached = λ d. true;
   answer = None;
   may_fall = false;
   names = [];
@@ -82,11 +88,11 @@ abbrev pub initial_aim : Typ → Aim
 initial_aim t = aimed Aims.Due (bare_type t)
 
 abbrev pub InitialsAreSound : Type 0
-InitialsAreSound = (m : CoreModel) (past : Positive) (covered : Work → Bool) (registers : List Register) (lets : List TopLevel) (vs : List Value)
+InitialsAreSound = (m : CoreModel) (past : Positive) (covered : Coverage) (registers : List Register) (lets : List TopLevel) (vs : List Value)
     (cases : Cases)
     → LetsAre (pure_setting m past covered registers lets) nobody lets vs → (o : Opening) (r : ℕ) (t : Typ) → o.kind ≡ O.Register r
     → ValueStands (pure_scene (pure_setting m past covered registers lets) cases) (opening_world vs) o.value
-    → AreMet (pure_setting m past covered registers lets) nobody (λ d. false) cases
+    → AreMet (pure_setting m past covered registers lets) nobody (λ d. true) cases
     ((part o.value).walk (pure_around m registers lets) [] (initial_aim t) [] 0).notes
     → (state : RunState) → StateBelongs (pure_setting m past covered registers lets) state
     → OpeningEnds (RegisterAdds m.types past r t) (opening_run (checked m.types cases) vs o (begun 0 state))

@@ -1,5 +1,5 @@
 -- Top-level lets end well: their names have values with the indices of the walk.
-use Rattle.std.specs.Prelude.{◌≡◌, ℕ, Bool, true, false, List, [], map}
+use Rattle.std.specs.Prelude.{◌≡◌, ℕ, true, List, [], map}
 use Rattle.sail_types.specs.Numbers.{Positive}
 use Rattle.sail_types.specs.declared.values.Value.{Value}
 use Rattle.model_state.specs.declared.state.Register.{Register}
@@ -18,7 +18,7 @@ use Rattle.expression_steps.specs.Statements.{let_names}
 use Rattle.checked_meaning.specs.Checked.{Cases, checked}
 use Rattle.checked_meaning.specs.Items.{Item}
 use Rattle.value_laws.specs.Known.{Point}
-use Rattle.soundness_steps.specs.Works.{Setting, Work, nobody}
+use Rattle.soundness_steps.specs.Works.{Coverage, Setting, nobody}
 use Rattle.soundness_steps.specs.Covers.{AreMet}
 use Rattle.soundness_steps.specs.States.{StateBelongs}
 use Rattle.soundness_forms.specs.Forms.{at}
@@ -39,12 +39,12 @@ abbrev pub let_found : CoreModel → List Register → List TopLevel → Opening
 let_found m registers lets o arm = let_names o.place arm (part o.value) (pure_around m registers lets) []
 
 abbrev pub LetsEndWell : Type 0
-LetsEndWell = (m : CoreModel) (past : Positive) (covered : Work → Bool) (registers : List Register) (lets : List TopLevel) (vs : List Value)
+LetsEndWell = (m : CoreModel) (past : Positive) (covered : Coverage) (registers : List Register) (lets : List TopLevel) (vs : List Value)
     (cases : Cases)
     → LetsAre (pure_setting m past covered registers lets) nobody lets vs → (o : Opening) (arm : Arm) → o.kind ≡ O.Let arm
     → ValueStands (pure_scene (pure_setting m past covered registers lets) cases) (opening_world vs) o.value
     → LetTells (at (pure_scene (pure_setting m past covered registers lets) cases) (opening_world vs) [] true) (opening_world vs) arm
-    → AreMet (pure_setting m past covered registers lets) nobody (λ d. false) cases (let_found m registers lets o arm [] 0).notes
+    → AreMet (pure_setting m past covered registers lets) nobody (λ d. true) cases (let_found m registers lets o arm [] 0).notes
     → (state : RunState) → StateBelongs (pure_setting m past covered registers lets) state
     → OpeningEnds (LetAdds (pure_setting m past covered registers lets) (let_found m registers lets o arm [] 0).next
     (let_found m registers lets o arm [] 0).value)

@@ -1,5 +1,5 @@
 -- An accepted model is never stuck under the checked meaning: what is known of it beside its instances, and that its events end right.
-use Rattle.std.specs.Prelude.{◌≡◌, ℕ, Bool, true, List, [], ◌∷◌, slice_get, Some}
+use Rattle.std.specs.Prelude.{◌≡◌, ℕ, true, List, [], ◌∷◌, slice_get, Some}
 use Rattle.sail_types.specs.Numbers.{Positive}
 use Rattle.sail_types.specs.declared.values.Value.{Value}
 use Rattle.sail_types.specs.declared.values.Value.TheVariants as V
@@ -17,7 +17,7 @@ use Rattle.checked_meaning.specs.Checked.{Checks, checking}
 use Rattle.checked_meaning.specs.Items.{Item}
 use Rattle.value_laws.specs.Belonging.{Integers}
 use Rattle.goal_laws.specs.Goals.{AllHold}
-use Rattle.soundness_steps.specs.Works.{Setting, Work, nobody}
+use Rattle.soundness_steps.specs.Works.{Coverage, Setting, Work, nobody}
 use Rattle.soundness_steps.specs.States.{StateBelongs}
 use Rattle.soundness_binding.specs.Patterned.{arms_stand}
 use Rattle.sail_soundness.specs.Whole.{ModelStands}
@@ -27,11 +27,11 @@ use Rattle.soundness_calls.specs.Events.{EndsRight, EventEnters, checks_of, ente
 use Rattle.sail_calls.specs.Bodies.{Clauses}
 use Rattle.sail_calls.specs.Models.{WaysOf, own_arms}
 use Rattle.whole_runs.specs.Covers.{Covers, side_at}
-use Rattle.whole_runs.specs.OpeningsStand.{Open}
+use Rattle.whole_runs.specs.OpeningsStand.{OpeningsAreRight}
 use Rattle.whole_runs.specs.Own.{is_own}
 
--- a model at work: an integer that powers past the largest are taken for, a hart, and the instances that are covered
-abbrev pub setting_in : CoreModel → Positive → ℕ → (Work → Bool) → Setting
+-- a model at work: an integer that powers past the largest are taken for, a hart, and what instances cover
+abbrev pub setting_in : CoreModel → Positive → ℕ → Coverage → Setting
 setting_in m past hart covered = record { around = around_of m; past = past; hart = hart; covered = covered }
 
 -- ---- what the tables give of each text that they accept
@@ -42,8 +42,8 @@ pub record IsFound (set : Setting) (m : CoreModel) : Type 0 where
   -- each direction stands beside the other one of its mapping
   pub sides : (d : ℕ) (n : Direction) → slice_get m.directions d ≡ Some n → (side : Side) × (side_at m.directions d ≡ Some side)
   -- the functions that a hart enters have no variables, and the arguments of an event belong to their parameters
-  pub step : set.covered (entered_by m.step) ≡ true → EventEnters set m.step (V.Unit ∷ [])
-  pub reset : set.covered (entered_by m.reset) ≡ true → (entry : ℕ) → EventEnters set m.reset (reset_arguments set.hart entry)
+  pub step : set.covered.function (entered_by m.step) ≡ true → EventEnters set m.step (V.Unit ∷ [])
+  pub reset : set.covered.function (entered_by m.reset) ≡ true → (entry : ℕ) → EventEnters set m.reset (reset_arguments set.hart entry)
 
 -- ---- what isn't proved yet of each: nodes of some kinds, that bodies and patterns stand, and openings
 
@@ -66,15 +66,15 @@ AllEnd m k = (vs : List Value) × (state : RunState) × (openings_of (checking (
 
 pub record Stands (set : Setting) (m : CoreModel) (k : Checks) (rank : ℕ → ℕ) : Type 0 where
   -- top-level lets and initial values, where there is no register
-  pub openings : Open m set.past set.covered [] (checks_of m k)
-  pub functions : (x : Work) (f : Function) → set.covered x ≡ true → slice_get m.functions x.function ≡ Some f → FunctionStands set k x f
+  pub openings : OpeningsAreRight m set.past set.covered (checks_of m k) 0 [] m.openings
+  pub functions : (x : Work) (f : Function) → set.covered.function x ≡ true → slice_get m.functions x.function ≡ Some f → FunctionStands set k x f
   pub directions : (d : ℕ) (n : Direction) (side : Side) → slice_get m.directions d ≡ Some n → side_at m.directions d ≡ Some side
       → DirectionStands set rank k d n side
 
 -- where all obligations hold, instances cover the rest and openings end, `step` and `reset` aren't stuck, and registers belong to their types where they
 -- end
 abbrev pub NeverStuck : Type 0
-NeverStuck = (m : CoreModel) (past : Positive) (hart : ℕ) (covered : Work → Bool) (k : Checks) (rank : ℕ → ℕ) → AllHold (obligations m)
+NeverStuck = (m : CoreModel) (past : Positive) (hart : ℕ) (covered : Coverage) (k : Checks) (rank : ℕ → ℕ) → AllHold (obligations m)
     → Covers (setting_in m past hart covered) m k rank → IsFound (setting_in m past hart covered) m
     → Stands (setting_in m past hart covered) m k rank → AllEnd m k → (state : RunState) → StateBelongs (setting_in m past hart covered) state
     → EndsRight (setting_in m past hart covered) (step_ran (checking (checks_of m k)) m hart state)
