@@ -1,6 +1,5 @@
 -- Kinds of nodes that are fine.
 use Rattle.std.proofs.Common.{◌≡◌, ℕ, true, false, List, [], ◌∷◌, Some, None, refl}
-use Rattle.sail_base.specs.declared.place.Place.{Place}
 use Rattle.sail_core.specs.Making.{World}
 use Rattle.sail_core.specs.declared.patterns.Arm.{Arm}
 use Rattle.sail_core.specs.declared.tree.Callee.{Callee}
@@ -44,7 +43,7 @@ use Rattle.soundness_joins.proofs.FreeJoins.{free_joining}
 use Rattle.soundness_joins.proofs.IfKind.{if_kind}
 use Rattle.soundness_joins.proofs.JoinedKinds.{and_kind, foreach_kind, or_kind, repeat_kind, while_kind}
 use Rattle.soundness_joins.proofs.TryKind.{try_kind}
-use Rattle.sail_soundness.specs.Whole.{ModelStands, targets_stand}
+use Rattle.sail_soundness.specs.Whole.{ModelStands}
 
 -- ---- ways that meet
 
@@ -71,44 +70,42 @@ module _ (q : Scene) (w : World Item) (model : ModelStands q.set q.work) where
   arms : (cases : List Arm) → arms_stand q.set.around.types q.numbers cases ≡ true → (names : List Kept) → AllMatch (at q w names true) w cases
   arms cases stand names = all_match (at q w names true) w model.fits refl cases stand
 
-  pub proved : (kind : Kind) → patterns_stand q.set.around.types q.numbers kind ≡ true → sizes_stand q.numbers kind ≡ true → targets_stand kind ≡ true
-      → KindFine q w kind
-  proved (K.Constant l) p s e = constant_kind fits_suffice q w l
-  proved (K.Local name) p s e = local_kind fits_suffice q w name
-  proved (K.Variable name) p s e = variable_kind fits_suffice q w name
-  proved (K.TopLevel i) p s e = top_level_kind (λ types s j. filled_value types 0 s j) fits_suffice q w i
-  proved (K.Register i) p s e = register_kind fits_suffice q w model.registers i
-  proved (K.Call callee) p s e = calls callee
-  proved K.And p s e = and_kind fits_suffice q w
-  proved K.Or p s e = or_kind fits_suffice q w
-  proved (K.Cast None) p s e = cast_kind fits_suffice q w
-  proved (K.Cast (Some written)) p s e = written_kind fits_suffice q w written
-  proved K.Tuple p s e = tuple_kind fits_suffice q w
-  proved (K.Vector shape) p s e = vector_kind fits_suffice q w shape
-  proved (K.List shape) p s e = list_kind fits_suffice q w shape
-  proved (K.Cons shape) p s e = cons_kind fits_suffice q w shape
-  proved (K.Struct u fields) p s e = struct_kind fits_suffice q w model.narrow u fields
-  proved (K.With u fields) p s e = with_kind fits_suffice q w model.narrow u fields
-  proved (K.Part suffixes) p s e = part_kind q w fits_suffice model.narrow suffixes
-  proved K.WithItem p s e = with_item_kind q w fits_suffice
-  proved K.WithSlice p s e = with_slice_kind q w fits_suffice
-  proved (K.SizeOf t ns) p s e = size_kind fits_suffice q w t ns s
-  proved (K.Constraint c ns) p s e = constraint_kind fits_suffice q w c ns s
-  proved (K.Assign targets) p s e =
-      assign_kind fits_suffice q w model.narrow model.registers callees_fit model.fits.mappings targets e
-  proved (K.Block statements) p s e = block_kind q w fits_suffice statements (all_lets_match q w model.fits statements p)
-  proved (K.Let arm) p s e = let_kind q w arm (lets_match q w model.fits arm p)
-  proved (K.Var name written) p s e = var_kind q w name written
-  proved (K.If shape) p s e = if_kind fits_suffice joining met_grows agreement_counts q w shape
-  proved (K.Match cases shape) p s e = match_kind arms_grow q w joining met_grows agreement_counts cases shape (arms cases p)
-  proved (K.Try cases shape) p s e = try_kind arms_grow q w joining met_grows agreement_counts cases shape (arms cases p)
-  proved (K.Clauses cases) p s e = clauses_kind q w cases
-  proved K.When p s e = when_kind q w
-  proved (K.Foreach name way) p s e = foreach_kind fits_suffice q w name way
-  proved K.While p s e = while_kind fits_suffice q w
-  proved K.Repeat p s e = repeat_kind fits_suffice q w
-  proved K.Return p s e = return_kind fits_suffice q w
-  proved K.Throw p s e = throw_kind fits_suffice q w
-  proved K.Exit p s e = exit_kind fits_suffice q w
-  proved (K.Assert text) p s e = assert_kind fits_suffice q w text
-  proved (K.Optional x) p s e = optional_kind q w x
+  pub proved : (kind : Kind) → patterns_stand q.set.around.types q.numbers kind ≡ true → sizes_stand q.numbers kind ≡ true → KindFine q w kind
+  proved (K.Constant l) p s = constant_kind fits_suffice q w l
+  proved (K.Local name) p s = local_kind fits_suffice q w name
+  proved (K.Variable name) p s = variable_kind fits_suffice q w name
+  proved (K.TopLevel i) p s = top_level_kind (λ types s j. filled_value types 0 s j) fits_suffice q w i
+  proved (K.Register i) p s = register_kind fits_suffice q w model.registers i
+  proved (K.Call callee) p s = calls callee
+  proved K.And p s = and_kind fits_suffice q w
+  proved K.Or p s = or_kind fits_suffice q w
+  proved (K.Cast None) p s = cast_kind fits_suffice q w
+  proved (K.Cast (Some written)) p s = written_kind fits_suffice q w written
+  proved K.Tuple p s = tuple_kind fits_suffice q w
+  proved (K.Vector shape) p s = vector_kind fits_suffice q w shape
+  proved (K.List shape) p s = list_kind fits_suffice q w shape
+  proved (K.Cons shape) p s = cons_kind fits_suffice q w shape
+  proved (K.Struct u fields) p s = struct_kind fits_suffice q w model.narrow u fields
+  proved (K.With u fields) p s = with_kind fits_suffice q w model.narrow u fields
+  proved (K.Part suffixes) p s = part_kind q w fits_suffice model.narrow suffixes
+  proved K.WithItem p s = with_item_kind q w fits_suffice
+  proved K.WithSlice p s = with_slice_kind q w fits_suffice
+  proved (K.SizeOf t ns) p s = size_kind fits_suffice q w t ns s
+  proved (K.Constraint c ns) p s = constraint_kind fits_suffice q w c ns s
+  proved (K.Assign targets) p s = assign_kind fits_suffice q w model.narrow model.registers callees_fit model.fits.mappings targets
+  proved (K.Block statements) p s = block_kind q w fits_suffice statements (all_lets_match q w model.fits statements p)
+  proved (K.Let arm) p s = let_kind q w arm (lets_match q w model.fits arm p)
+  proved (K.Var name written) p s = var_kind q w name written
+  proved (K.If shape) p s = if_kind fits_suffice joining met_grows agreement_counts q w shape
+  proved (K.Match cases shape) p s = match_kind arms_grow q w joining met_grows agreement_counts cases shape (arms cases p)
+  proved (K.Try cases shape) p s = try_kind arms_grow q w joining met_grows agreement_counts cases shape (arms cases p)
+  proved (K.Clauses cases) p s = clauses_kind q w cases
+  proved K.When p s = when_kind q w
+  proved (K.Foreach name way) p s = foreach_kind fits_suffice q w name way
+  proved K.While p s = while_kind fits_suffice q w
+  proved K.Repeat p s = repeat_kind fits_suffice q w
+  proved K.Return p s = return_kind fits_suffice q w
+  proved K.Throw p s = throw_kind fits_suffice q w
+  proved K.Exit p s = exit_kind fits_suffice q w
+  proved (K.Assert text) p s = assert_kind fits_suffice q w text
+  proved (K.Optional x) p s = optional_kind q w x

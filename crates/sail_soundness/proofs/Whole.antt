@@ -1,5 +1,5 @@
 -- An expression is fine where each of its nodes is.
-use Rattle.std.proofs.Common.{◌≡◌, ◌&&◌, true, List, [], ◌∷◌, ◌++◌, map, refl, sym, ap, ◌∙◌, subst}
+use Rattle.std.proofs.Common.{◌≡◌, true, List, [], ◌∷◌, ◌++◌, map, refl, sym, ap, ◌∙◌, subst}
 use Rattle.std.proofs.lemmas.Bool.{and_parts}
 use Rattle.sail_core.specs.Making.{World}
 use Rattle.sail_core.specs.Meaning.{kind_meaning, meaning}
@@ -14,7 +14,7 @@ use Rattle.soundness_forms.specs.Standing.{Standing, node_standing, standing}
 use Rattle.soundness_forms.specs.EachKind.{PartsFine}
 use Rattle.soundness_binding.specs.Patterned.{patterns_stand}
 use Rattle.soundness_sizes.specs.Kinds.{sizes_stand}
-use Rattle.sail_soundness.specs.Whole.{EachFine, EachFollows, ModelStands, NodeFine, NodeStands, joined, nodes, nodes_over, targets_stand}
+use Rattle.sail_soundness.specs.Whole.{EachFine, EachFollows, ModelStands, NodeFine, NodeStands, joined, nodes, nodes_over}
 use Rattle.sail_soundness.proofs.Nodes.{proved}
 
 -- ---- nodes
@@ -55,10 +55,8 @@ module _ (q : Scene) (w : World Item) where
 module _ (q : Scene) (w : World Item) (model : ModelStands q.set q.work) where
   each : (d : Core-F Core) → NodeStands q w d → NodeFine q w d
   each d stands =
-      let asks = and_parts (patterns_stand q.set.around.types q.numbers d.kind && sizes_stand q.numbers d.kind) (targets_stand d.kind) stands.asks in
-      let both = and_parts (patterns_stand q.set.around.types q.numbers d.kind) (sizes_stand q.numbers d.kind) asks.0 in
-      proved q w model d.kind both.0 both.1 asks.1 d.place d.number (map (standing q.set.around) d.parts) (map part d.parts)
-      (map (meaning (z q w) w) d.parts)
+      let both = and_parts (patterns_stand q.set.around.types q.numbers d.kind) (sizes_stand q.numbers d.kind) stands.asks in
+      proved q w model d.kind both.0 both.1 d.place d.number (map (standing q.set.around) d.parts) (map part d.parts) (map (meaning (z q w) w) d.parts)
 
   -- ---- an expression with its part, its run and how it stands
 

@@ -1,5 +1,5 @@
 -- Each expression of a core ends well beside its walk, where each of its nodes does.
-use Rattle.std.specs.Prelude.{◌≡◌, ◌&&◌, Bool, true, false, ℕ, List, [], ◌∷◌, ◌++◌, map, slice_get, Some}
+use Rattle.std.specs.Prelude.{◌≡◌, ◌&&◌, Bool, true, ℕ, List, [], ◌∷◌, ◌++◌, map, slice_get, Some}
 use Rattle.std.specs.List.{list_all}
 use Rattle.sail_types.specs.declared.numbers.Index.{Index}
 use Rattle.sail_types.specs.declared.table.Types.{Types}
@@ -8,7 +8,6 @@ use Rattle.sail_core.specs.Meaning.{kind_meaning, meaning}
 use Rattle.sail_core.specs.declared.model.Function.{Function}
 use Rattle.sail_core.specs.declared.tree.Core.{Core, Core-F, fold-Core, para-Core}
 use Rattle.sail_core.specs.declared.tree.Kind.{Kind}
-use Rattle.sail_core.specs.declared.tree.Kind.TheVariants as K
 use Rattle.call_fits.specs.Calls.{EachHasPlace}
 use Rattle.expression_steps.specs.Expressions.{part}
 use Rattle.checked_meaning.specs.Items.{Item}
@@ -21,16 +20,10 @@ use Rattle.soundness_binding.specs.Patterned.{patterns_stand}
 use Rattle.soundness_binding.specs.Scenes.{ModelFits}
 use Rattle.soundness_sizes.specs.Kinds.{sizes_stand}
 use Rattle.soundness_values.specs.Named.{TypesNarrow}
-use Rattle.soundness_targets.specs.Plain.{all_plain}
 
--- an assignment is to names, to parts of names, by calls, and to tuples of these
-abbrev pub targets_stand : Kind → Bool
-targets_stand (K.Assign targets) = all_plain targets
-targets_stand kind = true
-
--- what a kind asks: its patterns stand, numbers and conditions that it reads stand for themselves, and so do its targets
+-- what a kind asks: its patterns stand, and numbers and conditions that it reads stand for themselves
 abbrev pub kind_asks : Types → List Index → Kind → Bool
-kind_asks types numbers kind = (patterns_stand types numbers kind && sizes_stand numbers kind) && targets_stand kind
+kind_asks types numbers kind = patterns_stand types numbers kind && sizes_stand numbers kind
 
 -- what its kind asks holds of each node of an expression
 abbrev pub node_fits : Types → List Index → Core-F Bool → Bool
@@ -84,7 +77,7 @@ module _ (q : Scene) (w : World Item) where
   abbrev pub OthersFine : List (Core-F Core) → Type 0
   OthersFine cs = ModelStands q.set q.work × EachFine cs
 
--- an expression in which casts, guards, literals, patterns and targets stand as the resolver puts them is fine
+-- an expression in which casts, guards, literals and patterns stand as the resolver puts them is fine
 abbrev pub EachFollows : Type 0
 EachFollows = (q : Scene) (w : World Item) (c : Core) → (standing q.set.around c).right ≡ true → OthersFine q w (nodes c)
     → Fine q w (standing q.set.around c).cast (standing q.set.around c).guard (part c) (meaning (z q w) w c)

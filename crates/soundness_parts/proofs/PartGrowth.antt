@@ -115,14 +115,14 @@ module _ (around : Around) (scope : Scope) where
   AllGrow [] = Unit {0}
   AllGrow (p ∷ ps) = Grows (p.walk around scope Aims.Free) × AllGrow ps
 
-  numbers_grow : (ps : List Part) → AllGrow ps → Grows (numbers_walk ps around scope)
+  pub numbers_grow : (ps : List Part) → AllGrow ps → Grows (numbers_walk ps around scope)
   numbers_grow [] h = grows_give (Some [])
   numbers_grow (p ∷ ps) h =
       grows_bind (number_walk p around scope) (numbers_behind (numbers_walk ps around scope))
       (grows_bind (p.walk around scope Aims.Free) (integer_number p.place) h.0 (λ i. form_grows p.place (out-Indices i)))
       (behind_grows (numbers_walk ps around scope) (numbers_grow ps h.1))
 
-  first_grow : (k : ℕ) (ps : List Part) → AllGrow ps → AllGrow (take k ps)
+  pub first_grow : (k : ℕ) (ps : List Part) → AllGrow ps → AllGrow (take k ps)
   first_grow zero ps h = tt
   first_grow (suc k) [] h = tt
   first_grow (suc k) (p ∷ ps) h = (h.0, first_grow k ps h.1)
@@ -139,7 +139,7 @@ module _ (around : Around) (i : Indices) where
   ends_grow None = grows_give None
   ends_grow (Some e) = grows_give _
 
-  reached_grows : (way : Way) (ns : List Num) → Grows (reached_by around i way ns)
+  pub reached_grows : (way : Way) (ns : List Num) → Grows (reached_by around i way ns)
   reached_grows (Y.Field u k) ns = grows_give _
   reached_grows Y.Item (n ∷ []) = grows_give _
   reached_grows Y.Item [] = grows_give None

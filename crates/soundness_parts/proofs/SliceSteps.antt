@@ -109,7 +109,7 @@ module _ {q : Scene} {n : ℕ} {f : Point n} {facts : List Fact} where
   tested_by place i y h (W.Variable j) e = wrong_alone place _
 
 module _ (q : Scene) (w : World Item) (scope : Scope) where
-  number_tests : (p : Part) (a : Run Item Item) → Fine q w false false p a → {n : ℕ} {f : Point n} {facts : List Fact} → Surrounds q w f scope
+  pub number_tests : (p : Part) (a : Run Item Item) → Fine q w false false p a → {n : ℕ} {f : Point n} {facts : List Fact} → Surrounds q w f scope
       → Beside q n f facts (number_walk p (here q) scope) (a then gives) (λ m g o y. IsTested q g o y)
   number_tests p a fine {n} {f} {facts} there =
       binds (integer_number p.place) gives (fine.walks q.names q.may_fall no_guard n f facts scope Aims.Free there tt) (λ m g fs i y l c.

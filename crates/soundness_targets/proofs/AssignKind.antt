@@ -1,5 +1,5 @@
 -- Assignments as nodes.
-use Rattle.std.proofs.Common.{◌≡◌, ℕ, Bool, true, false, List, [], ◌∷◌, length, map, refl}
+use Rattle.std.proofs.Common.{◌≡◌, ℕ, Bool, false, List, [], ◌∷◌, length, map, refl}
 use Rattle.std.specs.List.{list_all}
 use Rattle.std.proofs.lemmas.Bool.{and_parts}
 use Rattle.sail_base.specs.declared.place.Place.{Place}
@@ -26,7 +26,6 @@ use Rattle.soundness_forms.proofs.Growth.{grows_bind, grows_give, grows_settled}
 use Rattle.soundness_forms.proofs.PlainKinds.{fine_at, fine_by}
 use Rattle.soundness_parts.proofs.Suffixed.{all_values}
 use Rattle.soundness_values.specs.Named.{TypesNarrow}
-use Rattle.soundness_targets.specs.Plain.{all_plain}
 use Rattle.soundness_targets.proofs.ChainGrowth.{chain_grows}
 use Rattle.soundness_targets.proofs.Chains.{chain_goes}
 use Rattle.soundness_targets.proofs.TargetGrowth.{grow_of}
@@ -40,8 +39,7 @@ all_at q w names falls [] (u ∷ us) h = absurd h
 all_at q w names falls (p ∷ ps) [] h = absurd h
 
 module _ (fit : FitsSuffice) (q : Scene) (w : World Item) (narrow : TypesNarrow q.set.around.types) (closed : RegistersClosed q.set)
-    (places : (i : ℕ) → CalleeFits q.set i) (mappings : MappingsClosed q.set) (targets : List Target)
-    (plain : all_plain targets ≡ true) where
+    (places : (i : ℕ) → CalleeFits q.set i) (mappings : MappingsClosed q.set) (targets : List Target) where
   assigned_fine : (place : Place) (k : ℕ) (ps : List Part) (us : List (Run Item Item)) → AllFine q w ps us
       → Fine q w false false (node q w place k (K.Assign targets) ps) (kind_meaning (z q w) w place k (K.Assign targets) us)
   assigned_fine place k ps us fine =
@@ -49,12 +47,12 @@ module _ (fit : FitsSuffice) (q : Scene) (w : World Item) (narrow : TypesNarrow 
       (λ names falls g n f facts scope aim there st.
       then_walks (λ i. give i)
       (then_walks (settled (here q) place aim)
-      (chain_goes fit (at q w names falls) w narrow closed places mappings place scope targets plain n f facts ps us (all_at q w names falls ps us fine) there)
+      (chain_goes fit (at q w names falls) w narrow closed places mappings place scope targets n f facts ps us (all_at q w names falls ps us fine) there)
       (λ m p fs i x l h. settles fit place aim i x (aim_on q.set q.work aim l st) h)) (λ m p fs i x l h. given_back i h))
       (λ around scope aim.
       grows_bind (bind (assigned place (map spotting targets) around scope ps) (settled around place aim)) (λ j. give j)
       (grows_bind (assigned place (map spotting targets) around scope ps) (settled around place aim)
-      (chain_grows around scope place targets plain ps (grow_of q w around scope ps us fine)) (grows_settled around place aim)) (λ j. grows_give j))
+      (chain_grows around scope place targets ps (grow_of q w around scope ps us fine)) (grows_settled around place aim)) (λ j. grows_give j))
 
   pub assign_kind : KindFine q w (K.Assign targets)
   assign_kind place k ss ps us h right =

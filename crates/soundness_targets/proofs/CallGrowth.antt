@@ -39,11 +39,11 @@ module _ (around : Around) (at : Place) where
       (grows_note (λ facts. call_note facts at k is (D.Row row) [] [])) (λ t.
       grows_bind (row_call around.types at row is) (node_ended k is) (row_call_grows around.types at row is) (grows_ended k is))
 
-  called_grows : (k : ℕ) (callee : Callee) (bs : List Bool) (is : List Indices) → Grows (called around at k callee bs is)
+  pub called_grows : (k : ℕ) (callee : Callee) (bs : List Bool) (is : List Indices) → Grows (called around at k callee bs is)
   called_grows k (D.Function i) bs is = Functions.call_grows around at k i (slice_get around.functions i) bs is
   called_grows k (D.Row row) bs is = row_grows k row is
   called_grows k (D.Converts d) bs is = Mappings.call_grows around at k d (slice_get around.directions d) bs is
-  called_grows k (D.Applies d) bs is = Mappings.call_grows around at k d (slice_get around.directions d) bs is
+  called_grows k (D.Applies d) bs is = grows_wrong at
   called_grows k (D.Constructor u c) bs is = grows_wrong at
 
   module _ (k : ℕ) (reader : Option Caller) (writer : Caller) (bs : List Bool) (is : List Indices) (nested : Bool) (j : Indices) where

@@ -56,7 +56,6 @@ use Rattle.soundness_values.proofs.Mappings.{arguments_steady, nameless_wanted}
 use Rattle.soundness_values.proofs.NamedKinds.{all_taken}
 use Rattle.soundness_parts.proofs.SliceSteps.{under}
 use Rattle.soundness_parts.proofs.Taken.{z}
-use Rattle.soundness_targets.specs.Plain.{is_called}
 use Rattle.soundness_targets.proofs.Callings.{answers}
 use Rattle.soundness_targets.proofs.Named.{none_aimed}
 use Rattle.soundness_targets.proofs.OneTarget.{Goes, at_once}
@@ -84,7 +83,7 @@ each_on q (p ∷ ps) aims (i ∷ is) [] l h = absurd h
 -- ---- a value that is noted as what it is
 
 module _ (q : Scene) (k : ℕ) where
-  made_as : (i : Indices) → form_made (out-Reading R.Hole) R.Hole i ≡ Makes.ByIndices i
+  pub made_as : (i : Indices) → form_made (out-Reading R.Hole) R.Hole i ≡ Makes.ByIndices i
   made_as i = ap (λ x. form_made x R.Hole i) (ap out-Reading (sym R.rolls-Hole) ∙ out-roll-Reading W.Hole)
 
   pub put_as : {n : ℕ} {f : Point n} {facts : List Fact} (i : Indices) (x : Item) → Is q.set q.work f i x
@@ -105,7 +104,7 @@ module _ (q : Scene) (k : ℕ) where
 -- ---- the call, with the new value
 
 module _ (fit : FitsSuffice) (q : Scene) (w : World Item) (places : (i : ℕ) → CalleeFits q.set i) (mappings : MappingsClosed q.set) (scope : Scope)
-    (at : Place) (k : ℕ) (reader : Option Caller) (writer : Caller) (is_there : is_called writer.callee ≡ true) where
+    (at : Place) (k : ℕ) (reader : Option Caller) (writer : Caller) where
   pub value_written : {n : ℕ} {f : Point n} {facts : List Fact} (ps : List Part) (is : List Indices) (xs : List Item) → Surrounds q w f scope
       → EachIs q.set q.work f ps (argument_aims (callee_types (here q) writer.callee)) is xs → (nested : Bool) (j : Indices) (y : Item)
       → Is q.set q.work f j y → IsMet q.set q.work f (aimed Aims.Given (last_type (callee_types (here q) writer.callee))) nested y.val
@@ -117,7 +116,7 @@ module _ (fit : FitsSuffice) (q : Scene) (w : World Item) (places : (i : ℕ) �
       then_walks Walked.gives
       (binds (answered_by ps is nested j) (λ u. run_called (z q) w at writer.number writer.callee (xs ++ u ∷ []))
       (put_as q k j y h) (λ m g fs t u l e.
-      answers fit q w places mappings scope at writer.number (surrounds_on q w scope l there) ps is xs nested j u e.0 writer.callee is_there
+      answers fit q w places mappings scope at writer.number (surrounds_on q w scope l there) ps is xs nested j u e.0 writer.callee
       (each_on q ps (argument_aims types) is xs l each)
       (subst (λ v. IsMet q.set q.work g (aimed Aims.Given (last_type types)) nested v) (sym e.1)
       (met_on q.set q.work (aimed Aims.Given (last_type types)) nested y.val l met)))) (λ m g fs a u l e.
@@ -130,7 +129,7 @@ module _ (fit : FitsSuffice) (q : Scene) (w : World Item) (places : (i : ℕ) �
 
 module _ (fit : FitsSuffice) (q : Scene) (w : World Item) (narrow : TypesNarrow q.set.around.types) (closed : RegistersClosed q.set)
     (places : (i : ℕ) → CalleeFits q.set i) (mappings : MappingsClosed q.set) (place : Place) (scope : Scope) (at : Place) (k count : ℕ)
-    (reader : Option Caller) (writer : Caller) (is_there : is_called writer.callee ≡ true) where
+    (reader : Option Caller) (writer : Caller) where
   abbrev types : List Typ
   types = callee_types (here q) writer.callee
 
@@ -148,7 +147,7 @@ module _ (fit : FitsSuffice) (q : Scene) (w : World Item) (narrow : TypesNarrow 
       ((Runs.call_spot (z q) w at k reader writer xs).write y) (λ m g a u. Is q.set q.work g a u)
   writes ps is xs there each nested j y h met =
       then_walks (owed_answer place)
-      (value_written fit q w places mappings scope at k reader writer is_there ps is xs there each nested j y h met) (λ m g fs a u l e.
+      (value_written fit q w places mappings scope at k reader writer ps is xs there each nested j y h met) (λ m g fs a u l e.
       subst (λ s. Walks q m g fs (owed_answer place s) (λ d p c. Is q.set q.work p c u)) (sym e.1) (nothing_left e.0 u e.2))
 
   -- what is wanted of the new value is steady

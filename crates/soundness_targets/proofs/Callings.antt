@@ -59,7 +59,6 @@ use Rattle.soundness_values.proofs.RowCalls.{row_fine}
 use Rattle.soundness_values.proofs.Stands.{as_many, same_count}
 use Rattle.soundness_values.proofs.Taken.{widening}
 use Rattle.soundness_parts.proofs.Taken.{z}
-use Rattle.soundness_targets.specs.Plain.{is_called}
 use Rattle.soundness_targets.proofs.Named.{none_aimed}
 use Rattle.soundness_targets.proofs.Rights.{last_given}
 
@@ -77,7 +76,7 @@ one_more : (at : Place) (nested : Bool) (ps : List Part) → length (ps ++ new_p
 one_more at nested [] = refl
 one_more at nested (p ∷ ps) = ap suc (one_more at nested ps)
 
-count_nestings : (ps : List Part) → length (nestings ps) ≡ length ps
+pub count_nestings : (ps : List Part) → length (nestings ps) ≡ length ps
 count_nestings [] = refl
 count_nestings (p ∷ ps) = ap suc (count_nestings ps)
 
@@ -123,14 +122,14 @@ module _ (set : Setting) (work : Work) {n : ℕ} (f : Point n) where
 -- ---- a call on other than as many arguments
 
 module _ (q : Scene) (at : Place) (k i : ℕ) (fn : Function) (bs : List Bool) (is : List Indices) (other : nat_eq (length bs) (length fn.parameters) ≡ false) where
-  none_fits : {n : ℕ} {f : Point n} {facts : List Fact} (js : List Index) (qs : List Reading)
+  pub none_fits : {n : ℕ} {f : Point n} {facts : List Fact} (js : List Index) (qs : List Reading)
       → Walks q n f facts (owe_fit at (call_conditions (fits q.set.around.types) fn js qs bs is)) (λ m g t. ⊥)
   none_fits {n} {f} {facts} js qs =
       walks_mean (λ m g t h. h g.integers (same g)) (suffices_walks {q = q} {Then = λ g. ⊥} at (call_conditions (fits q.set.around.types) fn js qs bs is)
       (subst (λ c. Suffices q.set.past n f (if c && nat_eq (length is) (length fn.parameters)
       then arguments_owe (fits q.set.around.types) fn js (types_without_holes qs) bs is n else never n) (λ g. ⊥)) (sym other) (never_suffices n f (λ g. ⊥))))
 
-  many_wrong : {n : ℕ} {f : Point n} {facts : List Fact} {C : Type 0} {c : Run Item C} {Holds : (m : ℕ) → Point m → Indices → C → Type 0} (js : List Index)
+  pub many_wrong : {n : ℕ} {f : Point n} {facts : List Fact} {C : Type 0} {c : Run Item C} {Holds : (m : ℕ) → Point m → Indices → C → Type 0} (js : List Index)
       (qs : List Reading) → Beside q n f facts (function_called (here q) at k i fn js qs bs is) c Holds
   many_wrong {c = c} js qs =
       wrong_node (λ t. bind (noted_call at k is (D.Function i) js qs) (λ u. made_opened at k is (R.Of fn.result js qs))) c (none_fits js qs)
@@ -192,30 +191,31 @@ module _ (fit : FitsSuffice) (q : Scene) (w : World Item) (places : (i : ℕ) �
     few_directions None = omega arith
     few_directions (Some m) = omega arith
 
-    callee_by : {facts : List Fact} (callee : Callee) → is_called callee ≡ true → EachIs q.set q.work f ps (argument_aims (callee_types (here q) callee)) is xs
+    callee_by : {facts : List Fact} (callee : Callee) → EachIs q.set q.work f ps (argument_aims (callee_types (here q) callee)) is xs
         → IsMet q.set q.work f (aimed Aims.Given (last_type (callee_types (here q) callee))) nested y.val
         → Answers facts (called (here q) at b callee (nestings all_parts) all_is) (run_called (z q) w at b callee all_items)
-    callee_by (D.Function i) e each met =
+    callee_by (D.Function i) each met =
         let o = slice_get q.set.around.functions i in
         runs_as (λ now. λ k. Functions.called_as q w scope at b i fit (places i) all_items k now)
         (answered_by (function_call (here q) at b i o (nestings all_parts) all_is) (run_function i) all_items (function_by i o refl each met))
-    callee_by (D.Row row) e each met =
+    callee_by (D.Row row) each met =
         answered_by (called (here q) at b (D.Row row) (nestings all_parts) all_is) (λ us. row_run row w.hart (vals us)) all_items
         (row_fine widening q at b row w.hart all_is all_items
         (are_typed q.set q.work f all_parts [] all_is all_items (each_with q.set q.work f at nested j y h ps [] is xs (omega arith) each met))
         (have_with q.set q.work f at nested j y h ps [] is xs each))
-    callee_by (D.Converts d) e each met =
+    callee_by (D.Converts d) each met =
         let o = slice_get q.set.around.directions d in
         runs_as (λ now. λ k. Mappings.called_as q w scope at b d fit all_items k now)
         (answered_by (called (here q) at b (D.Converts d) (nestings all_parts) all_is) (Mappings.entering q w scope at b d fit) all_items
         (Mappings.of_direction q w scope at b d fit mappings there.calls o refl all_parts all_is all_items
         (each_with q.set q.work f at nested j y h ps (direction_types o) is xs (few_directions o) each met)))
-    callee_by (D.Constructor u c) e each met =
+    callee_by (D.Constructor u c) each met =
         wrong_node (node_given b) (run_called (z q) w at b (D.Constructor u c) all_items) (wrong_walks at)
-    callee_by (D.Applies d) e each met = absurd (cc)
+    callee_by (D.Applies d) each met =
+        wrong_node (node_given b) (run_called (z q) w at b (D.Applies d) all_items) (wrong_walks at)
 
-    pub answers : {facts : List Fact} (callee : Callee) → is_called callee ≡ true → EachIs q.set q.work f ps (argument_aims (callee_types (here q) callee)) is xs
+    pub answers : {facts : List Fact} (callee : Callee) → EachIs q.set q.work f ps (argument_aims (callee_types (here q) callee)) is xs
         → IsMet q.set q.work f (aimed Aims.Given (last_type (callee_types (here q) callee))) nested y.val
         → Answers facts (called (here q) at b callee (nestings ps ++ nested ∷ []) all_is) (run_called (z q) w at b callee all_items)
-    answers {facts} callee e each met =
-        subst (λ bs. Answers facts (called (here q) at b callee bs all_is) (run_called (z q) w at b callee all_items)) (nested_more at nested ps) (callee_by callee e each met)
+    answers {facts} callee each met =
+        subst (λ bs. Answers facts (called (here q) at b callee bs all_is) (run_called (z q) w at b callee all_items)) (nested_more at nested ps) (callee_by callee each met)

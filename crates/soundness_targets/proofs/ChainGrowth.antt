@@ -1,6 +1,5 @@
 -- Walks over chains of targets count variables on.
-use Rattle.std.proofs.Common.{◌≡◌, Bool, true, false, List, [], ◌∷◌, map, Option, Some, None}
-use Rattle.std.proofs.lemmas.Bool.{and_parts}
+use Rattle.std.proofs.Common.{◌≡◌, Bool, false, List, [], ◌∷◌, map, Option, Some, None}
 use Rattle.sail_base.specs.declared.place.Place.{Place}
 use Rattle.sail_core.specs.declared.targets.Target.{Target}
 use Rattle.value_indices.specs.Steps.{Walk, bind}
@@ -17,11 +16,10 @@ use Rattle.expression_steps.specs.Targets.{then_assigned}
 use Rattle.soundness_steps.specs.Steps.{Grows}
 use Rattle.soundness_forms.proofs.Growth.{grows_bind, grows_give, grows_wrong}
 use Rattle.soundness_parts.proofs.PartGrowth.{Gives, grows_bind_at}
-use Rattle.soundness_targets.specs.Plain.{all_plain, is_plain, shape}
 use Rattle.soundness_targets.proofs.WriteGrowth.{written_grows}
 use Rattle.soundness_targets.proofs.TargetGrowth.{AnyGrow, SpottedGrow}
 use Rattle.soundness_targets.proofs.TupleGrowth.{WriteGrows}
-use Rattle.soundness_targets.proofs.PartMembers.{plain_grows}
+use Rattle.soundness_targets.proofs.AnyGrowth.{target_grows}
 
 module _ (around : Around) (scope : Scope) (place : Place) where
   abbrev pub Good : Spot → Type 0
@@ -36,9 +34,9 @@ module _ (around : Around) (scope : Scope) (place : Place) where
   written_good None e = tt
   written_good (Some s) e = (e.0, λ nested i. written_grows (s.spot.write nested i) place (e.1 nested i).1 (e.1 nested i).0)
 
-  target_spots : (t : Target) → is_plain (shape t) ≡ true → Spots (spotting t around scope)
-  target_spots t e ps grow =
-      let g = plain_grows around scope t e ps grow in
+  target_spots : (t : Target) → Spots (spotting t around scope)
+  target_spots t ps grow =
+      let g = target_grows around scope t ps grow in
       (g.0, λ facts m. written_good (spotting t around scope ps facts m).value (g.1 facts m))
 
   -- ---- chains
@@ -60,15 +58,12 @@ module _ (around : Around) (scope : Scope) (place : Place) where
       grows_bind (p.walk around scope (aimed Aims.Given s.typ)) (written_by place s p.is_nested) (h.0 (aimed Aims.Given s.typ)) (λ i. good p.is_nested i)
   value_goes further s (p ∷ c ∷ ps) good h = grows_wrong place
 
-  pub chain_grows : (ts : List Target) → all_plain ts ≡ true → (ps : List Part) → AnyGrow around scope ps
-      → Grows (assigned place (map spotting ts) around scope ps)
-  chain_grows [] e ps h = grows_wrong place
-  chain_grows (t ∷ []) e ps h =
-      let k = and_parts (is_plain (shape t)) true e in
-      behind_grows (spotting t around scope) (assigned_to place [] (assigned place [] around scope) around scope)
-      (target_spots t k.0) (value_goes (assigned place [] around scope)) ps h
-  chain_grows (t ∷ u ∷ ts) e ps h =
-      let k = and_parts (is_plain (shape t)) (all_plain (u ∷ ts)) e in
+  pub chain_grows : (ts : List Target) (ps : List Part) → AnyGrow around scope ps → Grows (assigned place (map spotting ts) around scope ps)
+  chain_grows [] ps h = grows_wrong place
+  chain_grows (t ∷ []) ps h =
+      behind_grows (spotting t around scope) (assigned_to place [] (assigned place [] around scope) around scope) (target_spots t)
+      (value_goes (assigned place [] around scope)) ps h
+  chain_grows (t ∷ u ∷ ts) ps h =
       let rest : List Part → Walk Indices = assigned place (map spotting (u ∷ ts)) around scope in
-      behind_grows (spotting t around scope) (assigned_to place (map spotting (u ∷ ts)) rest around scope) (target_spots t k.0)
-      (λ s us good grow. grows_bind (rest us) (written_by place s false) (chain_grows (u ∷ ts) k.1 us grow) (λ i. good false i)) ps h
+      behind_grows (spotting t around scope) (assigned_to place (map spotting (u ∷ ts)) rest around scope) (target_spots t)
+      (λ s us good grow. grows_bind (rest us) (written_by place s false) (chain_grows (u ∷ ts) us grow) (λ i. good false i)) ps h

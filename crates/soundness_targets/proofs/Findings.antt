@@ -1,4 +1,4 @@
--- What the parts of a tuple of targets are found to be, where one may be a part of a name.
+-- What a part of a tuple of targets is found to be, where it may be a part of a name.
 use Rattle.std.proofs.Common.{◌≡◌, ◌∙◌, ℕ, List, [], ◌∷◌, ◌++◌, ◌-◌, length, take, slice_get, Option, Some, None, refl, sym, ap, subst}
 use Rattle.sail_base.specs.declared.place.Place.{Place}
 use Rattle.sail_types.specs.Belongs.{belongs}
@@ -22,15 +22,14 @@ use Rattle.pattern_leaves.specs.declared.names.Held.TheVariants as H
 use Rattle.expression_forms.specs.Names.{named_read, register_type}
 use Rattle.expression_forms.specs.Spots.{Spot, held_spot, named_spot, register_spot, wrong_spot}
 use Rattle.expression_steps.specs.Parts.{Part}
-use Rattle.expression_steps.specs.Targets.{Spotted, SpottedAll, Spotting, each_spot, kind_spot, part_of, spotted, spotted_all, suffixes_spot, then_spot}
-use Rattle.expression_steps.specs.Targets.{with_spot}
+use Rattle.expression_steps.specs.Targets.{Spotted, Spotting, kind_spot, part_of, part_within, spotted, suffixes_spot, then_spot}
 use Rattle.checked_meaning.specs.Items.{Item}
 use Rattle.value_laws.specs.Known.{Point}
 use Rattle.soundness_steps.specs.Points.{Later}
 use Rattle.soundness_steps.proofs.Points.{agree_on, later_on, no_later}
 use Rattle.soundness_steps.specs.Works.{Scene, here}
 use Rattle.soundness_steps.specs.Steps.{Beside, Grows}
-use Rattle.soundness_steps.proofs.Steps.{given_back, means, rests, runs_as, walks_then}
+use Rattle.soundness_steps.proofs.Steps.{means, runs_as, walks_then}
 use Rattle.soundness_forms.specs.Forms.{AllFine}
 use Rattle.soundness_forms.specs.Registers.{RegistersClosed}
 use Rattle.soundness_forms.specs.Worlds.{Surrounds}
@@ -40,11 +39,11 @@ use Rattle.soundness_forms.proofs.Leaves.{wrong_node}
 use Rattle.soundness_forms.proofs.Worlds.{surrounds_on}
 use Rattle.soundness_parts.proofs.Taken.{z}
 use Rattle.soundness_values.specs.Named.{TypesNarrow}
-use Rattle.soundness_targets.proofs.Behind.{Behind, behind_then}
+use Rattle.soundness_targets.proofs.Bases.{AtOnce, held_once, register_once, within_is}
+use Rattle.soundness_targets.proofs.Behind.{Behind}
 use Rattle.soundness_targets.proofs.Members.{FoundOne}
-use Rattle.soundness_targets.proofs.ModeLists.{Modes, all_on, more_modes, no_modes}
 use Rattle.soundness_targets.proofs.Modes.{Mode, plain_mode}
-use Rattle.soundness_targets.proofs.Moments.{Front, front_on}
+use Rattle.soundness_targets.proofs.Moments.{front_on}
 use Rattle.soundness_targets.proofs.PartAssigned.{split_last}
 use Rattle.soundness_targets.proofs.PartModes.{part_mode}
 use Rattle.soundness_targets.proofs.PartWrites.{NameFine, Seen, run_base, seen_on}
@@ -55,6 +54,7 @@ use Rattle.soundness_targets.proofs.Shapes.{IsName}
 use Rattle.soundness_targets.proofs.Spots.{Is_at, SpotIs, spots_fine}
 use Rattle.soundness_targets.proofs.TargetGrowth.{AnyGrow, grow_of, spots_grow}
 use Rattle.soundness_targets.proofs.TargetNames.{register_fine, variable_fine}
+use Rattle.soundness_targets.proofs.Written.{all_on}
 
 module _ (q : Scene) (w : World Item) (scope : Scope) where
   -- ---- one
@@ -69,66 +69,6 @@ module _ (q : Scene) (w : World Item) (scope : Scope) where
     pub finds : (v : mode.V) → mode.Ok v → (m : ℕ) (g : Point m) (fs : List Fact) (ps : List Part) (us : List (Run Item Item)) → Later f g → AllFine q w ps us
         → Surrounds q w g scope
         → Behind q m g fs (t (here q) scope ps) (tr us) (λ d h gs o r. FoundSo mode v h gs o r)
-
-  -- ---- several
-
-  abbrev pub FoundEach : {n : ℕ} {f : Point n} (modes : Modes q w f) → modes.V → {m : ℕ} → Point m → List Fact → Option SpottedAll
-      → Runs.Spotted Item (List (Runs.Spot Item)) → Type 0
-  FoundEach modes v g fs None r = ⊥
-  FoundEach modes v {m} g fs (Some all) r = AllFine q w all.left r.left × modes.Ready v m g fs all.spots r.found
-
-  pub record FindingEach (ts : List Spotting) (trs : List (Runs.Spotting Item (Runs.Spot Item))) {n : ℕ} (f : Point n) : Type 1 where
-    pub modes : Modes q w f
-    pub finds : (v : modes.V) → modes.Ok v → (m : ℕ) (g : Point m) (fs : List Fact) (ps : List Part) (us : List (Run Item Item)) → Later f g
-        → AllFine q w ps us → Surrounds q w g scope
-        → Behind q m g fs (each_spot ts (here q) scope ps) (Runs.spots_of trs us) (λ d h gs o r. FoundEach modes v h gs o r)
-
-  module _ {n : ℕ} (f : Point n) where
-    pub none_finding : FindingEach [] [] f
-    none_finding = record {
-      modes = no_modes q w f;
-      finds = λ v ok m g fs ps us l fine there. rests (record { found = []; left = us }) (given_back (spotted_all [] ps) (fine, tt));
-    }
-
-    module _ (t : Spotting) (tr : Runs.Spotting Item (Runs.Spot Item)) (ts : List Spotting) (trs : List (Runs.Spotting Item (Runs.Spot Item)))
-        (one : Finding t tr f) (rest : FindingEach ts trs f)
-        (grow : (ps : List Part) → AnyGrow (here q) scope ps → Grows (each_spot ts (here q) scope ps)) where
-      abbrev both_modes : Modes q w f
-      both_modes = more_modes q w f one.mode rest.modes
-
-      abbrev All : both_modes.V → {m : ℕ} → Point m → List Fact → Option SpottedAll → Runs.Spotted Item (List (Runs.Spot Item)) → Type 0
-      All v g fs o r = FoundEach both_modes v g fs o r
-
-      last_found : (v : both_modes.V) {m d : ℕ} (g : Point m) (p : Point d) (fs gs : List Fact) (s : Spot) (sr : Runs.Spot Item) → Later g p → Front fs gs
-          → one.mode.Ready v.0 m g fs s sr → (all : Option SpottedAll) (r : Runs.Spotted Item (List (Runs.Spot Item))) → FoundEach rest.modes v.1 p gs all r
-          → Behind q d p gs (with_spot s all) (Runs.spotted (sr ∷ r.found) r.left) (λ a b hs o c. All v b hs o c)
-      unfolding give
-      last_found v {m} {d} g p fs gs s sr l e ready None r h = absurd h
-      last_found v {m} {d} g p fs gs s sr l e ready (Some all) r h =
-          rests (record { found = sr ∷ r.found; left = r.left })
-          (given_back (spotted_all (s ∷ all.spots) all.left) (h.0, (one.mode.on v.0 m d g p fs gs s sr l e ready, h.1)))
-
-      first_found : (v : both_modes.V) → both_modes.Ok v → {m : ℕ} (g : Point m) (fs : List Fact) → Later f g → Surrounds q w g scope → (o : Option Spotted)
-          (r : Runs.Spotted Item (Runs.Spot Item)) → FoundSo one.mode v.0 g fs o r
-          → Behind q m g fs (then_spot (λ s left. bind (each_spot ts (here q) scope left) (with_spot s)) o) (Runs.also r.found (Runs.spots_of trs r.left))
-          (λ a b hs o2 c. All v b hs o2 c)
-      first_found v ok g fs l there None r h = absurd h
-      first_found v ok {m} g fs l there (Some s) r h =
-          behind_then (each_spot ts (here q) scope s.left) (λ d p gs all c. FoundEach rest.modes v.1 p gs all c) (with_spot s.spot)
-          (λ all. Runs.spotted (r.found ∷ all.found) all.left) (λ a b hs o2 c. All v b hs o2 c)
-          (rest.finds v.1 ok.1 m g fs s.left r.left l h.0 there) (λ p all l2 k.
-          last_found v g p fs _ s.spot r.found l2
-          (front_on fs fs m (each_spot ts (here q) scope s.left) (grow s.left (grow_of q w (here q) scope s.left r.left h.0)) (all_on fs)) h.1 _ all k)
-
-      pub more_finding : FindingEach (t ∷ ts) (tr ∷ trs) f
-      more_finding = record {
-        modes = both_modes;
-        finds = λ v ok m g fs ps us l fine there.
-            behind_then (t (here q) scope ps) (λ d p gs o c. FoundSo one.mode v.0 p gs o c)
-            (then_spot (λ s left. bind (each_spot ts (here q) scope left) (with_spot s))) (λ r. Runs.also r.found (Runs.spots_of trs r.left))
-            (λ a b hs o c. All v b hs o c) (one.finds v.0 ok.0 m g fs ps us l fine there) (λ p r l2 h.
-            first_found v ok p _ (later_on l l2) (surrounds_on q w scope l2 there) _ r h);
-      }
 
   -- ---- one of which nothing is foreseen
 
@@ -241,15 +181,16 @@ module _ (q : Scene) (w : World Item) (narrow : TypesNarrow q.set.around.types) 
 
   -- the walk begins with its base
   module _ (bt : Spotting) (btr : Runs.Spotting Item (Runs.Spot Item)) (s : Spot) (sr : Runs.Spot Item)
-      (base_is : (ps : List Part) → bt (here q) scope ps ≡ give (spotted s ps)) (base_runs : (us : List (Run Item Item)) → btr us ≡ Runs.spotted sr us) where
+      (once : AtOnce s) (base_is : (ps : List Part) → bt (here q) scope ps ≡ give (spotted s ps))
+      (base_runs : (us : List (Run Item Item)) → btr us ≡ Runs.spotted sr us) where
     given_first : {A C : Type 0} (a : A) (next : A → Walk C) → bind (give a) next ≡ next a
     unfolding bind give
     given_first a next = refl
 
     opens : (ss : List Suffix) (ps : List Part) → kind_spot at k (T.Part ss) (bt ∷ []) (here q) scope ps ≡ part_of at k ss (here q) scope s ps
     opens ss ps =
-        ap (λ (v : Walk (Option Spotted)). bind v (then_spot (part_of at k ss (here q) scope))) (base_is ps)
-        ∙ given_first (spotted s ps) (then_spot (part_of at k ss (here q) scope))
+        ap (λ (v : Walk (Option Spotted)). bind v (then_spot (part_within at k ss (here q) scope))) (base_is ps)
+        ∙ given_first (spotted s ps) (then_spot (part_within at k ss (here q) scope)) ∙ within_is at k ss (here q) scope s once ps
 
     starts_so : (ss : List Suffix) → Finding q w scope (of_base ss s) (base_part ss sr) f
         → Finding q w scope (kind_spot at k (T.Part ss) (bt ∷ [])) (target_meaning (z q) w at k (T.Part ss) (btr ∷ [])) f
@@ -267,7 +208,7 @@ module _ (q : Scene) (w : World Item) (narrow : TypesNarrow q.set.around.types) 
       (target_meaning (z q) w at k (T.Part ss) (target_meaning (z q) w base_at b (T.Variable name) [] ∷ [])) f
   variable_finding ss name o is h =
       starts_so (kind_spot base_at b (T.Variable name) []) (target_meaning (z q) w base_at b (T.Variable name) []) (held_spot (here q) base_at b name o)
-      (Runs.variable_spot (z q) b name) (λ ps. λ j. give (spotted (held_spot (here q) base_at b name (is j)) ps)) (λ us. refl) ss (by o is h)
+      (Runs.variable_spot (z q) b name) (held_once (here q) base_at b name o) (λ ps. λ j. give (spotted (held_spot (here q) base_at b name (is j)) ps)) (λ us. refl) ss (by o is h)
     where
       by : (c : Option Held) → held_in name scope ≡ c → Var q f c
           → Finding q w scope (of_base ss (held_spot (here q) base_at b name c)) (base_part ss (Runs.variable_spot (z q) b name)) f
@@ -281,7 +222,7 @@ module _ (q : Scene) (w : World Item) (narrow : TypesNarrow q.set.around.types) 
       (target_meaning (z q) w at k (T.Part ss) (target_meaning (z q) w base_at b (T.Register i) [] ∷ [])) f
   register_finding ss i o is =
       starts_so (kind_spot base_at b (T.Register i) []) (target_meaning (z q) w base_at b (T.Register i) []) (register_spot (here q) base_at b o)
-      (Runs.register_spot (z q) w b i) (λ ps. λ j. give (spotted (register_spot (here q) base_at b (is j)) ps)) (λ us. refl) ss (by o is)
+      (Runs.register_spot (z q) w b i) (register_once (here q) base_at b o) (λ ps. λ j. give (spotted (register_spot (here q) base_at b (is j)) ps)) (λ us. refl) ss (by o is)
     where
       by : (c : Option Register) → slice_get q.set.around.registers i ≡ c
           → Finding q w scope (of_base ss (register_spot (here q) base_at b c)) (base_part ss (Runs.register_spot (z q) w b i)) f

@@ -55,7 +55,6 @@ use Rattle.soundness_forms.proofs.Parts.{EachIs, not_never}
 use Rattle.soundness_forms.proofs.Worlds.{surrounds_on}
 use Rattle.soundness_values.proofs.Mappings.{nameless_wanted}
 use Rattle.soundness_parts.proofs.Taken.{z}
-use Rattle.soundness_targets.specs.Plain.{is_called}
 use Rattle.soundness_targets.proofs.CallGrowth.{written_grow}
 use Rattle.soundness_targets.proofs.CallTargets.{each_on, value_written}
 use Rattle.soundness_targets.proofs.Named.{put_fine}
@@ -134,7 +133,7 @@ module _ (fit : FitsSuffice) (q : Scene) (w : World Item) {n : ℕ} (f : Point n
 
 module _ (fit : FitsSuffice) (q : Scene) (w : World Item) (places : (i : ℕ) → CalleeFits q.set i) (mappings : MappingsClosed q.set) (scope : Scope)
     {n : ℕ} (f : Point n) (there : Surrounds q w f scope) (at : Place) (k : ℕ) (reader : Option Caller) (writer : Caller)
-    (is_there : is_called writer.callee ≡ true) (ps : List Part) (is : List Indices) (xs : List Item)
+    (ps : List Part) (is : List Indices) (xs : List Item)
     (each : EachIs q.set q.work f ps (argument_aims (callee_types (here q) writer.callee)) is xs) where
   abbrev a_call : Spot
   a_call = call_spot (here q) at k reader writer (nestings ps) is
@@ -164,7 +163,7 @@ module _ (fit : FitsSuffice) (q : Scene) (w : World Item) (places : (i : ℕ) �
     suffice = λ m g l nested i u meet d p lp. says_so [] (λ c a s. tt);
     writes = λ m g fs l nested i u meet due.
         means (λ d p a r l2 e. ap (λ (x : Wrote). x.left) e.1)
-        (value_written fit q w places mappings scope at k reader writer is_there ps is xs (surrounds_on q w scope l there)
+        (value_written fit q w places mappings scope at k reader writer ps is xs (surrounds_on q w scope l there)
         (each_on q ps (argument_aims (callee_types (here q) writer.callee)) is xs l each) nested i u meet.0 meet.1);
   }
 

@@ -1,5 +1,6 @@
 -- Targets that may be parts of a tuple, beside their runs: names, calls, and tuples of such.
-use Rattle.std.proofs.Common.{◌≡◌, ◌∙◌, ℕ, Bool, true, false, List, [], ◌∷◌, if◌then◌else◌, drop, map, slice_get, take, Option, Some, None, refl, sym, subst}
+use Rattle.std.proofs.Common.{◌≡◌, ◌∙◌, ℕ, Bool, true, false, List, [], ◌∷◌}
+use Rattle.std.proofs.Common.{if◌then◌else◌, drop, map, slice_get, take, Option, Some, None, refl, sym, subst}
 use Rattle.std.specs.List.{list_all}
 use Rattle.std.proofs.lemmas.Bool.{and_parts}
 use Rattle.sail_base.specs.declared.place.Place.{Place}
@@ -23,7 +24,8 @@ use Rattle.expression_forms.specs.Names.{register_type}
 use Rattle.expression_forms.specs.Spots.{Spot, call_spot, held_spot, named_spot, register_spot, tuple_spot, wrong_spot}
 use Rattle.expression_steps.specs.Calls.{argument_aims, nestings}
 use Rattle.expression_steps.specs.Parts.{Part}
-use Rattle.expression_steps.specs.Targets.{Spotted, SpottedAll, Spotting, call_spotted, each_spot, kind_spot, spotted, spotted_all, spotting, then_spot, tuple_spotted, with_spot}
+use Rattle.expression_steps.specs.Targets.{Spotted, SpottedAll, Spotting, call_spotted, each_spot, kind_spot}
+use Rattle.expression_steps.specs.Targets.{spotted, spotted_all, spotting, then_spot, tuple_spotted, with_spot}
 use Rattle.checked_meaning.specs.Items.{Item}
 use Rattle.value_laws.specs.Known.{Point}
 use Rattle.soundness_steps.specs.Points.{Later}
@@ -40,7 +42,7 @@ use Rattle.soundness_forms.proofs.Worlds.{surrounds_on}
 use Rattle.soundness_values.proofs.Mappings.{arguments_steady}
 use Rattle.soundness_values.proofs.NamedKinds.{all_taken}
 use Rattle.soundness_parts.proofs.Taken.{z}
-use Rattle.soundness_targets.specs.Plain.{Shape, a_call, a_name, a_part, a_parted, a_tuple, another, is_called, is_item, is_member, shape, shape_form}
+use Rattle.soundness_targets.specs.Plain.{Shape, a_call, a_late, a_name, a_part, a_parted, a_tuple, a_wrong, is_item, is_member, shape, shape_form}
 use Rattle.soundness_targets.proofs.CallTargets.{all_dropped}
 use Rattle.soundness_targets.proofs.MemberSpots.{call_writable, name_writable, tuple_writable}
 use Rattle.soundness_targets.proofs.Setters.{Var, held_keeps}
@@ -97,9 +99,9 @@ module _ (fit : FitsSuffice) (q : Scene) (w : World Item) (closed : RegistersClo
 
   -- ---- calls
 
-  call_found : (at : Place) (k count : ℕ) (reader : Option Caller) (writer : Caller) → is_called writer.callee ≡ true
+  call_found : (at : Place) (k count : ℕ) (reader : Option Caller) (writer : Caller)
       → Finds (kind_spot at k (T.Call count reader writer) []) (target_meaning (z q) w at k (T.Call count reader writer) [])
-  call_found at k count reader writer is_there n f facts ps us fine there =
+  call_found at k count reader writer n f facts ps us fine there =
       let aims = argument_aims (callee_types (here q) writer.callee) in
       binds (call_spotted (here q) at k count reader writer ps)
       (λ xs. Runs.spotted (Runs.call_spot (z q) w at k reader writer xs) (drop count us))
@@ -108,7 +110,7 @@ module _ (fit : FitsSuffice) (q : Scene) (w : World Item) (closed : RegistersClo
       (λ m g fs is xs l e.
       found_once g fs (drop count ps) (drop count us) (all_dropped q w count ps us fine)
       (call_spot (here q) at k reader writer (nestings (take count ps)) is) (Runs.call_spot (z q) w at k reader writer xs)
-      (call_writable fit q w places mappings scope g (surrounds_on q w scope l there) at k reader writer is_there (take count ps) is xs e))
+      (call_writable fit q w places mappings scope g (surrounds_on q w scope l there) at k reader writer (take count ps) is xs e))
 
   -- ---- several, one after the other
 
@@ -174,32 +176,23 @@ module _ (fit : FitsSuffice) (q : Scene) (w : World Item) (closed : RegistersClo
 
   module _ (at : Place) (k : ℕ) where
     by_tuple : (ys : List Such) (b c : Bool) → list_all is_member (map shape (targets_of ys)) ≡ b
-        → is_member (if b then a_tuple else if c then a_parted else another) ≡ true
+        → is_member (if b then a_tuple else if c then a_parted else a_wrong) ≡ true
         → Finds (kind_spot at k T.Tuple (map spotting (targets_of ys))) (target_meaning (z q) w at k T.Tuple (map meaning (targets_of ys)))
     by_tuple ys true c e m = tuple_found at k (map spotting (targets_of ys)) (map meaning (targets_of ys)) (all_members ys e)
     by_tuple ys false true e m = absurd (cc)
     by_tuple ys false false e m = absurd (cc)
 
-    by_call : (count : ℕ) (reader : Option Caller) (writer : Caller) (b : Bool) → is_called writer.callee ≡ b
-        → is_member (if b then a_call else another) ≡ true
-        → Finds (kind_spot at k (T.Call count reader writer) []) (target_meaning (z q) w at k (T.Call count reader writer) [])
-    by_call count reader writer true e m = call_found at k count reader writer e
-    by_call count reader writer false e m = absurd (cc)
-
     no_part : (ss : List Suffix) (cs : List Shape) → is_member (shape_form (T.Part ss) cs) ≡ false
     no_part ss [] = refl
     no_part ss (a_name ∷ []) = refl
     no_part ss (a_part ∷ []) = refl
-    no_part ss (a_call ∷ []) = refl
+    no_part [] (a_call ∷ []) = refl
+    no_part (s ∷ ss) (a_call ∷ []) = refl
+    no_part ss (a_late ∷ []) = refl
     no_part ss (a_tuple ∷ []) = refl
     no_part ss (a_parted ∷ []) = refl
-    no_part ss (another ∷ []) = refl
-    no_part ss (a_name ∷ c ∷ cs) = refl
-    no_part ss (a_part ∷ c ∷ cs) = refl
-    no_part ss (a_call ∷ c ∷ cs) = refl
-    no_part ss (a_tuple ∷ c ∷ cs) = refl
-    no_part ss (a_parted ∷ c ∷ cs) = refl
-    no_part ss (another ∷ c ∷ cs) = refl
+    no_part ss (a_wrong ∷ []) = refl
+    no_part ss (c ∷ d ∷ cs) = refl
 
     form_by : (kind : TargetKind) (ys : List Such) → is_member (shape_form kind (map shape (targets_of ys))) ≡ true
         → Finds (kind_spot at k kind (map spotting (targets_of ys))) (target_meaning (z q) w at k kind (map meaning (targets_of ys)))
@@ -207,7 +200,7 @@ module _ (fit : FitsSuffice) (q : Scene) (w : World Item) (closed : RegistersClo
         held_found f facts ps us fine there at k name (held_in name scope) refl (held_keeps q f name scope q.names there.names)
     form_by (T.Register i) [] m = λ n f facts ps us fine there.
         register_found f facts ps us fine there at k i (slice_get q.set.around.registers i) refl
-    form_by (T.Call count reader writer) [] m = by_call count reader writer (is_called writer.callee) refl m
+    form_by (T.Call count reader writer) [] m = call_found at k count reader writer
     form_by T.Tuple ys m = by_tuple ys (list_all is_member (map shape (targets_of ys))) (list_all is_item (map shape (targets_of ys))) refl m
     form_by (T.Part ss) ys m =
         let bad : true ≡ false = sym m ∙ no_part ss (map shape (targets_of ys)) in

@@ -95,7 +95,7 @@ module _ {q : Scene} {n : ℕ} {f : Point n} {facts : List Fact} {noted : Noted}
   }
 
   -- behind a walk that is known as a whole
-  at_exact : {A B C : Type 0} (w : Walk A) (k : A → Walk C) {e : Ended Item B} {Then : (m : ℕ) → Point m → C → B → Type 0} (r : Went A) → w facts n ≡ r
+  pub at_exact : {A B C : Type 0} (w : Walk A) (k : A → Walk C) {e : Ended Item B} {Then : (m : ℕ) → Point m → C → B → Type 0} (r : Went A) → w facts n ≡ r
       → (Stands q.set q.work noted f facts → AllMet q r.notes → AllMet q (k r.value r.facts r.next).notes
       → EndsWell q f (k r.value r.facts r.next).next (k r.value r.facts r.next).facts
       (λ p x. Then (k r.value r.facts r.next).next p (k r.value r.facts r.next).value x) e)

@@ -25,7 +25,7 @@ use Rattle.expression_forms.specs.Names.{named_read, register_type}
 use Rattle.expression_forms.specs.Spots as Walked
 use Rattle.expression_forms.specs.Spots.{Spot, held_spot, named_spot, owed_answer, register_spot, written_by, wrong_spot}
 use Rattle.expression_steps.specs.Parts.{Part}
-use Rattle.expression_steps.specs.Targets.{Spotted, Spotting, kind_spot, part_of, spotted, suffixes_spot, then_assigned}
+use Rattle.expression_steps.specs.Targets.{Spotted, Spotting, kind_spot, part_of, part_within, spotted, suffixes_spot, then_assigned}
 use Rattle.expression_steps.specs.Targets.{then_spot}
 use Rattle.checked_meaning.specs.Items.{Item}
 use Rattle.value_laws.specs.Known.{Point}
@@ -44,6 +44,7 @@ use Rattle.soundness_forms.proofs.Leaving.{aimed_is}
 use Rattle.soundness_parts.proofs.SliceSteps.{under}
 use Rattle.soundness_parts.proofs.Taken.{z}
 use Rattle.soundness_values.specs.Named.{TypesNarrow}
+use Rattle.soundness_targets.proofs.Bases.{AtOnce, held_once, register_once, within_is}
 use Rattle.soundness_targets.proofs.Named.{none_aimed}
 use Rattle.soundness_targets.proofs.Named.{written_fine}
 use Rattle.soundness_targets.proofs.PartAssigned.{part_assigned, split_last}
@@ -202,15 +203,18 @@ module _ (fit : FitsSuffice) (q : Scene) (w : World Item) (narrow : TypesNarrow 
         (register_fine q w scope there b i r is (closed i r is)) at k ss
 
     -- the walk over a part begins with its base
-    part_starts : (at : Place) (k : ℕ) (ss : List Suffix) (s : Spot) (sr : Runs.Spot Item)
+    part_starts : (at : Place) (k : ℕ) (ss : List Suffix) (s : Spot) (sr : Runs.Spot Item) → AtOnce s
         → Beside q n f facts (bind (part_of at k ss (here q) scope s ps) (then_assigned further)) (run_of k sr ss) (λ m g j u. Is q.set q.work g j u)
-        → Beside q n f facts (bind (bind (give (spotted s ps)) (then_spot (part_of at k ss (here q) scope))) (then_assigned further))
+        → Beside q n f facts (bind (bind (give (spotted s ps)) (then_spot (part_within at k ss (here q) scope))) (then_assigned further))
         ((ways_of (z q) ss us then λ ways. Runs.spotted (part_spot (z q) k sr ways.found) ways.left) then λ r. right.run r.left then r.found.write)
         (λ m g j u. Is q.set q.work g j u)
-    part_starts at k ss s sr h =
-        walk_regrouped (give (spotted s ps)) (then_spot (part_of at k ss (here q) scope)) (then_assigned further)
-        (starts (spotted s ps) (λ o. bind (then_spot (part_of at k ss (here q) scope) o) (then_assigned further))
-        (runs_as (λ now. sym (under (ways_of (z q) ss us now) _ _ (λ r. right.run r.left then r.found.write) (λ ways n1. refl))) h))
+    part_starts at k ss s sr once h =
+        walk_regrouped (give (spotted s ps)) (then_spot (part_within at k ss (here q) scope)) (then_assigned further)
+        (starts (spotted s ps) (λ o. bind (then_spot (part_within at k ss (here q) scope) o) (then_assigned further))
+        (subst (λ (v : Walk (Option Spotted)). Beside q n f facts (bind v (then_assigned further))
+        ((ways_of (z q) ss us then λ ways. Runs.spotted (part_spot (z q) k sr ways.found) ways.left) then λ r. right.run r.left then r.found.write)
+        (λ m g j u. Is q.set q.work g j u)) (sym (within_is at k ss (here q) scope s once ps))
+        (runs_as (λ now. sym (under (ways_of (z q) ss us now) _ _ (λ r. right.run r.left then r.found.write) (λ ways n1. refl))) h)))
 
   -- ---- targets
 
@@ -228,12 +232,12 @@ module _ (fit : FitsSuffice) (q : Scene) (w : World Item) (narrow : TypesNarrow 
       (target_meaning (z q) w at k (T.Part ss) (target_meaning (z q) w base_at b kind [] ∷ []))
   part_target at k ss base_at b (T.Variable name) is right right_fine further splits n f facts ps us fine there =
       part_starts right right_fine further splits facts ps us fine there at k ss (held_spot (here q) base_at b name (held_in name scope))
-      (Runs.variable_spot (z q) b name)
+      (Runs.variable_spot (z q) b name) (held_once (here q) base_at b name (held_in name scope))
       (held_part right right_fine further splits facts ps us fine there at k ss base_at b name (held_in name scope) refl
       (held_keeps q f name scope q.names there.names))
   part_target at k ss base_at b (T.Register i) is right right_fine further splits n f facts ps us fine there =
       part_starts right right_fine further splits facts ps us fine there at k ss (register_spot (here q) base_at b (slice_get q.set.around.registers i))
-      (Runs.register_spot (z q) w b i)
+      (Runs.register_spot (z q) w b i) (register_once (here q) base_at b (slice_get q.set.around.registers i))
       (register_part right right_fine further splits facts ps us fine there at k ss base_at b i (slice_get q.set.around.registers i) refl)
   part_target at k ss base_at b T.Tuple is right right_fine further splits n f facts ps us fine there = absurd is
   part_target at k ss base_at b (T.Part rs) is right right_fine further splits n f facts ps us fine there = absurd is

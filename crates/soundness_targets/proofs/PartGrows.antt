@@ -53,13 +53,13 @@ module _ (around : Around) where
   wrong_renews at i = (grows_give tt, grows_wrong at)
 
   module _ (at : Place) (k : ℕ) (base : Spot) (renews : Renews base) (held : Indices) (x : Reached) where
-    abbrev again : Walk Indices
+    abbrev pub again : Walk Indices
     again = rewritten base held
 
-    again_grows : Grows again
+    pub again_grows : Grows again
     again_grows = grows_bind (base.given held) (λ t. base.renew held) (renews held).0 (λ t. (renews held).1)
 
-    write_grows : (owes nested : Bool) (i : Indices) → Grows (part_write around at owes x again nested i)
+    pub write_grows : (owes nested : Bool) (i : Indices) → Grows (part_write around at owes x again nested i)
     write_grows true nested i =
         grows_bind (owe_part around at x nested i) (λ t. bind again gives) (grows_owe_fit at (part_fits around x nested i) (part_counts around x nested i)) (λ t.
         grows_bind again gives again_grows (λ j. grows_give (wrote (says []) j)))
@@ -92,7 +92,7 @@ module _ (around : Around) where
   named_base : (at : Place) (k : ℕ) (name : List ℕ) (r : Reading) → BaseGrows (named_spot around at k name r)
   named_base at k name r = record { renews = named_renews at k name r; reads = grows_named at k name r }
 
-  wrong_base : (at : Place) → BaseGrows (wrong_spot at)
+  pub wrong_base : (at : Place) → BaseGrows (wrong_spot at)
   wrong_base at = record { renews = wrong_renews at; reads = grows_wrong at }
 
   pub held_base : (at : Place) (k : ℕ) (name : List ℕ) (o : Option Held) → BaseGrows (held_spot around at k name o)

@@ -1,10 +1,9 @@
 -- A tuple of targets, parts of names among them, with what stands on its right.
-use Rattle.std.proofs.Common.{◌≡◌, ◌∙◌, ℕ, Bool, true, false, List, Option, Some, None, refl, sym, ap, subst, arith}
+use Rattle.std.proofs.Common.{◌≡◌, ◌∙◌, ℕ, Bool, true, false, List, [], Option, Some, None, refl, sym, ap, subst, arith}
 use Rattle.sail_base.specs.declared.place.Place.{Place}
-use Rattle.sail_types.specs.declared.values.Value.{Value}
 use Rattle.sail_core.specs.Making.{World}
 use Rattle.sail_core.specs.Patterns.{components}
-use Rattle.sail_core.specs.Run.{Now, Run, gives, goes_on, needs, ◌then◌}
+use Rattle.sail_core.specs.Run.{Ended, Now, Run, goes_on, needs, ◌then◌}
 use Rattle.sail_core.specs.Targets as Runs
 use Rattle.sail_core.specs.Targets.{target_meaning}
 use Rattle.sail_core.specs.Values.{parts_in}
@@ -25,7 +24,7 @@ use Rattle.call_notes.specs.Ends.{is_never_form}
 use Rattle.expression_forms.specs.Spots as Walked
 use Rattle.expression_forms.specs.Spots.{Spot, Wrote, each_written, owed_answer, parts_nested, tuple_spot, tuple_write, written_by}
 use Rattle.expression_steps.specs.Parts.{Part}
-use Rattle.expression_steps.specs.Targets.{SpottedAll, Spotting, each_spot, kind_spot, then_assigned, tuple_spotted}
+use Rattle.expression_steps.specs.Targets.{SpottedAll, Spotting, each_spot, kind_spot, spotted_all, then_assigned, tuple_spotted}
 use Rattle.checked_meaning.specs.Items.{Item}
 use Rattle.fitting_laws.specs.Fitting.{Suffices}
 use Rattle.fitting_laws.proofs.Joining.{suffice_as}
@@ -34,32 +33,39 @@ use Rattle.value_laws.proofs.Steps.{same}
 use Rattle.soundness_steps.specs.Points.{Later}
 use Rattle.soundness_steps.proofs.Points.{agree_on, later_on, no_later}
 use Rattle.soundness_steps.specs.Works.{Scene, here}
-use Rattle.soundness_steps.specs.Steps.{AllMet, Beside, Grows, Walks}
+use Rattle.soundness_steps.specs.States.{Sound}
+use Rattle.soundness_steps.specs.Steps.{AllMet, Beside, EndsWell, Walks}
 use Rattle.soundness_steps.specs.Values.{Is, IsMet}
-use Rattle.soundness_steps.proofs.Steps.{given_back, grown, grown_later, means, met_behind, met_front, rests, runs_as, stands_on, walks_mean, walks_on}
+use Rattle.soundness_steps.proofs.Steps.{given_back, grown, grown_later, met_behind, met_front, runs_as, stands_on, walks_mean, walks_on, well_on}
 use Rattle.soundness_forms.specs.Forms.{AllFine, FitsSuffice}
 use Rattle.soundness_forms.specs.Registers.{RegistersClosed}
 use Rattle.soundness_forms.specs.Worlds.{Surrounds}
-use Rattle.soundness_forms.proofs.Basics.{is_on, wrong_walks}
-use Rattle.soundness_forms.proofs.Leaves.{wrong_node}
+use Rattle.soundness_forms.proofs.Basics.{is_on}
 use Rattle.soundness_forms.proofs.Parts.{not_never}
 use Rattle.soundness_forms.proofs.Worlds.{surrounds_on}
 use Rattle.soundness_fits.proofs.Owing.{suffices_walks}
 use Rattle.soundness_values.specs.Named.{TypesNarrow}
 use Rattle.soundness_parts.proofs.SliceSteps.{under}
 use Rattle.soundness_parts.proofs.Taken.{z}
-use Rattle.soundness_targets.proofs.Behind.{Behind, behind_if, behind_means, behind_same, behind_spread, behind_then, behind_value, goes_gives}
-use Rattle.soundness_targets.proofs.Findings.{FindingEach, FoundEach}
-use Rattle.soundness_targets.proofs.ModeLists.{Modes, Says, all_left, all_on}
+use Rattle.soundness_targets.proofs.Behind.{ends_means}
+use Rattle.soundness_targets.proofs.FoundTargets.{EachFound, FindsEach}
+use Rattle.soundness_targets.proofs.ModeLists.{Modes, all_left, wrong_there}
 use Rattle.soundness_targets.proofs.Moments.{front_on}
 use Rattle.soundness_targets.proofs.OneTarget.{Goes}
-use Rattle.soundness_targets.proofs.Pieces.{both, walk_regrouped, walk_spread}
+use Rattle.soundness_targets.proofs.Pieces.{walk_regrouped}
 use Rattle.soundness_targets.proofs.Rights.{IsWritten, Right, RightFine, spot_first, spot_last, spot_same}
 use Rattle.soundness_targets.proofs.TargetGrowth.{grow_of}
-use Rattle.soundness_targets.proofs.TupleShares.{items_of, shared, shared_items}
+use Rattle.soundness_targets.proofs.Trees.{Ends, There, ends_each, ends_map, ends_then, ends_well, one_path}
+use Rattle.soundness_targets.proofs.TupleShares.{Shared, items_of, shared, shared_items}
 use Rattle.soundness_targets.proofs.TupleTargets.{all_facts}
 use Rattle.soundness_targets.proofs.TupleTypes.{tuple_typed, typed_steady}
 use Rattle.soundness_targets.proofs.TupleWrites.{AllMeet}
+use Rattle.soundness_targets.proofs.Written.{Says, Stays, all_on}
+
+-- the parts that are left behind all
+abbrev spotted_left : Option SpottedAll → List Part
+spotted_left None = []
+spotted_left (Some all) = all.left
 
 given_first : {A C : Type 0} (a : A) (next : A → Walk C) → bind (give a) next ≡ next a
 unfolding bind give
@@ -67,263 +73,296 @@ given_first a next = refl
 
 module _ (fit : FitsSuffice) (q : Scene) (w : World Item) (narrow : TypesNarrow q.set.around.types) (closed : RegistersClosed q.set) (place : Place)
     (scope : Scope) (at : Place) (k : ℕ) (ts : List Spotting) (trs : List (Runs.Spotting Item (Runs.Spot Item)))
-    (each : (n : ℕ) (f : Point n) → Surrounds q w f scope → FindingEach q w scope ts trs f) where
+    (each : (n : ℕ) (f : Point n) → Surrounds q w f scope → FindsEach q w scope ts trs f) where
   module _ (right : Right) (right_fine : RightFine q w place scope right) {n : ℕ} (f : Point n) (facts : List Fact) (ps : List Part) (us : List (Run Item Item))
       (fine : AllFine q w ps us) (there : Surrounds q w f scope) where
-    abbrev modes : Modes q w f
-    modes = (each n f there).modes
+    abbrev parts : EachFound q w scope ts trs f n facts ps
+    parts = each n f there n facts ps
 
-    abbrev Found : Type 0
-    Found = Runs.Spotted Item (List (Runs.Spot Item)) × Item
+    abbrev spots : List Spot
+    spots = parts.spots
 
-    abbrev spot_of : SpottedAll → Spot
-    spot_of all = tuple_spot at k all.spots
+    abbrev modes : Modes q w f spots
+    modes = parts.modes
 
-    abbrev first_then : Option SpottedAll → Walk Indices
-    first_then o = spot_first right (tuple_spotted at k o)
+    abbrev the_spot : Spot
+    the_spot = tuple_spot at k spots
 
-    abbrev last_then : Option SpottedAll × Indices → Walk Indices
-    last_then p = spot_last right (tuple_spotted at k p.0) p.1
+    -- ---- the walk
 
-    abbrev before : Walk (Option SpottedAll × Indices)
-    before = bind (each_spot ts (here q) scope ps) (λ o. bind (first_then o) (λ i. give (both o i)))
+    abbrev each_walk : Walk (Option SpottedAll)
+    each_walk = each_spot ts (here q) scope ps
 
-    abbrev runs : Run Item Found
-    runs = Runs.spots_of trs us then λ t. right.run t.left then λ y. gives (both t y)
+    abbrev m1 : ℕ
+    m1 = (each_walk facts n).next
 
-    abbrev writes : Found → Run Item Item
-    writes x = (Runs.tuple_spot (z q) k x.0.found).write x.1
+    abbrev fs1 : List Fact
+    fs1 = (each_walk facts n).facts
+
+    abbrev found_there : Option SpottedAll
+    found_there = (each_walk facts n).value
+
+    abbrev left : List Part
+    left = spotted_left found_there
+
+    abbrev first_walk : Walk Indices
+    first_walk = right.first the_spot left
+
+    abbrev m2 : ℕ
+    m2 = (first_walk fs1 m1).next
+
+    abbrev fs2 : List Fact
+    fs2 = (first_walk fs1 m1).facts
+
+    abbrev value_there : Indices
+    value_there = (first_walk fs1 m1).value
+
+    abbrev nested : Bool
+    nested = right.nested left
+
+    abbrev inside : Bool
+    inside = parts_nested spots nested
+
+    -- how the assignment ends beside a walk
+    abbrev Answer : Walk Indices → List Fact → ℕ → Ended Item Item → Type 0
+    Answer walk fs m e =
+        Ends q one_path (λ p x now. There q f (walk fs m).next (walk fs m).facts (λ g. Is q.set q.work g (walk fs m).value x) now) e
+
+    abbrev GoesAt : Walk Indices → List Fact → ℕ → Ended Item Item → Type 0
+    GoesAt walk fs m e = AllMet q (walk fs m).notes → Answer walk fs m e
 
     -- ---- what is found, and its value
 
-    abbrev Valued : modes.V → {m : ℕ} → Point m → List Fact → Option SpottedAll → Indices → Found → Type 0
-    Valued v g fs None i x = ⊥
-    Valued v {m} g fs (Some all) i x = modes.Ready v m g fs all.spots x.0.found × IsWritten q w place scope right g (spot_of all) all.left i x.1
+    abbrev FoundThere : Runs.Spotted Item modes.P → modes.T.Path → Point m1 → Type 0
+    FoundThere r v h = (ls : List Part) × (found_there ≡ spotted_all spots ls) × AllFine q w ls r.left × modes.Ready v m1 h fs1 r.found
 
-    abbrev Known : modes.V → (m : ℕ) → Point m → List Fact → Option SpottedAll × Indices → Found → Type 0
-    Known v m g fs p x = Valued v g fs p.0 p.1 x
+    abbrev Valued : Runs.Spotted Item modes.P → Item → modes.T.Path → Point m2 → Type 0
+    Valued r y v g =
+        modes.Ready v m2 g fs2 r.found × Is q.set q.work g value_there y × IsMet q.set q.work g (aimed Aims.Given the_spot.typ) nested y.val
+        × (right.last the_spot left value_there ≡ written_by place the_spot nested value_there)
 
-    valued : (v : modes.V) → {m : ℕ} (g : Point m) (fs : List Fact) → Surrounds q w g scope → (o : Option SpottedAll)
-        (t : Runs.Spotted Item (List (Runs.Spot Item))) → FoundEach q w scope modes v g fs o t
-        → Behind q m g fs (bind (first_then o) (λ i. give (both o i))) (right.run t.left then λ y. gives (both t y)) (Known v)
-    unfolding give
-    valued v g fs around None t h = absurd h
-    valued v {m} g fs around (Some all) t h =
-        behind_then (right.first (spot_of all) all.left)
-        (λ d p gs i y. modes.Ready v d p gs all.spots t.found × IsWritten q w place scope right p (spot_of all) all.left i y)
-        (λ i. give (both (Some all) i)) (λ y. gives (both t y)) (Known v)
-        (means (λ d p i y l e. (
-          modes.on v m d g p fs (right.first (spot_of all) all.left fs m).facts all.spots t.found l
-              (front_on fs fs m (right.first (spot_of all) all.left) (right_fine.grows (spot_of all) all.left (grow_of q w (here q) scope all.left t.left h.0))
-              (all_on fs)) h.1,
-          e,
-        ))
-        (right_fine.goes m g fs (spot_of all) all.left t.left h.0 around
-        (typed_steady q g (spot_of all).typ (tuple_typed q g all.spots (modes.types v m g fs all.spots t.found h.1))))) (λ p y l e.
-        rests (both t y) (given_back (both (Some all) (right.first (spot_of all) all.left fs m).value) e))
+    module _ (r : Runs.Spotted Item modes.P) (now : Now Item) (ok : Sound q now) (tree : modes.T.Tree (λ v. There q f m1 fs1 (FoundThere r v) now))
+        (met : AllMet q (first_walk fs1 m1).notes) where
+      same_left : (ls : List Part) → found_there ≡ spotted_all spots ls → ls ≡ left
+      same_left ls e = ap spotted_left (sym e)
 
-    family : (v : modes.V) → modes.Ok v → Behind q n f facts before runs (Known v)
-    family v ok =
-        behind_then (each_spot ts (here q) scope ps) (λ m g fs o t. FoundEach q w scope modes v g fs o t) (λ o. bind (first_then o) (λ i. give (both o i)))
-        (λ t. right.run t.left then λ y. gives (both t y)) (Known v) ((each n f there).finds v ok n f facts ps us (no_later f) fine there) (λ g t l h.
-        valued v g _ (surrounds_on q w scope l there) _ t h)
+      nested_so : (y : Item) {g : Point m2} (v : modes.T.Path) → modes.Ready v m2 g fs2 r.found → IsWritten q w place scope right g the_spot left value_there y
+          → Valued r y v g
+      nested_so y {g} v ready h = (
+        ready,
+        h.2,
+        subst (λ b. IsMet q.set q.work g (aimed Aims.Given the_spot.typ) b y.val) h.4 h.3,
+        subst (λ b. right.last the_spot left value_there ≡ written_by place the_spot b value_there) h.4 h.1,
+      )
 
-    abbrev Ends : (m : ℕ) → Point m → List Fact → Indices → Item → Type 0
-    Ends m g fs j u = Is q.set q.work g j u
+      value_ends : (v : modes.T.Path) → There q f m1 fs1 (FoundThere r v) now → EndsWell q f m2 fs2 (λ g y. Valued r y v g) (right.run r.left now)
+      value_ends v h =
+          let g = h.point in
+          let e = h.holds in
+          let fine2 : AllFine q w left r.left = subst (λ ls. AllFine q w ls r.left) (same_left e.0 e.1) e.2 in
+          let goes : Beside q m1 g fs1 first_walk (right.run r.left) (λ m p i y. IsWritten q w place scope right p the_spot left i y) =
+          right_fine.goes m1 g fs1 the_spot left r.left fine2 (surrounds_on q w scope h.later there)
+          (typed_steady q g the_spot.typ (tuple_typed q g spots (modes.types v m1 g fs1 r.found e.3))) in
+          well_on h.later
+          (ends_means (λ c y l d. nested_so y v
+          (modes.on v m1 m2 g c fs1 fs2 r.found l
+          (front_on fs1 fs1 m1 first_walk (right_fine.grows the_spot left (grow_of q w (here q) scope left r.left fine2)) (all_on fs1)) e.3) d)
+          (goes.run now h.stands met ok))
 
-    -- ---- what hangs on the walk alone
+      values : Ends q modes.T (λ v y after. There q f m2 fs2 (Valued r y v) after) (right.run r.left now)
+      values = ends_each q modes.T tree f m2 fs2 (λ v g y. Valued r y v g) (right.run r.left now) value_ends
 
-    abbrev found_there : Option SpottedAll × Indices
-    found_there = (before facts n).value
+    -- ---- it is written
 
-    record Determined : Type 0 where
-      all : SpottedAll
-      is_found : found_there.0 ≡ Some all
-      nested : Bool
-      last_is : right.last (spot_of all) all.left found_there.1 ≡ written_by place (spot_of all) nested found_there.1
-      is_right : nested ≡ right.nested all.left
-      grows : (b : Bool) (is : List Indices) → Grows (each_written at all.spots b is)
-      lefts : (b : Bool) (is : List Indices) (fs : List Fact) (m : ℕ) → (each_written at all.spots b is fs m).value.left ≡ all_left all.spots b is
+    module _ (r : Runs.Spotted Item modes.P) (y : Item) (now : Now Item) (ok : Sound q now)
+        (tree : modes.T.Tree (λ v. There q f m2 fs2 (Valued r y v) now)) where
+      picked : (v : modes.T.Path) × There q f m2 fs2 (Valued r y v) now
+      picked = modes.T.pick tree
 
-    determined : (v : modes.V) {m : ℕ} (g : Point m) (fs : List Fact) (o : Option SpottedAll) → found_there.0 ≡ o → (x : Found)
-        → Valued v g fs o found_there.1 x → Determined
-    determined v g fs None e x h = absurd h
-    determined v {m} g fs (Some all) e x h = record {
-      all = all;
-      is_found = e;
-      nested = h.1.0;
-      last_is = h.1.1;
-      is_right = h.1.4;
-      grows = λ b is. modes.grow v m g fs all.spots x.0.found h.0 at b is;
-      lefts = λ b is hs d. modes.lefts v m g fs all.spots x.0.found h.0 at b is hs d;
-    }
+      abbrev write : Run Item Item
+      write = (Runs.tuple_spot (z q) k (modes.views r.found)).write y
 
-    module _ (known : Determined) where
-      abbrev spots : List Spot
-      spots = known.all.spots
+      abbrev items : List Item
+      items = items_of q y (parts_in y.val)
 
-      abbrev inside : Bool
-      inside = parts_nested spots known.nested
-
-      known_so : (v : modes.V) {m : ℕ} (g : Point m) (fs : List Fact) (x : Found) → Valued v g fs found_there.0 found_there.1 x
-          → Valued v g fs (Some known.all) found_there.1 x
-      known_so v g fs x h = subst (λ o. Valued v g fs o found_there.1 x) known.is_found h
-
-      -- by some foresight
-      by_some : {C : Type 0} (next : Option SpottedAll × Indices → Walk C) (d : Found → Run Item Item) (T : (m : ℕ) → Point m → List Fact → C → Item → Type 0)
-          → ((v : modes.V) → modes.Ok v → Behind q n f facts (bind before next) (runs then d) T) → Behind q n f facts (bind before next) (runs then d) T
-      by_some next d T h = record {
-        run = λ now stands met ok.
-            let v = modes.some now ok in
-            (h v.0 v.1).run now stands met ok;
-      }
-
-      -- ---- a tuple is written
-
-      module _ (is : List Indices) (form_is : out-Indices found_there.1 ≡ W.Tuple is) where
-        abbrev items : Found → List Item
-        items x = items_of q x.1 (parts_in x.1.val)
-
+      module _ (is : List Indices) (form_is : out-Indices value_there ≡ W.Tuple is) where
         abbrev each_one : Walk Wrote
         each_one = each_written at spots inside is
 
-        abbrev last : ℕ
-        last = (bind before (λ p. each_one) facts n).next
+        abbrev m3 : ℕ
+        m3 = (each_one fs2 m2).next
 
-        abbrev left : ℕ → Fitted
-        left = all_left spots inside is
+        abbrev all : ℕ → Fitted
+        all = all_left spots inside is
 
-        abbrev Keep : (m : ℕ) → Point m → Found → Type 0
-        Keep m g x = (d : ℕ) (p : Point d) → Later g p → Suffices q.set.past d p (left d) (λ c. Unit {0})
+        abbrev answer : Wrote
+        answer = (each_one fs2 m2).value
 
-        abbrev Owed : Type 0
-        Owed = AllMet q (owe_fit place left (before facts n).facts last).notes
+        abbrev Keep : (m : ℕ) → Point m → Type 0
+        Keep m g = (d : ℕ) (p : Point d) → Later g p → Suffices q.set.past d p (all d) (λ c. Unit {0})
 
-        met_so : (v : modes.V) {m : ℕ} (g : Point m) (fs : List Fact) (x : Found) → Valued v g fs (Some known.all) found_there.1 x
-            → IsMet q.set q.work g (aimed Aims.Given (spot_of known.all).typ) known.nested x.1.val
-        met_so v g fs x h =
-            subst (λ b. IsMet q.set q.work g (aimed Aims.Given (spot_of known.all).typ) b x.1.val) (h.1.4 ∙ sym known.is_right) h.1.3
+        stays : Stays Keep
+        stays m d g h l keep e p l2 = keep e p (later_on l l2)
 
-        all_meet : (v : modes.V) {m : ℕ} (g : Point m) (fs : List Fact) (x : Found) → Valued v g fs (Some known.all) found_there.1 x
-            → AllMeet q g spots inside is (items x)
-        all_meet v g fs x h =
-            shared_items q spots g known.nested is x.1 (shared q spots g known.nested found_there.1 is x.1 form_is h.1.2 (met_so v g fs x h))
+        shared_by : {g : Point m2} {v : modes.T.Path} → Valued r y v g → Shared q spots g nested is y
+        shared_by {g} h = shared q spots g nested value_there is y form_is h.1 h.2
 
-        parts_are : (v : modes.V) {m : ℕ} (g : Point m) (fs : List Fact) (x : Found) → Valued v g fs (Some known.all) found_there.1 x
-            → (vs : List Value) × (parts_in x.1.val ≡ Some vs)
-        parts_are v g fs x h =
-            let s = shared q spots g known.nested found_there.1 is x.1 form_is h.1.2 (met_so v g fs x h) in
-            (s.values, s.are_parts)
+        all_meet : {g : Point m2} {v : modes.T.Path} → Valued r y v g → AllMeet q g spots inside is items
+        all_meet {g} h = shared_items q spots g nested is y (shared_by h)
 
-        module _ (owed : Owed) where
-          told : (v : modes.V) {m : ℕ} (g : Point m) (x : Found) (h : Valued v g (before facts n).facts (Some known.all) found_there.1 x)
-              → Says q last (before facts n).facts g (λ c. modes.Due v m g (before facts n).facts spots x.0.found h.0 inside is (items x) c)
-          told v {m} g x h e p l le noted stands =
-              let fs = (before facts n).facts in
-              let at_end = grown_later p le in
-              let r = (suffices_walks {q = q} {n = last} {f = grown p le} {facts = fs} place left
-              (modes.suffice v m g fs spots x.0.found h.0 inside is (items x) (all_meet v g fs x h) last (grown p le) (later_on l at_end))).go noted
-              (stands_on at_end stands) owed in
-              (r.point.integers, agree_on (later_on at_end r.later) (same r.point), r.holds r.point.integers (same r.point))
+        same_writes : {g : Point m2} {v : modes.T.Path} → Valued r y v g → Runs.writes (z q) (modes.views r.found) items now ≡ write now
+        same_writes h =
+            subst (λ o. Runs.writes (z q) (modes.views r.found) (items_of q y o) now
+            ≡ (needs o then λ vs. Runs.writes (z q) (modes.views r.found) (components (z q) y 0 vs)) now) (sym (shared_by h).are_parts) refl
 
-          stays : (m d : ℕ) (g : Point m) (h : Point d) (x : Found) → Later g h → Keep m g x → Keep d h x
-          stays m d g h x l keep e p l2 = keep e p (later_on l l2)
+        module _ (owed : AllMet q (owe_fit place all fs2 m3).notes) where
+          abbrev Ready : modes.T.Path → Point m2 → Type 0
+          Ready v g = (rd : modes.Ready v m2 g fs2 r.found) × AllMeet q g spots inside is items
+              × Says q m3 fs2 g (λ c. modes.Due v m2 g fs2 r.found rd inside is items c) × Keep m2 g
 
-          ready : (v : modes.V) → modes.Ok v
-              → Behind q n f facts before runs (λ m g fs p x. (rd : modes.Ready v m g fs spots x.0.found) × AllMeet q g spots inside is (items x)
-              × Says q last fs g (λ c. modes.Due v m g fs spots x.0.found rd inside is (items x) c) × Keep m g x)
-          ready v ok =
-              behind_means before (Known v) (λ m g fs p x. (rd : modes.Ready v m g fs spots x.0.found) × AllMeet q g spots inside is (items x)
-              × Says q last fs g (λ c. modes.Due v m g fs spots x.0.found rd inside is (items x) c) × Keep m g x) (λ g x l h.
-              let fs = (before facts n).facts in
-              let so = known_so v g fs x h in (
-                so.0,
-                all_meet v g fs x so,
-                told v g x so,
-                λ d p l2.
-                    suffice_as (modes.suffice v (before facts n).next g fs spots x.0.found so.0 inside is (items x) (all_meet v g fs x so) d p l2) (λ c a e. tt),
-              )) (family v ok)
+          ready_by : (v : modes.T.Path) → There q f m2 fs2 (Valued r y v) now → There q f m2 fs2 (Ready v) now
+          ready_by v h =
+              let g = h.point in
+              let e = h.holds in
+              let meet = all_meet e in
+              record {
+                point = g;
+                later = h.later;
+                stands = h.stands;
+                holds = (
+                  e.0,
+                  meet,
+                  λ d p l le noted stands.
+                      let at_end = grown_later p le in
+                      let x = (suffices_walks {q = q} {n = m3} {f = grown p le} {facts = fs2} place all
+                      (modes.suffice v m2 g fs2 r.found e.0 inside is items meet m3 (grown p le) (later_on l at_end))).go noted
+                      (stands_on at_end stands) owed in
+                      (x.point.integers, agree_on (later_on at_end x.later) (same x.point), x.holds x.point.integers (same x.point)),
+                  λ d p l. suffice_as (modes.suffice v m2 g fs2 r.found e.0 inside is items meet d p l) (λ c a s. tt),
+                );
+              }
 
-          abbrev write_all : Found → Run Item Item
-          write_all x = Runs.writes (z q) x.0.found (items x)
+          abbrev Ended_so : Point m3 → Item → Type 0
+          Ended_so g x = Keep m3 g × (answer.answer ≡ I.Unit) × Is q.set q.work g I.Unit x
 
-          all_ended : Behind q n f facts (bind before (λ p. each_one)) (runs then λ x. write_all x then λ r. gives (both x r))
-              (λ m g fs a p. Keep m g p.0 × ((a.answer ≡ I.Unit) × Is q.set q.work g I.Unit p.1))
-          all_ended = modes.writes at spots inside is facts before runs (λ x. x.0.found) items last Keep stays (omega arith) ready
+          all_written : AllMet q (each_one fs2 m2).notes → Ends q one_path (λ p x after. There q f m3 fs2 (λ g. Ended_so g x) after) (write now)
+          all_written met =
+              subst (λ (e : Ended Item Item). Ends q one_path (λ p x after. There q f m3 fs2 (λ g. Ended_so g x) after) e)
+              (same_writes {v = picked.0} picked.1.holds)
+              (modes.writes at inside is fs2 m2 r.found items m3 one_path (λ p. Keep) (λ p. stays) (omega arith) met now ok
+              (modes.T.map {P = λ v. There q f m2 fs2 (Valued r y v) now} {Q = λ v. There q f m2 fs2 (Ready v) now} ready_by tree))
 
-          left_there : (bind before (λ p. each_one) facts n).value.left ≡ left
-          unfolding bind
-          left_there = known.lefts inside is (before facts n).facts (before facts n).next
+          -- what is owed of all, and the answer
+          answer_walks : {g : Point m3} {x : Item} → Ended_so g x → Walks q m3 g fs2 (owed_answer place answer) (λ d p j. Is q.set q.work p j x)
+          answer_walks {g} {x} h =
+              walks_on (λ t. give answer.answer)
+              (subst (λ (a : ℕ → Fitted). Walks q m3 g fs2 (owe_fit place a) (λ d p t. Unit {0})) (sym left_is)
+              (walks_mean (λ d p t u. tt) (suffices_walks {q = q} {n = m3} {f = g} {facts = fs2} {Then = λ c. Unit {0}} place all (h.0 m3 g (no_later g)))))
+              (λ d p gs t l u. given_back answer.answer (subst (λ j. Is q.set q.work p j x) (sym h.1) (is_on l h.2)))
+            where
+              left_is : answer.left ≡ all
+              left_is = modes.lefts picked.0 m2 picked.1.point fs2 r.found picked.1.holds.0 at inside is fs2 m2
 
-          answer_walks : {m : ℕ} (g : Point m) (fs : List Fact) (a : Wrote) (x : Found) (r : Item) → a.left ≡ left
-              → Keep m g x × ((a.answer ≡ I.Unit) × Is q.set q.work g I.Unit r) → Walks q m g fs (owed_answer place a) (λ d p j. Is q.set q.work p j r)
-          answer_walks {m} g fs a x r e h =
-              walks_on (λ t. give a.answer)
-              (subst (λ (y : ℕ → Fitted). Walks q m g fs (owe_fit place y) (λ d p t. Unit {0})) (sym e)
-              (walks_mean (λ d p t u. tt) (suffices_walks {q = q} {n = m} {f = g} {facts = fs} {Then = λ c. Unit {0}} place left (h.0 m g (no_later g))))) (λ d p gs t l u.
-              given_back a.answer (subst (λ j. Is q.set q.work p j r) (sym h.1.0) (is_on l h.1.1)))
+          answer_goes : (e : Ended Item Item) → Ends q one_path (λ p x after. There q f m3 fs2 (λ g. Ended_so g x) after) e
+              → GoesAt (owed_answer place answer) fs2 m3 e
+          answer_goes e h met =
+              ends_map q one_path (λ p x after. There q f m3 fs2 (λ g. Ended_so g x) after)
+              (λ p x after. There q f (owed_answer place answer fs2 m3).next (owed_answer place answer fs2 m3).facts
+              (λ g. Is q.set q.work g (owed_answer place answer fs2 m3).value x) after) e (λ x after p s t.
+              let a = (answer_walks t.holds).go after.opened t.stands met in
+              record { point = a.point; later = later_on t.later a.later; stands = a.stands; holds = a.holds }) h
 
-          same_writes : (v : modes.V) (g : Point (before facts n).next) (x : Found) → Known v (before facts n).next g (before facts n).facts found_there x
-              → (now : Now Item) → write_all x now ≡ writes x now
-          same_writes v g x h now =
-              let e = parts_are v g (before facts n).facts x (known_so v g (before facts n).facts x h) in
-              subst (λ o. Runs.writes (z q) x.0.found (items_of q x.1 o) now
-              ≡ (needs o then λ vs. Runs.writes (z q) x.0.found (components (z q) x.1 0 vs)) now) (sym e.1) refl
-
-          tuple_ended : Behind q n f facts (bind before (λ p. bind each_one (owed_answer place))) (runs then writes) Ends
-          tuple_ended =
-              behind_same before modes.Ok Known (λ p. bind each_one (owed_answer place)) write_all writes Ends modes.some family same_writes
-              (runs_as (λ now. under (runs now) (λ x. write_all x then λ r. gives (both x r)) write_all (λ p. gives p.1) (λ x n1.
-              under (write_all x n1) (λ r. gives (both x r)) (λ r. gives r) (λ p. gives p.1) (λ r n2. refl) ∙ goes_gives (write_all x n1)))
-              (behind_spread before (λ p. each_one) (owed_answer place) Ends
-              (behind_then (bind before (λ p. each_one)) (λ m g fs a p. Keep m g p.0 × ((a.answer ≡ I.Unit) × Is q.set q.work g I.Unit p.1))
-              (owed_answer place) (λ p. gives p.1) Ends all_ended (λ g p l h. rests p.1 (answer_walks g _ _ p.0 p.1 left_there h)))))
+        left_same : answer.left ≡ all
+        left_same = modes.lefts picked.0 m2 picked.1.point fs2 r.found picked.1.holds.0 at inside is fs2 m2
 
         -- what is owed is met in all
-        owed_in : AllMet q (bind before (λ p. bind each_one (owed_answer place)) facts n).notes → Owed
+        owed_in : AllMet q (owed_answer place answer fs2 m3).notes → AllMet q (owe_fit place all fs2 m3).notes
         unfolding bind
         owed_in met =
-            let m = (before facts n).next in
-            let fs = (before facts n).facts in
-            let after = each_one fs m in
-            let owed : AllMet q (owe_fit place after.value.left after.facts after.next).notes =
-            met_front q (owe_fit place after.value.left after.facts after.next).notes _
-            (met_behind q after.notes _ (met_behind q (before facts n).notes _ met)) in
-            subst (λ (gs : List Fact). AllMet q (owe_fit place left gs after.next).notes) (all_facts at spots inside is fs m)
-            (subst (λ (y : ℕ → Fitted). AllMet q (owe_fit place y after.facts after.next).notes) (known.lefts inside is fs m) owed)
+            subst (λ (a : ℕ → Fitted). AllMet q (owe_fit place a fs2 m3).notes) left_same (met_front q (owe_fit place answer.left fs2 m3).notes _ met)
 
-        tuple_goes : Behind q n f facts (bind before (λ p. bind each_one (owed_answer place))) (runs then writes) Ends
-        tuple_goes = record { run = λ now stands met ok. (tuple_ended (owed_in met)).run now stands met ok }
+        answer_at : (gs : List Fact) → gs ≡ fs2 → AllMet q (each_one fs2 m2).notes → GoesAt (owed_answer place answer) gs m3 (write now)
+        answer_at gs e met_each =
+            subst (λ hs. GoesAt (owed_answer place answer) hs m3 (write now)) (sym e) (λ met.
+            answer_goes (owed_in met) (write now) (all_written (owed_in met) met_each) met)
+
+        tuple_goes : GoesAt (bind each_one (owed_answer place)) fs2 m2 (write now)
+        unfolding bind
+        tuple_goes met =
+            answer_at (each_one fs2 m2).facts (all_facts at spots inside is fs2 m2) (met_front q (each_one fs2 m2).notes _ met)
+            (met_behind q (each_one fs2 m2).notes _ met)
 
       -- ---- by what the value is
 
-      abbrev by_form : Indices-F Indices Reading → Option SpottedAll × Indices → Walk Indices
-      by_form form p = bind (tuple_write at spots known.nested form) (owed_answer place)
+      abbrev by_form : Indices-F Indices Reading → Walk Indices
+      by_form form = bind (tuple_write at spots nested form) (owed_answer place)
 
-      wrong_goes : (next : Walk Wrote) → ((m : ℕ) (g : Point m) (fs : List Fact) → Walks q m g fs next (λ d p a. ⊥))
-          → Behind q n f facts (bind before (λ p. bind next (owed_answer place))) (runs then writes) Ends
-      wrong_goes next wrong = by_some (λ p. bind next (owed_answer place)) writes Ends (λ v ok.
-          behind_then before (Known v) (λ p. bind next (owed_answer place)) writes Ends (family v ok) (λ g x l h.
-          wrong_node (owed_answer place) (writes x) (wrong _ g _)))
+      wrong_met : AllMet q (bind (Walked.wrong_write at) (owed_answer place) fs2 m2).notes → AllMet q (Walked.wrong_write at fs2 m2).notes
+      unfolding bind
+      wrong_met met = met_front q _ _ met
 
-      form_goes : (form : Indices-F Indices Reading) → out-Indices found_there.1 ≡ form → Behind q n f facts (bind before (by_form form)) (runs then writes) Ends
-      form_goes (W.Tuple is) e = tuple_goes is e
-      form_goes W.Never e = by_some (by_form W.Never) writes Ends (λ v ok.
-          behind_then before (Known v) (by_form W.Never) writes Ends (family v ok) (λ g x l h.
-          let so = known_so v g (before facts n).facts x h in
-          let bad : true ≡ false = sym (ap is_never_form e) ∙ not_never q.set q.work found_there.1 x.1.val so.1.2.has in
-          absurd (cc)))
-      form_goes form e = wrong_goes (Walked.wrong_write at) (λ m g fs. walks_on Walked.gives (wrong_walks at) (λ d p gs a l h. absurd h))
+      form_goes : (form : Indices-F Indices Reading) → out-Indices value_there ≡ form → GoesAt (by_form form) fs2 m2 (write now)
+      form_goes (W.Tuple is) e met = tuple_goes is e met
+      form_goes W.Never e met =
+          let some = picked.1.holds in
+          let bad : true ≡ false = sym (ap is_never_form e) ∙ not_never q.set q.work value_there y.val some.1.has in
+          absurd (cc)
+      form_goes form e met = absurd (wrong_there q w at fs2 m2 modes.T {Holds = λ v. Valued r y v} now tree (wrong_met met))
 
-      known_goes : Behind q n f facts (bind before last_then) (runs then writes) Ends
-      known_goes =
-          behind_value before (by_form (out-Indices found_there.1)) last_then Ends
-          (sym (ap (λ o. spot_last right (tuple_spotted at k o) found_there.1) known.is_found ∙ known.last_is))
-          (form_goes (out-Indices found_there.1) refl)
+      written : GoesAt (right.last the_spot left value_there) fs2 m2 (write now)
+      written =
+          subst (λ (walk : Walk Indices). GoesAt walk fs2 m2 (write now)) (sym picked.1.holds.3) (form_goes (out-Indices value_there) refl)
 
-    all_goes : Behind q n f facts (bind before last_then) (runs then writes) Ends
-    all_goes =
-        behind_if before modes.Ok Known last_then writes Ends modes.some family (λ v g x l h. determined v g _ found_there.0 refl x h) known_goes
+    -- ---- all of it
+
+    abbrev behind : Option SpottedAll → Walk Indices
+    behind o = bind (spot_first right (tuple_spotted at k o)) (spot_last right (tuple_spotted at k o))
+
+    abbrev writes : Runs.Spotted Item modes.P → Run Item Item
+    writes t = right.run t.left then (Runs.tuple_spot (z q) k (modes.views t.found)).write
+
+    found_is : (v : modes.T.Path) (r : Runs.Spotted Item modes.P) (h : Point m1) → FoundThere r v h → found_there ≡ spotted_all spots left
+    found_is v r h e = e.1 ∙ ap (λ ls. spotted_all spots ls) (ap spotted_left (sym e.1))
+
+    module _ (r : Runs.Spotted Item modes.P) (now : Now Item) (ok : Sound q now) (tree : modes.T.Tree (λ v. There q f m1 fs1 (FoundThere r v) now)) where
+      spot_goes : GoesAt (behind (spotted_all spots left)) fs1 m1 (writes r now)
+      unfolding bind
+      spot_goes met =
+          ends_then q modes.T one_path (λ v y after. There q f m2 fs2 (Valued r y v) after)
+          (λ p x after. There q f (right.last the_spot left value_there fs2 m2).next (right.last the_spot left value_there fs2 m2).facts
+          (λ g. Is q.set q.work g (right.last the_spot left value_there fs2 m2).value x) after) (right.run r.left now)
+          (Runs.tuple_spot (z q) k (modes.views r.found)).write (values r now ok tree (met_front q (first_walk fs1 m1).notes _ met)) (λ y after tree2 ok2.
+          written r y after ok2 tree2 (met_behind q (first_walk fs1 m1).notes _ met))
+
+      found_goes : GoesAt (behind found_there) fs1 m1 (writes r now)
+      found_goes =
+          let some = modes.T.pick {P = λ v. There q f m1 fs1 (FoundThere r v) now} tree in
+          subst (λ (o : Option SpottedAll). GoesAt (behind o) fs1 m1 (writes r now)) (sym (found_is some.0 r some.1.point some.1.holds)) spot_goes
+
+    all_goes : Beside q n f facts (bind each_walk behind) (parts.found us then writes) (λ m g j u. Is q.set q.work g j u)
+    unfolding bind
+    all_goes = record {
+      run = λ now stands met ok.
+          ends_well q (λ g u. Is q.set q.work g (behind found_there fs1 m1).value u) ((parts.found us then writes) now)
+          (ends_then q modes.T one_path (λ v r after. There q f m1 fs1 (FoundThere r v) after)
+          (λ p x after. There q f (behind found_there fs1 m1).next (behind found_there fs1 m1).facts
+          (λ g. Is q.set q.work g (behind found_there fs1 m1).value x) after) (parts.found us now) writes
+          (parts.finds f us (no_later f) fine there now stands (met_front q (each_walk facts n).notes _ met) ok) (λ r after tree ok2.
+          found_goes r after ok2 tree (met_behind q (each_walk facts n).notes _ met)));
+    }
+
+  same_runs : (right : Right) (n : ℕ) (f : Point n) (facts : List Fact) (ps : List Part) (us : List (Run Item Item)) (there : Surrounds q w f scope)
+      (now : Now Item) → goes_on ((each n f there n facts ps).found us now)
+      (λ t. right.run t.left then (Runs.tuple_spot (z q) k ((each n f there n facts ps).modes.views t.found)).write)
+      ≡ goes_on (target_meaning (z q) w at k T.Tuple trs us now) (λ r. right.run r.left then r.found.write)
+  same_runs right n f facts ps us there now =
+      let parts : EachFound q w scope ts trs f n facts ps = each n f there n facts ps in
+      let views : parts.modes.P → List (Runs.Spot Item) = parts.modes.views in
+      let found : Ended Item (Runs.Spotted Item parts.modes.P) = parts.found us now in
+      sym (under found (λ r. Runs.spotted (views r.found) r.left) (λ t. right.run t.left then (Runs.tuple_spot (z q) k (views t.found)).write)
+      (λ r. right.run r.left then (Runs.tuple_spot (z q) k r.found).write) (λ r n1. refl))
+      ∙ sym (ap (λ e. goes_on e (λ r. right.run r.left then (Runs.tuple_spot (z q) k r.found).write)) (parts.is_run us now))
+      ∙ sym (under (Runs.spots_of trs us now) _ _ (λ r. right.run r.left then r.found.write) (λ r n1. refl))
 
   pub parts_target : Goes fit q w narrow closed place scope (kind_spot at k T.Tuple ts) (target_meaning (z q) w at k T.Tuple trs)
   parts_target right right_fine further splits n f facts ps us fine there =
@@ -331,10 +370,4 @@ module _ (fit : FitsSuffice) (q : Scene) (w : World Item) (narrow : TypesNarrow 
       (subst (λ (g : Option SpottedAll → Walk Indices). Beside q n f facts (bind (each_spot ts (here q) scope ps) g)
       (λ now. goes_on (target_meaning (z q) w at k T.Tuple trs us now) (λ r. right.run r.left then r.found.write)) (λ m g2 j u. Is q.set q.work g2 j u))
       (λ j. λ o. (sym (given_first (tuple_spotted at k o) (then_assigned further) ∙ spot_same further right splits (tuple_spotted at k o))) j)
-      (runs_as (λ now.
-      under (Runs.spots_of trs us now) (λ t. right.run t.left then λ y. gives (both t y)) (λ t. right.run t.left then (Runs.tuple_spot (z q) k t.found).write)
-      (λ x. (Runs.tuple_spot (z q) k x.0.found).write x.1) (λ t n1. under (right.run t.left n1) _ _ (λ x. (Runs.tuple_spot (z q) k x.0.found).write x.1)
-      (λ y n2. refl))
-      ∙ sym (under (Runs.spots_of trs us now) _ _ (λ r. right.run r.left then r.found.write) (λ r n1. refl)))
-      (walk_spread (each_spot ts (here q) scope ps) (λ o. spot_first right (tuple_spotted at k o)) (λ o i. spot_last right (tuple_spotted at k o) i)
-      (all_goes right right_fine f facts ps us fine there))))
+      (runs_as (λ now. same_runs right n f facts ps us there now) (all_goes right right_fine f facts ps us fine there)))

@@ -1,13 +1,14 @@
 -- Which targets are names and parts of names.
-use Rattle.std.proofs.Common.{◌≡◌, ℕ, Bool, true, false, List, [], ◌∷◌, Option, if◌then◌else◌, map, refl, sym, ap, subst, ◌∙◌}
+use Rattle.std.proofs.Common.{◌≡◌, ◌+◌, ℕ, suc, Bool, true, false, List, [], ◌∷◌, Option, if◌then◌else◌, map, refl, sym, ap, subst, ◌∙◌}
 use Rattle.std.specs.List.{list_all}
 use Rattle.sail_base.specs.declared.place.Place.{Place}
 use Rattle.sail_core.specs.declared.targets.Caller.{Caller}
 use Rattle.sail_core.specs.declared.targets.Suffix.{Suffix}
-use Rattle.sail_core.specs.declared.targets.Target.{Target, Target-F, fold-roll-Target, ind-Target, map-Target, roll-Target}
+use Rattle.sail_core.specs.declared.targets.Target.{Target, Target-F, fold-Target, fold-roll-Target, ind-Target, map-Target, roll-Target}
 use Rattle.sail_core.specs.declared.targets.TargetKind.{TargetKind}
 use Rattle.sail_core.specs.declared.targets.TargetKind.TheVariants as T
-use Rattle.soundness_targets.specs.Plain.{Shape, a_call, a_name, a_part, a_parted, a_tuple, another, is_called, is_item, is_member, shape, shape_form}
+use Rattle.soundness_targets.specs.Plain.{Shape, a_call, a_late, a_name, a_part, a_parted, a_tuple, a_wrong, is_item, is_member}
+use Rattle.soundness_targets.specs.Plain.{shape, shape_form}
 
 -- a target without targets inside it
 abbrev pub target : Place → ℕ → TargetKind → Target
@@ -42,8 +43,17 @@ pub record CallIs (t : Target) : Type 0 where
   pub count : ℕ
   pub reader : Option Caller
   pub writer : Caller
-  pub is_there : is_called writer.callee ≡ true
   pub same : t ≡ target place number (T.Call count reader writer)
+
+-- a part of one
+pub record LateIs (t : Target) : Type 0 where
+  pub place : Place
+  pub number : ℕ
+  pub suffix : Suffix
+  pub suffixes : List Suffix
+  pub base : Target
+  pub is_call : CallIs base
+  pub same : t ≡ roll-Target (record { place = place; number = number; kind = T.Part (suffix ∷ suffixes); parts = base ∷ [] })
 
 -- a tuple
 pub record TupleIs (t : Target) : Type 0 where
@@ -53,7 +63,7 @@ pub record TupleIs (t : Target) : Type 0 where
   pub members : list_all is_member (map shape parts) ≡ true
   pub same : t ≡ roll-Target (record { place = place; number = number; kind = T.Tuple; parts = parts })
 
--- a tuple with parts of names
+-- a tuple with parts of names in it
 pub record PartedIs (t : Target) : Type 0 where
   pub place : Place
   pub number : ℕ
@@ -61,14 +71,27 @@ pub record PartedIs (t : Target) : Type 0 where
   pub items : list_all is_item (map shape parts) ≡ true
   pub same : t ≡ roll-Target (record { place = place; number = number; kind = T.Tuple; parts = parts })
 
+-- how much of a target there is
+abbrev pub heights : List ℕ → ℕ
+heights [] = 0
+heights (h ∷ hs) = h + heights hs
+
+pub height : Target → ℕ
+height = fold-Target ℕ (λ t. suc (heights t.parts))
+
+pub parts_low : (t : Target) (h : PartedIs t) → height t ≡ suc (heights (map height h.parts))
+unfolding height
+parts_low t h = ap height h.same ∙ fold-roll-Target ℕ (λ u. suc (heights u.parts)) _
+
 -- what its shape says
 abbrev pub ShapeIs : Target → Shape → Type 0
 ShapeIs t a_name = NameIs t
 ShapeIs t a_part = PartIs t
 ShapeIs t a_call = CallIs t
+ShapeIs t a_late = LateIs t
 ShapeIs t a_tuple = TupleIs t
 ShapeIs t a_parted = PartedIs t
-ShapeIs t another = Unit {0}
+ShapeIs t a_wrong = Unit {0}
 
 abbrev Shaped : Target → Type 0
 Shaped t = ShapeIs t (shape t)
@@ -87,30 +110,15 @@ module _ (at : Place) (k : ℕ) where
       → ShapeIs (roll-Target (record { place = at; number = k; kind = T.Part ss; parts = t ∷ [] })) (shape_form (T.Part ss) (c ∷ []))
   part_by ss t a_name h = record { place = at; number = k; suffixes = ss; base = t; is_name = h; same = refl }
   part_by ss t a_part h = tt
-  part_by ss t a_call h = tt
+  part_by [] t a_call h = tt
+  part_by (s ∷ ss) t a_call h = record { place = at; number = k; suffix = s; suffixes = ss; base = t; is_call = h; same = refl }
+  part_by ss t a_late h = tt
   part_by ss t a_tuple h = tt
   part_by ss t a_parted h = tt
-  part_by ss t another h = tt
-
-  -- of more than one target nothing is a part
-  more_by : (ss : List Suffix) (ts : List Target) (c d : Shape) (cs : List Shape)
-      → ShapeIs (roll-Target (record { place = at; number = k; kind = T.Part ss; parts = ts })) (shape_form (T.Part ss) (c ∷ d ∷ cs))
-  more_by ss ts a_name d cs = tt
-  more_by ss ts a_part d cs = tt
-  more_by ss ts a_call d cs = tt
-  more_by ss ts a_tuple d cs = tt
-  more_by ss ts a_parted d cs = tt
-  more_by ss ts another d cs = tt
-
-  -- a call of what a target may call
-  call_by : (count : ℕ) (reader : Option Caller) (writer : Caller) (b : Bool) → is_called writer.callee ≡ b
-      → ShapeIs (target at k (T.Call count reader writer)) (if b then a_call else another)
-  call_by count reader writer true e =
-      record { place = at; number = k; count = count; reader = reader; writer = writer; is_there = e; same = refl }
-  call_by count reader writer false e = tt
+  part_by ss t a_wrong h = tt
 
   tuple_by : (ys : List Such) (b : Bool) → list_all is_member (map shape (targets_of ys)) ≡ b → (c : Bool) → list_all is_item (map shape (targets_of ys)) ≡ c
-      → ShapeIs (made_of T.Tuple ys) (if b then a_tuple else if c then a_parted else another)
+      → ShapeIs (made_of T.Tuple ys) (if b then a_tuple else if c then a_parted else a_wrong)
   tuple_by ys true e c d = record { place = at; number = k; parts = targets_of ys; members = e; same = refl }
   tuple_by ys false e true d = record { place = at; number = k; parts = targets_of ys; items = d; same = refl }
   tuple_by ys false e false d = tt
@@ -120,12 +128,13 @@ module _ (at : Place) (k : ℕ) where
   form_by (T.Register i) [] = record { place = at; number = k; kind = T.Register i; is_name = tt; same = refl }
   form_by (T.Part ss) (y ∷ []) = part_by ss y.0 (shape y.0) y.1
   form_by (T.Part ss) [] = tt
-  form_by (T.Part ss) (y ∷ x ∷ ys) = more_by ss (y.0 ∷ x.0 ∷ targets_of ys) (shape y.0) (shape x.0) (map shape (targets_of ys))
+  form_by (T.Part ss) (y ∷ x ∷ ys) = tt
   form_by (T.Variable name) (y ∷ ys) = tt
   form_by (T.Register i) (y ∷ ys) = tt
   form_by T.Tuple ys =
       tuple_by ys (list_all is_member (map shape (targets_of ys))) refl (list_all is_item (map shape (targets_of ys))) refl
-  form_by (T.Call count reader writer) [] = call_by count reader writer (is_called writer.callee) refl
+  form_by (T.Call count reader writer) [] =
+      record { place = at; number = k; count = count; reader = reader; writer = writer; same = refl }
   form_by (T.Call count reader writer) (y ∷ ys) = tt
 
 step : (y : Target-F Such) → Shaped (roll-Target (map-Target Such Target (λ p. p.0) y))
@@ -139,4 +148,5 @@ shape_is = ind-Target Shaped (λ e y same_form. subst (λ d. Shaped (roll-Target
 -- a tuple may be a part of one
 pub tuple_is_member : (t : Target) → TupleIs t → is_member (shape t) ≡ true
 tuple_is_member t h =
-    ap is_member (ap shape h.same ∙ fold-roll-Target Shape (λ u. shape_form u.kind u.parts) _ ∙ ap (λ b. if b then a_tuple else if list_all is_item (map shape h.parts) then a_parted else another) h.members)
+    ap is_member (ap shape h.same ∙ fold-roll-Target Shape (λ u. shape_form u.kind u.parts) _
+    ∙ ap (λ b. if b then a_tuple else if list_all is_item (map shape h.parts) then a_parted else a_wrong) h.members)

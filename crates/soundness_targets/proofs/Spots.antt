@@ -136,16 +136,16 @@ module _ (q : Scene) where
   WayThere f i u ways None = Unit {0}
   WayThere f i u ways (Some x) = WayTo f i u ways x
 
-  more_there : {n : ℕ} (f : Point n) (i j : Indices) (u p : Value) (way : Into) (ways : List Into) (x : Option Reached) → Inside f i u way j p
+  pub more_there : {n : ℕ} (f : Point n) (i j : Indices) (u p : Value) (way : Into) (ways : List Into) (x : Option Reached) → Inside f i u way j p
       → WayThere f j p ways x → WayThere f i u (way ∷ ways) x
   more_there f i j u p way ways None inside h = tt
   more_there f i j u p way ways (Some x) inside h = more_ways i j u p way ways x inside h
 
-  last_there : {n : ℕ} (f : Point n) (i : Indices) (u : Value) (way : Into) (x : Option Reached) → PartThere q f i u x way → WayThere f i u (way ∷ []) x
+  pub last_there : {n : ℕ} (f : Point n) (i : Indices) (u : Value) (way : Into) (x : Option Reached) → PartThere q f i u x way → WayThere f i u (way ∷ []) x
   last_there f i u way None h = tt
   last_there f i u way (Some x) h = last_way i u way x h
 
-  inside_on : {n m : ℕ} {f : Point n} {g : Point m} {i j : Indices} {u p : Value} {way : Into} → Later f g → Inside f i u way j p → Inside g i u way j p
+  pub inside_on : {n m : ℕ} {f : Point n} {g : Point m} {i j : Indices} {u p : Value} {way : Into} → Later f g → Inside f i u way j p → Inside g i u way j p
   inside_on l h = record {
     has_part = has_on l h.has_part;
     whole = h.whole;
@@ -188,7 +188,8 @@ module _ (q : Scene) where
     abbrev PassedIs : {m : ℕ} → Point m → Into → List Part → Option Passed → Type 0
     PassedIs g way ps o = (j : Indices) × (p : Value) × (o ≡ passed ps j) × Inside g i u way j p
 
-    reads_into : {facts : List Fact} (x : Option Reached) (way : Into) → PartThere q f i u x way → Walks q n f facts (read_into place i x) (λ m g j. (p : Value) × Inside g i u way j p)
+    pub reads_into : {facts : List Fact} (x : Option Reached) (way : Into) → PartThere q f i u x way
+        → Walks q n f facts (read_into place i x) (λ m g j. (p : Value) × Inside g i u way j p)
     reads_into {facts} None way there =
         subst (λ b. Walks q n f facts (if b then never_value else wrong_value place) (λ m g j. (p : Value) × Inside g i u way j p))
         (sym (not_never q.set q.work i u h)) (walks_mean (λ m g j e. absurd e) (wrong_walks place))

@@ -30,7 +30,7 @@ use Rattle.soundness_forms.specs.Forms.{AllFine}
 use Rattle.soundness_forms.proofs.Growth.{grows_bind, grows_give, grows_note, grows_opening, grows_owe}
 use Rattle.soundness_parts.proofs.PartGrowth.{AllGrow, Gives, any, gives_back, gives_bind, grows_bind_at, if_never_grows, none_grows, way_grows}
 
-into_grows : (place : Place) (i : Indices) (o : Option Reached) → Grows (read_into place i o)
+pub into_grows : (place : Place) (i : Indices) (o : Option Reached) → Grows (read_into place i o)
 unfolding opened
 into_grows place i None = if_never_grows place (is_never i)
 into_grows place i (Some x) =
@@ -44,7 +44,7 @@ module _ (around : Around) (scope : Scope) where
   AnyGrow [] = Unit {0}
   AnyGrow (p ∷ ps) = ((aim : Aim) → Grows (p.walk around scope aim)) × AnyGrow ps
 
-  free_grow : (ps : List Part) → AnyGrow ps → AllGrow around scope ps
+  pub free_grow : (ps : List Part) → AnyGrow ps → AllGrow around scope ps
   free_grow [] h = tt
   free_grow (p ∷ ps) h = (h.0 Aims.Free, free_grow ps h.1)
 

@@ -1,5 +1,6 @@
 -- Tuples of targets: what was in force still is.
-use Rattle.std.proofs.Common.{◌≡◌, ◌∙◌, ℕ, Bool, true, false, List, [], ◌∷◌, if◌then◌else◌, drop, map, slice_get, take, Option, Some, None, refl, sym, subst, arith}
+use Rattle.std.proofs.Common.{◌≡◌, ◌∙◌, ℕ, Bool, true, false, List, [], ◌∷◌, if◌then◌else◌}
+use Rattle.std.proofs.Common.{drop, map, slice_get, take, Option, Some, None, refl, sym, subst, arith}
 use Rattle.std.specs.List.{list_all}
 use Rattle.std.proofs.lemmas.Bool.{and_parts}
 use Rattle.sail_base.specs.declared.place.Place.{Place}
@@ -30,11 +31,12 @@ use Rattle.expression_forms.specs.Spots.{Spot, both_left, both_wrote, call_spot,
 use Rattle.expression_forms.specs.Spots.{tuple_spot, tuple_write, wrong_spot, wrote}
 use Rattle.expression_steps.specs.Calls.{argument_aims, nestings}
 use Rattle.expression_steps.specs.Parts.{Part, each_walk}
-use Rattle.expression_steps.specs.Targets.{Spotted, SpottedAll, Spotting, call_spotted, each_spot, kind_spot, spotted, spotted_all, spotting, then_spot, tuple_spotted, with_spot}
+use Rattle.expression_steps.specs.Targets.{Spotted, SpottedAll, Spotting, call_spotted, each_spot, kind_spot}
+use Rattle.expression_steps.specs.Targets.{spotted, spotted_all, spotting, then_spot, tuple_spotted, with_spot}
 use Rattle.soundness_steps.specs.Steps.{Grows}
 use Rattle.soundness_forms.proofs.Growth.{grows_bind, grows_give, grows_scoped, grows_wrong}
 use Rattle.soundness_parts.proofs.PartGrowth.{Gives, any, gives_back, gives_bind, grows_bind_at}
-use Rattle.soundness_targets.specs.Plain.{Shape, a_call, a_name, a_part, a_parted, a_tuple, another, is_item, is_member, shape, shape_form}
+use Rattle.soundness_targets.specs.Plain.{Shape, a_call, a_late, a_name, a_part, a_parted, a_tuple, a_wrong, is_item, is_member, shape, shape_form}
 use Rattle.soundness_targets.proofs.CallGrowth.{each_grows, left_counts, says_counts, taken_grow, written_grow}
 use Rattle.soundness_targets.proofs.TargetGrowth.{AnyGrow, SpottedGrow, left_grow}
 use Rattle.soundness_targets.proofs.WriteGrowth.{put_grows, puts_count, wrong_count}
@@ -61,16 +63,16 @@ named_write_grows around at k name r nested i =
       λ facts m. puts_count around nested k r i facts m,
     )
 
-held_write_grows : (around : Around) (at : Place) (k : ℕ) (name : List ℕ) (o : Option Held) → WriteGrows (held_spot around at k name o)
+pub held_write_grows : (around : Around) (at : Place) (k : ℕ) (name : List ℕ) (o : Option Held) → WriteGrows (held_spot around at k name o)
 held_write_grows around at k name None = wrong_write_grows at
 held_write_grows around at k name (Some (H.Value i)) = wrong_write_grows at
 held_write_grows around at k name (Some (H.Var r)) = named_write_grows around at k name r
 
-register_write_grows : (around : Around) (at : Place) (k : ℕ) (o : Option Register) → WriteGrows (register_spot around at k o)
+pub register_write_grows : (around : Around) (at : Place) (k : ℕ) (o : Option Register) → WriteGrows (register_spot around at k o)
 register_write_grows around at k None = wrong_write_grows at
 register_write_grows around at k (Some r) = named_write_grows around at k r.name _
 
-call_write_grows : (around : Around) (at : Place) (k : ℕ) (reader : Option Caller) (writer : Caller) (bs : List Bool) (is : List Indices)
+pub call_write_grows : (around : Around) (at : Place) (k : ℕ) (reader : Option Caller) (writer : Caller) (bs : List Bool) (is : List Indices)
     → WriteGrows (call_spot around at k reader writer bs is)
 call_write_grows around at k reader writer bs is nested i = (
   grows_bind (call_written around at k writer bs is nested i) Walked.gives (written_grow around at k reader writer bs is nested i) (λ a.
@@ -126,7 +128,7 @@ module _ (around : Around) (scope : Scope) where
   abbrev pub MemberGrows : (List Part → Walk (Option Spotted)) → Type 0
   MemberGrows t = (ps : List Part) → AnyGrow around scope ps → Grows (t ps) × Gives (SpottedGrow around scope WriteGrows) (t ps)
 
-  abbrev AllGrown : Option SpottedAll → Type 0
+  abbrev pub AllGrown : Option SpottedAll → Type 0
   AllGrown None = Unit {0}
   AllGrown (Some all) = AnyGrow around scope all.left × AllWriteGrow all.spots
 
@@ -137,11 +139,13 @@ module _ (around : Around) (scope : Scope) where
       → Grows (give (spotted s ps)) × Gives (SpottedGrow around scope WriteGrows) (give (spotted s ps))
   once_grows s h ps grow = (grows_give (spotted s ps), gives_back (SpottedGrow around scope WriteGrows) (spotted s ps) (grow, h))
 
-  call_member : (at : Place) (k count : ℕ) (reader : Option Caller) (writer : Caller) → MemberGrows (kind_spot at k (T.Call count reader writer) [] around scope)
+  pub call_member : (at : Place) (k count : ℕ) (reader : Option Caller) (writer : Caller)
+      → MemberGrows (kind_spot at k (T.Call count reader writer) [] around scope)
   call_member at k count reader writer ps grow =
       let arguments : Walk (List Indices) = each_walk (take count ps) around scope (argument_aims (callee_types around writer.callee)) in
       let next : List Indices → Walk (Option Spotted) = call_spotted around at k count reader writer ps in (
-        grows_bind arguments next (each_grows around scope (take count ps) (argument_aims (callee_types around writer.callee)) (taken_grow around scope count ps grow))
+        grows_bind arguments next (each_grows around scope (take count ps) (argument_aims (callee_types around writer.callee))
+            (taken_grow around scope count ps grow))
             (λ is. grows_give (next_spot is)),
         gives_bind (λ is. Unit {0}) (SpottedGrow around scope WriteGrows) arguments next (any arguments) (λ is u.
             gives_back (SpottedGrow around scope WriteGrows) (next_spot is)
@@ -213,7 +217,7 @@ module _ (around : Around) (scope : Scope) where
 
   module _ (at : Place) (k : ℕ) where
     by_tuple : (ys : List Such) (b c : Bool) → list_all is_member (map shape (targets_of ys)) ≡ b
-        → is_member (if b then a_tuple else if c then a_parted else another) ≡ true
+        → is_member (if b then a_tuple else if c then a_parted else a_wrong) ≡ true
         → MemberGrows (kind_spot at k T.Tuple (map spotting (targets_of ys)) around scope)
     by_tuple ys true c e m = tuple_member at k (map spotting (targets_of ys)) (all_members ys e)
     by_tuple ys false true e m = absurd (cc)
@@ -223,16 +227,13 @@ module _ (around : Around) (scope : Scope) where
     no_part ss [] = refl
     no_part ss (a_name ∷ []) = refl
     no_part ss (a_part ∷ []) = refl
-    no_part ss (a_call ∷ []) = refl
+    no_part [] (a_call ∷ []) = refl
+    no_part (s ∷ ss) (a_call ∷ []) = refl
+    no_part ss (a_late ∷ []) = refl
     no_part ss (a_tuple ∷ []) = refl
     no_part ss (a_parted ∷ []) = refl
-    no_part ss (another ∷ []) = refl
-    no_part ss (a_name ∷ c ∷ cs) = refl
-    no_part ss (a_part ∷ c ∷ cs) = refl
-    no_part ss (a_call ∷ c ∷ cs) = refl
-    no_part ss (a_tuple ∷ c ∷ cs) = refl
-    no_part ss (a_parted ∷ c ∷ cs) = refl
-    no_part ss (another ∷ c ∷ cs) = refl
+    no_part ss (a_wrong ∷ []) = refl
+    no_part ss (c ∷ d ∷ cs) = refl
 
     form_by : (kind : TargetKind) (ys : List Such) → is_member (shape_form kind (map shape (targets_of ys))) ≡ true
         → MemberGrows (kind_spot at k kind (map spotting (targets_of ys)) around scope)

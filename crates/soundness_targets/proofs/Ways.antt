@@ -112,7 +112,7 @@ two_enough k = grind (arith, nat_tests)
 module _ (q : Scene) (w : World Item) (scope : Scope) (narrow : TypesNarrow q.set.around.types) (place : Place) (i : Indices) (u : Value) where
   -- ---- a field
 
-  field_there : {n : ℕ} {f : Point n} (c d : ℕ) → Has q.set q.work f i u → Whole q i → (x : Option Reached) → into_field (here q) c d (out-Indices i) ≡ x
+  pub field_there : {n : ℕ} {f : Point n} (c d : ℕ) → Has q.set q.work f i u → Whole q i → (x : Option Reached) → into_field (here q) c d (out-Indices i) ≡ x
       → PartThere q f i u x (field_way c d)
   field_there c d h whole None e = tt
   field_there {n} {f} c d h whole (Some x) e = field_is q narrow f i u c d x h whole e
@@ -141,7 +141,7 @@ module _ (q : Scene) (w : World Item) (scope : Scope) (narrow : TypesNarrow q.se
 
   -- ---- an index
 
-  item_there : {n : ℕ} {f : Point n} (t : Num) (y : Item) (c : ℤ) → OneIndex q f (Some (t ∷ [])) y c → Has q.set q.work f i u → Whole q i
+  pub item_there : {n : ℕ} {f : Point n} (t : Num) (y : Item) (c : ℤ) → OneIndex q f (Some (t ∷ [])) y c → Has q.set q.work f i u → Whole q i
       → (form : Indices-F Indices Reading) → roll-Indices form ≡ i → PartThere q f i u (into_item t form) (item_way c)
   item_there t y c e h whole (W.Bits m) is = (bit_found q i u h t c e.same m is, (bit_steady q, bit_whole))
   item_there t y c e h whole (W.Vector m r) is =
@@ -175,7 +175,7 @@ module _ (q : Scene) (w : World Item) (scope : Scope) (narrow : TypesNarrow q.se
 
   -- ---- a slice
 
-  slice_there : {n : ℕ} {f : Point n} (k : ℕ) (x : Item) (y b : Item) (r : Option Reached) (e : Ranges q w scope place k i x f r y b) → Has q.set q.work f i u
+  pub slice_there : {n : ℕ} {f : Point n} (k : ℕ) (x : Item) (y b : Item) (r : Option Reached) (e : Ranges q w scope place k i x f r y b) → Has q.set q.work f i u
       → (form : Indices-F Indices Reading) → roll-Indices form ≡ i
       → PartThere q f i u (into_slice e.high e.low e.width form) (slice_way e.is_high.integer_there e.is_low.integer_there)
   slice_there k x y b r e h (W.Bits m) is = (

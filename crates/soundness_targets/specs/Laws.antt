@@ -1,5 +1,5 @@
 -- Assignments end well beside their walks, where what they are made of does (Sail language manual, "Variables and assignment", "Registers").
-use Rattle.std.specs.Prelude.{◌≡◌, true, ℕ, List}
+use Rattle.std.specs.Prelude.{◌≡◌, ℕ, List}
 use Rattle.sail_core.specs.Making.{World}
 use Rattle.sail_core.specs.declared.targets.Target.{Target}
 use Rattle.sail_core.specs.declared.tree.Kind.TheVariants as K
@@ -10,10 +10,9 @@ use Rattle.soundness_forms.specs.EachKind.{KindFine}
 use Rattle.soundness_forms.specs.Mappings.{MappingsClosed}
 use Rattle.soundness_forms.specs.Registers.{RegistersClosed}
 use Rattle.soundness_values.specs.Named.{TypesNarrow}
-use Rattle.soundness_targets.specs.Plain.{all_plain}
 
--- to `var`s and registers, to parts of them and by calls, one target or several in a row, where fields and payloads name no Type variables but those of
--- their own type, the types of registers and mappings name no variable, and calls fit
+-- to any targets, one or several in a row, where fields and payloads name no Type variables but those of their own type, the types of registers and
+-- mappings name no variable, and calls fit
 abbrev pub AssignmentsAreFine : Type 0
 AssignmentsAreFine = (q : Scene) (w : World Item) → TypesNarrow q.set.around.types → RegistersClosed q.set → ((i : ℕ) → CalleeFits q.set i)
-    → MappingsClosed q.set → (targets : List Target) → all_plain targets ≡ true → KindFine q w (K.Assign targets)
+    → MappingsClosed q.set → (targets : List Target) → KindFine q w (K.Assign targets)
