@@ -10,7 +10,8 @@ use Rattle.split_laws.proofs.Basics.{in_back, in_front, in_mapped}
 use Rattle.note_laws.specs.Notes.{EachNote, OfOthers}
 use Rattle.soundness_steps.specs.Covers.{IsMet}
 use Rattle.covering_laws.specs.Laws.{BodiesAreMet}
-use Rattle.covering_laws.specs.Tested.{all_nodes, all_noted, are_apart, note_in, noted_tested}
+use Rattle.node_counts.specs.Told.{all_noted, are_apart, note_in}
+use Rattle.covering_laws.specs.Tested.{all_nodes, noted_tested}
 use Rattle.covering_laws.proofs.Notes.{note_met}
 use Rattle.covering_laws.proofs.Places.{all_in}
 
@@ -28,10 +29,10 @@ each_there P [] h = tt
 each_there P (n ∷ ns) h = (h n (inl refl), each_there P ns (λ m i. h m (inr i)))
 
 pub bodies_are_met : BodiesAreMet
-bodies_are_met set x sizing zs awaits list instances reached placed covers own_fit bs h b i =
+bodies_are_met set x sizing zs awaits list instances reached placed covers own_fit every bs h b i =
     let ys = all_noted bs in
     let nodes = all_nodes set.around.types sizing zs x.own list ys in
     let p = and_parts (are_apart ys) (list_all (noted_tested set.around.types sizing zs x.own reached list nodes) ys) h in
     each_there (OfOthers (IsMet set x reached (cases_of set.around.types instances nodes))) b.notes (λ n k.
-    note_met set x sizing zs awaits list instances reached placed covers own_fit ys p.0 b n (noted_there bs b n i k)
+    note_met set x sizing zs awaits list instances reached placed covers ys p.0 own_fit every b n (noted_there bs b n i k)
     (all_in (noted_tested set.around.types sizing zs x.own reached list nodes) ys (note_in b n) p.1 (noted_there bs b n i k)))

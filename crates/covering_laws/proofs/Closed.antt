@@ -1,12 +1,16 @@
 -- What is found without refusal is read, and what is called there is found.
 use Rattle.std.proofs.Common.{◌≡◌, ◌∙◌, ap, sym, refl, subst, ℕ, zero, suc, ◌+◌, ◌<◌, ◌≤◌, ◌/◌, nat_eq, nat_lt, ℤ, pos, int_le, Bool, true, false, ◌&&◌, ◌||◌}
 use Rattle.std.proofs.Common.{◌⊎◌, inl, inr, List, [], ◌∷◌, ◌++◌, map, length, slice_get, Option, Some, None, if◌then◌else◌, arith}
-use Rattle.std.specs.Prelude.{Ok, Err}
+use Rattle.std.specs.Prelude.{Ok, Err, drop, not, take}
 use Rattle.std.specs.List.{list_any}
 use Rattle.std.proofs.lemmas.Bool.Decides.{Decides-eqb}
 use Rattle.sail_base.specs.declared.place.Place.{Place}
+use Rattle.sail_types.specs.Limits.{largest}
 use Rattle.sail_types.specs.Places.{first}
 use Rattle.sail_types.specs.declared.numbers.Index.{Index}
+use Rattle.model_state.specs.declared.state.Register.{Register}
+use Rattle.sail_core.specs.declared.model.Opening.{Opening}
+use Rattle.sail_core.specs.declared.model.RegisterText.{RegisterText}
 use Rattle.sail_core.specs.declared.tree.Callee.{Callee}
 use Rattle.sail_core.specs.declared.tree.Callee.TheVariants as D
 use Rattle.value_indices.specs.Steps.{Note, goal_note, size_note, made_note, call_note, way_note, given_note, name_note}
@@ -33,21 +37,27 @@ use Rattle.monomorph.specs.declared.found.Found.TheVariants as F
 use Rattle.monomorph.specs.declared.found.Instance.{Instance}
 use Rattle.monomorph.specs.Found.{Answer, add, add_mapping, and_then, found_eq, instances_in, most_instances, outcome, over, unless, unless_full}
 use Rattle.monomorph.specs.Instances.{entry, found_from, grow, grow_from, one_or_none, or_none, read_found, times_enough}
-use Rattle.monomorph.specs.Lasts.{Model, read_bodies, read_lasts}
+use Rattle.monomorph.specs.Lasts.{Model, count_before, last_from, read_bodies, read_lasts, read_register, register_refused}
 use Rattle.monomorph.specs.Reading.{Inside, called, instance_of, numbers_refused, read_body, read_call, read_note, read_notes, read_sizes, read_way}
 use Rattle.monomorph.specs.Reading.{reading_of, types_refused, under}
 use Rattle.monomorph.specs.Refusals.{constant_refused, constants_refused, number_refused, size_refused, sizes_refused}
-use Rattle.sized_trees.specs.Within.{all_numbers, all_within, is_number, is_within, number_within}
+use Rattle.sized_trees.specs.Within.{all_within, is_within, number_within}
 use Rattle.exact_sizes.proofs.Equal.{all_itself, numbers_itself}
 use Rattle.exact_sizes.proofs.Known.{none}
-use Rattle.covering_laws.specs.Closed.{BodiesAreRead, CallIsRead, CalleeIsAmong, IsAmong, IsRead, ListsAreRead, NoteIsRead, NotesAreRead, SizeIsRead}
+use Rattle.covering_laws.specs.Closed.{BodiesAreRead, CallIsRead, CalleeIsAmong, IsAmong, IsRead, NoteIsRead, NotesAreRead, SizeIsRead}
+use Rattle.covering_laws.specs.Closed.{all_given, is_given}
+use Rattle.covering_laws.proofs.Found.{part_there}
 use Rattle.covering_laws.proofs.Grown.{Extends, Keeps, as_found, call_keeps, further, found_keeps, grow_keeps, mapping_keeps, notes_keep}
 use Rattle.covering_laws.proofs.Grown.{last_keeps, over_keeps, sizes_keep}
 
 -- ---- what refuses nothing
 
-number_fine : (place : Place) (names : List (List ℕ)) (c : Constant) → constant_refused place names c ≡ None → is_number c ≡ true
-number_fine place names (C.Number z) h = refl
+number_fine : (place : Place) (names : List (List ℕ)) (c : Constant) → constant_refused place names c ≡ None → is_given c ≡ true
+number_fine place names (C.Number z) h = by (int_le (pos largest) z) h
+  where
+    by : (b : Bool) → (if b then Some (WidthLimit place z) else None) ≡ None → not b ≡ true
+    by true g = absurd (cc)
+    by false g = refl
 number_fine place names (C.Open v) h = absurd (cc)
 number_fine place names (C.Bound name) h = absurd (cc)
 
@@ -55,11 +65,11 @@ first_none : {A : Type 0} (o p : Option A) → first o p ≡ None → (o ≡ Non
 first_none None p h = (refl, h)
 first_none (Some x) p h = absurd (cc)
 
-numbers_fine : (place : Place) (names : List (List ℕ)) (cs : List Constant) → constants_refused place names cs ≡ None → all_numbers cs ≡ true
+numbers_fine : (place : Place) (names : List (List ℕ)) (cs : List Constant) → constants_refused place names cs ≡ None → all_given cs ≡ true
 numbers_fine place names [] h = refl
 numbers_fine place names (c ∷ cs) h =
     let p = first_none (constant_refused place names c) (constants_refused place names cs) h in
-    two (is_number c) (all_numbers cs) (number_fine place names c p.0) (numbers_fine place names cs p.1)
+    two (is_given c) (all_given cs) (number_fine place names c p.0) (numbers_fine place names cs p.1)
 
 within_fine : (place : Place) (names : List (List ℕ)) (n : ℕ) (c : Constant) → number_refused place names n c ≡ None → number_within n c ≡ true
 within_fine place names n (C.Number z) h = by (int_le (pos 0) z && int_le z (pos n)) h
@@ -91,7 +101,7 @@ then_fine read next found all h = by (read found) refl h
 
 -- ---- what is among them stays
 
-any_front : (x : Found) (found more : List Found) → IsAmong x found → IsAmong x (found ++ more)
+pub any_front : (x : Found) (found more : List Found) → IsAmong x found → IsAmong x (found ++ more)
 any_front x [] more h = no h
 any_front x (y ∷ found) more h = by (found_eq x y) h (λ g. any_front x found more g)
   where
@@ -103,7 +113,7 @@ any_front x (y ∷ found) more h = by (found_eq x y) h (λ g. any_front x found 
 stays : (x : Found) (found all : List Found) → Extends found all → IsAmong x found → IsAmong x all
 stays x found all e h = subst (λ (l : List Found). IsAmong x l) (sym e.1) (any_front x found e.0 h)
 
-any_last : (x : Found) (found : List Found) → found_eq x x ≡ true → IsAmong x (found ++ x ∷ [])
+pub any_last : (x : Found) (found : List Found) → found_eq x x ≡ true → IsAmong x (found ++ x ∷ [])
 any_last x [] h = ap (λ (b : Bool). b || false) h
 any_last x (y ∷ found) h = by (found_eq x y) (any_last x found h)
   where
@@ -354,6 +364,42 @@ module _ (m : Model) where
           subst (λ (l : List Found). slice_get l i ≡ Some y) (sym whole.1) (slice_front found whole.0 i y e) in
           one_more times i all j x at less y here (read_lasts_on y t.0 all behind (found_leaves y found t.0 t.1)) more t.0 t.2 (here_or_later i j le)
 
+  -- ---- what comes last
+
+  register_leaves : (r : Register) (text : RegisterText) (bs : List Body) (found all : List Found) → read_register m r text bs found ≡ Ok all
+      → BodiesAreRead m [] [] bs all
+  register_leaves r text bs found all h =
+      let t = then_fine (read_bodies m [] [] bs) (λ more. unless (register_refused m.core.types r text) (Ok more)) found all h in
+      let same : t.0 ≡ all = as_found t.0 all (unless_fine (register_refused m.core.types r text) (Ok t.0) all t.2).1 in
+      subst (λ (l : List Found). BodiesAreRead m [] [] bs l) same (bodies_leave [] [] bs found t.0 t.1)
+
+  lasts_leave : (rs : List Register) (texts : List RegisterText) (os : List Opening) (bs : List Body) (found all : List Found)
+      → last_from m rs texts os bs found ≡ Ok all → BodiesAreRead m [] [] bs all
+  lasts_leave [] texts os bs found all h = bodies_leave [] [] bs found all h
+  lasts_leave (r ∷ rs) [] os bs found all h = bodies_leave [] [] bs found all h
+  lasts_leave (r ∷ rs) (text ∷ texts) os bs found all h =
+      let n : ℕ = count_before text.place os in
+      let t = then_fine (read_register m r text (take n bs)) (last_from m rs texts (drop n os) (drop n bs)) found all h in
+      let kept : Extends t.0 all = last_keeps m rs texts (drop n os) (drop n bs) t.0 all t.2 in
+      let front = bodies_last [] [] (take n bs) t.0 all kept (register_leaves r text (take n bs) found t.0 t.1) in
+      let rest = lasts_leave rs texts (drop n os) (drop n bs) t.0 all t.2 in
+      λ b i. by n front rest b (part_there b n bs i)
+    where
+      by : (n : ℕ) → BodiesAreRead m [] [] (take n bs) all → BodiesAreRead m [] [] (drop n bs) all → (b : Body) → IsIn b (take n bs) ⊎ IsIn b (drop n bs)
+          → NotesAreRead (reading_of m.core.types m.sizing [] [] b) all b.notes
+      by n front rest b (inl k) = front b k
+      by n front rest b (inr k) = rest b k
+
+  openings_read : (all : List Found) → found_from m (entry m.core.reset ∷ entry m.core.step ∷ []) ≡ Ok all → BodiesAreRead m [] [] m.bodies.openings all
+  openings_read all h =
+      let start : List Found = entry m.core.reset ∷ entry m.core.step ∷ [] in
+      let once = then_fine (grow (times_enough m) m 0) (λ first. and_then (read_lasts m first) (grow (times_enough m) m (length first))) start all h in
+      let lasts = then_fine (read_lasts m) (grow (times_enough m) m (length once.0)) once.0 all once.2 in
+      bodies_last [] [] m.bodies.openings lasts.0 all (grow_keeps m (times_enough m) (length once.0) lasts.0 all lasts.2)
+      (lasts_leave m.core.registers m.core.register_texts m.core.openings m.bodies.openings once.0 lasts.0 lasts.1)
+
+  -- ---- all of it
+
   all_read : (all : List Found) → found_from m (entry m.core.reset ∷ entry m.core.step ∷ []) ≡ Ok all → length all ≤ times_enough m → (j : ℕ) (x : Found)
       → slice_get all j ≡ Some x → IsRead m all x
   all_read all h enough j x at =
@@ -376,7 +422,12 @@ module _ (m : Model) where
       by some more g k whole long (inr past) =
           grow_reads (times_enough m) (length some) more all k j x at past (omega (arith, long, enough))
 
-pub lists_are_read : ListsAreRead
-lists_are_read m all h enough x i =
-    let at = slice_in all x i in
-    all_read m all h enough at.0 x at.1
+-- where no more is found than the definition reads
+pub found_read : (m : Model) (all : List Found) → found_from m (entry m.core.reset ∷ entry m.core.step ∷ []) ≡ Ok all
+    → BodiesAreRead m [] [] m.bodies.openings all × (length all ≤ times_enough m → (x : Found) → IsIn x all → IsRead m all x)
+found_read m all h = (
+  openings_read m all h,
+  λ enough x i.
+      let at = slice_in all x i in
+      all_read m all h enough at.0 x at.1,
+)

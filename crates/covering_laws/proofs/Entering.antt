@@ -16,8 +16,6 @@ use Rattle.sail_types.specs.declared.types.Typ.{Typ}
 use Rattle.sail_types.specs.declared.values.Value.{Value}
 use Rattle.sail_core.specs.Numbers.{agrees, all_agree}
 use Rattle.sail_core.specs.declared.model.Function.{Function}
-use Rattle.value_indices.specs.declared.indices.Indices.TheOpen as W
-use Rattle.value_indices.specs.declared.indices.Reading.TheVariants as R
 use Rattle.value_laws.specs.Belonging.{Integers, standing}
 use Rattle.value_laws.proofs.Basics.{no}
 use Rattle.size_values.specs.declared.constants.Constant.{Constant}
@@ -25,9 +23,9 @@ use Rattle.size_values.specs.Numbers.{argument_of, known_of, number_in, or_open,
 use Rattle.size_values.specs.Sized.{reading_sized}
 use Rattle.size_laws.proofs.Opening.{opening_keeps_sizes}
 use Rattle.sized_trees.specs.Trees.{all_sized_for, constants_of, sized_for}
+use Rattle.call_fits.specs.Calls.{AllBelong, given_of, givens_at, own_variables, variable_index}
 use Rattle.soundness_steps.specs.Works.{Setting, Work}
 use Rattle.soundness_steps.specs.Noted.{OpensAs, known}
-use Rattle.soundness_steps.specs.Calls.{AllBelong, given_of, givens_at, own_variables, variable_index}
 use Rattle.soundness_calls.specs.Premises.{AllMade, OwnSame, own_of, own_type}
 use Rattle.exact_sizes.specs.Exact.{exact_constants, exact_index, reading_passes, reading_settles}
 use Rattle.exact_sizes.specs.Laws.{More, Stands}

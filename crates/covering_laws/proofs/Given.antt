@@ -1,6 +1,6 @@
--- A note that is tested is met by cases that are worked out from the numbers of the instance and from those that are noted.
-use Rattle.std.proofs.Common.{◌≡◌, ◌∙◌, ap, sym, refl, subst, ℕ, nat_eq, ℤ, Bool, true, false, ◌&&◌, ◌||◌, inl, inr, List, [], ◌∷◌, map, length}
-use Rattle.std.proofs.Common.{slice_get, Option, Some, None, if◌then◌else◌, append-nil}
+-- A note that is read without refusal and tested is met by cases that are worked out from the numbers of the instance and from those that are noted.
+use Rattle.std.proofs.Common.{◌≡◌, ◌∙◌, ap, sym, refl, subst, ℕ, ◌/◌, nat_eq, ℤ, Bool, true, false, ◌&&◌, ◌||◌, inl, inr, List, [], ◌∷◌, map, length}
+use Rattle.std.proofs.Common.{slice_get, Option, Some, None, if◌then◌else◌}
 use Rattle.std.specs.Prelude.{is_some, option_map}
 use Rattle.std.specs.List.{list_all}
 use Rattle.std.proofs.lemmas.Bool.{and_parts}
@@ -13,36 +13,36 @@ use Rattle.sail_types.specs.declared.values.Value.{Value}
 use Rattle.sail_core.specs.Numbers.{Instance as Awaits}
 use Rattle.sail_core.specs.declared.tree.Callee.{Callee}
 use Rattle.sail_core.specs.declared.tree.Callee.TheVariants as D
-use Rattle.value_indices.specs.Steps.{Note, goal_note, size_note, made_note, call_note, way_note, given_note, name_note, conditions}
+use Rattle.value_indices.specs.Steps.{Note, goal_note, size_note, made_note, call_note, way_note, given_note, name_note}
 use Rattle.value_indices.specs.declared.indices.Indices.{Indices}
 use Rattle.value_indices.specs.declared.indices.Reading.{Reading}
 use Rattle.value_indices.specs.declared.notes.Fact.{Fact}
 use Rattle.value_indices.specs.declared.notes.Made.{Made}
 use Rattle.value_indices.specs.declared.notes.Made.TheVariants as Makes
-use Rattle.value_laws.specs.Belonging.{Integers, standing}
-use Rattle.value_laws.specs.Known.{AllTrue}
+use Rattle.value_laws.specs.Belonging.{Integers}
 use Rattle.value_laws.proofs.Basics.{no, two}
 use Rattle.size_values.specs.declared.constants.Constant.{Constant}
 use Rattle.size_values.specs.declared.constants.Constant.TheVariants as C
-use Rattle.size_values.specs.Numbers.{index_under, known_of}
+use Rattle.size_values.specs.Numbers.{index_under, known_of, number_in}
 use Rattle.size_values.specs.Sized.{all_eq, integer_of, number_where, numbers_eq, reading_sized}
 use Rattle.size_laws.proofs.Opening.{opening_keeps_sizes}
 use Rattle.size_splits.specs.Bodies.{Body}
 use Rattle.size_splits.specs.Sizing.{Sizing, flags_of}
 use Rattle.size_splits.specs.Splits.{counted}
-use Rattle.split_laws.specs.Counted.{IsIn}
-use Rattle.split_laws.proofs.Combinations.{present_counted}
+use Rattle.split_laws.specs.Counted.{IsCounted, IsIn}
+use Rattle.monomorph.specs.declared.found.Found.{Found}
+use Rattle.monomorph.specs.declared.found.Found.TheVariants as F
 use Rattle.monomorph.specs.declared.found.Instance.{Instance}
 use Rattle.monomorph.specs.Reading.{Inside, given, instance_of, under}
 use Rattle.checked_meaning.specs.Checked.{Cases, Noted}
-use Rattle.checked_meaning.specs.Fits.{AllFit}
 use Rattle.sized_trees.specs.declared.trees.SizedInstance.{SizedInstance}
 use Rattle.sized_trees.specs.Cases.{place_in}
 use Rattle.sized_trees.specs.Combinations.{is_given}
+use Rattle.sized_trees.specs.Within.{is_number}
 use Rattle.sized_meanings.specs.Sized.{numbers_of}
 use Rattle.soundness_steps.specs.Works.{Setting, Work}
 use Rattle.soundness_steps.specs.Noted.{HasNumbers, IsSo, MadeAs, known, type_sized}
-use Rattle.soundness_steps.specs.Covers.{AllAgree, IsMet}
+use Rattle.soundness_steps.specs.Covers.{AllAgree, IsMet, SizesFit}
 use Rattle.note_laws.specs.Notes.{EachNote, OfOthers}
 use Rattle.exact_sizes.specs.Among.{SameAmong, index_among, reading_among}
 use Rattle.exact_sizes.specs.Exact.{is_exact_index, only_if}
@@ -52,12 +52,15 @@ use Rattle.exact_sizes.proofs.Among as Among
 use Rattle.exact_sizes.proofs.Among.{sizes_hang}
 use Rattle.exact_sizes.proofs.Equal.{numbers_same}
 use Rattle.exact_sizes.proofs.Known.{some_there}
+use Rattle.covering_laws.specs.Closed.{IsAmong, NoteIsRead, NotesAreRead}
 use Rattle.covering_laws.specs.Given.{bodies_given, call_given, call_passes, called_at, called_in, calls_at, cases_given, first_noted}
 use Rattle.covering_laws.specs.Given.{function_given, is_certain, is_node, made_given, made_in, made_now, makes_at, note_given, noted_given}
-use Rattle.covering_laws.specs.Given.{now, numbers_among, or_noted}
+use Rattle.covering_laws.specs.Given.{are_nums, is_known, now, numbers_among, or_noted, settles, type_given}
 use Rattle.covering_laws.specs.Laws.{ArePlaced, AreCovered}
-use Rattle.covering_laws.specs.Tested.{NoteIn, all_nodes, all_noted, are_alike, are_apart, inside, is_apart, note_in, numbers_pass, readings_pass}
+use Rattle.node_counts.specs.Told.{NoteIn, all_noted, are_alike, are_apart, is_apart, note_in}
+use Rattle.covering_laws.specs.Tested.{all_nodes, inside, numbers_pass}
 use Rattle.covering_laws.proofs.Bodies.{each_there, noted_there}
+use Rattle.covering_laws.proofs.Found.{given_pass, indices_in_limit, note_is_read}
 use Rattle.covering_laws.proofs.Notes as Notes
 use Rattle.covering_laws.proofs.Notes.{given_noted, only_there, sized_as_many, work_of}
 use Rattle.covering_laws.proofs.Places.{all_in, is_not, numbers_agree, place_found}
@@ -96,16 +99,51 @@ is_another k n j is others e h = subst (λ (l : ℕ). (nat_eq k j && nat_eq (len
 -- ---- bodies that are read together
 
 module _ (set : Setting) (x : Work) (sizing : Sizing) (zs : List (Option ℤ)) (awaits : x.instance.numbers ≡ map (option_map an_int) zs)
-    (list : List Instance) (instances : List SizedInstance) (reached : ℕ → Bool)
+    (list : List Instance) (instances : List SizedInstance) (low : ℕ → Bool)
     (placed : (i : ℕ) (y : Instance) → slice_get list i ≡ Some y → (s : SizedInstance) × (slice_get instances i ≡ Some s) × (s.instance ≡ y))
     (covers : (p : ℕ) (s : SizedInstance) (y : Work) → slice_get instances p ≡ Some s → s.instance.function ≡ y.function
-    → y.instance ≡ record { place = p; numbers = numbers_of s.instance } → all_eq y.own s.instance.types ≡ true → set.covered y ≡ true)
-    (own_fit : AllFit set.around.types x.types x.own) where
+    → y.instance ≡ record { place = p; numbers = numbers_of s.instance } → all_eq y.own s.instance.types ≡ true → set.covered.function y ≡ true)
+    (found : List Found) (among : (y : Instance) → IsAmong (F.Function y) found → is_some (place_in list y) ≡ true)
+    (ways : (d : ℕ) → IsAmong (F.Mapping (d / 2)) found → set.covered.direction d ≡ true) where
   abbrev types : Types
   types = set.around.types
 
   abbrev inside_of : Body → Inside
   inside_of b = inside types sizing zs x.own b
+
+  -- directions that are covered, of those through which patterns go
+  abbrev reached : ℕ → Bool
+  reached d = low d && set.covered.direction d
+
+  -- where the present numbers are one combination that counts
+  present : (b : Body) (facts : List Fact) (f : Integers) (noted : Noted) → IsSo set.past x noted f facts
+      → IsCounted (known_of zs) (inside_of b).split facts [] f
+  present b facts f noted so = Notes.counted_there set x sizing zs awaits list instances reached placed covers b facts f noted so
+
+  present_stands : (b : Body) (facts : List Fact) (f : Integers) (noted : Noted) (so : IsSo set.past x noted f facts)
+      → Stands (under (inside_of b) (present b facts f noted so).taken) f
+  present_stands b facts f noted so =
+      let at = present b facts f noted so in
+      Notes.stands_there set x sizing zs awaits list instances reached placed covers b f at.taken
+      (Notes.so_there set x sizing zs awaits list instances reached placed covers b f noted facts so).known at.are
+
+  -- ---- sizes
+
+  type_settled : (b : Body) (facts : List Fact) (q : Reading) → list_all (settles (inside_of b) q) (counted (known_of zs) (inside_of b).split facts []) ≡ true
+      → (f : Integers) (noted : Noted) → IsSo set.past x noted f facts → SizesFit types x.own set.past f (Makes.ByType q)
+  type_settled b facts q h f noted so =
+      let at = present b facts f noted so in
+      Notes.made_fits set x sizing zs awaits list instances reached placed covers b f at.taken (present_stands b facts f noted so) (Makes.ByType q)
+      (all_in (settles (inside_of b) q) (counted (known_of zs) (inside_of b).split facts []) at.taken h at.is_there)
+
+  size_met : (b : Body) (facts : List Fact) (place : Place) (made : Made) (named : Option ℕ)
+      → NoteIsRead (inside_of b) found (size_note facts place made) named → type_given (inside_of b) facts made ≡ true
+      → (f : Integers) (noted : Noted) → IsSo set.past x noted f facts → SizesFit types x.own set.past f made
+  size_met b facts place (Makes.ByIndices i) named read h f noted so =
+      let at = present b facts f noted so in
+      Notes.made_fits set x sizing zs awaits list instances reached placed covers b f at.taken (present_stands b facts f noted so) (Makes.ByIndices i)
+      (indices_in_limit types (under (inside_of b) at.taken) i (read at.taken at.is_there))
+  size_met b facts place (Makes.ByType q) named read h f noted so = type_settled b facts q h f noted so
 
   -- what is certain is right
   certain_same : (f : Integers) (noted : Noted) (facts : List Fact) → IsSo set.past x noted f facts → SameAmong (is_certain zs facts) (now zs noted) (known f)
@@ -126,7 +164,7 @@ module _ (set : Setting) (x : Work) (sizing : Sizing) (zs : List (Option ℤ)) (
       record {
         each = λ tells name fs n had. (sizes_hang types x.own (is_certain zs facts) (now zs noted) (known f) (certain_same f noted facts so)).1 q p.0
             ∙ sym (opening_keeps_sizes types x.own (known f) q
-            (Notes.size_met set x sizing zs awaits list instances reached placed covers own_fit b facts (Makes.ByType q) p.1 f noted so) tells name fs n);
+            (type_settled b facts q p.1 f noted so) tells name fs n);
       }
 
   -- ---- what a call gives to size variables and to Type variables
@@ -162,6 +200,15 @@ module _ (set : Setting) (x : Work) (sizing : Sizing) (zs : List (Option ℤ)) (
         let rest = types_given qs p.1 in
         λ i. one i ∷ rest i
 
+  -- what is known is right
+  known_same : (of : ℕ → Constant) (f : Integers) → Stands of f → SameAmong (λ v. is_number (of v)) of (known f)
+  known_same of f stands i h = by (of i) refl h
+    where
+      by : (c : Constant) → of i ≡ c → is_number c ≡ true → of i ≡ known f i
+      by (C.Number z) e k = e ∙ ap (λ (y : ℤ). C.Number y) (sym (stands i z (ap number_in e)))
+      by (C.Open v) e k = no k
+      by (C.Bound name) e k = no k
+
   module _ (ys : List NoteIn) (apart : are_apart ys ≡ true) where
     abbrev cases : Cases
     cases = cases_given types sizing zs x.own list ys
@@ -191,43 +238,44 @@ module _ (set : Setting) (x : Work) (sizing : Sizing) (zs : List (Option ℤ)) (
         passed (name_note w name) noted many other = refl
 
     called_met : (b : Body) (facts : List Fact) (place : Place) (k : ℕ) (operands : List Indices) (g : ℕ) (js : List Index) (qs : List Reading)
-        → IsIn (note_in b (call_note facts place k operands (D.Function g) js qs)) ys → function_given (inside_of b) list facts g js qs ≡ true
+        (named : Option ℕ) → IsIn (note_in b (call_note facts place k operands (D.Function g) js qs)) ys
+        → NoteIsRead (inside_of b) found (call_note facts place k operands (D.Function g) js qs) named → function_given (inside_of b) facts g js qs ≡ true
         → IsMet set x reached cases (call_note facts place k operands (D.Function g) js qs)
-    called_met b facts place k operands g js qs it h f noted so ss are =
+    called_met b facts place k operands g js qs named it read h f noted so ss are =
         let r = inside_of b in
         let has = is_certain zs facts in
         let at = now zs noted in
         let many : length ss ≡ length operands = sized_as_many set x f operands ss are in
         let certain = certain_same f noted facts so in
+        let halves = and_parts (are_nums (flags_of sizing g) js) ((numbers_among has (flags_of sizing g) js && list_all (reading_among types has) qs)
+        && list_all (call_passes r qs) (counted (known_of zs) r.split facts [])) h in
         let tests = and_parts (numbers_among has (flags_of sizing g) js && list_all (reading_among types has) qs)
-        (list_all (call_passes r list g js qs) (counted (known_of zs) r.split facts [])) h in
+        (list_all (call_passes r qs) (counted (known_of zs) r.split facts [])) halves.1 in
         let p = and_parts (numbers_among has (flags_of sizing g) js) (list_all (reading_among types has) qs) tests.0 in
-        let there = Notes.so_there set x sizing zs awaits list instances reached placed covers own_fit b f noted facts so in
-        let both = subst (λ (fs : List Fact). AllTrue (standing set.past f) (conditions fs)) (sym (append-nil facts)) so.true_there in
-        let present = present_counted set.past f (known_of zs) r.split facts [] there.known so.true_there both in
-        let own = all_in (call_passes r list g js qs) (counted (known_of zs) r.split facts []) present.taken tests.1 present.is_there in
-        let of = under r present.taken in
-        let stands = Notes.stands_there set x sizing zs awaits list instances reached placed covers own_fit b f present.taken there.known present.are in
-        let q = and_parts (is_some (place_in list (instance_of r of g js qs)))
-        (readings_pass r present.taken qs && numbers_pass of (flags_of sizing g) js) own in
-        let w = and_parts (readings_pass r present.taken qs) (numbers_pass of (flags_of sizing g) js) q.1 in
+        let here = present b facts f noted so in
+        let of = under r here.taken in
+        let stands = present_stands b facts f noted so in
+        let called = read here.taken here.is_there in
+        let exact : numbers_pass of (flags_of sizing g) js ≡ true = given_pass of (flags_of sizing g) js halves.0 called.numbers in
+        let alike : list_all (reading_among types (is_known r here.taken)) qs ≡ true =
+        all_in (call_passes r qs) (counted (known_of zs) r.split facts []) here.taken tests.1 here.is_there in
         let wanted = instance_of r of g js qs in
         let asked = instance_of r at g js qs in
-        let same_numbers : asked.numbers ≡ wanted.numbers = numbers_given has at of f certain stands (flags_of sizing g) js p.0 w.1 in
-        let wide = Notes.readings_same set x sizing zs awaits list instances reached placed covers own_fit b f present.taken stands qs w.0 in
+        let same_numbers : asked.numbers ≡ wanted.numbers = numbers_given has at of f certain stands (flags_of sizing g) js p.0 exact in
+        let wide = types_given (is_known r here.taken) of of f (known_same of f stands) stands qs alike in
         let now_types : asked.types ≡ map (type_sized types x.own f) qs = types_given has at of f certain stands qs p.1 in
         let same_types : asked.types ≡ wanted.types = now_types ∙ sym wide in
         let same : asked ≡ wanted = λ i. record { function = g; numbers = same_numbers i; types = same_types i } in
-        let found = some_there (place_in list wanted) q.0 in
-        let y = place_found found.0 wanted list found.1 in
-        let s = placed found.0 y.0 y.1 in
+        let led = some_there (place_in list wanted) (among wanted called.is_among) in
+        let y = place_found led.0 wanted list led.1 in
+        let s = placed led.0 y.0 y.1 in
         let equal = and_parts (nat_eq wanted.function (y.0).function) (numbers_eq wanted.numbers (y.0).numbers && all_eq wanted.types (y.0).types) y.2 in
         let parts = and_parts (numbers_eq wanted.numbers (y.0).numbers) (all_eq wanted.types (y.0).types) equal.1 in
         let numbers : asked.numbers ≡ (s.0).instance.numbers =
         same_numbers ∙ numbers_same wanted.numbers (y.0).numbers parts.0 ∙ ap (λ (z : Instance). z.numbers) (sym s.2) in
-        let awaited : Awaits = record { place = found.0; numbers = numbers_of asked } in
+        let awaited : Awaits = record { place = led.0; numbers = numbers_of asked } in
         let listed : called_at types sizing zs x.own list b noted (D.Function g) js qs ≡ Some awaited =
-        ap (option_map (λ (n : ℕ). record { place = n; numbers = numbers_of asked })) (ap (place_in list) same ∙ found.1) in
+        ap (option_map (λ (n : ℕ). record { place = n; numbers = numbers_of asked })) (ap (place_in list) same ∙ led.1) in
         let function : (s.0).instance.function ≡ g = ap (λ (z : Instance). z.function) s.2 ∙ sym ((Decides-eqb g (y.0).function).0 equal.0) in
         let owns : all_eq (map (type_sized types x.own f) qs) (s.0).instance.types ≡ true =
         ap (λ (z : Instance). all_eq (map (type_sized types x.own f) qs) z.types) s.2
@@ -238,10 +286,9 @@ module _ (set : Setting) (x : Work) (sizing : Sizing) (zs : List (Option ℤ)) (
               awaited (where_node (is_node k (length ss) k operands) _ (is_itself k (length ss) operands many) ∙ listed)
               (λ z other. passed z.body z.note noted many other) ys apart it;
           agree = subst (λ ns. AllAgree set.past f (map (option_map an_int) ns) js) (sym same_numbers)
-              (Notes.numbers_given set x sizing zs awaits list instances reached placed covers own_fit of f stands (flags_of sizing g) js w.1);
-          is_covered = λ ts. covers found.0 s.0 (work_of g awaited (map (type_sized types x.own f) qs) ts) s.1 function
-              (λ i. record { place = found.0; numbers = map (option_map an_int) (numbers i) }) owns;
-          own_fit = Notes.given_fit set x sizing zs awaits list instances reached placed covers own_fit b f present.taken stands qs w.0;
+              (Notes.numbers_given set x sizing zs awaits list instances reached placed covers of f stands (flags_of sizing g) js exact);
+          is_covered = λ ts. covers led.0 s.0 (work_of g awaited (map (type_sized types x.own f) qs) ts) s.1 function
+              (λ i. record { place = led.0; numbers = map (option_map an_int) (numbers i) }) owns;
         }
       where
         passed : (c : Body) (n : Note) (noted : Noted) → length ss ≡ length operands
@@ -258,36 +305,43 @@ module _ (set : Setting) (x : Work) (sizing : Sizing) (zs : List (Option ℤ)) (
         passed c (name_note w name) noted many other = refl
 
     call_met : (b : Body) (facts : List Fact) (place : Place) (k : ℕ) (operands : List Indices) (callee : Callee) (js : List Index) (qs : List Reading)
-        → IsIn (note_in b (call_note facts place k operands callee js qs)) ys → call_given (inside_of b) list facts callee js qs ≡ true
+        (named : Option ℕ) → IsIn (note_in b (call_note facts place k operands callee js qs)) ys
+        → NoteIsRead (inside_of b) found (call_note facts place k operands callee js qs) named → call_given (inside_of b) facts callee js qs ≡ true
         → IsMet set x reached cases (call_note facts place k operands callee js qs)
-    call_met b facts place k operands (D.Function g) js qs it h = called_met b facts place k operands g js qs it h
-    call_met b facts place k operands (D.Row row) js qs it h = tt
-    call_met b facts place k operands (D.Constructor u c) js qs it h = tt
-    call_met b facts place k operands (D.Converts d) js qs it h = tt
-    call_met b facts place k operands (D.Applies d) js qs it h = tt
+    call_met b facts place k operands (D.Function g) js qs named it read h = called_met b facts place k operands g js qs named it read h
+    call_met b facts place k operands (D.Row row) js qs named it read h = tt
+    call_met b facts place k operands (D.Constructor u c) js qs named it read h = tt
+    call_met b facts place k operands (D.Converts d) js qs named it read h = λ f noted so.
+        let here = present b facts f noted so in
+        ways d (read here.taken here.is_there).is_among
+    call_met b facts place k operands (D.Applies d) js qs named it read h = tt
 
     -- ---- a note
 
-    pub note_met : (b : Body) (n : Note) → IsIn (note_in b n) ys
-        → note_given reached list (all_nodes types sizing zs x.own list ys) (inside_of b) n ≡ true → OfOthers (IsMet set x reached cases) n
-    note_met b (goal_note facts place goal) it h = tt
-    note_met b (size_note facts place made) it h =
-        Notes.size_met set x sizing zs awaits list instances reached placed covers own_fit b facts made h
-    note_met b (made_note facts k operands made) it h = made_met b facts k operands made it h
-    note_met b (call_note facts place k operands callee js qs) it h = call_met b facts place k operands callee js qs it h
-    note_met b (way_note facts d) it h = h
-    note_met b (given_note facts k i) it h =
-        Notes.given_met set x sizing zs awaits list instances reached placed covers own_fit ys apart b facts k i it h
-    note_met b (name_note v name) it h = tt
+    pub note_met : (b : Body) (n : Note) (named : Option ℕ) → IsIn (note_in b n) ys → NoteIsRead (inside_of b) found n named
+        → note_given low (all_nodes types sizing zs x.own list ys) (inside_of b) n ≡ true → OfOthers (IsMet set x reached cases) n
+    note_met b (goal_note facts place goal) named it read h = tt
+    note_met b (size_note facts place made) named it read h = size_met b facts place made named read h
+    note_met b (made_note facts k operands made) named it read h = made_met b facts k operands made it h
+    note_met b (call_note facts place k operands callee js qs) named it read h = call_met b facts place k operands callee js qs named it read h
+    note_met b (way_note facts d) named it read h = λ f noted so.
+        let here = present b facts f noted so in
+        two (low d) (set.covered.direction d) h (ways d (read here.taken here.is_there))
+    note_met b (given_note facts k i) named it read h =
+        Notes.given_met set x sizing zs awaits list instances reached placed covers ys apart b facts k i it h
+    note_met b (name_note v name) named it read h = tt
 
 pub bodies_are_given : (set : Setting) (x : Work) (sizing : Sizing) (zs : List (Option ℤ)) → x.instance.numbers ≡ map (option_map an_int) zs
-    → (list : List Instance) (instances : List SizedInstance) (reached : ℕ → Bool) → ArePlaced list instances → AreCovered set instances
-    → AllFit set.around.types x.types x.own → (bs : List Body) → bodies_given set.around.types sizing zs x.own reached list bs ≡ true → (b : Body) → IsIn b bs
-    → EachNote (OfOthers (IsMet set x reached (cases_given set.around.types sizing zs x.own list (all_noted bs)))) b.notes
-bodies_are_given set x sizing zs awaits list instances reached placed covers own_fit bs h b i =
+    → (list : List Instance) (instances : List SizedInstance) (low : ℕ → Bool) → ArePlaced list instances → AreCovered set instances
+    → (found : List Found) → ((y : Instance) → IsAmong (F.Function y) found → is_some (place_in list y) ≡ true)
+    → ((d : ℕ) → IsAmong (F.Mapping (d / 2)) found → set.covered.direction d ≡ true) → (bs : List Body)
+    → ((b : Body) → IsIn b bs → NotesAreRead (inside set.around.types sizing zs x.own b) found b.notes)
+    → are_apart (all_noted bs) ≡ true → bodies_given set.around.types sizing zs x.own low list bs ≡ true → (b : Body) → IsIn b bs
+    → EachNote (OfOthers (IsMet set x (λ d. low d && set.covered.direction d) (cases_given set.around.types sizing zs x.own list (all_noted bs)))) b.notes
+bodies_are_given set x sizing zs awaits list instances low placed covers found among ways bs read apart h b i =
     let ys = all_noted bs in
     let nodes = all_nodes set.around.types sizing zs x.own list ys in
-    let p = and_parts (are_apart ys) (list_all (noted_given set.around.types sizing zs x.own reached list nodes) ys) h in
-    each_there (OfOthers (IsMet set x reached (cases_given set.around.types sizing zs x.own list ys))) b.notes (λ n k.
-    note_met set x sizing zs awaits list instances reached placed covers own_fit ys p.0 b n (noted_there bs b n i k)
-    (all_in (noted_given set.around.types sizing zs x.own reached list nodes) ys (note_in b n) p.1 (noted_there bs b n i k)))
+    each_there (OfOthers (IsMet set x (λ d. low d && set.covered.direction d) (cases_given set.around.types sizing zs x.own list ys))) b.notes (λ n k.
+    let known = note_is_read (inside set.around.types sizing zs x.own b) found n b.notes k (read b i) in
+    note_met set x sizing zs awaits list instances low placed covers found among ways ys apart b n known.0 (noted_there bs b n i k) known.1
+    (all_in (noted_given set.around.types sizing zs x.own low nodes) ys (note_in b n) h (noted_there bs b n i k)))

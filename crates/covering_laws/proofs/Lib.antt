@@ -2,11 +2,14 @@ pub mod Places
 pub mod Giving
 pub mod Notes
 pub mod Bodies
+pub mod Found
 pub mod Given
 pub mod Working
 pub mod Entering
 pub mod Joined
 pub mod Read
+pub mod Readings
 pub mod Grown
 pub mod Closed
+pub mod Bounded
 pub mod Across

@@ -27,7 +27,7 @@ use Rattle.value_indices.specs.declared.notes.Fact.{Fact}
 use Rattle.value_indices.specs.declared.notes.Fact.TheVariants as Y
 use Rattle.value_indices.specs.declared.notes.Made.{Made}
 use Rattle.value_indices.specs.declared.notes.Made.TheVariants as Makes
-use Rattle.value_laws.specs.Belonging.{Integers, closed, standing}
+use Rattle.value_laws.specs.Belonging.{Integers, standing}
 use Rattle.value_laws.specs.Known.{AllTrue, given_in}
 use Rattle.value_laws.proofs.Basics.{no, two}
 use Rattle.size_values.specs.declared.constants.Constant.{Constant}
@@ -40,7 +40,7 @@ use Rattle.size_laws.proofs.Opening.{opening_keeps_sizes}
 use Rattle.size_splits.specs.Bodies.{Body}
 use Rattle.size_splits.specs.Sizing.{Sizing, flags_of}
 use Rattle.size_splits.specs.Splits.{counted}
-use Rattle.split_laws.specs.Counted.{AreTaken, IsIn}
+use Rattle.split_laws.specs.Counted.{AreTaken, IsCounted, IsIn}
 use Rattle.split_laws.specs.Counted as S
 use Rattle.split_laws.proofs.Basics.{either, in_back, in_front, or_cases}
 use Rattle.split_laws.proofs.Domains.{le_true}
@@ -78,9 +78,11 @@ use Rattle.exact_sizes.proofs.Had.{values_fit}
 use Rattle.exact_sizes.proofs.Known.{none, exact_value, number_constant_is, number_stands, value_more}
 use Rattle.exact_sizes.proofs.Settling.{types_settle}
 use Rattle.exact_sizes.proofs.Standing.{sizes_stand}
-use Rattle.covering_laws.specs.Tested.{NoteIn, agrees_there, all_nodes, are_alike, are_apart, form_in_limit, in_limit, inside, is_apart, made_passes}
+use Rattle.node_counts.specs.Told.{NoteIn, are_alike, are_apart, is_apart}
+use Rattle.covering_laws.specs.Tested.{agrees_there, all_nodes, form_in_limit, in_limit, inside, made_passes}
 use Rattle.covering_laws.specs.Tested.{node_passes}
-use Rattle.covering_laws.specs.Tested.{call_tested, function_tested, lead_passes, made_tested, note_in, note_tested, numbers_pass, readings_pass, size_passes}
+use Rattle.node_counts.specs.Told.{note_in}
+use Rattle.covering_laws.specs.Tested.{call_tested, function_tested, lead_passes, made_tested, note_tested, numbers_pass, readings_pass, size_passes}
 use Rattle.covering_laws.specs.Tested.{values_pass}
 use Rattle.covering_laws.proofs.Giving.{now_noted, still_noted}
 use Rattle.covering_laws.proofs.Places.{all_in, is_not, numbers_agree, place_found}
@@ -163,8 +165,7 @@ module _ (set : Setting) (x : Work) (sizing : Sizing) (zs : List (Option ℤ)) (
     (list : List Instance) (instances : List SizedInstance) (reached : ℕ → Bool)
     (placed : (i : ℕ) (y : Instance) → slice_get list i ≡ Some y → (s : SizedInstance) × (slice_get instances i ≡ Some s) × (s.instance ≡ y))
     (covers : (p : ℕ) (s : SizedInstance) (y : Work) → slice_get instances p ≡ Some s → s.instance.function ≡ y.function
-    → y.instance ≡ record { place = p; numbers = numbers_of s.instance } → all_eq y.own s.instance.types ≡ true → set.covered y ≡ true)
-    (own_fit : AllFit set.around.types x.types x.own) where
+    → y.instance ≡ record { place = p; numbers = numbers_of s.instance } → all_eq y.own s.instance.types ≡ true → set.covered.function y ≡ true) where
   abbrev types : Types
   types = set.around.types
 
@@ -237,19 +238,24 @@ module _ (set : Setting) (x : Work) (sizing : Sizing) (zs : List (Option ℤ)) (
   form_fits of f stands (W.Named u is rs) h = tt
   form_fits of f stands (W.Variable i) h = tt
 
-  made_fits : (b : Body) (f : Integers) (ps : List Picked) → Stands (under (inside_of b) ps) f → (made : Made) → size_passes (inside_of b) made ps ≡ true
+  pub made_fits : (b : Body) (f : Integers) (ps : List Picked) → Stands (under (inside_of b) ps) f → (made : Made) → size_passes (inside_of b) made ps ≡ true
       → SizesFit types x.own set.past f made
   made_fits b f ps stands (Makes.ByIndices i) h = form_fits (under (inside_of b) ps) f stands (out-Indices i) h
   made_fits b f ps stands (Makes.ByType q) h = types_settle types x.own (length x.own) f (under (inside_of b) ps) stands q h
+
+  -- the present numbers are one combination that counts
+  pub counted_there : (b : Body) (facts : List Fact) (f : Integers) (noted : Noted) → IsSo set.past x noted f facts
+      → IsCounted (known_of zs) (inside_of b).split facts [] f
+  counted_there b facts f noted so =
+      let both = subst (λ (fs : List Fact). AllTrue (standing set.past f) (conditions fs)) (sym (append-nil facts)) so.true_there in
+      present_counted set.past f (known_of zs) (inside_of b).split facts [] (so_there b f noted facts so).known so.true_there both
 
   pub size_met : (b : Body) (facts : List Fact) (made : Made)
       → list_all (size_passes (inside_of b) made) (counted (known_of zs) (inside_of b).split facts []) ≡ true
       → (f : Integers) (noted : Noted) → IsSo set.past x noted f facts → SizesFit types x.own set.past f made
   size_met b facts made h f noted so =
-      let there = so_there b f noted facts so in
-      let both = subst (λ (fs : List Fact). AllTrue (standing set.past f) (conditions fs)) (sym (append-nil facts)) so.true_there in
-      let at = present_counted set.past f (known_of zs) (inside_of b).split facts [] there.known so.true_there both in
-      made_fits b f at.taken (stands_there b f at.taken there.known at.are) made
+      let at = counted_there b facts f noted so in
+      made_fits b f at.taken (stands_there b f at.taken (so_there b f noted facts so).known at.are) made
       (all_in (size_passes (inside_of b) made) (counted (known_of zs) (inside_of b).split facts []) at.taken h at.is_there)
 
   -- ---- what is found of the node of a note: those before it are passed over
@@ -344,13 +350,13 @@ module _ (set : Setting) (x : Work) (sizing : Sizing) (zs : List (Option ℤ)) (
             ∙ sym (opening_keeps_sizes types x.own (known f) q (types_settle types x.own (length x.own) f of stands q p.1) tells name facts n);
       }
 
-  made_has : (b : Body) (f : Integers) (ps : List Picked) → Stands (under (inside_of b) ps) f → (made : Made) (v : Value)
+  made_has : AllFit types x.types x.own → (b : Body) (f : Integers) (ps : List Picked) → Stands (under (inside_of b) ps) f → (made : Made) (v : Value)
       → made_passes (inside_of b) made ps ≡ true → is_made types set.past x f made v ≡ true
       → has_sizes types v (made_sized (inside_of b) ps made) ≡ true
-  made_has b f ps stands (Makes.ByIndices i) v h is =
+  made_has own_fit b f ps stands (Makes.ByIndices i) v h is =
       let of = under (inside_of b) ps in
       ap (has_sizes types v) (value_same of f stands i h) ∙ (values_fit types set.past f x.types x.own own_fit of stands).0 i v h is
-  made_has b f ps stands (Makes.ByType q) v h is =
+  made_has own_fit b f ps stands (Makes.ByType q) v h is =
       let of = under (inside_of b) ps in
       let p = and_parts (reading_passes types (length x.own) of q) (reading_settles types (length x.own) of q) h in
       ap (has_sizes types v) (type_same of f stands q p.0) ∙ (values_fit types set.past f x.types x.own own_fit of stands).1 q v p.0 is
@@ -463,16 +469,6 @@ module _ (set : Setting) (x : Work) (sizing : Sizing) (zs : List (Option ℤ)) (
       let rest = readings_same b f ps stands qs p.1 in
       λ j. one j ∷ rest j
 
-  -- values of what is given to Type variables
-  pub given_fit : (b : Body) (f : Integers) (ps : List Picked) → Stands (under (inside_of b) ps) f → (qs : List Reading)
-      → readings_pass (inside_of b) ps qs ≡ true
-      → AllFit types (map (closed types (standing set.past f) x.types) qs) (map (type_sized types x.own f) qs)
-  given_fit b f ps stands [] h = tt
-  given_fit b f ps stands (q ∷ qs) h =
-      let of = under (inside_of b) ps in
-      let p = and_parts (reading_passes types (length x.own) of q) (readings_pass (inside_of b) ps qs) h in
-      (λ v is. (values_fit types set.past f x.types x.own own_fit of stands).1 q v p.0 is, given_fit b f ps stands qs p.1)
-
   -- ---- what is said of the numbers that a node gives
 
   gives_front : (xs ns : List NodeSizes) (k : ℕ) (i : Indices) → IsIn i (gives_at ns k) → IsIn i (gives_at (xs ++ ns) k)
@@ -492,8 +488,7 @@ module _ (set : Setting) (x : Work) (sizing : Sizing) (zs : List (Option ℤ)) (
       gives_front (at_note (inside_of y.body) list y.note) (all_nodes types sizing zs x.own list ys) k i (gives_there ys b facts k i h)
 
   all_noted_there : (js : List Indices) (v : Value) (noted : Noted) (i : Indices) → IsIn i js → noted_by_all js v noted ≡ Some (noted_by_each js v noted)
-  all_noted_there [] v noted i h = absurd h
-  all_noted_there (j ∷ js) v noted i h = refl
+  all_noted_there js v noted i h = refl
 
   -- ---- of bodies that are read together
 
@@ -504,9 +499,9 @@ module _ (set : Setting) (x : Work) (sizing : Sizing) (zs : List (Option ℤ)) (
     abbrev cases : Cases
     cases = cases_of types instances nodes
 
-    made_met : (b : Body) (facts : List Fact) (k : ℕ) (operands : List Indices) (made : Made) → IsIn (note_in b (made_note facts k operands made)) ys
-        → made_tested (inside_of b) facts operands made ≡ true → IsMet set x reached cases (made_note facts k operands made)
-    made_met b facts k operands made it h f noted so ss are v is =
+    made_met : AllFit types x.types x.own → (b : Body) (facts : List Fact) (k : ℕ) (operands : List Indices) (made : Made)
+        → IsIn (note_in b (made_note facts k operands made)) ys → made_tested (inside_of b) facts operands made ≡ true → IsMet set x reached cases (made_note facts k operands made)
+    made_met own_fit b facts k operands made it h f noted so ss are v is =
         let r = inside_of b in
         let tests = and_parts (C.has_all_cases r facts operands made) (list_all (node_passes r operands made) (combinations_at r facts)) h in
         let there = so_there b f noted facts so in
@@ -518,7 +513,7 @@ module _ (set : Setting) (x : Work) (sizing : Sizing) (zs : List (Option ℤ)) (
         let g = makes b facts k operands made f noted ss are v in
         let takes : all_eq (all_sized_under r at.picked operands) ss ≡ true =
         ap (λ l. all_eq l ss) (operands_same b f at.picked stands operands ss p.0 are) ∙ all_itself ss in
-        let fits : has_sizes types v gives ≡ true = made_has b f at.picked stands made v p.1 is in
+        let fits : has_sizes types v gives ≡ true = made_has own_fit b f at.picked stands made v p.1 is in
         let found : g (Z.Makes k (node_cases r facts operands made)) ≡ Some gives =
         ap (λ (o : Option Case). and_then o (makes_in types ss v)) (if_there k (present_case noted (node_cases r facts operands made)) ∙ at.is_there)
         ∙ only_there (all_eq (all_sized_under r at.picked operands) ss && has_sizes types v gives) gives
@@ -574,17 +569,16 @@ module _ (set : Setting) (x : Work) (sizing : Sizing) (zs : List (Option ℤ)) (
           agree = subst (λ ns. AllAgree set.past f (map (option_map an_int) ns) js) numbers (numbers_given of f stands (flags_of r.sizing g) js q.1);
           is_covered = λ ts. covers led.place s.0
               (work_of g awaited (map (type_sized types x.own f) qs) ts) s.1 function (refl {a = awaited}) owns;
-          own_fit = given_fit b f at.picked stands qs q.0;
         }
 
-    call_met : (b : Body) (facts : List Fact) (place : Place) (k : ℕ) (operands : List Indices) (callee : Callee) (js : List Index) (qs : List Reading)
-        → IsIn (note_in b (call_note facts place k operands callee js qs)) ys → call_tested (inside_of b) list facts operands callee js qs ≡ true
+    call_met : ((d : ℕ) → set.covered.direction d ≡ true) → (b : Body) (facts : List Fact) (place : Place) (k : ℕ) (operands : List Indices) (callee : Callee)
+        (js : List Index) (qs : List Reading) → IsIn (note_in b (call_note facts place k operands callee js qs)) ys → call_tested (inside_of b) list facts operands callee js qs ≡ true
         → IsMet set x reached cases (call_note facts place k operands callee js qs)
-    call_met b facts place k operands (D.Function g) js qs it h = called_met b facts place k operands g js qs it h
-    call_met b facts place k operands (D.Row row) js qs it h = tt
-    call_met b facts place k operands (D.Constructor u c) js qs it h = tt
-    call_met b facts place k operands (D.Converts d) js qs it h = tt
-    call_met b facts place k operands (D.Applies d) js qs it h = tt
+    call_met every b facts place k operands (D.Function g) js qs it h = called_met b facts place k operands g js qs it h
+    call_met every b facts place k operands (D.Row row) js qs it h = tt
+    call_met every b facts place k operands (D.Constructor u c) js qs it h = tt
+    call_met every b facts place k operands (D.Converts d) js qs it h = λ f noted so. every d
+    call_met every b facts place k operands (D.Applies d) js qs it h = tt
 
     -- ---- numbers that a value gives
 
@@ -609,12 +603,12 @@ module _ (set : Setting) (x : Work) (sizing : Sizing) (zs : List (Option ℤ)) (
 
     -- ---- a note
 
-    pub note_met : (b : Body) (n : Note) → IsIn (note_in b n) ys → note_tested reached list nodes (inside_of b) n ≡ true
-        → OfOthers (IsMet set x reached cases) n
-    note_met b (goal_note facts place goal) it h = tt
-    note_met b (size_note facts place made) it h = size_met b facts made h
-    note_met b (made_note facts k operands made) it h = made_met b facts k operands made it h
-    note_met b (call_note facts place k operands callee js qs) it h = call_met b facts place k operands callee js qs it h
-    note_met b (way_note facts d) it h = h
-    note_met b (given_note facts k i) it h = given_met b facts k i it h
-    note_met b (name_note v name) it h = tt
+    pub note_met : AllFit types x.types x.own → ((d : ℕ) → set.covered.direction d ≡ true) → (b : Body) (n : Note) → IsIn (note_in b n) ys
+        → note_tested reached list nodes (inside_of b) n ≡ true → OfOthers (IsMet set x reached cases) n
+    note_met own_fit every b (goal_note facts place goal) it h = tt
+    note_met own_fit every b (size_note facts place made) it h = size_met b facts made h
+    note_met own_fit every b (made_note facts k operands made) it h = made_met own_fit b facts k operands made it h
+    note_met own_fit every b (call_note facts place k operands callee js qs) it h = call_met every b facts place k operands callee js qs it h
+    note_met own_fit every b (way_note facts d) it h = λ f noted so. h
+    note_met own_fit every b (given_note facts k i) it h = given_met b facts k i it h
+    note_met own_fit every b (name_note v name) it h = tt

@@ -1,5 +1,5 @@
--- A model whose accepted list is tested is read: its functions, directions and openings.
-use Rattle.std.proofs.Common.{◌≡◌, ◌∙◌, ap, sym, refl, subst, ℕ, ◌+◌, ℤ, Bool, true, inl, List, [], ◌∷◌, ◌++◌}
+-- A model whose accepted list is tested is read: its functions, and bodies of no function.
+use Rattle.std.proofs.Common.{◌≡◌, ◌∙◌, ap, sym, refl, subst, ℕ, ◌+◌, ℤ, Bool, true, ◌&&◌, inl, List, [], ◌∷◌, ◌++◌}
 use Rattle.std.proofs.Common.{map, slice_get}
 use Rattle.std.specs.Prelude.{Option, Some, None, option_map}
 use Rattle.std.specs.List.{list_all}
@@ -23,28 +23,37 @@ use Rattle.size_splits.specs.Bodies.{Body}
 use Rattle.size_notes.specs.Bodies.{bodies_of, body_of, function_bodies, function_read, measure_bodies, measure_read}
 use Rattle.split_laws.specs.Counted.{IsIn}
 use Rattle.split_laws.proofs.Basics.{in_back, in_front}
+use Rattle.monomorph.specs.declared.found.Found.{Found}
+use Rattle.monomorph.specs.declared.found.Found.TheVariants as F
 use Rattle.monomorph.specs.declared.found.Instance.{Instance}
+use Rattle.monomorph.specs.Found.{instances_in}
 use Rattle.monomorph.specs.Instances.{model_of, or_none}
 use Rattle.monomorph.specs.Lasts.{Model}
 use Rattle.sized_trees.specs.declared.trees.SizedInstance.{SizedInstance}
 use Rattle.sized_trees.specs.declared.trees.SizedCore.{SizedCore}
 use Rattle.sized_trees.specs.Trees.{all_sized_for, constants_of, sized_instance, sized_list}
-use Rattle.checked_meaning.specs.Fits.{AllFit}
 use Rattle.checked_meaning.specs.Checked.{Cases, Checks}
 use Rattle.sized_meanings.specs.Sized.{entered, numbers_of}
+use Rattle.call_fits.specs.Calls.{AllBelong, givens_at}
 use Rattle.soundness_steps.specs.Works.{Work, nobody}
-use Rattle.soundness_steps.specs.Calls.{Enters, AllBelong, givens_at, inside}
-use Rattle.soundness_calls.specs.Premises.{EntersAs, all_reached}
+use Rattle.soundness_steps.specs.Calls as Calls
+use Rattle.soundness_steps.specs.Calls.{Enters}
+use Rattle.soundness_calls.specs.Premises.{EntersAs}
 use Rattle.exact_sizes.proofs.Equal.{all_same}
 use Rattle.exact_sizes.proofs.Known.{none, some_there}
-use Rattle.covering_laws.specs.Covered.{AreRead, FunctionIsRead, at_work, body_cases, body_tested, covered_by, entered_sized, function_tested}
+use Rattle.covering_laws.specs.Closed.{BodiesAreRead, IsRead, NotesAreRead}
+use Rattle.covering_laws.specs.Covered.{AreRead, FunctionIsRead, all_found, any_direction, at_work, body_cases, body_tested, entered_sized, found_tested}
+use Rattle.covering_laws.specs.Covered.{function_covered, function_tested, is_found}
 use Rattle.covering_laws.specs.Covered.{instance_cases, instance_tested, model_checks, parameter_tested, parameters_sized, setting_of}
 use Rattle.covering_laws.specs.Given.{bodies_given, cases_given}
-use Rattle.covering_laws.specs.Tested.{all_noted}
+use Rattle.node_counts.specs.Told.{all_noted, are_apart}
+use Rattle.node_counts.proofs.Apart.{notes_are_apart}
+use Rattle.covering_laws.specs.Apart.{NumbersApart}
+use Rattle.covering_laws.specs.Tested.{inside}
 use Rattle.covering_laws.proofs.Entering.{all_made_in}
+use Rattle.covering_laws.proofs.Found.{instance_there, place_there}
 use Rattle.covering_laws.proofs.Given.{bodies_are_given}
 use Rattle.covering_laws.proofs.Joined.{mapped_there, placed_there}
-use Rattle.covering_laws.proofs.Places.{all_in}
 use Rattle.covering_laws.proofs.Working.{awaited_are, covered_at, function_is, types_are, working}
 
 types_kept : (m : CoreModel) (lets : List TopLevel) (os : List Opening) → (lets_behind (around_with m lets) os).types ≡ m.types
@@ -55,12 +64,19 @@ functions_kept : (m : CoreModel) (lets : List TopLevel) (os : List Opening) → 
 functions_kept m lets [] = refl
 functions_kept m lets (o ∷ os) = functions_kept m (lets ++ names_of (around_with m lets) o o.kind) os
 
-module _ (core : CoreModel) (past : Positive) (hart : ℕ) (list : List Instance) where
+module _ (core : CoreModel) (past : Positive) (hart : ℕ) where
   abbrev pub around : Around
   around = around_of core
 
   abbrev pub model : Model
   model = model_of core (bodies_of core)
+
+  -- all that is found, and its instances
+  abbrev pub all : List Found
+  all = all_found model
+
+  abbrev pub list : List Instance
+  list = instances_in all
 
   abbrev pub sized : SizedCore
   sized = sized_list model list
@@ -71,16 +87,24 @@ module _ (core : CoreModel) (past : Positive) (hart : ℕ) (list : List Instance
   pub same_types : around.types ≡ core.types
   same_types = types_kept core [] core.openings
 
+  -- covered directions of those
+  abbrev pub of_covered : (ℕ → Bool) → ℕ → Bool
+  of_covered low d = low d && is_found all d
+
   -- bodies that are read together
-  pub read_in : (x : Work) → AllFit around.types x.types x.own → (zs : List (Option ℤ)) → x.instance.numbers ≡ map (option_map an_int) zs
-      → (reached : ℕ → Bool) (bs : List Body)
-      → bodies_given core.types model.sizing zs x.own reached list bs ≡ true → (b : Body) → IsIn b bs
-      → AreRead (setting_of core past hart sized) x reached (cases_given core.types model.sizing zs x.own list (all_noted bs)) b.notes
-  read_in x own_fit zs awaits reached bs h b i =
-      subst (λ (ty : Types). AreRead (setting_of core past hart sized) x reached (cases_given ty model.sizing zs x.own list (all_noted bs)) b.notes) same_types
-      (bodies_are_given (setting_of core past hart sized) x model.sizing zs awaits list sized.instances reached (placed_there model list) (covered_at sized)
-      own_fit bs
-      (subst (λ (ty : Types). bodies_given ty model.sizing zs x.own reached list bs ≡ true) (sym same_types) h) b i)
+  pub read_in : (x : Work) (zs : List (Option ℤ)) → x.instance.numbers ≡ map (option_map an_int) zs → (low : ℕ → Bool) (bs : List Body)
+      → BodiesAreRead model zs x.own bs all → are_apart (all_noted bs) ≡ true
+      → bodies_given core.types model.sizing zs x.own low list bs ≡ true
+      → (b : Body) → IsIn b bs
+      → AreRead (setting_of core past hart sized) x (of_covered low) (cases_given core.types model.sizing zs x.own list (all_noted bs)) b.notes
+  read_in x zs awaits low bs read apart h b i =
+      subst (λ (ty : Types). AreRead (setting_of core past hart sized) x (of_covered low) (cases_given ty model.sizing zs x.own list (all_noted bs)) b.notes)
+      same_types
+      (bodies_are_given (setting_of core past hart sized) x model.sizing zs awaits list sized.instances low (placed_there model list) (covered_at sized)
+      all (λ y k. place_there y all k) (λ d k. k) bs
+      (λ c k. subst (λ (ty : Types). NotesAreRead (inside ty model.sizing zs x.own c) all c.notes) (sym same_types) (read c k))
+      apart
+      (subst (λ (ty : Types). bodies_given ty model.sizing zs x.own low list bs ≡ true) (sym same_types) h) b i)
 
   -- ---- functions
 
@@ -95,7 +119,8 @@ module _ (core : CoreModel) (past : Positive) (hart : ℕ) (list : List Instance
       (same : s ≡ sized_instance model list y) (function : s.instance.function ≡ x.function) (numbers : numbers_of s.instance ≡ x.instance.numbers)
       (owns : x.own ≡ s.instance.types)
       (entered_there : (nu : Givens) → all_agree x.instance.numbers nu ≡ true → entered sized.instances x.function x.instance.place nu ≡ Some s)
-      (tested : instance_tested model list y ≡ true) (own_fit : AllFit around.types x.types x.own) where
+      (read : IsRead model all (F.Function y)) (apart : are_apart (all_noted (function_bodies around f)) ≡ true)
+      (tested : instance_tested model list y ≡ true) where
     instance_is : s.instance ≡ y
     instance_is = ap (λ (z : SizedInstance). z.instance) same
 
@@ -114,10 +139,10 @@ module _ (core : CoreModel) (past : Positive) (hart : ℕ) (list : List Instance
     function_there : slice_get core.functions y.function ≡ Some f
     function_there = ap (slice_get core.functions) place_is ∙ here
 
-    abbrev tests : (bodies_given core.types model.sizing y.numbers y.types all_reached list (or_none (slice_get model.bodies.functions y.function)) ≡ true)
+    abbrev tests : (bodies_given core.types model.sizing y.numbers y.types any_direction list (or_none (slice_get model.bodies.functions y.function)) ≡ true)
         × (function_tested core.types y (slice_get core.functions y.function) ≡ true)
     tests =
-        and_parts (bodies_given core.types model.sizing y.numbers y.types all_reached list (or_none (slice_get model.bodies.functions y.function)))
+        and_parts (bodies_given core.types model.sizing y.numbers y.types any_direction list (or_none (slice_get model.bodies.functions y.function)))
         (function_tested core.types y (slice_get core.functions y.function)) tested
 
     cases_are : (nu : Givens) → all_agree x.instance.numbers nu ≡ true
@@ -130,16 +155,21 @@ module _ (core : CoreModel) (past : Positive) (hart : ℕ) (list : List Instance
         ∙ ap (λ (l : List Body). cases_given core.types model.sizing y.numbers y.types list (all_noted l)) bodies_are
         ∙ ap (λ (l : List Sized). cases_given core.types model.sizing y.numbers l list (all_noted (function_bodies around f))) own_is
 
-    bodies_pass : bodies_given core.types model.sizing y.numbers x.own all_reached list (function_bodies around f) ≡ true
+    bodies_pass : bodies_given core.types model.sizing y.numbers x.own any_direction list (function_bodies around f) ≡ true
     bodies_pass =
-        subst (λ (l : List Sized). bodies_given core.types model.sizing y.numbers l all_reached list (function_bodies around f) ≡ true) own_is
-        (subst (λ (l : List Body). bodies_given core.types model.sizing y.numbers y.types all_reached list l ≡ true) bodies_are tests.0)
+        subst (λ (l : List Sized). bodies_given core.types model.sizing y.numbers l any_direction list (function_bodies around f) ≡ true) own_is
+        (subst (λ (l : List Body). bodies_given core.types model.sizing y.numbers y.types any_direction list l ≡ true) bodies_are tests.0)
+
+    bodies_read : BodiesAreRead model y.numbers x.own (function_bodies around f) all
+    bodies_read =
+        subst (λ (l : List Sized). BodiesAreRead model y.numbers l (function_bodies around f) all) own_is
+        (subst (λ (l : List Body). BodiesAreRead model y.numbers y.types l all) bodies_are read)
 
     one_read : (nu : Givens) → all_agree x.instance.numbers nu ≡ true → (b : Body) → IsIn b (function_bodies around f)
-        → AreRead (setting_of core past hart sized) x all_reached (checks.function x.function x.instance.place nu) b.notes
+        → AreRead (setting_of core past hart sized) x (is_found all) (checks.function x.function x.instance.place nu) b.notes
     one_read nu a b i =
-        subst (λ (l : Cases). AreRead (setting_of core past hart sized) x all_reached l b.notes)
-        (sym (cases_are nu a)) (read_in x own_fit y.numbers awaits all_reached (function_bodies around f) bodies_pass b i)
+        subst (λ (l : Cases). AreRead (setting_of core past hart sized) x (is_found all) l b.notes)
+        (sym (cases_are nu a)) (read_in x y.numbers awaits any_direction (function_bodies around f) bodies_read apart bodies_pass b i)
 
     parameters_tested : list_all (parameter_tested core.types y.numbers y.types f) f.parameters ≡ true
     parameters_tested = subst (λ (o : Option Function). function_tested core.types y o ≡ true) function_there tests.1
@@ -153,8 +183,8 @@ module _ (core : CoreModel) (past : Positive) (hart : ℕ) (list : List Instance
         let ss = all_sized_for core.types x.own (constants_of y.numbers) f.parameters in
         let a : all_agree (map (option_map an_int) y.numbers) (givens_at h 0 f.variables) ≡ true =
         subst (λ ns. all_agree ns (givens_at h 0 f.variables) ≡ true) awaits e.awaited in
-        let b : AllBelong core.types (inside (setting_of core past hart sized) f h) x.types f.parameters vs =
-        subst (λ (ty : Types). AllBelong ty (inside (setting_of core past hart sized) f h) x.types f.parameters vs) same_types e.belong in
+        let b : AllBelong core.types (Calls.inside (setting_of core past hart sized) f h) x.types f.parameters vs =
+        subst (λ (ty : Types). AllBelong ty (Calls.inside (setting_of core past hart sized) f h) x.types f.parameters vs) same_types e.belong in
         record {
           sizes = ss;
           is_there = ap (entered_sized core) (entered_there (givens_at h 0 f.variables) e.awaited)
@@ -174,19 +204,21 @@ module _ (core : CoreModel) (past : Positive) (hart : ℕ) (list : List Instance
       enters = enters_as;
     }
 
-  pub function_is_read : list_all (instance_tested model list) list ≡ true → (x : Work) (f : Function) → covered_by sized x ≡ true
-      → AllFit around.types x.types x.own → slice_get core.functions x.function ≡ Some f
-      → FunctionIsRead (setting_of core past hart sized) core checks x f
-  function_is_read h x f c own_fit here =
+  pub function_is_read : NumbersApart core → ((z : Found) → IsIn z all → IsRead model all z)
+      → ((z : Found) → IsIn z all → found_tested model list z ≡ true) → (x : Work) (f : Function) → function_covered sized x ≡ true
+      → slice_get core.functions x.function ≡ Some f → FunctionIsRead (setting_of core past hart sized) core checks x f
+  function_is_read numbers read tested x f c here =
       let found = some_there (at_work sized.instances x) c in
       let s = found.0 in
       let w = working sized.instances x s found.1 in
       let y = mapped_there (sized_instance model list) list s w.is_in in
       one_is_read x f here s y.0 y.1 y.2 (function_is x s w.is) (awaited_are x s w.is) (all_same x.own s.instance.types (types_are x s w.is)) w.entered_there
-      (all_in (instance_tested model list) list y.0 h y.1) own_fit
+      (read (F.Function y.0) (instance_there y.0 all y.1)) ((notes_are_apart around).function f (numbers.functions x.function f here))
+      (tested (F.Function y.0) (instance_there y.0 all y.1))
 
   -- ---- bodies of no function
 
-  pub alone_read : (reached : ℕ → Bool) (b : Body) → body_tested model list reached b ≡ true
-      → AreRead (setting_of core past hart sized) nobody reached (body_cases model list (Some b)) b.notes
-  alone_read reached b h = read_in nobody tt [] refl reached (b ∷ []) h b (inl refl)
+  pub alone_read : (low : ℕ → Bool) (b : Body) → BodiesAreRead model [] [] (b ∷ []) all → are_apart (all_noted (b ∷ [])) ≡ true
+      → body_tested model list low b ≡ true
+      → AreRead (setting_of core past hart sized) nobody (of_covered low) (body_cases model list (Some b)) b.notes
+  alone_read low b read apart h = read_in nobody [] refl low (b ∷ []) read apart h b (inl refl)

@@ -17,7 +17,7 @@ use Rattle.sized_trees.specs.declared.trees.SizedInstance.{SizedInstance}
 use Rattle.sized_trees.specs.declared.trees.SizedCore.{SizedCore}
 use Rattle.sized_meanings.specs.Sized.{entered, first_for, if_for, is_for, numbers_of}
 use Rattle.soundness_steps.specs.Works.{Work}
-use Rattle.covering_laws.specs.Covered.{at_first, at_place, at_work, covered_by, first_of, if_at, is_at, same_numbers, same_option}
+use Rattle.covering_laws.specs.Covered.{at_first, at_place, at_work, first_of, function_covered, if_at, is_at, same_numbers, same_option}
 
 -- ---- numbers that are compared as the same
 
@@ -167,7 +167,7 @@ module _ (instances : List SizedInstance) (x : Work) (s : SizedInstance) where
 
 -- one that stands at a place is covered
 pub covered_at : (c : SizedCore) (p : ℕ) (s : SizedInstance) (y : Work) → slice_get c.instances p ≡ Some s → s.instance.function ≡ y.function
-    → y.instance ≡ record { place = p; numbers = numbers_of s.instance } → all_eq y.own s.instance.types ≡ true → covered_by c y ≡ true
+    → y.instance ≡ record { place = p; numbers = numbers_of s.instance } → all_eq y.own s.instance.types ≡ true → function_covered c y ≡ true
 covered_at c p s y e f i a =
     let same : is_at y s ≡ true = two (nat_eq s.instance.function y.function) (same_numbers (numbers_of s.instance) y.instance.numbers && all_eq y.own s.instance.types)
     ((Decides-eqb s.instance.function y.function).1 f)

@@ -1,7 +1,8 @@
 -- What is so of the instances and mappings that are found without refusal: in the bodies that are read for each, sizes are constants within their limits,
--- numbers that calls give are constants, and what is called is among them (Sail language manual, "Type variables").
-use Rattle.std.specs.Prelude.{◌≡◌, ◌≤◌, ℕ, ℤ, ◌/◌, true, List, [], ◌∷◌, length, map, slice_get, Option, Ok}
-use Rattle.std.specs.List.{list_any}
+-- numbers that calls give are constants below the largest integer, and what is called is among them (Sail language manual, "Type variables").
+use Rattle.std.specs.Prelude.{◌≡◌, ◌<◌, ℕ, ℤ, pos, int_le, ◌/◌, Bool, true, false, not, List, [], ◌∷◌, length, map, slice_get, Option, Ok}
+use Rattle.std.specs.List.{list_all, list_any}
+use Rattle.sail_types.specs.Limits.{largest}
 use Rattle.sail_types.specs.declared.numbers.Index.{Index}
 use Rattle.sail_core.specs.declared.tree.Callee.{Callee}
 use Rattle.sail_core.specs.declared.tree.Callee.TheVariants as D
@@ -11,6 +12,7 @@ use Rattle.value_indices.specs.declared.indices.Reading.{Reading}
 use Rattle.value_indices.specs.declared.notes.Fact.{Fact}
 use Rattle.value_indices.specs.declared.notes.Made.{Made}
 use Rattle.size_values.specs.declared.constants.Constant.{Constant}
+use Rattle.size_values.specs.declared.constants.Constant.TheVariants as C
 use Rattle.size_values.specs.declared.constants.Picked.{Picked}
 use Rattle.size_values.specs.declared.sized.Sized.{Sized}
 use Rattle.size_values.specs.Numbers.{index_under, known_of}
@@ -22,10 +24,10 @@ use Rattle.split_laws.specs.Counted.{IsIn}
 use Rattle.monomorph.specs.declared.found.Found.{Found}
 use Rattle.monomorph.specs.declared.found.Found.TheVariants as F
 use Rattle.monomorph.specs.Found.{found_eq}
-use Rattle.monomorph.specs.Instances.{entry, found_from, one_or_none, or_none, times_enough}
+use Rattle.monomorph.specs.Instances.{entry, found_from, one_or_none, or_none}
 use Rattle.monomorph.specs.Lasts.{Model}
 use Rattle.monomorph.specs.Reading.{Inside, instance_of, reading_of, under}
-use Rattle.sized_trees.specs.Within.{all_numbers, all_within}
+use Rattle.sized_trees.specs.Within.{all_within}
 
 abbrev pub IsAmong : Found → List Found → Type 0
 IsAmong x found = list_any (found_eq x) found ≡ true
@@ -38,9 +40,17 @@ CalleeIsAmong r of (D.Converts d) js qs found = IsAmong (F.Mapping (d / 2)) foun
 CalleeIsAmong r of (D.Applies d) js qs found = IsAmong (F.Mapping (d / 2)) found
 CalleeIsAmong r of callee js qs found = Unit {0}
 
+-- numbers below the largest integer, for which one past it counts
+abbrev pub is_given : Constant → Bool
+is_given (C.Number z) = not (int_le (pos largest) z)
+is_given c = false
+
+abbrev pub all_given : List Constant → Bool
+all_given cs = list_all is_given cs
+
 pub record CallIsRead (r : Inside) (operands : List Indices) (callee : Callee) (js : List Index) (qs : List Reading) (ps : List Picked) (found : List Found)
     : Type 0 where
-  pub numbers : all_numbers (map (index_under (under r ps)) (given_indices r.sizing callee operands js)) ≡ true
+  pub numbers : all_given (map (index_under (under r ps)) (given_indices r.sizing callee operands js)) ≡ true
   pub types : all_within (joined (map (reading_sizes r.types (under r ps)) qs)) ≡ true
   pub is_among : CalleeIsAmong r (under r ps) callee js qs found
 
@@ -72,7 +82,13 @@ abbrev pub IsRead : Model → List Found → Found → Type 0
 IsRead m found (F.Function y) = BodiesAreRead m y.numbers y.types (or_none (slice_get m.bodies.functions y.function)) found
 IsRead m found (F.Mapping i) = BodiesAreRead m [] [] (one_or_none (slice_get m.bodies.mappings i)) found
 
--- whatever is found, where no more is found than the definition reads
+-- mappings among what is found are of so many
+abbrev pub AllBelow : ℕ → List Found → Type 0
+AllBelow n [] = Unit {0}
+AllBelow n (F.Function y ∷ found) = AllBelow n found
+AllBelow n (F.Mapping i ∷ found) = (i < n) × AllBelow n found
+
+-- top-level lets and initial values; and whatever is found, where each mapping that is found is one of the model
 abbrev pub ListsAreRead : Type 0
-ListsAreRead = (m : Model) (all : List Found) → found_from m (entry m.core.reset ∷ entry m.core.step ∷ []) ≡ Ok all → length all ≤ times_enough m
-    → (x : Found) → IsIn x all → IsRead m all x
+ListsAreRead = (m : Model) (all : List Found) → found_from m (entry m.core.reset ∷ entry m.core.step ∷ []) ≡ Ok all
+    → BodiesAreRead m [] [] m.bodies.openings all × (AllBelow (length m.bodies.mappings) all → (x : Found) → IsIn x all → IsRead m all x)

@@ -1,7 +1,7 @@
 -- Which functions at work are covered by the instances of a model, what is tested of an accepted list, and what it gives.
-use Rattle.std.specs.Prelude.{◌≡◌, ◌*◌, ◌/◌, ℕ, zero, suc, ℤ, nat_eq, Bool, true, false, ◌&&◌, List, [], ◌∷◌, length, map, slice_get}
-use Rattle.std.specs.Prelude.{Option, Some, None, Ok, is_some, option_map, if◌then◌else◌}
-use Rattle.std.specs.List.{list_all}
+use Rattle.std.specs.Prelude.{◌≡◌, ◌*◌, ◌/◌, ℕ, zero, suc, ℤ, nat_eq, nat_lt, Bool, true, false, ◌&&◌, List, [], ◌∷◌, length, map, slice_get}
+use Rattle.std.specs.Prelude.{Option, Some, None, Ok, Err, is_some, option_map, if◌then◌else◌}
+use Rattle.std.specs.List.{list_all, list_any}
 use Rattle.sail_types.specs.Numbers.{Positive}
 use Rattle.sail_types.specs.Places.{Given, only}
 use Rattle.sail_types.specs.Sums.{and_then}
@@ -15,18 +15,20 @@ use Rattle.sail_core.specs.declared.model.Function.{Function}
 use Rattle.sail_core.specs.declared.model.Opening.{Opening}
 use Rattle.sail_core.specs.declared.tree.Core.{Core}
 use Rattle.value_indices.specs.Steps.{Note}
-use Rattle.constraint_gen.specs.Models.{around_of}
+use Rattle.constraint_gen.specs.Models.{around_of, around_opening}
 use Rattle.size_values.specs.declared.constants.Constant.{Constant}
 use Rattle.size_values.specs.declared.sized.Sized.{Sized}
 use Rattle.size_values.specs.Numbers.{known_at, known_of, nothing_known}
 use Rattle.size_values.specs.Sized.{all_eq}
 use Rattle.size_splits.specs.Bodies.{Body}
 use Rattle.size_notes.specs.Bodies.{bodies_of, function_read, mapping_read, measure_read, opening_read}
+use Rattle.monomorph.specs.declared.found.Found.{Found}
+use Rattle.monomorph.specs.declared.found.Found.TheVariants as F
 use Rattle.monomorph.specs.declared.found.Instance.{Instance}
-use Rattle.monomorph.specs.Instances.{model_of, one_or_none, or_none}
+use Rattle.monomorph.specs.Found.{Answer, found_eq, instances_in}
+use Rattle.monomorph.specs.Instances.{entry, found_from, model_of, one_or_none, or_none}
 use Rattle.monomorph.specs.Lasts.{Model}
 use Rattle.checked_meaning.specs.Checked.{Cases, Checks}
-use Rattle.checked_meaning.specs.Fits.{AllFit}
 use Rattle.checked_meaning.specs.Items.{fixed_typ}
 use Rattle.value_laws.specs.Belonging.{Integers}
 use Rattle.sized_trees.specs.declared.trees.SizedInstance.{SizedInstance}
@@ -35,16 +37,18 @@ use Rattle.sized_trees.specs.Trees.{all_sized_for, constants_of, sized_core}
 use Rattle.sized_meanings.specs.Sized.{entered, numbers_of}
 use Rattle.exact_sizes.specs.Exact.{reading_passes, reading_settles}
 use Rattle.note_laws.specs.Notes.{EachNote, OfOthers}
+use Rattle.note_laws.specs.Ways.{core_reached}
 use Rattle.met_notes.specs.Met.{Pair, pairs}
-use Rattle.soundness_steps.specs.Works.{Setting, Work, nobody}
+use Rattle.soundness_steps.specs.Works.{Coverage, Setting, Work, nobody}
 use Rattle.soundness_steps.specs.Noted.{OpensAs}
 use Rattle.soundness_steps.specs.Covers.{IsMet}
 use Rattle.soundness_steps.specs.Calls.{Enters, IsOf}
 use Rattle.soundness_calls.specs.Events.{entered_by}
-use Rattle.soundness_calls.specs.Directions.{Side, bare_type, is_ahead, is_back, lower}
-use Rattle.soundness_calls.specs.Premises.{EntersAs, all_reached, own_type}
+use Rattle.soundness_calls.specs.Directions.{Side, bare_type, below, is_ahead, is_back}
+use Rattle.soundness_calls.specs.Premises.{EntersAs, own_type}
+use Rattle.covering_laws.specs.Apart.{NumbersApart}
 use Rattle.covering_laws.specs.Given.{bodies_given, cases_given}
-use Rattle.covering_laws.specs.Tested.{all_noted}
+use Rattle.node_counts.specs.Told.{all_noted}
 
 -- ---- which functions at work are covered: for the numbers and types of the instance at their place; or the first of a function, as an event enters it
 
@@ -78,8 +82,24 @@ at_place x (Some s) instances = if nat_eq s.instance.function x.function then if
 abbrev pub at_work : List SizedInstance → Work → Option SizedInstance
 at_work instances x = at_place x (slice_get instances x.instance.place) instances
 
-abbrev pub covered_by : SizedCore → Work → Bool
-covered_by c x = is_some (at_work c.instances x)
+abbrev pub function_covered : SizedCore → Work → Bool
+function_covered c x = is_some (at_work c.instances x)
+
+-- ---- which directions of mappings are covered: those of mappings that are found
+
+abbrev pub or_nothing : Answer → List Found
+or_nothing (Ok found) = found
+or_nothing (Err e) = []
+
+-- what the functions lead to that a hart enters
+abbrev pub all_found : Model → List Found
+all_found m = or_nothing (found_from m (entry m.core.reset ∷ entry m.core.step ∷ []))
+
+abbrev pub is_found : List Found → ℕ → Bool
+is_found all d = list_any (found_eq (F.Mapping (d / 2))) all
+
+abbrev pub covered_by : CoreModel → SizedCore → Coverage
+covered_by core c = record { function = function_covered c; direction = is_found (all_found (model_of core (bodies_of core))) }
 
 -- ---- what is tested of instances: their bodies, and the sizes of parameters
 
@@ -95,53 +115,67 @@ function_tested types y None = true
 function_tested types y (Some f) =
     list_all (parameter_tested types y.numbers y.types f) f.parameters
 
+abbrev pub any_direction : ℕ → Bool
+any_direction d = true
+
 abbrev pub instance_tested : Model → List Instance → Instance → Bool
 instance_tested m list y =
-    bodies_given m.core.types m.sizing y.numbers y.types all_reached list (or_none (slice_get m.bodies.functions y.function))
+    bodies_given m.core.types m.sizing y.numbers y.types any_direction list (or_none (slice_get m.bodies.functions y.function))
     && function_tested m.core.types y (slice_get m.core.functions y.function)
 
--- ---- mappings, whose patterns reach directions of a lower rank; what they take has the sizes of its type
-
-abbrev pub bare_tested : Types → Typ → Bool
-bare_tested types t = reading_passes types 0 (known_at nothing_known) (bare_type t) && reading_settles types 0 (known_at nothing_known) (bare_type t)
-
-abbrev pub direction_tested : Types → Direction → Bool
-direction_tested types d = bare_tested types d.parameter
-
-abbrev pub reached_from : (ℕ → ℕ) → ℕ → ℕ → Bool
-reached_from rank d = lower rank (rank d)
+-- ---- bodies of no function
 
 abbrev pub body_tested : Model → List Instance → (ℕ → Bool) → Body → Bool
-body_tested m list reached b = bodies_given m.core.types m.sizing [] [] reached list (b ∷ [])
+body_tested m list low b = bodies_given m.core.types m.sizing [] [] low list (b ∷ [])
 
--- from this mapping on
-abbrev pub mappings_tested : Model → List Instance → (ℕ → ℕ) → ℕ → List Body → Bool
-mappings_tested m list rank i [] = true
-mappings_tested m list rank i (b ∷ bs) =
-    (body_tested m list (reached_from rank (2 * i)) b && body_tested m list (reached_from rank (suc (2 * i))) b)
-    && mappings_tested m list rank (suc i) bs
+-- ---- mappings that are found: sizes of what they take stay what they are where it is opened
 
--- ---- top-level lets and initial values
+abbrev pub bare_settles : Types → Typ → Bool
+bare_settles types t = reading_settles types 0 (known_at nothing_known) (bare_type t)
 
-abbrev pub none_reached : ℕ → Bool
-none_reached d = false
+abbrev pub takes_tested : Types → Option Direction → Bool
+takes_tested types None = true
+takes_tested types (Some d) = bare_settles types d.parameter
 
--- ---- all of a model
+abbrev pub direction_tested : Model → List Instance → Body → ℕ → Bool
+direction_tested m list b d = body_tested m list any_direction b && takes_tested m.core.types (slice_get m.core.directions d)
 
-abbrev pub list_tested : Model → List Instance → (ℕ → ℕ) → Bool
-list_tested m list rank =
-    list_all (instance_tested m list) list
-    && (list_all (direction_tested m.core.types) m.core.directions
-    && (mappings_tested m list rank 0 m.bodies.mappings && list_all (body_tested m list none_reached) m.bodies.openings))
+-- which the model has
+abbrev pub mapping_tested : Model → List Instance → ℕ → Option Body → Bool
+mapping_tested m list i None = false
+mapping_tested m list i (Some b) = direction_tested m list b (2 * i) && direction_tested m list b (suc (2 * i))
 
-abbrev pub model_tested : CoreModel → (ℕ → ℕ) → List Instance → Bool
-model_tested core rank list = list_tested (model_of core (bodies_of core)) list rank
+-- ---- all of a model: what is found, and what is worked out once
+
+abbrev pub found_tested : Model → List Instance → Found → Bool
+found_tested m list (F.Function y) = instance_tested m list y
+found_tested m list (F.Mapping i) = mapping_tested m list i (slice_get m.bodies.mappings i)
+
+abbrev pub model_tested : Model → List Found → Bool
+model_tested m all =
+    list_all (found_tested m (instances_in all)) all && list_all (body_tested m (instances_in all) any_direction) m.bodies.openings
+
+abbrev pub core_tested : CoreModel → Bool
+core_tested core = model_tested (model_of core (bodies_of core)) (all_found (model_of core (bodies_of core)))
+
+-- ---- ranks of directions: what the patterns of a mapping name is of a lower rank than either of its directions
+
+abbrev pub is_lower : (ℕ → ℕ) → ℕ → ℕ → Bool
+is_lower rank d e = nat_lt (rank e) (rank d)
+
+abbrev pub both_fall : (ℕ → ℕ) → ℕ → Direction → Direction → Bool
+both_fall rank d m n = core_reached (is_lower rank d) m.body && core_reached (is_lower rank d) n.body
+
+-- from the mapping of this number on
+abbrev pub pairs_fall : (ℕ → ℕ) → ℕ → List Direction → Bool
+pairs_fall rank i (m ∷ n ∷ ms) = (both_fall rank (2 * i) m n && both_fall rank (suc (2 * i)) m n) && pairs_fall rank (suc i) ms
+pairs_fall rank i ms = true
+
+abbrev pub ways_fall : CoreModel → (ℕ → ℕ) → Bool
+ways_fall m rank = pairs_fall rank 0 m.directions
 
 abbrev pub instance_of : SizedInstance → Instance
 instance_of s = s.instance
-
-abbrev pub core_tested : CoreModel → (ℕ → ℕ) → SizedCore → Bool
-core_tested core rank c = model_tested core rank (map instance_of c.instances)
 
 -- ---- the checks: of the instance that is entered, of a mapping, and of what is worked out once
 
@@ -185,7 +219,7 @@ checks_given core c = model_checks (model_of core (bodies_of core)) (map instanc
 -- ---- what it gives
 
 abbrev pub setting_of : CoreModel → Positive → ℕ → SizedCore → Setting
-setting_of m past hart c = record { around = around_of m; past = past; hart = hart; covered = covered_by c }
+setting_of m past hart c = record { around = around_of m; past = past; hart = hart; covered = covered_by m c }
 
 -- all notes of a definition as it is read for instances, but goals
 abbrev pub AreRead : Setting → Work → (ℕ → Bool) → Cases → List Note → Type 0
@@ -198,9 +232,9 @@ pair_of (is_back n) m = record { forwards = n; backwards = m }
 -- a function at work for an instance
 pub record FunctionIsRead (set : Setting) (m : CoreModel) (k : Checks) (x : Work) (f : Function) : Type 0 where
   pub body : (nu : Givens) → all_agree x.instance.numbers nu ≡ true
-      → AreRead set x all_reached (k.function x.function x.instance.place nu) (function_read (around_of m) f [] 0).notes
+      → AreRead set x set.covered.direction (k.function x.function x.instance.place nu) (function_read (around_of m) f [] 0).notes
   pub measure : (nu : Givens) → all_agree x.instance.numbers nu ≡ true → (core : Core) → f.measure ≡ Some core
-      → AreRead set x all_reached (k.function x.function x.instance.place nu) (measure_read (around_of m) f core [] 0).notes
+      → AreRead set x set.covered.direction (k.function x.function x.instance.place nu) (measure_read (around_of m) f core [] 0).notes
   pub enters : (vs : List Value) (h : Integers) (e : Enters set x f vs h) → EntersAs set k x f vs h e
 
 -- the side of each direction, of which two stand one behind the other
@@ -214,24 +248,25 @@ side_at ms d = None
 pub record DirectionIsRead (set : Setting) (m : CoreModel) (rank : ℕ → ℕ) (k : Checks) (d : ℕ) (n : Direction) (side : Side) : Type 0 where
   pub mapping : ℕ
   pub is_there : slice_get (pairs m.directions) mapping ≡ Some (pair_of side n)
-  pub read : AreRead set nobody (reached_from rank d) (k.direction d)
+  pub read : AreRead set nobody (below set rank d) (k.direction d)
       (mapping_read (around_of m) (pair_of side n).forwards (pair_of side n).backwards [] 0).notes
   pub takes : (v : Value) → IsOf set n.parameter v → (s : Sized) × (k.takes d v ≡ Some s)
       × ((g : Integers) → OpensAs set.around.types set.past nobody g (bare_type n.parameter) v s)
 
 pub record ModelIsRead (m : CoreModel) (past : Positive) (hart : ℕ) (rank : ℕ → ℕ) (c : SizedCore) (k : Checks) : Type 0 where
-  -- where values of its Type variables have the sizes of its instance
-  pub functions : (x : Work) (f : Function) → covered_by c x ≡ true → AllFit (setting_of m past hart c).around.types x.types x.own
-      → slice_get m.functions x.function ≡ Some f → FunctionIsRead (setting_of m past hart c) m k x f
-  pub directions : (d : ℕ) (n : Direction) (side : Side) → slice_get m.directions d ≡ Some n → side_at m.directions d ≡ Some side
-      → DirectionIsRead (setting_of m past hart c) m rank k d n side
+  pub functions : (x : Work) (f : Function) → function_covered c x ≡ true → slice_get m.functions x.function ≡ Some f
+      → FunctionIsRead (setting_of m past hart c) m k x f
+  pub directions : (d : ℕ) (n : Direction) (side : Side) → (covered_by m c).direction d ≡ true → slice_get m.directions d ≡ Some n
+      → side_at m.directions d ≡ Some side → DirectionIsRead (setting_of m past hart c) m rank k d n side
   pub openings : (i : ℕ) (o : Opening) → slice_get m.openings i ≡ Some o
-      → AreRead (setting_of m past hart c) nobody none_reached (k.opening i) (opening_read (around_of m) o [] 0).notes
+      → AreRead (setting_of m past hart c) nobody (covered_by m c).direction (k.opening i) (opening_read (around_opening m i) o [] 0).notes
   -- the functions that a hart enters
-  pub step : covered_by c (entered_by m.step) ≡ true
-  pub reset : covered_by c (entered_by m.reset) ≡ true
+  pub step : function_covered c (entered_by m.step) ≡ true
+  pub reset : function_covered c (entered_by m.reset) ≡ true
 
 -- an accepted list that is tested
 abbrev pub ModelsAreRead : Type 0
-ModelsAreRead = (m : CoreModel) (past : Positive) (hart : ℕ) (rank : ℕ → ℕ) (c : SizedCore) → sized_core m ≡ Ok c → core_tested m rank c ≡ true
+ModelsAreRead =
+    (m : CoreModel) (past : Positive) (hart : ℕ) (rank : ℕ → ℕ) (c : SizedCore) → NumbersApart m → sized_core m ≡ Ok c → core_tested m ≡ true
+    → ways_fall m rank ≡ true
     → ModelIsRead m past hart rank c (checks_given m c)

@@ -1,10 +1,11 @@
 -- Checks that ask no table of constants: what a node makes has the type that its walk says, worked out from the numbers of the instance and from those that
 -- are noted; and what is tested of bodies so that it is right (Sail language manual, "Type variables").
-use Rattle.std.specs.Prelude.{ℕ, ℤ, pos, nat_eq, Bool, true, ◌&&◌, ◌||◌, List, [], ◌∷◌, length, Option, Some, None, is_some, option_map}
+use Rattle.std.specs.Prelude.{ℕ, ℤ, pos, nat_eq, Bool, true, false, ◌&&◌, ◌||◌, List, [], ◌∷◌, length, Option, Some, None, is_some, option_map}
 use Rattle.std.specs.Prelude.{if◌then◌else◌}
 use Rattle.std.specs.List.{list_all}
 use Rattle.sail_types.specs.Places.{first, only}
 use Rattle.sail_types.specs.declared.numbers.Index.{Index}
+use Rattle.sail_types.specs.declared.numbers.Index.TheVariants as N
 use Rattle.sail_types.specs.declared.table.Types.{Types}
 use Rattle.sail_core.specs.Numbers.{Instance as Awaits}
 use Rattle.sail_core.specs.declared.tree.Callee.{Callee}
@@ -29,13 +30,15 @@ use Rattle.monomorph.specs.Reading.{Inside, instance_of, under}
 use Rattle.checked_meaning.specs.Checked.{Cases, Noted}
 use Rattle.sized_trees.specs.declared.trees.NodeSizes.{NodeSizes}
 use Rattle.sized_trees.specs.Cases.{place_in}
+use Rattle.sized_trees.specs.Within.{is_number}
 use Rattle.sized_trees.specs.Combinations.{is_given}
 use Rattle.sized_meanings.specs.Noting.{noted_by_all}
 use Rattle.sized_meanings.specs.Present.{gives_at}
 use Rattle.sized_meanings.specs.Sized.{numbers_of}
 use Rattle.exact_sizes.specs.Among.{index_among, reading_among, value_among}
-use Rattle.exact_sizes.specs.Exact.{only_if}
-use Rattle.covering_laws.specs.Tested.{NoteIn, all_nodes, all_noted, are_apart, given_tested, inside, numbers_pass, readings_pass, size_tested}
+use Rattle.exact_sizes.specs.Exact.{only_if, reading_settles}
+use Rattle.node_counts.specs.Told.{NoteIn, all_noted}
+use Rattle.covering_laws.specs.Tested.{all_nodes, given_tested, inside}
 
 -- ---- constants at a moment
 
@@ -95,46 +98,65 @@ module _ (types : Types) (sizing : Sizing) (zs : List (Option ℤ)) (own : List 
     calls = λ k takes noted. first_noted (called_in k (length takes) noted) ys;
   }
 
--- ---- what is tested: of what is made, sizes name only such variables, and those of a type stay what they are where it is opened
+-- ---- what is tested: sizes of a type stay what they are where it is opened, under each combination of numbers that counts
 
+abbrev pub settles : Inside → Reading → List Picked → Bool
+settles r q ps = reading_settles r.types (length r.own) (under r ps) q
+
+abbrev pub type_given : Inside → List Fact → Made → Bool
+type_given r facts (Makes.ByIndices i) = true
+type_given r facts (Makes.ByType q) = list_all (settles r q) (counted (known_of r.numbers) r.split facts [])
+
+-- of what is made, sizes name only such variables
 abbrev pub made_given : Inside → List Fact → Made → Bool
 made_given r facts (Makes.ByIndices i) = value_among r.types (is_certain r.numbers facts) i
-made_given r facts (Makes.ByType q) = reading_among r.types (is_certain r.numbers facts) q && size_tested r facts (Makes.ByType q)
+made_given r facts (Makes.ByType q) = reading_among r.types (is_certain r.numbers facts) q && type_given r facts (Makes.ByType q)
 
--- of calls of functions, numbers and types that are given do, and under each combination of numbers they are constants, of an instance in the list
+-- of calls of functions, numbers and types that are given do, each size variable gets a number, and under each combination sizes name only what is known
+-- there
+abbrev pub is_num : Index → Bool
+is_num (N.Number t) = true
+is_num (N.Truth c) = false
+
+abbrev pub are_nums : List Bool → List Index → Bool
+are_nums [] [] = true
+are_nums (b ∷ bs) (j ∷ js) = only_if b (is_num j) && are_nums bs js
+are_nums bs js = false
+
+abbrev pub is_known : Inside → List Picked → ℕ → Bool
+is_known r ps v = is_number (under r ps v)
+
 abbrev pub numbers_among : (ℕ → Bool) → List Bool → List Index → Bool
 numbers_among has (b ∷ bs) (j ∷ js) = only_if b (index_among has j) && numbers_among has bs js
 numbers_among has bs js = true
 
-abbrev pub call_passes : Inside → List Instance → ℕ → List Index → List Reading → List Picked → Bool
-call_passes r list g js qs ps =
-    is_some (place_in list (instance_of r (under r ps) g js qs))
-    && (readings_pass r ps qs && numbers_pass (under r ps) (flags_of r.sizing g) js)
+abbrev pub call_passes : Inside → List Reading → List Picked → Bool
+call_passes r qs ps = list_all (reading_among r.types (is_known r ps)) qs
 
-abbrev pub function_given : Inside → List Instance → List Fact → ℕ → List Index → List Reading → Bool
-function_given r list facts g js qs =
-    (numbers_among (is_certain r.numbers facts) (flags_of r.sizing g) js && list_all (reading_among r.types (is_certain r.numbers facts)) qs)
-    && list_all (call_passes r list g js qs) (counted (known_of r.numbers) r.split facts [])
+abbrev pub function_given : Inside → List Fact → ℕ → List Index → List Reading → Bool
+function_given r facts g js qs =
+    are_nums (flags_of r.sizing g) js
+    && ((numbers_among (is_certain r.numbers facts) (flags_of r.sizing g) js && list_all (reading_among r.types (is_certain r.numbers facts)) qs)
+    && list_all (call_passes r qs) (counted (known_of r.numbers) r.split facts []))
 
-abbrev pub call_given : Inside → List Instance → List Fact → Callee → List Index → List Reading → Bool
-call_given r list facts (D.Function g) js qs = function_given r list facts g js qs
-call_given r list facts callee js qs = true
+abbrev pub call_given : Inside → List Fact → Callee → List Index → List Reading → Bool
+call_given r facts (D.Function g) js qs = function_given r facts g js qs
+call_given r facts callee js qs = true
 
--- ---- a note; a body goes through these directions of mappings
+-- ---- a note; the patterns of a body go through no other directions of mappings than these
 
-abbrev pub note_given : (ℕ → Bool) → List Instance → List NodeSizes → Inside → Note → Bool
-note_given reached list nodes r (size_note facts place made) = size_tested r facts made
-note_given reached list nodes r (made_note facts k operands made) = made_given r facts made
-note_given reached list nodes r (call_note facts place k operands callee js qs) = call_given r list facts callee js qs
-note_given reached list nodes r (way_note facts d) = reached d
-note_given reached list nodes r (given_note facts k i) = given_tested nodes facts k i
-note_given reached list nodes r note = true
+abbrev pub note_given : (ℕ → Bool) → List NodeSizes → Inside → Note → Bool
+note_given low nodes r (size_note facts place made) = type_given r facts made
+note_given low nodes r (made_note facts k operands made) = made_given r facts made
+note_given low nodes r (call_note facts place k operands callee js qs) = call_given r facts callee js qs
+note_given low nodes r (way_note facts d) = low d
+note_given low nodes r (given_note facts k i) = given_tested nodes facts k i
+note_given low nodes r note = true
 
 module _ (types : Types) (sizing : Sizing) (zs : List (Option ℤ)) (own : List Sized) where
-  abbrev pub noted_given : (ℕ → Bool) → List Instance → List NodeSizes → NoteIn → Bool
-  noted_given reached list nodes x = note_given reached list nodes (inside types sizing zs own x.body) x.note
+  abbrev pub noted_given : (ℕ → Bool) → List NodeSizes → NoteIn → Bool
+  noted_given low nodes x = note_given low nodes (inside types sizing zs own x.body) x.note
 
   -- bodies that are read together, for these numbers and types
   abbrev pub bodies_given : (ℕ → Bool) → List Instance → List Body → Bool
-  bodies_given reached list bs =
-      are_apart (all_noted bs) && list_all (noted_given reached list (all_nodes types sizing zs own list (all_noted bs))) (all_noted bs)
+  bodies_given low list bs = list_all (noted_given low (all_nodes types sizing zs own list (all_noted bs))) (all_noted bs)

@@ -1,5 +1,6 @@
 pub mod Tested
 pub mod Given
 pub mod Laws
+pub mod Apart
 pub mod Covered
 pub mod Closed

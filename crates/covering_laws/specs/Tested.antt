@@ -1,6 +1,6 @@
 -- What is tested of bodies as they are read for an instance: under each combination of numbers that counts at a note, what the note asks of instances
 -- holds (Sail language manual, "Type variables").
-use Rattle.std.specs.Prelude.{ℕ, ℤ, pos, int_le, nat_eq, Bool, true, false, not, ◌&&◌, ◌||◌, List, [], ◌∷◌, ◌++◌, map, length, Option, Some, None}
+use Rattle.std.specs.Prelude.{ℕ, ℤ, pos, int_le, nat_eq, Bool, true, false, not, ◌&&◌, ◌||◌, List, [], ◌∷◌, ◌++◌, length, Option, Some, None}
 use Rattle.std.specs.List.{list_all, list_any}
 use Rattle.sail_types.specs.declared.numbers.Index.{Index}
 use Rattle.sail_types.specs.declared.table.Types.{Types}
@@ -29,6 +29,7 @@ use Rattle.sized_trees.specs.Bodies.{at_note}
 use Rattle.sized_trees.specs.Combinations.{combinations_at, is_given}
 use Rattle.sized_meanings.specs.Present.{gives_at}
 use Rattle.soundness_steps.specs.Noted.{variables_given}
+use Rattle.node_counts.specs.Told.{NoteIn, all_noted, are_apart}
 use Rattle.exact_sizes.specs.Exact.{is_exact_index, only_if, reading_passes, reading_settles, value_passes}
 use Rattle.case_laws.specs.Cases.{has_all_cases, has_all_leads}
 
@@ -146,31 +147,7 @@ note_tested reached list nodes r (way_note facts d) = reached d
 note_tested reached list nodes r (given_note facts k i) = given_tested nodes facts k i
 note_tested reached list nodes r note = true
 
--- ---- the notes of several bodies, each with its body
-
-pub record NoteIn : Type 0 where
-  pub body : Body
-  pub note : Note
-
-abbrev pub note_in : Body → Note → NoteIn
-note_in b n = record { body = b; note = n }
-
-abbrev pub all_noted : List Body → List NoteIn
-all_noted [] = []
-all_noted (b ∷ bs) = map (note_in b) b.notes ++ all_noted bs
-
--- nodes of one number that take as many operands, of which the first alone would be found
-abbrev pub are_alike : Note → Note → Bool
-are_alike (made_note facts k operands made) (made_note more j others value) = nat_eq j k && nat_eq (length operands) (length others)
-are_alike (call_note facts place k operands callee js qs) (call_note more spot j others called is rs) = nat_eq j k && nat_eq (length operands) (length others)
-are_alike n m = false
-
-abbrev pub is_apart : NoteIn → NoteIn → Bool
-is_apart x y = not (are_alike x.note y.note)
-
-abbrev pub are_apart : List NoteIn → Bool
-are_apart [] = true
-are_apart (x ∷ xs) = list_all (is_apart x) xs && are_apart xs
+-- ---- bodies that are read together
 
 module _ (types : Types) (sizing : Sizing) (zs : List (Option ℤ)) (own : List Sized) where
   abbrev pub inside : Body → Inside

@@ -1,4 +1,4 @@
-use Rattle.covering_laws.proofs.Closed.{lists_are_read}
+use Rattle.covering_laws.proofs.Bounded.{lists_are_read}
 use Rattle.covering_laws.proofs.lists_are_read.Goals as goal
 
 pub returns : goal.returns

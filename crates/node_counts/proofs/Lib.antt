@@ -1,0 +1,17 @@
+pub mod Openings
+pub mod Patterns
+pub mod Widening
+pub mod Rows
+pub mod Budgets
+pub mod Weights
+pub mod Nodes
+pub mod Parts
+pub mod Statements
+pub mod Values
+pub mod Trees
+pub mod Spots
+pub mod Targets
+pub mod Counted
+pub mod Counting
+pub mod Bodies
+pub mod Apart
