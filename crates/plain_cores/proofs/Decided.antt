@@ -31,8 +31,7 @@ use Rattle.plain_cores.specs.Ends.{Ends, all_alone, all_arms, alone_kind, decide
 use Rattle.plain_cores.specs.Ending.{Calm, Inside, IsAtRest}
 use Rattle.plain_cores.proofs.Pieces.{AllCalm, AllInside, arms_d, calm, inside_on, integer_d, let_d, met_d, needs_d, operands_d, or_d, part_d, so_d, then_d}
 use Rattle.plain_cores.proofs.Pieces.{truth_d, turn_d, when_c, within_d}
-use Rattle.plain_cores.proofs.Steps.{called_d, foreach_d, put_d, repeat_d, suffixes_d, while_d}
-use Rattle.plain_cores.proofs.Spots.{assigned_d, read_d, read_variable_d}
+use Rattle.plain_cores.proofs.Steps.{called_d, foreach_d, put_d, read_d, read_variable_d, repeat_d, suffixes_d, while_d}
 
 -- kinds of which each part has to end so
 abbrev IsAlone : Kind → Type 0
@@ -41,6 +40,7 @@ IsAlone (K.Clauses arms) = ⊥
 IsAlone K.Throw = ⊥
 IsAlone (K.Match arms of) = ⊥
 IsAlone (K.Try arms of) = ⊥
+IsAlone (K.Assign targets) = ⊥
 IsAlone kind = Unit {0}
 
 -- a part, and how it ends where the test says so
@@ -141,7 +141,7 @@ module _ (t : Table) (w : World Value) (d : IsAtRest w) where
       (put_d k (slice_way hi lo) v (x ∷ y ∷ [])))))))
   kind_d place k (K.SizeOf number numbers) [] h alone = known_d (number_met w.numbers number) (known w.numbers number) (λ z. Val.Integer z)
   kind_d place k (K.Constraint c numbers) [] h alone = known_d (truth_met w.numbers c) (known_truth w.numbers c) (λ b. Val.Truth b)
-  kind_d place k (K.Assign targets) parts h alone = assigned_d t w d targets parts h
+  kind_d place k (K.Assign targets) parts h alone = absurd alone
   kind_d place k (K.Block ss) parts h alone = block_d ss parts h
   kind_d place k (K.Let arm) (a ∷ b ∷ []) h alone = then_d a (λ v. let_then w place arm v b) h.0 (λ v. let_d w d place arm v b h.1.0)
   kind_d place k (K.Var name written) (a ∷ b ∷ []) h alone =
@@ -185,6 +185,7 @@ module _ (t : Table) (w : World Value) (d : IsAtRest w) where
   kind_alone place k (K.Clauses arms) ps h = no h
   kind_alone place k K.Throw ps h = no h
   kind_alone place k (K.Try arms of) ps h = no h
+  kind_alone place k (K.Assign targets) ps h = no h
   kind_alone place k (K.Match arms of) [] h = λ now. tt
   kind_alone place k (K.Match arms of) (p ∷ ps) h =
       let both = and_parts p.says.alone (all_arms (map (λ q. q.says) ps)) h in

@@ -2,6 +2,5 @@ pub mod Forms
 pub mod Plain
 pub mod Pieces
 pub mod Steps
-pub mod Spots
 pub mod Decided
 pub mod Numbered

@@ -7,7 +7,7 @@ use Rattle.sail_types.specs.declared.values.Value.{Value, Value-F, out-Value}
 use Rattle.sail_types.specs.declared.values.Value.TheOpen as W
 use Rattle.sail_types.specs.declared.values.Value.TheVariants as Val
 use Rattle.builtins.specs.RowValues.{row}
-use Rattle.model_state.specs.RunState.{Ran}
+use Rattle.model_state.specs.RunState.{Ran, register_value}
 use Rattle.model_state.specs.StateRows.{state_row}
 use Rattle.model_state.specs.declared.cause.Cause.TheVariants.{MatchFailure, Measure}
 use Rattle.model_state.specs.declared.cause.Ended.{Ended as EndOfRow}
@@ -20,19 +20,28 @@ use Rattle.sail_core.specs.declared.tree.Callee.{Callee}
 use Rattle.sail_core.specs.declared.tree.Callee.TheVariants as C
 use Rattle.sail_core.specs.declared.tree.Counting.{Counting}
 use Rattle.sail_core.specs.Run as R
-use Rattle.sail_core.specs.Run.{Now, Run, after_row, ended_as, gives, if_so, local, needs}
+use Rattle.sail_core.specs.Run.{Now, Run, after_row, ended_as, gives, held_in, if_so, local, needs}
 use Rattle.sail_core.specs.Run.{row_run, stops, tick, within, ◌then◌, ◌or_else◌}
 use Rattle.sail_core.specs.Making.{World, integer, made, natural, plainly, truth}
 use Rattle.sail_core.specs.Meaning as Means
 use Rattle.sail_core.specs.Meaning.{condition_of, count_turns, fallen, foreach, in_span, loop_measure, next_of, repeat_turns, taken, while_turns}
-use Rattle.sail_core.specs.Targets.{called, payload_in}
+use Rattle.sail_core.specs.Targets.{called, payload_in, read_register, variable_read}
 use Rattle.sail_core.specs.Values.{Into, field_way, item_way, natural_of, slice_way}
 use Rattle.sail_core.specs.Values.{truth_in}
 use Rattle.shape_progress.specs.Conditions.{index_met, slice_met}
 use Rattle.shape_progress.specs.Checks.{checked_suffix, checked_suffixes}
 use Rattle.plain_cores.specs.Ending.{Inside, IsAtRest, IsInside}
-use Rattle.plain_cores.proofs.Pieces.{AllInside, calm, integer_d, met_d, needs_d, or_d, so_d, then_d, tick_d}
+use Rattle.plain_cores.proofs.Pieces.{AllInside, calm, inside_on, integer_d, met_d, needs_d, or_d, so_d, then_d, tick_d}
 use Rattle.plain_cores.proofs.Pieces.{within_d}
+
+-- ---- variables and registers that are read
+
+pub read_variable_d : (k : ℕ) (name : List ℕ) → Inside (variable_read plainly k name)
+read_variable_d k name now =
+    inside_on (needs (held_in name now.locals) now) (λ x. made plainly k [] x) (needs_d (held_in name now.locals) now) (λ x later. tt)
+
+pub read_d : (w : World Value) (r : ℕ) → Inside (read_register w r)
+read_d w r now = needs_d (register_value now.state w.hart r) now
 
 -- ---- calls, in a world at rest
 

@@ -1,5 +1,5 @@
 -- How a core can end: one that decides ends neither by saying No nor by throwing. Only guards and clauses say No, and arms hand it on no further, so an
--- expression that has none but in arms says none (Sail language manual, "Pattern matching", "Exceptions").
+-- expression that has none but in arms says none (Sail language manual, "Pattern matching", "Exceptions"). It assigns nothing, as plain expressions do.
 use Rattle.std.specs.Prelude.{◌≡◌, Bool, true, false, ◌&&◌, ◌||◌, List, [], ◌∷◌}
 use Rattle.sail_types.specs.declared.shapes.Shape.{Shape}
 use Rattle.sail_core.specs.declared.tree.Core.{Core, fold-Core}
@@ -27,6 +27,7 @@ alone_kind K.When es = false
 alone_kind (K.Clauses arms) es = false
 alone_kind K.Throw es = false
 alone_kind (K.Try arms s) es = false
+alone_kind (K.Assign targets) es = false
 alone_kind (K.Match arms s) (e ∷ es) = e.alone && all_arms es
 alone_kind kind es = all_alone es
 

@@ -31,8 +31,9 @@ use Rattle.shape_joins.proofs.Order.{no, two}
 use Rattle.shape_rules.specs.Calls.{parameters_form, parameters_of}
 use Rattle.value_laws.specs.Belonging.{Integers, closeds}
 use Rattle.value_laws.proofs.Numbers.{at_most_true, truth_is}
+use Rattle.call_fits.specs.Calls.{AllBelong, givens_at}
 use Rattle.soundness_steps.specs.Works.{Setting}
-use Rattle.soundness_steps.specs.Calls.{AllBelong, givens_at, inside}
+use Rattle.soundness_steps.specs.Calls.{inside}
 use Rattle.soundness_calls.specs.Events.{EventEnters, entered_by, reset_arguments}
 
 -- ---- values of some types
@@ -107,14 +108,13 @@ module _ (set : Setting) (f : Function) (plain : f.variables ≡ []) where
   abbrev mu : Assignment
   mu = inside set f any
 
-  pub entering : (i : ℕ) (vs : List Value) → set.covered (entered_by i) ≡ true → slice_get set.around.functions i ≡ Some f
+  pub entering : (i : ℕ) (vs : List Value) → set.covered.function (entered_by i) ≡ true → slice_get set.around.functions i ≡ Some f
       → f.constraint ≡ C.Truth true → AllBelong set.around.types mu [] f.parameters vs → EventEnters set i vs
   entering i vs covered there free belong = record {
     it = f;
     integers = any;
     enters = record {
       is_covered = covered;
-      own_fits = tt;
       is_it = there;
       belong = belong;
       constraint = ap (true_in mu) free ∙ truth_is mu true;

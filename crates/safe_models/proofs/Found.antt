@@ -24,7 +24,7 @@ use Rattle.shape_meanings.proofs.Settling.{same_name}
 use Rattle.shape_clauses.specs.Functions.{function_in}
 use Rattle.shapes.specs.Resolved.{function_place}
 use Rattle.shapes.specs.Tabled.{tabled_of}
-use Rattle.soundness_steps.specs.Works.{Setting, Work}
+use Rattle.soundness_steps.specs.Works.{Coverage, Setting}
 use Rattle.soundness_calls.specs.Events.{EventEnters, entered_by, reset_arguments}
 use Rattle.whole_runs.specs.Never.{setting_in}
 use Rattle.whole_runs.proofs.Events.{functions_kept}
@@ -70,7 +70,7 @@ reset_parts None s e h = none e
 reset_parts (Some x) s e h = subst (Enters form_start) (some_same x s e) (entering_by form_start (form_unit (out-Typ x.to)) x h)
 
 module _ (text : List Def) (cycles : Cycles) (signed : EachSigned text text) (step : has_step text ≡ true) (reset : has_reset text ≡ true)
-    (past : Positive) (covered : Work → Bool) (hart : ℕ) (low : hart < 8) where
+    (past : Positive) (covered : Coverage) (hart : ℕ) (low : hart < 8) where
   abbrev set : Setting
   set = setting_in (core_of text cycles) past hart covered
 
@@ -86,7 +86,7 @@ module _ (text : List Def) (cycles : Cycles) (signed : EachSigned text text) (st
   abbrev found_function : {name : List ℕ} {k : ℕ} → IsAt text cycles (setting_at text) name (core_of text cycles).functions k → Function
   found_function a = function_in (tabled_of text) text (setting_at text a.signature.variables) a.place a.own a.clauses a.signature (cycles a.own)
 
-  step_enters : set.covered (entered_by (core_of text cycles).step) ≡ true → EventEnters set (core_of text cycles).step (W.Unit ∷ [])
+  step_enters : set.covered.function (entered_by (core_of text cycles).step) ≡ true → EventEnters set (core_of text cycles).step (W.Unit ∷ [])
   step_enters covers =
       let name : List ℕ = codes "step" in
       let k = and_parts (is_function text name) (is_step (signature_in text name)) step in
@@ -96,7 +96,7 @@ module _ (text : List Def) (cycles : Cycles) (signed : EachSigned text text) (st
       entering set f parts.bound (core_of text cycles).step (W.Unit ∷ []) covers (there_in (core_of text cycles).step f a.there) parts.free
       (unit_taken set f parts.bound a.signature.from parts.from)
 
-  reset_enters : set.covered (entered_by (core_of text cycles).reset) ≡ true → (entry : ℕ)
+  reset_enters : set.covered.function (entered_by (core_of text cycles).reset) ≡ true → (entry : ℕ)
       → EventEnters set (core_of text cycles).reset (reset_arguments hart entry)
   reset_enters covers entry =
       let name : List ℕ = codes "reset" in
@@ -108,7 +108,7 @@ module _ (text : List Def) (cycles : Cycles) (signed : EachSigned text text) (st
       (start_taken set f parts.bound hart entry low a.signature.from parts.from)
 
 pub found_throughout : (text : List Def) (cycles : Cycles) → EachSigned text text → has_step text ≡ true → has_reset text ≡ true
-    → (past : Positive) (covered : Work → Bool) (count : ℕ) → count ≤ 8
+    → (past : Positive) (covered : Coverage) (count : ℕ) → count ≤ 8
     → IsFoundThroughout (core_of text cycles) past covered count
 found_throughout text cycles signed step reset past covered count few hart low =
     let less : hart < 8 = omega arith in

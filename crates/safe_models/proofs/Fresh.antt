@@ -19,6 +19,7 @@ use Rattle.soundness_steps.specs.Works.{Setting}
 use Rattle.soundness_steps.specs.States.{AllHarts, AreRegisters, nothing_stands}
 use Rattle.whole_runs.specs.Initials.{pure_setting}
 use Rattle.accepted_models.specs.Starts.{HaveZeros}
+use Rattle.whole_runs.specs.Safe.{nothing_covered}
 use Rattle.safe_models.specs.Safe.{FreshStatesFit}
 
 -- where no variable stands for anything, none does as a parameter
@@ -31,7 +32,7 @@ nothing_assigned past = λ j. record {
 
 module _ (m : CoreModel) (past : Positive) where
   abbrev set : Setting
-  set = pure_setting m past (λ x. false) m.registers []
+  set = pure_setting m past nothing_covered m.registers []
 
   zero_belongs : (t : Typ) (v : Value) → zero_of m.types t ≡ Some v → belongs m.types v (reading t (nothing_stands past) no_readings) ≡ true
   zero_belongs t v e =

@@ -1,7 +1,5 @@
-pub mod AlikePatterns
-pub mod AlikeForms
-pub mod Alike
 pub mod Cores
+pub mod Noting
 pub mod Models
 pub mod Within
 pub mod FoundNames
@@ -9,9 +7,11 @@ pub mod LookedNames
 pub mod LetsOnce
 pub mod PureValues
 pub mod Openings
-pub mod FittingTexts
 pub mod PatternsPass
 pub mod AcceptedFit
+pub mod OpeningPatterns
+pub mod AcceptedOpenings
+pub mod FittingTexts
 pub mod Entries
 pub mod Constraints
 pub mod Functions
@@ -22,4 +22,5 @@ pub mod Accepted
 pub mod Fresh
 pub mod Texts
 pub mod Notes
+pub mod Apart
 pub mod Covered

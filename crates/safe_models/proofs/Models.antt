@@ -9,7 +9,7 @@ use Rattle.sail_core.specs.declared.model.Direction.{Direction}
 use Rattle.sail_core.specs.declared.model.Function.{Function}
 use Rattle.constraint_gen.specs.Models.{around_of}
 use Rattle.checked_meaning.specs.Checked.{Checks}
-use Rattle.soundness_steps.specs.Works.{Setting, Work}
+use Rattle.soundness_steps.specs.Works.{Coverage, Setting, Work}
 use Rattle.soundness_calls.specs.Premises.{own_of}
 use Rattle.soundness_calls.specs.Laws.{scene_of}
 use Rattle.soundness_calls.specs.Directions.{Side, is_ahead, is_back, scene_across}
@@ -19,6 +19,7 @@ use Rattle.whole_runs.specs.Covers.{side_at}
 use Rattle.whole_runs.specs.Never.{DirectionStands, FunctionStands, setting_in}
 use Rattle.safe_models.specs.ModelLaws.{ModelKnown, TestedModelsStand}
 use Rattle.safe_models.specs.ModelTests.{function_fits, measure_fits, model_fits}
+use Rattle.safe_models.specs.Noting.{AllNote}
 
 -- ---- one of many
 
@@ -46,7 +47,7 @@ other_at (a ∷ b ∷ ds) (suc (suc d)) n side e k =
 
 -- ---- all of a model
 
-module _ (m : CoreModel) (past : Positive) (hart : ℕ) (covered : Work → Bool) (k : Checks) (rank : ℕ → ℕ) (fits : model_fits m ≡ true)
+module _ (m : CoreModel) (past : Positive) (hart : ℕ) (covered : Coverage) (k : Checks) (rank : ℕ → ℕ) (notes : AllNote k) (fits : model_fits m ≡ true)
     (known : ModelKnown (setting_in m past hart covered)) where
   abbrev set : Setting
   set = setting_in m past hart covered
@@ -54,15 +55,16 @@ module _ (m : CoreModel) (past : Positive) (hart : ℕ) (covered : Work → Bool
   both : (list_all (function_fits (around_of m)) m.functions ≡ true) × (list_all (direction_fits (around_of m) []) m.directions ≡ true)
   both = and_parts (list_all (function_fits (around_of m)) m.functions) (list_all (direction_fits (around_of m) []) m.directions) fits
 
-  function : (x : Work) (f : Function) → covered x ≡ true → slice_get m.functions x.function ≡ Some f → FunctionStands set k x f
+  function : (x : Work) (f : Function) → covered.function x ≡ true → slice_get m.functions x.function ≡ Some f → FunctionStands set k x f
   function x f is there =
       let its = and_parts (clauses_fit (around_of m) (own_of f) f.is_declared f.body) (measure_fits (around_of m) (own_of f) f.measure)
       (each (function_fits (around_of m)) m.functions x.function f both.0 there) in
       record {
         model = known.tables x is;
-        body = λ h nu w. clauses (scene_of set x f h (k.function x.function x.instance.place nu)) w f.is_declared f.body its.0;
+        body = λ h nu w.
+            clauses (scene_of set x f h (k.function x.function x.instance.place nu)) w f.is_declared f.body (notes x.function x.instance.place nu) its.0;
         measure = λ h nu w core has.
-            clauses (scene_of set x f h (k.function x.function x.instance.place nu)) w true core
+            clauses (scene_of set x f h (k.function x.function x.instance.place nu)) w true core (notes x.function x.instance.place nu)
             (subst (λ o. measure_fits (around_of m) (own_of f) o ≡ true) has its.1);
       }
 
@@ -84,4 +86,5 @@ module _ (m : CoreModel) (past : Positive) (hart : ℕ) (covered : Work → Bool
       of_side d back.0 n side there back.1
 
 pub tested : TestedModelsStand
-tested m past hart covered k rank fits known = (function m past hart covered k rank fits known, direction m past hart covered k rank fits known)
+tested m past hart covered k rank notes fits known =
+    (function m past hart covered k rank notes fits known, direction m past hart covered k rank notes fits known)

@@ -1,5 +1,6 @@
--- That a note is met hangs on types, on the integer that powers past the largest are taken for and on what is covered alone.
-use Rattle.std.proofs.Common.{ℕ, Bool, List, [], ◌∷◌, Option}
+-- That a note is met hangs on types, on the integer that powers past the largest are taken for and on what is covered alone; where there is no mapping,
+-- all that are there are covered.
+use Rattle.std.proofs.Common.{refl, ℕ, Bool, true, List, [], ◌∷◌, Option}
 use Rattle.sail_types.specs.declared.numbers.Index.{Index}
 use Rattle.sail_types.specs.declared.values.Value.{Value}
 use Rattle.sail_core.specs.Numbers.{Instance}
@@ -20,9 +21,14 @@ use Rattle.soundness_steps.specs.Noted.{variables_given}
 use Rattle.soundness_steps.specs.Covers.{AreSized, CoversCall, HasCase, IsMet, Leads, Notes}
 
 module _ (set : Setting) (around : Around) (hart : ℕ) (x : Work) (reached : ℕ → Bool) (cases : Cases) where
-  -- another setting of the same types
+  -- another setting of the same types, with no mapping
   abbrev other : Setting
-  other = record { around = record around { types = set.around.types }; past = set.past; hart = hart; covered = set.covered }
+  other = record {
+    around = record around { types = set.around.types };
+    past = set.past;
+    hart = hart;
+    covered = record set.covered { direction = λ d. true };
+  }
 
   are_sized : (f : Integers) (is : List Indices) (ss : List Sized) → AreSized other x f is ss → AreSized set x f is ss
   are_sized f [] [] h = h
@@ -40,7 +46,6 @@ module _ (set : Setting) (around : Around) (hart : ℕ) (x : Work) (reached : �
     is_there = h.is_there;
     agree = h.agree;
     is_covered = h.is_covered;
-    own_fit = h.own_fit;
   }
 
   notes : (f : Integers) (facts : List Fact) (vs : List ℕ) (found : Option Noted) → Notes set x f facts vs found → Notes other x f facts vs found
@@ -52,19 +57,19 @@ module _ (set : Setting) (around : Around) (hart : ℕ) (x : Work) (reached : �
       leads f function js qs (cases.calls k ss noted) (h f noted so ss (are_sized f operands ss sized))
   calls facts k operands (D.Row row) js qs h = tt
   calls facts k operands (D.Constructor u c) js qs h = tt
-  calls facts k operands (D.Converts d) js qs h = tt
+  calls facts k operands (D.Converts d) js qs h = λ f noted so. refl
   calls facts k operands (D.Applies d) js qs h = tt
 
-  met : (n : Note) → OfOthers (IsMet set x reached cases) n → OfOthers (IsMet other x reached cases) n
+  met : (n : Note) → OfOthers (IsMet set x reached cases) n → OfOthers (IsMet other x (λ d. true) cases) n
   met (goal_note facts place goal) h = tt
   met (size_note facts place made) h = h
   met (made_note facts k operands made) h = λ f noted so ss sized v is.
       has_case f made v (cases.makes k ss v noted) (h f noted so ss (are_sized f operands ss sized) v is)
   met (call_note facts place k operands callee js qs) h = calls facts k operands callee js qs h
-  met (way_note facts d) h = h
+  met (way_note facts d) h = λ f noted so. refl
   met (given_note facts k i) h = λ f noted so v is. notes f facts (variables_given i) (cases.notes k v noted) (h f noted so v is)
   met (name_note v name) h = tt
 
-  pub all_met : (ns : List Note) → EachNote (OfOthers (IsMet set x reached cases)) ns → EachNote (OfOthers (IsMet other x reached cases)) ns
+  pub all_met : (ns : List Note) → EachNote (OfOthers (IsMet set x reached cases)) ns → EachNote (OfOthers (IsMet other x (λ d. true) cases)) ns
   all_met [] h = tt
   all_met (n ∷ ns) h = (met n h.0, all_met ns h.1)

@@ -1,10 +1,9 @@
--- Patterns of an accepted text stand where the widths of their `@` read.
-use Rattle.std.proofs.Common.{◌≡◌, ℕ, suc, List, [], ◌∷◌, ap, sym, refl, subst, Bool, true, false, Some, None}
-use Rattle.std.specs.Prelude.{if◌then◌else◌}
+-- Patterns of an accepted text stand.
+use Rattle.std.proofs.Common.{◌≡◌, ℕ, List, [], ◌∷◌, ap, sym, refl, subst, Bool, true, Some, None}
+use Rattle.sail_base.specs.declared.place.Place.{Place}
 use Rattle.sail_types.specs.Shapes.{shape}
 use Rattle.sail_types.specs.declared.numbers.Index.{Index}
 use Rattle.sail_types.specs.declared.shapes.Shape.{Shape}
-use Rattle.sail_types.specs.declared.table.Parameter.{Parameter}
 use Rattle.sail_types.specs.declared.table.Types.{Types}
 use Rattle.sail_syntax.specs.declared.patterns.Pat.{Pat}
 use Rattle.sail_kinds.specs.declared.scope.Variable.{Variable}
@@ -23,7 +22,6 @@ use Rattle.sail_tables.specs.Refused.{signature_in}
 use Rattle.type_definitions.specs.Defined.{types_of}
 use Rattle.known_names.specs.Meanings.{known_in}
 use Rattle.call_fits.specs.Calls as Fits
-use Rattle.soundness_steps.specs.Calls as Steps
 use Rattle.shape_joins.proofs.JoinsLeast.{none, some_same}
 use Rattle.shape_rules.specs.Patterns.{Widths, look, no_widths}
 use Rattle.shape_rules.specs.Scopes.{Setting, answering, plainly}
@@ -43,35 +41,24 @@ use Rattle.known_texts.proofs.Parts.{tuples_have_parts}
 use Rattle.known_texts.proofs.Signed.{variables_are}
 use Rattle.known_texts.proofs.Tuples.{TuplesHaveParts}
 use Rattle.pattern_laws.specs.Standing.{form_stands, stands}
-use Rattle.found_patterns.specs.Meant.{WidthsStand, pattern_reads}
+use Rattle.found_patterns.specs.Meant.{WidthsStand}
 use Rattle.found_patterns.proofs.Patterns.{found_patterns_stand}
 use Rattle.found_models.specs.Patterns.{PatternNames, PatternsMeant}
 use Rattle.found_models.proofs.PatternNames.{patterns_meant}
-use Rattle.standing_models.specs.Tests.{unit_pattern}
 use Rattle.standing_texts.specs.Bodies.{PatternsPass}
-use Rattle.safe_models.specs.Accepted.{PatternsOfTextsPass, stands_if}
-
--- ---- variables of a function, as two walks have them
-
-pub same_own : (v : ℕ) (ps : List Parameter) → Fits.own_variables v ps ≡ Steps.own_variables v ps
-same_own v [] = refl
-same_own v (p ∷ ps) = λ i. Fits.variable_index p.kind v ∷ same_own (suc v) ps i
+use Rattle.standing_models.specs.Tests.{unit_pattern}
+use Rattle.safe_models.specs.Accepted.{PatternsOfTextsPass}
 
 -- ---- one pattern
 
-implied : (b c : Bool) → (b ≡ true → c ≡ true) → (if b then c else true) ≡ true
-implied true c h = h refl
-implied false c h = refl
-
 pattern_passes : (numbers : List Index) (setting : Setting) (names : Tables.Setting) → AreKnown setting names → PatternsMeant numbers setting names
     → (widths : Widths) → WidthsStand numbers widths → (p : Pat) (subject : Shape) → uses_failures names p ≡ []
-    → (look p setting widths subject).faults ≡ [] → stands_if setting.types numbers (look p setting widths subject).pattern ≡ true
+    → (look p setting widths subject).faults ≡ [] → stands setting.types numbers (look p setting widths subject).pattern ≡ true
 pattern_passes numbers setting names are meant widths own p subject u f =
-    implied (pattern_reads numbers (look p setting widths subject).pattern) (stands setting.types numbers (look p setting widths subject).pattern)
-    (λ reads. found_patterns_stand setting.types numbers p setting names are u meant.0 meant.1 widths own subject f reads)
+    found_patterns_stand setting.types numbers p setting names are u meant.0 meant.1 widths own subject f
 
 -- in loops' measures too, which are plain
-plain_known : (setting : Setting) (names : Tables.Setting) → AreKnown setting names → AreKnown (plainly setting) (in_measure names)
+pub plain_known : (setting : Setting) (names : Tables.Setting) → AreKnown setting names → AreKnown (plainly setting) (in_measure names)
 plain_known setting names known =
     (plain_ready setting names [] [] (record { known = known; are = λ name. tt; settled = λ name l is var. none is; counted = tt })).known
 
@@ -82,14 +69,19 @@ plain_meant numbers setting names h = (
   record { heads = λ name n is e. h.1.heads name n is e; typs = h.1.typs },
 )
 
-all_pass : (numbers : List Index) (setting : Setting) (names : Tables.Setting) → AreKnown setting names → PatternsMeant numbers setting names
-    → PatternsMeant numbers setting (in_measure names) → PatternsPass (stands_if setting.types numbers) setting names
+pub all_pass : (numbers : List Index) (setting : Setting) (names : Tables.Setting) → AreKnown setting names → PatternsMeant numbers setting names
+    → PatternsMeant numbers setting (in_measure names) → PatternsPass (stands setting.types numbers) setting names
 all_pass numbers setting names are meant measured = (
   λ p subject u q f. pattern_passes numbers setting names are meant no_widths (λ name n e. none e) p subject u f,
   λ p subject u q f.
       pattern_passes numbers (plainly setting) (in_measure names) (plain_known setting names are) (plain_meant numbers setting (in_measure names) measured)
       no_widths (λ name n e. none e) p subject u f,
 )
+
+-- what is matched where a function has no parameter
+pub unit_passes : (types : Types) (numbers : List Index) (place : Place) → stands types numbers (unit_pattern place) ≡ true
+unit_passes types numbers place =
+    fold-roll-Pattern Bool (λ p. form_stands types numbers p.form p.parts) (record { place = place; form = F.Opens (H.Is L.Unit); parts = [] })
 
 pub patterns_pass : PatternsOfTextsPass
 patterns_pass text end cycle accepted kept is_written =
@@ -99,16 +91,10 @@ patterns_pass text end cycle accepted kept is_written =
     let types : Types = (tabled_of text).types in
     let within : List Variable → Setting = setting_in (tabled_of text) text in
     let own : List Variable → List Index = λ variables. Fits.own_variables 0 (number_parameters variables) in
-    let moved : (variables : List Variable) (setting : Setting) (names : Tables.Setting)
-    → PatternsMeant (Steps.own_variables 0 (number_parameters variables)) setting names → PatternsMeant (own variables) setting names =
-    λ variables setting names h. subst (λ (is : List Index). PatternsMeant is setting names) (sym (same_own 0 (number_parameters variables))) h in
     let signed_types : (name : List ℕ) (s : Signature) → signature_in text name ≡ Some s
     → (names_setting (known_in text) (types_of text) Any (variables_in text name) 0).types ≡ within_variables (tabled_of text) s.variables =
     λ name s e. ap (within_variables (tabled_of text)) (sym (variables_are (types_of text).named text name s e)) in record {
-      unit = λ numbers place.
-          implied (pattern_reads numbers (unit_pattern place)) (stands types numbers (unit_pattern place))
-          (λ reads. fold-roll-Pattern Bool (λ p. form_stands types numbers p.form p.parts)
-          (record { place = place; form = F.Opens (H.Is L.Unit); parts = [] }));
+      unit = λ numbers place. unit_passes types numbers place;
       bodies = λ name s signed at.
           let names : Tables.Setting = names_setting (known_in text) (types_of text) Any (variables_in text name) at in
           let setting : Setting = answering (Some (shape s.to)) (within s.variables) in
@@ -118,15 +104,15 @@ patterns_pass text end cycle accepted kept is_written =
             type_variables s.variables,
             subst (λ x. below (type_variables s.variables) x ≡ true) (some_same (shape s.to) a h) (signature_whole text name s signed).gives,
           )))
-          (moved s.variables setting names (it.bodies s.variables (Some (shape s.to)) names (λ n. true)))
-          (moved s.variables setting (in_measure names) (it.bodies s.variables (Some (shape s.to)) (in_measure names) (λ n. true)));
+          (it.bodies s.variables (Some (shape s.to)) names (λ n. true))
+          (it.bodies s.variables (Some (shape s.to)) (in_measure names) (λ n. true));
       measures = λ name s signed at.
           let names : Tables.Setting = plain_at text at name in
           let setting : Setting = plainly (within s.variables) in
           all_pass (own s.variables) setting names
           (known_plainly text clear is_written tuples s.variables names refl (signed_types name s signed))
-          (moved s.variables setting names (it.plain s.variables names))
-          (moved s.variables setting (in_measure names) (it.plain s.variables (in_measure names)));
+          (it.plain s.variables names)
+          (it.plain s.variables (in_measure names));
       mappings = λ names are.
           all_pass [] (answering None (within [])) names are (it.bodies [] None names (λ n. true)) (it.bodies [] None (in_measure names) (λ n. true));
       sides = λ names are from to from_typ to_typ given u v q k f.

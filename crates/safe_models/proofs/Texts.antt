@@ -21,7 +21,7 @@ use Rattle.soundness_steps.specs.Works.{Setting}
 use Rattle.soundness_steps.specs.States.{AllHarts, AreRegisters, nothing_stands}
 use Rattle.whole_runs.specs.Initials.{pure_setting}
 use Rattle.whole_runs.specs.Runs.{AreAlike}
-use Rattle.whole_runs.specs.Safe.{IsFit, core_parts}
+use Rattle.whole_runs.specs.Safe.{IsFit, core_parts, nothing_covered}
 use Rattle.whole_runs.proofs.Runs.{run_across}
 use Rattle.safe_models.specs.Safe.{IsOfText, TextsRunSafely, text_parts}
 
@@ -54,7 +54,7 @@ module _ (text : Text) (m : CoreModel) (past : Positive) (count : ℕ) (same : I
   registers_fit : (state : RunState) → IsFit m past count state → RegistersFit text.types (register_shapes text.registers) state
   registers_fit state ok hart r v s e k =
       subst (λ types. fits types v s ≡ true) (sym same.types)
-      (harts_fit (pure_setting m past (λ x. false) m.registers []) state.harts ok.registers hart r v s e (ap (λ ss. slice_get ss r) (sym same.registers) ∙ k))
+      (harts_fit (pure_setting m past nothing_covered m.registers []) state.harts ok.registers hart r v s e (ap (λ ss. slice_get ss r) (sym same.registers) ∙ k))
 
   parts_alike : AreAlike (core_parts plain m) (text_parts text) (IsFit m past count)
   parts_alike = record {

@@ -21,9 +21,9 @@ module _ (around : Around) (numbers : List Index) where
   abbrev pub value_fits : Core → Bool
   value_fits c = is_bound (standing around c) && core_fits around.types numbers c
 
-  -- clauses of a function, one at least, as what a `val` declares or not; and those of a direction of a mapping
+  -- clauses of a function, as what a `val` declares or not; and those of a direction of a mapping
   abbrev pub arms_fit : Bool → Kind → Bool
-  arms_fit declared (K.Clauses (arm ∷ arms)) = arms_stand around.types numbers (map (arm_of declared) (arm ∷ arms))
+  arms_fit declared (K.Clauses arms) = arms_stand around.types numbers (map (arm_of declared) arms)
   arms_fit declared kind = false
 
   abbrev pub clauses_fit : Bool → Core → Bool

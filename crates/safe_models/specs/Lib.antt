@@ -1,12 +1,13 @@
-pub mod Apart
 pub mod CoreTests
 pub mod CoreLaws
+pub mod Noting
 pub mod ModelTests
 pub mod ModelLaws
 pub mod Names
 pub mod OpeningTests
 pub mod OpeningLaws
-pub mod TextLaws
 pub mod Accepted
+pub mod AcceptedOpenings
+pub mod TextLaws
 pub mod Safe
 pub mod Tested

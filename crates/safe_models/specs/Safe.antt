@@ -1,5 +1,5 @@
 -- Texts that the program accepts are never stuck.
-use Rattle.std.specs.Prelude.{◌≡◌, ◌<◌, ◌≤◌, ℕ, Bool, List, Option}
+use Rattle.std.specs.Prelude.{◌≡◌, ◌<◌, ◌≤◌, ℕ, List, Option}
 use Rattle.sail_types.specs.Numbers.{Positive}
 use Rattle.sail_syntax.specs.declared.definitions.Def.{Def}
 use Rattle.scattered.specs.Gathered.{gathered}
@@ -14,7 +14,7 @@ use Rattle.shape_meanings.specs.Models.{CoreMeansText, register_shapes}
 use Rattle.constraint_gen.specs.Obligations.{obligations}
 use Rattle.checked_meaning.specs.Checked.{Checks}
 use Rattle.goal_laws.specs.Goals.{AllHold}
-use Rattle.soundness_steps.specs.Works.{Work}
+use Rattle.soundness_steps.specs.Works.{Coverage}
 use Rattle.text_progress.specs.Laws.{core_of}
 use Rattle.sail_top.specs.Checked.{no_cycle}
 use Rattle.sail_top.specs.Models.{AreAccepted}
@@ -22,7 +22,6 @@ use Rattle.sail_top.specs.declared.models.Accepted.{Accepted}
 use Rattle.accepted_models.specs.Starts.{HaveZeros}
 use Rattle.whole_runs.specs.Runs.{AreThere, Parts, RunGoes}
 use Rattle.whole_runs.specs.Safe.{CoversThroughout, IsFit, core_parts}
-use Rattle.safe_models.specs.TextLaws.{ModelTested}
 
 -- the parts of a text's runs, by its own meaning
 abbrev pub text_parts : Text → Parts
@@ -61,11 +60,10 @@ RunsSafely text cycle past count =
     (entry : ℕ) (schedule : List ℕ) → AreThere count schedule → (state : RunState) → IsFit (core_of text cycle) past count state
     → RunGoes (text_parts (meant_of text cycle)) (IsFit (core_of text cycle) past count) count entry schedule state
 
--- where instances cover what is read of the core, and the core passes its tests
+-- where instances cover what is read of the core
 abbrev pub RunsIfCovered : List Def → Cycles → Type 0
-RunsIfCovered text cycle = (past : Positive) (covered : Work → Bool) (k : Checks) (rank : ℕ → ℕ) (count : ℕ) → 0 < count → count ≤ 8
-    → CoversThroughout (core_of text cycle) past covered k rank count → ModelTested (core_of text cycle)
-    → RunsSafely text cycle past count
+RunsIfCovered text cycle = (past : Positive) (covered : Coverage) (k : Checks) (rank : ℕ → ℕ) (count : ℕ) → 0 < count → count ≤ 8
+    → CoversThroughout (core_of text cycle) past covered k rank count → RunsSafely text cycle past count
 
 -- whatever the numbers of its cycles of calls, where the obligations of the core hold
 abbrev pub AcceptedCoresRunSafely : Type 0

@@ -1,8 +1,7 @@
-//! Texts that the program accepts run safely: no part of a run is stuck where their cores pass tests; and what of these tests their texts give.
+//! Texts that the program accepts run safely: no part of a run is stuck where instances cover their cores; all else that is asked of these is proved.
 #![tactic(auto)]
 
 mod accepted_laws;
-mod apart_laws;
 mod core_laws;
 mod model_laws;
 mod opening_laws;
@@ -10,8 +9,7 @@ mod safe_laws;
 mod tested_laws;
 mod text_laws;
 
-pub use accepted_laws::{accepted_texts_fit, patterns_of_texts_pass};
-pub use apart_laws::openings_find_the_same;
+pub use accepted_laws::{accepted_openings_fit, accepted_texts_fit, patterns_of_texts_pass};
 pub use core_laws::{clauses_stand, values_stand, ways_stand};
 pub use model_laws::tested_models_stand;
 pub use opening_laws::tested_openings_stand;

@@ -19,9 +19,8 @@ pub fn texts_run_safely()
     ensures { TextsRunSafely }
 {}
 
-/// Texts that the program accepts are never stuck, where the obligations of their cores hold, instances cover the rest and cores pass their tests: not
-/// in their top-level lets and initial values, not in `reset` of a hart, and in no event of any schedule; and registers belong to their types behind
-/// each.
+/// Texts that the program accepts are never stuck, where the obligations of their cores hold and instances cover the rest: not in their top-level lets
+/// and initial values, not in `reset` of a hart, and in no event of any schedule; and registers belong to their types behind each.
 pub fn accepted_cores_run_safely()
     ensures { AcceptedCoresRunSafely }
 {

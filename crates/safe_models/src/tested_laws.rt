@@ -1,4 +1,4 @@
-//! Texts that the program accepts run safely where their lists of instances and their cores are tested. Laws alone.
+//! Texts that the program accepts run safely where their lists of instances are tested. Laws alone.
 //!
 //! `specs/Tested` says what is tested, and that then nothing of a run is stuck.
 ghost use Rattle.safe_models.specs.Tested.{TestedListsCover, TestedModelsRunSafely};
@@ -13,7 +13,7 @@ pub fn tested_lists_cover()
     models_are_read();
 }
 
-/// Texts that the program accepts are never stuck, where their lists of instances and their cores are tested.
+/// Texts that the program accepts are never stuck, where their lists of instances are tested.
 pub fn tested_models_run_safely()
     ensures { TestedModelsRunSafely }
 {

@@ -197,6 +197,39 @@ register I : range(0, 9)
 % check M
 # { var i : range(0, 9) = 3; let b = 0x12[i]; true }
 # 1 M20 1:4:58 i = 8
+% check M // what is known of a base that a call gives comes into force behind the new value of its part, where it is written
+register xs : bits(4)
+val get : forall 'n. int('n) -> {'m, 'm == 8 & 0 <= 'n. bits('m)}
+function get(n) = { if n < 0 then exit(); 0x12 }
+val set : (int, bits(8)) -> unit
+function set(n, v) = ()
+overload acc = { get, set }
+val f : range(-1, 3) -> unit
+function f(n) = acc(n)[0] = xs[n]
+# true
+# 1 M20 1:8:31 n = -1
+% check M
+register xs : bits(4)
+val get : forall 'n. int('n) -> {'m, 'm == 8 & 0 <= 'n. bits('m)}
+function get(n) = { if n < 0 then exit(); 0x12 }
+val set : (int, bits(8)) -> unit
+function set(n, v) = ()
+overload acc = { get, set }
+val f : range(-1, 3) -> unit
+function f(n) = acc(n)[7] = xs[0]
+# true
+# 0 accepted 5 functions 4 obligations
+% check M // what reads a base is owed of its arguments by itself, though the types of what writes are wanted of them
+register v : vector(4, bits(8))
+val get : range(0, 3) -> bits(8)
+function get(i) = v[i]
+val set : (range(0, 7), bits(8)) -> unit
+function set(i, x) = ()
+overload acc = { get, set }
+val f : bool -> unit
+function f(b) = acc(if b then 5 else 2)[0] = bitone
+# true
+# 1 M20 1:8:17 #1 = 4
 % check M // what is known of a value opened on the right of `&` ends there, though the condition that names it stays
 register I : range(0, 9)
 val g : unit -> range(0, 7)

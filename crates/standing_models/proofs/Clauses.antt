@@ -13,7 +13,6 @@ use Rattle.sail_syntax.specs.declared.expressions.Exp.{Exp}
 use Rattle.sail_syntax.specs.declared.types.TyExp.{TyExp}
 use Rattle.sail_kinds.specs.Scopes.{Within}
 use Rattle.core_numbers.specs.Numbers.{numbered}
-use Rattle.shape_joins.proofs.Order.{no}
 use Rattle.shape_rules.specs.Calls.{Elaborate}
 use Rattle.shape_rules.specs.Expressions.{part}
 use Rattle.shape_rules.specs.Patterns.{Piece, each_looked, look, no_widths}
@@ -31,10 +30,10 @@ use Rattle.standing_cores.specs.Types.{types_read}
 use Rattle.standing_cores.proofs.Forms.{MaybeFine, cast_body, typed_fine}
 use Rattle.standing_cores.proofs.Found.{found_stand}
 use Rattle.standing_cores.proofs.Steps.{guarded_body}
-use Rattle.standing_models.specs.Laws.{AreBodies, ClausesPlaced, SomePlaced}
-use Rattle.standing_models.specs.Reads.{clause_reads, clauses_read, crossing_reads, crossings_read, each_clause_reads, expression_reads, pair_reads}
+use Rattle.standing_models.specs.Laws.{AreBodies, ClausesPlaced}
+use Rattle.standing_models.specs.Reads.{clause_reads, crossing_reads, crossings_read, each_clause_reads, expression_reads, pair_reads}
 use Rattle.standing_models.specs.Reads.{result_reads, side_reads}
-use Rattle.standing_models.proofs.Numbered.{clauses_placed, some_placed}
+use Rattle.standing_models.proofs.Numbered.{clauses_placed}
 use Rattle.standing_models.proofs.Sides.{sides_stand}
 
 not_empty : {A : Type 0} (x : A) (xs : List A) → (x ∷ xs) ≡ [] → ⊥
@@ -74,17 +73,16 @@ function_bodies setting params answer (c ∷ cs) h f =
     )
 
 pub function_placed : (setting : Setting) (params : List Shape) (answer : Shape) (place : Place) (cs : List FunctionClause) (n : ℕ)
-    → clauses_read setting.within cs ≡ true → clauses_faults (function_clauses setting params answer cs) ≡ []
-    → SomePlaced (numbered (clauses_core place (function_clauses setting params answer cs)) n).it
-function_placed setting params answer place [] n h f = no h
-function_placed setting params answer place (c ∷ cs) n h f =
-    some_placed place (function_clause setting params answer c).arm (clauses_arms (function_clauses setting params answer cs))
-    (clauses_bodies (function_clauses setting params answer (c ∷ cs))) n (function_bodies setting params answer (c ∷ cs) h f)
+    → each_clause_reads setting.within cs ≡ true → clauses_faults (function_clauses setting params answer cs) ≡ []
+    → ClausesPlaced (numbered (clauses_core place (function_clauses setting params answer cs)) n).it
+function_placed setting params answer place cs n h f =
+    clauses_placed place (clauses_arms (function_clauses setting params answer cs)) (clauses_bodies (function_clauses setting params answer cs)) n
+    (function_bodies setting params answer cs h f)
 
 pub measure_placed : (setting : Setting) (params : List Shape) (m : Measure) (n : ℕ) → types_read setting.within m.value ≡ true
-    → (measure_clause setting m.place params m.parameters m.value).faults ≡ [] → SomePlaced (numbered (measure_tree setting params m) n).it
+    → (measure_clause setting m.place params m.parameters m.value).faults ≡ [] → ClausesPlaced (numbered (measure_tree setting params m) n).it
 measure_placed setting params m n h f =
-    some_placed m.place (measure_clause setting m.place params m.parameters m.value).arm []
+    clauses_placed m.place ((measure_clause setting m.place params m.parameters m.value).arm ∷ [])
     (clauses_bodies (measure_clause setting m.place params m.parameters m.value ∷ [])) n (
       clause_body setting.within (body_part None (part m.value)) (body_stands setting.within None m.value h refl) (plainly setting) refl m.place params
           (parameter_pieces m.place params m.parameters) (part m.value).place V.Int f,

@@ -7,6 +7,8 @@ use Rattle.sail_types.specs.declared.numbers.Index.{Index}
 use Rattle.sail_types.specs.declared.shapes.Shape.{Shape}
 use Rattle.sail_syntax.specs.declared.name.Literal.{Literal}
 use Rattle.sail_syntax.specs.declared.name.Literal.TheVariants as N
+use Rattle.sail_syntax.specs.declared.words.Brackets.{Brackets}
+use Rattle.sail_syntax.specs.declared.words.Brackets.TheVariants as B
 use Rattle.sail_core.specs.declared.patterns.Literal.TheVariants as L
 use Rattle.sail_core.specs.declared.patterns.Pattern.{Pattern}
 use Rattle.sail_core.specs.declared.tree.Core.{Core, fold-roll-Core}
@@ -14,14 +16,24 @@ use Rattle.sail_core.specs.declared.tree.Kind.{Kind}
 use Rattle.sail_core.specs.declared.tree.Kind.TheVariants as K
 use Rattle.pattern_leaves.specs.Settings.{Around}
 use Rattle.shape_joins.specs.Joins.{join}
-use Rattle.shape_joins.proofs.Order.{two}
+use Rattle.shape_joins.proofs.Order.{no, two}
 use Rattle.shape_rules.specs.declared.error.ShapeError.TheVariants as error
 use Rattle.shape_rules.specs.Calls.{counted}
 use Rattle.shape_rules.specs.Findings.{Found, cast, missing, over, refused, settled, settled_as}
 use Rattle.shape_rules.specs.Patterns.{core_literal}
 use Rattle.shape_rules.specs.Values.{constant_found}
+use Rattle.shape_meanings.specs.Trees.{group_written, literal_written}
+use Rattle.shape_meanings.specs.Whole.{all_of}
 use Rattle.soundness_forms.specs.Standing.{literal_right}
-use Rattle.standing_models.specs.Tests.{kind_fits, literal_limited, node_passes, passes}
+use Rattle.standing_models.specs.Tests.{kind_fits, node_passes, passes}
+
+-- what is in brackets is as the grammar has it, where a group is
+pub group_all : (brackets : Brackets) (bs : List Bool) → group_written brackets bs ≡ true → all_of bs ≡ true
+group_all B.Tuple [] h = h
+group_all B.Tuple (b ∷ []) h = no h
+group_all B.Tuple (b ∷ c ∷ bs) h = h
+group_all B.Vector bs h = h
+group_all B.List bs h = h
 
 module _ (around : Around) (numbers : List Index) (fits : Pattern → Bool) where
   -- ---- cores
@@ -74,14 +86,14 @@ module _ (around : Around) (numbers : List Index) (fits : Pattern → Bool) wher
 
   -- ---- literals
 
-  pub literal_fits : (literal : Literal) → literal_limited literal ≡ true → literal_right around.types (core_literal literal) ≡ true
+  pub literal_fits : (literal : Literal) → literal_written literal ≡ true → literal_right around.types (core_literal literal) ≡ true
   literal_fits (N.Number z) h = h
   literal_fits (N.Bits bits) h = h
   literal_fits (N.String text) h = refl
   literal_fits (N.Bool b) h = refl
   literal_fits (N.Bit b) h = refl
 
-  pub constant_passes : (place : Place) (literal : Literal) (want : Shape) → literal_limited literal ≡ true
+  pub constant_passes : (place : Place) (literal : Literal) (want : Shape) → literal_written literal ≡ true
       → Passes (constant_found place literal want).core
   constant_passes place literal want h =
       settled_passes place want _ _ (λ s. over_passes place (K.Constant (core_literal literal)) []

@@ -43,7 +43,7 @@ use Rattle.standing_cores.specs.Places.{places}
 use Rattle.standing_cores.specs.Types.{types_read}
 use Rattle.standing_cores.proofs.Forms.{bound_of, cast_bound}
 use Rattle.standing_cores.proofs.Found.{found_stand}
-use Rattle.standing_models.specs.Laws.{AllDirections, AllFunctions, AllOpenings, FunctionPlaced, ModelsStand, SomePlaced}
+use Rattle.standing_models.specs.Laws.{AllDirections, AllFunctions, AllOpenings, ClausesPlaced, FunctionPlaced, ModelsStand}
 use Rattle.standing_models.specs.Reads.{called_reads, crossings_read, definition_reads, expression_reads, measure_reads, text_reads}
 use Rattle.standing_models.proofs.Clauses.{backwards_placed, forwards_placed, function_placed, measure_placed}
 use Rattle.standing_models.proofs.Numbered.{places_numbered}
@@ -94,11 +94,11 @@ module _ (tabled : Tabled) (text : List Def) (own : Own) (lets : List Local) whe
 
   measures_placed : (name : List ℕ) (s : Signature) (n : ℕ) → tabled.signature name ≡ Some s → (o : Option Found.Measure) → measure_of name text ≡ o
       → faults text ≡ [] → text_reads tabled text ≡ true → (core : Core) → (measure_core (setting s.variables) (param_shapes s.from) o n).it ≡ Some core
-      → SomePlaced core
+      → ClausesPlaced core
   measures_placed name s n signed None is e r core there = none there
   measures_placed name s n signed (Some m) is e r core there =
       let good = subst (λ (t : Option Signature). IsGood t m) signed (measure_good name text m e r is) in
-      subst SomePlaced (some_same (numbered (Found.measure_tree (setting s.variables) (param_shapes s.from) m) n).it core there)
+      subst ClausesPlaced (some_same (numbered (Found.measure_tree (setting s.variables) (param_shapes s.from) m) n).it core there)
       (measure_placed (setting s.variables) (param_shapes s.from) m n good.1 good.0)
 
   -- ---- functions

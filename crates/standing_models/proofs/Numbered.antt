@@ -10,7 +10,7 @@ use Rattle.core_numbers.specs.Numbers.{Numbered, Numbering, core_with, each_numb
 use Rattle.shape_clauses.specs.Clauses.{core_of}
 use Rattle.soundness_forms.specs.Standing.{Standing, is_body, is_cast, is_guard, parts_right}
 use Rattle.standing_cores.specs.Places.{node_places, places}
-use Rattle.standing_models.specs.Laws.{AreBodies, ClausesPlaced, SomePlaced}
+use Rattle.standing_models.specs.Laws.{AreBodies, ClausesPlaced}
 
 abbrev as_placed : Kind → List Standing → Standing
 as_placed kind ss = record { cast = is_cast kind; guard = is_guard kind; right = parts_right kind ss }
@@ -71,13 +71,4 @@ clauses_placed place arms bodies n h = record {
   arms = arms;
   kind = ap (λ (c : Core-F Core). c.kind) (out_clauses place arms bodies n);
   bodies = placed_bodies place arms bodies n h;
-}
-
-pub some_placed : (place : Place) (first : Arm) (others : List Arm) (bodies : List Core) (n : ℕ) → AreBodies bodies
-    → SomePlaced (numbered (core_of place (first ∷ others) bodies) n).it
-some_placed place first others bodies n h = record {
-  first = first;
-  others = others;
-  kind = ap (λ (c : Core-F Core). c.kind) (out_clauses place (first ∷ others) bodies n);
-  bodies = placed_bodies place (first ∷ others) bodies n h;
 }

@@ -1,5 +1,5 @@
 -- Clauses of functions, of measures and of mappings: their patterns stand and their bodies pass the tests of nodes.
-use Rattle.std.proofs.Common.{◌≡◌, ℕ, suc, nat_eq, Bool, true, false, if◌then◌else◌, List, [], ◌∷◌, ◌++◌, map, length, ap, ◌∙◌, refl, sym, subst}
+use Rattle.std.proofs.Common.{◌≡◌, ◌&&◌, ℕ, suc, nat_eq, Bool, true, false, if◌then◌else◌, List, [], ◌∷◌, ◌++◌, map, length, ap, ◌∙◌, refl, sym, subst}
 use Rattle.std.proofs.Common.{Option, Some, None, option_map}
 use Rattle.std.proofs.lemmas.Bool.{and_parts}
 use Rattle.sail_base.specs.declared.place.Place.{Place}
@@ -46,9 +46,11 @@ use Rattle.shape_clauses.specs.Clauses.{Claused, body_part, clause_of, clause_un
 use Rattle.shape_clauses.specs.Clauses.{is_one_unit, miscounted, parameter_pieces}
 use Rattle.shape_clauses.specs.Functions.{Measure, function_clause, function_clauses, measure_clause, measure_tree}
 use Rattle.shape_clauses.specs.Mappings.{backwards_clauses, direction_clause, forwards_clauses, guard_part}
-use Rattle.standing_cores.specs.Types.{every}
+use Rattle.shape_meanings.specs.Whole.{all_of}
+use Rattle.shape_meanings.specs.Trees.{pattern_written, side_written, written}
+use Rattle.body_meanings.specs.Directions.{both_ways_written, guard_written}
 use Rattle.standing_models.specs.Tests.{arm_tested, arms_tested}
-use Rattle.standing_models.specs.Tests.{Fits, Tested, clause_limited, crossing_limited, guard_limited, limited, passes, pattern_limited, side_limited}
+use Rattle.standing_models.specs.Tests.{Fits, Tested}
 use Rattle.standing_models.proofs.CorePasses.{AllPass, Passes, cast_passes}
 use Rattle.standing_models.proofs.Passing.{MaybeIs, not_empty, typed_passes}
 use Rattle.standing_models.proofs.PassingFound.{found_passes}
@@ -65,6 +67,13 @@ EachNamed names (c ∷ cs) = (function_clause_failures names c ≡ []) × EachNa
 abbrev pub EachCrossed : Tables.Setting → List MappingClause → Type 0
 EachCrossed names [] = Unit {0}
 EachCrossed names (c ∷ cs) = (mapping_clause_failures names c ≡ []) × EachCrossed names cs
+
+-- a clause as the grammar has it, and one of a mapping
+abbrev pub clause_written : FunctionClause → Bool
+clause_written c = all_of (map pattern_written c.parameters) && written c.body
+
+abbrev pub crossing_written : MappingClause → Bool
+crossing_written c = both_ways_written c.left && both_ways_written c.right
 
 module _ (around : Around) (numbers : List Index) (fits : Pattern → Bool) where
   abbrev Stands : Pattern → Type 0
@@ -133,15 +142,15 @@ module _ (around : Around) (numbers : List Index) (fits : Pattern → Bool) wher
       two (fits one.pattern) _ (h.0 s f.0) (each_piece setting ps h.1 ss f.1)
 
   module _ (setting : Setting) (names : Tables.Setting) (fit : Fits around numbers fits setting names) where
-    parameters_are : (ps : List Pat) → every (map pattern_limited ps) ≡ true → all_failures (map (uses_failures names) ps) ≡ []
+    parameters_are : (ps : List Pat) → all_of (map pattern_written ps) ≡ true → all_failures (map (uses_failures names) ps) ≡ []
         → PiecesAre setting (map piece ps)
     parameters_are [] q u = tt
     parameters_are (p ∷ ps) q u =
-        let k = and_parts (pattern_limited p) (every (map pattern_limited ps)) q in
+        let k = and_parts (pattern_written p) (all_of (map pattern_written ps)) q in
         let h = both_empty (uses_failures names p) (all_failures (map (uses_failures names) ps)) u in
         (λ subject e. fit.patterns p subject h.0 k.0 e, parameters_are ps k.1 h.1)
 
-    pieces_are : (place : Place) (params : List Shape) (ps : List Pat) → every (map pattern_limited ps) ≡ true → parameters_failures names ps ≡ []
+    pieces_are : (place : Place) (params : List Shape) (ps : List Pat) → all_of (map pattern_written ps) ≡ true → parameters_failures names ps ≡ []
         → PiecesAre setting (parameter_pieces place params ps)
     pieces_are place params ps q u = by (is_one_unit params ps)
       where
@@ -169,7 +178,7 @@ module _ (around : Around) (numbers : List Index) (fits : Pattern → Bool) wher
             record { arm = each_piece setting pieces are params g.0; body = cast_passes around numbers fits body.core at_body (h inner want g.1) }
         by false f = not_empty f
 
-    body_passes : (typ : Option TyExp) (e : Exp) → limited e ≡ true → (bound : Bound.Locals) → expression_failures e names bound ≡ []
+    body_passes : (typ : Option TyExp) (e : Exp) → written e ≡ true → (bound : Bound.Locals) → expression_failures e names bound ≡ []
         → Tested around numbers fits setting (body_part typ (part e))
     body_passes None e q bound u = found_passes around numbers fits e q names bound u setting fit
     body_passes (Some typ) e q bound u =
@@ -179,10 +188,10 @@ module _ (around : Around) (numbers : List Index) (fits : Pattern → Bool) wher
 
   module _ (setting : Setting) (params : List Shape) (answer : Shape) (names : Tables.Setting)
       (fit : Fits around numbers fits (answering (Some answer) setting) names) where
-    function_passes : (c : FunctionClause) → clause_limited c ≡ true → function_clause_failures names c ≡ []
+    function_passes : (c : FunctionClause) → clause_written c ≡ true → function_clause_failures names c ≡ []
         → (function_clause setting params answer c).faults ≡ [] → ClausePasses (function_clause setting params answer c)
     function_passes c q u f =
-        let k = and_parts (every (map pattern_limited c.parameters)) (limited c.body) q in
+        let k = and_parts (all_of (map pattern_written c.parameters)) (written c.body) q in
         let bound = behind_parameters names c.parameters [] in
         let h = both_empty (parameters_failures names c.parameters ++ maybe_type c.result names) (expression_failures c.body names bound) u in
         let h2 = both_empty (parameters_failures names c.parameters) (maybe_type c.result names) h.0 in
@@ -191,21 +200,21 @@ module _ (around : Around) (numbers : List Index) (fits : Pattern → Bool) wher
         (parameter_pieces c.place params c.parameters)
         (pieces_are (answering (Some answer) setting) names fit c.place params c.parameters k.0 h2.0) (part c.body).place answer f
 
-    functions_pass : (cs : List FunctionClause) → every (map clause_limited cs) ≡ true → EachNamed names cs
+    functions_pass : (cs : List FunctionClause) → all_of (map clause_written cs) ≡ true → EachNamed names cs
         → clauses_faults (function_clauses setting params answer cs) ≡ [] → EachClause (function_clauses setting params answer cs)
     functions_pass [] q u f = tt
     functions_pass (c ∷ cs) q u f =
-        let k = and_parts (clause_limited c) (every (map clause_limited cs)) q in
+        let k = and_parts (clause_written c) (all_of (map clause_written cs)) q in
         let g = both_empty (function_clause setting params answer c).faults (clauses_faults (function_clauses setting params answer cs)) f in
         (function_passes c k.0 u.0 g.0, functions_pass cs k.1 u.1 g.1)
 
-    pub body_clauses : (place : Place) (cs : List FunctionClause) (n : ℕ) → every (map clause_limited cs) ≡ true → EachNamed names cs
+    pub body_clauses : (place : Place) (cs : List FunctionClause) (n : ℕ) → all_of (map clause_written cs) ≡ true → EachNamed names cs
         → clauses_faults (function_clauses setting params answer cs) ≡ []
         → ClausesPass (numbered (clauses_core place (function_clauses setting params answer cs)) n).it
     body_clauses place cs n q u f = clauses_pass place (function_clauses setting params answer cs) n (functions_pass cs q u f)
 
   pub measure_clauses : (setting : Setting) (params : List Shape) (names : Tables.Setting) → Fits around numbers fits (plainly setting) names
-      → (m : Measure) (n : ℕ) → every (map pattern_limited m.parameters) ≡ true → limited m.value ≡ true → parameters_failures names m.parameters ≡ []
+      → (m : Measure) (n : ℕ) → all_of (map pattern_written m.parameters) ≡ true → written m.value ≡ true → parameters_failures names m.parameters ≡ []
       → expression_failures m.value names (behind_parameters names m.parameters []) ≡ []
       → (measure_clause setting m.place params m.parameters m.value).faults ≡ [] → ClausesPass (numbered (measure_tree setting params m) n).it
   measure_clauses setting params names fit m n q k u v f =
@@ -222,15 +231,16 @@ module _ (around : Around) (numbers : List Index) (fits : Pattern → Bool) wher
   module _ (setting : Setting) (names : Tables.Setting) (fit : Fits around numbers fits (answering None setting) names)
       (right : Typ → Bool)
       (sides : (from to : Pat) (from_typ to_typ : Typ) → right to_typ ≡ true → uses_failures names from ≡ [] → uses_failures names to ≡ []
-      → pattern_limited from ≡ true → pattern_limited to ≡ true → (look from setting (width_given (gives to setting (Some to_typ))) (shape from_typ)).faults ≡ []
+      → pattern_written from ≡ true → pattern_written to ≡ true
+      → (look from setting (width_given (gives to setting (Some to_typ))) (shape from_typ)).faults ≡ []
       → Stands (look from setting (width_given (gives to setting (Some to_typ))) (shape from_typ)).pattern) where
-    guard_is : (guard : Option Exp) → guard_limited guard ≡ true → (bound : Bound.Locals)
+    guard_is : (guard : Option Exp) → guard_written guard ≡ true → (bound : Bound.Locals)
         → maybe_failures (option_map expression_failures guard) names bound ≡ []
         → MaybeIs around numbers fits (answering None setting) names fit (guard_part guard)
     guard_is None q bound u = tt
     guard_is (Some e) q bound u = found_passes around numbers fits e q names bound u (answering None setting) fit
 
-    direction_passes : (from to : Side) (from_typ to_typ : Typ) → right to_typ ≡ true → side_limited from ≡ true → side_limited to ≡ true
+    direction_passes : (from to : Side) (from_typ to_typ : Typ) → right to_typ ≡ true → both_ways_written from ≡ true → both_ways_written to ≡ true
         → side_failures names from ≡ []
         → side_failures names to ≡ [] → (direction_clause setting from from_typ to to_typ).faults ≡ []
         → ClausePasses (direction_clause setting from from_typ to to_typ)
@@ -242,8 +252,10 @@ module _ (around : Around) (numbers : List Index) (fits : Pattern → Bool) wher
         let given : Found = (read_side to.pattern).elaborate s locals (shape to_typ) in
         let f1 = both_empty (p.faults ++ own) given.faults f in
         let f2 = both_empty p.faults own f1.0 in
-        let q1 = and_parts (pattern_limited from.pattern) (guard_limited from.guard) q in
-        let k1 = and_parts (pattern_limited to.pattern) (guard_limited to.guard) k in
+        let q0 = and_parts (pattern_written from.pattern && guard_written from.guard) (side_written from.pattern) q in
+        let q1 = and_parts (pattern_written from.pattern) (guard_written from.guard) q0.0 in
+        let k0 = and_parts (pattern_written to.pattern && guard_written to.guard) (side_written to.pattern) k in
+        let k1 = and_parts (pattern_written to.pattern) (guard_written to.guard) k0.0 in
         let bound = behind (binds names.known from.pattern) [] in
         let u1 = both_empty (pattern_failures names from.pattern) (maybe_failures (option_map expression_failures from.guard) names bound) u in
         let u2 = both_empty (uses_failures names from.pattern) (clashes (binds names.known from.pattern)) u1.0 in
@@ -266,32 +278,32 @@ module _ (around : Around) (numbers : List Index) (fits : Pattern → Bool) wher
         let b = both_empty (side_failures names c.left ++ one) (side_failures names c.right) a.0 in
         ((both_empty (side_failures names c.left) one b.0).0, b.1)
 
-    forwards_pass : (m : Mapping) (cs : List MappingClause) → right m.right ≡ true → every (map crossing_limited cs) ≡ true → EachCrossed names cs
+    forwards_pass : (m : Mapping) (cs : List MappingClause) → right m.right ≡ true → all_of (map crossing_written cs) ≡ true → EachCrossed names cs
         → clauses_faults (forwards_clauses setting m cs) ≡ [] → EachClause (forwards_clauses setting m cs)
     forwards_pass m [] of_typ q u f = tt
     forwards_pass m (c ∷ cs) of_typ q u f =
-        let k = and_parts (crossing_limited c) (every (map crossing_limited cs)) q in
-        let l = and_parts (side_limited c.left) (side_limited c.right) k.0 in
+        let k = and_parts (crossing_written c) (all_of (map crossing_written cs)) q in
+        let l = and_parts (both_ways_written c.left) (both_ways_written c.right) k.0 in
         let g = both_empty (direction_clause setting c.left m.left c.right m.right).faults (clauses_faults (forwards_clauses setting m cs)) f in
         let s = both_sides c u.0 in
         (direction_passes c.left c.right m.left m.right of_typ l.0 l.1 s.0 s.1 g.0, forwards_pass m cs of_typ k.1 u.1 g.1)
 
-    backwards_pass : (m : Mapping) (cs : List MappingClause) → right m.left ≡ true → every (map crossing_limited cs) ≡ true → EachCrossed names cs
+    backwards_pass : (m : Mapping) (cs : List MappingClause) → right m.left ≡ true → all_of (map crossing_written cs) ≡ true → EachCrossed names cs
         → clauses_faults (backwards_clauses setting m cs) ≡ [] → EachClause (backwards_clauses setting m cs)
     backwards_pass m [] of_typ q u f = tt
     backwards_pass m (c ∷ cs) of_typ q u f =
-        let k = and_parts (crossing_limited c) (every (map crossing_limited cs)) q in
-        let l = and_parts (side_limited c.left) (side_limited c.right) k.0 in
+        let k = and_parts (crossing_written c) (all_of (map crossing_written cs)) q in
+        let l = and_parts (both_ways_written c.left) (both_ways_written c.right) k.0 in
         let g = both_empty (direction_clause setting c.right m.right c.left m.left).faults (clauses_faults (backwards_clauses setting m cs)) f in
         let s = both_sides c u.0 in
         (direction_passes c.right c.left m.right m.left of_typ l.1 l.0 s.1 s.0 g.0, backwards_pass m cs of_typ k.1 u.1 g.1)
 
-    pub ahead_clauses : (place : Place) (m : Mapping) (cs : List MappingClause) (n : ℕ) → right m.right ≡ true → every (map crossing_limited cs) ≡ true
+    pub ahead_clauses : (place : Place) (m : Mapping) (cs : List MappingClause) (n : ℕ) → right m.right ≡ true → all_of (map crossing_written cs) ≡ true
         → EachCrossed names cs
         → clauses_faults (forwards_clauses setting m cs) ≡ [] → ClausesPass (numbered (clauses_core place (forwards_clauses setting m cs)) n).it
     ahead_clauses place m cs n of_typ q u f = clauses_pass place (forwards_clauses setting m cs) n (forwards_pass m cs of_typ q u f)
 
-    pub back_clauses : (place : Place) (m : Mapping) (cs : List MappingClause) (n : ℕ) → right m.left ≡ true → every (map crossing_limited cs) ≡ true
+    pub back_clauses : (place : Place) (m : Mapping) (cs : List MappingClause) (n : ℕ) → right m.left ≡ true → all_of (map crossing_written cs) ≡ true
         → EachCrossed names cs
         → clauses_faults (backwards_clauses setting m cs) ≡ [] → ClausesPass (numbered (clauses_core place (backwards_clauses setting m cs)) n).it
     back_clauses place m cs n of_typ q u f = clauses_pass place (backwards_clauses setting m cs) n (backwards_pass m cs of_typ q u f)

@@ -30,15 +30,18 @@ use Rattle.shape_rules.specs.Scopes.{Setting, local_of, plainly}
 use Rattle.shape_rules.specs.Targets.{elaborations, read_aimed}
 use Rattle.shape_rules.specs.Values.{FieldPart, last_place}
 use Rattle.shape_meanings.specs.Naming.{AreKnown}
+use Rattle.shape_meanings.specs.Whole.{all_of}
+use Rattle.shape_meanings.specs.Trees.{is_part, pattern_written, written}
 use Rattle.shape_meanings.proofs.Folds.{failed_case, failed_exp, failed_field, failed_index, failed_lexp, failed_range, failed_stmt, failed_suffix}
 use Rattle.shape_meanings.proofs.Folds.{failed_target, found_case, found_exp, found_field, found_index, found_lexp, found_range, found_stmt, found_suffix}
 use Rattle.shape_meanings.proofs.Folds.{found_target}
 use Rattle.shape_meanings.proofs.Ready.{plain_ready}
 use Rattle.shape_meanings.proofs.Settling.{both_empty}
 use Rattle.shape_meanings.proofs.TargetNames.{names_apart}
-use Rattle.standing_cores.specs.Types.{every}
-use Rattle.standing_models.specs.Tests.{Fits, Tested, limited, pattern_limited}
-use Rattle.standing_models.proofs.CorePasses.{constant_passes}
+use Rattle.shape_meanings.proofs.Folds.{written_case, written_exp, written_field, written_index}
+use Rattle.shape_meanings.proofs.Folds.{written_lexp, written_range, written_stmt, written_suffix, written_target}
+use Rattle.standing_models.specs.Tests.{Fits, Tested}
+use Rattle.standing_models.proofs.CorePasses.{constant_passes, group_all}
 use Rattle.standing_models.proofs.Passing.{PartsAre, SuffixesAre, each_of, group_passes, index_passes, infix_passes, name_passes}
 use Rattle.standing_models.proofs.Passing.{named_passes, not_empty, part_passes, prefix_passes, typed_passes, update_passes}
 use Rattle.standing_models.proofs.PassingSteps.{CasesAre, FieldsAre, FurthersAre, StatementsAre, TargetsAre, assert_passes, assign_passes}
@@ -48,8 +51,8 @@ use Rattle.standing_models.proofs.PassingSteps.{struct_passes, try_passes, var_p
 use Rattle.standing_models.proofs.PassingTrees.{CaseForm, ExpForm, IndexForm, LExpForm, OfCase, OfExp, OfFieldValue, OfIndex, OfLExp, OfRange, OfStmt}
 use Rattle.standing_models.proofs.PassingTrees.{OfSuffix, OfTarget, RangeForm, StmtForm, SuchCase, SuchExp, SuchFieldValue, SuchIndex, SuchLExp, SuchRange}
 use Rattle.standing_models.proofs.PassingTrees.{SuchStmt, SuchSuffix, SuchTarget, SuffixForm, first_Case, first_Exp, first_FieldValue, first_Index, first_LExp}
-use Rattle.standing_models.proofs.PassingTrees.{first_Range, first_Stmt, first_Suffix, first_Target, limits_case, limits_exp, limits_field, limits_index}
-use Rattle.standing_models.proofs.PassingTrees.{limits_lexp, limits_range, limits_stmt, limits_suffix, limits_target, rolled_Case, rolled_Exp}
+use Rattle.standing_models.proofs.PassingTrees.{first_Range, first_Stmt, first_Suffix, first_Target}
+use Rattle.standing_models.proofs.PassingTrees.{rolled_Case, rolled_Exp}
 use Rattle.standing_models.proofs.PassingTrees.{rolled_FieldValue, rolled_Index, rolled_LExp, rolled_Range, rolled_Stmt, rolled_Suffix, rolled_Target}
 
 -- ---- a loop's measure is plain
@@ -82,48 +85,50 @@ module _ (around : Around) (numbers : List Number) (fits : Pattern → Bool) whe
   abbrev exps : List Exps → List Exp
   exps ys = map (λ (p : Exps). p.0) ys
 
-  each_part : (ys : List Exps) → every (map limits_exp (exps ys)) ≡ true → (names : Tables.Setting) (bound : Bound.Locals)
+  each_part : (ys : List Exps) → all_of (map written_exp (exps ys)) ≡ true → (names : Tables.Setting) (bound : Bound.Locals)
       → Uses.each (map failed_exp (exps ys)) names bound ≡ [] → (setting : Setting) (fit : Fits around numbers fits setting names)
       → PartsAre around numbers fits setting names fit (map found_exp (exps ys))
   each_part [] q names bound u setting fit = tt
   each_part (y ∷ ys) q names bound u setting fit =
-      let p = and_parts (limits_exp y.0) (every (map limits_exp (exps ys))) q in
+      let p = and_parts (written_exp y.0) (all_of (map written_exp (exps ys))) q in
       let h = both_empty (failed_exp y.0 names bound) (Uses.each (map failed_exp (exps ys)) names bound) u in
       (y.1 p.0 names bound h.0 setting fit, each_part ys p.1 names bound h.1 setting fit)
 
   abbrev suffixes : List (SuchSuffix around numbers fits) → List SuffixTree
   suffixes ys = map (λ (p : SuchSuffix around numbers fits). p.0) ys
 
-  each_suffix : (ys : List (SuchSuffix around numbers fits)) → every (map limits_suffix (suffixes ys)) ≡ true → (names : Tables.Setting) (bound : Bound.Locals)
+  each_suffix : (ys : List (SuchSuffix around numbers fits)) → all_of (map written_suffix (suffixes ys)) ≡ true
+      → (names : Tables.Setting) (bound : Bound.Locals)
       → Uses.each (map failed_suffix (suffixes ys)) names bound ≡ [] → (setting : Setting) (fit : Fits around numbers fits setting names)
       → SuffixesAre around numbers fits setting names fit (map found_suffix (suffixes ys))
   each_suffix [] q names bound u setting fit = tt
   each_suffix (y ∷ ys) q names bound u setting fit =
-      let p = and_parts (limits_suffix y.0) (every (map limits_suffix (suffixes ys))) q in
+      let p = and_parts (written_suffix y.0) (all_of (map written_suffix (suffixes ys))) q in
       let h = both_empty (failed_suffix y.0 names bound) (Uses.each (map failed_suffix (suffixes ys)) names bound) u in
       (y.1 p.0 names bound h.0 setting fit, each_suffix ys p.1 names bound h.1 setting fit)
 
   abbrev cases : List (SuchCase around numbers fits) → List CaseTree
   cases ys = map (λ (p : SuchCase around numbers fits). p.0) ys
 
-  each_case : (ys : List (SuchCase around numbers fits)) → every (map limits_case (cases ys)) ≡ true → (names : Tables.Setting) (bound : Bound.Locals)
+  each_case : (ys : List (SuchCase around numbers fits)) → all_of (map written_case (cases ys)) ≡ true → (names : Tables.Setting) (bound : Bound.Locals)
       → Uses.each (map failed_case (cases ys)) names bound ≡ [] → (setting : Setting) (fit : Fits around numbers fits setting names)
       → CasesAre around numbers fits setting names fit (map found_case (cases ys))
   each_case [] q names bound u setting fit = tt
   each_case (y ∷ ys) q names bound u setting fit =
-      let p = and_parts (limits_case y.0) (every (map limits_case (cases ys))) q in
+      let p = and_parts (written_case y.0) (all_of (map written_case (cases ys))) q in
       let h = both_empty (failed_case y.0 names bound) (Uses.each (map failed_case (cases ys)) names bound) u in
       (y.1 p.0 names bound h.0 setting fit, each_case ys p.1 names bound h.1 setting fit)
 
   abbrev fields : List (SuchFieldValue around numbers fits) → List FieldValue
   fields ys = map (λ (p : SuchFieldValue around numbers fits). p.0) ys
 
-  each_field : (ys : List (SuchFieldValue around numbers fits)) → every (map limits_field (fields ys)) ≡ true → (names : Tables.Setting) (bound : Bound.Locals)
+  each_field : (ys : List (SuchFieldValue around numbers fits)) → all_of (map written_field (fields ys)) ≡ true
+      → (names : Tables.Setting) (bound : Bound.Locals)
       → Uses.fields_failures (map failed_field (fields ys)) names bound ≡ [] → (setting : Setting) (fit : Fits around numbers fits setting names)
       → FieldsAre around numbers fits setting names fit (map found_field (fields ys))
   each_field [] q names bound u setting fit = tt
   each_field (y ∷ ys) q names bound u setting fit =
-      let p = and_parts (limits_field y.0) (every (map limits_field (fields ys))) q in
+      let p = and_parts (written_field y.0) (all_of (map written_field (fields ys))) q in
       let field = failed_field y.0 in
       let h = both_empty (Uses.field_failures names field.name ++ field.value names bound)
       (Uses.fields_failures (map failed_field (fields ys)) names bound) u in
@@ -138,36 +143,37 @@ module _ (around : Around) (numbers : List Number) (fits : Pattern → Bool) whe
   abbrev targets : List (SuchLExp around numbers fits) → List LExp
   targets ys = map (λ (p : SuchLExp around numbers fits). p.0) ys
 
-  each_target : (ys : List (SuchLExp around numbers fits)) → every (map limits_lexp (targets ys)) ≡ true → (names : Tables.Setting) (bound : Bound.Locals)
+  each_target : (ys : List (SuchLExp around numbers fits)) → all_of (map written_lexp (targets ys)) ≡ true → (names : Tables.Setting) (bound : Bound.Locals)
       → Uses.each (map failed_lexp (targets ys)) names bound ≡ [] → (setting : Setting) (fit : Fits around numbers fits setting names)
       → TargetsAre around numbers fits setting names fit (map found_lexp (targets ys))
   each_target [] q names bound u setting fit = tt
   each_target (y ∷ ys) q names bound u setting fit =
-      let p = and_parts (limits_lexp y.0) (every (map limits_lexp (targets ys))) q in
+      let p = and_parts (written_lexp y.0) (all_of (map written_lexp (targets ys))) q in
       let h = both_empty (failed_lexp y.0 names bound) (Uses.each (map failed_lexp (targets ys)) names bound) u in
       (y.1 p.0 names bound h.0 setting fit, each_target ys p.1 names bound h.1 setting fit)
 
   abbrev furthers : List (SuchTarget around numbers fits) → List TargetTree
   furthers ys = map (λ (p : SuchTarget around numbers fits). p.0) ys
 
-  each_further : (ys : List (SuchTarget around numbers fits)) → every (map limits_target (furthers ys)) ≡ true → (names : Tables.Setting) (bound : Bound.Locals)
+  each_further : (ys : List (SuchTarget around numbers fits)) → all_of (map written_target (furthers ys)) ≡ true
+      → (names : Tables.Setting) (bound : Bound.Locals)
       → Uses.each (map failed_target (furthers ys)) names bound ≡ [] → (setting : Setting) (fit : Fits around numbers fits setting names)
       → FurthersAre around numbers fits setting names fit (map found_target (furthers ys))
   each_further [] q names bound u setting fit = tt
   each_further (y ∷ ys) q names bound u setting fit =
-      let p = and_parts (limits_target y.0) (every (map limits_target (furthers ys))) q in
+      let p = and_parts (written_target y.0) (all_of (map written_target (furthers ys))) q in
       let h = both_empty (failed_target y.0 names bound) (Uses.each (map failed_target (furthers ys)) names bound) u in
       (y.1 p.0 names bound h.0 setting fit, each_further ys p.1 names bound h.1 setting fit)
 
   abbrev stmts : List (SuchStmt around numbers fits) → List Stmt
   stmts ys = map (λ (p : SuchStmt around numbers fits). p.0) ys
 
-  each_statement : (ys : List (SuchStmt around numbers fits)) → every (map limits_stmt (stmts ys)) ≡ true → (names : Tables.Setting) (bound : Bound.Locals)
+  each_statement : (ys : List (SuchStmt around numbers fits)) → all_of (map written_stmt (stmts ys)) ≡ true → (names : Tables.Setting) (bound : Bound.Locals)
       → (Uses.steps (map failed_stmt (stmts ys)) names bound).failures ≡ [] → (setting : Setting) (fit : Fits around numbers fits setting names)
       → StatementsAre around numbers fits setting names fit (map found_stmt (stmts ys))
   each_statement [] q names bound u setting fit = tt
   each_statement (y ∷ ys) q names bound u setting fit =
-      let p = and_parts (limits_stmt y.0) (every (map limits_stmt (stmts ys))) q in
+      let p = and_parts (written_stmt y.0) (all_of (map written_stmt (stmts ys))) q in
       let step = failed_stmt y.0 names bound in
       let h = both_empty step.failures (Uses.steps (map failed_stmt (stmts ys)) names step.locals).failures u in
       (y.1 p.0 names bound h.0 setting fit, each_statement ys p.1 names step.locals h.1 setting fit)
@@ -186,7 +192,7 @@ module _ (around : Around) (numbers : List Number) (fits : Pattern → Bool) whe
   again (E.Prefixed place prefix a) q names bound u setting fit =
       prefix_passes around numbers fits setting names fit place prefix (found_exp a.0) (a.1 q names bound u setting fit)
   again (E.Infix place operator a b) q names bound u setting fit =
-      let p = and_parts (limits_exp a.0) (limits_exp b.0) q in
+      let p = and_parts (written_exp a.0) (written_exp b.0) q in
       let h = both_empty (failed_exp a.0 names bound) (failed_exp b.0 names bound) u in
       infix_passes around numbers fits setting names fit operator place (found_exp a.0) (found_exp b.0) (a.1 p.0 names bound h.0 setting fit)
       (b.1 p.1 names bound h.1 setting fit)
@@ -195,9 +201,10 @@ module _ (around : Around) (numbers : List Number) (fits : Pattern → Bool) whe
       leave_passes around numbers fits setting names fit place leaving (found_exp a.0) (a.1 q names bound h.1 setting fit)
   again (E.Group place brackets ys) q names bound u setting fit =
       group_passes around numbers fits setting names fit place brackets (elaborations (map found_exp (exps ys)))
-      (each_of around numbers fits setting names fit (map found_exp (exps ys)) (each_part ys q names bound u setting fit))
+      (each_of around numbers fits setting names fit (map found_exp (exps ys))
+      (each_part ys (group_all brackets (map written_exp (exps ys)) q) names bound u setting fit))
   again (E.Part place a ys) q names bound u setting fit =
-      let p = and_parts (limits_exp a.0) (every (map limits_suffix (suffixes ys))) q in
+      let p = and_parts (written_exp a.0) (all_of (map written_suffix (suffixes ys))) q in
       let h = both_empty (failed_exp a.0 names bound) (Uses.each (map failed_suffix (suffixes ys)) names bound) u in
       part_passes around numbers fits setting names fit place (found_exp a.0) (map found_suffix (suffixes ys)) (a.1 p.0 names bound h.0 setting fit)
       (each_suffix ys p.1 names bound h.1 setting fit)
@@ -205,79 +212,79 @@ module _ (around : Around) (numbers : List Number) (fits : Pattern → Bool) whe
       let h = both_empty (failed_exp a.0 names bound) (type_failures Sort.Type typ names) u in
       typed_passes around numbers fits setting names fit place (found_exp a.0) typ (a.1 q names bound h.0 setting fit)
   again (E.Assign place target more a) q names bound u setting fit =
-      let p = and_parts (limits_lexp target.0 && every (map limits_target (furthers more))) (limits_exp a.0) q in
-      let r = and_parts (limits_lexp target.0) (every (map limits_target (furthers more))) p.0 in
+      let p = and_parts (written_lexp target.0 && all_of (map written_target (furthers more))) (written_exp a.0) q in
+      let r = and_parts (written_lexp target.0) (all_of (map written_target (furthers more))) p.0 in
       let h = both_empty (failed_lexp target.0 names bound ++ Uses.each (map failed_target (furthers more)) names bound) (failed_exp a.0 names bound) u in
       let k = both_empty (failed_lexp target.0 names bound) (Uses.each (map failed_target (furthers more)) names bound) h.0 in
       assign_passes around numbers fits setting names fit place (found_lexp target.0) (map found_target (furthers more)) (found_exp a.0)
       (target.1 r.0 names bound k.0 setting fit) (each_further more r.1 names bound k.1 setting fit) (a.1 p.1 names bound h.1 setting fit)
   again (E.Block place ss None) q names bound u setting fit =
-      let p = and_parts (every (map limits_stmt (stmts ss))) true q in
+      let p = and_parts (all_of (map written_stmt (stmts ss))) true q in
       let h = both_empty (Uses.steps (map failed_stmt (stmts ss)) names bound).failures [] u in
       block_passes around numbers fits setting names fit place (map found_stmt (stmts ss)) None (each_statement ss p.0 names bound h.0 setting fit) tt
   again (E.Block place ss (Some a)) q names bound u setting fit =
-      let p = and_parts (every (map limits_stmt (stmts ss))) (limits_exp a.0) q in
+      let p = and_parts (all_of (map written_stmt (stmts ss))) (written_exp a.0) q in
       let steps = Uses.steps (map failed_stmt (stmts ss)) names bound in
       let h = both_empty steps.failures (failed_exp a.0 names steps.locals) u in
       block_passes around numbers fits setting names fit place (map found_stmt (stmts ss)) (Some (found_exp a.0))
       (each_statement ss p.0 names bound h.0 setting fit) (a.1 p.1 names steps.locals h.1 setting fit)
   again (E.Let place pattern a b) q names bound u setting fit =
-      let p = and_parts (pattern_limited pattern && limits_exp a.0) (limits_exp b.0) q in
-      let r = and_parts (pattern_limited pattern) (limits_exp a.0) p.0 in
+      let p = and_parts (pattern_written pattern && written_exp a.0) (written_exp b.0) q in
+      let r = and_parts (pattern_written pattern) (written_exp a.0) p.0 in
       let inner = behind (binds names.known pattern) bound in
       let h = both_empty (failed_exp a.0 names bound ++ pattern_failures names pattern) (failed_exp b.0 names inner) u in
       let k = both_empty (failed_exp a.0 names bound) (pattern_failures names pattern) h.0 in
       let_passes around numbers fits setting names fit place pattern (found_exp a.0) (found_exp b.0) (a.1 r.1 names bound k.0 setting fit) k.1 r.0
       (b.1 p.1 names inner h.1 setting fit)
   again (E.Var place name typ a b) q names bound u setting fit =
-      let p = and_parts (limits_exp a.0) (limits_exp b.0) q in
+      let p = and_parts (written_exp a.0) (written_exp b.0) q in
       let inner = Bound.variable name ∷ bound in
       let h = both_empty (Uses.maybe_type typ names ++ failed_exp a.0 names bound) (failed_exp b.0 names inner) u in
       let k = both_empty (Uses.maybe_type typ names) (failed_exp a.0 names bound) h.0 in
       var_passes around numbers fits setting names fit place name typ (found_exp a.0) (found_exp b.0) (a.1 p.0 names bound k.1 setting fit)
       (b.1 p.1 names inner h.1 setting fit)
   again (E.If place a b None) q names bound u setting fit =
-      let p = and_parts (limits_exp a.0 && limits_exp b.0) true q in
-      let r = and_parts (limits_exp a.0) (limits_exp b.0) p.0 in
+      let p = and_parts (written_exp a.0 && written_exp b.0) true q in
+      let r = and_parts (written_exp a.0) (written_exp b.0) p.0 in
       let h = both_empty (failed_exp a.0 names bound ++ failed_exp b.0 names bound) [] u in
       let k = both_empty (failed_exp a.0 names bound) (failed_exp b.0 names bound) h.0 in
       if_passes around numbers fits setting names fit place (found_exp a.0) (found_exp b.0) None (a.1 r.0 names bound k.0 setting fit)
       (b.1 r.1 names bound k.1 setting fit) tt
   again (E.If place a b (Some c)) q names bound u setting fit =
-      let p = and_parts (limits_exp a.0 && limits_exp b.0) (limits_exp c.0) q in
-      let r = and_parts (limits_exp a.0) (limits_exp b.0) p.0 in
+      let p = and_parts (written_exp a.0 && written_exp b.0) (written_exp c.0) q in
+      let r = and_parts (written_exp a.0) (written_exp b.0) p.0 in
       let h = both_empty (failed_exp a.0 names bound ++ failed_exp b.0 names bound) (failed_exp c.0 names bound) u in
       let k = both_empty (failed_exp a.0 names bound) (failed_exp b.0 names bound) h.0 in
       if_passes around numbers fits setting names fit place (found_exp a.0) (found_exp b.0) (Some (found_exp c.0)) (a.1 r.0 names bound k.0 setting fit)
       (b.1 r.1 names bound k.1 setting fit) (c.1 p.1 names bound h.1 setting fit)
   again (E.Choose place Match a ys) q names bound u setting fit =
-      let p = and_parts (limits_exp a.0) (every (map limits_case (cases ys))) q in
+      let p = and_parts (written_exp a.0) (all_of (map written_case (cases ys))) q in
       let h = both_empty (failed_exp a.0 names bound) (Uses.each (map failed_case (cases ys)) names bound) u in
       match_passes around numbers fits setting names fit place (found_exp a.0) (map found_case (cases ys)) (a.1 p.0 names bound h.0 setting fit)
       (each_case ys p.1 names bound h.1 setting fit)
   again (E.Choose place Try a ys) q names bound u setting fit =
-      let p = and_parts (limits_exp a.0) (every (map limits_case (cases ys))) q in
+      let p = and_parts (written_exp a.0) (all_of (map written_case (cases ys))) q in
       let h = both_empty (failed_exp a.0 names bound) (Uses.each (map failed_case (cases ys)) names bound) u in
       try_passes around numbers fits setting names fit place (found_exp a.0) (map found_case (cases ys)) (a.1 p.0 names bound h.0 setting fit)
       (each_case ys p.1 names bound h.1 setting fit)
   again (E.Foreach place name range a) q names bound u setting fit =
-      let p = and_parts (limits_range range.0) (limits_exp a.0) q in
+      let p = and_parts (written_range range.0) (written_exp a.0) q in
       let inner = Bound.constant name ∷ bound in
       let h = both_empty (failed_range range.0 names bound) (failed_exp a.0 names inner) u in
       foreach_passes around numbers fits setting names fit place name (found_range range.0) (found_exp a.0) (range.1 p.0 names bound h.0 setting fit)
       (a.1 p.1 names inner h.1 setting fit)
   again (E.Loop place looping None a b) q names bound u setting fit = not_empty u
   again (E.Loop place looping (Some m) a b) q names bound u setting fit =
-      let p = and_parts (limits_exp m.0 && limits_exp a.0) (limits_exp b.0) q in
-      let r = and_parts (limits_exp m.0) (limits_exp a.0) p.0 in
+      let p = and_parts (written_exp m.0 && written_exp a.0) (written_exp b.0) q in
+      let r = and_parts (written_exp m.0) (written_exp a.0) p.0 in
       let h = both_empty (failed_exp m.0 (in_measure names) bound ++ failed_exp a.0 names bound) (failed_exp b.0 names bound) u in
       let k = both_empty (failed_exp m.0 (in_measure names) bound) (failed_exp a.0 names bound) h.0 in
       loop_passes around numbers fits setting names fit place looping (found_exp m.0) (found_exp a.0) (found_exp b.0)
       (m.1 r.0 (in_measure names) bound k.0 (plainly setting) (plain_fits setting names fit)) (a.1 r.1 names bound k.1 setting fit)
       (b.1 p.1 names bound h.1 setting fit)
   again (E.Update place a i b) q names bound u setting fit =
-      let p = and_parts (limits_exp a.0 && limits_index i.0) (limits_exp b.0) q in
-      let r = and_parts (limits_exp a.0) (limits_index i.0) p.0 in
+      let p = and_parts (written_exp a.0 && written_index i.0) (written_exp b.0) q in
+      let r = and_parts (written_exp a.0) (written_index i.0) p.0 in
       let h = both_empty (failed_exp a.0 names bound ++ failed_index i.0 names bound) (failed_exp b.0 names bound) u in
       let k = both_empty (failed_exp a.0 names bound) (failed_index i.0 names bound) h.0 in
       update_passes around numbers fits setting names fit place (found_exp a.0) (found_index i.0) (found_exp b.0) (a.1 r.0 names bound k.0 setting fit)
@@ -289,7 +296,7 @@ module _ (around : Around) (numbers : List Number) (fits : Pattern → Bool) whe
       struct_passes around numbers fits setting names fit place name (map found_field (fields ys)) k.0
       (names_apart (map found_field (fields ys)) ns (same_names ys) k.1) (each_field ys q names bound h.1 setting fit)
   again (E.With place a ys) q names bound u setting fit =
-      let p = and_parts (limits_exp a.0) (every (map limits_field (fields ys))) q in
+      let p = and_parts (written_exp a.0) (all_of (map written_field (fields ys))) q in
       let ns = Uses.named (map failed_field (fields ys)) in
       let h = both_empty (failed_exp a.0 names bound ++ clashes ns) (Uses.fields_failures (map failed_field (fields ys)) names bound) u in
       let k = both_empty (failed_exp a.0 names bound) (clashes ns) h.0 in
@@ -314,7 +321,8 @@ module _ (around : Around) (numbers : List Number) (fits : Pattern → Bool) whe
     call = tt;
   }
   target_again (E.ToPart place t ys) q names bound u setting fit =
-      let p = and_parts (limits_lexp t.0) (every (map limits_suffix (suffixes ys))) q in
+      let r = and_parts (written_lexp t.0 && all_of (map written_suffix (suffixes ys))) (is_part (map written_suffix (suffixes ys))) q in
+      let p = and_parts (written_lexp t.0) (all_of (map written_suffix (suffixes ys))) r.0 in
       let h = both_empty (failed_lexp t.0 names bound) (Uses.each (map failed_suffix (suffixes ys)) names bound) u in
       let base = t.1 p.0 names bound h.0 setting fit in record {
         parts = λ locals e. part_aims around numbers fits setting names fit (last_place place (map found_suffix (suffixes ys))) place (found_lexp t.0).place
@@ -331,7 +339,7 @@ module _ (around : Around) (numbers : List Number) (fits : Pattern → Bool) whe
   statement_again (E.Evaluate a) q names bound u setting fit =
       evaluated_passes around numbers fits setting names fit (found_exp a.0) (a.1 q names bound u setting fit)
   statement_again (E.Define place pattern a) q names bound u setting fit =
-      let p = and_parts (pattern_limited pattern) (limits_exp a.0) q in
+      let p = and_parts (pattern_written pattern) (written_exp a.0) q in
       let h = both_empty (failed_exp a.0 names bound) (pattern_failures names pattern) u in
       defined_passes around numbers fits setting names fit place pattern (found_exp a.0) (a.1 p.1 names bound h.0 setting fit) h.1 p.0
   statement_again (E.Declare place name typ a) q names bound u setting fit =
@@ -349,15 +357,15 @@ module _ (around : Around) (numbers : List Number) (fits : Pattern → Bool) whe
   case_by : (pattern : Pat) (guard : Option Exps) (body : Exps)
       → CaseForm around numbers fits (first_Case around numbers fits (record { pattern = pattern; guard = guard; body = body }))
   case_by pattern None body q names bound u setting fit =
-      let p = and_parts (pattern_limited pattern && true) (limits_exp body.0) q in
-      let r = and_parts (pattern_limited pattern) true p.0 in
+      let p = and_parts (pattern_written pattern && true) (written_exp body.0) q in
+      let r = and_parts (pattern_written pattern) true p.0 in
       let inner = behind (binds names.known pattern) bound in
       let h = both_empty (pattern_failures names pattern ++ []) (failed_exp body.0 names inner) u in
       let k = both_empty (pattern_failures names pattern) [] h.0 in
       record { named = k.0; limits = r.0; guard = tt; body = body.1 p.1 names inner h.1 setting fit }
   case_by pattern (Some guard) body q names bound u setting fit =
-      let p = and_parts (pattern_limited pattern && limits_exp guard.0) (limits_exp body.0) q in
-      let r = and_parts (pattern_limited pattern) (limits_exp guard.0) p.0 in
+      let p = and_parts (pattern_written pattern && written_exp guard.0) (written_exp body.0) q in
+      let r = and_parts (pattern_written pattern) (written_exp guard.0) p.0 in
       let inner = behind (binds names.known pattern) bound in
       let h = both_empty (pattern_failures names pattern ++ failed_exp guard.0 names inner) (failed_exp body.0 names inner) u in
       let k = both_empty (pattern_failures names pattern) (failed_exp guard.0 names inner) h.0 in
@@ -366,23 +374,23 @@ module _ (around : Around) (numbers : List Number) (fits : Pattern → Bool) whe
   index_by : (first : Exps) (last : Option Exps) → IndexForm around numbers fits (first_Index around numbers fits (record { first = first; last = last }))
   index_by first None q names bound u setting fit =
       let h = both_empty (failed_exp first.0 names bound) [] u in
-      (first.1 (and_parts (limits_exp first.0) true q).0 names bound h.0 setting fit, tt)
+      (first.1 (and_parts (written_exp first.0) true q).0 names bound h.0 setting fit, tt)
   index_by first (Some last) q names bound u setting fit =
-      let p = and_parts (limits_exp first.0) (limits_exp last.0) q in
+      let p = and_parts (written_exp first.0) (written_exp last.0) q in
       let h = both_empty (failed_exp first.0 names bound) (failed_exp last.0 names bound) u in
       (first.1 p.0 names bound h.0 setting fit, last.1 p.1 names bound h.1 setting fit)
 
   range_by : (from to : Exps) (by : Option Exps) (direction : _)
       → RangeForm around numbers fits (first_Range around numbers fits (record { from = from; to = to; by = by; direction = direction }))
   range_by from to None direction q names bound u setting fit =
-      let p = and_parts (limits_exp from.0 && limits_exp to.0) true q in
-      let r = and_parts (limits_exp from.0) (limits_exp to.0) p.0 in
+      let p = and_parts (written_exp from.0 && written_exp to.0) true q in
+      let r = and_parts (written_exp from.0) (written_exp to.0) p.0 in
       let h = both_empty (failed_exp from.0 names bound ++ failed_exp to.0 names bound) [] u in
       let k = both_empty (failed_exp from.0 names bound) (failed_exp to.0 names bound) h.0 in
       record { from = from.1 r.0 names bound k.0 setting fit; to = to.1 r.1 names bound k.1 setting fit; by = tt }
   range_by from to (Some by) direction q names bound u setting fit =
-      let p = and_parts (limits_exp from.0 && limits_exp to.0) (limits_exp by.0) q in
-      let r = and_parts (limits_exp from.0) (limits_exp to.0) p.0 in
+      let p = and_parts (written_exp from.0 && written_exp to.0) (written_exp by.0) q in
+      let r = and_parts (written_exp from.0) (written_exp to.0) p.0 in
       let h = both_empty (failed_exp from.0 names bound ++ failed_exp to.0 names bound) (failed_exp by.0 names bound) u in
       let k = both_empty (failed_exp from.0 names bound) (failed_exp to.0 names bound) h.0 in
       record { from = from.1 r.0 names bound k.0 setting fit; to = to.1 r.1 names bound k.1 setting fit; by = by.1 p.1 names bound h.1 setting fit }
@@ -411,6 +419,6 @@ module _ (around : Around) (numbers : List Number) (fits : Pattern → Bool) whe
       (λ e y is. subst (λ d. OfTarget around numbers fits (roll-Target d)) is
       (rolled_Target around numbers fits (first_Target around numbers fits y) (λ q names bound u setting fit. y.to.1 q names bound u setting fit)))
 
-  pub found_passes : (e : Exp) → limited e ≡ true → (names : Tables.Setting) (bound : Bound.Locals) → Uses.expression_failures e names bound ≡ []
+  pub found_passes : (e : Exp) → written e ≡ true → (names : Tables.Setting) (bound : Bound.Locals) → Uses.expression_failures e names bound ≡ []
       → (setting : Setting) → Fits around numbers fits setting names → Tested around numbers fits setting (found_exp e).elaborate
   found_passes e q names bound u setting fit = each_passes e q names bound u setting fit

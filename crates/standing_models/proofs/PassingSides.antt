@@ -21,9 +21,10 @@ use Rattle.shape_joins.proofs.Order.{two}
 use Rattle.shape_rules.specs.Scopes.{Setting, local_of}
 use Rattle.shape_rules.specs.Sides.{FurtherSide, append_part, further_side, read_side, side_part}
 use Rattle.shape_rules.specs.Targets.{Part, elaborations}
-use Rattle.standing_cores.specs.Types.{every}
-use Rattle.standing_models.specs.Tests.{Fits, Tested, joined_form, pattern_form, pattern_limited}
-use Rattle.standing_models.proofs.CorePasses.{constant_passes, missing_passes, over_passes, settled_passes}
+use Rattle.shape_meanings.specs.Whole.{all_of}
+use Rattle.shape_meanings.specs.Trees.{joined_form, pattern_form, pattern_written}
+use Rattle.standing_models.specs.Tests.{Fits, Tested}
+use Rattle.standing_models.proofs.CorePasses.{constant_passes, group_all, missing_passes, over_passes, settled_passes}
 use Rattle.standing_models.proofs.Passing.{PartsAre, each_of, group_passes, infix_passes, name_passes, named_passes, typed_passes}
 
 -- the other sign is as far from zero
@@ -40,14 +41,14 @@ module _ (around : Around) (numbers : List Index) (fits : Pattern → Bool) (set
   abbrev read_further : Joined → FurtherSide
   read_further = fold-Joined Part FurtherSide side_part further_side
 
-  abbrev further_limited : Joined → Bool
-  further_limited = fold-Joined Bool Bool pattern_form joined_form
+  abbrev further_written : Joined → Bool
+  further_written = fold-Joined Bool Bool pattern_form joined_form
 
   abbrev OfPat : Pat → Type 0
-  OfPat p = SideIs (pattern_limited p) (read_side p)
+  OfPat p = SideIs (pattern_written p) (read_side p)
 
   abbrev OfJoined : Joined → Type 0
-  OfJoined j = SideIs (further_limited j) (read_further j).part
+  OfJoined j = SideIs (further_written j) (read_further j).part
 
   abbrev SuchP : Type 0
   SuchP = (p : Pat) × OfPat p
@@ -61,9 +62,9 @@ module _ (around : Around) (numbers : List Index) (fits : Pattern → Bool) (set
   abbrev joins : List SuchJ → List Joined
   joins ys = map (λ (j : SuchJ). j.0) ys
 
-  each_part : (ys : List SuchP) → every (map pattern_limited (pats ys)) ≡ true → PartsAre around numbers fits setting names fit (map read_side (pats ys))
+  each_part : (ys : List SuchP) → all_of (map pattern_written (pats ys)) ≡ true → PartsAre around numbers fits setting names fit (map read_side (pats ys))
   each_part [] q = tt
-  each_part (y ∷ ys) q = let p = and_parts (pattern_limited y.0) (every (map pattern_limited (pats ys))) q in (y.1 p.0, each_part ys p.1)
+  each_part (y ∷ ys) q = let p = and_parts (pattern_written y.0) (all_of (map pattern_written (pats ys))) q in (y.1 p.0, each_part ys p.1)
 
   -- ---- concatenations
 
@@ -71,9 +72,9 @@ module _ (around : Around) (numbers : List Index) (fits : Pattern → Bool) (set
   FurthersPass [] = Unit {0}
   FurthersPass (f ∷ fs) = Tested around numbers fits setting f.part.elaborate × FurthersPass fs
 
-  each_further : (ys : List SuchJ) → every (map further_limited (joins ys)) ≡ true → FurthersPass (map read_further (joins ys))
+  each_further : (ys : List SuchJ) → all_of (map further_written (joins ys)) ≡ true → FurthersPass (map read_further (joins ys))
   each_further [] q = tt
-  each_further (y ∷ ys) q = let p = and_parts (further_limited y.0) (every (map further_limited (joins ys))) q in (y.1 p.0, each_further ys p.1)
+  each_further (y ∷ ys) q = let p = and_parts (further_written y.0) (all_of (map further_written (joins ys))) q in (y.1 p.0, each_further ys p.1)
 
   append_passes : (fs : List FurtherSide) (place : Place) (a b : Part) → Tested around numbers fits setting a.elaborate
       → Tested around numbers fits setting b.elaborate
@@ -87,14 +88,14 @@ module _ (around : Around) (numbers : List Index) (fits : Pattern → Bool) (set
   abbrev first : Pat-F SuchP SuchJ → Pat-F Pat Joined
   first = map-Pat SuchP SuchJ Pat Joined (λ p. p.0) (λ j. j.0)
 
-  abbrev over_limits : Pat-F Pat Joined → Pat-F Bool Bool
-  over_limits = map-Pat Pat Joined Bool Bool pattern_limited further_limited
+  abbrev over_written : Pat-F Pat Joined → Pat-F Bool Bool
+  over_written = map-Pat Pat Joined Bool Bool pattern_written further_written
 
   abbrev over_read : Pat-F Pat Joined → Pat-F Part FurtherSide
   over_read = map-Pat Pat Joined Part FurtherSide read_side read_further
 
   abbrev FormIs : Pat-F Pat Joined → Type 0
-  FormIs d = SideIs (pattern_form (over_limits d)) (side_part (over_read d))
+  FormIs d = SideIs (pattern_form (over_written d)) (side_part (over_read d))
 
   negative_small : (z : ℤ) → is_small z ≡ true → is_small (pos 0 -ℤ z) ≡ true
   negative_small z h = ap (λ n. nat_le n largest) (same_size z) ∙ h
@@ -109,13 +110,14 @@ module _ (around : Around) (numbers : List Index) (fits : Pattern → Bool) (set
   again (P.Construct name ys) q locals want e = named_passes around numbers fits setting names fit name (map read_side (pats ys)) (each_part ys q) locals want e
   again (P.Group place brackets ys) q locals want e =
       group_passes around numbers fits setting names fit place brackets (elaborations (map read_side (pats ys)))
-      (each_of around numbers fits setting names fit (map read_side (pats ys)) (each_part ys q)) locals want e
+      (each_of around numbers fits setting names fit (map read_side (pats ys))
+      (each_part ys (group_all brackets (map pattern_written (pats ys)) q))) locals want e
   again (P.Concat place a b ys) q locals want e =
-      let p = and_parts (pattern_limited a.0 && pattern_limited b.0) (every (map further_limited (joins ys))) q in
-      let r = and_parts (pattern_limited a.0) (pattern_limited b.0) p.0 in
+      let p = and_parts (pattern_written a.0 && pattern_written b.0) (all_of (map further_written (joins ys))) q in
+      let r = and_parts (pattern_written a.0) (pattern_written b.0) p.0 in
       append_passes (map read_further (joins ys)) place (read_side a.0) (read_side b.0) (a.1 r.0) (b.1 r.1) (each_further ys p.1) locals want e
   again (P.Cons place a b) q locals want e =
-      let p = and_parts (pattern_limited a.0) (pattern_limited b.0) q in
+      let p = and_parts (pattern_written a.0) (pattern_written b.0) q in
       infix_passes around numbers fits setting names fit O.Cons place (read_side a.0) (read_side b.0) (a.1 p.0) (b.1 p.1) locals want e
   again (P.As place a name) q locals want e = a.1 q locals want e
   again (P.Typed place a typ) q locals want e = typed_passes around numbers fits setting names fit place (read_side a.0) typ (a.1 q) locals want e
@@ -125,7 +127,7 @@ module _ (around : Around) (numbers : List Index) (fits : Pattern → Bool) (set
   rolled : (d : Pat-F Pat Joined) → FormIs d → OfPat (roll-Pat d)
   rolled d h =
       subst (λ b. SideIs b (read_side (roll-Pat d))) (sym (fold-roll-Pat Bool Bool pattern_form joined_form d))
-      (subst (λ r. SideIs (pattern_form (over_limits d)) r) (sym (fold-roll-Pat Part FurtherSide side_part further_side d)) h)
+      (subst (λ r. SideIs (pattern_form (over_written d)) r) (sym (fold-roll-Pat Part FurtherSide side_part further_side d)) h)
 
   abbrev first_joined : Joined-F SuchP SuchJ → Joined-F Pat Joined
   first_joined = map-Joined SuchP SuchJ Pat Joined (λ p. p.0) (λ j. j.0)
@@ -134,11 +136,11 @@ module _ (around : Around) (numbers : List Index) (fits : Pattern → Bool) (set
   rolled_joined y =
       let d : Joined-F Pat Joined = first_joined y in
       subst (λ b. SideIs b (read_further (roll-Joined d)).part) (sym (fold-roll-Joined Bool Bool pattern_form joined_form d))
-      (subst (λ (f : FurtherSide). SideIs (pattern_limited y.part.0) f.part) (sym (fold-roll-Joined Part FurtherSide side_part further_side d)) y.part.1)
+      (subst (λ (f : FurtherSide). SideIs (pattern_written y.part.0) f.part) (sym (fold-roll-Joined Part FurtherSide side_part further_side d)) y.part.1)
 
   each_side : (p : Pat) → OfPat p
   each_side = ind-Pat OfPat OfJoined (λ e y is. subst (λ d. OfPat (roll-Pat d)) is (rolled (first y) (again y)))
       (λ e y is. subst (λ d. OfJoined (roll-Joined d)) is (rolled_joined y))
 
-  pub side_passes : (p : Pat) → pattern_limited p ≡ true → Tested around numbers fits setting (read_side p).elaborate
+  pub side_passes : (p : Pat) → pattern_written p ≡ true → Tested around numbers fits setting (read_side p).elaborate
   side_passes p q = each_side p q

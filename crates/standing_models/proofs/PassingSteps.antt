@@ -66,7 +66,8 @@ use Rattle.shape_meanings.proofs.Settling.{both_empty}
 use Rattle.shape_meanings.proofs.TargetNames.{struct_known}
 use Rattle.shape_meanings.proofs.Withs.{placed_are, placed_count}
 use Rattle.soundness_forms.specs.Standing.{has_fields}
-use Rattle.standing_models.specs.Tests.{Fits, Tested, arm_tested, arms_tested, kind_fits, lets_tested, pattern_limited}
+use Rattle.shape_meanings.specs.Trees.{pattern_written}
+use Rattle.standing_models.specs.Tests.{Fits, Tested, arm_tested, arms_tested, kind_fits, lets_tested}
 use Rattle.standing_models.proofs.CorePasses.{AllPass, Passes, also_pass, cast_passes, counted_passes, missing_passes, over_passes, settled_passes}
 use Rattle.standing_models.proofs.Covering.{fields_hold}
 use Rattle.standing_models.proofs.Passing.{AreEach, MaybeIs, PartsAre, SuffixesAre, args_pass, each_of, named_passes, parts_pass, solved_count}
@@ -207,7 +208,7 @@ module _ (around : Around) (numbers : List Index) (fits : Pattern → Bool) (set
   one_stands : (p : Pattern) → Stands p → arm_tested fits (A.Nested (p ∷ [])) ≡ true
   one_stands p h = two (fits p) true h refl
 
-  pub bound_passes : (place : Place) (p : Pat) (value : Part) → Is value.elaborate → pattern_failures names p ≡ [] → pattern_limited p ≡ true
+  pub bound_passes : (place : Place) (p : Pat) (value : Part) → Is value.elaborate → pattern_failures names p ≡ [] → pattern_written p ≡ true
       → (locals : Locals) → (bound place p value setting locals).faults ≡ []
       → It (bound place p value setting locals).part × (arm_tested fits (bound place p value setting locals).arm ≡ true)
   bound_passes place p value one u limits locals e =
@@ -219,7 +220,7 @@ module _ (around : Around) (numbers : List Index) (fits : Pattern → Bool) (set
         one_stands found.pattern (fit.patterns p a.shape (used p u) limits f.1),
       )
 
-  pub let_passes : (place : Place) (p : Pat) (value body : Part) → Is value.elaborate → pattern_failures names p ≡ [] → pattern_limited p ≡ true
+  pub let_passes : (place : Place) (p : Pat) (value body : Part) → Is value.elaborate → pattern_failures names p ≡ [] → pattern_written p ≡ true
       → Is body.elaborate → Is (let_found place p value body)
   let_passes place p value body one u limits next locals want e =
       let b : Binding = bound place p value setting locals in
@@ -279,7 +280,7 @@ module _ (around : Around) (numbers : List Index) (fits : Pattern → Bool) (set
   -- a case, in whose pattern no failure is found
   pub record CaseIs (c : CasePart) : Type 0 where
     pub named : pattern_failures names c.pattern ≡ []
-    pub limits : pattern_limited c.pattern ≡ true
+    pub limits : pattern_written c.pattern ≡ true
     pub guard : Maybe c.guard
     pub body : Is c.body.elaborate
 
@@ -350,7 +351,7 @@ module _ (around : Around) (numbers : List Index) (fits : Pattern → Bool) (set
   pub evaluated_passes : (a : Part) → Is a.elaborate → StatementIs (evaluated a)
   evaluated_passes a h locals e = (h locals V.Unit e, refl)
 
-  pub defined_passes : (place : Place) (p : Pat) (value : Part) → Is value.elaborate → pattern_failures names p ≡ [] → pattern_limited p ≡ true
+  pub defined_passes : (place : Place) (p : Pat) (value : Part) → Is value.elaborate → pattern_failures names p ≡ [] → pattern_written p ≡ true
       → StatementIs (λ s locals. defined_as place (bound place p value s locals) locals)
   defined_passes place p value one u limits locals e =
       let k = bound_passes place p value one u limits locals e in

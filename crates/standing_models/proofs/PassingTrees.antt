@@ -1,11 +1,9 @@
--- What is found of an expression passes the tests of nodes, where the tables find no failure of its names, nothing is refused in its shapes and its
--- literals are within their limits: what is said of each of its trees.
+-- What is found of an expression passes the tests of nodes, where it is as the grammar has it, the tables find no failure of its names and nothing is
+-- refused in its shapes: what is said of each of its trees.
 use Rattle.std.proofs.Common.{◌≡◌, Bool, true, [], List, sym, subst}
 use Rattle.sail_types.specs.declared.numbers.Index.{Index as Number}
-use Rattle.sail_syntax.specs.declared.expressions.Exp.{Exp, Exp-F, fold-Exp, roll-Exp}
+use Rattle.sail_syntax.specs.declared.expressions.Exp.{Exp, Exp-F, roll-Exp}
 use Rattle.sail_syntax.specs.declared.expressions.Exp.TheOpen.{Case-F, FieldValue-F, Index-F, LExp-F, Range-F, Stmt-F, Suffix-F, Target-F}
-use Rattle.sail_syntax.specs.declared.expressions.Exp.TheFolds.{fold-Case, fold-FieldValue, fold-Index, fold-LExp, fold-Range, fold-Stmt, fold-Suffix}
-use Rattle.sail_syntax.specs.declared.expressions.Exp.TheFolds.{fold-Target}
 use Rattle.sail_syntax.specs.declared.expressions.Exp.TheFolds.{fold-roll-Case, fold-roll-Exp, fold-roll-FieldValue, fold-roll-Index, fold-roll-LExp}
 use Rattle.sail_syntax.specs.declared.expressions.Exp.TheFolds.{fold-roll-Range, fold-roll-Stmt, fold-roll-Suffix, fold-roll-Target}
 use Rattle.sail_syntax.specs.declared.expressions.Exp.TheFolds.{map-Case, map-Exp, map-FieldValue, map-Index, map-LExp, map-Range, map-Stmt}
@@ -29,57 +27,20 @@ use Rattle.shape_rules.specs.Scopes.{Setting}
 use Rattle.shape_rules.specs.Statements.{CasePart, FurtherPart, RangePart, StatementPart}
 use Rattle.shape_rules.specs.Targets.{IndexPart, Part, SuffixPart, TargetPart}
 use Rattle.shape_rules.specs.Values.{FieldPart}
+use Rattle.shape_meanings.specs.Trees as Trees
 use Rattle.shape_meanings.proofs.Folds.{OverTrees}
 use Rattle.shape_meanings.proofs.Folds.{failed_Case, failed_Exp, failed_FieldValue, failed_Index, failed_LExp, failed_Range, failed_Stmt, failed_Suffix}
 use Rattle.shape_meanings.proofs.Folds.{failed_Target, failed_case, failed_exp, failed_field, failed_index, failed_lexp, failed_range, failed_stmt}
 use Rattle.shape_meanings.proofs.Folds.{failed_suffix, failed_target}
 use Rattle.shape_meanings.proofs.Folds.{found_Case, found_Exp, found_FieldValue, found_Index, found_LExp, found_Range, found_Stmt, found_Suffix, found_Target}
 use Rattle.shape_meanings.proofs.Folds.{found_case, found_exp, found_field, found_index, found_lexp, found_range, found_stmt, found_suffix, found_target}
-use Rattle.standing_models.specs.Tests as T
+use Rattle.shape_meanings.proofs.Folds.{written_Case, written_Exp, written_FieldValue, written_Index}
+use Rattle.shape_meanings.proofs.Folds.{written_LExp, written_Range, written_Stmt, written_Suffix, written_Target}
+use Rattle.shape_meanings.proofs.Folds.{written_case, written_exp, written_field, written_index}
+use Rattle.shape_meanings.proofs.Folds.{written_lexp, written_range, written_stmt, written_suffix, written_target}
 use Rattle.standing_models.specs.Tests.{Fits, Tested}
 use Rattle.standing_models.proofs.Passing.{IndexIs, SuffixIs}
 use Rattle.standing_models.proofs.PassingSteps.{CaseIs, RangeIs, StatementIs, TargetIs}
-
--- ---- whether the literals in each tree are within their limits
-
-abbrev pub limits_exp : Exp → Bool
-limits_exp = fold-Exp Bool Bool Bool Bool Bool Bool Bool Bool Bool
-    T.expression_form T.target_form T.statement_form T.suffix_form T.case_form T.field_form T.index_form T.range_form T.further_form
-
-abbrev pub limits_lexp : LExp → Bool
-limits_lexp = fold-LExp Bool Bool Bool Bool Bool Bool Bool Bool Bool
-    T.expression_form T.target_form T.statement_form T.suffix_form T.case_form T.field_form T.index_form T.range_form T.further_form
-
-abbrev pub limits_stmt : Stmt → Bool
-limits_stmt = fold-Stmt Bool Bool Bool Bool Bool Bool Bool Bool Bool
-    T.expression_form T.target_form T.statement_form T.suffix_form T.case_form T.field_form T.index_form T.range_form T.further_form
-
-abbrev pub limits_suffix : SuffixTree → Bool
-limits_suffix = fold-Suffix Bool Bool Bool Bool Bool Bool Bool Bool Bool
-    T.expression_form T.target_form T.statement_form T.suffix_form T.case_form T.field_form T.index_form T.range_form T.further_form
-
-abbrev pub limits_case : CaseTree → Bool
-limits_case = fold-Case Bool Bool Bool Bool Bool Bool Bool Bool Bool
-    T.expression_form T.target_form T.statement_form T.suffix_form T.case_form T.field_form T.index_form T.range_form T.further_form
-
-abbrev pub limits_field : FieldValue → Bool
-limits_field = fold-FieldValue Bool Bool Bool Bool Bool Bool Bool Bool Bool
-    T.expression_form T.target_form T.statement_form T.suffix_form T.case_form T.field_form T.index_form T.range_form T.further_form
-
-abbrev pub limits_index : Index → Bool
-limits_index = fold-Index Bool Bool Bool Bool Bool Bool Bool Bool Bool
-    T.expression_form T.target_form T.statement_form T.suffix_form T.case_form T.field_form T.index_form T.range_form T.further_form
-
-abbrev pub limits_range : Range → Bool
-limits_range = fold-Range Bool Bool Bool Bool Bool Bool Bool Bool Bool
-    T.expression_form T.target_form T.statement_form T.suffix_form T.case_form T.field_form T.index_form T.range_form T.further_form
-
-abbrev pub limits_target : TargetTree → Bool
-limits_target = fold-Target Bool Bool Bool Bool Bool Bool Bool Bool Bool
-    T.expression_form T.target_form T.statement_form T.suffix_form T.case_form T.field_form T.index_form T.range_form T.further_form
-
-abbrev pub OverLimits : (Type 0 → Type 0 → Type 0 → Type 0 → Type 0 → Type 0 → Type 0 → Type 0 → Type 0 → Type 0) → Type 0
-OverLimits F = F Bool Bool Bool Bool Bool Bool Bool Bool Bool
 
 module _ (around : Around) (numbers : List Number) (fits : Pattern → Bool) where
   -- ---- what is said of each tree
@@ -121,55 +82,55 @@ module _ (around : Around) (numbers : List Number) (fits : Pattern → Bool) whe
   SaidTarget k f b = Placed b (λ names bound. f names bound ≡ []) (λ setting names fit. TargetIs around numbers fits setting names fit k.to)
 
   abbrev pub OfExp : Exp → Type 0
-  OfExp x = SaidExp (found_exp x) (failed_exp x) (limits_exp x)
+  OfExp x = SaidExp (found_exp x) (failed_exp x) (written_exp x)
 
   abbrev pub SuchExp : Type 0
   SuchExp = (x : Exp) × OfExp x
 
   abbrev pub OfLExp : LExp → Type 0
-  OfLExp x = SaidLExp (found_lexp x) (failed_lexp x) (limits_lexp x)
+  OfLExp x = SaidLExp (found_lexp x) (failed_lexp x) (written_lexp x)
 
   abbrev pub SuchLExp : Type 0
   SuchLExp = (x : LExp) × OfLExp x
 
   abbrev pub OfStmt : Stmt → Type 0
-  OfStmt x = SaidStmt (found_stmt x) (failed_stmt x) (limits_stmt x)
+  OfStmt x = SaidStmt (found_stmt x) (failed_stmt x) (written_stmt x)
 
   abbrev pub SuchStmt : Type 0
   SuchStmt = (x : Stmt) × OfStmt x
 
   abbrev pub OfSuffix : SuffixTree → Type 0
-  OfSuffix x = SaidSuffix (found_suffix x) (failed_suffix x) (limits_suffix x)
+  OfSuffix x = SaidSuffix (found_suffix x) (failed_suffix x) (written_suffix x)
 
   abbrev pub SuchSuffix : Type 0
   SuchSuffix = (x : SuffixTree) × OfSuffix x
 
   abbrev pub OfCase : CaseTree → Type 0
-  OfCase x = SaidCase (found_case x) (failed_case x) (limits_case x)
+  OfCase x = SaidCase (found_case x) (failed_case x) (written_case x)
 
   abbrev pub SuchCase : Type 0
   SuchCase = (x : CaseTree) × OfCase x
 
   abbrev pub OfFieldValue : FieldValue → Type 0
-  OfFieldValue x = SaidFieldValue (found_field x) (failed_field x) (limits_field x)
+  OfFieldValue x = SaidFieldValue (found_field x) (failed_field x) (written_field x)
 
   abbrev pub SuchFieldValue : Type 0
   SuchFieldValue = (x : FieldValue) × OfFieldValue x
 
   abbrev pub OfIndex : Index → Type 0
-  OfIndex x = SaidIndex (found_index x) (failed_index x) (limits_index x)
+  OfIndex x = SaidIndex (found_index x) (failed_index x) (written_index x)
 
   abbrev pub SuchIndex : Type 0
   SuchIndex = (x : Index) × OfIndex x
 
   abbrev pub OfRange : Range → Type 0
-  OfRange x = SaidRange (found_range x) (failed_range x) (limits_range x)
+  OfRange x = SaidRange (found_range x) (failed_range x) (written_range x)
 
   abbrev pub SuchRange : Type 0
   SuchRange = (x : Range) × OfRange x
 
   abbrev pub OfTarget : TargetTree → Type 0
-  OfTarget x = SaidTarget (found_target x) (failed_target x) (limits_target x)
+  OfTarget x = SaidTarget (found_target x) (failed_target x) (written_target x)
 
   abbrev pub SuchTarget : Type 0
   SuchTarget = (x : TargetTree) × OfTarget x
@@ -182,240 +143,204 @@ module _ (around : Around) (numbers : List Number) (fits : Pattern → Bool) whe
       Exp LExp Stmt SuffixTree CaseTree FieldValue Index Range TargetTree
       (λ p. p.0) (λ p. p.0) (λ p. p.0) (λ p. p.0) (λ p. p.0) (λ p. p.0) (λ p. p.0) (λ p. p.0) (λ p. p.0)
 
-  abbrev pub limits_Exp : OverTrees Exp-F → OverLimits Exp-F
-  limits_Exp = map-Exp Exp LExp Stmt SuffixTree CaseTree FieldValue Index Range TargetTree
-      Bool Bool Bool Bool Bool Bool Bool Bool Bool
-      limits_exp limits_lexp limits_stmt limits_suffix limits_case limits_field limits_index limits_range limits_target
-
   abbrev pub ExpForm : OverTrees Exp-F → Type 0
-  ExpForm d = SaidExp (Rules.exp_form (found_Exp d)) (Uses.expression_form (failed_Exp d)) (T.expression_form (limits_Exp d))
+  ExpForm d = SaidExp (Rules.exp_form (found_Exp d)) (Uses.expression_form (failed_Exp d)) (Trees.expression_form (written_Exp d))
 
   pub rolled_Exp : (d : OverTrees Exp-F) → ExpForm d → OfExp (roll-Exp d)
   rolled_Exp d h =
-      subst (λ k. SaidExp k (failed_exp (roll-Exp d)) (limits_exp (roll-Exp d)))
+      subst (λ k. SaidExp k (failed_exp (roll-Exp d)) (written_exp (roll-Exp d)))
       (sym (fold-roll-Exp Part TargetPart StatementPart SuffixPart CasePart FieldPart IndexPart RangePart FurtherPart
       Rules.exp_form Rules.target_form Rules.statement_form Rules.suffix_form Rules.case_form Rules.field_form Rules.index_form Rules.range_form
       Rules.further_form d))
-      (subst (λ k. SaidExp (Rules.exp_form (found_Exp d)) k (limits_exp (roll-Exp d)))
+      (subst (λ k. SaidExp (Rules.exp_form (found_Exp d)) k (written_exp (roll-Exp d)))
       (sym (fold-roll-Exp Failures Failures Uses.Statement Failures Failures Uses.Field Failures Failures Failures
       Uses.expression_form Uses.target_form Uses.statement_form Uses.suffix_form Uses.case_form Uses.field_form Uses.index_form Uses.range_form
       Uses.further_form d))
       (subst (λ k. SaidExp (Rules.exp_form (found_Exp d)) (Uses.expression_form (failed_Exp d)) k)
       (sym (fold-roll-Exp Bool Bool Bool Bool Bool Bool Bool Bool Bool
-      T.expression_form T.target_form T.statement_form T.suffix_form T.case_form T.field_form T.index_form T.range_form T.further_form d)) h))
+      Trees.expression_form Trees.target_form Trees.statement_form Trees.suffix_form Trees.case_form Trees.field_form Trees.index_form
+      Trees.range_form Trees.further_form d)) h))
 
   abbrev pub first_LExp : OverSuch LExp-F → OverTrees LExp-F
   first_LExp = map-LExp SuchExp SuchLExp SuchStmt SuchSuffix SuchCase SuchFieldValue SuchIndex SuchRange SuchTarget
       Exp LExp Stmt SuffixTree CaseTree FieldValue Index Range TargetTree
       (λ p. p.0) (λ p. p.0) (λ p. p.0) (λ p. p.0) (λ p. p.0) (λ p. p.0) (λ p. p.0) (λ p. p.0) (λ p. p.0)
 
-  abbrev pub limits_LExp : OverTrees LExp-F → OverLimits LExp-F
-  limits_LExp = map-LExp Exp LExp Stmt SuffixTree CaseTree FieldValue Index Range TargetTree
-      Bool Bool Bool Bool Bool Bool Bool Bool Bool
-      limits_exp limits_lexp limits_stmt limits_suffix limits_case limits_field limits_index limits_range limits_target
-
   abbrev pub LExpForm : OverTrees LExp-F → Type 0
-  LExpForm d = SaidLExp (Rules.target_form (found_LExp d)) (Uses.target_form (failed_LExp d)) (T.target_form (limits_LExp d))
+  LExpForm d = SaidLExp (Rules.target_form (found_LExp d)) (Uses.target_form (failed_LExp d)) (Trees.target_form (written_LExp d))
 
   pub rolled_LExp : (d : OverTrees LExp-F) → LExpForm d → OfLExp (roll-LExp d)
   rolled_LExp d h =
-      subst (λ k. SaidLExp k (failed_lexp (roll-LExp d)) (limits_lexp (roll-LExp d)))
+      subst (λ k. SaidLExp k (failed_lexp (roll-LExp d)) (written_lexp (roll-LExp d)))
       (sym (fold-roll-LExp Part TargetPart StatementPart SuffixPart CasePart FieldPart IndexPart RangePart FurtherPart
       Rules.exp_form Rules.target_form Rules.statement_form Rules.suffix_form Rules.case_form Rules.field_form Rules.index_form Rules.range_form
       Rules.further_form d))
-      (subst (λ k. SaidLExp (Rules.target_form (found_LExp d)) k (limits_lexp (roll-LExp d)))
+      (subst (λ k. SaidLExp (Rules.target_form (found_LExp d)) k (written_lexp (roll-LExp d)))
       (sym (fold-roll-LExp Failures Failures Uses.Statement Failures Failures Uses.Field Failures Failures Failures
       Uses.expression_form Uses.target_form Uses.statement_form Uses.suffix_form Uses.case_form Uses.field_form Uses.index_form Uses.range_form
       Uses.further_form d))
       (subst (λ k. SaidLExp (Rules.target_form (found_LExp d)) (Uses.target_form (failed_LExp d)) k)
       (sym (fold-roll-LExp Bool Bool Bool Bool Bool Bool Bool Bool Bool
-      T.expression_form T.target_form T.statement_form T.suffix_form T.case_form T.field_form T.index_form T.range_form T.further_form d)) h))
+      Trees.expression_form Trees.target_form Trees.statement_form Trees.suffix_form Trees.case_form Trees.field_form Trees.index_form
+      Trees.range_form Trees.further_form d)) h))
 
   abbrev pub first_Stmt : OverSuch Stmt-F → OverTrees Stmt-F
   first_Stmt = map-Stmt SuchExp SuchLExp SuchStmt SuchSuffix SuchCase SuchFieldValue SuchIndex SuchRange SuchTarget
       Exp LExp Stmt SuffixTree CaseTree FieldValue Index Range TargetTree
       (λ p. p.0) (λ p. p.0) (λ p. p.0) (λ p. p.0) (λ p. p.0) (λ p. p.0) (λ p. p.0) (λ p. p.0) (λ p. p.0)
 
-  abbrev pub limits_Stmt : OverTrees Stmt-F → OverLimits Stmt-F
-  limits_Stmt = map-Stmt Exp LExp Stmt SuffixTree CaseTree FieldValue Index Range TargetTree
-      Bool Bool Bool Bool Bool Bool Bool Bool Bool
-      limits_exp limits_lexp limits_stmt limits_suffix limits_case limits_field limits_index limits_range limits_target
-
   abbrev pub StmtForm : OverTrees Stmt-F → Type 0
-  StmtForm d = SaidStmt (Rules.statement_form (found_Stmt d)) (Uses.statement_form (failed_Stmt d)) (T.statement_form (limits_Stmt d))
+  StmtForm d = SaidStmt (Rules.statement_form (found_Stmt d)) (Uses.statement_form (failed_Stmt d)) (Trees.statement_form (written_Stmt d))
 
   pub rolled_Stmt : (d : OverTrees Stmt-F) → StmtForm d → OfStmt (roll-Stmt d)
   rolled_Stmt d h =
-      subst (λ k. SaidStmt k (failed_stmt (roll-Stmt d)) (limits_stmt (roll-Stmt d)))
+      subst (λ k. SaidStmt k (failed_stmt (roll-Stmt d)) (written_stmt (roll-Stmt d)))
       (sym (fold-roll-Stmt Part TargetPart StatementPart SuffixPart CasePart FieldPart IndexPart RangePart FurtherPart
       Rules.exp_form Rules.target_form Rules.statement_form Rules.suffix_form Rules.case_form Rules.field_form Rules.index_form Rules.range_form
       Rules.further_form d))
-      (subst (λ k. SaidStmt (Rules.statement_form (found_Stmt d)) k (limits_stmt (roll-Stmt d)))
+      (subst (λ k. SaidStmt (Rules.statement_form (found_Stmt d)) k (written_stmt (roll-Stmt d)))
       (sym (fold-roll-Stmt Failures Failures Uses.Statement Failures Failures Uses.Field Failures Failures Failures
       Uses.expression_form Uses.target_form Uses.statement_form Uses.suffix_form Uses.case_form Uses.field_form Uses.index_form Uses.range_form
       Uses.further_form d))
       (subst (λ k. SaidStmt (Rules.statement_form (found_Stmt d)) (Uses.statement_form (failed_Stmt d)) k)
       (sym (fold-roll-Stmt Bool Bool Bool Bool Bool Bool Bool Bool Bool
-      T.expression_form T.target_form T.statement_form T.suffix_form T.case_form T.field_form T.index_form T.range_form T.further_form d)) h))
+      Trees.expression_form Trees.target_form Trees.statement_form Trees.suffix_form Trees.case_form Trees.field_form Trees.index_form
+      Trees.range_form Trees.further_form d)) h))
 
   abbrev pub first_Suffix : OverSuch Suffix-F → OverTrees Suffix-F
   first_Suffix = map-Suffix SuchExp SuchLExp SuchStmt SuchSuffix SuchCase SuchFieldValue SuchIndex SuchRange SuchTarget
       Exp LExp Stmt SuffixTree CaseTree FieldValue Index Range TargetTree
       (λ p. p.0) (λ p. p.0) (λ p. p.0) (λ p. p.0) (λ p. p.0) (λ p. p.0) (λ p. p.0) (λ p. p.0) (λ p. p.0)
 
-  abbrev pub limits_Suffix : OverTrees Suffix-F → OverLimits Suffix-F
-  limits_Suffix = map-Suffix Exp LExp Stmt SuffixTree CaseTree FieldValue Index Range TargetTree
-      Bool Bool Bool Bool Bool Bool Bool Bool Bool
-      limits_exp limits_lexp limits_stmt limits_suffix limits_case limits_field limits_index limits_range limits_target
-
   abbrev pub SuffixForm : OverTrees Suffix-F → Type 0
-  SuffixForm d = SaidSuffix (Rules.suffix_form (found_Suffix d)) (Uses.suffix_form (failed_Suffix d)) (T.suffix_form (limits_Suffix d))
+  SuffixForm d = SaidSuffix (Rules.suffix_form (found_Suffix d)) (Uses.suffix_form (failed_Suffix d)) (Trees.suffix_form (written_Suffix d))
 
   pub rolled_Suffix : (d : OverTrees Suffix-F) → SuffixForm d → OfSuffix (roll-Suffix d)
   rolled_Suffix d h =
-      subst (λ k. SaidSuffix k (failed_suffix (roll-Suffix d)) (limits_suffix (roll-Suffix d)))
+      subst (λ k. SaidSuffix k (failed_suffix (roll-Suffix d)) (written_suffix (roll-Suffix d)))
       (sym (fold-roll-Suffix Part TargetPart StatementPart SuffixPart CasePart FieldPart IndexPart RangePart FurtherPart
       Rules.exp_form Rules.target_form Rules.statement_form Rules.suffix_form Rules.case_form Rules.field_form Rules.index_form Rules.range_form
       Rules.further_form d))
-      (subst (λ k. SaidSuffix (Rules.suffix_form (found_Suffix d)) k (limits_suffix (roll-Suffix d)))
+      (subst (λ k. SaidSuffix (Rules.suffix_form (found_Suffix d)) k (written_suffix (roll-Suffix d)))
       (sym (fold-roll-Suffix Failures Failures Uses.Statement Failures Failures Uses.Field Failures Failures Failures
       Uses.expression_form Uses.target_form Uses.statement_form Uses.suffix_form Uses.case_form Uses.field_form Uses.index_form Uses.range_form
       Uses.further_form d))
       (subst (λ k. SaidSuffix (Rules.suffix_form (found_Suffix d)) (Uses.suffix_form (failed_Suffix d)) k)
       (sym (fold-roll-Suffix Bool Bool Bool Bool Bool Bool Bool Bool Bool
-      T.expression_form T.target_form T.statement_form T.suffix_form T.case_form T.field_form T.index_form T.range_form T.further_form d)) h))
+      Trees.expression_form Trees.target_form Trees.statement_form Trees.suffix_form Trees.case_form Trees.field_form Trees.index_form
+      Trees.range_form Trees.further_form d)) h))
 
   abbrev pub first_Case : OverSuch Case-F → OverTrees Case-F
   first_Case = map-Case SuchExp SuchLExp SuchStmt SuchSuffix SuchCase SuchFieldValue SuchIndex SuchRange SuchTarget
       Exp LExp Stmt SuffixTree CaseTree FieldValue Index Range TargetTree
       (λ p. p.0) (λ p. p.0) (λ p. p.0) (λ p. p.0) (λ p. p.0) (λ p. p.0) (λ p. p.0) (λ p. p.0) (λ p. p.0)
 
-  abbrev pub limits_Case : OverTrees Case-F → OverLimits Case-F
-  limits_Case = map-Case Exp LExp Stmt SuffixTree CaseTree FieldValue Index Range TargetTree
-      Bool Bool Bool Bool Bool Bool Bool Bool Bool
-      limits_exp limits_lexp limits_stmt limits_suffix limits_case limits_field limits_index limits_range limits_target
-
   abbrev pub CaseForm : OverTrees Case-F → Type 0
-  CaseForm d = SaidCase (Rules.case_form (found_Case d)) (Uses.case_form (failed_Case d)) (T.case_form (limits_Case d))
+  CaseForm d = SaidCase (Rules.case_form (found_Case d)) (Uses.case_form (failed_Case d)) (Trees.case_form (written_Case d))
 
   pub rolled_Case : (d : OverTrees Case-F) → CaseForm d → OfCase (roll-Case d)
   rolled_Case d h =
-      subst (λ k. SaidCase k (failed_case (roll-Case d)) (limits_case (roll-Case d)))
+      subst (λ k. SaidCase k (failed_case (roll-Case d)) (written_case (roll-Case d)))
       (sym (fold-roll-Case Part TargetPart StatementPart SuffixPart CasePart FieldPart IndexPart RangePart FurtherPart
       Rules.exp_form Rules.target_form Rules.statement_form Rules.suffix_form Rules.case_form Rules.field_form Rules.index_form Rules.range_form
       Rules.further_form d))
-      (subst (λ k. SaidCase (Rules.case_form (found_Case d)) k (limits_case (roll-Case d)))
+      (subst (λ k. SaidCase (Rules.case_form (found_Case d)) k (written_case (roll-Case d)))
       (sym (fold-roll-Case Failures Failures Uses.Statement Failures Failures Uses.Field Failures Failures Failures
       Uses.expression_form Uses.target_form Uses.statement_form Uses.suffix_form Uses.case_form Uses.field_form Uses.index_form Uses.range_form
       Uses.further_form d))
       (subst (λ k. SaidCase (Rules.case_form (found_Case d)) (Uses.case_form (failed_Case d)) k)
       (sym (fold-roll-Case Bool Bool Bool Bool Bool Bool Bool Bool Bool
-      T.expression_form T.target_form T.statement_form T.suffix_form T.case_form T.field_form T.index_form T.range_form T.further_form d)) h))
+      Trees.expression_form Trees.target_form Trees.statement_form Trees.suffix_form Trees.case_form Trees.field_form Trees.index_form
+      Trees.range_form Trees.further_form d)) h))
 
   abbrev pub first_FieldValue : OverSuch FieldValue-F → OverTrees FieldValue-F
   first_FieldValue = map-FieldValue SuchExp SuchLExp SuchStmt SuchSuffix SuchCase SuchFieldValue SuchIndex SuchRange SuchTarget
       Exp LExp Stmt SuffixTree CaseTree FieldValue Index Range TargetTree
       (λ p. p.0) (λ p. p.0) (λ p. p.0) (λ p. p.0) (λ p. p.0) (λ p. p.0) (λ p. p.0) (λ p. p.0) (λ p. p.0)
 
-  abbrev pub limits_FieldValue : OverTrees FieldValue-F → OverLimits FieldValue-F
-  limits_FieldValue = map-FieldValue Exp LExp Stmt SuffixTree CaseTree FieldValue Index Range TargetTree
-      Bool Bool Bool Bool Bool Bool Bool Bool Bool
-      limits_exp limits_lexp limits_stmt limits_suffix limits_case limits_field limits_index limits_range limits_target
-
   abbrev pub FieldValueForm : OverTrees FieldValue-F → Type 0
-  FieldValueForm d = SaidFieldValue (Rules.field_form (found_FieldValue d)) (Uses.field_form (failed_FieldValue d)) (T.field_form (limits_FieldValue d))
+  FieldValueForm d = SaidFieldValue (Rules.field_form (found_FieldValue d)) (Uses.field_form (failed_FieldValue d)) (Trees.field_form (written_FieldValue d))
 
   pub rolled_FieldValue : (d : OverTrees FieldValue-F) → FieldValueForm d → OfFieldValue (roll-FieldValue d)
   rolled_FieldValue d h =
-      subst (λ k. SaidFieldValue k (failed_field (roll-FieldValue d)) (limits_field (roll-FieldValue d)))
+      subst (λ k. SaidFieldValue k (failed_field (roll-FieldValue d)) (written_field (roll-FieldValue d)))
       (sym (fold-roll-FieldValue Part TargetPart StatementPart SuffixPart CasePart FieldPart IndexPart RangePart FurtherPart
       Rules.exp_form Rules.target_form Rules.statement_form Rules.suffix_form Rules.case_form Rules.field_form Rules.index_form Rules.range_form
       Rules.further_form d))
-      (subst (λ k. SaidFieldValue (Rules.field_form (found_FieldValue d)) k (limits_field (roll-FieldValue d)))
+      (subst (λ k. SaidFieldValue (Rules.field_form (found_FieldValue d)) k (written_field (roll-FieldValue d)))
       (sym (fold-roll-FieldValue Failures Failures Uses.Statement Failures Failures Uses.Field Failures Failures Failures
       Uses.expression_form Uses.target_form Uses.statement_form Uses.suffix_form Uses.case_form Uses.field_form Uses.index_form Uses.range_form
       Uses.further_form d))
       (subst (λ k. SaidFieldValue (Rules.field_form (found_FieldValue d)) (Uses.field_form (failed_FieldValue d)) k)
       (sym (fold-roll-FieldValue Bool Bool Bool Bool Bool Bool Bool Bool Bool
-      T.expression_form T.target_form T.statement_form T.suffix_form T.case_form T.field_form T.index_form T.range_form T.further_form d)) h))
+      Trees.expression_form Trees.target_form Trees.statement_form Trees.suffix_form Trees.case_form Trees.field_form Trees.index_form
+      Trees.range_form Trees.further_form d)) h))
 
   abbrev pub first_Index : OverSuch Index-F → OverTrees Index-F
   first_Index = map-Index SuchExp SuchLExp SuchStmt SuchSuffix SuchCase SuchFieldValue SuchIndex SuchRange SuchTarget
       Exp LExp Stmt SuffixTree CaseTree FieldValue Index Range TargetTree
       (λ p. p.0) (λ p. p.0) (λ p. p.0) (λ p. p.0) (λ p. p.0) (λ p. p.0) (λ p. p.0) (λ p. p.0) (λ p. p.0)
 
-  abbrev pub limits_Index : OverTrees Index-F → OverLimits Index-F
-  limits_Index = map-Index Exp LExp Stmt SuffixTree CaseTree FieldValue Index Range TargetTree
-      Bool Bool Bool Bool Bool Bool Bool Bool Bool
-      limits_exp limits_lexp limits_stmt limits_suffix limits_case limits_field limits_index limits_range limits_target
-
   abbrev pub IndexForm : OverTrees Index-F → Type 0
-  IndexForm d = SaidIndex (Rules.index_form (found_Index d)) (Uses.index_form (failed_Index d)) (T.index_form (limits_Index d))
+  IndexForm d = SaidIndex (Rules.index_form (found_Index d)) (Uses.index_form (failed_Index d)) (Trees.index_form (written_Index d))
 
   pub rolled_Index : (d : OverTrees Index-F) → IndexForm d → OfIndex (roll-Index d)
   rolled_Index d h =
-      subst (λ k. SaidIndex k (failed_index (roll-Index d)) (limits_index (roll-Index d)))
+      subst (λ k. SaidIndex k (failed_index (roll-Index d)) (written_index (roll-Index d)))
       (sym (fold-roll-Index Part TargetPart StatementPart SuffixPart CasePart FieldPart IndexPart RangePart FurtherPart
       Rules.exp_form Rules.target_form Rules.statement_form Rules.suffix_form Rules.case_form Rules.field_form Rules.index_form Rules.range_form
       Rules.further_form d))
-      (subst (λ k. SaidIndex (Rules.index_form (found_Index d)) k (limits_index (roll-Index d)))
+      (subst (λ k. SaidIndex (Rules.index_form (found_Index d)) k (written_index (roll-Index d)))
       (sym (fold-roll-Index Failures Failures Uses.Statement Failures Failures Uses.Field Failures Failures Failures
       Uses.expression_form Uses.target_form Uses.statement_form Uses.suffix_form Uses.case_form Uses.field_form Uses.index_form Uses.range_form
       Uses.further_form d))
       (subst (λ k. SaidIndex (Rules.index_form (found_Index d)) (Uses.index_form (failed_Index d)) k)
       (sym (fold-roll-Index Bool Bool Bool Bool Bool Bool Bool Bool Bool
-      T.expression_form T.target_form T.statement_form T.suffix_form T.case_form T.field_form T.index_form T.range_form T.further_form d)) h))
+      Trees.expression_form Trees.target_form Trees.statement_form Trees.suffix_form Trees.case_form Trees.field_form Trees.index_form
+      Trees.range_form Trees.further_form d)) h))
 
   abbrev pub first_Range : OverSuch Range-F → OverTrees Range-F
   first_Range = map-Range SuchExp SuchLExp SuchStmt SuchSuffix SuchCase SuchFieldValue SuchIndex SuchRange SuchTarget
       Exp LExp Stmt SuffixTree CaseTree FieldValue Index Range TargetTree
       (λ p. p.0) (λ p. p.0) (λ p. p.0) (λ p. p.0) (λ p. p.0) (λ p. p.0) (λ p. p.0) (λ p. p.0) (λ p. p.0)
 
-  abbrev pub limits_Range : OverTrees Range-F → OverLimits Range-F
-  limits_Range = map-Range Exp LExp Stmt SuffixTree CaseTree FieldValue Index Range TargetTree
-      Bool Bool Bool Bool Bool Bool Bool Bool Bool
-      limits_exp limits_lexp limits_stmt limits_suffix limits_case limits_field limits_index limits_range limits_target
-
   abbrev pub RangeForm : OverTrees Range-F → Type 0
-  RangeForm d = SaidRange (Rules.range_form (found_Range d)) (Uses.range_form (failed_Range d)) (T.range_form (limits_Range d))
+  RangeForm d = SaidRange (Rules.range_form (found_Range d)) (Uses.range_form (failed_Range d)) (Trees.range_form (written_Range d))
 
   pub rolled_Range : (d : OverTrees Range-F) → RangeForm d → OfRange (roll-Range d)
   rolled_Range d h =
-      subst (λ k. SaidRange k (failed_range (roll-Range d)) (limits_range (roll-Range d)))
+      subst (λ k. SaidRange k (failed_range (roll-Range d)) (written_range (roll-Range d)))
       (sym (fold-roll-Range Part TargetPart StatementPart SuffixPart CasePart FieldPart IndexPart RangePart FurtherPart
       Rules.exp_form Rules.target_form Rules.statement_form Rules.suffix_form Rules.case_form Rules.field_form Rules.index_form Rules.range_form
       Rules.further_form d))
-      (subst (λ k. SaidRange (Rules.range_form (found_Range d)) k (limits_range (roll-Range d)))
+      (subst (λ k. SaidRange (Rules.range_form (found_Range d)) k (written_range (roll-Range d)))
       (sym (fold-roll-Range Failures Failures Uses.Statement Failures Failures Uses.Field Failures Failures Failures
       Uses.expression_form Uses.target_form Uses.statement_form Uses.suffix_form Uses.case_form Uses.field_form Uses.index_form Uses.range_form
       Uses.further_form d))
       (subst (λ k. SaidRange (Rules.range_form (found_Range d)) (Uses.range_form (failed_Range d)) k)
       (sym (fold-roll-Range Bool Bool Bool Bool Bool Bool Bool Bool Bool
-      T.expression_form T.target_form T.statement_form T.suffix_form T.case_form T.field_form T.index_form T.range_form T.further_form d)) h))
+      Trees.expression_form Trees.target_form Trees.statement_form Trees.suffix_form Trees.case_form Trees.field_form Trees.index_form
+      Trees.range_form Trees.further_form d)) h))
 
   abbrev pub first_Target : OverSuch Target-F → OverTrees Target-F
   first_Target = map-Target SuchExp SuchLExp SuchStmt SuchSuffix SuchCase SuchFieldValue SuchIndex SuchRange SuchTarget
       Exp LExp Stmt SuffixTree CaseTree FieldValue Index Range TargetTree
       (λ p. p.0) (λ p. p.0) (λ p. p.0) (λ p. p.0) (λ p. p.0) (λ p. p.0) (λ p. p.0) (λ p. p.0) (λ p. p.0)
 
-  abbrev pub limits_Target : OverTrees Target-F → OverLimits Target-F
-  limits_Target = map-Target Exp LExp Stmt SuffixTree CaseTree FieldValue Index Range TargetTree
-      Bool Bool Bool Bool Bool Bool Bool Bool Bool
-      limits_exp limits_lexp limits_stmt limits_suffix limits_case limits_field limits_index limits_range limits_target
-
   abbrev pub TargetForm : OverTrees Target-F → Type 0
-  TargetForm d = SaidTarget (Rules.further_form (found_Target d)) (Uses.further_form (failed_Target d)) (T.further_form (limits_Target d))
+  TargetForm d = SaidTarget (Rules.further_form (found_Target d)) (Uses.further_form (failed_Target d)) (Trees.further_form (written_Target d))
 
   pub rolled_Target : (d : OverTrees Target-F) → TargetForm d → OfTarget (roll-Target d)
   rolled_Target d h =
-      subst (λ k. SaidTarget k (failed_target (roll-Target d)) (limits_target (roll-Target d)))
+      subst (λ k. SaidTarget k (failed_target (roll-Target d)) (written_target (roll-Target d)))
       (sym (fold-roll-Target Part TargetPart StatementPart SuffixPart CasePart FieldPart IndexPart RangePart FurtherPart
       Rules.exp_form Rules.target_form Rules.statement_form Rules.suffix_form Rules.case_form Rules.field_form Rules.index_form Rules.range_form
       Rules.further_form d))
-      (subst (λ k. SaidTarget (Rules.further_form (found_Target d)) k (limits_target (roll-Target d)))
+      (subst (λ k. SaidTarget (Rules.further_form (found_Target d)) k (written_target (roll-Target d)))
       (sym (fold-roll-Target Failures Failures Uses.Statement Failures Failures Uses.Field Failures Failures Failures
       Uses.expression_form Uses.target_form Uses.statement_form Uses.suffix_form Uses.case_form Uses.field_form Uses.index_form Uses.range_form
       Uses.further_form d))
       (subst (λ k. SaidTarget (Rules.further_form (found_Target d)) (Uses.further_form (failed_Target d)) k)
       (sym (fold-roll-Target Bool Bool Bool Bool Bool Bool Bool Bool Bool
-      T.expression_form T.target_form T.statement_form T.suffix_form T.case_form T.field_form T.index_form T.range_form T.further_form d)) h))
+      Trees.expression_form Trees.target_form Trees.statement_form Trees.suffix_form Trees.case_form Trees.field_form Trees.index_form
+      Trees.range_form Trees.further_form d)) h))

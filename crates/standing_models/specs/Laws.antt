@@ -24,17 +24,10 @@ pub record ClausesPlaced (core : Core) : Type 0 where
   pub kind : (out-Core core).kind ≡ K.Clauses arms
   pub bodies : AreBodies (out-Core core).parts
 
--- of which there is one at least
-pub record SomePlaced (core : Core) : Type 0 where
-  pub first : Arm
-  pub others : List Arm
-  pub kind : (out-Core core).kind ≡ K.Clauses (first ∷ others)
-  pub bodies : AreBodies (out-Core core).parts
-
 -- those of a function and of its measure
 pub record FunctionPlaced (f : Function) : Type 0 where
-  pub body : SomePlaced f.body
-  pub measure : (core : Core) → f.measure ≡ Some core → SomePlaced core
+  pub body : ClausesPlaced f.body
+  pub measure : (core : Core) → f.measure ≡ Some core → ClausesPlaced core
 
 abbrev pub AllFunctions : List Function → Type 0
 AllFunctions [] = Unit {0}

@@ -1,5 +1,5 @@
 -- Where each type that is written of an expression of a text reads.
-use Rattle.std.specs.Prelude.{Bool, true, false, ◌&&◌, List, [], ◌∷◌, Option, Some, None, is_some}
+use Rattle.std.specs.Prelude.{Bool, true, ◌&&◌, List, [], ◌∷◌, Option, Some, None, is_some}
 use Rattle.sail_syntax.specs.declared.definitions.Def.{Def}
 use Rattle.sail_syntax.specs.declared.definitions.Def.TheVariants as D
 use Rattle.sail_syntax.specs.declared.definitions.FunctionClause.{FunctionClause}
@@ -51,11 +51,6 @@ abbrev pub each_clause_reads : Within → List FunctionClause → Bool
 each_clause_reads within [] = true
 each_clause_reads within (c ∷ cs) = clause_reads within c && each_clause_reads within cs
 
--- a function has a clause
-abbrev pub clauses_read : Within → List FunctionClause → Bool
-clauses_read within [] = false
-clauses_read within (c ∷ cs) = each_clause_reads within (c ∷ cs)
-
 abbrev pub pair_reads : Within → Side → Bool
 pair_reads within side = side_reads within side.pattern && expression_reads within side.guard
 
@@ -70,7 +65,7 @@ crossings_read within (c ∷ cs) = crossing_reads within c && crossings_read wit
 
 abbrev pub called_reads : Tabled → Option Signature → List FunctionClause → Bool
 called_reads tabled None clauses = true
-called_reads tabled (Some s) clauses = clauses_read (within_variables tabled s.variables) clauses
+called_reads tabled (Some s) clauses = each_clause_reads (within_variables tabled s.variables) clauses
 
 abbrev pub measure_reads : Tabled → Option Signature → Exp → Bool
 measure_reads tabled None value = true

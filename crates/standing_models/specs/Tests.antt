@@ -1,30 +1,17 @@
 -- Tests of each node of a core, and where what is found of an expression passes them: what its kind asks by itself, its patterns stand, and numbers and
 -- conditions that it reads are over the variables of what is around.
-use Rattle.std.specs.Prelude.{◌≡◌, ℕ, nat_lt, Bool, true, false, ◌&&◌, List, [], ◌∷◌, length, map, Option, Some, None, is_some}
+use Rattle.std.specs.Prelude.{◌≡◌, ℕ, nat_lt, Bool, true, false, ◌&&◌, List, [], ◌∷◌, length, map, Option, Some, is_some}
 use Rattle.std.specs.List.{list_all}
 use Rattle.sail_base.specs.declared.kind.Kind.TheVariants as Sort
 use Rattle.sail_base.specs.declared.operators.Operator.{Operator}
 use Rattle.sail_base.specs.declared.place.Place.{Place}
-use Rattle.sail_types.specs.Limits.{is_small, is_width}
 use Rattle.sail_types.specs.Named.{members}
 use Rattle.sail_types.specs.declared.numbers.Con.{Con}
 use Rattle.sail_types.specs.declared.numbers.Index.{Index}
 use Rattle.sail_types.specs.declared.numbers.Num.{Num}
 use Rattle.sail_types.specs.declared.shapes.Shape.{Shape}
-use Rattle.sail_syntax.specs.declared.definitions.Def.{Def}
-use Rattle.sail_syntax.specs.declared.definitions.Def.TheVariants as G
-use Rattle.sail_syntax.specs.declared.definitions.FunctionClause.{FunctionClause}
-use Rattle.sail_syntax.specs.declared.definitions.MappingClause.{MappingClause}
-use Rattle.sail_syntax.specs.declared.definitions.Side.{Side}
-use Rattle.sail_syntax.specs.declared.expressions.Exp.{Exp, fold-Exp}
-use Rattle.sail_syntax.specs.declared.expressions.Exp.TheOpen as E
-use Rattle.sail_syntax.specs.declared.expressions.Exp.TheOpen.{Case-F, Exp-F, FieldValue-F, Index-F, LExp-F, Range-F, Stmt-F, Suffix-F, Target-F}
-use Rattle.sail_syntax.specs.declared.name.Literal.{Literal}
-use Rattle.sail_syntax.specs.declared.name.Literal.TheVariants as N
+use Rattle.sail_syntax.specs.declared.expressions.Exp.{Exp}
 use Rattle.sail_syntax.specs.declared.patterns.Pat.{Pat}
-use Rattle.sail_syntax.specs.declared.patterns.Pat.TheOpen as P
-use Rattle.sail_syntax.specs.declared.patterns.Pat.TheOpen.{Joined-F, Pat-F}
-use Rattle.sail_syntax.specs.declared.patterns.Pat.TheFolds.{fold-Pat}
 use Rattle.sail_syntax.specs.declared.types.TyExp.{TyExp}
 use Rattle.sail_kinds.specs.Scopes.{Within}
 use Rattle.sail_core.specs.declared.patterns.Arm.{Arm}
@@ -55,11 +42,12 @@ use Rattle.shape_rules.specs.Patterns.{look, no_widths}
 use Rattle.shape_rules.specs.Scopes.{Locals, Setting, plainly}
 use Rattle.shape_rules.specs.Written.{constraint_in, number_in, typ_in}
 use Rattle.shape_meanings.specs.Naming.{AreKnown}
+use Rattle.shape_meanings.specs.Trees.{pattern_written, written}
 use Rattle.pattern_laws.specs.Standing.{each_stands}
 use Rattle.soundness_forms.specs.Standing.{callee_stands, kind_stands}
 use Rattle.soundness_sizes.specs.Kinds.{sizes_stand}
 use Rattle.soundness_sizes.specs.Own.{con_own, number_own}
-use Rattle.standing_cores.specs.Types.{every, maybe, types_read}
+use Rattle.standing_cores.specs.Types.{types_read}
 
 -- ---- nodes
 
@@ -97,91 +85,6 @@ module _ (around : Around) (numbers : List Index) (fits : Pattern → Bool) wher
   abbrev pub passes : Core → Bool
   passes = fold-Core Bool node_passes
 
--- ---- literals that are written are within their limits, as the words of a text are
-
-abbrev pub literal_limited : Literal → Bool
-literal_limited (N.Number z) = is_small z
-literal_limited (N.Bits bits) = is_width (length bits)
-literal_limited literal = true
-
-abbrev pub pattern_form : Pat-F Bool Bool → Bool
-pattern_form (P.Constant place literal) = literal_limited literal
-pattern_form (P.Negative place z) = is_small z
-pattern_form (P.Construct name bs) = every bs
-pattern_form (P.Group place brackets bs) = every bs
-pattern_form (P.Concat place a b bs) = (a && b) && every bs
-pattern_form (P.Cons place a b) = a && b
-pattern_form (P.As place a name) = a
-pattern_form (P.Typed place a typ) = a
-pattern_form form = true
-
-abbrev pub joined_form : Joined-F Bool Bool → Bool
-joined_form j = j.part
-
-abbrev pub pattern_limited : Pat → Bool
-pattern_limited = fold-Pat Bool Bool pattern_form joined_form
-
-abbrev pub Form : (Type 0 → Type 0 → Type 0 → Type 0 → Type 0 → Type 0 → Type 0 → Type 0 → Type 0 → Type 0) → Type 0
-Form F = F Bool Bool Bool Bool Bool Bool Bool Bool Bool
-
-abbrev pub expression_form : Form Exp-F → Bool
-expression_form (E.Constant place literal) = literal_limited literal
-expression_form (E.Variable name) = true
-expression_form (E.Call name ms) = every ms
-expression_form (E.Prefixed place prefix a) = a
-expression_form (E.Infix place operator a b) = a && b
-expression_form (E.Leave place leaving a) = a
-expression_form (E.Group place brackets ms) = every ms
-expression_form (E.Part place a ms) = a && every ms
-expression_form (E.Typed place a typ) = a
-expression_form (E.Assign place t ts a) = (t && every ts) && a
-expression_form (E.Block place ms a) = every ms && maybe a
-expression_form (E.Let place pattern a b) = (pattern_limited pattern && a) && b
-expression_form (E.Var place name typ a b) = a && b
-expression_form (E.If place a b c) = (a && b) && maybe c
-expression_form (E.Choose place choosing a ms) = a && every ms
-expression_form (E.Foreach place name range a) = range && a
-expression_form (E.Loop place looping m a b) = (maybe m && a) && b
-expression_form (E.Update place a i b) = (a && i) && b
-expression_form (E.Struct place name ms) = every ms
-expression_form (E.With place a ms) = a && every ms
-expression_form (E.OfType place asking typ) = true
-expression_form (E.Assert place a text) = a
-
-abbrev pub target_form : Form LExp-F → Bool
-target_form (E.ToName name) = true
-target_form (E.ToCall name ms) = every ms
-target_form (E.ToTuple place ms) = every ms
-target_form (E.ToPart place a ms) = a && every ms
-
-abbrev pub statement_form : Form Stmt-F → Bool
-statement_form (E.Evaluate a) = a
-statement_form (E.Define place pattern a) = pattern_limited pattern && a
-statement_form (E.Declare place name typ a) = a
-
-abbrev pub suffix_form : Form Suffix-F → Bool
-suffix_form (E.Field name) = true
-suffix_form (E.At place i) = i
-
-abbrev pub case_form : Form Case-F → Bool
-case_form c = (pattern_limited c.pattern && maybe c.guard) && c.body
-
-abbrev pub field_form : Form FieldValue-F → Bool
-field_form f = f.value
-
-abbrev pub index_form : Form Index-F → Bool
-index_form i = i.first && maybe i.last
-
-abbrev pub range_form : Form Range-F → Bool
-range_form r = (r.from && r.to) && maybe r.by
-
-abbrev pub further_form : Form Target-F → Bool
-further_form t = t.to
-
-abbrev pub limited : Exp → Bool
-limited = fold-Exp Bool Bool Bool Bool Bool Bool Bool Bool Bool
-    expression_form target_form statement_form suffix_form case_form field_form index_form range_form further_form
-
 -- ---- what names mean where an expression stands: members and callees that the core has, patterns that stand, and numbers over the variables around
 
 abbrev pub doing_fits : Around → Doing → ℕ → Bool
@@ -198,10 +101,10 @@ meant_fits around (Some (M.Overload fs)) = list_all (candidate_fits around) fs
 meant_fits around (Some (M.Member e k)) = nat_lt k (length (members around.types e))
 meant_fits around meant = true
 
--- what is found of a pattern in whose names, shapes and literals nothing is wrong passes the test of patterns
+-- what is found of a pattern as the grammar has it, in whose names and shapes nothing is wrong, passes the test of patterns
 abbrev pub PatternsFit : (Pattern → Bool) → Setting → Tables.Setting → Type 0
 PatternsFit fits setting names =
-    (p : Pat) (subject : Shape) → uses_failures names p ≡ [] → pattern_limited p ≡ true → (look p setting no_widths subject).faults ≡ []
+    (p : Pat) (subject : Shape) → uses_failures names p ≡ [] → pattern_written p ≡ true → (look p setting no_widths subject).faults ≡ []
     → fits (look p setting no_widths subject).pattern ≡ true
 
 abbrev pub unit_pattern : Place → Pattern
@@ -225,9 +128,9 @@ abbrev pub Tested : Around → List Index → (Pattern → Bool) → Setting →
 Tested around numbers fits setting e =
     (locals : Locals) (want : Shape) → (e setting locals want).faults ≡ [] → passes around numbers fits (e setting locals want).core ≡ true
 
--- where no failure is found in the names and the shapes of an expression
+-- where no failure is found in the names and the shapes of an expression as the grammar has it
 abbrev pub FoundCoresPass : Type 0
-FoundCoresPass = (around : Around) (numbers : List Index) (fits : Pattern → Bool) (e : Exp) → limited e ≡ true
+FoundCoresPass = (around : Around) (numbers : List Index) (fits : Pattern → Bool) (e : Exp) → written e ≡ true
     → (names : Tables.Setting) (bound : Bound.Locals) → expression_failures e names bound ≡ []
     → (setting : Setting) → Fits around numbers fits setting names → Tested around numbers fits setting (elaborate e)
 
@@ -236,29 +139,3 @@ abbrev pub FoundTypesRead : Type 0
 FoundTypesRead = (within : Within)
     → ((names : Tables.Setting) (typ : TyExp) → names.types ≡ within → type_failures Sort.Type typ names ≡ [] → is_some (typ_in within typ) ≡ true)
     → (e : Exp) (names : Tables.Setting) (bound : Bound.Locals) → names.types ≡ within → expression_failures e names bound ≡ [] → types_read within e ≡ true
-
--- ---- clauses whose literals are within their limits, and a text
-
-abbrev pub clause_limited : FunctionClause → Bool
-clause_limited c = every (map pattern_limited c.parameters) && limited c.body
-
-abbrev pub guard_limited : Option Exp → Bool
-guard_limited None = true
-guard_limited (Some e) = limited e
-
-abbrev pub side_limited : Side → Bool
-side_limited side = pattern_limited side.pattern && guard_limited side.guard
-
-abbrev pub crossing_limited : MappingClause → Bool
-crossing_limited c = side_limited c.left && side_limited c.right
-
-abbrev pub definition_limited : Def → Bool
-definition_limited (G.Function place extent name clauses) = every (map clause_limited clauses)
-definition_limited (G.Measure place name parameters value) = every (map pattern_limited parameters) && limited value
-definition_limited (G.Mapping place name sides cs) = every (map crossing_limited cs)
-definition_limited (G.Let place p value) = pattern_limited p && limited value
-definition_limited (G.Register place name typ initial) = guard_limited initial
-definition_limited d = true
-
-abbrev pub text_limited : List Def → Bool
-text_limited text = every (map definition_limited text)

@@ -44,7 +44,7 @@ use Rattle.shape_clauses.specs.Functions.{Measure, called_faults, function_fault
 use Rattle.shape_clauses.specs.Functions.{measure_of, measure_tree, signed_clauses}
 use Rattle.shape_meanings.proofs.Settling.{both_empty, same_name}
 use Rattle.shape_meanings.specs.Naming.{AreKnown}
-use Rattle.shape_meanings.specs.Whole.{below}
+use Rattle.shape_meanings.specs.Whole.{all_of, below}
 use Rattle.shapes.specs.Failures.{all_lets, own_in}
 use Rattle.shapes.specs.Tabled.{tabled_of}
 use Rattle.known_texts.specs.Accepted.{NothingFails}
@@ -52,7 +52,8 @@ use Rattle.known_texts.specs.Known.{DefinitionsKnown}
 use Rattle.known_texts.specs.Signed.{EachSigned, IsSigned}
 use Rattle.known_texts.specs.Values.{RegistersTyped}
 use Rattle.known_texts.specs.Whole.{setting_in}
-use Rattle.known_texts.specs.Written.{IsWritten}
+use Rattle.shape_meanings.specs.Trees.{pattern_written, written}
+use Rattle.known_texts.specs.Written.{IsWritten, clause_types_written, clause_written, definition_written, has_clauses}
 use Rattle.known_texts.proofs.Assembled.{definitions_known, known_here, known_plainly}
 use Rattle.known_texts.proofs.Failures.{apart, nothing_fails}
 use Rattle.known_texts.proofs.Formed.{signature_whole}
@@ -63,8 +64,7 @@ use Rattle.known_texts.proofs.Signed.{each_signed, variables_are}
 use Rattle.known_texts.proofs.Tuples.{TuplesHaveParts}
 use Rattle.known_texts.proofs.Types.{types_known}
 use Rattle.known_texts.proofs.Vals.{vals_signed}
-use Rattle.standing_cores.specs.Types.{every}
-use Rattle.standing_models.specs.Tests.{Fits, clause_limited, definition_limited, limited, passes, pattern_limited, text_limited}
+use Rattle.standing_models.specs.Tests.{Fits, passes}
 use Rattle.standing_models.proofs.CorePasses.{AllPass as EachPasses}
 use Rattle.standing_models.proofs.PassingClauses.{ClausesPass, EachNamed, body_clauses, measure_clauses}
 use Rattle.text_progress.proofs.Entries.{all_in}
@@ -180,7 +180,7 @@ module _ (text : List Def) (cycle : List ℕ → Option ℕ) (known : Definition
   }
 
   body_passes : (name : List ℕ) (s : Signature) → signature_in text name ≡ Some s → (at : ℕ) (place : Place) (cs : List FunctionClause)
-      → every (map clause_limited cs) ≡ true → clauses_failures (names_at at name) cs ≡ [] → function_faults within (Some s) cs ≡ []
+      → all_of (map clause_written cs) ≡ true → clauses_failures (names_at at name) cs ≡ [] → function_faults within (Some s) cs ≡ []
       → BodyPasses around (own s.variables) (fits (own s.variables)) (numbered (clauses_core place (signed_clauses (within s.variables) s cs)) 0).it
   body_passes name s signed at place cs q u f =
       let are : AreKnown (answering (Some (shape s.to)) (within s.variables)) (names_at at name) =
@@ -195,11 +195,11 @@ module _ (text : List Def) (cycle : List ℕ → Option ℕ) (known : Definition
       (each_named (names_at at name) cs u) f)
 
   measure_passes : (name : List ℕ) (s : Signature) → signature_in text name ≡ Some s → (x : Measure) (at n : ℕ)
-      → MeasureNamed (plain_at text at name) x → (every (map pattern_limited x.parameters) && limited x.value) ≡ true
+      → MeasureNamed (plain_at text at name) x → (all_of (map pattern_written x.parameters) && written x.value) ≡ true
       → measure_faults within (Some s) x.place x.parameters x.value ≡ []
       → BodyPasses around (own s.variables) (fits (own s.variables)) (numbered (measure_tree (within s.variables) (param_shapes s.from) x) n).it
   measure_passes name s signed x at n it q f =
-      let k = and_parts (every (map pattern_limited x.parameters)) (limited x.value) q in
+      let k = and_parts (all_of (map pattern_written x.parameters)) (written x.value) q in
       let are : AreKnown (plainly (within s.variables)) (plain_at text at name) =
       known_plainly text clear is_written tuples s.variables (plain_at text at name) refl (under_signature name s signed) in
       clauses_are s.variables (numbered (measure_tree (within s.variables) (param_shapes s.from) x) n).it
@@ -213,50 +213,52 @@ module _ (text : List Def) (cycle : List ℕ → Option ℕ) (known : Definition
 
   abbrev Fine : List ℕ → Measure → Type 0
   Fine name x = (measure_faults within (tabled.signature name) x.place x.parameters x.value ≡ [])
-      × ((every (map pattern_limited x.parameters) && limited x.value) ≡ true)
+      × ((all_of (map pattern_written x.parameters) && written x.value) ≡ true)
 
   measure_fine : (name own : List ℕ) (place : Place) (parameters : List Pat) (value : Exp) (more : Option Measure) (x : Measure) (b : Bool)
       → bytes_eq own name ≡ b → measure_faults within (tabled.signature own) place parameters value ≡ []
-      → (every (map pattern_limited parameters) && limited value) ≡ true → (more ≡ Some x → Fine name x)
+      → (all_of (map pattern_written parameters) && written value) ≡ true → (more ≡ Some x → Fine name x)
       → option_or (if b then Some (record { place = place; parameters = parameters; value = value }) else None) more ≡ Some x → Fine name x
   measure_fine name own place parameters value more x true is e q later there =
       subst (Fine name) (some_same (record { place = place; parameters = parameters; value = value }) x there)
       (subst (λ n. measure_faults within (tabled.signature n) place parameters value ≡ []) (same_name own name is) e, q)
   measure_fine name own place parameters value more x false is e q later there = later there
 
-  measures_fine : (name : List ℕ) (more : List Def) (x : Measure) → faults more ≡ [] → every (map definition_limited more) ≡ true
+  measures_fine : (name : List ℕ) (more : List Def) (x : Measure) → faults more ≡ [] → all_of (map definition_written more) ≡ true
       → measure_of name more ≡ Some x → Fine name x
   measures_fine name [] x e q there = none there
   measures_fine name ((D.Measure place own parameters value) ∷ more) x e q there =
       let b = both_empty (measure_faults within (tabled.signature own.text) place parameters value) (faults more) e in
-      let k = and_parts (every (map pattern_limited parameters) && limited value) (every (map definition_limited more)) q in
+      let k = and_parts (all_of (map pattern_written parameters) && written value) (all_of (map definition_written more)) q in
       measure_fine name own.text place parameters value (measure_of name more) x (bytes_eq own.text name) refl b.0 k.0
       (λ h. measures_fine name more x b.1 k.1 h) there
   measures_fine name (d ∷ more) x e q there =
       measures_fine name more x (both_empty (called_faults tabled within d) (faults more) e).1
-      (and_parts (definition_limited d) (every (map definition_limited more)) q).1 there
+      (and_parts (definition_written d) (all_of (map definition_written more)) q).1 there
 
   -- ---- the text
 
-  module _ (fine : faults text ≡ []) (small : text_limited text ≡ true) where
+  module _ (fine : faults text ≡ []) where
     measured : (name : List ℕ) (s : Signature) → signature_in text name ≡ Some s → (o : Option Measure) → measure_of name text ≡ o → (n : ℕ) (y : Core)
         → (measure_core (within s.variables) (param_shapes s.from) o n).it ≡ Some y → BodyPasses around (own s.variables) (fits (own s.variables)) y
     measured name s signed None is n y e = none e
     measured name s signed (Some x) is n y e =
         let found = measure_found text clear.bodies is_written name x is in
-        let k = measures_fine name text x fine small is in
+        let k = measures_fine name text x fine is_written is in
         let faultless : measure_faults within (Some s) x.place x.parameters x.value ≡ [] =
         subst (λ t. measure_faults within t x.place x.parameters x.value ≡ []) signed k.0 in
         subst (BodyPasses around (own s.variables) (fits (own s.variables)))
         (some_same (numbered (measure_tree (within s.variables) (param_shapes s.from) x) n).it y e)
         (measure_passes name s signed x found.0 n found.1 k.1 faultless)
 
-    def_passes : (at : ℕ) (d : Def) → body_failures text (known_in text) (types_of text) at d ≡ [] → IsSigned text d → definition_limited d ≡ true
+    def_passes : (at : ℕ) (d : Def) → body_failures text (known_in text) (types_of text) at d ≡ [] → IsSigned text d → definition_written d ≡ true
         → called_faults tabled within d ≡ [] → AllPass around fits (functions_of tabled text within cycle d)
     def_passes at (D.Function place extent name cs) u sig q f =
         subst (λ o. AllPass around fits (functions_if tabled text within place name.text cs o (cycle name.text))) (sym sig.1) (
           (
-            body_passes name.text sig.0 sig.1 at place cs q u (subst (λ o. function_faults within o cs ≡ []) sig.1 f),
+            body_passes name.text sig.0 sig.1 at place cs
+                (and_parts (has_clauses extent cs && all_of (map clause_types_written cs)) (all_of (map clause_written cs)) q).1 u
+                (subst (λ o. function_faults within o cs ≡ []) sig.1 f),
             λ y e.
                 measured name.text sig.0 sig.1 (measure_of name.text text) refl
                 (numbered (clauses_core place (signed_clauses (within sig.0.variables) sig.0 cs)) 0).next y e,
@@ -266,11 +268,11 @@ module _ (text : List Def) (cycle : List ℕ → Option ℕ) (known : Definition
     def_passes at d u sig q f = tt
 
     each_passes : (at : ℕ) (rest : List Def) → body_failures_from text (known_in text) (types_of text) at rest ≡ [] → EachSigned text rest
-        → every (map definition_limited rest) ≡ true → faults rest ≡ [] → AllPass around fits (joined (map (functions_of tabled text within cycle) rest))
+        → all_of (map definition_written rest) ≡ true → faults rest ≡ [] → AllPass around fits (joined (map (functions_of tabled text within cycle) rest))
     each_passes at [] u sigs q f = tt
     each_passes at (d ∷ rest) u sigs q f =
         let u2 = apart (body_failures text (known_in text) (types_of text) at d) (body_failures_from text (known_in text) (types_of text) (at + 1) rest) u in
-        let q2 = and_parts (definition_limited d) (every (map definition_limited rest)) q in
+        let q2 = and_parts (definition_written d) (all_of (map definition_written rest)) q in
         let f2 = both_empty (called_faults tabled within d) (faults rest) f in
         all_join around fits (functions_of tabled text within cycle d) (joined (map (functions_of tabled text within cycle) rest))
         (def_passes at d u2.0 sigs.0 q2.0 f2.0) (each_passes (at + 1) rest u2.1 sigs.1 q2.1 f2.1)
@@ -278,13 +280,13 @@ module _ (text : List Def) (cycle : List ℕ → Option ℕ) (known : Definition
     pub functions_pass : EachSigned text text → (i : ℕ) (f : Function) → slice_get (joined (map (functions_of tabled text within cycle) text)) i ≡ Some f
         → FunctionPasses around fits f
     functions_pass sigs i f e =
-        pass_at around fits (joined (map (functions_of tabled text within cycle) text)) (each_passes 0 text clear.bodies sigs small fine) i f e
+        pass_at around fits (joined (map (functions_of tabled text within cycle) text)) (each_passes 0 text clear.bodies sigs is_written fine) i f e
 
 pub text_functions : FunctionsPass
-text_functions text end cycle accepted kept is_written small fits patterns around types functions i f there =
+text_functions text end cycle accepted kept is_written fits patterns around types functions i f there =
     let clear : NothingFails text = nothing_fails text end accepted in
     let tuples : TuplesHaveParts text = tuples_have_parts text is_written in
     let known : DefinitionsKnown (tabled_of text) text (setting_in (tabled_of text) text) = definitions_known text clear is_written tuples kept in
     let typed : RegistersTyped (tabled_of text) text = registers_typed text (types_known text clear.types) 0 text clear.bodies in
-    functions_pass text cycle known typed clear is_written tuples fits patterns around types functions (unfailed text kept).called small
+    functions_pass text cycle known typed clear is_written tuples fits patterns around types functions (unfailed text kept).called
     (each_signed text clear (types_known text clear.types) (vals_signed text (types_known text clear.types) 0 text clear.bodies) is_written) i f there

@@ -26,8 +26,10 @@ use Rattle.shape_meanings.proofs.Settling.{both_empty}
 use Rattle.shapes.specs.Failures.{all_faults, all_lets, initial_found, let_under, lets_faults, lets_with, others_faults, own_in, state_faults}
 use Rattle.shapes.specs.Resolved.{binding_opening, in_text_order, initial_openings, initials_left, initials_openings, let_openings, lets_left}
 use Rattle.shapes.specs.Resolved.{lets_openings, register_opening, registers_with, took}
-use Rattle.standing_cores.specs.Types.{every}
-use Rattle.standing_models.specs.Tests.{definition_limited, limited, passes, pattern_limited}
+use Rattle.shape_meanings.specs.Trees.{pattern_written, written}
+use Rattle.shape_meanings.specs.Whole.{all_of}
+use Rattle.known_texts.specs.Written.{definition_written, type_written}
+use Rattle.standing_models.specs.Tests.{passes}
 use Rattle.standing_models.proofs.CorePasses.{cast_passes}
 use Rattle.standing_models.proofs.PassingFound.{found_passes}
 use Rattle.standing_models.proofs.PassingNumbered.{passes_numbered}
@@ -61,13 +63,13 @@ module _ (around : Around) (fits : Pattern → Bool) where
     -- ---- top-level lets
 
     let_passes : (lets : List Local) (place : Place) (p : Pat) (value : Exp) → LetFits around fits (setting_of tabled own text lets []) p value
-        → (pattern_limited p && limited value) ≡ true → (let_under tabled own text lets place p value).faults ≡ []
+        → (pattern_written p && written value) ≡ true → (let_under tabled own text lets place p value).faults ≡ []
         → opening_passes around fits (binding_opening place (let_under tabled own text lets place p value)) ≡ true
     let_passes lets place p value its within e =
         let setting : Setting = plainly (setting_of tabled own text lets []) in
         let a = (part value).elaborate setting [] (wanted_by setting p) in
         let l = look p setting no_widths a.shape in
-        let limits = and_parts (pattern_limited p) (limited value) within in
+        let limits = and_parts (pattern_written p) (written value) within in
         let faults = both_empty _ l.faults e in
         let found = both_empty a.faults _ faults.0 in
         let core : passes around [] fits a.core ≡ true =
@@ -75,18 +77,18 @@ module _ (around : Around) (fits : Pattern → Bool) where
         two _ _ (numbered_passes (cast a.core (part value).place) (cast_passes around [] fits a.core (part value).place core))
         (two (fits l.pattern) true (its.value.fit.patterns p a.shape its.named limits.0 faults.1) refl)
 
-    def_passes : (lets : List Local) (d : Def) → OpeningFits around fits tabled text lets d → definition_limited d ≡ true
+    def_passes : (lets : List Local) (d : Def) → OpeningFits around fits tabled text lets d → definition_written d ≡ true
         → lets_faults tabled own text lets (d ∷ []) ≡ [] → EachPasses (let_openings tabled own text lets d)
     def_passes lets (D.Let place p value) its within e =
         more_pass (binding_opening place (let_under tabled own text lets place p value)) []
         (let_passes lets place p value its within (both_empty (let_under tabled own text lets place p value).faults [] e).0) refl
     def_passes lets d its within e = refl
 
-    lets_pass : (lets : List Local) (rest : List Def) → OpeningsFitFrom around fits tabled text lets rest → every (map definition_limited rest) ≡ true
+    lets_pass : (lets : List Local) (rest : List Def) → OpeningsFitFrom around fits tabled text lets rest → all_of (map definition_written rest) ≡ true
         → lets_faults tabled own text lets rest ≡ [] → EachPasses (lets_openings tabled own text lets rest)
     lets_pass lets [] its within e = refl
     lets_pass lets (d ∷ rest) its within e =
-        let limits = and_parts (definition_limited d) (every (map definition_limited rest)) within in
+        let limits = and_parts (definition_written d) (all_of (map definition_written rest)) within in
         let faults = both_empty _ (lets_faults tabled own text (lets_with tabled own text lets d) rest) e in
         both_pass (let_openings tabled own text lets d) (lets_openings tabled own text (lets_with tabled own text lets d) rest)
         (def_passes lets d its.0 limits.0 (ap (λ es. es ++ []) faults.0)) (lets_pass (lets_with tabled own text lets d) rest its.1 limits.1 faults.1)
@@ -96,7 +98,7 @@ module _ (around : Around) (fits : Pattern → Bool) where
     abbrev all : Setting
     all = setting_of tabled own text (all_lets tabled text) []
 
-    register_passes : (r : ℕ) (place : Place) (typ : TyExp) (value : Exp) → ValueFits around fits all value → limited value ≡ true
+    register_passes : (r : ℕ) (place : Place) (typ : TyExp) (value : Exp) → ValueFits around fits all value → written value ≡ true
         → (initial_found all (shape_in all.within typ) value).faults ≡ [] → EachPasses (register_opening all r place typ value ∷ [])
     register_passes r place typ value its within e =
         let want = shape_in all.within typ in
@@ -105,18 +107,19 @@ module _ (around : Around) (fits : Pattern → Bool) where
         (two (passes around [] fits (numbered found.core 0).it) true (numbered_passes found.core
         (found_passes around [] fits value within its.names [] its.named (plainly all) its.fit [] want e)) refl) refl
 
-    initial_passes : (lets : List Local) (r : ℕ) (d : Def) → OpeningFits around fits tabled text lets d → definition_limited d ≡ true
+    initial_passes : (lets : List Local) (r : ℕ) (d : Def) → OpeningFits around fits tabled text lets d → definition_written d ≡ true
         → state_faults all d ≡ [] → EachPasses (initial_openings all r d)
     initial_passes lets r (D.Register place name typ None) its within e = refl
     initial_passes lets r (D.Register place name typ (Some value)) its within e =
-        register_passes r place typ value its within (both_empty _ (initial_found all (shape_in all.within typ) value).faults e).1
+        register_passes r place typ value its (and_parts (type_written typ) (written value) within).1
+        (both_empty _ (initial_found all (shape_in all.within typ) value).faults e).1
     initial_passes lets r d its within e = refl
 
     initials_pass : (lets : List Local) (r : ℕ) (rest : List Def) → OpeningsFitFrom around fits tabled text lets rest
-        → every (map definition_limited rest) ≡ true → joined (map (state_faults all) rest) ≡ [] → EachPasses (initials_openings all r rest)
+        → all_of (map definition_written rest) ≡ true → joined (map (state_faults all) rest) ≡ [] → EachPasses (initials_openings all r rest)
     initials_pass lets r [] its within e = refl
     initials_pass lets r (d ∷ rest) its within e =
-        let limits = and_parts (definition_limited d) (every (map definition_limited rest)) within in
+        let limits = and_parts (definition_written d) (all_of (map definition_written rest)) within in
         let faults = both_empty (state_faults all d) (joined (map (state_faults all) rest)) e in
         both_pass (initial_openings all r d) (initials_openings all (registers_with r d) rest) (initial_passes lets r d its.0 limits.0 faults.0)
         (initials_pass (lets_with tabled own text lets d) (registers_with r d) rest its.1 limits.1 faults.1)

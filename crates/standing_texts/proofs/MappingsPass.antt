@@ -51,15 +51,15 @@ use Rattle.known_texts.specs.Accepted.{NothingFails}
 use Rattle.known_texts.specs.Known.{DefinitionsKnown, EachKnown, MappingKnown}
 use Rattle.known_texts.specs.Values.{RegistersTyped}
 use Rattle.known_texts.specs.Whole.{setting_in}
-use Rattle.known_texts.specs.Written.{IsWritten}
+use Rattle.shape_meanings.specs.Whole.{all_of}
+use Rattle.known_texts.specs.Written.{IsWritten, crossing_written, definition_written, sides_written}
 use Rattle.known_texts.proofs.Assembled.{definitions_known}
 use Rattle.known_texts.proofs.Failures.{nothing_fails}
 use Rattle.known_texts.proofs.Parts.{tuples_have_parts}
 use Rattle.known_texts.proofs.Registers.{registers_typed}
 use Rattle.known_texts.proofs.Tuples.{TuplesHaveParts}
 use Rattle.known_texts.proofs.Types.{types_known}
-use Rattle.standing_cores.specs.Types.{every}
-use Rattle.standing_models.specs.Tests.{Fits, crossing_limited, definition_limited}
+use Rattle.standing_models.specs.Tests.{Fits}
 use Rattle.standing_models.proofs.PassingClauses.{EachCrossed, ahead_clauses, back_clauses}
 use Rattle.text_progress.proofs.Stand.{unfailed}
 use Rattle.text_progress.proofs.TextInsides as Insides
@@ -93,7 +93,7 @@ module _ (text : List Def) (cycle : List ℕ → Option ℕ) (known : Definition
 
   both_pass : (place : Place) (name : List ℕ) (cs : List MappingClause) (s : Signature)
       → MappingKnown (tabled_of text).types (setting_in (tabled_of text) text []) name cs s
-      → (typ_given [] s.from ≡ true) × (typ_given [] s.to ≡ true) → every (map crossing_limited cs) ≡ true
+      → (typ_given [] s.from ≡ true) × (typ_given [] s.to ≡ true) → all_of (map crossing_written cs) ≡ true
       → both_faults (setting_in (tabled_of text) text []) (mapping_of name 0 s) cs ≡ []
       → DirectionPasses around fits (forwards_core (setting_in (tabled_of text) text []) place (mapping_of name 0 s) cs)
       × DirectionPasses around fits (backwards_core (setting_in (tabled_of text) text []) place (mapping_of name 0 s) cs)
@@ -145,7 +145,7 @@ module _ (text : List Def) (cycle : List ℕ → Option ℕ) (known : Definition
   directions_for d = directions_of (tabled_of text) setting d
 
   each_cross : (at : ℕ) (rest : List Def) → Covers all (namings_from is_enum at rest)
-      → EachKnown (tabled_of text) text (setting_in (tabled_of text) text) rest → every (map definition_limited rest) ≡ true
+      → EachKnown (tabled_of text) text (setting_in (tabled_of text) text) rest → all_of (map definition_written rest) ≡ true
       → mapped rest ≡ [] → AllCross around fits (joined (map directions_for rest))
   each_cross at [] c knows q f = tt
   each_cross at ((D.Mapping place name sides cs) ∷ rest) c knows q f =
@@ -157,23 +157,24 @@ module _ (text : List Def) (cycle : List ℕ → Option ℕ) (known : Definition
       let given : (typ_given [] s.from ≡ true) × (typ_given [] s.to ≡ true) =
       mapping_typed text clear kept is_written [] (reads text clear kept is_written []) name.text s knows.0.1
       (mapping_plain text kept clear has_all name.text taken) in
-      let k = and_parts (every (map crossing_limited cs)) (every (map definition_limited rest)) q in
+      let k = and_parts (definition_written d) (all_of (map definition_written rest)) q in
+      let sided = and_parts (sides_written sides) (all_of (map crossing_written cs)) k.0 in
       let e = both_empty (mapping_faults (tabled_of text) setting d) (mapped rest) f in
       let e2 = both_empty (sides_faults (within_variables (tabled_of text) []) sides)
       (directions_faults setting name.text cs ((tabled_of text).signature name.text)) e.0 in
-      let pair = both_pass place name.text cs s knows.0.2 given k.0 (subst (λ o. directions_faults setting name.text cs o ≡ []) knows.0.1 e2.1) in
+      let pair = both_pass place name.text cs s knows.0.2 given sided.1 (subst (λ o. directions_faults setting name.text cs o ≡ []) knows.0.1 e2.1) in
       subst (λ o. AllCross around fits (directions_if setting place name.text cs o ++ joined (map directions_for rest))) (sym knows.0.1)
       (pair.0, (pair.1, each_cross (at + 1) rest (covers_right all mine more c) knows.1 k.1 e.1))
   each_cross at (d ∷ rest) c knows q f =
       each_cross (at + 1) rest (covers_right all (namings is_enum at d) (namings_from is_enum (at + 1) rest) c) knows.1
-      (and_parts (definition_limited d) (every (map definition_limited rest)) q).1 f
+      (and_parts (definition_written d) (all_of (map definition_written rest)) q).1 f
 
 pub text_directions : DirectionsPass
-text_directions text end cycle accepted kept is_written small fits patterns around types functions i d there =
+text_directions text end cycle accepted kept is_written fits patterns around types functions i d there =
     let clear : NothingFails text = nothing_fails text end accepted in
     let tuples : TuplesHaveParts text = tuples_have_parts text is_written in
     let known : DefinitionsKnown (tabled_of text) text (setting_in (tabled_of text) text) = definitions_known text clear is_written tuples kept in
     let typed : RegistersTyped (tabled_of text) text = registers_typed text (types_known text clear.types) 0 text clear.bodies in
     cross_at around fits (joined (map (directions_of (tabled_of text) (setting_in (tabled_of text) text [])) text))
-    (each_cross text cycle known typed clear kept is_written tuples fits patterns around types functions 0 text (λ n test h. h) known.1 small
+    (each_cross text cycle known typed clear kept is_written tuples fits patterns around types functions 0 text (λ n test h. h) known.1 is_written
     (unfailed text kept).mapped) i d there

@@ -43,7 +43,7 @@ module _ (text : List Def) (cycle : List ℕ → Option ℕ) (known : Definition
 
   value_fit : (lets : List Local) (e : Exp) → PlainKnown (behind lets) e → ValueFits around fits (behind lets) e
   value_fit lets e h =
-      let pass = patterns.values lets h.names h.known in
+      let pass = patterns.values lets h.names h.plain h.known in
       record {
         names = h.names;
         named = h.named;
@@ -78,10 +78,10 @@ module _ (text : List Def) (cycle : List ℕ → Option ℕ) (known : Definition
       (opening_fit lets d h.0, openings_fit (lets_with (tabled_of text) (own_in (tabled_of text) text) text lets d) rest h.1)
 
 pub text_openings : OpeningsPass
-text_openings text end cycle accepted kept is_written small fits patterns around types functions =
+text_openings text end cycle accepted kept is_written fits patterns around types functions =
     let clear : NothingFails text = nothing_fails text end accepted in
     let tuples : TuplesHaveParts text = tuples_have_parts text is_written in
     let known : DefinitionsKnown (tabled_of text) text (setting_in (tabled_of text) text) = definitions_known text clear is_written tuples kept in
     let typed : RegistersTyped (tabled_of text) text = registers_typed text (types_known text clear.types) 0 text clear.bodies in
-    found_openings around fits (tabled_of text) cycle text kept small
+    found_openings around fits (tabled_of text) cycle text kept is_written
     (openings_fit text cycle known typed fits patterns around types functions [] text (openings_known text clear is_written tuples))

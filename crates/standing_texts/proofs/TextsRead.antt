@@ -1,8 +1,7 @@
 -- Types that are written in an accepted text read.
-use Rattle.std.proofs.Common.{◌≡◌, ℕ, ◌+◌, List, [], ◌∷◌, ◌++◌, map, ap, sym, refl, subst, true, Option, Some, None, option_map}
+use Rattle.std.proofs.Common.{◌≡◌, ℕ, ◌+◌, List, [], ◌∷◌, ◌++◌, ap, sym, refl, subst, true, Option, Some, None, option_map}
 use Rattle.std.specs.Prelude.{is_some}
 use Rattle.std.specs.Option.{option_to_list}
-use Rattle.std.proofs.lemmas.Bool.{and_parts}
 use Rattle.sail_base.specs.declared.kind.Kind.TheVariants as Sort
 use Rattle.sail_kinds.specs.Failures.{first_failure}
 use Rattle.sail_kinds.specs.Normal.{reading_as}
@@ -30,7 +29,7 @@ use Rattle.sail_bodies.specs.Bodies.{body_failures, body_failures_from, clauses_
 use Rattle.sail_tables.specs.Refused.{signature_in}
 use Rattle.type_definitions.specs.Defined.{types_of}
 use Rattle.known_names.specs.Meanings.{known_in}
-use Rattle.shape_joins.proofs.Order.{no, two}
+use Rattle.shape_joins.proofs.Order.{two}
 use Rattle.shape_rules.specs.Scopes.{plainly}
 use Rattle.shape_rules.specs.Written.{typ_in}
 use Rattle.shape_models.specs.Models.{Tabled, within_variables}
@@ -47,11 +46,11 @@ use Rattle.known_texts.proofs.Failures.{apart, nothing_fails}
 use Rattle.known_texts.proofs.Parts.{tuples_have_parts}
 use Rattle.known_texts.proofs.Signed.{variables_are}
 use Rattle.known_texts.proofs.Tuples.{TuplesHaveParts}
-use Rattle.standing_cores.specs.Types.{every, types_read}
+use Rattle.standing_cores.specs.Types.{types_read}
 use Rattle.standing_models.specs.Reads.{called_reads, clause_reads, crossing_reads, crossings_read, definition_reads, each_clause_reads, expression_reads}
 use Rattle.standing_models.specs.Reads.{measure_reads, pair_reads, result_reads, side_reads, text_reads}
 use Rattle.standing_models.proofs.ReadingFound.{found_reads}
-use Rattle.standing_texts.specs.Bodies.{TextsRead, has_clause}
+use Rattle.standing_texts.specs.Bodies.{TextsRead}
 use Rattle.standing_texts.proofs.SidesRead.{side_is_read}
 
 module _ (text : List Def) (clear : NothingFails text) (is_written : IsWritten text) (tuples : TuplesHaveParts text) where
@@ -134,16 +133,16 @@ module _ (text : List Def) (clear : NothingFails text) (is_written : IsWritten t
 
   -- ---- definitions
 
-  called_types : (name : List ℕ) (at : ℕ) (c : FunctionClause) (cs : List FunctionClause)
-      → clauses_failures (names_setting (known_in text) (types_of text) Any (variables_in text name) at) (c ∷ cs) ≡ []
-      → called_reads tabled (tabled.signature name) (c ∷ cs) ≡ true
-  called_types name at c cs u = by (signature_in text name) refl
+  called_types : (name : List ℕ) (at : ℕ) (cs : List FunctionClause)
+      → clauses_failures (names_setting (known_in text) (types_of text) Any (variables_in text name) at) cs ≡ []
+      → called_reads tabled (tabled.signature name) cs ≡ true
+  called_types name at cs u = by (signature_in text name) refl
     where
-      by : (o : Option Signature) → signature_in text name ≡ o → called_reads tabled o (c ∷ cs) ≡ true
+      by : (o : Option Signature) → signature_in text name ≡ o → called_reads tabled o cs ≡ true
       by None e = refl
       by (Some s) e =
           clauses_types s.variables (names_setting (known_in text) (types_of text) Any (variables_in text name) at)
-          (ap (within_variables (tabled_of text)) (sym (variables_are (types_of text).named text name s e))) (c ∷ cs) u
+          (ap (within_variables (tabled_of text)) (sym (variables_are (types_of text).named text name s e))) cs u
 
   measure_types : (name : List ℕ) (at : ℕ) (value : Exp) (bound : Bound.Locals)
       → expression_failures value (names_setting (known_in text) (types_of text) Plain (variables_in text name) at) bound ≡ []
@@ -160,31 +159,29 @@ module _ (text : List Def) (clear : NothingFails text) (is_written : IsWritten t
   plain_names at = names_setting (known_in text) (types_of text) Plain [] at
 
   def_types : (at : ℕ) (d : Def) → DefinitionKnown (tabled_of text) text (setting_in (tabled_of text) text) d
-      → body_failures text (known_in text) (types_of text) at d ≡ [] → has_clause d ≡ true → definition_reads tabled d ≡ true
-  def_types at (D.Function place extent name []) knows u q = no q
-  def_types at (D.Function place extent name (c ∷ cs)) knows u q = called_types name.text at c cs u
-  def_types at (D.Measure place name parameters value) knows u q =
+      → body_failures text (known_in text) (types_of text) at d ≡ [] → definition_reads tabled d ≡ true
+  def_types at (D.Function place extent name cs) knows u = called_types name.text at cs u
+  def_types at (D.Measure place name parameters value) knows u =
       let names : Tables.Setting = names_setting (known_in text) (types_of text) Plain (variables_in text name.text) at in
       let bound : Bound.Locals = behind_parameters names parameters [] in
       measure_types name.text at value bound (apart (parameters_failures names parameters) (expression_failures value names bound) u).1
-  def_types at (D.Mapping place name sides cs) knows u q = crossings_types knows.2.names knows.2.known.within cs knows.2.named
-  def_types at (D.Let place p value) knows u q =
+  def_types at (D.Mapping place name sides cs) knows u = crossings_types knows.2.names knows.2.known.within cs knows.2.named
+  def_types at (D.Let place p value) knows u =
       expression_types [] value (plain_names at) [] refl (apart (pattern_failures (plain_names at) p) (expression_failures value (plain_names at) []) u).1
-  def_types at (D.Register place name typ initial) knows u q =
+  def_types at (D.Register place name typ initial) knows u =
       maybe_types [] initial (plain_names at) [] refl (apart _ (maybe_failures (option_map expression_failures initial) (plain_names at) []) u).1
-  def_types at d knows u q = refl
+  def_types at d knows u = refl
 
   each_types : (at : ℕ) (rest : List Def) → EachKnown (tabled_of text) text (setting_in (tabled_of text) text) rest
-      → body_failures_from text (known_in text) (types_of text) at rest ≡ [] → every (map has_clause rest) ≡ true → text_reads tabled rest ≡ true
-  each_types at [] knows u q = refl
-  each_types at (d ∷ rest) knows u q =
+      → body_failures_from text (known_in text) (types_of text) at rest ≡ [] → text_reads tabled rest ≡ true
+  each_types at [] knows u = refl
+  each_types at (d ∷ rest) knows u =
       let h = apart (body_failures text (known_in text) (types_of text) at d) (body_failures_from text (known_in text) (types_of text) (at + 1) rest) u in
-      let k = and_parts (has_clause d) (every (map has_clause rest)) q in
-      two (definition_reads tabled d) (text_reads tabled rest) (def_types at d knows.0 h.0 k.0) (each_types (at + 1) rest knows.1 h.1 k.1)
+      two (definition_reads tabled d) (text_reads tabled rest) (def_types at d knows.0 h.0) (each_types (at + 1) rest knows.1 h.1)
 
 pub text_types : TextsRead
-text_types text end accepted kept is_written clauses =
+text_types text end accepted kept is_written =
     let clear : NothingFails text = nothing_fails text end accepted in
     let tuples : TuplesHaveParts text = tuples_have_parts text is_written in
     let known : DefinitionsKnown (tabled_of text) text (setting_in (tabled_of text) text) = definitions_known text clear is_written tuples kept in
-    each_types text clear is_written tuples 0 text known.1 clear.bodies clauses
+    each_types text clear is_written tuples 0 text known.1 clear.bodies

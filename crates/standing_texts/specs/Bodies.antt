@@ -1,12 +1,11 @@
 -- Bodies and measures of the functions of an accepted text: each node passes the tests of its kind, where patterns pass theirs.
-use Rattle.std.specs.Prelude.{◌≡◌, ℕ, Bool, true, false, List, [], map, Option, Some, None, slice_get}
+use Rattle.std.specs.Prelude.{◌≡◌, ℕ, Bool, true, List, [], map, Option, Some, None, slice_get}
 use Rattle.std.specs.List.{list_all}
 use Rattle.sail_base.specs.declared.place.Place.{Place}
 use Rattle.sail_types.specs.Shapes.{shape}
 use Rattle.sail_types.specs.declared.numbers.Index.{Index}
 use Rattle.sail_types.specs.declared.types.Typ.{Typ}
 use Rattle.sail_syntax.specs.declared.definitions.Def.{Def}
-use Rattle.sail_syntax.specs.declared.definitions.Def.TheVariants as D
 use Rattle.sail_syntax.specs.declared.patterns.Pat.{Pat}
 use Rattle.sail_core.specs.declared.model.Direction.{Direction}
 use Rattle.sail_core.specs.declared.model.Function.{Function}
@@ -31,13 +30,13 @@ use Rattle.shape_rules.specs.Patterns.{look}
 use Rattle.shape_rules.specs.Scopes.{Setting, answering, plainly}
 use Rattle.shape_rules.specs.Sides.{gives, width_given}
 use Rattle.shape_meanings.specs.Naming.{AreKnown}
+use Rattle.shape_meanings.specs.Trees.{pattern_written}
 use Rattle.shapes.specs.Failures.{refusal}
 use Rattle.shapes.specs.Tabled.{tabled_of}
 use Rattle.known_texts.specs.Whole.{setting_in}
 use Rattle.known_texts.specs.Written.{IsWritten}
-use Rattle.standing_cores.specs.Types.{every}
 use Rattle.standing_models.specs.Reads.{text_reads}
-use Rattle.standing_models.specs.Tests.{PatternsFit, arms_tested, passes, pattern_limited, text_limited, unit_pattern}
+use Rattle.standing_models.specs.Tests.{PatternsFit, arms_tested, passes, unit_pattern}
 use Rattle.text_progress.specs.GivenTypes.{typ_given}
 use Rattle.text_progress.specs.Laws.{core_of}
 
@@ -66,7 +65,7 @@ PatternsPass fits setting names = PatternsFit fits setting names × PatternsFit 
 abbrev pub SidesPass : (Pattern → Bool) → Setting → Tables.Setting → Type 0
 SidesPass fits setting names =
     (from to : Pat) (from_typ to_typ : Typ) → typ_given [] to_typ ≡ true → uses_failures names from ≡ [] → uses_failures names to ≡ []
-    → pattern_limited from ≡ true → pattern_limited to ≡ true → (look from setting (width_given (gives to setting (Some to_typ))) (shape from_typ)).faults ≡ []
+    → pattern_written from ≡ true → pattern_written to ≡ true → (look from setting (width_given (gives to setting (Some to_typ))) (shape from_typ)).faults ≡ []
     → fits (look from setting (width_given (gives to setting (Some to_typ))) (shape from_typ)).pattern ≡ true
 
 -- those in each body, in each measure and in mappings
@@ -85,24 +84,18 @@ pub record TextPatterns (text : List Def) (fits : List Index → Pattern → Boo
 abbrev pub FunctionsPass : Type 0
 FunctionsPass =
     (text : List Def) (end : Place) (cycle : List ℕ → Option ℕ) → IsAccepted text end → refusal (tabled_of text) text ≡ None → IsWritten text
-    → text_limited text ≡ true → (fits : List Index → Pattern → Bool) → TextPatterns text fits
+    → (fits : List Index → Pattern → Bool) → TextPatterns text fits
     → (around : Around) → around.types ≡ (core_of text cycle).types → around.functions ≡ (core_of text cycle).functions
     → (i : ℕ) (f : Function) → slice_get (core_of text cycle).functions i ≡ Some f → FunctionPasses around fits f
 
 abbrev pub DirectionsPass : Type 0
 DirectionsPass =
     (text : List Def) (end : Place) (cycle : List ℕ → Option ℕ) → IsAccepted text end → refusal (tabled_of text) text ≡ None → IsWritten text
-    → text_limited text ≡ true → (fits : List Index → Pattern → Bool) → TextPatterns text fits
+    → (fits : List Index → Pattern → Bool) → TextPatterns text fits
     → (around : Around) → around.types ≡ (core_of text cycle).types → around.functions ≡ (core_of text cycle).functions
     → (i : ℕ) (d : Direction) → slice_get (core_of text cycle).directions i ≡ Some d → DirectionPasses around fits d
-
--- a function that is gathered has a clause too
-abbrev pub has_clause : Def → Bool
-has_clause (D.Function place extent name []) = false
-has_clause d = true
 
 -- the types that are written in it read
 abbrev pub TextsRead : Type 0
 TextsRead =
-    (text : List Def) (end : Place) → IsAccepted text end → refusal (tabled_of text) text ≡ None → IsWritten text → every (map has_clause text) ≡ true
-    → text_reads (tabled_of text) text ≡ true
+    (text : List Def) (end : Place) → IsAccepted text end → refusal (tabled_of text) text ≡ None → IsWritten text → text_reads (tabled_of text) text ≡ true

@@ -1,5 +1,5 @@
 -- Openings of an accepted text: each node of their values passes the tests of its kind, where patterns pass theirs, and so do the patterns of lets.
-use Rattle.std.specs.Prelude.{◌≡◌, ◌&&◌, ℕ, Bool, true, List, [], ◌∷◌, Option, Some, None}
+use Rattle.std.specs.Prelude.{◌≡◌, ◌&&◌, ℕ, Bool, true, false, List, [], ◌∷◌, Option, Some, None}
 use Rattle.std.specs.List.{list_all}
 use Rattle.sail_base.specs.declared.place.Place.{Place}
 use Rattle.sail_core.specs.declared.model.Opening.{Opening}
@@ -11,6 +11,7 @@ use Rattle.sail_syntax.specs.declared.definitions.Def.TheVariants as D
 use Rattle.sail_syntax.specs.declared.expressions.Exp.{Exp}
 use Rattle.sail_syntax.specs.declared.patterns.Pat.{Pat}
 use Rattle.sail_names.specs.Known as Tables
+use Rattle.sail_names.specs.Known.{is_any}
 use Rattle.sail_names.specs.Patterns.{uses_failures}
 use Rattle.sail_names.specs.Uses.{expression_failures}
 use Rattle.sail_tables.specs.Refused.{IsAccepted}
@@ -23,7 +24,7 @@ use Rattle.shapes.specs.Failures.{all_lets, lets_with, own_in, refusal}
 use Rattle.shapes.specs.Resolved.{resolved}
 use Rattle.shapes.specs.Tabled.{tabled_of}
 use Rattle.known_texts.specs.Written.{IsWritten}
-use Rattle.standing_models.specs.Tests.{Fits, arm_tested, passes, text_limited, unit_pattern}
+use Rattle.standing_models.specs.Tests.{Fits, arm_tested, passes, unit_pattern}
 use Rattle.standing_texts.specs.Bodies.{PatternsPass}
 use Rattle.text_progress.specs.Laws.{core_of}
 
@@ -63,25 +64,25 @@ module _ (around : Around) (fits : Pattern → Bool) where
   abbrev pub openings_pass : List Opening → Bool
   openings_pass os = list_all opening_passes os
 
--- in a text that nothing is refused for and whose literals are within their limits
+-- in a text as the grammar has it that nothing is refused for
 abbrev pub FoundOpeningsPass : Type 0
 FoundOpeningsPass =
     (around : Around) (fits : Pattern → Bool) (tabled : Tabled) (cycle : List ℕ → Option ℕ) (text : List Def) → refusal tabled text ≡ None
-    → text_limited text ≡ true → OpeningsFitFrom around fits tabled text [] text
+    → IsWritten text → OpeningsFitFrom around fits tabled text [] text
     → openings_pass around fits (resolved tabled cycle text).openings ≡ true
 
 -- ---- in accepted texts
 
--- patterns of lets, and those in values, whatever lets stand before them
+-- patterns of lets, and those in values, whatever lets stand before them: they are plain
 pub record OpeningPatterns (text : List Def) (fits : Pattern → Bool) : Type 0 where
   pub unit : (place : Place) → fits (unit_pattern place) ≡ true
-  pub values : (lets : List Local) (names : Tables.Setting)
+  pub values : (lets : List Local) (names : Tables.Setting) → is_any names.allowed ≡ false
       → AreKnown (plainly (setting_of (tabled_of text) (own_in (tabled_of text) text) text lets [])) names
       → PatternsPass fits (plainly (setting_of (tabled_of text) (own_in (tabled_of text) text) text lets [])) names
 
 abbrev pub OpeningsPass : Type 0
 OpeningsPass =
     (text : List Def) (end : Place) (cycle : List ℕ → Option ℕ) → IsAccepted text end → refusal (tabled_of text) text ≡ None → IsWritten text
-    → text_limited text ≡ true → (fits : Pattern → Bool) → OpeningPatterns text fits
+    → (fits : Pattern → Bool) → OpeningPatterns text fits
     → (around : Around) → around.types ≡ (core_of text cycle).types → around.functions ≡ (core_of text cycle).functions
     → openings_pass around fits (core_of text cycle).openings ≡ true
