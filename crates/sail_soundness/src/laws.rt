@@ -1,7 +1,7 @@
 //! Laws of all expressions: each function's contract is one, and it does nothing.
 ghost use Rattle.sail_soundness.specs.Whole.{CoresFit, EachFollows};
 
-/// Each expression ends well beside its walk, where the kinds of nodes that aren't proved yet do.
+/// Each expression ends well beside its walk, where each of its nodes passes the tests of its kind.
 pub fn expressions_follow()
     ensures { EachFollows }
 {}

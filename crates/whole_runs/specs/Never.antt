@@ -45,7 +45,7 @@ pub record IsFound (set : Setting) (m : CoreModel) : Type 0 where
   pub step : set.covered.function (entered_by m.step) ≡ true → EventEnters set m.step (V.Unit ∷ [])
   pub reset : set.covered.function (entered_by m.reset) ≡ true → (entry : ℕ) → EventEnters set m.reset (reset_arguments set.hart entry)
 
--- ---- what isn't proved yet of each: nodes of some kinds, that bodies and patterns stand, and openings
+-- ---- what bodies and patterns are taken to be, and openings
 
 -- the clauses of a function, and those of its measure
 pub record FunctionStands (set : Setting) (k : Checks) (x : Work) (f : Function) : Type 0 where
