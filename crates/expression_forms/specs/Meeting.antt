@@ -20,17 +20,21 @@ use Rattle.expression_forms.specs.Inside.{is_value_below, is_value_told, is_valu
 abbrev pub gives_none : Bool → Indices → Bool
 gives_none never_ends i = never_ends || is_never i
 
--- its value, in which holes are filled by the widest types of the shape
-abbrev pub filled_first : Bool → Types → ℕ → Shape → Indices → Walk Indices
-filled_first true types m shape i = give i
-filled_first false types m shape i = met types m shape i
+-- a value in which holes are filled by the widest types of the shape: no later way has to have a number of these, so none of them is counted
+abbrev pub filled_aside : Types → ℕ → Shape → Indices → Indices
+filled_aside types m shape i = (met types m shape i [] m).value
 
-abbrev pub first_unless : Bool → Types → ℕ → Shape → Indices → Walk (Option Indices)
-first_unless true types m shape i = give None
-first_unless false types m shape i = bind (filled_first (is_value_whole i) types m shape i) (λ j. give (Some j))
+-- the value of a first way, without holes
+abbrev pub filled_first : Bool → Types → ℕ → Shape → Indices → Indices
+filled_first true types m shape i = i
+filled_first false types m shape i = filled_aside types m shape i
+
+abbrev pub first_unless : Bool → Types → ℕ → Shape → Indices → Option Indices
+first_unless true types m shape i = None
+first_unless false types m shape i = Some (filled_first (is_value_whole i) types m shape i)
 
 -- the first way that ends normally, with a value
-abbrev pub first_way : Around → ℕ → Shape → Bool → Indices → Walk (Option Indices)
+abbrev pub first_way : Around → ℕ → Shape → Bool → Indices → Option Indices
 first_way around m shape never_ends i = first_unless (gives_none never_ends i) around.types m shape i
 
 -- that a value is of the type of the first way as it stands, in which nothing is a hole, and no variable of that way stands

@@ -23,50 +23,54 @@ fn gives_none(never_ends: bool, value: &Indices) -> bool
     never_ends || is_never(value)
 }
 
-/// The value of a first way of this shape, in which holes are filled by the widest types of the shape. It fails where memory is wanting, and
-/// where variables are too many.
-#[tactic(auto, using(value_indices::proofs::Walks::walks))]
+/// A value in which holes are filled by the widest types of the shape. The numbers of these are variables from that one on, which are counted
+/// here alone. It fails where memory is wanting, and where variables are too many.
+fn filled_aside(
+    alloc: Global,
+    types: &Types,
+    before: u32,
+    shape: &Shape,
+    value: &Indices,
+) -> Result<Indices, AllocError>
+    ensures { IfOk result (λ made. made ≡ meeting.filled_aside types.now before shape.now value.now) }
+{
+    let mut aside = Walking::new(alloc, before);
+    met(alloc, &mut aside, types, before, shape, value)
+}
+
+/// The value of a first way of this shape, without holes. It fails where memory is wanting, and where variables are too many.
 fn filled_first(
     alloc: Global,
-    walking: &mut Walking,
     types: &Types,
     before: u32,
     shape: &Shape,
     value: Indices,
 ) -> Result<Indices, AllocError>
-    ensures value { IfOk result (λ made. made ≡ walk.got (meeting.filled_first (inside.is_value_whole value) types.now before shape.now value)
-        (walk.seen walking.old)) }
-    ensures walked { OnOk result (walk.seen walking.new ≡ walk.run (meeting.filled_first (inside.is_value_whole value) types.now before shape.now value)
-        (walk.seen walking.old)) }
+    ensures { IfOk result (λ made. made ≡ meeting.filled_first (inside.is_value_whole value) types.now before shape.now value) }
 {
     if is_value_whole(&value) {
         Ok(value)
     } else {
-        met(alloc, walking, types, before, shape, &value)
+        filled_aside(alloc, types, before, shape, &value)
     }
 }
 
 /// A way of this shape, if it ends normally, with a value: the first one. It fails where memory is wanting, and where variables are too
 /// many.
-#[tactic(auto, using(value_indices::proofs::Walks::walks))]
 pub fn first_way(
     alloc: Global,
-    walking: &mut Walking,
     around: &Around<'_>,
     before: u32,
     shape: &Shape,
     never_ends: bool,
     value: Indices,
 ) -> Result<Option<Indices>, AllocError>
-    ensures value { IfOk result (λ made. made ≡ walk.got (meeting.first_way (around_of around.now) before shape.now never_ends value)
-        (walk.seen walking.old)) }
-    ensures walked { OnOk result (walk.seen walking.new ≡ walk.run (meeting.first_way (around_of around.now) before shape.now never_ends value)
-        (walk.seen walking.old)) }
+    ensures { IfOk result (λ made. made ≡ meeting.first_way (around_of around.now) before shape.now never_ends value) }
 {
     if gives_none(never_ends, &value) {
         Ok(None)
     } else {
-        let filled = filled_first(alloc, walking, around.types, before, shape, value)?;
+        let filled = filled_first(alloc, around.types, before, shape, value)?;
         Ok(Some(filled))
     }
 }

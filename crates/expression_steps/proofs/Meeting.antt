@@ -111,7 +111,7 @@ module _ (is_free : Bool) (m : ℕ) (shape : Shape) (around : Around) (scope : S
     -- what the code owes and makes at its end
     end_is : (i : Indices) → end_walk around is_free m shape core first i ≡ ends_so i
     end_is i =
-        (λ j. bind (owed_of_first around is_free (placed j) (ending j) m first i) (λ t. first_behind around is_free m shape (ending j) first i))
+        (λ j. bind (owed_of_first around is_free (placed j) (ending j) m first i) (λ t. give (first_behind around is_free m shape (ending j) first i)))
 
     module _ (i : Indices) (v w3 : Written) (one : w1 ≡ remembering v) (is : i ≡ got ((part core).walk around inside given) w2)
         (was : w3 ≡ run ((part core).walk around inside given) w2) where
@@ -140,19 +140,24 @@ module _ (is_free : Bool) (m : ℕ) (shape : Shape) (around : Around) (core : Co
   abbrev owes : Walk (Unit {0})
   owes = owed_of_first around is_free (part core).place (part core).never_ends m first i
 
-  abbrev then_made : Bool → Walk (Option Indices)
+  abbrev then_made : Bool → Option Indices
   then_made b = first_behind around is_free m shape b first i
+
+  abbrev then_given : Bool → Walk (Option Indices)
+  then_given b = give (then_made b)
 
   owed : w ≡ run owes v
   owed = was ∙ ap (λ (o : Option Indices). run (owed_of_first around is_free (part core).place (part core).never_ends m o i) v) same
 
-  pub end_got : got (then_made ends) w ≡ got (end_walk around is_free m shape core first i) v
+  pub end_got : then_made ends ≡ got (end_walk around is_free m shape core first i) v
   end_got =
-      ap (λ (b : Bool). got (then_made b) w) never ∙ then_got owes (λ t. then_made (part core).never_ends) v w (got owes v) refl owed
+      sym (got_give (then_made ends) w) ∙ ap (λ (b : Bool). got (then_given b) w) never
+      ∙ then_got owes (λ t. then_given (part core).never_ends) v w (got owes v) refl owed
 
-  pub end_run : run (then_made ends) w ≡ run (end_walk around is_free m shape core first i) v
+  pub end_run : w ≡ run (end_walk around is_free m shape core first i) v
   end_run =
-      ap (λ (b : Bool). run (then_made b) w) never ∙ then_run owes (λ t. then_made (part core).never_ends) v w (got owes v) refl owed
+      sym (run_give (then_made ends) w) ∙ ap (λ (b : Bool). run (then_given b) w) never
+      ∙ then_run owes (λ t. then_given (part core).never_ends) v w (got owes v) refl owed
 
 -- ---- several of them
 

@@ -84,7 +84,7 @@ ways_seen around scope aim ws = map (way_seen around scope aim) ws
 abbrev pub end_walk : Around → Bool → ℕ → Shape → Core → Option Indices → Indices → Walk (Option Indices)
 end_walk around is_free m shape core first i =
     bind (statements.owed_of_first around is_free (part core).place (part core).never_ends m first i)
-    (λ t. statements.first_behind around is_free m shape (part core).never_ends first i)
+    (λ t. give (statements.first_behind around is_free m shape (part core).never_ends first i))
 
 -- what a way makes known, and the names that it binds
 abbrev pub way_opened : Around → code.Way → Walk (List Bound)

@@ -73,9 +73,9 @@ pub record Way : Type 0 where
   pub walk : Walk Indices
 
 -- the first way that ends normally, where no type is wanted, with a way behind it
-abbrev pub first_behind : Around → Bool → ℕ → Shape → Bool → Option Indices → Indices → Walk (Option Indices)
+abbrev pub first_behind : Around → Bool → ℕ → Shape → Bool → Option Indices → Indices → Option Indices
 first_behind around true m shape never_ends None i = first_way around m shape never_ends i
-first_behind around is_free m shape never_ends first i = give first
+first_behind around is_free m shape never_ends first i = first
 
 -- what a way owes of the first one
 abbrev pub owed_of_first : Around → Bool → Place → Bool → ℕ → Option Indices → Indices → Walk (Unit {0})
@@ -84,7 +84,7 @@ owed_of_first around is_free place never_ends m first i = give tt
 
 abbrev pub then_first : Around → Bool → ℕ → Shape → Way → Option Indices → Indices → Walk (Option Indices)
 then_first around is_free m shape w first i =
-    bind (owed_of_first around is_free w.place w.never_ends m first i) (λ t. first_behind around is_free m shape w.never_ends first i)
+    bind (owed_of_first around is_free w.place w.never_ends m first i) (λ t. give (first_behind around is_free m shape w.never_ends first i))
 
 abbrev pub way_behind : Around → Bool → ℕ → Shape → Way → Option Indices → Walk (Option Indices)
 way_behind around is_free m shape w first = bind w.walk (then_first around is_free m shape w first)

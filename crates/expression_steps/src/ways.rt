@@ -149,10 +149,8 @@ pub fn open_way(
 
 /// The first way that ends normally, where no type is wanted, with a way of this shape behind it. It fails where memory is wanting, and where
 /// variables are too many.
-#[tactic(auto, using(value_indices::proofs::Walks::walks))]
 fn first_behind(
     alloc: Global,
-    walking: &mut Walking,
     around: &Around<'_>,
     is_free: bool,
     before: u32,
@@ -161,14 +159,11 @@ fn first_behind(
     first: Option<Indices>,
     value: Indices,
 ) -> Result<Option<Indices>, AllocError>
-    ensures value { IfOk result (λ made. made ≡ walk.got (statement_spec.first_behind (around_of around.now) is_free before shape.now never_ends first
-        value) (walk.seen walking.old)) }
-    ensures walked { OnOk result (walk.seen walking.new ≡ walk.run (statement_spec.first_behind (around_of around.now) is_free before shape.now
-        never_ends first value) (walk.seen walking.old)) }
+    ensures { IfOk result (λ made. made ≡ statement_spec.first_behind (around_of around.now) is_free before shape.now never_ends first value) }
 {
     if is_free {
         match first {
-            None => first_way(alloc, walking, around, before, shape, never_ends, value),
+            None => first_way(alloc, around, before, shape, never_ends, value),
             Some(first) => Ok(Some(first)),
         }
     } else {
@@ -239,9 +234,7 @@ pub fn end_way(
         &value,
     )?;
     let ends = never_ends(core);
-    let made = first_behind(
-        alloc, walking, around, is_free, before, shape, ends, first, value,
-    )?;
+    let made = first_behind(alloc, around, is_free, before, shape, ends, first, value)?;
     walking.restore()?;
     Ok(made)
 }

@@ -29,7 +29,7 @@ use Rattle.call_arguments.specs.declared.aims.Aim.{Aim}
 use Rattle.call_arguments.specs.declared.aims.Aim.TheVariants as Aims
 use Rattle.call_notes.specs.Ends.{integer_number, sized, wrong_value}
 use Rattle.call_notes.specs.Noted.{node_ended, node_given, node_made, numbers_noted}
-use Rattle.expression_forms.specs.Meeting.{filled_first, first_unless, gives_none, met_ways, thrown}
+use Rattle.expression_forms.specs.Meeting.{met_ways, thrown}
 use Rattle.expression_forms.specs.Truths.{and_right, either, both, or_right, right_form}
 use Rattle.expression_steps.specs.Parts.{Part, given_that, numbers_walk, truth_walk, under}
 use Rattle.expression_steps.specs.Statements.{Way, and_under, and_walk, assert_state, bind_names, block_walk, bounds_of, branches_forms, case_walk}
@@ -83,26 +83,12 @@ module _ (q : Counted) where
   owed_light around true place never_ends m None i = in_give q tt
   owed_light around false place never_ends m first i = in_give q tt
 
-  filled_light : (whole : Bool) (types : Types) (m : ℕ) (shape : Shape) (i : Indices) → In q 0 (filled_first whole types m shape i)
-  filled_light true types m shape i = in_give q i
-  filled_light false types m shape i = met_light types m shape i
-
-  unless_light : (none : Bool) (types : Types) (m : ℕ) (shape : Shape) (i : Indices) → In q 0 (first_unless none types m shape i)
-  unless_light true types m shape i = in_give q None
-  unless_light false types m shape i = in_first q _ (λ j. give (Some j)) (filled_light _ types m shape i) (λ j. in_give q (Some j))
-
-  first_light : (around : Around) (is_free : Bool) (m : ℕ) (shape : Shape) (never_ends : Bool) (first : Option Indices) (i : Indices)
-      → In q 0 (first_behind around is_free m shape never_ends first i)
-  first_light around true m shape never_ends None i = unless_light (gives_none never_ends i) around.types m shape i
-  first_light around true m shape never_ends (Some first) i = in_give q (Some first)
-  first_light around false m shape never_ends first i = in_give q first
-
   behind_in : {b : ℕ} (around : Around) (is_free : Bool) (m : ℕ) (shape : Shape) (w : Way) (first : Option Indices) → In q b w.walk
       → In q b (way_behind around is_free m shape w first)
   behind_in around is_free m shape w first h =
       in_last q w.walk (then_first around is_free m shape w first) h (λ i.
-      in_first q (owed_of_first around is_free w.place w.never_ends m first i) (λ t. first_behind around is_free m shape w.never_ends first i)
-      (owed_light around is_free w.place w.never_ends m first i) (λ t. first_light around is_free m shape w.never_ends first i))
+      in_first q (owed_of_first around is_free w.place w.never_ends m first i) (λ t. give (first_behind around is_free m shape w.never_ends first i))
+      (owed_light around is_free w.place w.never_ends m first i) (λ t. in_give q (first_behind around is_free m shape w.never_ends first i)))
 
   ways_in : (b : ℕ) (around : Around) (is_free : Bool) (m : ℕ) (shape : Shape) (ws : List Way) (first : Option Indices) → WaysIn b ws
       → In q b (each_way around is_free m shape ws first)

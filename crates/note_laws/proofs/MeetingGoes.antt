@@ -1,12 +1,10 @@
 -- Where ways meet no mapping is gone through.
-use Rattle.std.specs.Prelude.{Bool, None, Option, Some, false, true, ℕ}
+use Rattle.std.specs.Prelude.{Bool, None, Option, Some, ℕ}
 use Rattle.sail_base.specs.declared.place.Place.{Place}
 use Rattle.sail_types.specs.declared.shapes.Shape.{Shape}
-use Rattle.sail_types.specs.declared.table.Types.{Types}
 use Rattle.value_indices.specs.declared.indices.Indices.{Indices}
 use Rattle.pattern_leaves.specs.Settings.{Around}
-use Rattle.expression_forms.specs.Inside.{is_value_whole}
-use Rattle.expression_forms.specs.Meeting.{gives_none, filled_first, first_unless, first_way, agrees_unless, like_first, met_ways}
+use Rattle.expression_forms.specs.Meeting.{gives_none, agrees_unless, like_first, met_ways}
 use Rattle.note_laws.proofs.Goes.{Goes, give_goes, bind_goes, owe_fit_goes}
 use Rattle.note_laws.proofs.EndGoes.{never_value_goes, sized_goes}
 use Rattle.note_laws.proofs.WideGoes.{met_goes}
@@ -15,17 +13,6 @@ module _ (reached : ℕ → Bool) where
   pub like_first_goes : (around : Around) (place : Place) (never_ends : Bool) (m : ℕ) (first : Indices) (i : Indices)
       → Goes reached (like_first around place never_ends m first i)
   like_first_goes around place never_ends m first i = owe_fit_goes reached place (agrees_unless (gives_none never_ends i) around.types m first i)
-
-  pub filled_first_goes : (a : Bool) (types : Types) (m : ℕ) (shape : Shape) (i : Indices) → Goes reached (filled_first a types m shape i)
-  filled_first_goes true types m shape i = give_goes reached _
-  filled_first_goes false types m shape i = met_goes reached types m shape i
-
-  pub first_unless_goes : (a : Bool) (types : Types) (m : ℕ) (shape : Shape) (i : Indices) → Goes reached (first_unless a types m shape i)
-  first_unless_goes true types m shape i = give_goes reached _
-  first_unless_goes false types m shape i = bind_goes reached _ _ (filled_first_goes (is_value_whole i) types m shape i) (λ j. give_goes reached _)
-
-  pub first_way_goes : (around : Around) (m : ℕ) (shape : Shape) (never_ends : Bool) (i : Indices) → Goes reached (first_way around m shape never_ends i)
-  first_way_goes around m shape never_ends i = first_unless_goes (gives_none never_ends i) around.types m shape i
 
   pub met_ways_goes : (around : Around) (place : Place) (m : ℕ) (shape : Shape) (i : Option Indices) → Goes reached (met_ways around place m shape i)
   met_ways_goes around place m shape None = never_value_goes reached

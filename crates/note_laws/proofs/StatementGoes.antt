@@ -27,7 +27,7 @@ use Rattle.call_arguments.specs.declared.aims.Aim.TheVariants as Aims
 use Rattle.expression_forms.specs.Meeting.{thrown}
 use Rattle.expression_steps.specs.Parts.{Part}
 use Rattle.expression_steps.specs.declared.counting.Bounds.{Bounds}
-use Rattle.expression_steps.specs.Statements.{and_under, and_walk, or_under, or_walk, first_behind, owed_of_first, then_first, way_behind, one_way, each_way, met_made, met_value, meeting_from, meeting, way_of, two_ways, if_ways, if_under}
+use Rattle.expression_steps.specs.Statements.{and_under, and_walk, or_under, or_walk, owed_of_first, then_first, way_behind, one_way, each_way, met_made, met_value, meeting_from, meeting, way_of, two_ways, if_ways, if_under}
 use Rattle.expression_steps.specs.Statements.{unit_form, unit_of, unit_under, when_under, when_met, either_met, either_walk, branches_forms, value_met, if_end, if_forms, plain_state, wrong_state, claim_behind, if_state, assert_state, written_aim, is_written}
 use Rattle.expression_steps.specs.Statements.{bind_names, let_names, let_walk, var_name, var_walk, under_claim, block_walk, case_walk, case_way, case_ways, match_under, match_walk, try_way, try_over, caught_at, try_walk}
 use Rattle.expression_steps.specs.Statements.{guarded, counted, turn_named, turn_begun, turn_walk, step_owed, bounds_of, turns_walk, foreach_walk, natural_type, measured, measure_walk, tested_walk, alone_walk, turn_part, loop_walk, Way}
@@ -35,7 +35,7 @@ use Rattle.note_laws.proofs.Goes.{Goes, Every, PartGoes, ArmGoes, StatementGoes,
 use Rattle.note_laws.proofs.Goes.{bind_goes, if_goes, fresh_named_goes, next_variable_goes, scoped_goes, claimed_goes, owe_goes}
 use Rattle.note_laws.proofs.EndGoes.{integer_number_goes, never_value_goes, settled_goes, wrong_value_goes}
 use Rattle.note_laws.proofs.LeafGoes.{exponents_owed_goes}
-use Rattle.note_laws.proofs.MeetingGoes.{first_way_goes, like_first_goes, met_ways_goes}
+use Rattle.note_laws.proofs.MeetingGoes.{like_first_goes, met_ways_goes}
 use Rattle.note_laws.proofs.NodeGoes.{made_opened_goes, node_ended_goes, node_given_goes, numbers_noted_goes}
 use Rattle.note_laws.proofs.OpeningGoes.{between_goes}
 use Rattle.note_laws.proofs.PartGoes.{condition_walk_goes, given_that_goes, numbers_walk_goes, truth_walk_goes, under_goes}
@@ -112,16 +112,11 @@ module _ (reached : ℕ → Bool) where
   owed_of_first_goes around true place never_ends m (Some first) i = like_first_goes reached around place never_ends m first i
   owed_of_first_goes around is_free place never_ends m first i = give_goes reached _
 
-  pub first_behind_goes : (around : Around) (is_free : Bool) (m : ℕ) (shape : Shape) (never_ends : Bool) (first : Option Indices) (i : Indices)
-      → Goes reached (first_behind around is_free m shape never_ends first i)
-  first_behind_goes around true m shape never_ends None i = first_way_goes reached around m shape never_ends i
-  first_behind_goes around is_free m shape never_ends first i = give_goes reached _
-
   pub then_first_goes : (around : Around) (is_free : Bool) (m : ℕ) (shape : Shape) (w : Way) → Goes reached w.walk → (first : Option Indices) (i : Indices)
       → Goes reached (then_first around is_free m shape w first i)
   then_first_goes around is_free m shape w w_go first i =
       bind_goes reached _ _ (owed_of_first_goes around is_free w.place w.never_ends m first i)
-      (λ t. first_behind_goes around is_free m shape w.never_ends first i)
+      (λ t. give_goes reached _)
 
   pub way_behind_goes : (around : Around) (is_free : Bool) (m : ℕ) (shape : Shape) (w : Way) → Goes reached w.walk → (first : Option Indices)
       → Goes reached (way_behind around is_free m shape w first)

@@ -363,6 +363,13 @@ val f : ((range(0, 3), range(0, 3)), range(0, 9)) -> range(0, 3)
 function f(p, i) = g()
 # true
 # 1 M20 1:4:20 #3 = 4
+% check M // a hole of a first way is one variable, where the ways meet
+val g : unit -> range(0, 9)
+function g() = 3
+val f : bool -> range(0, 3)
+function f(c) = { let x = if c then None() else Some(0x1); g() }
+# true
+# 1 M20 1:4:60 #2 = 4
 % check M // two variables may be told alike
 register R : range(0, 9)
 # { let a = R; let b = R; if a <= b then { let c = 0x12[b]; () }; true }

@@ -17,8 +17,7 @@ use Rattle.wide_types.specs.Widening.{met}
 use Rattle.pattern_leaves.specs.Settings.{Around}
 use Rattle.call_notes.specs.Ends.{opened_at, sized, sized_by}
 use Rattle.call_notes.specs.Noted.{node_ended, node_given, node_made}
-use Rattle.expression_forms.specs.Inside.{is_value_whole}
-use Rattle.expression_forms.specs.Meeting.{agrees_unless, filled_first, first_unless, gives_none, met_ways}
+use Rattle.expression_forms.specs.Meeting.{agrees_unless, gives_none, met_ways}
 use Rattle.expression_steps.specs.Statements.{Way, each_way, first_behind, meeting, meeting_from, met_made, met_value, one_way, owed_of_first}
 use Rattle.expression_steps.specs.Statements.{then_first, way_behind}
 use Rattle.soundness_steps.specs.Steps.{Grows}
@@ -42,26 +41,11 @@ module _ (met_grows : MetGrows) (agree : AgreementCounts) (around : Around) wher
   owed_grows true place never_ends m None i = grows_give tt
   owed_grows false place never_ends m first i = grows_give tt
 
-  filled_grows : (whole : Bool) (m : ℕ) (shape : Shape) (i : Indices) → Grows (filled_first whole around.types m shape i)
-  filled_grows true m shape i = grows_give i
-  filled_grows false m shape i = met_grows around.types m shape i
-
-  unless_grows : (none : Bool) (m : ℕ) (shape : Shape) (i : Indices) → Grows (first_unless none around.types m shape i)
-  unless_grows true m shape i = grows_give None
-  unless_grows false m shape i = grows_bind (filled_first (is_value_whole i) around.types m shape i) (λ j. give (Some j))
-      (filled_grows (is_value_whole i) m shape i) (λ j. grows_give (Some j))
-
-  first_grows : (is_free : Bool) (m : ℕ) (shape : Shape) (never_ends : Bool) (first : Option Indices) (i : Indices)
-      → Grows (first_behind around is_free m shape never_ends first i)
-  first_grows true m shape never_ends None i = unless_grows (gives_none never_ends i) m shape i
-  first_grows true m shape never_ends (Some first) i = grows_give (Some first)
-  first_grows false m shape never_ends first i = grows_give first
-
   pub behind_grows : (is_free : Bool) (m : ℕ) (shape : Shape) (w : Way) (first : Option Indices) → Grows w.walk
       → Grows (way_behind around is_free m shape w first)
   behind_grows is_free m shape w first h = grows_bind w.walk (then_first around is_free m shape w first) h (λ i.
-      grows_bind (owed_of_first around is_free w.place w.never_ends m first i) (λ t. first_behind around is_free m shape w.never_ends first i)
-      (owed_grows is_free w.place w.never_ends m first i) (λ t. first_grows is_free m shape w.never_ends first i))
+      grows_bind (owed_of_first around is_free w.place w.never_ends m first i) (λ t. give (first_behind around is_free m shape w.never_ends first i))
+      (owed_grows is_free w.place w.never_ends m first i) (λ t. grows_give (first_behind around is_free m shape w.never_ends first i)))
 
   ways_grow : (is_free : Bool) (m : ℕ) (shape : Shape) (ws : List Way) (first : Option Indices) → AllGrow ws
       → Grows (each_way around is_free m shape ws first)

@@ -34,7 +34,7 @@ use Rattle.soundness_forms.proofs.JoinGrowth.{behind_grows}
 use Rattle.soundness_forms.proofs.Joins.{unit_is, z}
 use Rattle.soundness_forms.proofs.Nodes.{node_ends}
 use Rattle.soundness_joins.proofs.AgreementCounts.{agreement_counts}
-use Rattle.soundness_joins.proofs.Meeting.{Came, MetFree, by_numbers, by_type, meets, taken_free}
+use Rattle.soundness_joins.proofs.Meeting.{Came, MetFree, by_filling, by_numbers, by_type, meets, taken_free}
 
 -- ---- laws of what is kept of a first way
 
@@ -59,6 +59,7 @@ module _ (q : Scene) (m : ℕ) (falls : Bool) where
 
   came_back : {n : ℕ} (f : Point n) (first : Indices) (v : Value) → Came there m f first v → Came q m f first v
   came_back f first v (by_type b) = by_type b
+  came_back f first v (by_filling shape i e b) = by_filling shape i e b
   came_back f first v (by_numbers i t u c b) = by_numbers i t u c b
 
   met_back : {n : ℕ} (f : Point n) (o : Option Indices) (x : Item) → MetFree there m n f o x → MetFree q m n f o x
@@ -72,7 +73,7 @@ module _ (q : Scene) (m : ℕ) where
       → Walks q n f facts (met_ways (here q) place m shape (Some first)) (λ j g i. Has q.set q.work g i x.val)
   ways_met place shape first x le h =
       walks_on (λ j. bind (sized place j) (λ t. give j))
-      (meets q m met_sound agree_sound shape first x.val le h) (λ j g fs i l has.
+      (meets q m met_sound agree_sound own_type shape first x.val le h) (λ j g fs i l has.
       walks_on (λ t. give i) (notes (λ gs. size_note gs place (Makes.ByIndices i))) (λ k p gs t b u. given_back i (has_on b has)))
 
   free_made : (place : Place) (k : ℕ) (shape : Shape) (o : Option Indices) (x : Item) {n : ℕ} {f : Point n} {facts : List Fact} → m ≤ n → MetFree q m n f o x

@@ -24,16 +24,16 @@ use Rattle.wide_types.specs.Widening.{agrees_within, met, value_spelled}
 use Rattle.call_arguments.specs.declared.aims.Aim.TheVariants as Aims
 use Rattle.call_notes.specs.Ends.{is_never, is_never_form}
 use Rattle.expression_forms.specs.Inside.{is_value_below, is_value_told, is_value_whole}
-use Rattle.expression_forms.specs.Meeting.{agrees_unless, as_first, filled_first, first_unless, first_way, gives_none, like_first}
+use Rattle.expression_forms.specs.Meeting.{agrees_unless, as_first, filled_aside, filled_first, first_unless, first_way, gives_none, like_first}
 use Rattle.expression_steps.specs.Statements.{Way, each_way, one_way, then_first, way_behind}
 use Rattle.checked_meaning.specs.Checked.{checked}
 use Rattle.checked_meaning.specs.Items.{Item}
-use Rattle.value_laws.specs.Belonging.{Integers, Meant, has, meant, standing}
+use Rattle.value_laws.specs.Belonging.{Integers, Meant, has, is_of, meant, standing}
 use Rattle.value_laws.specs.Known as Known
 use Rattle.value_laws.specs.Known.{Agree, AllTrue, Goes, Point}
 use Rattle.value_laws.proofs.Basics.{no}
 use Rattle.value_laws.proofs.Numbers.{truth_is}
-use Rattle.value_laws.proofs.Steps.{same}
+use Rattle.value_laws.proofs.Steps.{no_later as known_here, same}
 use Rattle.value_laws.proofs.Values.{closed_is}
 use Rattle.meeting_laws.proofs.Steadied.{wide_below}
 use Rattle.meeting_laws.specs.Laws.{AgreeingIsSound, HasItsType, IsFull, MeetingIsSound}
@@ -116,15 +116,18 @@ keeps {n = n} {facts = facts} {w = w} r v b h say = record {
 -- ---- a value that came of one of the ways
 
 module _ (q : Scene) (m : ℕ) where
-  -- it is of the first way's type; or of that of another, which agrees with it by numbers
+  -- it is of the first way's type, or of that which was filled to be the first way's; or of that of another, which agrees with it by numbers
   pub data Came {n : ℕ} (f : Point n) (first : Indices) (v : Value) : Type 0 where
     by_type : Belongs q.set q.work f (R.Widened first) v → Came f first v
+    by_filling : (shape : Shape) (i : Indices) → filled_aside q.set.around.types m shape i ≡ first → Belongs q.set q.work f (R.Widened i) v
+        → Came f first v
     by_numbers : (i : Indices) → is_value_told (value_spelled first) ≡ true → is_value_told (value_spelled i) ≡ true
         → IsTrue q.set q.work f (conjunction (agrees_within deepest m (value_spelled first) (value_spelled i)))
         → Belongs q.set q.work f (R.Widened i) v → Came f first v
 
   came_on : {n k : ℕ} {f : Point n} {g : Point k} (first : Indices) (v : Value) → Later f g → Came f first v → Came g first v
   came_on first v l (by_type b) = by_type (λ h a. b h (agree_on l a))
+  came_on first v l (by_filling shape i e b) = by_filling shape i e (λ h a. b h (agree_on l a))
   came_on first v l (by_numbers i t u c b) = by_numbers i t u (λ h a. c h (agree_on l a)) (λ h a. b h (agree_on l a))
 
   abbrev pub MetFree : (j : ℕ) → Point j → Option Indices → Item → Type 0
@@ -133,7 +136,25 @@ module _ (q : Scene) (m : ℕ) where
 
   -- ---- the value behind all ways
 
-  module _ (meeting : MeetingIsSound) (agreeing : AgreeingIsSound) where
+  module _ (meeting : MeetingIsSound) (agreeing : AgreeingIsSound) (typed : HasItsType) where
+    -- some integers, the same before the ways, for which a value is of the type that was filled
+    abbrev filled_for : {n : ℕ} (f : Point n) → Indices → Value → Type 0
+    filled_for f first v = (h : Integers) × Agree (cut f m) h
+        × (is_of q.set.around.types (standing q.set.past h) q.work.types (R.Widened first) v ≡ true)
+
+    by_fill : {n : ℕ} {f : Point n} (shape : Shape) (i : Indices) (v : Value) → Belongs q.set q.work f (R.Widened i) v
+        → filled_for f (filled_aside q.set.around.types m shape i) v
+    by_fill {n} {f} shape i v b =
+        let types = q.set.around.types in
+        let law = meeting types q.set.past q.work.types i shape m (cut f m) (cut_full f m) f.integers (cut_agree f m) v (b f.integers (same f)) m (cut f m) []
+        (known_here (cut f m)) in
+        let k = law.2.goes in
+        let h = k.point.integers in (
+          h,
+          record { same = k.later.same },
+          typed types q.set.past q.work.types h (filled_aside types m shape i) v (ap (λ (j : Meant). j.holds v) (k.holds h (same k.point)) ∙ law.1),
+        )
+
     pub meets : {n : ℕ} {f : Point n} {facts : List Fact} (shape : Shape) (first : Indices) (v : Value) → m ≤ n → Came f first v
         → Walks q n f facts (met q.set.around.types m shape first) (λ j g i. Has q.set q.work g i v)
     meets {n} {f} {facts} shape first v le came = record {
@@ -152,6 +173,9 @@ module _ (q : Scene) (m : ℕ) where
             (λ g i. meant q.set.around.types (standing q.set.past g) q.work.types i ≡ j)
         found (by_type b) = meeting q.set.around.types q.set.past q.work.types first shape m (cut f m) (cut_full f m) f.integers (cut_agree f m) v
             (b f.integers (same f)) n (whole f) facts (cut_later f m le)
+        found (by_filling s i e b) =
+            let d = subst (λ (j : Indices). filled_for f j v) e (by_fill s i v b) in
+            meeting q.set.around.types q.set.past q.work.types first shape m (cut f m) (cut_full f m) d.0 d.1 v d.2 n (whole f) facts (cut_later f m le)
         found (by_numbers i t u c b) = agreeing q.set.around.types q.set.past q.work.types first i shape m (cut f m) (cut_full f m) f.integers
             (cut_agree f m) t u (c f.integers (same f)) v (b f.integers (same f)) n (whole f) facts (cut_later f m le)
 
@@ -237,23 +261,23 @@ module _ (q : Scene) (m : ℕ) where
         (sym (gives_one never_ends i x e h))
         (agrees_walks place first i x.val (is_value_told (value_spelled first)) (is_value_told (value_spelled i)) le h.has refl refl)
 
-    -- holes in a first one are filled so that the value is of it
-    fills : {n : ℕ} {f : Point n} {facts : List Fact} (i : Indices) (x : Item) → m ≤ n → Is q.set q.work f i x → (whole : Bool)
-        → Walks q n f facts (filled_first whole q.set.around.types m shape i) (λ j g d. Has q.set q.work g d x.val)
-    fills i x le h true = given_back i h.has
-    fills i x le h false = meets meeting agreeing shape i x.val le (by_type (own_type i x.val h.has))
+    -- it is of a first one, the holes of which are filled
+    first_came : {n : ℕ} {f : Point n} (i : Indices) (x : Item) → Is q.set q.work f i x → (whole : Bool)
+        → Came f (filled_first whole q.set.around.types m shape i) x.val
+    first_came i x h true = by_type (own_type i x.val h.has)
+    first_came i x h false = by_filling shape i refl (own_type i x.val h.has)
 
-    first_walks : {n : ℕ} {f : Point n} {facts : List Fact} (never_ends : Bool) (i : Indices) (x : Item) → m ≤ n → never_ends ≡ false
-        → Is q.set q.work f i x → Walks q n f facts (first_way (here q) m shape never_ends i) (λ j g o. MetFree j g o x)
-    first_walks {n} {f} {facts} never_ends i x le e h =
-        subst (λ b. Walks q n f facts (first_unless b q.set.around.types m shape i) (λ j g o. MetFree j g o x)) (sym (gives_one never_ends i x e h))
-        (walks_on (λ j. give (Some j)) (fills i x le h (is_value_whole i)) (λ k p gs d l has. given_back (Some d) (by_type (own_type d x.val has))))
+    first_is : {n : ℕ} {f : Point n} (never_ends : Bool) (i : Indices) (x : Item) → never_ends ≡ false → Is q.set q.work f i x
+        → MetFree n f (first_way (here q) m shape never_ends i) x
+    first_is {n} {f} never_ends i x e h =
+        subst (λ b. MetFree n f (first_unless b q.set.around.types m shape i) x) (sym (gives_one never_ends i x e h)) (first_came i x h (is_value_whole i))
 
     way_walks : {n : ℕ} {f : Point n} {facts : List Fact} (w : Way) (first : Option Indices) (i : Indices) (x : Item) → m ≤ n
         → w.never_ends ≡ false → Is q.set q.work f i x
         → Walks q n f facts (then_first (here q) true m shape w first i) (λ j g o. MetFree j g o x)
-    way_walks w None i x le e h = walks_on (λ t. first_way (here q) m shape w.never_ends i) {Holds = λ j g t. Is q.set q.work g i x}
-        (given_back tt h) (λ j g fs t l d. first_walks w.never_ends i x (let on = l.onward in omega (arith, le, on)) e d)
+    way_walks w None i x le e h =
+        walks_on (λ t. give (first_way (here q) m shape w.never_ends i)) {Holds = λ j g t. Is q.set q.work g i x}
+        (given_back tt h) (λ j g fs t l d. given_back (first_way (here q) m shape w.never_ends i) (first_is w.never_ends i x e d))
     way_walks w (Some first) i x le e h =
         walks_on (λ t. give (Some first)) (owed_walks w.place w.never_ends first i x le e h) (λ j g fs t l d. given_back (Some first) d)
 

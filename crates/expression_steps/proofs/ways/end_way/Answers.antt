@@ -6,7 +6,7 @@ use Rattle.expression_steps.proofs.ways.end_way.Goals as goal
 
 pub returns-clause-value : goal.returns-clause-value
 returns-clause-value c =
-    c.in_ok-made.ensures.value
+    c.in_ok-made.ensures
     ∙ end_got c.args.is_free c.args.before c.args.shape.now (around_of c.args.around.now) c.args.core.now c.args.first _ c.args.value
     c.never_ends-ends.result (seen c.args.walking.now) (seen c.owe_first.new.walking) c.never_ends-ends.ensures c.as_ref.ensures.value
     c.in_ok-owe_first.ensures
@@ -14,7 +14,6 @@ returns-clause-value c =
 pub returns-clause-walked : goal.returns-clause-walked
 returns-clause-walked c =
     c.in_ok-restore.ensures
-    ∙ ap restored (c.in_ok-made.ensures.walked
-    ∙ end_run c.args.is_free c.args.before c.args.shape.now (around_of c.args.around.now) c.args.core.now c.args.first _ c.args.value
+    ∙ ap restored (end_run c.args.is_free c.args.before c.args.shape.now (around_of c.args.around.now) c.args.core.now c.args.first _ c.args.value
     c.never_ends-ends.result (seen c.args.walking.now) (seen c.owe_first.new.walking) c.never_ends-ends.ensures c.as_ref.ensures.value
     c.in_ok-owe_first.ensures)
