@@ -21,6 +21,7 @@ use Rattle.sail_core.specs.Run.{Now, Ended, Run, gives, falls, stuck, goes_on, w
 use Rattle.sail_core.specs.Making as Core
 use Rattle.sail_core.specs.Making.{plainly}
 use Rattle.sail_core.specs.Patterns as Steps
+use Rattle.sail_core.specs.declared.tree.Giver.TheVariants as Gives
 use Rattle.sail_core.specs.Meaning.{arm_taken, core_meaning, first_of}
 use Rattle.shape_joins.proofs.Order.{no}
 use Rattle.sail_meaning.specs.Text.{Function, Measure}
@@ -191,7 +192,8 @@ abbrev ClauseRuns : Setting → List Shape → Shape → Arm → Core → (Sourc
 ClauseRuns setting params answer arm body taken =
     (registers : List Shape) (c : Choice) (wc : Core.World Value) (ws : Source.World) → Describes setting registers wc ws
     → (vs : List Value) → FitAll setting.types c params vs → (now : Now Value) → Good (reach_of setting registers c []) now
-    → Agree (reach_of setting registers c []) (Fits setting.types c answer) (arm_taken plainly wc arm (core_meaning wc body) vs now) (taken ws vs now)
+    → Agree (reach_of setting registers c []) (Fits setting.types c answer) (arm_taken plainly wc (Gives.Node 0) arm (core_meaning wc body) vs now)
+    (taken ws vs now)
 
 looked_length : (ps : List Looking) (setting : Setting) (ss : List Shape) → length (each_looked ps setting no_widths ss).patterns ≡ length ps
 looked_length [] setting ss = refl
@@ -309,13 +311,13 @@ first_agrees : (setting : Setting) (params : List Shape) (answer : Shape) (ks : 
     → (registers : List Shape) (c : Choice) (wc : Core.World Value) (ws : Source.World) → Describes setting registers wc ws
     → (vs : List Value) → FitAll setting.types c params vs → (now : Now Value) → Good (reach_of setting registers c []) now
     → Agree (reach_of setting registers c []) (Fits setting.types c answer)
-    (first_of plainly wc (clauses_arms ks) (map (core_meaning wc) (clauses_bodies ks)) falls vs now) (first_clause ws cs vs now)
+    (first_of plainly wc 0 (clauses_arms ks) (map (core_meaning wc) (clauses_bodies ks)) falls vs now) (first_clause ws cs vs now)
 first_agrees setting params answer [] [] are registers c wc ws d vs fit now good = (refl, good)
 first_agrees setting params answer [] (x ∷ xs) are registers c wc ws d vs fit now good = absurd are
 first_agrees setting params answer (k ∷ ks) [] are registers c wc ws d vs fit now good = absurd are
 first_agrees setting params answer (k ∷ ks) (x ∷ xs) are registers c wc ws d vs fit now good =
-    or_agree (reach_of setting registers c []) (Fits setting.types c answer) (arm_taken plainly wc k.arm (core_meaning wc k.body) vs now)
-    (clause_taken ws x vs now) (first_of plainly wc (clauses_arms ks) (map (core_meaning wc) (clauses_bodies ks)) falls vs) (first_clause ws xs vs)
+    or_agree (reach_of setting registers c []) (Fits setting.types c answer) (arm_taken plainly wc (Gives.Node 0) k.arm (core_meaning wc k.body) vs now)
+    (clause_taken ws x vs now) (first_of plainly wc 0 (clauses_arms ks) (map (core_meaning wc) (clauses_bodies ks)) falls vs) (first_clause ws xs vs)
     (are.0 registers c wc ws d vs fit now good)
     (λ later good2. first_agrees setting params answer ks xs are.1 registers c wc ws d vs fit later good2)
 
@@ -324,7 +326,7 @@ body_is : (setting : Setting) (params : List Shape) (answer : Shape) (place : Pl
 body_is setting params answer place ks cs are registers c wc ws d vs arguments fit now good =
     let a = first_agrees setting params answer ks cs are registers c wc ws d vs fit now good in (
       ap (λ (q : Run Value Value). q now) (unrolled wc place 0 (K.Clauses (clauses_arms ks)) (clauses_bodies ks))
-          ∙ ap (λ xs. first_of plainly wc (clauses_arms ks) (map (core_meaning wc) (clauses_bodies ks)) falls xs now) arguments ∙ a.0,
+          ∙ ap (λ xs. first_of plainly wc 0 (clauses_arms ks) (map (core_meaning wc) (clauses_bodies ks)) falls xs now) arguments ∙ a.0,
       a.1,
     )
 
@@ -418,7 +420,7 @@ measures_right setting names params place m known counts w u v e registers c wc 
     e registers c wc (plain ws) (plain_described setting registers wc ws d) vs fit now good in
     let source = ap (λ e. goes_on e (λ found. within found (meaning m.value (plain ws)))) (plain_arguments m.parameters ws vs now) in (
       ap (λ (q : Run Value Value). q now) (unrolled wc place 0 (K.Clauses (one.arm ∷ [])) (one.body ∷ []))
-          ∙ ap (λ xs. first_of plainly wc (one.arm ∷ []) (core_meaning wc one.body ∷ []) falls xs now) arguments
-          ∙ or_none (arm_taken plainly wc one.arm (core_meaning wc one.body) vs now) ∙ a.0 ∙ source,
+          ∙ ap (λ xs. first_of plainly wc 0 (one.arm ∷ []) (core_meaning wc one.body ∷ []) falls xs now) arguments
+          ∙ or_none (arm_taken plainly wc (Gives.Node 0) one.arm (core_meaning wc one.body) vs now) ∙ a.0 ∙ source,
       subst (Keeps (reach_of plain_one registers c []) (Fits setting.types c V.Int)) source a.1,
     )

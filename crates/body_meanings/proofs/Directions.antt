@@ -19,6 +19,7 @@ use Rattle.sail_core.specs.Run.{Now, Run, falls, within, ◌then◌}
 use Rattle.sail_core.specs.Making as Core
 use Rattle.sail_core.specs.Making.{plainly}
 use Rattle.sail_core.specs.Patterns as Steps
+use Rattle.sail_core.specs.declared.tree.Giver.TheVariants as Gives
 use Rattle.sail_core.specs.Meaning.{arm_taken, core_meaning, first_of}
 use Rattle.core_numbers.specs.Numbers.{numbered}
 use Rattle.shape_joins.proofs.Order.{no}
@@ -35,7 +36,6 @@ use Rattle.sail_names.specs.Patterns.{binds, clashes, pattern_failures, uses_fai
 use Rattle.sail_names.specs.Uses.{expression_failures, maybe}
 use Rattle.shape_rules.specs.declared.callees.Mapping.{Mapping}
 use Rattle.shape_rules.specs.declared.error.ShapeError.{ShapeError}
-use Rattle.shape_rules.specs.declared.locals.Local.{Local}
 use Rattle.shape_rules.specs.Findings.{Found, cast}
 use Rattle.shape_rules.specs.Scopes.{Setting, Locals, answering, under}
 use Rattle.shape_rules.specs.Patterns.{Looked, Widths, look}
@@ -79,7 +79,8 @@ taken_beside : (setting : Setting) (widths : Widths) (subject t : Shape) (p : Lo
     → LooksRight setting widths subject p m → EitherWay p.binds → RunsAs setting (under p.binds []) t core km
     → (registers : List Shape) (c : Choice) (wc : Core.World Value) (ws : Source.World) → Describes setting registers wc ws
     → (v : Value) → Fits setting.types c subject v → (now : Now Value) → Good (reach_of setting registers c []) now
-    → Agree (reach_of setting registers c []) (Fits setting.types c t) (arm_taken plainly wc (A.Nested (p.pattern ∷ [])) (core_meaning wc core) (v ∷ []) now)
+    → Agree (reach_of setting registers c []) (Fits setting.types c t)
+    (arm_taken plainly wc (Gives.Node 0) (A.Nested (p.pattern ∷ [])) (core_meaning wc core) (v ∷ []) now)
     ((m (with_widths widths ws) v then λ found. within found (km ws)) now)
 taken_beside setting widths subject t p m core km looks either body registers c wc ws d v h now good =
     let reach : Reach = reach_of setting registers c [] in
@@ -108,7 +109,7 @@ abbrev CrossRuns : Setting → Shape → Shape → Claused → (Source.World →
 CrossRuns setting subject answer k taken =
     (registers : List Shape) (c : Choice) (wc : Core.World Value) (ws : Source.World) → Describes setting registers wc ws
     → (v : Value) → Fits setting.types c subject v → (now : Now Value) → Good (reach_of setting registers c []) now
-    → Agree (reach_of setting registers c []) (Fits setting.types c answer) (arm_taken plainly wc k.arm (core_meaning wc k.body) (v ∷ []) now)
+    → Agree (reach_of setting registers c []) (Fits setting.types c answer) (arm_taken plainly wc (Gives.Node 0) k.arm (core_meaning wc k.body) (v ∷ []) now)
     (taken ws v now)
 
 cross_runs : (setting : Setting) (names : Tables.Setting) → AreKnown setting names → (from to : Side) (d : Direction) (n : ℕ)
@@ -122,7 +123,7 @@ cross_runs : (setting : Setting) (names : Tables.Setting) → AreKnown setting n
 cross_runs setting names known from to d n whole counts wp wg wt u x v e =
     λ registers c wc ws described value fit now good.
     subst (λ (q : Widths). Agree (reach_of setting registers c []) (Fits setting.types c want)
-    (arm_taken plainly wc (A.Nested (p.pattern ∷ [])) (core_meaning wc core) (value ∷ []) now)
+    (arm_taken plainly wc (Gives.Node 0) (A.Nested (p.pattern ∷ [])) (core_meaning wc core) (value ∷ []) now)
     ((matching (with_widths q ws) from.pattern value then λ found. within found (guarded (option_map meaning from.guard) (side_value to.pattern) ws)) now))
     (sym (widths_given setting names known d.gives to.pattern x registers wc ws described))
     (taken_beside setting widths (shape d.takes) want p (λ w. matching w from.pattern) core (guarded (option_map meaning from.guard) (side_value to.pattern))
@@ -207,13 +208,14 @@ first_crosses : (setting : Setting) (d : Direction) (ks : List Claused) (cs : Li
     → (registers : List Shape) (c : Choice) (wc : Core.World Value) (ws : Source.World) → Describes setting registers wc ws
     → (v : Value) → Fits setting.types c (shape d.takes) v → (now : Now Value) → Good (reach_of setting registers c []) now
     → Agree (reach_of setting registers c []) (Fits setting.types c (shape d.gives))
-    (first_of plainly wc (clauses_arms ks) (map (core_meaning wc) (clauses_bodies ks)) falls (v ∷ []) now) (first_crossing ws d cs v now)
+    (first_of plainly wc 0 (clauses_arms ks) (map (core_meaning wc) (clauses_bodies ks)) falls (v ∷ []) now) (first_crossing ws d cs v now)
 first_crosses setting d [] [] are registers c wc ws described v fit now good = (refl, good)
 first_crosses setting d [] (x ∷ xs) are registers c wc ws described v fit now good = absurd are
 first_crosses setting d (k ∷ ks) [] are registers c wc ws described v fit now good = absurd are
 first_crosses setting d (k ∷ ks) (x ∷ xs) are registers c wc ws described v fit now good =
-    or_agree (reach_of setting registers c []) (Fits setting.types c (shape d.gives)) (arm_taken plainly wc k.arm (core_meaning wc k.body) (v ∷ []) now)
-    (crossing_taken ws d x v now) (first_of plainly wc (clauses_arms ks) (map (core_meaning wc) (clauses_bodies ks)) falls (v ∷ []))
+    or_agree (reach_of setting registers c []) (Fits setting.types c (shape d.gives))
+    (arm_taken plainly wc (Gives.Node 0) k.arm (core_meaning wc k.body) (v ∷ []) now)
+    (crossing_taken ws d x v now) (first_of plainly wc 0 (clauses_arms ks) (map (core_meaning wc) (clauses_bodies ks)) falls (v ∷ []))
     (first_crossing ws d xs v) (are.0 registers c wc ws described v fit now good)
     (λ later good2. first_crosses setting d ks xs are.1 registers c wc ws described v fit later good2)
 
@@ -226,7 +228,7 @@ crosses setting place d ks are registers c wc ws described (v ∷ []) arguments 
     let a = first_crosses setting d ks d.clauses are registers c wc ws described v (and_parts (fits setting.types v (put c (shape d.takes))) true fit).0
     now good in (
       ap (λ (q : Run Value Value). q now) (unrolled wc place 0 (K.Clauses (clauses_arms ks)) (clauses_bodies ks))
-          ∙ ap (λ xs. first_of plainly wc (clauses_arms ks) (map (core_meaning wc) (clauses_bodies ks)) falls xs now) arguments ∙ a.0,
+          ∙ ap (λ xs. first_of plainly wc 0 (clauses_arms ks) (map (core_meaning wc) (clauses_bodies ks)) falls xs now) arguments ∙ a.0,
       a.1,
     )
 

@@ -12,6 +12,7 @@ use Rattle.sail_core.specs.declared.tree.Core.{Core, Core-F, fold-roll-Core, ind
 use Rattle.sail_core.specs.Run.{Run, ◌then◌}
 use Rattle.sail_core.specs.Making.{World, plainly}
 use Rattle.sail_core.specs.Targets.{Spot, Spotting, assigned, part_spot, spotted, spotting, target_meaning, way_then, ways_of}
+use Rattle.sail_core.proofs.Numbering.{same_number}
 use Rattle.sail_core.specs.Meaning.{core_meaning, kind_meaning, suffix_then, suffixes_of}
 use Rattle.core_numbers.specs.Numbers.{Numbered, Numbering, core_with, each_numbered, kind_numbered, numbered, suffix_numbered, target_kind_numbered}
 use Rattle.core_numbers.specs.Numbers.{target_numbered, target_with}
@@ -81,6 +82,10 @@ kind_same : (w : World Value) (place : Place) (k l : ℕ) (kind : Kind) (n : ℕ
 kind_same w place k l (K.Part ss) n [] = refl
 kind_same w place k l (K.Part ss) n (a ∷ indexes) = λ i. a then suffixes_same ss n i indexes
 kind_same w place k l (K.Assign targets) n parts = λ i. assigned (targets_same w targets n i) parts
+kind_same w place k l (K.Block statements) n parts = same_number w k l place (K.Block statements) parts
+kind_same w place k l (K.Match arms shape) n parts = same_number w k l place (K.Match arms shape) parts
+kind_same w place k l (K.Try arms shape) n parts = same_number w k l place (K.Try arms shape) parts
+kind_same w place k l (K.Clauses arms) n parts = same_number w k l place (K.Clauses arms) parts
 kind_same w place k l kind n parts = refl
 
 abbrev Means : World Value → Core → Type 0

@@ -25,21 +25,30 @@ value_given x i is = ap numbers_given is ∙ fold-roll-Indices (Walk (Unit {0}))
 pub integer_given : (i : Indices) (n : Num) → i ≡ I.Integer n → numbers_given i ≡ number_given (variable_in n)
 integer_given i n is = value_given (W.Integer n) i (is ∙ sym (I.rolls-Integer n))
 
+pub bits_given : (i : Indices) (n : Num) → i ≡ I.Bits n → numbers_given i ≡ number_given (variable_in n)
+bits_given i n is = value_given (W.Bits n) i (is ∙ sym (I.rolls-Bits n))
+
+pub vector_given : (i : Indices) (n : Num) (r : Reading) → i ≡ I.Vector n r → numbers_given i ≡ number_given (variable_in n)
+vector_given i n r is = value_given (W.Vector n r) i (is ∙ sym (I.rolls-Vector n r))
+
 pub tuple_given : (i : Indices) (is js : List Indices) → i ≡ I.Tuple is → js ≡ is → numbers_given i ≡ all_given (map numbers_given js)
 tuple_given i is js at same =
     value_given (W.Tuple is) i (at ∙ sym (I.rolls-Tuple is)) ∙ ap (λ (ks : List Indices). all_given (map numbers_given ks)) (sym same)
 
 other_form : (x : Indices-F Indices Reading) (i : Indices) → i ≡ roll-Indices x → ((n : Num) → i ≡ I.Integer n → ⊥)
-    → ((is : List Indices) → i ≡ I.Tuple is → ⊥) → numbers_given i ≡ give tt
-other_form (W.Integer n) i at integer tuple = absurd (integer n (at ∙ I.rolls-Integer n))
-other_form (W.Tuple is) i at integer tuple = absurd (tuple is (at ∙ I.rolls-Tuple is))
-other_form x i at integer tuple = value_given x i at
+    → ((n : Num) → i ≡ I.Bits n → ⊥) → ((n : Num) (r : Reading) → i ≡ I.Vector n r → ⊥) → ((is : List Indices) → i ≡ I.Tuple is → ⊥)
+    → numbers_given i ≡ give tt
+other_form (W.Integer n) i at integer bits vector tuple = absurd (integer n (at ∙ I.rolls-Integer n))
+other_form (W.Bits n) i at integer bits vector tuple = absurd (bits n (at ∙ I.rolls-Bits n))
+other_form (W.Vector n r) i at integer bits vector tuple = absurd (vector n r (at ∙ I.rolls-Vector n r))
+other_form (W.Tuple is) i at integer bits vector tuple = absurd (tuple is (at ∙ I.rolls-Tuple is))
+other_form x i at integer bits vector tuple = value_given x i at
 
 -- a value that gives none
-pub none_given : (i : Indices) (w : Written) → ((n : Num) → i ≡ I.Integer n → ⊥) → ((is : List Indices) → i ≡ I.Tuple is → ⊥)
-    → w ≡ run (numbers_given i) w
-none_given i w integer tuple =
-    sym (ap (λ (a : Walk (Unit {0})). run a w) (other_form (out-Indices i) i (sym (roll-out-Indices i)) integer tuple) ∙ run_give tt w)
+pub none_given : (i : Indices) (w : Written) → ((n : Num) → i ≡ I.Integer n → ⊥) → ((n : Num) → i ≡ I.Bits n → ⊥)
+    → ((n : Num) (r : Reading) → i ≡ I.Vector n r → ⊥) → ((is : List Indices) → i ≡ I.Tuple is → ⊥) → w ≡ run (numbers_given i) w
+none_given i w integer bits vector tuple =
+    sym (ap (λ (a : Walk (Unit {0})). run a w) (other_form (out-Indices i) i (sym (roll-out-Indices i)) integer bits vector tuple) ∙ run_give tt w)
 
 -- ---- one part after the other
 

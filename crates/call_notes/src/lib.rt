@@ -22,6 +22,9 @@ pub use ends::{
     owe_value, settled, wrong_value,
 };
 pub use made::{made_named, part_owed};
-pub use noted::{made_by_type, made_by_value, made_opened, node_ended, node_given, note_numbers};
+pub use noted::{
+    made_by_type, made_by_value, made_opened, names_given, node_ended, node_given, note_numbers,
+    note_numbers_by,
+};
 pub use numbers::Numbers;
 pub use rows::row_call;

@@ -1,5 +1,5 @@
 //! What is noted at a node that makes a value: what it makes of its operands, and the numbers of variables that the value gives.
-ghost use Rattle.std.specs.Prelude.{◌≡◌, map, IfOk, OnOk};
+ghost use Rattle.std.specs.Prelude.{◌≡◌, ◌++◌, map, IfOk, OnOk};
 ghost use Rattle.sail_types.specs.declared.numbers.Atom.{out-Atom};
 ghost use Rattle.value_indices.specs.Walking as walk;
 ghost use Rattle.value_indices.specs.declared.notes.Made.TheVariants as Makes;
@@ -7,7 +7,9 @@ ghost use Rattle.call_arguments.specs.Placing.{atom_variable as atom_variable_of
 ghost use Rattle.call_notes.specs.Noted as noted;
 
 use crate::ends::opened_at;
-use sail_base::Place;
+use pattern_leaves::{Bound, Held};
+use sail_base::{Items, Place};
+use sail_core::Giver;
 use sail_types::{Atom, Num};
 use std::alloc::{AllocError, Global};
 use value_indices::{Indices, Made, Reading, Walking, copy_each, copy_indices, copy_reading};
@@ -128,6 +130,8 @@ fn give_numbers(walking: &mut Walking, value: &Indices) -> Result<(), AllocError
 {
     match value {
         Indices::Integer(number) => give_variable(walking, number_variable(number)),
+        Indices::Bits(width) => give_variable(walking, number_variable(width)),
+        Indices::Vector(length, _) => give_variable(walking, number_variable(length)),
         Indices::Tuple(parts) => give_each(walking, parts.as_slice()),
         _ => Ok(()),
     }
@@ -145,8 +149,22 @@ fn give_each(walking: &mut Walking, parts: &[Indices]) -> Result<(), AllocError>
     Ok(())
 }
 
-/// Notes that the node of a number gives the numbers of a value: they are noted from here on. It fails where memory is wanting.
+/// Notes what gives the numbers of a value: they are noted from here on. It fails where memory is wanting.
 #[tactic(auto, using(value_indices::proofs::Walks::walks))]
+pub fn note_numbers_by(
+    alloc: Global,
+    walking: &mut Walking,
+    giver: Giver,
+    value: &Indices,
+) -> Result<(), AllocError>
+    ensures { OnOk result (walk.seen walking.new ≡ walk.run (noted.numbers_by giver value.now) (walk.seen walking.old)) }
+{
+    let given = copy_indices(alloc, value)?;
+    walking.note_given(giver, given)?;
+    give_numbers(walking, value)
+}
+
+/// Notes that the node of a number gives the numbers of a value: they are noted from here on. It fails where memory is wanting.
 pub fn note_numbers(
     alloc: Global,
     walking: &mut Walking,
@@ -155,9 +173,7 @@ pub fn note_numbers(
 ) -> Result<(), AllocError>
     ensures { OnOk result (walk.seen walking.new ≡ walk.run (noted.numbers_noted number value.now) (walk.seen walking.old)) }
 {
-    let given = copy_indices(alloc, value)?;
-    walking.note_given(number, given)?;
-    give_numbers(walking, value)
+    note_numbers_by(alloc, walking, Giver::Node(number), value)
 }
 
 /// The value that the node of a number gives, whose numbers are noted from here on. It fails where memory is wanting.
@@ -173,4 +189,46 @@ pub fn node_given(
 {
     note_numbers(alloc, walking, number, &value)?;
     Ok(value)
+}
+
+/// What a name holds; nothing of a `var`. It fails where memory is wanting.
+fn name_indices(alloc: Global, name: &Bound) -> Result<Indices, AllocError>
+    ensures { IfOk result (λ made. made ≡ noted.name_indices name.now) }
+{
+    match &name.held {
+        Held::Value(indices) => copy_indices(alloc, indices),
+        Held::Var(_) => Ok(Indices::Unit),
+    }
+}
+
+/// These, and what names hold behind them, in order. It fails where memory is wanting.
+fn with_names(
+    alloc: Global,
+    values: &[Indices],
+    names: &[Bound],
+) -> Result<Items<Indices>, AllocError>
+    ensures { IfOk result (λ made. made ≡ values.now ++ map noted.name_indices names.now) }
+{
+    let mut made = copy_each(alloc, values)?;
+    for name in names {
+        made.push(name_indices(alloc, name)?)?;
+    }
+    Ok(made)
+}
+
+/// The names that an arm binds over these values: the numbers of both are noted from here on. It fails where memory is wanting.
+#[tactic(auto, using(value_indices::proofs::Walks::walks))]
+pub fn names_given(
+    alloc: Global,
+    walking: &mut Walking,
+    giver: Giver,
+    values: &[Indices],
+    found: Items<Bound>,
+) -> Result<Items<Bound>, AllocError>
+    ensures value { IfOk result (λ made. made ≡ walk.got (noted.names_given giver values.now found) (walk.seen walking.old)) }
+    ensures walked { OnOk result (walk.seen walking.new ≡ walk.run (noted.names_given giver values.now found) (walk.seen walking.old)) }
+{
+    let held = Indices::Tuple(with_names(alloc, values, found.as_slice())?);
+    note_numbers_by(alloc, walking, giver, &held)?;
+    Ok(found)
 }

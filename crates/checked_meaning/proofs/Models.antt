@@ -30,7 +30,7 @@ use Rattle.checked_meaning.specs.Checked.{Cases, checked, Checks, checking}
 use Rattle.checked_meaning.specs.Alike.{plain_locals, Is, is, Alike, value_in, same, LetsAlike, no_lets, same_lets, Around, WorldsAlike, EndsAlike, is_stuck}
 use Rattle.checked_meaning.specs.Alike.{both_give, both_say_no, both_return, both_throw, both_stop, checked_world, plain_world}
 use Rattle.checked_meaning.specs.Laws.{IsStuckOr, ModelsAreAlike}
-use Rattle.checked_meaning.proofs.Pieces.{noting_alike, then_is, or_alike, gives_is, stuck_alike, stops_alike, guarded_alike, needs_same, tick_alike}
+use Rattle.checked_meaning.proofs.Pieces.{then_is, or_alike, gives_is, stuck_alike, stops_alike, guarded_alike, needs_same, tick_alike}
 use Rattle.checked_meaning.proofs.Pieces.{made_alike}
 use Rattle.checked_meaning.proofs.Names.{apart_alike}
 use Rattle.checked_meaning.proofs.Patterns.{arm_alike}
@@ -177,7 +177,7 @@ module _ (k : Checks) (fs : List Function) (ds : List Direction) (hart : ℕ) (l
   entering_alike i f awaited vs piece plain_piece h =
       then_is _ (needs_same (givens_of (length f.variables) f.parameters vs)) (λ nu. guarded_alike (as_awaited awaited nu)
       (entered_with (k.enters i (place_of awaited) nu vs) vs _ (λ ws. framed (plain_piece plainly nu ws)) (λ xs. framed_alike
-      (noting_alike k.types (k.function i (place_of awaited) nu) f.entry (V.Tuple vs) (h nu xs)))))
+      (h nu xs))))
 
   -- the body of a function, in both readings
   abbrev body : Calls Item → Measures → Place → Function → Making Item → Givens → List Item → Run Item Value

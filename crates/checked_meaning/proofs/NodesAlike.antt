@@ -1,12 +1,11 @@
 -- Each kind of node is alike, checked and plain, over parts that are, and so is each core.
-use Rattle.std.proofs.Common.{◌≡◌, ℕ, zero, suc, nat_lt, Bool, true, false, List, [], ◌∷◌, ◌++◌, map, slice_get, Option, Some, None, ℤ, pos, int_le}
+use Rattle.std.proofs.Common.{◌≡◌, ℕ, zero, suc, nat_lt, Bool, true, false, List, [], ◌∷◌, ◌++◌, length, map, slice_get, Option, Some, None, ℤ, pos, int_le}
 use Rattle.std.proofs.Common.{if◌then◌else◌, refl, sym, ap, subst}
 use Rattle.sail_base.specs.declared.place.Place.{Place}
 use Rattle.sail_types.specs.declared.table.Types.{Types}
 use Rattle.sail_types.specs.declared.types.Typ.TheVariants as T
 use Rattle.sail_types.specs.declared.values.Value.{Value}
 use Rattle.sail_types.specs.declared.values.Value.TheVariants as V
-use Rattle.size_values.specs.Sized.{sized_eq}
 use Rattle.model_state.specs.declared.cause.Cause.TheVariants.{Exit, MatchFailure, Assertion, Measure, WorkLimit}
 use Rattle.sail_core.specs.declared.patterns.Arm.{Arm}
 use Rattle.sail_core.specs.declared.targets.Suffix.{Suffix}
@@ -17,6 +16,8 @@ use Rattle.sail_core.specs.declared.tree.Statement.{Statement}
 use Rattle.sail_core.specs.declared.tree.Statement.TheVariants as S
 use Rattle.sail_core.specs.declared.tree.Kind.{Kind}
 use Rattle.sail_core.specs.declared.tree.Kind.TheVariants as K
+use Rattle.sail_core.specs.declared.tree.Giver.{Giver}
+use Rattle.sail_core.specs.declared.tree.Giver.TheVariants as Gives
 use Rattle.sail_core.specs.declared.tree.Core.{Core, roll-Core, fold-roll-Core, map-Core, ind-Core}
 use Rattle.sail_core.specs.Run.{Now, Run, gives, stuck, stops, throws, needs, if_so, local, ◌then◌}
 use Rattle.sail_core.specs.Values.{Into, tuple_of, vector_of, list_of, cons_of, with_of, struct_of, field_way, item_way, slice_way, literal_typ}
@@ -26,13 +27,14 @@ use Rattle.sail_core.specs.Making.{plainly, made, truth, natural, nothing}
 use Rattle.sail_core.specs.Targets.{spotting}
 use Rattle.sail_core.specs.Meaning.{arm_taken, first_of, let_in, tried, block, from_before, count_turns, foreach, next_of, in_span, fallen, loop_measure}
 use Rattle.sail_core.specs.Meaning.{condition_of, while_turns, repeat_turns, taken, suffix_then, suffixes_of, put, built, truly, option_typ, met_at}
-use Rattle.sail_core.specs.Meaning.{kind_meaning, meaning, core_meaning}
-use Rattle.checked_meaning.specs.Items.{Item, vals, fixed_typ}
+use Rattle.sail_core.specs.Meaning.{kind_meaning, meaning, core_meaning, held_by}
+use Rattle.checked_meaning.specs.Items.{Item, vals}
 use Rattle.checked_meaning.specs.Checked.{Noted, Cases, checked}
 use Rattle.checked_meaning.specs.Alike.{plain_now, Is, Alike, value_in, same, LetsAlike, no_lets, same_lets, Around, WorldsAlike, checked_world}
 use Rattle.checked_meaning.specs.Alike.{plain_world}
 use Rattle.checked_meaning.proofs.Pieces.{then_is, or_then_alike, caught_alike, inside_alike, noted_before, gives_is, stuck_alike, falls_alike, stops_alike}
 use Rattle.checked_meaning.proofs.Pieces.{returns_alike, throws_alike, if_alike, guarded_alike, needs_same, tick_alike, AllAlike, in_turn_alike, made_alike}
+use Rattle.checked_meaning.proofs.Pieces.{noting_alike}
 use Rattle.checked_meaning.proofs.Names.{map-both, within_alike, held_needed}
 use Rattle.checked_meaning.proofs.Patterns.{arm_alike}
 use Rattle.checked_meaning.proofs.Targets.{integer_alike, nothing_alike, ended_alike, called_alike, variable_read_alike, register_read_alike, targets_alike}
@@ -63,7 +65,7 @@ module _ (types : Types) (cases : Cases) where
   AreAlike = Alike (Is value_in)
 
   truth_alike : (x : Item) → Alike (Is same) (truth (checked types cases) x) (truth plainly x.val)
-  truth_alike x = guarded_alike (sized_eq (fixed_typ types T.Bool) x.typ) (needs_same (truth_in x.val))
+  truth_alike x = guarded_alike true (needs_same (truth_in x.val))
 
   pub natural_alike : (x : Item) → Alike (Is same) (natural (checked types cases) x) (natural plainly x.val)
   natural_alike x = then_is _ (integer_alike types cases x) (λ i. needs_same (natural_of i))
@@ -78,42 +80,46 @@ module _ (types : Types) (cases : Cases) where
   -- ---- arms
 
   module _ (a : Around) (s : WorldsAlike a) where
-    taken_alike : (arm : Arm) {c : Run Item Item} {d : Run Value Value} (xs : List Item) → AreAlike c d
-        → AreAlike (arm_taken (checked types cases) (checked_world a) arm c xs) (arm_taken plainly (plain_world a) arm d (vals xs))
-    taken_alike arm xs h = then_is _ (arm_alike types cases a s arm xs) (λ found. within_alike found h)
+    taken_alike : (g : Giver) (arm : Arm) {c : Run Item Item} {d : Run Value Value} (xs : List Item) → AreAlike c d
+        → AreAlike (arm_taken (checked types cases) (checked_world a) g arm c xs) (arm_taken plainly (plain_world a) g arm d (vals xs))
+    taken_alike g arm xs h =
+        then_is _ (arm_alike types cases a s arm xs) (λ found. noting_alike types cases g (V.Tuple (vals (xs ++ map held_by found))) (within_alike found h))
 
-    pub first_alike : (arms : List Arm) (ps : List Pair) {none : Run Item Item} {plain_none : Run Value Value} → AreAlike none plain_none → (xs : List Item)
-        → AreAlike (first_of (checked types cases) (checked_world a) arms (checkeds ps) none xs)
-        (first_of plainly (plain_world a) arms (plains ps) plain_none (vals xs))
-    first_alike [] [] h xs = h
-    first_alike [] (p ∷ ps) h xs = stuck_alike _
-    first_alike (arm ∷ arms) [] h xs = stuck_alike _
-    first_alike (arm ∷ arms) (p ∷ ps) h xs = or_then_alike types cases (inside_alike types cases (taken_alike arm xs p.alike)) (first_alike arms ps h xs)
+    pub first_alike : (k : ℕ) (arms : List Arm) (ps : List Pair) {none : Run Item Item} {plain_none : Run Value Value} → AreAlike none plain_none
+        → (xs : List Item)
+        → AreAlike (first_of (checked types cases) (checked_world a) k arms (checkeds ps) none xs)
+        (first_of plainly (plain_world a) k arms (plains ps) plain_none (vals xs))
+    first_alike k [] [] h xs = h
+    first_alike k [] (p ∷ ps) h xs = stuck_alike _
+    first_alike k (arm ∷ arms) [] h xs = stuck_alike _
+    first_alike k (arm ∷ arms) (p ∷ ps) h xs =
+        or_then_alike types cases (inside_alike types cases (taken_alike (Gives.Arm k (length arms)) arm xs p.alike)) (first_alike k arms ps h xs)
 
-    let_alike : (p : Place) (arm : Arm) (x : Item) {c : Run Item Item} {d : Run Value Value} → AreAlike c d
-        → AreAlike (let_in (checked types cases) (checked_world a) p arm x c) (let_in plainly (plain_world a) p arm x.val d)
-    let_alike p arm x h = or_then_alike types cases (taken_alike arm (x ∷ []) h) (stops_alike (MatchFailure p))
+    let_alike : (g : Giver) (p : Place) (arm : Arm) (x : Item) {c : Run Item Item} {d : Run Value Value} → AreAlike c d
+        → AreAlike (let_in (checked types cases) (checked_world a) g p arm x c) (let_in plainly (plain_world a) g p arm x.val d)
+    let_alike g p arm x h = or_then_alike types cases (taken_alike g arm (x ∷ []) h) (stops_alike (MatchFailure p))
 
     tried_alike : (k : ℕ) (arms : List Arm) (ps : List Pair) {c : Run Item Item} {d : Run Value Value} → AreAlike c d
         → AreAlike (tried (checked types cases) (checked_world a) k arms (checkeds ps) c) (tried plainly (plain_world a) k arms (plains ps) d)
     tried_alike k arms ps h =
         caught_alike
-        {k = λ v. made (checked types cases) k [] v then λ x. first_of (checked types cases) (checked_world a) arms (checkeds ps) (throws v) (x ∷ [])}
-        {l = λ v. made plainly k [] v then λ x. first_of plainly (plain_world a) arms (plains ps) (throws v) (x ∷ [])}
-        types cases h (λ v. then_is (λ x. first_of plainly (plain_world a) arms (plains ps) (throws v) (x ∷ [])) (made_alike types cases k [] v)
-        (λ x. first_alike arms ps (throws_alike v) (x ∷ [])))
+        {k = λ v. made (checked types cases) k [] v then λ x. first_of (checked types cases) (checked_world a) k arms (checkeds ps) (throws v) (x ∷ [])}
+        {l = λ v. made plainly k [] v then λ x. first_of plainly (plain_world a) k arms (plains ps) (throws v) (x ∷ [])}
+        types cases h (λ v. then_is (λ x. first_of plainly (plain_world a) k arms (plains ps) (throws v) (x ∷ [])) (made_alike types cases k [] v)
+        (λ x. first_alike k arms ps (throws_alike v) (x ∷ [])))
 
-    block_alike : (ss : List Statement) (ps : List Pair)
-        → AreAlike (block (checked types cases) (checked_world a) ss (checkeds ps)) (block plainly (plain_world a) ss (plains ps))
-    block_alike [] [] = nothing_alike types cases
-    block_alike [] (p ∷ []) = p.alike
-    block_alike [] (p ∷ q ∷ ps) = stuck_alike _
-    block_alike (S.Evaluate ∷ ss) [] = stuck_alike _
-    block_alike (S.Define place arm ∷ ss) [] = stuck_alike _
-    block_alike (S.Declare name t ∷ ss) [] = stuck_alike _
-    block_alike (S.Evaluate ∷ ss) (p ∷ ps) = then_is _ p.alike (λ x. block_alike ss ps)
-    block_alike (S.Define place arm ∷ ss) (p ∷ ps) = then_is _ p.alike (λ x. let_alike place arm x (block_alike ss ps))
-    block_alike (S.Declare name t ∷ ss) (p ∷ ps) = then_is _ p.alike (λ x. within_alike (local name x ∷ []) (block_alike ss ps))
+    block_alike : (k : ℕ) (ss : List Statement) (ps : List Pair)
+        → AreAlike (block (checked types cases) (checked_world a) k ss (checkeds ps)) (block plainly (plain_world a) k ss (plains ps))
+    block_alike k [] [] = nothing_alike types cases
+    block_alike k [] (p ∷ []) = p.alike
+    block_alike k [] (p ∷ q ∷ ps) = stuck_alike _
+    block_alike k (S.Evaluate ∷ ss) [] = stuck_alike _
+    block_alike k (S.Define place arm ∷ ss) [] = stuck_alike _
+    block_alike k (S.Declare name t ∷ ss) [] = stuck_alike _
+    block_alike k (S.Evaluate ∷ ss) (p ∷ ps) = then_is _ p.alike (λ x. block_alike k ss ps)
+    block_alike k (S.Define place arm ∷ ss) (p ∷ ps) =
+        then_is _ p.alike (λ x. let_alike (Gives.Arm k (length ss)) place arm x (block_alike k ss ps))
+    block_alike k (S.Declare name t ∷ ss) (p ∷ ps) = then_is _ p.alike (λ x. within_alike (local name x ∷ []) (block_alike k ss ps))
 
   -- ---- loops
 
@@ -248,16 +254,16 @@ module _ (types : Types) (cases : Cases) where
     kind_alike (K.Assign targets) ps =
         assigned_alike types cases (map (spotting (checked types cases) (checked_world a)) targets) (map (spotting plainly (plain_world a)) targets)
         (targets_alike types cases a s targets) (checkeds ps) (plains ps) (pairs_alike ps)
-    kind_alike (K.Block statements) ps = block_alike a s statements ps
-    kind_alike (K.Let arm) (p ∷ q ∷ []) = then_is _ p.alike (λ x. let_alike a s place arm x q.alike)
+    kind_alike (K.Block statements) ps = block_alike a s k statements ps
+    kind_alike (K.Let arm) (p ∷ q ∷ []) = then_is _ p.alike (λ x. let_alike a s (Gives.Arm k 0) place arm x q.alike)
     kind_alike (K.Var name written) (p ∷ q ∷ []) = then_is _ p.alike (λ x. within_alike (local name x ∷ []) q.alike)
     kind_alike (K.If shape) (p ∷ q ∷ []) = then_is _ p.alike (λ x. choice_alike x (inside_alike types cases q.alike) (nothing_alike types cases))
     kind_alike (K.If shape) (p ∷ q ∷ r ∷ []) =
         met_alike k (then_is _ p.alike (λ x. choice_alike x (inside_alike types cases q.alike) (inside_alike types cases r.alike)))
     kind_alike (K.Match arms shape) (p ∷ ps) =
-        met_alike k (then_is _ p.alike (λ x. first_alike a s arms ps (stops_alike (MatchFailure place)) (x ∷ [])))
+        met_alike k (then_is _ p.alike (λ x. first_alike a s k arms ps (stops_alike (MatchFailure place)) (x ∷ [])))
     kind_alike (K.Try arms shape) (p ∷ ps) = met_alike k (tried_alike a s k arms ps p.alike)
-    kind_alike (K.Clauses arms) ps = first_alike a s arms ps falls_alike a.arguments
+    kind_alike (K.Clauses arms) ps = first_alike a s k arms ps falls_alike a.arguments
     kind_alike K.When (p ∷ q ∷ []) = then_is _ p.alike (λ x. choice_alike x q.alike falls_alike)
     kind_alike (K.Foreach name way) (p ∷ q ∷ r ∷ t ∷ []) =
         then_is _ p.alike (λ x. then_is _ (integer_alike types cases x) (λ from. then_is _ q.alike (λ y. then_is _ (integer_alike types cases y) (λ to.

@@ -4,6 +4,8 @@ use Rattle.sail_types.specs.declared.table.Types.{Types}
 use Rattle.sail_types.specs.declared.values.Value.{Value}
 use Rattle.model_state.specs.declared.cause.Cause.{Cause}
 use Rattle.size_values.specs.declared.sized.Sized.{Sized}
+use Rattle.sail_core.specs.declared.tree.Giver.{Giver}
+use Rattle.sail_core.specs.declared.tree.Giver.TheVariants as Gives
 use Rattle.sail_core.specs.Run.{Now, Ended, Run, goes_on, or_so, caught, leaving, tick, tick_at, needs, if_so, in_turn, gives, stops, stuck, falls, returns}
 use Rattle.sail_core.specs.Run.{throws, ◌then◌, ◌or_else◌}
 use Rattle.sail_core.specs.Making.{plainly, made}
@@ -168,17 +170,17 @@ make_alike types cases k xs v = record { at = λ noted now. go (cases.makes k (t
     go None noted now = is_stuck
     go (Some s) noted now = both_give (item s v) v is noted now
 
-pub note_alike : (types : Types) (cases : Cases) (k : ℕ) (v : Value) → Alike (Is same) ((checked types cases).note k v) (gives tt)
-note_alike types cases k v = record { at = λ noted now. go (cases.notes k v now.opened) noted now }
+pub note_alike : (types : Types) (cases : Cases) (g : Giver) (v : Value) → Alike (Is same) ((checked types cases).note g v) (gives tt)
+note_alike types cases g v = record { at = λ noted now. go (cases.notes g v now.opened) noted now }
   where
     go : (o : Option Noted) (noted : Noted) (now : Now Item) → EndsAlike (Is same) (noting o now) (gives tt (plain_now noted now))
     go None noted now = is_stuck
     go (Some n) noted now = both_give tt tt is noted (record now { opened = n })
 
 -- a piece behind what is noted, of which the plain one knows nothing
-pub noting_alike : {A B : Type 0} {P : A → B → Type 0} {c : Run Item A} {d : Run Value B} (types : Types) (cases : Cases) (k : ℕ) (v : Value) → Alike P c d
-    → Alike P ((checked types cases).note k v then λ t. c) d
-noting_alike {A} {B} {P} {c} {d} types cases k v h = record { at = λ noted now. go (cases.notes k v now.opened) noted now }
+pub noting_alike : {A B : Type 0} {P : A → B → Type 0} {c : Run Item A} {d : Run Value B} (types : Types) (cases : Cases) (g : Giver) (v : Value) → Alike P c d
+    → Alike P ((checked types cases).note g v then λ t. c) d
+noting_alike {A} {B} {P} {c} {d} types cases g v h = record { at = λ noted now. go (cases.notes g v now.opened) noted now }
   where
     go : (o : Option Noted) (noted : Noted) (now : Now Item) → EndsAlike P ((noting o then λ t. c) now) (d (plain_now noted now))
     go None noted now = is_stuck
@@ -187,5 +189,6 @@ noting_alike {A} {B} {P} {c} {d} types cases k v h = record { at = λ noted now.
 pub made_alike : (types : Types) (cases : Cases) (k : ℕ) (xs : List Item) (v : Value)
     → Alike (Is value_in) (made (checked types cases) k xs v) (made plainly k (vals xs) v)
 made_alike types cases k xs v =
-    then_is (λ y. plainly.note k v then λ t. gives y) (make_alike types cases k xs v) (λ x. then_is (λ t. gives x.val) (note_alike types cases k v) (λ t.
+    then_is (λ y. plainly.note (Gives.Node k) v then λ t. gives y) (make_alike types cases k xs v)
+    (λ x. then_is (λ t. gives x.val) (note_alike types cases (Gives.Node k) v) (λ t.
     gives_is x))

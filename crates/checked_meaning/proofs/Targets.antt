@@ -1,11 +1,10 @@
 -- Calls and targets, checked and plain.
-use Rattle.std.proofs.Common.{ℕ, zero, suc, List, [], ◌∷◌, ◌++◌, map, take, drop, Option, Some, None, sym, subst}
+use Rattle.std.proofs.Common.{ℕ, zero, suc, List, [], ◌∷◌, ◌++◌, map, take, drop, Option, Some, None, sym, subst, true}
 use Rattle.sail_base.specs.declared.place.Place.{Place}
 use Rattle.sail_types.specs.declared.table.Types.{Types}
 use Rattle.sail_types.specs.declared.values.Value.{Value, Value-F, out-Value}
 use Rattle.sail_types.specs.declared.values.Value.TheOpen as W
 use Rattle.sail_types.specs.declared.values.Value.TheVariants as V
-use Rattle.size_values.specs.Sized.{sized_eq}
 use Rattle.model_state.specs.declared.cause.Cause.TheVariants.{MatchFailure}
 use Rattle.sail_core.specs.declared.tree.Callee.{Callee}
 use Rattle.sail_core.specs.declared.tree.Callee.TheVariants as C
@@ -17,14 +16,14 @@ use Rattle.sail_core.specs.declared.targets.TargetKind.{TargetKind}
 use Rattle.sail_core.specs.declared.targets.TargetKind.TheVariants as K
 use Rattle.sail_core.specs.declared.targets.Target.{Target, roll-Target, fold-roll-Target, map-Target, ind-Target}
 use Rattle.sail_core.specs.Run.{Run, gives, needs, ◌then◌}
-use Rattle.sail_core.specs.Values.{Into, int_typ, field_way, item_way, slice_way, through, replaced, parts_in, payload_of, integer_in}
+use Rattle.sail_core.specs.Values.{Into, field_way, item_way, slice_way, through, replaced, parts_in, payload_of, integer_in}
 use Rattle.sail_core.specs.Numbers.{Awaited, Instance}
 use Rattle.sail_core.specs.Making.{plainly, made, nothing, integer}
 use Rattle.sail_core.specs.Patterns.{components}
 use Rattle.sail_core.specs.Targets.{payload_in, called, Spot, Spotted, Spotting, variable_read, variable_spot, register_read, register_spot, asked, call_spot}
 use Rattle.sail_core.specs.Targets.{reads, writes, tuple_spot, renewed, part_spot, spotted, also, way_then, ways_of, spots_of, target_meaning, spotting}
 use Rattle.sail_core.specs.Targets.{assigned}
-use Rattle.checked_meaning.specs.Items.{Item, vals, typs, fixed_typ}
+use Rattle.checked_meaning.specs.Items.{Item, vals, typs}
 use Rattle.checked_meaning.specs.Checked.{Cases, checked}
 use Rattle.checked_meaning.specs.Alike.{Is, is, Alike, value_in, same, Around, WorldsAlike, checked_world, plain_world}
 use Rattle.checked_meaning.proofs.Pieces.{then_alike, then_is, or_alike, gives_alike, gives_is, stuck_alike, stops_alike, guarded_alike, needs_same}
@@ -44,7 +43,7 @@ pub record FoundAlike {A B : Type 0} (P : A → B → Type 0) (s : Spotted Item 
 
 module _ (types : Types) (cases : Cases) where
   pub integer_alike : (x : Item) → Alike (Is same) (integer (checked types cases) x) (integer plainly x.val)
-  integer_alike x = guarded_alike (sized_eq (fixed_typ types int_typ) x.typ) (needs_same (integer_in x.val))
+  integer_alike x = guarded_alike true (needs_same (integer_in x.val))
 
   pub nothing_alike : Alike (Is value_in) (gives (nothing (checked types cases))) (gives (nothing plainly))
   nothing_alike = gives_is {f = value_in} (nothing (checked types cases))

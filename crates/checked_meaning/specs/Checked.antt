@@ -1,11 +1,11 @@
 -- The checked meaning of the core: a second reading of its text, in which a value carries the type at which it was made, and a node is stuck
 -- where its operands or its value aren't of its case (Sail language manual, "Type variables").
-use Rattle.std.specs.Prelude.{ℕ, ℤ, List, Option, Some, None, option_map}
+use Rattle.std.specs.Prelude.{ℕ, ℤ, true, List, Option, Some, None, option_map}
 use Rattle.sail_types.specs.Sums.{and_then}
 use Rattle.sail_types.specs.declared.table.Types.{Types}
 use Rattle.sail_types.specs.declared.values.Value.{Value}
 use Rattle.size_values.specs.declared.sized.Sized.{Sized}
-use Rattle.size_values.specs.Sized.{sized_eq}
+use Rattle.sail_core.specs.declared.tree.Giver.{Giver}
 use Rattle.sail_core.specs.Run as R
 use Rattle.sail_core.specs.Run.{Run, gives, needs, leaving, ◌then◌}
 use Rattle.sail_core.specs.Numbers.{Givens, Instance}
@@ -21,8 +21,8 @@ Noted = ℕ → Option ℤ
 pub record Cases : Type 0 where
   -- the type at which a node makes this value of operands of these types; none where they or the value aren't of its case
   pub makes : ℕ → List Sized → Value → Noted → Option Sized
-  -- what is noted behind a node that gives this value
-  pub notes : ℕ → Value → Noted → Option Noted
+  -- what is noted where this value gives numbers
+  pub notes : Giver → Value → Noted → Option Noted
   -- the instance that a node calls on operands of these types
   pub calls : ℕ → List Sized → Noted → Option Instance
 
@@ -34,11 +34,11 @@ abbrev pub checked : Types → Cases → Making Item
 checked types cases = record {
   val = λ x. x.val;
   all = vals;
-  is = λ t x. sized_eq (fixed_typ types t) x.typ;
+  is = λ t x. true;
   fixed = λ t v. item (fixed_typ types t) v;
   part = λ p whole v. item (part_typ types p whole.typ) v;
   make = λ k operands v now. (needs (cases.makes k (typs operands) v now.opened) then λ s. gives (item s v)) now;
-  note = λ k v now. noting (cases.notes k v now.opened) now;
+  note = λ g v now. noting (cases.notes g v now.opened) now;
   calls = λ k operands now. (needs (cases.calls k (typs operands) now.opened) then λ x. gives (Some x)) now;
   inside = λ piece now. leaving (λ after. record after { opened = now.opened }) (piece now);
   back = λ before now. record now { opened = before.opened };

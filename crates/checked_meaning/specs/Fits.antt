@@ -1,8 +1,9 @@
 -- Whether a value has the sizes of a type (Sail language manual, "Bitvectors", "Vectors").
-use Rattle.std.specs.Prelude.{◌≡◌, ℕ, ℤ, pos, nat_eq, Bool, true, false, ◌&&◌, List, [], ◌∷◌, length, map, Option, Some, None}
+use Rattle.std.specs.Prelude.{◌≡◌, ℕ, ℤ, pos, nat_eq, nat_lt, Bool, true, false, ◌&&◌, List, [], ◌∷◌, length, map, Option, Some, None}
 use Rattle.std.specs.Ordering.{int_eq}
 use Rattle.sail_types.specs.Belongs.{Reading as Closed, belongs}
-use Rattle.sail_types.specs.Named.{field_types, fields, payload}
+use Rattle.sail_types.specs.Limits.{is_small}
+use Rattle.sail_types.specs.Named.{field_types, fields, members, payload}
 use Rattle.sail_types.specs.declared.table.Field.{Field}
 use Rattle.sail_types.specs.declared.table.Types.{Types}
 use Rattle.sail_types.specs.declared.values.Value.{Value, Value-F, fold-Value}
@@ -34,7 +35,7 @@ fields_sized types u zs ss = types_sized types zs ss (fields types u)
 
 abbrev pub form_fits : Types → Value-F Fits → Sized-F Sized → Bool
 form_fits types V.Unit Z.Unit = true
-form_fits types (V.Integer z) Z.Int = true
+form_fits types (V.Integer z) Z.Int = is_small z
 form_fits types (V.Truth b) Z.Bool = true
 form_fits types (V.Bit b) Z.Bit = true
 form_fits types (V.Bits bits) (Z.Bits n) = int_eq (pos (length bits)) n
@@ -42,7 +43,7 @@ form_fits types (V.String text) Z.String = true
 form_fits types (V.Tuple fs) (Z.Tuple ss) = each_fits fs ss
 form_fits types (V.List fs) (Z.List s) = all_fit fs s
 form_fits types (V.Vector fs) (Z.Vector n s) = int_eq (pos (length fs)) n && all_fit fs s
-form_fits types (V.Member u k) (Z.Named v zs ss) = nat_eq u v
+form_fits types (V.Member u k) (Z.Named v zs ss) = nat_eq u v && nat_lt k (length (members types u))
 form_fits types (V.Struct u fs) (Z.Named v zs ss) = nat_eq u v && each_fits fs (fields_sized types u zs ss)
 form_fits types (V.Union u c f) (Z.Named v zs ss) = nat_eq u v && f (payload_of types zs ss (payload types u c))
 form_fits types v s = false

@@ -1,6 +1,7 @@
 -- What is written down behind names that are bound.
 use Rattle.std.proofs.Common.{◌≡◌, ◌∙◌, ap, sym, Bool, List, Option, Some, None}
 use Rattle.std.proofs.Common.{ℕ}
+use Rattle.sail_core.specs.declared.tree.Giver.{Giver}
 use Rattle.sail_core.specs.declared.written.Written.{Written as Typed}
 use Rattle.value_indices.specs.Steps.{Walk, bind, give}
 use Rattle.value_indices.specs.Walking.{Written, got, run}
@@ -78,31 +79,31 @@ module _ (a : Part) (around : Around) (scope : Scope) where
 
   -- ---- either
 
-  binding_got : (b : Binding) (w : Written)
-      → got (bind (bound_begun around b) (ended_by (bound_ended around b a.is_nested))) w ≡ got (names_bound b a around scope) w
-  binding_got (N.Let place arm) w =
-      given_got (written_aim around (arm_written arm.now)) (bound_ended around (N.Let place arm) a.is_nested) w
-  binding_got (N.Var name written) w = var_got name.now written.now w
+  binding_got : (g : Giver) (b : Binding) (w : Written)
+      → got (bind (bound_begun around b) (ended_by (bound_ended around g b a.is_nested))) w ≡ got (names_bound g b a around scope) w
+  binding_got g (N.Let place arm) w =
+      given_got (written_aim around (arm_written arm.now)) (bound_ended around g (N.Let place arm) a.is_nested) w
+  binding_got g (N.Var name written) w = var_got name.now written.now w
 
-  binding_run : (b : Binding) (w : Written)
-      → run (bind (bound_begun around b) (ended_by (bound_ended around b a.is_nested))) w ≡ run (names_bound b a around scope) w
-  binding_run (N.Let place arm) w =
-      given_run (written_aim around (arm_written arm.now)) (bound_ended around (N.Let place arm) a.is_nested) w
-  binding_run (N.Var name written) w = var_run name.now written.now w
+  binding_run : (g : Giver) (b : Binding) (w : Written)
+      → run (bind (bound_begun around b) (ended_by (bound_ended around g b a.is_nested))) w ≡ run (names_bound g b a around scope) w
+  binding_run g (N.Let place arm) w =
+      given_run (written_aim around (arm_written arm.now)) (bound_ended around g (N.Let place arm) a.is_nested) w
+  binding_run g (N.Var name written) w = var_run name.now written.now w
 
-  module _ (b : Binding) (w v u : Written) (aim : Aim) (i : Indices) (nested : Bool) (known : nested ≡ a.is_nested)
+  module _ (g : Giver) (b : Binding) (w v u : Written) (aim : Aim) (i : Indices) (nested : Bool) (known : nested ≡ a.is_nested)
       (wanted : aim ≡ got (bound_begun around b) w) (first : v ≡ run (bound_begun around b) w)
       (is : i ≡ got (a.walk around scope aim) v) (was : u ≡ run (a.walk around scope aim) v) where
-    names_got : got (bound_ended around b nested i) u ≡ got (names_bound b a around scope) w
+    names_got : got (bound_ended around g b nested i) u ≡ got (names_bound g b a around scope) w
     names_got =
-        ap (λ (n : Bool). got (bound_ended around b n i) u) known
-        ∙ all_got (bound_begun around b) (bound_ended around b a.is_nested) w v u aim i wanted first is was ∙ binding_got b w
+        ap (λ (n : Bool). got (bound_ended around g b n i) u) known
+        ∙ all_got (bound_begun around b) (bound_ended around g b a.is_nested) w v u aim i wanted first is was ∙ binding_got g b w
 
-    names_run : run (bound_ended around b nested i) u ≡ run (names_bound b a around scope) w
+    names_run : run (bound_ended around g b nested i) u ≡ run (names_bound g b a around scope) w
     names_run =
-        ap (λ (n : Bool). run (bound_ended around b n i) u) known
-        ∙ all_run (bound_begun around b) (bound_ended around b a.is_nested) w v u aim i wanted first is was ∙ binding_run b w
+        ap (λ (n : Bool). run (bound_ended around g b n i) u) known
+        ∙ all_run (bound_begun around b) (bound_ended around g b a.is_nested) w v u aim i wanted first is was ∙ binding_run g b w
 
-    pub names_alike : Alike (got (bound_ended around b nested i) u) (got (names_bound b a around scope) w) (run (bound_ended around b nested i) u)
-        (run (names_bound b a around scope) w)
+    pub names_alike : Alike (got (bound_ended around g b nested i) u) (got (names_bound g b a around scope) w) (run (bound_ended around g b nested i) u)
+        (run (names_bound g b a around scope) w)
     names_alike = record { value = names_got; walked = names_run }

@@ -4,6 +4,7 @@ use Rattle.sail_base.specs.declared.place.Place.{Place}
 use Rattle.sail_types.specs.declared.numbers.Con.{Con}
 use Rattle.sail_types.specs.declared.shapes.Shape.{Shape}
 use Rattle.sail_core.specs.declared.tree.Core.{Core, out-Core}
+use Rattle.sail_core.specs.declared.tree.Giver.{Giver}
 use Rattle.sail_core.specs.declared.tree.Kind.{Kind}
 use Rattle.sail_core.specs.declared.tree.Kind.TheVariants as K
 use Rattle.value_indices.specs.Steps.{Walk}
@@ -25,21 +26,21 @@ use Rattle.expression_notes.proofs.Alike.{Alike}
 
 -- ---- a `let` or `var` with its body
 
-module _ (binding : Binding) (a b : Part) (around : Around) (scope inside : Scope) (aim inner : Aim) (found : List Bound) (w v : Written)
-    (is : found ≡ got (names_bound binding a around scope) w) (was : v ≡ run (names_bound binding a around scope) w)
+module _ (g : Giver) (binding : Binding) (a b : Part) (around : Around) (scope inside : Scope) (aim inner : Aim) (found : List Bound) (w v : Written)
+    (is : found ≡ got (names_bound g binding a around scope) w) (was : v ≡ run (names_bound g binding a around scope) w)
     (within : inside ≡ found ++ scope) (wanted : inner ≡ inner_aim aim) where
-  in_got : got (b.walk around inside inner) v ≡ got (bound_walk binding a b around scope aim) w
+  in_got : got (b.walk around inside inner) v ≡ got (bound_walk g binding a b around scope aim) w
   in_got =
       (λ j. got (b.walk around (within j) (wanted j)) v)
-      ∙ then_got (names_bound binding a around scope) (λ names. b.walk around (names ++ scope) (inner_aim aim)) w v found is was
+      ∙ then_got (names_bound g binding a around scope) (λ names. b.walk around (names ++ scope) (inner_aim aim)) w v found is was
 
-  in_run : run (b.walk around inside inner) v ≡ run (bound_walk binding a b around scope aim) w
+  in_run : run (b.walk around inside inner) v ≡ run (bound_walk g binding a b around scope aim) w
   in_run =
       (λ j. run (b.walk around (within j) (wanted j)) v)
-      ∙ then_run (names_bound binding a around scope) (λ names. b.walk around (names ++ scope) (inner_aim aim)) w v found is was
+      ∙ then_run (names_bound g binding a around scope) (λ names. b.walk around (names ++ scope) (inner_aim aim)) w v found is was
 
-  pub in_alike : Alike (got (b.walk around inside inner) v) (got (bound_walk binding a b around scope aim) w) (run (b.walk around inside inner) v)
-      (run (bound_walk binding a b around scope aim) w)
+  pub in_alike : Alike (got (b.walk around inside inner) v) (got (bound_walk g binding a b around scope aim) w) (run (b.walk around inside inner) v)
+      (run (bound_walk g binding a b around scope aim) w)
   in_alike = record { value = in_got; walked = in_run }
 
 -- ---- the claim of a statement

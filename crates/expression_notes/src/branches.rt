@@ -198,7 +198,7 @@ pub(crate) fn walk_cases<'a>(
             if is_try {
                 let sent = thrown(alloc, around.exception);
                 catch_at(alloc, walking, number, &sent)?;
-                let ways = try_ways(alloc, place, &*arms, &*core, &*bodies, &sent)?;
+                let ways = try_ways(alloc, place, number, &*arms, &*core, &*bodies, &sent)?;
                 walk_ways(
                     alloc,
                     walking,
@@ -212,7 +212,7 @@ pub(crate) fn walk_cases<'a>(
                 )
             } else {
                 let value = walk_expression(alloc, walking, around, scope, core, &Aim::Free)?;
-                let cases = match_ways(alloc, place, &*arms, &*bodies, &value)?;
+                let cases = match_ways(alloc, place, number, &*arms, &*bodies, &value)?;
                 walk_ways(
                     alloc,
                     walking,

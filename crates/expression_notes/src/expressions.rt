@@ -21,7 +21,7 @@ use expression_forms::Scope;
 use expression_steps::{Binding, end_node, goes_inward, if_end, is_made, makes_value};
 use pattern_leaves::Around;
 use sail_base::Place;
-use sail_core::{Core, Kind, Way};
+use sail_core::{Core, Giver, Kind, Way};
 use std::alloc::{AllocError, Global};
 use value_indices::{Indices, Walking};
 
@@ -53,18 +53,25 @@ fn walk_inward(
                 around,
                 scope,
                 place,
+                number,
                 statements.as_slice(),
                 parts,
                 aim,
             )
         }
         Kind::Let(arm) => {
+            let giver = Giver::Arm(number, 0);
             let binding = Binding::Let(place, arm);
-            walk_in(alloc, walking, around, scope, place, &binding, parts, aim)
+            walk_in(
+                alloc, walking, around, scope, place, giver, &binding, parts, aim,
+            )
         }
         Kind::Var(name, written) => {
+            let giver = Giver::Arm(number, 0);
             let binding = Binding::Var(name, written);
-            walk_in(alloc, walking, around, scope, place, &binding, parts, aim)
+            walk_in(
+                alloc, walking, around, scope, place, giver, &binding, parts, aim,
+            )
         }
         Kind::If(shape) => {
             let met = walk_branches(

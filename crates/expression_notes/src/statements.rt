@@ -20,7 +20,7 @@ use expression_steps::{
 };
 use pattern_leaves::{Around, Bound};
 use sail_base::{Items, Place};
-use sail_core::{Core, Kind, Statement};
+use sail_core::{Core, Giver, Kind, Statement};
 use sail_types::Con;
 use std::alloc::{AllocError, Global};
 use value_indices::{Indices, Walking};
@@ -78,18 +78,19 @@ fn walk_bound(
     walking: &mut Walking,
     around: &Around<'_>,
     scope: &Scope<'_>,
+    giver: Giver,
     binding: &Binding<'_>,
     core: &Core,
 ) -> Result<Items<Bound>, AllocError>
-    ensures value { IfOk result (λ made. made ≡ walk.got (coded.names_bound binding.now (part core.now) (around_of around.now) (scope_of scope.now))
-        (walk.seen walking.old)) }
-    ensures walked { OnOk result (walk.seen walking.new ≡ walk.run (coded.names_bound binding.now (part core.now) (around_of around.now)
+    ensures value { IfOk result (λ made. made ≡ walk.got (coded.names_bound giver binding.now (part core.now) (around_of around.now)
+        (scope_of scope.now)) (walk.seen walking.old)) }
+    ensures walked { OnOk result (walk.seen walking.new ≡ walk.run (coded.names_bound giver binding.now (part core.now) (around_of around.now)
         (scope_of scope.now)) (walk.seen walking.old)) }
 {
     let aim = begin_binding(alloc, walking, around, binding)?;
     let value = walk_expression(alloc, walking, around, scope, core, &aim)?;
     let nested = is_nested(core);
-    end_binding(alloc, walking, around, binding, nested, &value)
+    end_binding(alloc, walking, around, giver, binding, nested, &value)
 }
 
 /// `let p = a in b` and `var x : T = a in b`, by both parts. It fails where memory is wanting, and where variables are too many.
@@ -101,18 +102,19 @@ pub(crate) fn walk_in(
     around: &Around<'_>,
     scope: &Scope<'_>,
     place: Place,
+    giver: Giver,
     binding: &Binding<'_>,
     parts: &[Core],
     aim: &Aim,
 ) -> Result<Indices, AllocError>
-    ensures value { IfOk result (λ made. made ≡ walk.got (part_spec.two place (λ a b. coded.bound_walk binding.now a b (around_of around.now)
+    ensures value { IfOk result (λ made. made ≡ walk.got (part_spec.two place (λ a b. coded.bound_walk giver binding.now a b (around_of around.now)
         (scope_of scope.now) aim.now) (coded.each_part parts.now)) (walk.seen walking.old)) }
-    ensures walked { OnOk result (walk.seen walking.new ≡ walk.run (part_spec.two place (λ a b. coded.bound_walk binding.now a b
+    ensures walked { OnOk result (walk.seen walking.new ≡ walk.run (part_spec.two place (λ a b. coded.bound_walk giver binding.now a b
         (around_of around.now) (scope_of scope.now) aim.now) (coded.each_part parts.now)) (walk.seen walking.old)) }
 {
     match parts {
         [core, body] => {
-            let found = walk_bound(alloc, walking, around, scope, binding, core)?;
+            let found = walk_bound(alloc, walking, around, scope, giver, binding, core)?;
             let inside = (&*scope).with(found.as_slice());
             let aim = aim.inner(alloc)?;
             walk_expression(alloc, walking, around, &inside, body, &aim)
@@ -130,12 +132,13 @@ fn walk_statement(
     walking: &mut Walking,
     around: &Around<'_>,
     scope: &Scope<'_>,
+    giver: Giver,
     statement: &Statement,
     core: &Core,
 ) -> Result<(Items<Bound>, Option<Con>), AllocError>
-    ensures value { IfOk result (λ made. made ≡ walk.got (statement_walk statement.now (part core.now) (around_of around.now)
+    ensures value { IfOk result (λ made. made ≡ walk.got (statement_walk giver statement.now (part core.now) (around_of around.now)
         (scope_of scope.now)) (walk.seen walking.old)) }
-    ensures walked { OnOk result (walk.seen walking.new ≡ walk.run (statement_walk statement.now (part core.now) (around_of around.now)
+    ensures walked { OnOk result (walk.seen walking.new ≡ walk.run (statement_walk giver statement.now (part core.now) (around_of around.now)
         (scope_of scope.now)) (walk.seen walking.old)) }
 {
     match binding_of(statement) {
@@ -144,7 +147,7 @@ fn walk_statement(
             Ok((Items::new(alloc), condition))
         }
         Some(binding) => {
-            let found = walk_bound(alloc, walking, around, scope, &binding, core)?;
+            let found = walk_bound(alloc, walking, around, scope, giver, &binding, core)?;
             Ok((found, None))
         }
     }
@@ -188,10 +191,10 @@ fn walk_value(
     parts: &[Core],
     aim: &Aim,
 ) -> Result<Indices, AllocError>
-    ensures value { IfOk result (λ made. made ≡ walk.got (statement_spec.block_walk place [] (coded.each_part parts.now) (around_of around.now)
+    ensures value { IfOk result (λ made. made ≡ walk.got (statement_spec.block_end place (coded.each_part parts.now) (around_of around.now) (scope_of scope.now)
+        aim.now) (walk.seen walking.old)) }
+    ensures walked { OnOk result (walk.seen walking.new ≡ walk.run (statement_spec.block_end place (coded.each_part parts.now) (around_of around.now)
         (scope_of scope.now) aim.now) (walk.seen walking.old)) }
-    ensures walked { OnOk result (walk.seen walking.new ≡ walk.run (statement_spec.block_walk place [] (coded.each_part parts.now)
-        (around_of around.now) (scope_of scope.now) aim.now) (walk.seen walking.old)) }
 {
     match parts {
         [] => {
@@ -229,13 +232,14 @@ pub(crate) fn walk_block(
     around: &Around<'_>,
     scope: &Scope<'_>,
     place: Place,
+    number: u32,
     statements: &[Statement],
     parts: &[Core],
     aim: &Aim,
 ) -> Result<Indices, AllocError>
-    ensures value { IfOk result (λ made. made ≡ walk.got (statement_spec.block_walk place statements.now (coded.each_part parts.now)
+    ensures value { IfOk result (λ made. made ≡ walk.got (statement_spec.block_walk place number statements.now (coded.each_part parts.now)
         (around_of around.now) (scope_of scope.now) aim.now) (walk.seen walking.old)) }
-    ensures walked { OnOk result (walk.seen walking.new ≡ walk.run (statement_spec.block_walk place statements.now (coded.each_part parts.now)
+    ensures walked { OnOk result (walk.seen walking.new ≡ walk.run (statement_spec.block_walk place number statements.now (coded.each_part parts.now)
         (around_of around.now) (scope_of scope.now) aim.now) (walk.seen walking.old)) }
 {
     let mut groups: Items<Items<Bound>> = Items::new(alloc);
@@ -248,8 +252,9 @@ pub(crate) fn walk_block(
                 return end_block(walking, claims, value);
             }
             Some(core) => {
+                let giver = Giver::Arm(number, statements.len() - index - 1);
                 let (found, condition) = walk_statement(
-                    alloc, walking, around, &inside, statement, core,
+                    alloc, walking, around, &inside, giver, statement, core,
                 )?;
                 bring_in(&mut groups, found)?;
                 claims += claim_if(walking, condition)?;

@@ -9,6 +9,7 @@ use Rattle.sail_types.specs.declared.numbers.Con.TheVariants as C
 use Rattle.sail_types.specs.declared.shapes.Shape.{Shape}
 use Rattle.sail_core.specs.declared.patterns.Arm.{Arm}
 use Rattle.sail_core.specs.declared.tree.Core.{Core}
+use Rattle.sail_core.specs.declared.tree.Giver.TheVariants as Gives
 use Rattle.value_indices.specs.Steps.{Walk, assume, bind, give, next_variable, scoped}
 use Rattle.value_indices.specs.Walking.{Written, got, remembering, restored, run}
 use Rattle.value_indices.specs.declared.indices.Indices.{Indices}
@@ -51,7 +52,7 @@ module _ (around : Around) (scope : Scope) (aim : Aim) where
       got_bind (way_opened around (B.Under c a)) (goes_on a.now) v
       ∙ (λ j. got (goes_on a.now (none_got (assume c.now) v j)) (none_run (assume c.now) v j))
       ∙ sym (got_bind (assume c.now) (λ t. goes_on a.now []) v)
-  opened_got (B.Case place arm body i) v = refl
+  opened_got (B.Case g place arm body i) v = refl
   opened_got (B.Whole a) v =
       got_bind (give []) (goes_on a.now) v ∙ (λ j. got (goes_on a.now (got_give {A = List Bound} [] v j)) (run_give {A = List Bound} [] v j))
 
@@ -60,7 +61,7 @@ module _ (around : Around) (scope : Scope) (aim : Aim) where
       run_bind (way_opened around (B.Under c a)) (goes_on a.now) v
       ∙ (λ j. run (goes_on a.now (none_got (assume c.now) v j)) (none_run (assume c.now) v j))
       ∙ sym (run_bind (assume c.now) (λ t. goes_on a.now []) v)
-  opened_run (B.Case place arm body i) v = refl
+  opened_run (B.Case g place arm body i) v = refl
   opened_run (B.Whole a) v =
       run_bind (give []) (goes_on a.now) v ∙ (λ j. run (goes_on a.now (got_give {A = List Bound} [] v j)) (run_give {A = List Bound} [] v j))
 
@@ -212,9 +213,9 @@ module _ (around : Around) (place : Place) (number : ℕ) (shape : Shape) (r : O
 
 -- ---- cases
 
-module _ (place : Place) (around : Around) (scope : Scope) (aim : Aim) (i : Indices) where
+module _ (place : Place) (number : ℕ) (around : Around) (scope : Scope) (aim : Aim) (i : Indices) where
   abbrev cases : List Arm → List Core → List Meeting
-  cases arms bodies = case_ways place arms (each_part bodies) around scope aim i
+  cases arms bodies = case_ways place number arms (each_part bodies) around scope aim i
 
   no_bodies : (arms : List Arm) → cases arms [] ≡ []
   no_bodies [] = refl
@@ -248,7 +249,8 @@ module _ (place : Place) (around : Around) (scope : Scope) (aim : Aim) (i : Indi
   -- a case more among the ways
   pub cases_pushed : (arms : List Arm) (bodies : List Core) (k : ℕ) (arm : Arm) (body : Core) (before now : List Way) (way : Way)
       → k < length arms → arm ≡ get_or arms k arm → k < length bodies → body ≡ get_or bodies k body
-      → now ≡ before ++ way ∷ [] → way_seen around scope aim way ≡ case_way place arm (part body) around scope aim i
+      → now ≡ before ++ way ∷ [] → way_seen around scope aim way
+      ≡ case_way (Gives.Arm number (length (drop (k + 1) arms))) place arm (part body) around scope aim i
       → ways_seen around scope aim now ++ cases (drop (k + 1) arms) (drop (k + 1) bodies)
       ≡ ways_seen around scope aim before ++ cases (drop k arms) (drop k bodies)
   cases_pushed arms bodies k arm body before now way armed is bodied too grown same =
@@ -309,7 +311,7 @@ module _ (place : Place) (number : ℕ) (is_try : Bool) (shape : Shape) (arms : 
   module _ (c : Core) (rest : List Core) (first : cs ≡ c ∷ rest) where
     module _ (i : Indices) (ws : List Meeting) (v w : Written) (tries : is_try ≡ true) (sent : i ≡ thrown around.exception)
         (was : w ≡ run (caught_at number i) v)
-        (same : ws ≡ try_way (part c) around scope aim ∷ case_ways place arms (each_part rest) around scope aim i) where
+        (same : ws ≡ try_way (part c) around scope aim ∷ case_ways place number arms (each_part rest) around scope aim i) where
       abbrev caught : Walk (Unit {0})
       caught = caught_at number (thrown around.exception)
 
@@ -333,7 +335,7 @@ module _ (place : Place) (number : ℕ) (is_try : Bool) (shape : Shape) (arms : 
           ∙ then_run caught (λ t. tried (thrown around.exception)) v w (got caught v) refl went ∙ ap (λ (a : Walk Indices). run a v) try_is
 
     module _ (i : Indices) (ws : List Meeting) (v w : Written) (matches : is_try ≡ false) (is : i ≡ got ((part c).walk around scope Aims.Free) v)
-        (was : w ≡ run ((part c).walk around scope Aims.Free) v) (same : ws ≡ case_ways place arms (each_part rest) around scope aim i) where
+        (was : w ≡ run ((part c).walk around scope Aims.Free) v) (same : ws ≡ case_ways place number arms (each_part rest) around scope aim i) where
       abbrev over : Indices → Walk Indices
       over = match_under place number shape arms (each_part rest) around scope aim
 

@@ -85,11 +85,11 @@ ways_end is_free m shape around scope aim ws first k past = (λ j. each_way arou
 pub way_ending : (around : Around) (scope : Scope) (aim : Aim) (w : Way)
     → statements.Way.never_ends (way_seen around scope aim w) ≡ (part (way_core w)).never_ends
 way_ending around scope aim (B.Under c a) = refl
-way_ending around scope aim (B.Case place arm body i) = refl
+way_ending around scope aim (B.Case g place arm body i) = refl
 way_ending around scope aim (B.Whole a) = refl
 
 pub way_place : (around : Around) (scope : Scope) (aim : Aim) (w : Way)
     → statements.Way.place (way_seen around scope aim w) ≡ (part (way_core w)).place
 way_place around scope aim (B.Under c a) = refl
-way_place around scope aim (B.Case place arm body i) = refl
+way_place around scope aim (B.Case g place arm body i) = refl
 way_place around scope aim (B.Whole a) = refl

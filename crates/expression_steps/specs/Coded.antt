@@ -1,7 +1,8 @@
 -- What the code holds of ways and targets on its way through the parts of an expression.
-use Rattle.std.specs.Prelude.{Bool, List, None, Option, Some, drop, false, map, true, ℕ, [], ◌&&◌, ◌++◌, ◌∷◌}
+use Rattle.std.specs.Prelude.{Bool, List, None, Option, Some, drop, map, ℕ, [], ◌&&◌, ◌++◌, ◌∷◌}
 use Rattle.sail_types.specs.declared.shapes.Shape.{Shape}
 use Rattle.sail_core.specs.declared.tree.Core.{Core}
+use Rattle.sail_core.specs.declared.tree.Giver.{Giver}
 use Rattle.sail_core.specs.declared.tree.Statement.{Statement}
 use Rattle.sail_core.specs.declared.tree.Statement.TheVariants as S
 use Rattle.sail_core.specs.declared.written.Written.{Written}
@@ -9,7 +10,7 @@ use Rattle.value_indices.specs.Steps.{Walk, assume, bind, give}
 use Rattle.value_indices.specs.declared.indices.Indices.{Indices}
 use Rattle.value_indices.specs.declared.indices.Indices.TheVariants as I
 use Rattle.wide_types.specs.Widening.{widened}
-use Rattle.pattern_notes.specs.Patterns.{arm_match, arm_written}
+use Rattle.pattern_notes.specs.Patterns.{arm_written}
 use Rattle.pattern_leaves.specs.Settings.{Around, Scope, declared, exponents_owed, written_in}
 use Rattle.pattern_leaves.specs.declared.names.Bound.{Bound}
 use Rattle.call_arguments.specs.Aims.{aimed, inner_aim}
@@ -65,7 +66,7 @@ aim_or_free (Some aim) = aim
 -- the part whose value a way gives
 abbrev pub way_core : code.Way → Core
 way_core (B.Under c a) = a.now
-way_core (B.Case place arm body i) = body.now
+way_core (B.Case g place arm body i) = body.now
 way_core (B.Whole a) = a.now
 
 -- the parts whose values ways give, in order
@@ -74,7 +75,7 @@ way_cores ws = map way_core ws
 
 abbrev pub way_seen : Around → Scope → Aim → code.Way → statements.Way
 way_seen around scope aim (B.Under c a) = statements.way_of (part a.now) around scope aim c.now
-way_seen around scope aim (B.Case place arm body i) = statements.case_way place arm.now (part body.now) around scope aim i.now
+way_seen around scope aim (B.Case g place arm body i) = statements.case_way g place arm.now (part body.now) around scope aim i.now
 way_seen around scope aim (B.Whole a) = statements.try_way (part a.now) around scope aim
 
 abbrev pub ways_seen : Around → Scope → Aim → List code.Way → List statements.Way
@@ -89,7 +90,7 @@ end_walk around is_free m shape core first i =
 -- what a way makes known, and the names that it binds
 abbrev pub way_opened : Around → code.Way → Walk (List Bound)
 way_opened around (B.Under c a) = bind (assume c.now) (λ t. give [])
-way_opened around (B.Case place arm body i) = arm_match place arm.now around (record { in_case = true; is_owed = false }) (i.now ∷ [])
+way_opened around (B.Case g place arm body i) = statements.case_names g place arm.now around i.now
 way_opened around (B.Whole a) = give []
 
 -- ---- names that are bound: what is owed and wanted before the value is walked, and what its indices bind
@@ -99,12 +100,12 @@ statement_of None = S.Evaluate
 statement_of (Some (N.Let place arm)) = S.Define place arm.now
 statement_of (Some (N.Var name written)) = S.Declare name.now written.now
 
-abbrev pub names_bound : names.Binding → Part → Around → Scope → Walk (List Bound)
-names_bound (N.Let place arm) a around scope = statements.let_names place arm.now a around scope
-names_bound (N.Var name written) a around scope = statements.var_name name.now written.now a around scope
+abbrev pub names_bound : Giver → names.Binding → Part → Around → Scope → Walk (List Bound)
+names_bound g (N.Let place arm) a around scope = statements.let_given g place arm.now a around scope
+names_bound g (N.Var name written) a around scope = statements.var_name name.now written.now a around scope
 
-abbrev pub bound_walk : names.Binding → Part → Part → Around → Scope → Aim → Walk Indices
-bound_walk binding a b around scope aim = bind (names_bound binding a around scope) (λ found. b.walk around (found ++ scope) (inner_aim aim))
+abbrev pub bound_walk : Giver → names.Binding → Part → Part → Around → Scope → Aim → Walk Indices
+bound_walk g binding a b around scope aim = bind (names_bound g binding a around scope) (λ found. b.walk around (found ++ scope) (inner_aim aim))
 
 abbrev pub var_begun : Around → Option Written → Walk Aim
 var_begun around None = give Aims.Free
@@ -118,7 +119,7 @@ abbrev pub var_names : Around → List ℕ → Option Written → Indices → Li
 var_names around name None i = declared name (without_holes (widened i)) ∷ []
 var_names around name (Some w) i = declared name (written_in around w) ∷ []
 
-abbrev pub bound_ended : Around → names.Binding → Bool → Indices → Walk (List Bound)
-bound_ended around (N.Let place arm) is_nested i =
-    statements.bind_names place arm.now around (statements.is_written (arm_written arm.now) && is_nested) i
-bound_ended around (N.Var name written) is_nested i = give (var_names around name.now written.now i)
+abbrev pub bound_ended : Around → Giver → names.Binding → Bool → Indices → Walk (List Bound)
+bound_ended around g (N.Let place arm) is_nested i =
+    statements.bind_given g place arm.now around (statements.is_written (arm_written arm.now) && is_nested) i
+bound_ended around g (N.Var name written) is_nested i = give (var_names around name.now written.now i)

@@ -5,6 +5,7 @@ use Rattle.sail_types.specs.declared.numbers.Con.{Con}
 use Rattle.sail_types.specs.declared.types.Typ.{Typ}
 use Rattle.sail_core.specs.declared.targets.Way.TheVariants as Y
 use Rattle.sail_core.specs.declared.tree.Core.{Core, Core-F, fold-Core}
+use Rattle.sail_core.specs.declared.tree.Giver.TheVariants as Gives
 use Rattle.sail_core.specs.declared.tree.Kind.{Kind}
 use Rattle.sail_core.specs.declared.tree.Kind.TheVariants as K
 use Rattle.sail_core.specs.declared.written.Written.{Written}
@@ -100,8 +101,8 @@ place_walk k a around scope aim = bind (a.walk around scope aim) (cast_ended k a
 -- a kind that takes a wanted type further in, or owes it by itself
 abbrev pub inward : Place → ℕ → Kind → List Part → Walking
 inward place k (K.Cast None) parts around scope aim = one place (λ a. place_walk k a around scope aim) parts
-inward place k (K.Block statements) parts around scope aim = block_walk place statements parts around scope aim
-inward place k (K.Let arm) parts around scope aim = two place (λ a b. let_walk place arm a b around scope aim) parts
+inward place k (K.Block statements) parts around scope aim = block_walk place k statements parts around scope aim
+inward place k (K.Let arm) parts around scope aim = two place (λ a b. let_walk (Gives.Arm k 0) place arm a b around scope aim) parts
 inward place k (K.Var name written) parts around scope aim = two place (λ a b. var_walk name written a b around scope aim) parts
 inward place k (K.If shape) parts around scope aim = if_forms place k shape parts around scope aim
 inward place k (K.Match arms shape) parts around scope aim = led place (λ a bodies. match_walk place k shape arms a bodies around scope aim) parts

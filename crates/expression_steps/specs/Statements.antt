@@ -1,6 +1,6 @@
 -- What operators on truths, branches, names that are bound, blocks and loops owe, and which facts are in force where (Sail language manual,
 -- "Booleans", "Conditionals", "Let bindings", "Pattern matching", "Exceptions", "Loops", "Assertions").
-use Rattle.std.specs.Prelude.{Bool, List, None, Option, Some, false, if◌then◌else◌, is_none, not, pos, true, ℕ, [], ◌&&◌, ◌++◌, ◌∷◌}
+use Rattle.std.specs.Prelude.{Bool, List, None, Option, Some, false, if◌then◌else◌, is_none, length, not, pos, true, ℕ, [], ◌&&◌, ◌++◌, ◌∷◌}
 use Rattle.sail_base.specs.declared.place.Place.{Place}
 use Rattle.sail_types.specs.Sums.{constant, variable, zero_num}
 use Rattle.sail_types.specs.declared.numbers.Con.{Con}
@@ -11,6 +11,8 @@ use Rattle.sail_types.specs.declared.types.Typ.TheVariants as Y
 use Rattle.sail_core.specs.declared.patterns.Arm.{Arm}
 use Rattle.sail_core.specs.declared.tree.Counting.{Counting}
 use Rattle.sail_core.specs.declared.tree.Counting.TheVariants.{Down, Up}
+use Rattle.sail_core.specs.declared.tree.Giver.{Giver}
+use Rattle.sail_core.specs.declared.tree.Giver.TheVariants as Gives
 use Rattle.sail_core.specs.declared.tree.Statement.{Statement}
 use Rattle.sail_core.specs.declared.tree.Statement.TheVariants as S
 use Rattle.sail_core.specs.declared.written.Written.{Written}
@@ -29,7 +31,7 @@ use Rattle.pattern_leaves.specs.declared.names.Bound.{Bound}
 use Rattle.call_arguments.specs.Aims.{aimed, branch_aim, inner_aim, wanted}
 use Rattle.call_arguments.specs.Holes.{without_holes}
 use Rattle.call_notes.specs.Ends.{integer_number, never_value, settled, wrong_value}
-use Rattle.call_notes.specs.Noted.{made_opened, node_ended, node_given, numbers_noted}
+use Rattle.call_notes.specs.Noted.{made_opened, names_given, node_ended, node_given, numbers_noted}
 use Rattle.call_arguments.specs.declared.aims.Aim.{Aim}
 use Rattle.call_arguments.specs.declared.aims.Aim.TheVariants as Aims
 use Rattle.expression_forms.specs.Meeting.{first_way, like_first, met_ways, thrown}
@@ -223,9 +225,18 @@ let_names place arm a around scope =
     bind (a.walk around scope (written_aim around (arm_written arm)))
     (bind_names place arm around (is_written (arm_written arm) && a.is_nested))
 
-abbrev pub let_walk : Place → Arm → Part → Part → Around → Scope → Aim → Walk Indices
-let_walk place arm a b around scope aim =
-    bind (let_names place arm a around scope) (λ found. b.walk around (found ++ scope) (inner_aim aim))
+-- the same with the numbers that they give
+abbrev pub bind_given : Giver → Place → Arm → Around → Bool → Indices → Walk (List Bound)
+bind_given g place arm around is_owed i = bind (bind_names place arm around is_owed i) (names_given g (i ∷ []))
+
+abbrev pub let_given : Giver → Place → Arm → Part → Around → Scope → Walk (List Bound)
+let_given g place arm a around scope =
+    bind (a.walk around scope (written_aim around (arm_written arm)))
+    (bind_given g place arm around (is_written (arm_written arm) && a.is_nested))
+
+abbrev pub let_walk : Giver → Place → Arm → Part → Part → Around → Scope → Aim → Walk Indices
+let_walk g place arm a b around scope aim =
+    bind (let_given g place arm a around scope) (λ found. b.walk around (found ++ scope) (inner_aim aim))
 
 -- a `var`: what its type wants is owed as that of an initial value; without one, nothing is of a hole that its value leaves
 abbrev pub var_name : List ℕ → Option Written → Part → Around → Scope → Walk (List Bound)
@@ -244,16 +255,20 @@ abbrev pub under_claim : Walk Indices → Option Con → Walk Indices
 under_claim rest None = rest
 under_claim rest (Some c) = claimed c rest
 
-abbrev pub block_walk : Place → List Statement → List Part → Around → Scope → Aim → Walk Indices
-block_walk place [] [] around scope aim = settled around place (inner_aim aim) I.Unit
-block_walk place [] (value ∷ []) around scope aim = value.walk around scope (inner_aim aim)
-block_walk place (S.Evaluate ∷ ss) (a ∷ parts) around scope aim =
-    bind (a.state around scope) (under_claim (block_walk place ss parts around scope aim))
-block_walk place (S.Define at arm ∷ ss) (a ∷ parts) around scope aim =
-    bind (let_names at arm a around scope) (λ found. block_walk place ss parts around (found ++ scope) aim)
-block_walk place (S.Declare name written ∷ ss) (a ∷ parts) around scope aim =
-    bind (var_name name written a around scope) (λ found. block_walk place ss parts around (found ++ scope) aim)
-block_walk place ss parts around scope aim = wrong_value place
+abbrev pub block_end : Place → List Part → Around → Scope → Aim → Walk Indices
+block_end place [] around scope aim = settled around place (inner_aim aim) I.Unit
+block_end place (value ∷ []) around scope aim = value.walk around scope (inner_aim aim)
+block_end place parts around scope aim = wrong_value place
+
+abbrev pub block_walk : Place → ℕ → List Statement → List Part → Around → Scope → Aim → Walk Indices
+block_walk place k [] parts around scope aim = block_end place parts around scope aim
+block_walk place k (S.Evaluate ∷ ss) (a ∷ parts) around scope aim =
+    bind (a.state around scope) (under_claim (block_walk place k ss parts around scope aim))
+block_walk place k (S.Define at arm ∷ ss) (a ∷ parts) around scope aim =
+    bind (let_given (Gives.Arm k (length ss)) at arm a around scope) (λ found. block_walk place k ss parts around (found ++ scope) aim)
+block_walk place k (S.Declare name written ∷ ss) (a ∷ parts) around scope aim =
+    bind (var_name name written a around scope) (λ found. block_walk place k ss parts around (found ++ scope) aim)
+block_walk place k ss parts around scope aim = wrong_value place
 
 -- its last statement, or its value
 abbrev pub last_never_ends : List Part → Bool
@@ -263,25 +278,28 @@ last_never_ends (a ∷ b ∷ parts) = last_never_ends (b ∷ parts)
 
 -- ---- `match` and `try`
 
-abbrev pub case_walk : Place → Arm → Part → Around → Scope → Aim → Indices → Walk Indices
-case_walk place arm body around scope aim i =
-    bind (arm_match place arm around (record { in_case = true; is_owed = false }) (i ∷ []))
-    (λ found. body.walk around (found ++ scope) (branch_aim aim))
+abbrev pub case_names : Giver → Place → Arm → Around → Indices → Walk (List Bound)
+case_names g place arm around i =
+    bind (arm_match place arm around (record { in_case = true; is_owed = false }) (i ∷ [])) (names_given g (i ∷ []))
 
-abbrev pub case_way : Place → Arm → Part → Around → Scope → Aim → Indices → Way
-case_way place arm body around scope aim i = record {
+abbrev pub case_walk : Giver → Place → Arm → Part → Around → Scope → Aim → Indices → Walk Indices
+case_walk g place arm body around scope aim i =
+    bind (case_names g place arm around i) (λ found. body.walk around (found ++ scope) (branch_aim aim))
+
+abbrev pub case_way : Giver → Place → Arm → Part → Around → Scope → Aim → Indices → Way
+case_way g place arm body around scope aim i = record {
   never_ends = body.never_ends;
   place = body.place;
-  walk = case_walk place arm body around scope aim i;
+  walk = case_walk g place arm body around scope aim i;
 }
 
-abbrev pub case_ways : Place → List Arm → List Part → Around → Scope → Aim → Indices → List Way
-case_ways place (arm ∷ arms) (body ∷ bodies) around scope aim i =
-    case_way place arm body around scope aim i ∷ case_ways place arms bodies around scope aim i
-case_ways place arms bodies around scope aim i = []
+abbrev pub case_ways : Place → ℕ → List Arm → List Part → Around → Scope → Aim → Indices → List Way
+case_ways place k (arm ∷ arms) (body ∷ bodies) around scope aim i =
+    case_way (Gives.Arm k (length arms)) place arm body around scope aim i ∷ case_ways place k arms bodies around scope aim i
+case_ways place k arms bodies around scope aim i = []
 
 abbrev pub match_under : Place → ℕ → Shape → List Arm → List Part → Around → Scope → Aim → Indices → Walk Indices
-match_under place k shape arms bodies around scope aim i = meeting around place k shape (wanted aim) (case_ways place arms bodies around scope aim i)
+match_under place k shape arms bodies around scope aim i = meeting around place k shape (wanted aim) (case_ways place k arms bodies around scope aim i)
 
 abbrev pub match_walk : Place → ℕ → Shape → List Arm → Part → List Part → Around → Scope → Aim → Walk Indices
 match_walk place k shape arms a bodies around scope aim =
@@ -293,7 +311,7 @@ try_way a around scope aim = record { never_ends = a.never_ends; place = a.place
 -- a first way, and the cases over what is thrown
 abbrev pub try_over : Place → ℕ → Shape → List Arm → Part → List Part → Around → Scope → Aim → Indices → Walk Indices
 try_over place k shape arms a bodies around scope aim i =
-    meeting around place k shape (wanted aim) (try_way a around scope aim ∷ case_ways place arms bodies around scope aim i)
+    meeting around place k shape (wanted aim) (try_way a around scope aim ∷ case_ways place k arms bodies around scope aim i)
 
 -- what is thrown is caught by the node: it stands before the first way, behind which the same is in force
 abbrev pub caught_at : ℕ → Indices → Walk (Unit {0})

@@ -6,11 +6,11 @@ ghost use Rattle.expression_steps.specs.Coded as coded;
 
 use crate::aims::{one_name, written_aim};
 use call_arguments::without_holes;
-use call_notes::Aim;
+use call_notes::{Aim, names_given};
 use pattern_leaves::{Around, Bound, name_var, owe_exponents, written_in};
 use pattern_notes::{Matching, arm_written, match_one};
 use sail_base::{Items, Place, Text};
-use sail_core::{Arm, Statement, Written};
+use sail_core::{Arm, Giver, Statement, Written};
 use std::alloc::{AllocError, Global};
 use value_indices::{Indices, Walking};
 use wide_types::widened;
@@ -92,20 +92,21 @@ fn var_name(
     }
 }
 
-/// The names that are bound to a value of these indices, of which what is wanted may be owed further in. It fails where memory is wanting,
-/// and where variables are too many.
+/// The names that are bound to a value of these indices, of which what is wanted may be owed further in; those of a `let` give numbers. It
+/// fails where memory is wanting, and where variables are too many.
 #[tactic(auto, using(value_indices::proofs::Walks::walks))]
 pub fn end_binding(
     alloc: Global,
     walking: &mut Walking,
     around: &Around<'_>,
+    giver: Giver,
     binding: &Binding<'_>,
     is_nested: bool,
     value: &Indices,
 ) -> Result<Items<Bound>, AllocError>
-    ensures value { IfOk result (λ made. made ≡ walk.got (coded.bound_ended (around_of around.now) binding.now is_nested value.now)
+    ensures value { IfOk result (λ made. made ≡ walk.got (coded.bound_ended (around_of around.now) giver binding.now is_nested value.now)
         (walk.seen walking.old)) }
-    ensures walked { OnOk result (walk.seen walking.new ≡ walk.run (coded.bound_ended (around_of around.now) binding.now is_nested value.now)
+    ensures walked { OnOk result (walk.seen walking.new ≡ walk.run (coded.bound_ended (around_of around.now) giver binding.now is_nested value.now)
         (walk.seen walking.old)) }
 {
     match binding {
@@ -114,7 +115,8 @@ pub fn end_binding(
                 in_case: false,
                 is_owed: arm_written(arm).is_some() && is_nested,
             };
-            match_one(alloc, *place, arm, around, how, value, walking)
+            let found = match_one(alloc, *place, arm, around, how, value, walking)?;
+            names_given(alloc, walking, giver, std::slice::from_ref(value), found)
         }
         Binding::Var(name, written) => var_name(alloc, around, name, written, value),
     }

@@ -15,12 +15,12 @@ ghost use Rattle.expression_steps.specs.Parts.{Part};
 ghost use Rattle.expression_steps.specs.Statements as statement_spec;
 
 use crate::knowing::{never_ends, place_of};
-use call_notes::{Aim, made_opened, node_ended, node_given, settled, wrong_value};
+use call_notes::{Aim, made_opened, names_given, node_ended, node_given, settled, wrong_value};
 use expression_forms::{first_way, like_first, met_ways};
 use pattern_leaves::{Around, Bound};
 use pattern_notes::{Matching, match_arm};
 use sail_base::{Items, Place};
-use sail_core::{Arm, Core};
+use sail_core::{Arm, Core, Giver};
 use sail_types::{Con, Shape, copy_con};
 use std::alloc::{AllocError, Global};
 use value_indices::{Indices, Reading, Walking};
@@ -30,8 +30,8 @@ use value_indices::{Indices, Reading, Walking};
 pub enum Way<'a> {
     /// This part, under a condition.
     Under(&'a Con, &'a Core),
-    /// A case at a place: this part, where the arm matches the value.
-    Case(Place, &'a Arm, &'a Core, &'a Indices),
+    /// A case at a place: this part, where the arm matches the value and gives the numbers of its names.
+    Case(Giver, Place, &'a Arm, &'a Core, &'a Indices),
     /// This part.
     Whole(&'a Core),
 }
@@ -43,15 +43,16 @@ impl Way<'_> {
     {
         match self {
             Way::Under(_, core) => core,
-            Way::Case(_, _, core, _) => core,
+            Way::Case(_, _, _, core, _) => core,
             Way::Whole(core) => core,
         }
     }
 }
 
-/// The cases at a place over a value, behind other ways. They fail where memory is wanting.
+/// The cases of the node of a number at a place over a value, behind other ways. They fail where memory is wanting.
 fn case_ways<'a>(
     place: Place,
+    number: u32,
     arms: &'a [Arm],
     bodies: &'a [Core],
     value: &'a Indices,
@@ -59,36 +60,39 @@ fn case_ways<'a>(
 ) -> Result<(), AllocError>
     ensures ways { OnOk result ((around : settings.Around) (scope : settings.Scope) (aim : aims.Aim)
         → coded.ways_seen around scope aim ways.new ≡ coded.ways_seen around scope aim ways.old
-        ++ statement_spec.case_ways place arms.now (coded.each_part bodies.now) around scope aim value.now) }
+        ++ statement_spec.case_ways place number arms.now (coded.each_part bodies.now) around scope aim value.now) }
     ensures cores { OnOk result (coded.way_cores ways.new ≡ coded.way_cores ways.old ++ take (length arms.now) bodies.now) }
 {
     for index in 0..arms.len().min(bodies.len()) {
-        ways.push(Way::Case(place, &arms[index], &bodies[index], value))?;
+        let giver = Giver::Arm(number, arms.len() - index - 1);
+        ways.push(Way::Case(giver, place, &arms[index], &bodies[index], value))?;
     }
     Ok(())
 }
 
-/// The cases at a place over a value. They fail where memory is wanting.
+/// The cases of the node of a number at a place over a value. They fail where memory is wanting.
 pub fn match_ways<'a>(
     alloc: Global,
     place: Place,
+    number: u32,
     arms: &'a [Arm],
     bodies: &'a [Core],
     value: &'a Indices,
 ) -> Result<Items<Way<'a>>, AllocError>
     ensures ways { IfOk result (λ made. (around : settings.Around) (scope : settings.Scope) (aim : aims.Aim)
-        → coded.ways_seen around scope aim made ≡ statement_spec.case_ways place arms.now (coded.each_part bodies.now) around scope aim value.now) }
+        → coded.ways_seen around scope aim made ≡ statement_spec.case_ways place number arms.now (coded.each_part bodies.now) around scope aim value.now) }
     ensures cores { IfOk result (λ made. coded.way_cores made ≡ take (length arms.now) bodies.now) }
 {
     let mut ways = Items::new(alloc);
-    case_ways(place, arms, bodies, value, &mut ways)?;
+    case_ways(place, number, arms, bodies, value, &mut ways)?;
     Ok(ways)
 }
 
-/// A first way, and the cases at a place over a value. They fail where memory is wanting.
+/// A first way, and the cases of the node of a number at a place over a value. They fail where memory is wanting.
 pub fn try_ways<'a>(
     alloc: Global,
     place: Place,
+    number: u32,
     arms: &'a [Arm],
     core: &'a Core,
     bodies: &'a [Core],
@@ -96,12 +100,12 @@ pub fn try_ways<'a>(
 ) -> Result<Items<Way<'a>>, AllocError>
     ensures ways { IfOk result (λ made. (around : settings.Around) (scope : settings.Scope) (aim : aims.Aim)
         → coded.ways_seen around scope aim made ≡ statement_spec.try_way (part core.now) around scope aim
-        ∷ statement_spec.case_ways place arms.now (coded.each_part bodies.now) around scope aim value.now) }
+        ∷ statement_spec.case_ways place number arms.now (coded.each_part bodies.now) around scope aim value.now) }
     ensures cores { IfOk result (λ made. coded.way_cores made ≡ core.now ∷ take (length arms.now) bodies.now) }
 {
     let mut ways = Items::new(alloc);
     ways.push(Way::Whole(core))?;
-    case_ways(place, arms, bodies, value, &mut ways)?;
+    case_ways(place, number, arms, bodies, value, &mut ways)?;
     Ok(ways)
 }
 
@@ -135,13 +139,14 @@ pub fn open_way(
             walking.assume(copy_con(alloc, condition)?)?;
             Ok(Items::new(alloc))
         }
-        Way::Case(place, arm, _, value) => {
+        Way::Case(giver, place, arm, _, value) => {
             let how = Matching {
                 in_case: true,
                 is_owed: false,
             };
             let values = std::slice::from_ref(*value);
-            match_arm(alloc, *place, arm, around, how, values, walking)
+            let found = match_arm(alloc, *place, arm, around, how, values, walking)?;
+            names_given(alloc, walking, *giver, values, found)
         }
         Way::Whole(_) => Ok(Items::new(alloc)),
     }

@@ -1,5 +1,5 @@
 -- Walks one after the other, and what is written down behind them.
-use Rattle.std.proofs.Common.{◌≡◌, ◌∙◌, ap, sym, Some, true, List, [], Result, Ok, Err}
+use Rattle.std.proofs.Common.{◌≡◌, ◌∙◌, ap, sym, true, List, [], Result, Ok, Err}
 use Rattle.std.specs.Prelude.{OnOk}
 use Rattle.sail_types.specs.declared.numbers.Index.{Index}
 use Rattle.sail_types.specs.declared.types.Typ.{Typ}
@@ -72,12 +72,12 @@ module _ (around : Around) (f : Function) (inner : Around) (ts : List Typ) (once
     (inside : inner ≡ inside_function around f is) (types : ts ≡ f.parameters) where
   pub function_end : {A E : Type 0} (r : Result A E) (s t : Written) (last : Reading) → once ≡ f.numbers
       → aim ≡ aimed Aims.Due (reading_under f.result is) → last ≡ reading_under f.result is
-      → s ≡ run (clauses_of (Some f.entry) inner ts once aim f.is_declared f.body) u → OnOk r (t ≡ run (last_made f.last last) s)
+      → s ≡ run (clauses_of inner ts once aim f.is_declared f.body) u → OnOk r (t ≡ run (last_made f.last last) s)
       → OnOk r (t ≡ run (function_walk around f) w)
   function_end (Ok x) s t last numbers wanted same went h =
       let within = inside_function around f is in
       let clauses : s ≡ run (function_clauses f within) u =
-      went ∙ (λ j. run (clauses_of (Some f.entry) (inside j) (types j) (numbers j) (wanted j) f.is_declared f.body) u) in
+      went ∙ (λ j. run (clauses_of (inside j) (types j) (numbers j) (wanted j) f.is_declared f.body) u) in
       plain_run (own_indices f.variables) (constrained f.constraint) (λ (js : List Index). body_walk f (inside_function around f js)) w v u t is
       gives walks owes (h
       ∙ (λ j. run (last_made f.last (same j)) (clauses j))
@@ -85,8 +85,8 @@ module _ (around : Around) (f : Function) (inner : Around) (ts : List Typ) (once
   function_end (Err e) s t last numbers wanted same went h = tt
 
   pub measure_end : {A E : Type 0} (r : Result A E) (s : Written) (measure : Core) → once ≡ [] → aim ≡ Aims.Due natural_type
-      → OnOk r (s ≡ run (clauses_of (Some f.entry) inner ts once aim true measure) u) → OnOk r (s ≡ run (measure_walk around f measure) w)
+      → OnOk r (s ≡ run (clauses_of inner ts once aim true measure) u) → OnOk r (s ≡ run (measure_walk around f measure) w)
   measure_end (Ok x) s measure numbers wanted h =
       plain_run (own_indices f.variables) (constrained f.constraint) (λ (js : List Index). measured_walk f measure (inside_function around f js)) w v u s is
-      gives walks owes (h ∙ (λ j. run (clauses_of (Some f.entry) (inside j) (types j) (numbers j) (wanted j) true measure) u))
+      gives walks owes (h ∙ (λ j. run (clauses_of (inside j) (types j) (numbers j) (wanted j) true measure) u))
   measure_end (Err e) s measure numbers wanted h = tt

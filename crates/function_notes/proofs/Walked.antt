@@ -1,7 +1,7 @@
 -- Walks over lists of parameters, clauses and definitions: the first, then the others.
 use Rattle.std.proofs.Common.{◌≡◌, ◌∙◌, ap, sym, refl, ℕ, suc, zero, ◌+◌, ◌-◌, ◌<◌, ◌≤◌, List, [], ◌∷◌, ◌++◌, drop, length, get_or, min, arith}
 use Rattle.std.proofs.Common.{append_assoc, append-nil, length-drop, Result, Ok, Err}
-use Rattle.std.specs.Prelude.{Bool, Option, true, false, ◌&&◌, ◌==◌, if◌then◌else◌, OnOk}
+use Rattle.std.specs.Prelude.{Bool, true, false, ◌&&◌, ◌==◌, if◌then◌else◌, OnOk}
 use Rattle.std.proofs.lemmas.Bool.{eqb-true, eqb-false, eq-eqb, ne_eqb}
 use Rattle.sail_base.specs.declared.place.Place.{Place}
 use Rattle.sail_types.specs.declared.numbers.Index.{Index}
@@ -9,6 +9,8 @@ use Rattle.sail_types.specs.declared.types.Typ.{Typ}
 use Rattle.sail_core.specs.declared.model.Direction.{Direction}
 use Rattle.sail_core.specs.declared.patterns.Arm.{Arm}
 use Rattle.sail_core.specs.declared.tree.Core.{Core}
+use Rattle.sail_core.specs.declared.tree.Giver.{Giver}
+use Rattle.sail_core.specs.declared.tree.Giver.TheVariants as Gives
 use Rattle.sail_core.specs.declared.written.WrittenNumber.{WrittenNumber}
 use Rattle.value_indices.specs.declared.indices.Indices.{Indices}
 use Rattle.value_indices.specs.Steps.{Walk, bind, give, wrong}
@@ -103,29 +105,31 @@ pub not_first : (at : ℕ) (once : List WrittenNumber) → (at ≡ 0 → ⊥) �
 not_first zero once some = absurd (some refl)
 not_first (suc n) once some = refl
 
-module _ (place : Place) (entry : Option ℕ) (around : Around) (ts : List Typ) (aim : Aim) (declared : Bool) where
+module _ (place : Place) (number : ℕ) (around : Around) (ts : List Typ) (aim : Aim) (declared : Bool) where
   clauses_behind : (at : ℕ) (once : List WrittenNumber) (arms : List Arm) (bodies : List Core)
-      → clauses_walk place entry around ts [] aim declared arms bodies ≡ clauses_walk place entry around ts (due_at (at + 1) once) aim declared arms bodies
+      → clauses_walk place number around ts [] aim declared arms bodies
+      ≡ clauses_walk place number around ts (due_at (at + 1) once) aim declared arms bodies
   clauses_behind at once arms bodies =
-      let more : suc at ≡ at + 1 = omega arith in ap (λ n. clauses_walk place entry around ts (due_at n once) aim declared arms bodies) more
+      let more : suc at ≡ at + 1 = omega arith in ap (λ n. clauses_walk place number around ts (due_at n once) aim declared arms bodies) more
 
   pub clause_walked : (once : List WrittenNumber) (arms : List Arm) (bodies : List Core) (k : ℕ) (arm : Arm) (body : Core) (due : List WrittenNumber)
       (w v : Written) → k < length arms → k < length bodies → arm ≡ get_or arms k arm → body ≡ get_or bodies k body → due ≡ due_at k once
-      → v ≡ run (written_walk place entry around ts due aim declared arm body) w → (all : Written)
-      → run (clauses_walk place entry around ts (due_at k once) aim declared (drop k arms) (drop k bodies)) w ≡ all
-      → run (clauses_walk place entry around ts (due_at (k + 1) once) aim declared (drop (k + 1) arms) (drop (k + 1) bodies)) v ≡ all
-  clause_walked once arms bodies k arm body due w v p q at_arm at_body owed walked all whole =
-      let rest = clauses_walk place entry around ts [] aim declared (drop (k + 1) arms) (drop (k + 1) bodies) in
-      let this = written_walk place entry around ts (due_at k once) aim declared arm body in
+      → (g : Giver) → g ≡ Gives.Arm number (length (drop (k + 1) arms)) → v ≡ run (written_walk place g around ts due aim declared arm body) w
+      → (all : Written)
+      → run (clauses_walk place number around ts (due_at k once) aim declared (drop k arms) (drop k bodies)) w ≡ all
+      → run (clauses_walk place number around ts (due_at (k + 1) once) aim declared (drop (k + 1) arms) (drop (k + 1) bodies)) v ≡ all
+  clause_walked once arms bodies k arm body due w v p q at_arm at_body owed g giver walked all whole =
+      let rest = clauses_walk place number around ts [] aim declared (drop (k + 1) arms) (drop (k + 1) bodies) in
+      let this = written_walk place (Gives.Arm number (length (drop (k + 1) arms))) around ts (due_at k once) aim declared arm body in
       ap (λ c. run c v) (sym (clauses_behind k once (drop (k + 1) arms) (drop (k + 1) bodies)))
-      ∙ (ap (run rest) (walked ∙ ap (λ d. run (written_walk place entry around ts d aim declared arm body) w) owed)
+      ∙ (ap (run rest) (walked ∙ (λ j. run (written_walk place (giver j) around ts (owed j) aim declared arm body) w))
       ∙ (sym (run_bind this (λ i. rest) w)
-      ∙ ((λ j. run (clauses_walk place entry around ts (due_at k once) aim declared (sym (rest_at arms k arm p at_arm) j)
+      ∙ ((λ j. run (clauses_walk place number around ts (due_at k once) aim declared (sym (rest_at arms k arm p at_arm) j)
       (sym (rest_at bodies k body q at_body) j)) w)
       ∙ whole)))
 
   none_of_clauses : (once : List WrittenNumber) (arms : List Arm) (bodies : List Core) → min (length arms) (length bodies) ≡ 0
-      → clauses_walk place entry around ts once aim declared arms bodies
+      → clauses_walk place number around ts once aim declared arms bodies
       ≡ (if (length arms == 0) && (length bodies == 0) then give tt else wrong place)
   none_of_clauses once [] [] e = refl
   none_of_clauses once [] (b ∷ bs) e = ap (λ (t : Bool). ended place ((0 == 0) && t)) (sym (some_items (length bs)))
@@ -133,7 +137,7 @@ module _ (place : Place) (entry : Option ℕ) (around : Around) (ts : List Typ) 
   none_of_clauses once (a ∷ others) (b ∷ bs) e = absurd (omega arith)
 
   pub clauses_end : (once : List WrittenNumber) (arms : List Arm) (bodies : List Core) (k : ℕ) → k ≡ min (length arms) (length bodies) → (w all : Written)
-      → run (clauses_walk place entry around ts (due_at k once) aim declared (drop k arms) (drop k bodies)) w ≡ all
+      → run (clauses_walk place number around ts (due_at k once) aim declared (drop k arms) (drop k bodies)) w ≡ all
       → run (if (length arms == k) && (length bodies == k) then give tt else wrong place) w ≡ all
   clauses_end once arms bodies k e w all h =
       let p : k ≤ length arms = omega arith in
@@ -145,7 +149,7 @@ module _ (place : Place) (entry : Option ℕ) (around : Around) (ts : List Typ) 
 
   pub arms_end : {A E : Type 0} (once : List WrittenNumber) (arms : List Arm) (bodies : List Core) (k count : ℕ) (t : Bool) (r : Result A E)
       (w v all : Written) → count ≡ min (length arms) (length bodies) → k ≡ count → t ≡ (length arms == count) && (length bodies == count)
-      → run (clauses_walk place entry around ts (due_at k once) aim declared (drop k arms) (drop k bodies)) w ≡ all
+      → run (clauses_walk place number around ts (due_at k once) aim declared (drop k arms) (drop k bodies)) w ≡ all
       → OnOk r (v ≡ run (if t then give tt else wrong place) w) → OnOk r (v ≡ all)
   arms_end once arms bodies k count t (Ok x) w v all least at tests whole h =
       let same : t ≡ (length arms == k) && (length bodies == k) = tests ∙ ap (λ (n : ℕ). (length arms == n) && (length bodies == n)) (sym at) in
@@ -158,15 +162,18 @@ module _ (place : Place) (around : Around) (m n : Direction) where
   pub both_walked : (arms : List Arm) (bodies : List Core) (backs : List Arm) (givens : List Core) (k : ℕ) (arm : Arm) (body : Core) (back : Arm)
       (given : Core) → k < length arms → k < length bodies → k < length backs → k < length givens → arm ≡ get_or arms k arm
       → body ≡ get_or bodies k body → back ≡ get_or backs k back → given ≡ get_or givens k given → (w v u : Written)
-      → v ≡ run (direction_walk place around m arm body) w → u ≡ run (direction_walk place around n back given) v → (all : Written)
+      → (a b : ℕ) → a ≡ length (drop (k + 1) arms) → b ≡ length (drop (k + 1) backs)
+      → v ≡ run (direction_walk place around m a arm body) w → u ≡ run (direction_walk place around n b back given) v → (all : Written)
       → run (both_walk place around m n (drop k arms) (drop k bodies) (drop k backs) (drop k givens)) w ≡ all
       → run (both_walk place around m n (drop (k + 1) arms) (drop (k + 1) bodies) (drop (k + 1) backs) (drop (k + 1) givens)) u ≡ all
-  both_walked arms bodies backs givens k arm body back given p q r s at_arm at_body at_back at_given w v u first second all whole =
+  both_walked arms bodies backs givens k arm body back given p q r s at_arm at_body at_back at_given w v u a b behind before first second all whole =
       let rest = both_walk place around m n (drop (k + 1) arms) (drop (k + 1) bodies) (drop (k + 1) backs) (drop (k + 1) givens) in
-      ap (run rest) second
-      ∙ (sym (run_bind (direction_walk place around n back given) (λ j. rest) v)
-      ∙ (ap (run (bind (direction_walk place around n back given) (λ j. rest))) first
-      ∙ (sym (run_bind (direction_walk place around m arm body) (λ i. bind (direction_walk place around n back given) (λ j. rest)) w)
+      let there = direction_walk place around m (length (drop (k + 1) arms)) arm body in
+      let back_there = direction_walk place around n (length (drop (k + 1) backs)) back given in
+      ap (run rest) (second ∙ ap (λ (c : ℕ). run (direction_walk place around n c back given) v) before)
+      ∙ (sym (run_bind back_there (λ j. rest) v)
+      ∙ (ap (run (bind back_there (λ j. rest))) (first ∙ ap (λ (c : ℕ). run (direction_walk place around m c arm body) w) behind)
+      ∙ (sym (run_bind there (λ i. bind back_there (λ j. rest)) w)
       ∙ ((λ j. run (both_walk place around m n (sym (rest_at arms k arm p at_arm) j) (sym (rest_at bodies k body q at_body) j)
       (sym (rest_at backs k back r at_back) j) (sym (rest_at givens k given s at_given) j)) w)
       ∙ whole))))

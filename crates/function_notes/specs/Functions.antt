@@ -1,5 +1,5 @@
 -- The walk over functions, their measures and mappings: their type variables, and their clauses.
-use Rattle.std.specs.Prelude.{ℕ, zero, suc, Bool, true, false, List, [], ◌∷◌, map}
+use Rattle.std.specs.Prelude.{ℕ, zero, suc, Bool, true, false, List, [], ◌∷◌, length, map}
 use Rattle.std.specs.Prelude.{Option, Some, None, unwrap_or, if◌then◌else◌}
 use Rattle.sail_base.specs.declared.kind.Kind.{Kind}
 use Rattle.sail_base.specs.declared.kind.Kind.TheVariants as AKind
@@ -19,11 +19,12 @@ use Rattle.sail_core.specs.declared.patterns.Form.{Form}
 use Rattle.sail_core.specs.declared.patterns.Form.TheVariants as F
 use Rattle.sail_core.specs.declared.patterns.Pattern.{Pattern, Pattern-F, roll-Pattern, fold-Pattern}
 use Rattle.sail_core.specs.declared.tree.Core.{Core, Core-F, out-Core}
+use Rattle.sail_core.specs.declared.tree.Giver.{Giver}
+use Rattle.sail_core.specs.declared.tree.Giver.TheVariants as Gives
 use Rattle.sail_core.specs.declared.tree.Kind.{Kind as CoreKind}
 use Rattle.sail_core.specs.declared.tree.Kind.TheVariants as K
 use Rattle.sail_core.specs.declared.written.WrittenNumber.{WrittenNumber}
 use Rattle.value_indices.specs.declared.indices.Indices.{Indices}
-use Rattle.value_indices.specs.declared.indices.Indices.TheVariants as I
 use Rattle.value_indices.specs.declared.indices.Reading.{Reading}
 use Rattle.value_indices.specs.declared.indices.Reading.TheVariants as R
 use Rattle.value_indices.specs.declared.indices.Naming.{Naming}
@@ -32,13 +33,14 @@ use Rattle.value_indices.specs.declared.notes.Made.TheVariants as Makes
 use Rattle.value_indices.specs.Steps.{Walk, bind, give, assume, fresh_named, scoped, wrong, each}
 use Rattle.value_indices.specs.Opening.{opened, opening}
 use Rattle.pattern_leaves.specs.Settings.{Around, exponents_owed}
+use Rattle.pattern_leaves.specs.declared.names.Bound.{Bound}
 use Rattle.pattern_notes.specs.Patterns.{Look, looks, arm_match}
 use Rattle.pattern_notes.specs.declared.matching.Matching.{Matching}
 use Rattle.call_arguments.specs.declared.aims.Aim.{Aim}
 use Rattle.call_arguments.specs.declared.aims.Aim.TheVariants as Aims
 use Rattle.call_arguments.specs.Aims.{aimed}
 use Rattle.call_arguments.specs.Placing.{is_trivial_form}
-use Rattle.call_notes.specs.Noted.{node_given, node_made, numbers_noted}
+use Rattle.call_notes.specs.Noted.{names_given, node_given, node_made, numbers_noted}
 use Rattle.expression_forms.specs.Nodes.{cast_ended}
 use Rattle.expression_steps.specs.Parts.{Part}
 use Rattle.expression_steps.specs.Statements.{natural_type}
@@ -161,50 +163,47 @@ parameters_opened ps is [] = give []
 parameters_opened ps is (t ∷ ts) =
     bind (parameter_opened ps is t) (λ i. bind (parameters_opened (other_looks ps) is ts) (λ more. give (i ∷ more)))
 
--- with the numbers that they give, which the entry of a function notes; a direction has none
-abbrev pub entered_at : Option ℕ → List Indices → Walk (Unit {0})
-entered_at None is = give tt
-entered_at (Some k) is = numbers_noted k (I.Tuple is)
-
-abbrev pub parameters_entered : Option ℕ → List Look → List Index → List Typ → Walk (List Indices)
-parameters_entered entry ps is ts = bind (parameters_opened ps is ts) (λ found. bind (entered_at entry found) (λ t. give found))
-
 -- in a function's clause no type is owed already, and integer literals make nothing known
 abbrev pub in_clause : Matching
 in_clause = record { in_case = false; is_owed = false }
 
+-- the names of its patterns, with the numbers that they and its parameters give
+abbrev pub clause_names : Place → Giver → Around → Arm → List Indices → Walk (List Bound)
+clause_names place g around arm is = bind (arm_match place arm around in_clause is) (names_given g is)
+
 -- one clause: its parameters, the exponents that are owed once they are opened, its patterns, and its body
-abbrev pub clause_walk : Place → Option ℕ → Around → List Typ → List WrittenNumber → Aim → Arm → Part → Walk Indices
-clause_walk place entry around ts once aim arm body =
-    scoped (bind (parameters_entered entry (looks arm) around.numbers ts) (λ is.
+abbrev pub clause_walk : Place → Giver → Around → List Typ → List WrittenNumber → Aim → Arm → Part → Walk Indices
+clause_walk place g around ts once aim arm body =
+    scoped (bind (parameters_opened (looks arm) around.numbers ts) (λ is.
     bind (exponents_owed around once) (λ t.
-    bind (arm_match place arm around in_clause is) (λ found. body.walk around found aim))))
+    bind (clause_names place g around arm is) (λ found. body.walk around found aim))))
 
-abbrev pub written_walk : Place → Option ℕ → Around → List Typ → List WrittenNumber → Aim → Bool → Arm → Core → Walk Indices
-written_walk place entry around ts once aim declared arm body =
-    clause_walk place entry around ts once aim (arm_of declared arm) (body_part declared body)
+abbrev pub written_walk : Place → Giver → Around → List Typ → List WrittenNumber → Aim → Bool → Arm → Core → Walk Indices
+written_walk place g around ts once aim declared arm body =
+    clause_walk place g around ts once aim (arm_of declared arm) (body_part declared body)
 
--- exponents are owed in the first clause alone
-abbrev pub clauses_walk : Place → Option ℕ → Around → List Typ → List WrittenNumber → Aim → Bool → List Arm → List Core → Walk (Unit {0})
-clauses_walk place entry around ts once aim declared [] [] = give tt
-clauses_walk place entry around ts once aim declared (arm ∷ arms) (body ∷ bodies) =
-    bind (written_walk place entry around ts once aim declared arm body) (λ i. clauses_walk place entry around ts [] aim declared arms bodies)
-clauses_walk place entry around ts once aim declared arms bodies = wrong place
+-- those of the node of a number; exponents are owed in the first clause alone
+abbrev pub clauses_walk : Place → ℕ → Around → List Typ → List WrittenNumber → Aim → Bool → List Arm → List Core → Walk (Unit {0})
+clauses_walk place k around ts once aim declared [] [] = give tt
+clauses_walk place k around ts once aim declared (arm ∷ arms) (body ∷ bodies) =
+    bind (written_walk place (Gives.Arm k (length arms)) around ts once aim declared arm body)
+    (λ i. clauses_walk place k around ts [] aim declared arms bodies)
+clauses_walk place k around ts once aim declared arms bodies = wrong place
 
 -- what the clause at a place owes of it
 abbrev pub due_at : ℕ → List WrittenNumber → List WrittenNumber
 due_at zero once = once
 due_at (suc n) once = []
 
-abbrev pub kind_clauses : Place → Option ℕ → Around → List Typ → List WrittenNumber → Aim → Bool → CoreKind → List Core → Walk (Unit {0})
-kind_clauses place entry around ts once aim declared (K.Clauses arms) bodies = clauses_walk place entry around ts once aim declared arms bodies
-kind_clauses place entry around ts once aim declared kind bodies = wrong place
+abbrev pub kind_clauses : Place → ℕ → Around → List Typ → List WrittenNumber → Aim → Bool → CoreKind → List Core → Walk (Unit {0})
+kind_clauses place k around ts once aim declared (K.Clauses arms) bodies = clauses_walk place k around ts once aim declared arms bodies
+kind_clauses place k around ts once aim declared kind bodies = wrong place
 
-abbrev pub form_clauses : Option ℕ → Around → List Typ → List WrittenNumber → Aim → Bool → Core-F Core → Walk (Unit {0})
-form_clauses entry around ts once aim declared c = kind_clauses c.place entry around ts once aim declared c.kind c.parts
+abbrev pub form_clauses : Around → List Typ → List WrittenNumber → Aim → Bool → Core-F Core → Walk (Unit {0})
+form_clauses around ts once aim declared c = kind_clauses c.place c.number around ts once aim declared c.kind c.parts
 
-abbrev pub clauses_of : Option ℕ → Around → List Typ → List WrittenNumber → Aim → Bool → Core → Walk (Unit {0})
-clauses_of entry around ts once aim declared core = form_clauses entry around ts once aim declared (out-Core core)
+abbrev pub clauses_of : Around → List Typ → List WrittenNumber → Aim → Bool → Core → Walk (Unit {0})
+clauses_of around ts once aim declared core = form_clauses around ts once aim declared (out-Core core)
 
 -- ---- functions and measures
 
@@ -224,7 +223,7 @@ last_made k r = bind (opened r) (last_of k r)
 
 abbrev pub function_clauses : Function → Around → Walk (Unit {0})
 function_clauses f inner =
-    clauses_of (Some f.entry) inner f.parameters f.numbers (aimed Aims.Due (R.Of f.result inner.numbers [])) f.is_declared f.body
+    clauses_of inner f.parameters f.numbers (aimed Aims.Due (R.Of f.result inner.numbers [])) f.is_declared f.body
 
 abbrev pub body_walk : Function → Around → Walk (Unit {0})
 body_walk f inner = bind (function_clauses f inner) (λ t. last_made f.last (R.Of f.result inner.numbers []))
@@ -233,22 +232,26 @@ abbrev pub function_walk : Around → Function → Walk (Unit {0})
 function_walk around f = in_function around f (body_walk f)
 
 abbrev pub measured_walk : Function → Core → Around → Walk (Unit {0})
-measured_walk f measure inner = clauses_of (Some f.entry) inner f.parameters [] (Aims.Due natural_type) true measure
+measured_walk f measure inner = clauses_of inner f.parameters [] (Aims.Due natural_type) true measure
 
 abbrev pub measure_walk : Around → Function → Core → Walk (Unit {0})
 measure_walk around f measure = in_function around f (measured_walk f measure)
 
 -- ---- mappings: each clause forwards and then backwards
 
-abbrev pub direction_walk : Place → Around → Direction → Arm → Core → Walk Indices
-direction_walk place around m arm body =
-    clause_walk place None around (m.parameter ∷ []) [] (aimed Aims.Due (R.Of m.result [] [])) arm (part body)
+-- what an arm of a direction gives numbers by, behind which so many stand
+abbrev pub direction_giver : Direction → ℕ → Giver
+direction_giver m behind = Gives.Arm (out-Core m.body).number behind
+
+abbrev pub direction_walk : Place → Around → Direction → ℕ → Arm → Core → Walk Indices
+direction_walk place around m behind arm body =
+    clause_walk place (direction_giver m behind) around (m.parameter ∷ []) [] (aimed Aims.Due (R.Of m.result [] [])) arm (part body)
 
 abbrev pub both_walk : Place → Around → Direction → Direction → List Arm → List Core → List Arm → List Core → Walk (Unit {0})
 both_walk place around m n [] [] [] [] = give tt
 both_walk place around m n (arm ∷ arms) (body ∷ bodies) (back ∷ backs) (given ∷ givens) =
-    bind (direction_walk place around m arm body) (λ i.
-    bind (direction_walk place around n back given) (λ j.
+    bind (direction_walk place around m (length arms) arm body) (λ i.
+    bind (direction_walk place around n (length backs) back given) (λ j.
     both_walk place around m n arms bodies backs givens))
 both_walk place around m n arms bodies backs givens = wrong place
 

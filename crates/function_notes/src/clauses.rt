@@ -1,5 +1,5 @@
 //! Clauses of functions, measures and mappings.
-ghost use Rattle.std.specs.Prelude.{◌≡◌, ◌==◌, ◌&&◌, Some, IfOk, OnOk, map, min, if◌then◌else◌};
+ghost use Rattle.std.specs.Prelude.{◌≡◌, ◌==◌, ◌&&◌, IfOk, OnOk, map, min, if◌then◌else◌};
 ghost use Rattle.pattern_leaves.specs.Settings.{around_of};
 ghost use Rattle.expression_forms.specs.Scopes.{scope_of};
 ghost use Rattle.pattern_notes.specs.Patterns.{look, nested};
@@ -10,25 +10,25 @@ ghost use Rattle.function_notes.specs.Functions as spec;
 
 use crate::bare::{bare_arm, behind_result, behind_type};
 use call_arguments::Aim;
-use call_notes::note_numbers;
+use call_notes::names_given;
 use expression_forms::{Scope, cast_given};
 use expression_notes::walk_expression;
 use pattern_leaves::{Around, Bound, owe_exponents};
 use pattern_notes::{Matching, match_arm, naming_of};
 use sail_base::{Items, Place};
-use sail_core::{Arm, Core, Kind, Pattern, WrittenNumber};
+use sail_core::{Arm, Core, Giver, Kind, Pattern, WrittenNumber};
 use sail_types::{Index, Typ};
 use std::alloc::{AllocError, Global};
 use type_arguments::{copy_indices, copy_typ};
-use value_indices::{Indices, Naming, Reading, Walking, copy_each, open_reading};
+use value_indices::{Indices, Naming, Reading, Walking, open_reading};
 
 /// What the clauses of a definition have in common.
 #[derive(Clone, Copy)]
 pub struct Common<'a> {
     /// Where the definition's clauses stand.
     pub place: Place,
-    /// The number of the entry of the function, where its parameters are noted; a direction has none.
-    pub entry: Option<u32>,
+    /// The number of their node.
+    pub number: u32,
     /// The types of their parameters.
     pub types: &'a [Typ],
     /// What is wanted of their bodies.
@@ -110,45 +110,6 @@ fn open_parameters(
     Ok(made)
 }
 
-/// Parameters that are opened: the entry of a function notes the numbers that they give. It fails where memory is wanting.
-fn enter(
-    alloc: Global,
-    walking: &mut Walking,
-    entry: Option<u32>,
-    values: &[Indices],
-) -> Result<(), AllocError>
-    ensures { OnOk result (walk.seen walking.new ≡ walk.run (spec.entered_at entry values.now) (walk.seen walking.old)) }
-{
-    match entry {
-        None => Ok(()),
-        Some(entry) => {
-            let parameters = Indices::Tuple(copy_each(alloc, values)?);
-            note_numbers(alloc, walking, entry, &parameters)
-        }
-    }
-}
-
-/// Parameters of these types, each opened for its pattern, with the numbers that they give. It fails where memory is wanting, and where
-/// variables are too many.
-#[tactic(auto, using(value_indices::proofs::Walks::walks))]
-fn enter_parameters(
-    alloc: Global,
-    walking: &mut Walking,
-    entry: Option<u32>,
-    numbers: &[Index],
-    patterns: &[Pattern],
-    types: &[Typ],
-) -> Result<Items<Indices>, AllocError>
-    ensures value { IfOk result (λ made. made ≡ walk.got (spec.parameters_entered entry (map look patterns.now) numbers.now types.now)
-        (walk.seen walking.old)) }
-    ensures walked { OnOk result (walk.seen walking.new ≡ walk.run (spec.parameters_entered entry (map look patterns.now) numbers.now types.now)
-        (walk.seen walking.old)) }
-{
-    let values = open_parameters(alloc, walking, numbers, patterns, types)?;
-    enter(alloc, walking, entry, values.as_slice())?;
-    Ok(values)
-}
-
 /// A body without the type that is written before it: what stands behind that is wanted so, and is noted as what it is. It fails where memory
 /// is wanting, and where variables are too many.
 #[tactic(auto, using(value_indices::proofs::Walks::walks))]
@@ -204,26 +165,26 @@ fn walk_body(
     }
 }
 
-/// A clause of this arm, over a body. It fails where memory is wanting, and where variables are too many.
+/// A clause of this arm, whose parameters and names give numbers, over a body. It fails where memory is wanting, and where variables are too many.
 pub fn walk_clause(
     alloc: Global,
     walking: &mut Walking,
     around: &Around<'_>,
     common: &Common<'_>,
+    giver: Giver,
     once: &[WrittenNumber],
     arm: &Arm,
     body: &Core,
 ) -> Result<Indices, AllocError>
-    ensures value { IfOk result (λ made. made ≡ walk.got (spec.clause_walk common.now.place common.now.entry (around_of around.now) common.now.types.now
-        once.now common.now.aim.now arm.now (spec.body_part common.now.is_declared body.now)) (walk.seen walking.old)) }
-    ensures walked { OnOk result (walk.seen walking.new ≡ walk.run (spec.clause_walk common.now.place common.now.entry (around_of around.now)
+    ensures value { IfOk result (λ made. made ≡ walk.got (spec.clause_walk common.now.place giver (around_of around.now)
+        common.now.types.now once.now common.now.aim.now arm.now (spec.body_part common.now.is_declared body.now)) (walk.seen walking.old)) }
+    ensures walked { OnOk result (walk.seen walking.new ≡ walk.run (spec.clause_walk common.now.place giver (around_of around.now)
         common.now.types.now once.now common.now.aim.now arm.now (spec.body_part common.now.is_declared body.now)) (walk.seen walking.old)) }
 {
     walking.remember()?;
-    let values = enter_parameters(
+    let values = open_parameters(
         alloc,
         walking,
-        common.entry,
         around.numbers,
         patterns_of(arm),
         common.types,
@@ -233,15 +194,9 @@ pub fn walk_clause(
         in_case: false,
         is_owed: false,
     };
-    let found = match_arm(
-        alloc,
-        common.place,
-        arm,
-        around,
-        how,
-        values.as_slice(),
-        walking,
-    )?;
+    let given = values.as_slice();
+    let matched = match_arm(alloc, common.place, arm, around, how, given, walking)?;
+    let found = names_given(alloc, walking, giver, given, matched)?;
     let value = walk_body(alloc, walking, around, common, found.as_slice(), body)?;
     walking.restore()?;
     Ok(value)
@@ -254,21 +209,22 @@ pub fn walk_written(
     walking: &mut Walking,
     around: &Around<'_>,
     common: &Common<'_>,
+    giver: Giver,
     once: &[WrittenNumber],
     arm: &Arm,
     body: &Core,
 ) -> Result<Indices, AllocError>
-    ensures value { IfOk result (λ made. made ≡ walk.got (spec.written_walk common.now.place common.now.entry (around_of around.now)
+    ensures value { IfOk result (λ made. made ≡ walk.got (spec.written_walk common.now.place giver (around_of around.now)
         common.now.types.now once.now common.now.aim.now common.now.is_declared arm.now body.now) (walk.seen walking.old)) }
-    ensures walked { OnOk result (walk.seen walking.new ≡ walk.run (spec.written_walk common.now.place common.now.entry (around_of around.now)
+    ensures walked { OnOk result (walk.seen walking.new ≡ walk.run (spec.written_walk common.now.place giver (around_of around.now)
         common.now.types.now once.now common.now.aim.now common.now.is_declared arm.now body.now) (walk.seen walking.old)) }
 {
     if common.is_declared {
-        return walk_clause(alloc, walking, around, common, once, arm, body);
+        return walk_clause(alloc, walking, around, common, giver, once, arm, body);
     }
     match bare_arm(alloc, arm)? {
-        None => walk_clause(alloc, walking, around, common, once, arm, body),
-        Some(bare) => walk_clause(alloc, walking, around, common, once, &bare, body),
+        None => walk_clause(alloc, walking, around, common, giver, once, arm, body),
+        Some(bare) => walk_clause(alloc, walking, around, common, giver, once, &bare, body),
     }
 }
 
@@ -323,15 +279,16 @@ fn walk_arms(
     arms: &[Arm],
     bodies: &[Core],
 ) -> Result<(), AllocError>
-    ensures { OnOk result (walk.seen walking.new ≡ walk.run (spec.clauses_walk common.now.place common.now.entry (around_of around.now)
-        common.now.types.now once.now common.now.aim.now common.now.is_declared arms.now bodies.now) (walk.seen walking.old)) }
+    ensures { OnOk result (walk.seen walking.new ≡ walk.run (spec.clauses_walk common.now.place common.now.number
+        (around_of around.now) common.now.types.now once.now common.now.aim.now common.now.is_declared arms.now bodies.now) (walk.seen walking.old)) }
 {
     let count = lesser(arms.len(), bodies.len());
     for at in 0..count {
         let arm = &arms[at];
         let body = &bodies[at];
         let due = due_at(at, once);
-        walk_written(alloc, walking, around, common, due, arm, body)?;
+        let giver = Giver::Arm(common.number, arms.len() - at - 1);
+        walk_written(alloc, walking, around, common, giver, due, arm, body)?;
     }
     let all = are_both(arms.len(), bodies.len(), count);
     end_clauses(alloc, walking, common.place, all)
@@ -341,7 +298,6 @@ fn walk_arms(
 pub fn walk_clauses(
     alloc: Global,
     walking: &mut Walking,
-    entry: u32,
     around: &Around<'_>,
     types: &[Typ],
     once: &[WrittenNumber],
@@ -349,12 +305,12 @@ pub fn walk_clauses(
     is_declared: bool,
     core: &Core,
 ) -> Result<(), AllocError>
-    ensures { OnOk result (walk.seen walking.new ≡ walk.run (spec.clauses_of (Some entry) (around_of around.now) types.now once.now aim.now is_declared
+    ensures { OnOk result (walk.seen walking.new ≡ walk.run (spec.clauses_of (around_of around.now) types.now once.now aim.now is_declared
         core.now) (walk.seen walking.old)) }
 {
     let common = Common {
         place: core.place,
-        entry: Some(entry),
+        number: core.number,
         types,
         aim,
         is_declared,

@@ -168,7 +168,6 @@ pub fn walk_function(
     walk_clauses(
         alloc,
         walking,
-        function.entry,
         &inner,
         function.parameters.as_slice(),
         function.numbers.as_slice(),
@@ -208,7 +207,6 @@ pub fn walk_measure(
     walk_clauses(
         alloc,
         walking,
-        function.entry,
         &inner,
         function.parameters.as_slice(),
         &[],

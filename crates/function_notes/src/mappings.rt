@@ -9,7 +9,7 @@ use crate::clauses::{Common, end_clauses, lesser, walk_clause};
 use call_arguments::Aim;
 use pattern_leaves::Around;
 use sail_base::{Items, Place};
-use sail_core::{Arm, Core, Direction, Kind};
+use sail_core::{Arm, Core, Direction, Giver, Kind};
 use std::alloc::{AllocError, Global};
 use type_arguments::copy_typ;
 use value_indices::{Reading, Walking};
@@ -22,18 +22,19 @@ struct Side<'a> {
     bodies: &'a [Core],
 }
 
-/// A clause of a direction. The one error is want of memory, also of numbers for variables.
+/// A clause of a direction, with so many behind it. The one error is want of memory, also of numbers for variables.
 fn walk_direction(
     alloc: Global,
     walking: &mut Walking,
     place: Place,
     around: &Around<'_>,
     direction: &Direction,
+    behind: usize,
     arm: &Arm,
     body: &Core,
 ) -> Result<(), AllocError>
-    ensures { OnOk result (walk.seen walking.new ≡ walk.run (spec.direction_walk place (around_of around.now) direction.now arm.now body.now)
-        (walk.seen walking.old)) }
+    ensures { OnOk result (walk.seen walking.new ≡ walk.run (spec.direction_walk place (around_of around.now) direction.now behind arm.now
+        body.now) (walk.seen walking.old)) }
 {
     let typ = copy_typ(alloc, &direction.result)?;
     let aim = Aim::due(Reading::Of(typ, Items::new(alloc), Items::new(alloc)));
@@ -41,12 +42,13 @@ fn walk_direction(
     types.push(copy_typ(alloc, &direction.parameter)?)?;
     let common = Common {
         place,
-        entry: None,
+        number: direction.body.number,
         types: types.as_slice(),
         aim: &aim,
         is_declared: true,
     };
-    walk_clause(alloc, walking, around, &common, &[], arm, body)?;
+    let giver = Giver::Arm(direction.body.number, behind);
+    walk_clause(alloc, walking, around, &common, giver, &[], arm, body)?;
     Ok(())
 }
 
@@ -101,15 +103,27 @@ fn walk_both(
     for at in 0..count {
         let arm = &arms[at];
         let body = &bodies[at];
-        walk_direction(alloc, walking, place, around, forwards.direction, arm, body)?;
+        let left = arms.len() - at - 1;
+        walk_direction(
+            alloc,
+            walking,
+            place,
+            around,
+            forwards.direction,
+            left,
+            arm,
+            body,
+        )?;
         let back = &backs[at];
         let given = &givens[at];
+        let before = backs.len() - at - 1;
         walk_direction(
             alloc,
             walking,
             place,
             around,
             backwards.direction,
+            before,
             back,
             given,
         )?;

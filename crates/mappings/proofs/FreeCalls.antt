@@ -5,7 +5,6 @@ use Rattle.std.proofs.lemmas.Option.{slice_get-map}
 use Rattle.std.specs.List.{list_all}
 use Rattle.sail_base.specs.declared.place.Place.{Place}
 use Rattle.sail_types.specs.declared.values.Value.{Value}
-use Rattle.sail_types.specs.declared.values.Value.TheVariants as V
 use Rattle.model_state.specs.declared.cause.Cause.TheVariants.{MatchFailure}
 use Rattle.sail_core.specs.declared.fragments.Fragment.TheVariants as G
 use Rattle.sail_core.specs.declared.tree.Kind.TheVariants as K
@@ -162,7 +161,7 @@ module _ {X : Type 0} (s : Setting X) (keeps : KeepsParts s.sizing)
   entering_free i f awaited vs p q h = λ j.
       needs (givens_of (length f.variables) f.parameters vs) then λ nu. if_so
       (needs (s.sizing.enters i (place_of awaited) nu vs)
-      then λ xs. framed ((s.sizing.function i (place_of awaited) nu).note f.entry (V.Tuple vs) then λ t. h nu xs j))
+      then λ xs. framed (h nu xs j))
       stuck
       (as_awaited awaited nu)
 

@@ -1,7 +1,8 @@
 -- A core without mappings means what the older one means, once directions give options.
-use Rattle.std.proofs.Common.{◌≡◌, ℕ, Bool, true, ◌&&◌, List, [], ◌∷◌, ◌++◌, map, take, drop, Option, Some, None, option_map, refl, sym, ap, subst}
+use Rattle.std.proofs.Common.{◌≡◌, ℕ, Bool, true, ◌&&◌, List, [], ◌∷◌, ◌++◌, length, map, take, drop, Option, Some, None, option_map, refl, sym, ap, subst}
 use Rattle.std.proofs.Common.{◌∙◌, true≢false}
 use Rattle.std.specs.List.{list_all}
+use Rattle.std.proofs.lemmas.List.{length-map}
 use Rattle.sail_base.specs.declared.place.Place.{Place}
 use Rattle.model_state.specs.declared.cause.Cause.TheVariants.{MatchFailure}
 use Rattle.sail_core.specs.declared.fragments.Fragment.TheVariants as G
@@ -12,6 +13,8 @@ use Rattle.sail_core.specs.declared.targets.TargetKind.TheVariants as T
 use Rattle.sail_core.specs.declared.targets.Target.{Target, roll-Target, fold-roll-Target, map-Target, ind-Target}
 use Rattle.sail_core.specs.declared.tree.Callee.{Callee}
 use Rattle.sail_core.specs.declared.tree.Callee.TheVariants as C
+use Rattle.sail_core.specs.declared.tree.Giver.{Giver}
+use Rattle.sail_core.specs.declared.tree.Giver.TheVariants as Gives
 use Rattle.sail_core.specs.declared.tree.Statement.{Statement}
 use Rattle.sail_core.specs.declared.tree.Statement.TheVariants as S
 use Rattle.sail_core.specs.declared.tree.Kind.{Kind}
@@ -20,7 +23,7 @@ use Rattle.sail_core.specs.declared.tree.Core.{Core, roll-Core, fold-roll-Core, 
 use Rattle.sail_core.specs.Run.{Run, falls, stops, throws, in_turn, tick, caught, within, local, ◌then◌}
 use Rattle.sail_core.specs.Making.{Making, World, made}
 use Rattle.sail_core.specs.Targets.{called, Spot, Spotting, asked, call_spot, target_meaning, spotting, spotted, assigned}
-use Rattle.sail_core.specs.Meaning.{or_then, arm_taken, first_of, let_in, tried, met_at, block, kind_meaning, meaning}
+use Rattle.sail_core.specs.Meaning.{or_then, arm_taken, first_of, let_in, tried, met_at, block, kind_meaning, meaning, names_noted}
 use Rattle.sail_core.specs.Program.{Ways}
 use Rattle.sail_core.specs.Nodes.{node}
 use Rattle.sail_core.specs.Fragments.{all_true, arm_in, callee_in, caller_in, target_kind_in, target_in, statement_in, kind_in, core_in}
@@ -34,44 +37,54 @@ module _ {X : Type 0} (z : Making X) (w : World X) (ways : Ways X) (options : Gi
 
   -- ---- arms
 
-  taken_free : (arm : Arm) (body : Run X X) (xs : List X) → arm_in G.Resolved arm ≡ true
-      → arm_taken z free (free_arm arm) body xs ≡ arm_taken z w arm body xs
-  taken_free arm body xs h = λ i. arm_free z w ways options arm xs h i then λ found. within found body
+  -- as many arms and statements stand behind one as before
+  as_many : {A B : Type 0} (k : ℕ) (f : A → B) (xs : List A) → Gives.Arm k (length (map f xs)) ≡ Gives.Arm k (length xs)
+  as_many k f xs = λ i. Gives.Arm k (length-map xs f i)
 
-  first_free : (arms : List Arm) (bodies : List (Run X X)) (none : Run X X) (xs : List X) → list_all (arm_in G.Resolved) arms ≡ true
-      → first_of z free (map free_arm arms) bodies none xs ≡ first_of z w arms bodies none xs
-  first_free [] [] none xs h = refl
-  first_free [] (body ∷ bodies) none xs h = refl
-  first_free (arm ∷ arms) [] none xs h = refl
-  first_free (arm ∷ arms) (body ∷ bodies) none xs h =
+  taken_free : (g o : Giver) → g ≡ o → (arm : Arm) (body : Run X X) (xs : List X) → arm_in G.Resolved arm ≡ true
+      → arm_taken z free g (free_arm arm) body xs ≡ arm_taken z w o arm body xs
+  taken_free g o same arm body xs h =
+      λ i. arm_free z w ways options arm xs h i then λ found. names_noted z (same i) xs found then λ t. within found body
+
+  first_free : (k : ℕ) (arms : List Arm) (bodies : List (Run X X)) (none : Run X X) (xs : List X) → list_all (arm_in G.Resolved) arms ≡ true
+      → first_of z free k (map free_arm arms) bodies none xs ≡ first_of z w k arms bodies none xs
+  first_free k [] [] none xs h = refl
+  first_free k [] (body ∷ bodies) none xs h = refl
+  first_free k (arm ∷ arms) [] none xs h = refl
+  first_free k (arm ∷ arms) (body ∷ bodies) none xs h =
       let b : (arm_in G.Resolved arm ≡ true) × (list_all (arm_in G.Resolved) arms ≡ true) = both_true (arm_in G.Resolved arm)
       (list_all (arm_in G.Resolved) arms) h in
-      λ i. or_then z (z.inside (taken_free arm body xs b.0 i)) (first_free arms bodies none xs b.1 i)
+      λ i. or_then z (z.inside (taken_free (Gives.Arm k (length (map free_arm arms))) (Gives.Arm k (length arms)) (as_many k free_arm arms) arm body xs b.0 i))
+      (first_free k arms bodies none xs b.1 i)
 
-  let_free : (place : Place) (arm : Arm) (x : X) (body : Run X X) → arm_in G.Resolved arm ≡ true
-      → let_in z free place (free_arm arm) x body ≡ let_in z w place arm x body
-  let_free place arm x body h = λ i. or_then z (taken_free arm body (x ∷ []) h i) (stops (MatchFailure place))
+  let_free : (g o : Giver) → g ≡ o → (place : Place) (arm : Arm) (x : X) (body : Run X X) → arm_in G.Resolved arm ≡ true
+      → let_in z free g place (free_arm arm) x body ≡ let_in z w o place arm x body
+  let_free g o same place arm x body h = λ i. or_then z (taken_free g o same arm body (x ∷ []) h i) (stops (MatchFailure place))
 
   tried_free : (k : ℕ) (arms : List Arm) (bodies : List (Run X X)) (piece : Run X X) → list_all (arm_in G.Resolved) arms ≡ true
       → tried z free k (map free_arm arms) bodies piece ≡ tried z w k arms bodies piece
   tried_free k arms bodies piece h = λ i now.
-      caught (z.inside piece now) (λ v after. (made z k [] v then λ x. first_free arms bodies (throws v) (x ∷ []) h i) (z.back now after))
+      caught (z.inside piece now) (λ v after. (made z k [] v then λ x. first_free k arms bodies (throws v) (x ∷ []) h i) (z.back now after))
 
-  block_free : (ss : List Statement) (parts : List (Run X X)) → list_all (statement_in G.Resolved) ss ≡ true
-      → block z free (map free_statement ss) parts ≡ block z w ss parts
-  block_free [] [] h = refl
-  block_free [] (value ∷ []) h = refl
-  block_free [] (a ∷ b ∷ parts) h = refl
-  block_free (S.Evaluate ∷ ss) [] h = refl
-  block_free (S.Define place arm ∷ ss) [] h = refl
-  block_free (S.Declare name written ∷ ss) [] h = refl
-  block_free (S.Evaluate ∷ ss) (a ∷ parts) h = λ i. a then λ x. block_free ss parts h i
-  block_free (S.Define place arm ∷ ss) (a ∷ parts) h =
+  block_free : (k : ℕ) (ss : List Statement) (parts : List (Run X X)) → list_all (statement_in G.Resolved) ss ≡ true
+      → block z free k (map free_statement ss) parts ≡ block z w k ss parts
+  block_free k [] [] h = refl
+  block_free k [] (value ∷ []) h = refl
+  block_free k [] (a ∷ b ∷ parts) h = refl
+  block_free k (S.Evaluate ∷ ss) [] h = refl
+  block_free k (S.Define place arm ∷ ss) [] h = refl
+  block_free k (S.Declare name written ∷ ss) [] h = refl
+  block_free k (S.Evaluate ∷ ss) (a ∷ parts) h = λ i. a then λ x. block_free k ss parts h i
+  block_free k (S.Define place arm ∷ ss) (a ∷ parts) h =
       let b : (arm_in G.Resolved arm ≡ true) × (list_all (statement_in G.Resolved) ss ≡ true) = both_true (arm_in G.Resolved arm)
       (list_all (statement_in G.Resolved) ss) h in
-      then_same a (λ x. let_in z free place (free_arm arm) x (block z free (map free_statement ss) parts)) (λ x. let_in z w place arm x (block z w ss parts))
-      (λ x. ap (let_in z free place (free_arm arm) x) (block_free ss parts b.1) ∙ let_free place arm x (block z w ss parts) b.0)
-  block_free (S.Declare name written ∷ ss) (a ∷ parts) h = λ i. a then λ x. within (local name x ∷ []) (block_free ss parts h i)
+      let before : Giver = Gives.Arm k (length (map free_statement ss)) in
+      let now : Giver = Gives.Arm k (length ss) in
+      then_same a (λ x. let_in z free before place (free_arm arm) x (block z free k (map free_statement ss) parts))
+      (λ x. let_in z w now place arm x (block z w k ss parts))
+      (λ x. ap (let_in z free before place (free_arm arm) x) (block_free k ss parts b.1)
+      ∙ let_free before now (as_many k free_statement ss) place arm x (block z w k ss parts) b.0)
+  block_free k (S.Declare name written ∷ ss) (a ∷ parts) h = λ i. a then λ x. within (local name x ∷ []) (block_free k ss parts h i)
 
   -- ---- calls
 
@@ -155,15 +168,16 @@ module _ {X : Type 0} (z : Making X) (w : World X) (ways : Ways X) (options : Gi
   kind_free place k (K.Call callee) args h =
       then_same (in_turn args) (called z free place k (free_callee callee)) (called z w place k callee) (λ xs. called_free place k callee xs h)
   kind_free place k (K.Assign targets) parts h = ap (λ ts. assigned ts parts) (targets_free targets h)
-  kind_free place k (K.Block statements) parts h = block_free statements parts h
+  kind_free place k (K.Block statements) parts h = block_free k statements parts h
   kind_free place k (K.Let arm) (a ∷ b ∷ []) h =
-      then_same a (λ x. let_in z free place (free_arm arm) x b) (λ x. let_in z w place arm x b) (λ x. let_free place arm x b h)
+      then_same a (λ x. let_in z free (Gives.Arm k 0) place (free_arm arm) x b) (λ x. let_in z w (Gives.Arm k 0) place arm x b)
+      (λ x. let_free (Gives.Arm k 0) (Gives.Arm k 0) refl place arm x b h)
   kind_free place k (K.Match arms shape) [] h = refl
   kind_free place k (K.Match arms shape) (a ∷ bodies) h =
-      λ i. met_at z k (a then λ x. first_free arms bodies (stops (MatchFailure place)) (x ∷ []) h i)
+      λ i. met_at z k (a then λ x. first_free k arms bodies (stops (MatchFailure place)) (x ∷ []) h i)
   kind_free place k (K.Try arms shape) [] h = refl
   kind_free place k (K.Try arms shape) (a ∷ bodies) h = ap (met_at z k) (tried_free k arms bodies a h)
-  kind_free place k (K.Clauses arms) parts h = first_free arms parts falls w.arguments h
+  kind_free place k (K.Clauses arms) parts h = first_free k arms parts falls w.arguments h
   kind_free place k (K.Optional t) parts h = absurd (true≢false (sym h))
   kind_free place k kind parts h = refl
 

@@ -93,7 +93,7 @@ module _ {X : Type 0} (s : Setting X) where
   entering_flat i f awaited vs p q h = λ j.
       needs (givens_of (length f.variables) f.parameters vs) then λ nu. if_so
       (needs (s.sizing.enters i (place_of awaited) nu vs)
-      then λ xs. framed ((s.sizing.function i (place_of awaited) nu).note f.entry (V.Tuple vs) then λ t. h nu xs j))
+      then λ xs. framed (h nu xs j))
       stuck
       (as_awaited awaited nu)
 

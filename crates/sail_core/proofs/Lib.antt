@@ -1,4 +1,4 @@
-mod Numbering
+pub mod Numbering
 mod Nests
 mod Growth
 mod SteadyParts

@@ -62,7 +62,8 @@ pub met_plainly : (k : ℕ) (ways : Run Value Value) → met_at plainly k ways �
 met_plainly k ways = then_gives ways
 
 pub guards_come_later : GuardsComeLater
-guards_come_later w arm arms body bodies none xs h = λ i now. or_so (goes_on (h i now) (λ found. within found body)) (first_of plainly w arms bodies none xs)
+guards_come_later w k arm arms body bodies none xs h =
+    λ i now. or_so (goes_on (h i now) (λ found. within found body)) (first_of plainly w k arms bodies none xs)
 
 -- a condition that is false leads to the second of two pieces
 not_so : (condition a b : Run Value Value) (now after : Now Value) → condition now ≡ R.Gives (V.Truth false) after

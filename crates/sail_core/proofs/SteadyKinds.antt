@@ -1,5 +1,5 @@
 -- Each kind of node is steady over steady parts, and so is each core.
-use Rattle.std.proofs.Common.{ℕ, zero, suc, nat_lt, Bool, true, false, List, [], ◌∷◌, ◌++◌, map, slice_get, Option, Some, None, ℤ, pos, int_le}
+use Rattle.std.proofs.Common.{ℕ, zero, suc, nat_lt, Bool, true, false, List, [], ◌∷◌, ◌++◌, length, map, slice_get, Option, Some, None, ℤ, pos, int_le}
 use Rattle.std.proofs.Common.{if◌then◌else◌, refl, sym, subst}
 use Rattle.sail_base.specs.declared.place.Place.{Place}
 use Rattle.sail_types.specs.declared.values.Value.{Value}
@@ -10,6 +10,8 @@ use Rattle.sail_core.specs.declared.targets.Suffix.{Suffix}
 use Rattle.sail_core.specs.declared.targets.Way.{Way}
 use Rattle.sail_core.specs.declared.targets.Way.TheVariants as Y
 use Rattle.sail_core.specs.declared.tree.Counting.{Counting}
+use Rattle.sail_core.specs.declared.tree.Giver.{Giver}
+use Rattle.sail_core.specs.declared.tree.Giver.TheVariants as Gives
 use Rattle.sail_core.specs.declared.tree.Statement.{Statement}
 use Rattle.sail_core.specs.declared.tree.Statement.TheVariants as S
 use Rattle.sail_core.specs.declared.tree.Kind.{Kind}
@@ -47,43 +49,44 @@ met_steady k ways h = then_steady ways (λ x. made plainly k (V.Unit ∷ []) x) 
 -- ---- arms
 
 module _ (w : World Value) (s : SteadyWorld w) where
-  taken_steady : (arm : Arm) (body : Run Value Value) (xs : List Value) → Steady body → Steady (arm_taken plainly w arm body xs)
-  taken_steady arm body xs h = then_steady (arm_meaning plainly w arm xs) (λ found. within found body) (arm_steady w s arm xs)
+  taken_steady : (g : Giver) (arm : Arm) (body : Run Value Value) (xs : List Value) → Steady body → Steady (arm_taken plainly w g arm body xs)
+  taken_steady g arm body xs h = then_steady (arm_meaning plainly w arm xs) (λ found. within found body) (arm_steady w s arm xs)
       (λ found. within_steady found body h)
 
-  pub first_steady : (arms : List Arm) (bodies : List (Run Value Value)) → AllSteady bodies → (none : Run Value Value) → Steady none → (xs : List Value)
-      → Steady (first_of plainly w arms bodies none xs)
-  first_steady [] [] h none hn xs = hn
-  first_steady [] (body ∷ bodies) h none hn xs = λ now. tt
-  first_steady (arm ∷ arms) [] h none hn xs = λ now. tt
-  first_steady (arm ∷ arms) (body ∷ bodies) h none hn xs =
-      or_steady (arm_taken plainly w arm body xs) (first_of plainly w arms bodies none xs) (taken_steady arm body xs h.0)
-      (first_steady arms bodies h.1 none hn xs)
+  pub first_steady : (k : ℕ) (arms : List Arm) (bodies : List (Run Value Value)) → AllSteady bodies → (none : Run Value Value) → Steady none → (xs : List Value)
+      → Steady (first_of plainly w k arms bodies none xs)
+  first_steady k [] [] h none hn xs = hn
+  first_steady k [] (body ∷ bodies) h none hn xs = λ now. tt
+  first_steady k (arm ∷ arms) [] h none hn xs = λ now. tt
+  first_steady k (arm ∷ arms) (body ∷ bodies) h none hn xs =
+      or_steady (arm_taken plainly w (Gives.Arm k (length arms)) arm body xs) (first_of plainly w k arms bodies none xs)
+      (taken_steady (Gives.Arm k (length arms)) arm body xs h.0) (first_steady k arms bodies h.1 none hn xs)
 
-  let_steady : (p : Place) (arm : Arm) (x : Value) (body : Run Value Value) → Steady body → Steady (let_in plainly w p arm x body)
-  let_steady p arm x body h = or_steady (arm_taken plainly w arm body (x ∷ [])) (stops (MatchFailure p)) (taken_steady arm body (x ∷ []) h)
+  let_steady : (g : Giver) (p : Place) (arm : Arm) (x : Value) (body : Run Value Value) → Steady body → Steady (let_in plainly w g p arm x body)
+  let_steady g p arm x body h = or_steady (arm_taken plainly w g arm body (x ∷ [])) (stops (MatchFailure p)) (taken_steady g arm body (x ∷ []) h)
       (stops_steady Value (MatchFailure p) refl)
 
   tried_steady : (k : ℕ) (arms : List Arm) (bodies : List (Run Value Value)) → AllSteady bodies → (piece : Run Value Value) → Steady piece
       → Steady (tried plainly w k arms bodies piece)
   tried_steady k arms bodies h piece hp now =
-      caught_later now (piece now) (λ v. first_of plainly w arms bodies (throws v) (v ∷ [])) (hp now)
-      (λ v. first_steady arms bodies h (throws v) (λ after. at_once after) (v ∷ []))
+      caught_later now (piece now) (λ v. first_of plainly w k arms bodies (throws v) (v ∷ [])) (hp now)
+      (λ v. first_steady k arms bodies h (throws v) (λ after. at_once after) (v ∷ []))
 
-  block_steady : (ss : List Statement) (parts : List (Run Value Value)) → AllSteady parts → Steady (block plainly w ss parts)
-  block_steady [] [] h = λ now. at_once now
-  block_steady [] (value ∷ []) h = h.0
-  block_steady [] (a ∷ b ∷ parts) h = λ now. tt
-  block_steady (S.Evaluate ∷ ss) [] h = λ now. tt
-  block_steady (S.Define p arm ∷ ss) [] h = λ now. tt
-  block_steady (S.Declare name t ∷ ss) [] h = λ now. tt
-  block_steady (S.Evaluate ∷ ss) (a ∷ parts) h = then_steady a (λ x. block plainly w ss parts) h.0 (λ x. block_steady ss parts h.1)
-  block_steady (S.Define p arm ∷ ss) (a ∷ parts) h =
-      then_steady a (λ x. let_in plainly w p arm x (block plainly w ss parts)) h.0 (λ x. let_steady p arm x (block plainly w ss parts)
-      (block_steady ss parts h.1))
-  block_steady (S.Declare name t ∷ ss) (a ∷ parts) h =
-      then_steady a (λ x. within (local name x ∷ []) (block plainly w ss parts)) h.0
-      (λ x. within_steady (local name x ∷ []) (block plainly w ss parts) (block_steady ss parts h.1))
+  block_steady : (k : ℕ) (ss : List Statement) (parts : List (Run Value Value)) → AllSteady parts → Steady (block plainly w k ss parts)
+  block_steady k [] [] h = λ now. at_once now
+  block_steady k [] (value ∷ []) h = h.0
+  block_steady k [] (a ∷ b ∷ parts) h = λ now. tt
+  block_steady k (S.Evaluate ∷ ss) [] h = λ now. tt
+  block_steady k (S.Define p arm ∷ ss) [] h = λ now. tt
+  block_steady k (S.Declare name t ∷ ss) [] h = λ now. tt
+  block_steady k (S.Evaluate ∷ ss) (a ∷ parts) h = then_steady a (λ x. block plainly w k ss parts) h.0 (λ x. block_steady k ss parts h.1)
+  block_steady k (S.Define p arm ∷ ss) (a ∷ parts) h =
+      then_steady a (λ x. let_in plainly w (Gives.Arm k (length ss)) p arm x (block plainly w k ss parts)) h.0
+      (λ x. let_steady (Gives.Arm k (length ss)) p arm x (block plainly w k ss parts)
+      (block_steady k ss parts h.1))
+  block_steady k (S.Declare name t ∷ ss) (a ∷ parts) h =
+      then_steady a (λ x. within (local name x ∷ []) (block plainly w k ss parts)) h.0
+      (λ x. within_steady (local name x ∷ []) (block plainly w k ss parts) (block_steady k ss parts h.1))
 
 -- ---- loops
 
@@ -222,18 +225,19 @@ module _ (w : World Value) (s : SteadyWorld w) (p : Place) (k : ℕ) where
   kind_steady (K.Constraint c numbers) [] h = then_steady (needs (known_truth w.numbers c)) (λ b. gives (V.Truth b)) (needs_steady (known_truth w.numbers c))
       (λ b. gives_steady (V.Truth b))
   kind_steady (K.Assign targets) parts h = assigned_steady (map (spotting plainly w) targets) (targets_steady w s targets) parts h
-  kind_steady (K.Block statements) parts h = block_steady w s statements parts h
-  kind_steady (K.Let arm) (a ∷ b ∷ []) h = then_steady a (λ x. let_in plainly w p arm x b) h.0 (λ x. let_steady w s p arm x b h.1.0)
+  kind_steady (K.Block statements) parts h = block_steady w s k statements parts h
+  kind_steady (K.Let arm) (a ∷ b ∷ []) h =
+      then_steady a (λ x. let_in plainly w (Gives.Arm k 0) p arm x b) h.0 (λ x. let_steady w s (Gives.Arm k 0) p arm x b h.1.0)
   kind_steady (K.Var name t) (a ∷ b ∷ []) h = then_steady a (λ x. within (local name x ∷ []) b) h.0 (λ x. within_steady (local name x ∷ []) b h.1.0)
   kind_steady (K.If shape) (a ∷ b ∷ []) h = then_steady a _ h.0 (λ x. choice_steady x b (gives V.Unit) h.1.0 (gives_steady V.Unit))
   kind_steady (K.If shape) (a ∷ b ∷ c ∷ []) h =
       met_steady k (a then λ x. truth plainly x then if_so b c) (then_steady a _ h.0 (λ x. choice_steady x b c h.1.0 h.1.1.0))
   kind_steady (K.Match arms shape) (a ∷ bodies) h =
-      met_steady k (a then λ x. first_of plainly w arms bodies (stops (MatchFailure p)) (x ∷ []))
-      (then_steady a _ h.0 (λ x. first_steady w s arms bodies h.1 (stops (MatchFailure p)) (stops_steady Value (MatchFailure p) refl) (x ∷ [])))
+      met_steady k (a then λ x. first_of plainly w k arms bodies (stops (MatchFailure p)) (x ∷ []))
+      (then_steady a _ h.0 (λ x. first_steady w s k arms bodies h.1 (stops (MatchFailure p)) (stops_steady Value (MatchFailure p) refl) (x ∷ [])))
   kind_steady (K.Try arms shape) (a ∷ bodies) h =
       met_steady k (tried plainly w k arms bodies a) (tried_steady w s k arms bodies h.1 a h.0)
-  kind_steady (K.Clauses arms) bodies h = first_steady w s arms bodies h falls (λ now. at_once now) w.arguments
+  kind_steady (K.Clauses arms) bodies h = first_steady w s k arms bodies h falls (λ now. at_once now) w.arguments
   kind_steady K.When (a ∷ b ∷ []) h = then_steady a _ h.0 (λ x. choice_steady x b falls h.1.0 (λ now. at_once now))
   kind_steady (K.Foreach name way) (a ∷ b ∷ c ∷ body ∷ []) h =
       then_steady a _ h.0 (λ x. then_steady (integer plainly x) _ (integer_steady x) (λ from.

@@ -6,6 +6,8 @@ use Rattle.sail_types.specs.declared.types.Typ.{Typ}
 use Rattle.sail_types.specs.declared.types.Typ.TheVariants as T
 use Rattle.sail_types.specs.declared.values.Value.{Value}
 use Rattle.sail_types.specs.declared.values.Value.TheVariants as V
+use Rattle.sail_core.specs.declared.tree.Giver.{Giver}
+use Rattle.sail_core.specs.declared.tree.Giver.TheVariants as Gives
 use Rattle.sail_core.specs.Run.{Now, Run, gives, stuck, needs, if_so, ◌then◌}
 use Rattle.sail_core.specs.Values.{int_typ, integer_in, truth_in, natural_of}
 use Rattle.sail_core.specs.Numbers.{Givens, Awaited}
@@ -31,9 +33,10 @@ pub record Making (X : Type 0) : Type 0 where
   pub fixed : Typ → Value → X
   -- a part of something
   pub part : Part → X → Value → X
-  -- what the node of this number makes of its operands: this value; and the numbers of opened variables that the value gives there
+  -- what the node of this number makes of its operands: this value; and the numbers of opened variables that a value gives, as that of a node, or as
+  -- those of an arm's names
   pub make : ℕ → List X → Value → Run X X
-  pub note : ℕ → Value → Run X (Unit {0})
+  pub note : Giver → Value → Run X (Unit {0})
   -- the instance of a function that the node of this number calls
   pub calls : ℕ → List X → Run X Awaited
   -- a piece behind which nothing is opened that it opened; and a moment at which only that is opened which was at an earlier one
@@ -72,7 +75,7 @@ pub record World (X : Type 0) : Type 0 where
 
 -- the end of a node that makes a value
 abbrev pub made : {X : Type 0} → Making X → ℕ → List X → Value → Run X X
-made z k operands v = z.make k operands v then λ x. z.note k v then λ t. gives x
+made z k operands v = z.make k operands v then λ x. z.note (Gives.Node k) v then λ t. gives x
 
 -- `()`
 abbrev pub nothing : {X : Type 0} → Making X → X

@@ -1,5 +1,5 @@
 -- What a node of the core means: one case for each kind with its count of parts.
-use Rattle.std.specs.Prelude.{ℕ, zero, suc, nat_lt, ℤ, pos, ◌+ℤ◌, ◌-ℤ◌, int_le, Bool, List, [], ◌∷◌, ◌++◌, map}
+use Rattle.std.specs.Prelude.{ℕ, zero, suc, nat_lt, ℤ, pos, ◌+ℤ◌, ◌-ℤ◌, int_le, Bool, List, [], ◌∷◌, ◌++◌, length, map}
 use Rattle.std.specs.Prelude.{slice_get, Option, Some, None, if◌then◌else◌}
 use Rattle.sail_base.specs.declared.place.Place.{Place}
 use Rattle.sail_types.specs.declared.types.Typ.{Typ}
@@ -13,13 +13,15 @@ use Rattle.sail_core.specs.declared.targets.Way.{Way}
 use Rattle.sail_core.specs.declared.targets.Way.TheVariants as Y
 use Rattle.sail_core.specs.declared.tree.Counting.{Counting}
 use Rattle.sail_core.specs.declared.tree.Counting.TheVariants.{Up, Down}
+use Rattle.sail_core.specs.declared.tree.Giver.{Giver}
+use Rattle.sail_core.specs.declared.tree.Giver.TheVariants as Gives
 use Rattle.sail_core.specs.declared.tree.Statement.{Statement}
 use Rattle.sail_core.specs.declared.tree.Statement.TheVariants as S
 use Rattle.sail_core.specs.declared.tree.Kind.{Kind}
 use Rattle.sail_core.specs.declared.tree.Kind.TheVariants as K
 use Rattle.sail_core.specs.declared.tree.Core.{Core, fold-Core}
 use Rattle.sail_core.specs.Run.{Now, Run, gives, falls, stuck, stops, returns, throws, needs, if_so, in_turn, tick, caught, or_so}
-use Rattle.sail_core.specs.Run.{within, local, held_in, ◌then◌}
+use Rattle.sail_core.specs.Run.{Local, within, local, held_in, ◌then◌}
 use Rattle.sail_core.specs.Values.{tuple_of, vector_of, list_of, cons_of, with_of, literal_typ, literal_value, int_typ, Into, field_way, item_way, slice_way}
 use Rattle.sail_core.specs.Values.{struct_of}
 use Rattle.sail_core.specs.Numbers.{known, known_truth}
@@ -33,24 +35,33 @@ use Rattle.sail_core.specs.Targets.{called, variable_read, register_read, spotti
 abbrev pub or_then : {X : Type 0} → Making X → Run X X → Run X X → Run X X
 or_then z first next now = or_so (first now) (λ after. next (z.back now after))
 
--- a body under the names that its arm binds
-abbrev pub arm_taken : {X : Type 0} → Making X → World X → Arm → Run X X → List X → Run X X
-arm_taken z w arm body xs = arm_meaning z w arm xs then λ found. within found body
+-- what names hold
+abbrev pub held_by : {X : Type 0} → Local X → X
+held_by l = l.held
 
--- the first arm that is taken, its guard evaluated where its pattern matched; none, where no arm is
-abbrev pub first_of : {X : Type 0} → Making X → World X → List Arm → List (Run X X) → Run X X → List X → Run X X
-first_of z w [] [] none xs = none
-first_of z w (arm ∷ arms) (body ∷ bodies) none xs = or_then z (z.inside (arm_taken z w arm body xs)) (first_of z w arms bodies none xs)
-first_of z w arms bodies none xs = stuck
+-- the numbers that what an arm matches gives, and what its names hold, in order
+abbrev pub names_noted : {X : Type 0} → Making X → Giver → List X → List (Local X) → Run X (Unit {0})
+names_noted z g xs found = z.note g (V.Tuple (z.all (xs ++ map held_by found)))
+
+-- a body under the names that its arm binds
+abbrev pub arm_taken : {X : Type 0} → Making X → World X → Giver → Arm → Run X X → List X → Run X X
+arm_taken z w g arm body xs = arm_meaning z w arm xs then λ found. names_noted z g xs found then λ t. within found body
+
+-- the first arm of the node of a number that is taken, its guard evaluated where its pattern matched; none, where no arm is
+abbrev pub first_of : {X : Type 0} → Making X → World X → ℕ → List Arm → List (Run X X) → Run X X → List X → Run X X
+first_of z w k [] [] none xs = none
+first_of z w k (arm ∷ arms) (body ∷ bodies) none xs =
+    or_then z (z.inside (arm_taken z w (Gives.Arm k (length arms)) arm body xs)) (first_of z w k arms bodies none xs)
+first_of z w k arms bodies none xs = stuck
 
 -- what a pattern binds, in scope of a piece; the run stops at the place where it doesn't match
-abbrev pub let_in : {X : Type 0} → Making X → World X → Place → Arm → X → Run X X → Run X X
-let_in z w place arm x body = or_then z (arm_taken z w arm body (x ∷ [])) (stops (MatchFailure place))
+abbrev pub let_in : {X : Type 0} → Making X → World X → Giver → Place → Arm → X → Run X X → Run X X
+let_in z w g place arm x body = or_then z (arm_taken z w g arm body (x ∷ [])) (stops (MatchFailure place))
 
 -- what is thrown in a piece is matched; what no arm takes is thrown on
 abbrev pub tried : {X : Type 0} → Making X → World X → ℕ → List Arm → List (Run X X) → Run X X → Run X X
 tried z w k arms bodies piece now =
-    caught (z.inside piece now) (λ v after. (made z k [] v then λ x. first_of z w arms bodies (throws v) (x ∷ [])) (z.back now after))
+    caught (z.inside piece now) (λ v after. (made z k [] v then λ x. first_of z w k arms bodies (throws v) (x ∷ [])) (z.back now after))
 
 -- where ways meet: the value of the way that was taken is made anew, of `()`, by which a `try` tells it from what it catches
 abbrev pub met_at : {X : Type 0} → Making X → ℕ → Run X X → Run X X
@@ -58,14 +69,14 @@ met_at z k ways = ways then λ x. made z k (nothing z ∷ []) (z.val x)
 
 -- ---- blocks
 
--- statements, each with the rest of the block behind it
-abbrev pub block : {X : Type 0} → Making X → World X → List Statement → List (Run X X) → Run X X
-block z w [] [] = gives (nothing z)
-block z w [] (value ∷ []) = value
-block z w (S.Evaluate ∷ ss) (a ∷ parts) = a then λ x. block z w ss parts
-block z w (S.Define place arm ∷ ss) (a ∷ parts) = a then λ x. let_in z w place arm x (block z w ss parts)
-block z w (S.Declare name written ∷ ss) (a ∷ parts) = a then λ x. within (local name x ∷ []) (block z w ss parts)
-block z w ss parts = stuck
+-- statements of the block of a number, each with the rest of the block behind it
+abbrev pub block : {X : Type 0} → Making X → World X → ℕ → List Statement → List (Run X X) → Run X X
+block z w k [] [] = gives (nothing z)
+block z w k [] (value ∷ []) = value
+block z w k (S.Evaluate ∷ ss) (a ∷ parts) = a then λ x. block z w k ss parts
+block z w k (S.Define place arm ∷ ss) (a ∷ parts) = a then λ x. let_in z w (Gives.Arm k (length ss)) place arm x (block z w k ss parts)
+block z w k (S.Declare name written ∷ ss) (a ∷ parts) = a then λ x. within (local name x ∷ []) (block z w k ss parts)
+block z w k ss parts = stuck
 
 -- ---- loops: a turn is a tick, so there are no more turns than ticks; each begins with what was opened before the loop
 
@@ -187,15 +198,15 @@ kind_meaning z w place k K.WithSlice (a ∷ b ∷ c ∷ d ∷ []) =
 kind_meaning z w place k (K.SizeOf t numbers) [] = needs (known w.numbers t) then λ i. gives (z.fixed int_typ (V.Integer i))
 kind_meaning z w place k (K.Constraint c numbers) [] = needs (known_truth w.numbers c) then λ b. gives (z.fixed T.Bool (V.Truth b))
 kind_meaning z w place k (K.Assign targets) parts = assigned (map (spotting z w) targets) parts
-kind_meaning z w place k (K.Block statements) parts = block z w statements parts
-kind_meaning z w place k (K.Let arm) (a ∷ b ∷ []) = a then λ x. let_in z w place arm x b
+kind_meaning z w place k (K.Block statements) parts = block z w k statements parts
+kind_meaning z w place k (K.Let arm) (a ∷ b ∷ []) = a then λ x. let_in z w (Gives.Arm k 0) place arm x b
 kind_meaning z w place k (K.Var name written) (a ∷ b ∷ []) = a then λ x. within (local name x ∷ []) b
 kind_meaning z w place k (K.If shape) (a ∷ b ∷ []) = a then λ x. truth z x then if_so (z.inside b) (gives (nothing z))
 kind_meaning z w place k (K.If shape) (a ∷ b ∷ c ∷ []) = met_at z k (a then λ x. truth z x then if_so (z.inside b) (z.inside c))
 kind_meaning z w place k (K.Match arms shape) (a ∷ bodies) =
-    met_at z k (a then λ x. first_of z w arms bodies (stops (MatchFailure place)) (x ∷ []))
+    met_at z k (a then λ x. first_of z w k arms bodies (stops (MatchFailure place)) (x ∷ []))
 kind_meaning z w place k (K.Try arms shape) (a ∷ bodies) = met_at z k (tried z w k arms bodies a)
-kind_meaning z w place k (K.Clauses arms) bodies = first_of z w arms bodies falls w.arguments
+kind_meaning z w place k (K.Clauses arms) bodies = first_of z w k arms bodies falls w.arguments
 kind_meaning z w place k K.When (a ∷ b ∷ []) = a then λ x. truth z x then if_so b falls
 kind_meaning z w place k (K.Foreach name way) (a ∷ b ∷ c ∷ body ∷ []) =
     a then λ x. integer z x then λ from. b then λ y. integer z y then λ to. c then λ u. integer z u then λ by.

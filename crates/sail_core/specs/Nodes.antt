@@ -1,11 +1,13 @@
 -- Nodes, and the numbers of a definition's nodes.
-use Rattle.std.specs.Prelude.{◌≢◌, ℕ, List, [], ◌∷◌, ◌++◌, map, Option, Some, None}
+use Rattle.std.specs.Prelude.{◌≢◌, ℕ, nat_eq, Bool, false, ◌&&◌, List, [], ◌∷◌, ◌++◌, map, Option, Some, None}
 use Rattle.sail_base.specs.declared.place.Place.{Place}
 use Rattle.sail_core.specs.declared.targets.Suffix.{Suffix}
 use Rattle.sail_core.specs.declared.targets.Caller.{Caller}
 use Rattle.sail_core.specs.declared.targets.TargetKind.{TargetKind}
 use Rattle.sail_core.specs.declared.targets.TargetKind.TheVariants as T
 use Rattle.sail_core.specs.declared.targets.Target.{Target, fold-Target}
+use Rattle.sail_core.specs.declared.tree.Giver.{Giver}
+use Rattle.sail_core.specs.declared.tree.Giver.TheVariants as Gives
 use Rattle.sail_core.specs.declared.tree.Kind.{Kind}
 use Rattle.sail_core.specs.declared.tree.Kind.TheVariants as K
 use Rattle.sail_core.specs.declared.tree.Core.{Core, fold-Core, roll-Core}
@@ -52,6 +54,13 @@ is_new n (m ∷ ms) = (n ≢ m) × is_new n ms
 abbrev pub AllDiffer : List ℕ → Type 0
 AllDiffer [] = Unit {0}
 AllDiffer (n ∷ ns) = is_new n ns × AllDiffer ns
+
+-- ---- what gives numbers
+
+abbrev pub giver_eq : Giver → Giver → Bool
+giver_eq (Gives.Node k) (Gives.Node j) = nat_eq k j
+giver_eq (Gives.Arm k n) (Gives.Arm j m) = nat_eq k j && nat_eq n m
+giver_eq g h = false
 
 -- the same tree with other numbers
 abbrev pub renumbered : (ℕ → ℕ) → Core → Core

@@ -2,7 +2,6 @@
 use Rattle.std.specs.Prelude.{ℕ, zero, suc, nat_eq, nat_lt, List, [], ◌∷◌, length, slice_get, Option, Some, None, if◌then◌else◌}
 use Rattle.sail_base.specs.declared.place.Place.{Place}
 use Rattle.sail_types.specs.declared.values.Value.{Value}
-use Rattle.sail_types.specs.declared.values.Value.TheVariants as V
 use Rattle.model_state.specs.declared.cause.Cause.TheVariants.{MatchFailure, Measure, WorkLimit}
 use Rattle.sail_core.specs.declared.tree.Core.{Core}
 use Rattle.sail_core.specs.declared.model.Function.{Function}
@@ -121,8 +120,7 @@ abbrev pub entering : {X : Type 0} → Setting X → ℕ → Function → Awaite
 entering s i f awaited vs piece =
     needs (givens_of (length f.variables) f.parameters vs) then λ nu. if_so
     (needs (s.sizing.enters i (place_of awaited) nu vs)
-    then λ xs. framed ((s.sizing.function i (place_of awaited) nu).note f.entry (V.Tuple vs)
-    then λ t. piece (s.sizing.function i (place_of awaited) nu) nu xs))
+    then λ xs. framed (piece (s.sizing.function i (place_of awaited) nu) nu xs))
     stuck
     (as_awaited awaited nu)
 

@@ -36,9 +36,9 @@ AssignmentsRead = (w : World Value) (p : Place) (k r : ℕ) (i e : Run Value Val
 
 -- where a pattern doesn't match, its guard and body aren't looked at
 abbrev pub GuardsComeLater : Type 0
-GuardsComeLater = (w : World Value) (arm : Arm) (arms : List Arm) (body : Run Value Value) (bodies : List (Run Value Value)) (none : Run Value Value)
+GuardsComeLater = (w : World Value) (k : ℕ) (arm : Arm) (arms : List Arm) (body : Run Value Value) (bodies : List (Run Value Value)) (none : Run Value Value)
     (xs : List Value) → arm_meaning plainly w arm xs ≡ falls
-    → first_of plainly w (arm ∷ arms) (body ∷ bodies) none xs ≡ first_of plainly w arms bodies none xs
+    → first_of plainly w k (arm ∷ arms) (body ∷ bodies) none xs ≡ first_of plainly w k arms bodies none xs
 
 -- a `while` whose condition is false takes no tick, and its measure isn't looked at
 abbrev pub NoTurnNoTick : Type 0

@@ -20,5 +20,5 @@ pub use laws::{
 pub use model::{CoreModel, Direction, Function, Opening, OpeningKind, RegisterText};
 pub use patterns::{Arm, Form, Head, Literal, Pattern, Step};
 pub use targets::{Caller, Suffix, Target, TargetKind, Way};
-pub use tree::{Callee, Core, Counting, Kind, Statement};
+pub use tree::{Callee, Core, Counting, Giver, Kind, Statement};
 pub use written::{Role, Written, WrittenNumber};

@@ -20,6 +20,15 @@ pub enum Callee {
     Applies(u32),
 }
 
+/// What gives the numbers of opened variables.
+#[derive(Clone, Copy, PartialEq, Eq, Debug, Drop)]
+pub enum Giver {
+    /// The node of this number, by its value.
+    Node(u32),
+    /// An arm of the node of this number, by the values of its names, where so many arms or statements stand behind it.
+    Arm(u32, usize),
+}
+
 /// Which way a `foreach` counts.
 #[derive(Clone, Copy, PartialEq, Eq, Debug, Drop)]
 pub enum Counting {

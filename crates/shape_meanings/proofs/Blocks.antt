@@ -17,6 +17,7 @@ use Rattle.sail_core.specs.declared.tree.Core.{Core}
 use Rattle.sail_core.specs.Run.{Run, stops, goes_on, within, ◌then◌, ◌or_else◌}
 use Rattle.sail_core.specs.Making as Core
 use Rattle.sail_core.specs.Making.{plainly}
+use Rattle.sail_core.specs.declared.tree.Giver.TheVariants as Gives
 use Rattle.sail_core.specs.Meaning as Means
 use Rattle.sail_core.specs.Meaning.{core_meaning, arm_taken}
 use Rattle.sail_meaning.specs.World as Source
@@ -38,7 +39,7 @@ use Rattle.shape_meanings.proofs.Lets.{taken_agrees}
 -- ---- statements
 
 block_step : (w : Core.World Value) (s : CoreStatement) (ss : List CoreStatement) (a : Run Value Value) (parts : List (Run Value Value))
-    → Means.block plainly w (s ∷ ss) (a ∷ parts) ≡ stated_run w s a (Means.block plainly w ss parts)
+    → Means.block plainly w 0 (s ∷ ss) (a ∷ parts) ≡ stated_run w s a (Means.block plainly w 0 ss parts)
 block_step w T.Evaluate ss a parts = refl
 block_step w (T.Define place arm) ss a parts = refl
 block_step w (T.Declare name written) ss a parts = refl
@@ -63,16 +64,17 @@ define_is setting locals place p a m right pattern e t kc km rest registers c wc
     let failed : Piece Value = stops (Cause.MatchFailure place) in
     let r = then_agree (reach_of setting registers c slots) (Fits setting.types c found.shape) (Fits setting.types c t)
     (core_meaning wc found.core now) (m ws now)
-    (λ v. arm_taken plainly wc (A.Nested (looks.pattern ∷ [])) (kc wc) (v ∷ []) or_else failed)
+    (λ v. arm_taken plainly wc (Gives.Node 0) (A.Nested (looks.pattern ∷ [])) (kc wc) (v ∷ []) or_else failed)
     (λ v. (matching ws p v then λ names. within names (km ws)) or_else failed)
     ((right (wanted_by setting p) h2.0).runs registers c wc ws d slots seen now good)
     (λ v later fit good2.
-    or_agree (reach_of setting registers c slots) (Fits setting.types c t) (arm_taken plainly wc (A.Nested (looks.pattern ∷ [])) (kc wc) (v ∷ []) later)
+    or_agree (reach_of setting registers c slots) (Fits setting.types c t)
+    (arm_taken plainly wc (Gives.Node 0) (A.Nested (looks.pattern ∷ [])) (kc wc) (v ∷ []) later)
     ((matching ws p v then λ names. within names (km ws)) later) failed failed
     (taken_agrees setting locals found.shape t looks (λ w. matching w p) kc km q.0 q.1 registers c wc ws d slots seen
     (λ more seen2 here good3. rest registers c wc ws d more seen2 here good3) v fit later good2)
     (λ last good3. (refl, good3))) in (
-      ap (λ (x : Run Value Value). goes_on (x now) (λ v. arm_taken plainly wc (A.Nested (looks.pattern ∷ [])) (kc wc) (v ∷ []) or_else failed))
+      ap (λ (x : Run Value Value). goes_on (x now) (λ v. arm_taken plainly wc (Gives.Node 0) (A.Nested (looks.pattern ∷ [])) (kc wc) (v ∷ []) or_else failed))
           (cast_means wc found.core a.place) ∙ r.0,
       r.1,
     )
@@ -82,9 +84,9 @@ define_is setting locals place p a m right pattern e t kc km rest registers c wc
 pub steps_run : (ss : List StatementPart) (ms : List Statement) (setting : Setting) (locals : Locals) (t : Shape) (tail : List Core)
     (value : Option Source.Meaning)
     → StatementsAre setting locals ss ms → (blocked ss setting locals).faults ≡ []
-    → PairRuns setting (blocked ss setting locals).locals t (λ wc. Means.block plainly wc [] (map (core_meaning wc) tail)) (block [] value)
+    → PairRuns setting (blocked ss setting locals).locals t (λ wc. Means.block plainly wc 0 [] (map (core_meaning wc) tail)) (block [] value)
     → PairRuns setting locals t
-    (λ wc. Means.block plainly wc (blocked ss setting locals).statements (map (core_meaning wc) ((blocked ss setting locals).parts ++ tail))) (block ms value)
+    (λ wc. Means.block plainly wc 0 (blocked ss setting locals).statements (map (core_meaning wc) ((blocked ss setting locals).parts ++ tail))) (block ms value)
 steps_run [] [] setting locals t tail value are e last = last
 steps_run [] (m ∷ ms) setting locals t tail value are e last = absurd are
 steps_run (s ∷ ss) [] setting locals t tail value are e last = absurd are
@@ -93,7 +95,7 @@ steps_run (s ∷ ss) (m ∷ ms) setting locals t tail value are e last =
     let more : Blocked = blocked ss setting one.locals in
     let h = both_empty one.faults more.faults e in
     let rest = steps_run ss ms setting one.locals t tail value (are.1 h.0) h.1 last in
-    let r = are.0 h.0 t (λ wc. Means.block plainly wc more.statements (map (core_meaning wc) (more.parts ++ tail))) (block ms value) rest in
+    let r = are.0 h.0 t (λ wc. Means.block plainly wc 0 more.statements (map (core_meaning wc) (more.parts ++ tail))) (block ms value) rest in
     λ registers c wc ws d slots seen now good.
     let q = r registers c wc ws d slots seen now good in (
       ap (λ (x : Run Value Value). x now) (block_step wc one.statement more.statements (core_meaning wc one.part) (map (core_meaning wc)
@@ -119,7 +121,7 @@ block_right setting locals place ss value ms mv are right want e =
           (ap (λ (x : Run Value Value). x now) (unrolled wc place 0 (K.Block b.statements) (b.parts ++ found.core ∷ [])) ∙ q.0, q.1);
     }
 
-nothing_runs : (setting : Setting) (locals : Locals) → PairRuns setting locals V.Unit (λ wc. Means.block plainly wc [] []) (block [] None)
+nothing_runs : (setting : Setting) (locals : Locals) → PairRuns setting locals V.Unit (λ wc. Means.block plainly wc 0 [] []) (block [] None)
 nothing_runs setting locals registers c wc ws d slots seen now good =
     (refl, (form_has setting.types c W.Unit S.Unit Val.Unit V.Unit Val.rolls-Unit V.rolls-Unit refl, good))
 
@@ -135,6 +137,6 @@ unit_block_right setting locals place ss ms are want e =
     (λ t registers c wc ws d slots seen now good.
     let q = steps registers c wc ws d slots seen now good in (
       ap (λ (x : Run Value Value). x now) (unrolled wc place 0 (K.Block b.statements) b.parts)
-          ∙ ap (λ (ps : List Core). Means.block plainly wc b.statements (map (core_meaning wc) ps) now) (sym (append-nil b.parts)) ∙ q.0,
+          ∙ ap (λ (ps : List Core). Means.block plainly wc 0 b.statements (map (core_meaning wc) ps) now) (sym (append-nil b.parts)) ∙ q.0,
       q.1,
     )))

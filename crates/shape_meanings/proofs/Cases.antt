@@ -14,6 +14,7 @@ use Rattle.sail_core.specs.Run.{Now, Run, falls, stops, needs, if_so, goes_on, w
 use Rattle.sail_core.specs.Values.{truth_in}
 use Rattle.sail_core.specs.Making as Core
 use Rattle.sail_core.specs.Making.{plainly}
+use Rattle.sail_core.specs.declared.tree.Giver.TheVariants as Gives
 use Rattle.sail_core.specs.Meaning.{core_meaning, first_of, arm_taken}
 use Rattle.sail_core.proofs.Sentences.{met_plainly}
 use Rattle.shape_joins.specs.Filling.{fills}
@@ -68,7 +69,7 @@ FirstRuns setting locals subject t arms bodies ms =
     → ((here : Now Value) → Good (reach_of setting registers c slots) here → Agree (reach_of setting registers c slots) (Fits setting.types c t)
     (nc here) (nm here))
     → (now : Now Value) → Good (reach_of setting registers c slots) now
-    → Agree (reach_of setting registers c slots) (Fits setting.types c t) (first_of plainly wc arms (map (core_meaning wc) bodies) nc (v ∷ []) now)
+    → Agree (reach_of setting registers c slots) (Fits setting.types c t) (first_of plainly wc 0 arms (map (core_meaning wc) bodies) nc (v ∷ []) now)
     (first_case ws ms nm v now)
 
 pub cases_right : (cs : List CasePart) (ms : List Case) (setting : Setting) (locals : Locals) (subject want : Shape) → CasesAre setting locals subject cs ms
@@ -103,10 +104,10 @@ cases_right (k ∷ cs) (m ∷ ms) setting locals subject want are e =
       fills_twice want (given_on want a.shape) t given.0 others.0,
       λ registers c wc ws d slots seen v fit nc nm none now good.
           or_agree (reach_of setting registers c slots) (Fits setting.types c t)
-          (arm_taken plainly wc (A.Nested (p.pattern ∷ [])) (core_meaning wc core) (v ∷ []) now) (case_taken ws m v now)
-          (first_of plainly wc next.arms (map (core_meaning wc) next.bodies) nc (v ∷ [])) (first_case ws ms nm v)
+          (arm_taken plainly wc (Gives.Node 0) (A.Nested (p.pattern ∷ [])) (core_meaning wc core) (v ∷ []) now) (case_taken ws m v now)
+          (first_of plainly wc 0 next.arms (map (core_meaning wc) next.bodies) nc (v ∷ [])) (first_case ws ms nm v)
           (subst (λ q. Agree (reach_of setting registers c slots) (Fits setting.types c t)
-          (arm_taken plainly wc (A.Nested (p.pattern ∷ [])) (core_meaning wc core) (v ∷ []) now)
+          (arm_taken plainly wc (Gives.Node 0) (A.Nested (p.pattern ∷ [])) (core_meaning wc core) (v ∷ []) now)
           ((matching ws q v then λ found. within found (guarded m.guard m.body ws)) now)) (sym are.0.0)
           (taken_agrees setting locals subject t p (λ w. matching w k.pattern) (λ w. core_meaning w core) (guarded m.guard m.body) case.0 case.1
           registers c wc ws d slots seen (λ more seen2 here good2. runs registers c wc ws d more seen2 here good2) v fit now good))
@@ -128,14 +129,14 @@ match_right setting locals place value cs mv ms right are want e =
           let reach : Reach = reach_of setting registers c slots in
           let failed : Piece Value = stops (Cause.MatchFailure place) in
           let q = then_agree reach (Fits setting.types c a.shape) (Fits setting.types c cases.shape) (core_meaning wc a.core now) (mv ws now)
-          (λ v. first_of plainly wc cases.arms (map (core_meaning wc) cases.bodies) failed (v ∷ [])) (λ v. first_case ws ms failed v)
+          (λ v. first_of plainly wc 0 cases.arms (map (core_meaning wc) cases.bodies) failed (v ∷ [])) (λ v. first_case ws ms failed v)
           (one.runs registers c wc ws d slots seen now good)
           (λ v later fit good2. r.1 registers c wc ws d slots seen v fit failed failed (λ here good3. (refl, good3)) later good2) in (
             ap (λ (x : Run Value Value). x now) (unrolled wc place 0 (K.Match cases.arms cases.shape) (cast a.core value.place ∷ cases.bodies))
                 ∙ ap (λ (x : Run Value Value). x now) (met_plainly 0 (core_meaning wc (cast a.core value.place)
-                then λ v. first_of plainly wc cases.arms (map (core_meaning wc) cases.bodies) failed (v ∷ [])))
+                then λ v. first_of plainly wc 0 cases.arms (map (core_meaning wc) cases.bodies) failed (v ∷ [])))
                 ∙ ap (λ (x : Run Value Value). goes_on (x now)
-                (λ v. first_of plainly wc cases.arms (map (core_meaning wc) cases.bodies) failed (v ∷ []))) (cast_means wc a.core value.place)
+                (λ v. first_of plainly wc 0 cases.arms (map (core_meaning wc) cases.bodies) failed (v ∷ []))) (cast_means wc a.core value.place)
                 ∙ q.0,
             q.1,
           );

@@ -17,6 +17,7 @@ use Rattle.sail_core.specs.Run.{Now, Ended, Run, gives, stops, goes_on, within, 
 use Rattle.sail_core.specs.Making as Core
 use Rattle.sail_core.specs.Making.{plainly}
 use Rattle.sail_core.specs.Patterns as Steps
+use Rattle.sail_core.specs.declared.tree.Giver.TheVariants as Gives
 use Rattle.sail_core.specs.Meaning.{core_meaning, arm_taken}
 use Rattle.sail_meaning.specs.World as Source
 use Rattle.sail_meaning.specs.World.{Piece, Bindings}
@@ -71,7 +72,7 @@ after_one R.Stuck body = refl
 
 -- an arm of one pattern, and its body under the names that it binds
 pub arm_means : (wc : Core.World Value) (p : Pattern) (x : Value) (body : Run Value Value) (now : Now Value)
-    → arm_taken plainly wc (A.Nested (p ∷ [])) body (x ∷ []) now ≡ (Steps.matcher plainly wc p x then λ found. within found body) now
+    → arm_taken plainly wc (Gives.Node 0) (A.Nested (p ∷ [])) body (x ∷ []) now ≡ (Steps.matcher plainly wc p x then λ found. within found body) now
 arm_means wc p x body now = after_one (Steps.matcher plainly wc p x now) (λ found. within found body)
 
 pub no_widths_there : (setting : Setting) (registers : List Shape) (wc : Core.World Value) (ws : Source.World) → Describes setting registers wc ws
@@ -87,7 +88,7 @@ pub taken_agrees : (setting : Setting) (locals : Locals) (subject t : Shape) (p 
     → ((more : List Local) → SeenAs more (under p.binds locals) → (here : Now Value) → Good (reach_of setting registers c more) here
     → Agree (reach_of setting registers c more) (Fits setting.types c t) (kc wc here) (km ws here))
     → (v : Value) → Fits setting.types c subject v → (now : Now Value) → Good (reach_of setting registers c slots) now
-    → Agree (reach_of setting registers c slots) (Fits setting.types c t) (arm_taken plainly wc (A.Nested (p.pattern ∷ [])) (kc wc) (v ∷ []) now)
+    → Agree (reach_of setting registers c slots) (Fits setting.types c t) (arm_taken plainly wc (Gives.Node 0) (A.Nested (p.pattern ∷ [])) (kc wc) (v ∷ []) now)
     ((m ws v then λ found. within found (km ws)) now)
 taken_agrees setting locals subject t p m kc km looks either registers c wc ws d slots seen body v h now good =
     let reach : Reach = reach_of setting registers c slots in
@@ -112,17 +113,18 @@ let_runs setting locals place at_value subject t a body p pattern ma mb ra looks
     let Q : Value → Type 0 = Fits setting.types c t in
     let failed : Piece Value = stops (Cause.MatchFailure place) in
     let r = then_agree reach (Fits setting.types c subject) Q (core_meaning wc a now) (ma ws now)
-    (λ v. arm_taken plainly wc (A.Nested (p.pattern ∷ [])) (core_meaning wc body) (v ∷ []) or_else failed)
+    (λ v. arm_taken plainly wc (Gives.Node 0) (A.Nested (p.pattern ∷ [])) (core_meaning wc body) (v ∷ []) or_else failed)
     (λ v. (matching ws pattern v then λ found. within found (mb ws)) or_else failed)
     (ra registers c wc ws d slots seen now good)
     (λ v later h good2.
-    or_agree reach Q (arm_taken plainly wc (A.Nested (p.pattern ∷ [])) (core_meaning wc body) (v ∷ []) later)
+    or_agree reach Q (arm_taken plainly wc (Gives.Node 0) (A.Nested (p.pattern ∷ [])) (core_meaning wc body) (v ∷ []) later)
     ((matching ws pattern v then λ found. within found (mb ws)) later) failed failed
     (taken_agrees setting locals subject t p (λ w. matching w pattern) (λ w. core_meaning w body) mb looks either registers c wc ws d slots seen
     (λ more seen2 here good3. rb registers c wc ws d more seen2 here good3) v h later good2)
     (λ last good3. (refl, good3))) in (
       ap (λ (q : Run Value Value). q now) (unrolled wc place 0 (K.Let (A.Nested (p.pattern ∷ []))) (cast a at_value ∷ body ∷ []))
-          ∙ ap (λ (q : Run Value Value). goes_on (q now) (λ v. arm_taken plainly wc (A.Nested (p.pattern ∷ [])) (core_meaning wc body) (v ∷ []) or_else failed))
+          ∙ ap (λ (q : Run Value Value). goes_on (q now)
+          (λ v. arm_taken plainly wc (Gives.Node 0) (A.Nested (p.pattern ∷ [])) (core_meaning wc body) (v ∷ []) or_else failed))
           (cast_means wc a at_value)
           ∙ r.0,
       r.1,

@@ -70,7 +70,7 @@ try_right setting locals place value cs mv ms right are want e =
       above = fills_twice want (given_on want a.shape) cases.shape given.0 r.0;
       runs = λ registers c wc ws d slots seen now good.
           let reach : Reach = reach_of setting registers c slots in
-          let catch_c : Value → Run Value Value = λ v. first_of plainly wc cases.arms (map (core_meaning wc) cases.bodies) (throws v)
+          let catch_c : Value → Run Value Value = λ v. first_of plainly wc 0 cases.arms (map (core_meaning wc) cases.bodies) (throws v)
           (v ∷ []) in
           let q = caught_agrees reach (Fits setting.types c cases.shape) (core_meaning wc a.core now) (mv ws now) catch_c (λ v. first_case ws ms (throws v) v)
           (runs registers c wc ws d slots seen now good)

@@ -15,6 +15,7 @@ use Rattle.sail_core.specs.declared.tree.Kind.TheVariants as K
 use Rattle.sail_core.specs.Run.{Now, Run, gives, within, local, ◌then◌}
 use Rattle.sail_core.specs.Making as Core
 use Rattle.sail_core.specs.Making.{plainly}
+use Rattle.sail_core.specs.declared.tree.Giver.TheVariants as Gives
 use Rattle.sail_core.specs.Meaning as Means
 use Rattle.sail_core.specs.Meaning.{core_meaning}
 use Rattle.sail_meaning.specs.World as Source
@@ -79,7 +80,7 @@ PairRuns setting locals s kc m =
 -- a statement of the core, over its part and the rest of its block
 abbrev pub stated_run : Core.World Value → CoreStatement → Run Value Value → Run Value Value → Run Value Value
 stated_run w T.Evaluate a rest = a then λ x. rest
-stated_run w (T.Define place arm) a rest = a then λ x. Means.let_in plainly w place arm x rest
+stated_run w (T.Define place arm) a rest = a then λ x. Means.let_in plainly w (Gives.Node 0) place arm x rest
 stated_run w (T.Declare name written) a rest = a then λ x. within (local name x ∷ []) rest
 
 -- a statement that fails in nothing does what it means with whatever agrees behind it

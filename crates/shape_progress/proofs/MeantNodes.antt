@@ -12,6 +12,8 @@ use Rattle.sail_core.specs.declared.targets.Way.TheVariants as Y
 use Rattle.sail_core.specs.declared.tree.Core.{Core, roll-Core, fold-roll-Core, map-Core, ind-Core}
 use Rattle.sail_core.specs.declared.tree.Kind.{Kind}
 use Rattle.sail_core.specs.declared.tree.Kind.TheVariants as K
+use Rattle.sail_core.specs.declared.tree.Giver.{Giver}
+use Rattle.sail_core.specs.declared.tree.Giver.TheVariants as Gives
 use Rattle.sail_core.specs.declared.tree.Statement.{Statement}
 use Rattle.sail_core.specs.declared.tree.Statement.TheVariants as T
 use Rattle.sail_core.specs.Run as R
@@ -99,32 +101,34 @@ module _ (t : Table) (w : World Value) (callees : Callees) (fine : CalledAsMeant
 
   -- ---- arms and statements
 
-  arms_as : (arms : List Arm) (ps : List Both) (none : Run Value Value) (vs : List Value)
-      → AsMeant (first_of plainly w arms (plains ps) none vs) (first_arm wc arms (runs ps) none vs)
-  arms_as [] [] none vs = itself none
-  arms_as [] (p ∷ ps) none vs = λ now. inl refl
-  arms_as (arm ∷ arms) [] none vs = λ now. inl refl
-  arms_as (arm ∷ arms) (p ∷ ps) none vs =
-      or_as (arm_taken plainly w arm p.plain vs) (arm_then wc arm p.checked vs) (first_of plainly w arms (plains ps) none vs)
-      (first_arm wc arms (runs ps) none vs) (taken_as w callees fine arm p.plain p.checked p.meant vs) (arms_as arms ps none vs)
+  arms_as : (k : ℕ) (arms : List Arm) (ps : List Both) (none : Run Value Value) (vs : List Value)
+      → AsMeant (first_of plainly w k arms (plains ps) none vs) (first_arm wc arms (runs ps) none vs)
+  arms_as k [] [] none vs = itself none
+  arms_as k [] (p ∷ ps) none vs = λ now. inl refl
+  arms_as k (arm ∷ arms) [] none vs = λ now. inl refl
+  arms_as k (arm ∷ arms) (p ∷ ps) none vs =
+      let g : Giver = Gives.Arm k (length arms) in
+      or_as (arm_taken plainly w g arm p.plain vs) (arm_then wc arm p.checked vs) (first_of plainly w k arms (plains ps) none vs)
+      (first_arm wc arms (runs ps) none vs) (taken_as w callees fine g arm p.plain p.checked p.meant vs) (arms_as k arms ps none vs)
 
-  block_as : (ss : List Statement) (ps : List Both) → AsMeant (block plainly w ss (plains ps)) (statements wc ss (runs ps))
-  block_as [] [] = λ now. inl refl
-  block_as [] (p ∷ []) = p.meant
-  block_as [] (p ∷ q ∷ ps) = λ now. inl refl
-  block_as (T.Evaluate ∷ ss) [] = λ now. inl refl
-  block_as (T.Define place arm ∷ ss) [] = λ now. inl refl
-  block_as (T.Declare name written ∷ ss) [] = λ now. inl refl
-  block_as (T.Evaluate ∷ ss) (p ∷ ps) =
-      then_as p.plain p.checked (λ v. block plainly w ss (plains ps)) (λ v. statements wc ss (runs ps)) p.meant (λ v. block_as ss ps)
-  block_as (T.Define place arm ∷ ss) (p ∷ ps) =
-      then_as p.plain p.checked (λ v. let_in plainly w place arm v (block plainly w ss (plains ps)))
+  block_as : (k : ℕ) (ss : List Statement) (ps : List Both) → AsMeant (block plainly w k ss (plains ps)) (statements wc ss (runs ps))
+  block_as k [] [] = λ now. inl refl
+  block_as k [] (p ∷ []) = p.meant
+  block_as k [] (p ∷ q ∷ ps) = λ now. inl refl
+  block_as k (T.Evaluate ∷ ss) [] = λ now. inl refl
+  block_as k (T.Define place arm ∷ ss) [] = λ now. inl refl
+  block_as k (T.Declare name written ∷ ss) [] = λ now. inl refl
+  block_as k (T.Evaluate ∷ ss) (p ∷ ps) =
+      then_as p.plain p.checked (λ v. block plainly w k ss (plains ps)) (λ v. statements wc ss (runs ps)) p.meant (λ v. block_as k ss ps)
+  block_as k (T.Define place arm ∷ ss) (p ∷ ps) =
+      let g : Giver = Gives.Arm k (length ss) in
+      then_as p.plain p.checked (λ v. let_in plainly w g place arm v (block plainly w k ss (plains ps)))
       (λ v. let_then wc place arm v (statements wc ss (runs ps))) p.meant
-      (λ v. let_as w callees fine place arm (block plainly w ss (plains ps)) (statements wc ss (runs ps)) (block_as ss ps) v)
-  block_as (T.Declare name written ∷ ss) (p ∷ ps) =
-      then_as p.plain p.checked (λ v. within (local name v ∷ []) (block plainly w ss (plains ps)))
+      (λ v. let_as w callees fine g place arm (block plainly w k ss (plains ps)) (statements wc ss (runs ps)) (block_as k ss ps) v)
+  block_as k (T.Declare name written ∷ ss) (p ∷ ps) =
+      then_as p.plain p.checked (λ v. within (local name v ∷ []) (block plainly w k ss (plains ps)))
       (λ v. within (local name v ∷ []) (statements wc ss (runs ps))) p.meant
-      (λ v. within_as (local name v ∷ []) (block plainly w ss (plains ps)) (statements wc ss (runs ps)) (block_as ss ps))
+      (λ v. within_as (local name v ∷ []) (block plainly w k ss (plains ps)) (statements wc ss (runs ps)) (block_as k ss ps))
 
   -- ---- all kinds
 
@@ -180,10 +184,10 @@ module _ (t : Table) (w : World Value) (callees : Callees) (fine : CalledAsMeant
       met_as (truth_met w.numbers c) (kind_meaning plainly w place k (K.Constraint c numbers) [])
       (kind_meaning plainly w place k (K.Constraint c numbers) []) (itself (kind_meaning plainly w place k (K.Constraint c numbers) []))
   kind_as place k (K.Assign targets) ps = assigned_as t w callees fine targets ps
-  kind_as place k (K.Block ss) ps = block_as ss ps
+  kind_as place k (K.Block ss) ps = block_as k ss ps
   kind_as place k (K.Let arm) (a ∷ b ∷ []) =
-      then_as a.plain a.checked (λ v. let_in plainly w place arm v b.plain) (λ v. let_then wc place arm v b.checked) a.meant
-      (λ v. let_as w callees fine place arm b.plain b.checked b.meant v)
+      then_as a.plain a.checked (λ v. let_in plainly w (Gives.Arm k 0) place arm v b.plain) (λ v. let_then wc place arm v b.checked) a.meant
+      (λ v. let_as w callees fine (Gives.Arm k 0) place arm b.plain b.checked b.meant v)
   kind_as place k (K.Var name written) (a ∷ b ∷ []) =
       then_as a.plain a.checked (λ v. within (local name v ∷ []) b.plain) (λ v. within (local name v ∷ []) b.checked) a.meant
       (λ v. within_as (local name v ∷ []) b.plain b.checked b.meant)
@@ -196,14 +200,14 @@ module _ (t : Table) (w : World Value) (callees : Callees) (fine : CalledAsMeant
       (λ x. itself (made plainly k (Val.Unit ∷ []) x))
   kind_as place k (K.Match arms of) (a ∷ ps) =
       subst (λ (r : Run Value Value). AsMeant r (checked_kind t wc place k (K.Match arms of) (runs (a ∷ ps))))
-      (sym (met_plainly k (a.plain then λ v. first_of plainly w arms (plains ps) (stops (Stop.MatchFailure place)) (v ∷ []))))
-      (then_as a.plain a.checked _ _ a.meant (λ v. arms_as arms ps (stops (Stop.MatchFailure place)) (v ∷ [])))
+      (sym (met_plainly k (a.plain then λ v. first_of plainly w k arms (plains ps) (stops (Stop.MatchFailure place)) (v ∷ []))))
+      (then_as a.plain a.checked _ _ a.meant (λ v. arms_as k arms ps (stops (Stop.MatchFailure place)) (v ∷ [])))
   kind_as place k (K.Try arms of) (a ∷ ps) =
       subst (λ (r : Run Value Value). AsMeant r (checked_kind t wc place k (K.Try arms of) (runs (a ∷ ps))))
       (sym (met_plainly k (tried plainly w k arms (plains ps) a.plain)))
-      (λ now. caught_as (a.plain now) (a.checked now) (λ v. first_of plainly w arms (plains ps) (throws v) (v ∷ []))
-      (λ v. first_arm wc arms (runs ps) (throws v) (v ∷ [])) (a.meant now) (λ v. arms_as arms ps (throws v) (v ∷ [])))
-  kind_as place k (K.Clauses arms) ps = arms_as arms ps falls w.arguments
+      (λ now. caught_as (a.plain now) (a.checked now) (λ v. first_of plainly w k arms (plains ps) (throws v) (v ∷ []))
+      (λ v. first_arm wc arms (runs ps) (throws v) (v ∷ [])) (a.meant now) (λ v. arms_as k arms ps (throws v) (v ∷ [])))
+  kind_as place k (K.Clauses arms) ps = arms_as k arms ps falls w.arguments
   kind_as place k K.When (a ∷ b ∷ []) =
       then_as a.plain a.checked _ _ a.meant (λ x. choice_as x b.plain b.checked falls falls b.meant (itself falls))
   kind_as place k (K.Foreach name way) (a ∷ b ∷ c ∷ body ∷ []) =

@@ -13,6 +13,7 @@ use Rattle.sail_core.specs.declared.patterns.Step.{Step}
 use Rattle.sail_core.specs.declared.patterns.Step.TheVariants as S
 use Rattle.sail_core.specs.Run.{Run, gives, stops, stuck, within, ◌then◌}
 use Rattle.sail_core.specs.Making.{World, plainly}
+use Rattle.sail_core.specs.declared.tree.Giver.{Giver}
 use Rattle.sail_core.specs.Meaning.{arm_taken, let_in}
 use Rattle.sail_core.specs.Patterns.{Hand, Matcher, arm_meaning, found_in, matcher, named, parts_match, parts_of, pattern_meaning, step_meaning}
 use Rattle.sail_core.specs.Patterns.{steps_meaning, value_of, with_values}
@@ -155,13 +156,14 @@ module _ (w : World Value) (callees : Callees) (fine : CalledAsMeant w callees) 
       (then_as (steps_meaning plainly w ss (record { values = vs; found = [] })) (steps_meaning plainly wc ss (record { values = vs; found = [] })) found_in
       found_in (steps_as ss (record { values = vs; found = [] })) (λ hand. itself (found_in hand)))
 
-  pub taken_as : (arm : Arm) (a b : Run Value Value) → AsMeant a b → (vs : List Value) → AsMeant (arm_taken plainly w arm a vs) (arm_then wc arm b vs)
-  taken_as arm a b k vs =
+  pub taken_as : (g : Giver) (arm : Arm) (a b : Run Value Value) → AsMeant a b → (vs : List Value)
+      → AsMeant (arm_taken plainly w g arm a vs) (arm_then wc arm b vs)
+  taken_as g arm a b k vs =
       then_as (arm_meaning plainly w arm vs) (checked_arm wc arm vs) (λ found. within found a) (λ found. within found b) (arm_as arm vs)
       (λ found. within_as found a b k)
 
-  pub let_as : (place : Place) (arm : Arm) (a b : Run Value Value) → AsMeant a b → (v : Value)
-      → AsMeant (let_in plainly w place arm v a) (let_then wc place arm v b)
-  let_as place arm a b k v =
-      or_as (arm_taken plainly w arm a (v ∷ [])) (arm_then wc arm b (v ∷ [])) (stops (Stop.MatchFailure place)) (stops (Stop.MatchFailure place))
-      (taken_as arm a b k (v ∷ [])) (itself (stops (Stop.MatchFailure place)))
+  pub let_as : (g : Giver) (place : Place) (arm : Arm) (a b : Run Value Value) → AsMeant a b → (v : Value)
+      → AsMeant (let_in plainly w g place arm v a) (let_then wc place arm v b)
+  let_as g place arm a b k v =
+      or_as (arm_taken plainly w g arm a (v ∷ [])) (arm_then wc arm b (v ∷ [])) (stops (Stop.MatchFailure place)) (stops (Stop.MatchFailure place))
+      (taken_as g arm a b k (v ∷ [])) (itself (stops (Stop.MatchFailure place)))

@@ -1,5 +1,5 @@
 -- Walks of a body one after the other, and bodies in lists.
-use Rattle.std.proofs.Common.{◌≡◌, ◌∙◌, ap, sym, refl, ℕ, ◌+◌, ◌<◌, ◌≤◌, List, [], ◌∷◌, ◌++◌, take, drop, length, get_or, map, subst, true, Some, arith}
+use Rattle.std.proofs.Common.{◌≡◌, ◌∙◌, ap, sym, refl, ℕ, ◌+◌, ◌<◌, ◌≤◌, List, [], ◌∷◌, ◌++◌, take, drop, length, get_or, map, subst, true, arith}
 use Rattle.std.proofs.Common.{append_assoc, append-nil, length-drop, Result, Ok, Err}
 use Rattle.std.specs.Prelude.{OnOk, IfOk}
 use Rattle.std.proofs.lemmas.List.{map-append}
@@ -52,19 +52,19 @@ opening_end bs found walk w v new start walked same h =
 module _ (around : Around) (f : Function) (is : List Index) (inner : Around) (ts : List Typ) (aim : Aim) (w s : Written)
     (inside : inner ≡ inside_function around f is) (types : ts ≡ f.parameters) where
   arms_are : aim ≡ aimed Aims.Due (reading_under f.result is)
-      → s ≡ run (clauses_read f.constraint (Some f.entry) inner ts aim f.is_declared f.body) w → s ≡ run (function_arms around f is) w
-  arms_are wanted h = h ∙ (λ j. run (clauses_read f.constraint (Some f.entry) (inside j) (types j) (wanted j) f.is_declared f.body) w)
+      → s ≡ run (clauses_read f.constraint inner ts aim f.is_declared f.body) w → s ≡ run (function_arms around f is) w
+  arms_are wanted h = h ∙ (λ j. run (clauses_read f.constraint (inside j) (types j) (wanted j) f.is_declared f.body) w)
 
   -- behind the clauses nothing is in force
   pub arms_end : aim ≡ aimed Aims.Due (reading_under f.result is)
-      → s ≡ run (clauses_read f.constraint (Some f.entry) inner ts aim f.is_declared f.body) w → IsAtRest w → IsAtRest s
+      → s ≡ run (clauses_read f.constraint inner ts aim f.is_declared f.body) w → IsAtRest w → IsAtRest s
   arms_end wanted h rest =
       subst (λ (v : Written). IsAtRest v) (sym (arms_are wanted h))
-      (arms_rest f.constraint (out-Core f.body).place (Some f.entry) (inside_function around f is) f.parameters
+      (arms_rest f.constraint (out-Core f.body).place (out-Core f.body).number (inside_function around f is) f.parameters
       (aimed Aims.Due (reading_under f.result is)) f.is_declared (kind_arms (out-Core f.body).kind) (out-Core f.body).parts w rest)
 
   pub declared_end : {A E : Type 0} (r : Result A E) (t : Written) (answer : Reading) → aim ≡ aimed Aims.Due (reading_under f.result is)
-      → answer ≡ reading_under f.result is → s ≡ run (clauses_read f.constraint (Some f.entry) inner ts aim f.is_declared f.body) w
+      → answer ≡ reading_under f.result is → s ≡ run (clauses_read f.constraint inner ts aim f.is_declared f.body) w
       → OnOk r (t ≡ run (last_read f.constraint f.last answer) s) → OnOk r (t ≡ run (declared_read around f is) w)
   declared_end (Ok x) t answer wanted same went h =
       h
@@ -73,9 +73,9 @@ module _ (around : Around) (f : Function) (is : List Index) (inner : Around) (ts
   declared_end (Err e) t answer wanted same went h = tt
 
   pub measured_end : {A E : Type 0} (r : Result A E) (measure : Core) → aim ≡ Aims.Due natural_type
-      → OnOk r (s ≡ run (clauses_read f.constraint (Some f.entry) inner ts aim true measure) w) → OnOk r (s ≡ run (measured_read around f measure is) w)
+      → OnOk r (s ≡ run (clauses_read f.constraint inner ts aim true measure) w) → OnOk r (s ≡ run (measured_read around f measure is) w)
   measured_end (Ok x) measure wanted h =
-      h ∙ (λ j. run (clauses_read f.constraint (Some f.entry) (inside j) (types j) (wanted j) true measure) w)
+      h ∙ (λ j. run (clauses_read f.constraint (inside j) (types j) (wanted j) true measure) w)
   measured_end (Err e) measure wanted h = tt
 
 -- a definition, from its type variables on

@@ -1,5 +1,5 @@
 -- Walks of their own behind others, and walks over two lists at once.
-use Rattle.std.proofs.Common.{Bool, Option, subst, ◌≡◌, ◌∙◌, ap, sym, refl, ℕ, suc, ◌+◌, ◌-◌, ◌<◌, List, [], ◌∷◌, drop, length, get_or, min, arith, length-drop}
+use Rattle.std.proofs.Common.{Bool, subst, ◌≡◌, ◌∙◌, ap, sym, refl, ℕ, suc, ◌+◌, ◌-◌, ◌<◌, List, [], ◌∷◌, drop, length, get_or, min, arith, length-drop}
 use Rattle.sail_base.specs.declared.place.Place.{Place}
 use Rattle.sail_types.specs.declared.numbers.Con.{Con}
 use Rattle.sail_types.specs.declared.table.Parameter.{Parameter}
@@ -7,6 +7,7 @@ use Rattle.sail_types.specs.declared.types.Typ.{Typ}
 use Rattle.sail_core.specs.declared.model.Direction.{Direction}
 use Rattle.sail_core.specs.declared.patterns.Arm.{Arm}
 use Rattle.sail_core.specs.declared.tree.Core.{Core}
+use Rattle.sail_core.specs.declared.tree.Giver.TheVariants as Gives
 use Rattle.value_indices.specs.declared.notes.Fact.{Fact}
 use Rattle.value_indices.specs.declared.notes.Step.{Step}
 use Rattle.value_indices.specs.declared.walking.Walking.{Walking}
@@ -65,16 +66,16 @@ unfolding run alone
 alone_rest bs walk w rest = record { facts = rest.facts; remembered = rest.remembered }
 
 -- behind clauses
-pub arms_rest : (con : Con) (place : Place) (entry : Option ℕ) (around : Around) (ts : List Typ) (aim : Aim) (declared : Bool) (arms : List Arm)
-    (cs : List Core) (w : Written) → IsAtRest w → IsAtRest (run (arms_read con place entry around ts aim declared arms cs) w)
-arms_rest con place entry around ts aim declared [] cs w rest = subst (λ (v : Written). IsAtRest v) (sym (run_give tt w)) rest
-arms_rest con place entry around ts aim declared (arm ∷ arms) [] w rest = subst (λ (v : Written). IsAtRest v) (sym (run_give tt w)) rest
-arms_rest con place entry around ts aim declared (arm ∷ arms) (c ∷ cs) w rest =
-    let first = clause_read con place entry around ts aim declared arm c in
+pub arms_rest : (con : Con) (place : Place) (k : ℕ) (around : Around) (ts : List Typ) (aim : Aim) (declared : Bool) (arms : List Arm)
+    (cs : List Core) (w : Written) → IsAtRest w → IsAtRest (run (arms_read con place k around ts aim declared arms cs) w)
+arms_rest con place k around ts aim declared [] cs w rest = subst (λ (v : Written). IsAtRest v) (sym (run_give tt w)) rest
+arms_rest con place k around ts aim declared (arm ∷ arms) [] w rest = subst (λ (v : Written). IsAtRest v) (sym (run_give tt w)) rest
+arms_rest con place k around ts aim declared (arm ∷ arms) (c ∷ cs) w rest =
+    let first = clause_read con place (Gives.Arm k (length arms)) around ts aim declared arm c in
     let own = alone_rest (found_in (node_of around.numbers (sized_body declared c)))
-    (clause_inside con place entry around ts aim declared arm c) w rest in
-    subst (λ (v : Written). IsAtRest v) (sym (run_bind first (λ t. arms_read con place entry around ts aim declared arms cs) w))
-    (arms_rest con place entry around ts aim declared arms cs (run first w) own)
+    (clause_inside con place (Gives.Arm k (length arms)) around ts aim declared arm c) w rest in
+    subst (λ (v : Written). IsAtRest v) (sym (run_bind first (λ t. arms_read con place k around ts aim declared arms cs) w))
+    (arms_rest con place k around ts aim declared arms cs (run first w) own)
 
 own_facts : (ps : List Parameter) (facts : List Fact) (n : ℕ) → (own_indices ps facts n).facts ≡ facts
 unfolding bind give fresh_named
@@ -105,16 +106,16 @@ whole_body walk = refl
 
 -- ---- over two lists at once
 
-module _ {A B C : Type 0} (f : A → B → Walk C) (both : List A → List B → Walk (Unit {0}))
-    (more : (a : A) (xs : List A) (b : B) (ys : List B) → both (a ∷ xs) (b ∷ ys) ≡ bind (f a b) (λ x. both xs ys))
+module _ {A B C : Type 0} (f : ℕ → A → B → Walk C) (both : List A → List B → Walk (Unit {0}))
+    (more : (a : A) (xs : List A) (b : B) (ys : List B) → both (a ∷ xs) (b ∷ ys) ≡ bind (f (length xs) a b) (λ x. both xs ys))
     (no_first : (ys : List B) → both [] ys ≡ give tt) (no_second : (a : A) (xs : List A) → both (a ∷ xs) [] ≡ give tt) where
   pub pair_next : (xs : List A) (ys : List B) (k : ℕ) (a : A) (b : B) (w v all : Written) → k < length xs → k < length ys → a ≡ get_or xs k a
-      → b ≡ get_or ys k b → v ≡ run (f a b) w → run (both (drop k xs) (drop k ys)) w ≡ all
+      → b ≡ get_or ys k b → (n : ℕ) → n ≡ length (drop (k + 1) xs) → v ≡ run (f n a b) w → run (both (drop k xs) (drop k ys)) w ≡ all
       → run (both (drop (k + 1) xs) (drop (k + 1) ys)) v ≡ all
-  pair_next xs ys k a b w v all p q at_a at_b walked whole =
+  pair_next xs ys k a b w v all p q at_a at_b n behind walked whole =
       let rest = both (drop (k + 1) xs) (drop (k + 1) ys) in
-      ap (run rest) walked
-      ∙ (sym (run_bind (f a b) (λ x. rest) w)
+      ap (run rest) (walked ∙ ap (λ (m : ℕ). run (f m a b) w) behind)
+      ∙ (sym (run_bind (f (length (drop (k + 1) xs)) a b) (λ x. rest) w)
       ∙ (ap (λ (c : Walk (Unit {0})). run c w) (sym (more a (drop (k + 1) xs) b (drop (k + 1) ys)))
       ∙ ((λ j. run (both (sym (rest_at xs k a p at_a) j) (sym (rest_at ys k b q at_b) j)) w) ∙ whole)))
 
@@ -136,15 +137,18 @@ module _ (place : Place) (around : Around) (m n : Direction) where
   pub both_next : (arms : List Arm) (cores : List Core) (backs : List Arm) (givens : List Core) (k : ℕ) (arm : Arm) (core : Core) (back : Arm)
       (given : Core) → k < length arms → k < length cores → k < length backs → k < length givens → arm ≡ get_or arms k arm
       → core ≡ get_or cores k core → back ≡ get_or backs k back → given ≡ get_or givens k given → (w v u : Written)
-      → v ≡ run (way_read place around m arm core) w → u ≡ run (way_read place around n back given) v → (all : Written)
+      → (a b : ℕ) → a ≡ length (drop (k + 1) arms) → b ≡ length (drop (k + 1) backs)
+      → v ≡ run (way_read place around m a arm core) w → u ≡ run (way_read place around n b back given) v → (all : Written)
       → run (both_read place around m n (drop k arms) (drop k cores) (drop k backs) (drop k givens)) w ≡ all
       → run (both_read place around m n (drop (k + 1) arms) (drop (k + 1) cores) (drop (k + 1) backs) (drop (k + 1) givens)) u ≡ all
-  both_next arms cores backs givens k arm core back given p q r s at_arm at_core at_back at_given w v u first second all whole =
+  both_next arms cores backs givens k arm core back given p q r s at_arm at_core at_back at_given w v u a b behind before first second all whole =
       let rest = both_read place around m n (drop (k + 1) arms) (drop (k + 1) cores) (drop (k + 1) backs) (drop (k + 1) givens) in
-      ap (run rest) second
-      ∙ (sym (run_bind (way_read place around n back given) (λ j. rest) v)
-      ∙ (ap (run (bind (way_read place around n back given) (λ j. rest))) first
-      ∙ (sym (run_bind (way_read place around m arm core) (λ i. bind (way_read place around n back given) (λ j. rest)) w)
+      let there = way_read place around m (length (drop (k + 1) arms)) arm core in
+      let back_there = way_read place around n (length (drop (k + 1) backs)) back given in
+      ap (run rest) (second ∙ ap (λ (c : ℕ). run (way_read place around n c back given) v) before)
+      ∙ (sym (run_bind back_there (λ j. rest) v)
+      ∙ (ap (run (bind back_there (λ j. rest))) (first ∙ ap (λ (c : ℕ). run (way_read place around m c arm core) w) behind)
+      ∙ (sym (run_bind there (λ i. bind back_there (λ j. rest)) w)
       ∙ ((λ j. run (both_read place around m n (sym (rest_at arms k arm p at_arm) j) (sym (rest_at cores k core q at_core) j)
       (sym (rest_at backs k back r at_back) j) (sym (rest_at givens k given s at_given) j)) w)
       ∙ whole))))

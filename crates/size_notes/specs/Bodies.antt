@@ -1,6 +1,6 @@
 -- What is read of a model for its instances: the notes of the walks over its definitions, with the types of parameters, each at its pattern,
 -- and the sizes in types that are written in bodies.
-use Rattle.std.specs.Prelude.{ℕ, Bool, true, if◌then◌else◌, List, [], ◌∷◌, ◌++◌, map, Option, Some, None}
+use Rattle.std.specs.Prelude.{ℕ, Bool, true, if◌then◌else◌, List, [], ◌∷◌, ◌++◌, length, map, Option, Some, None}
 use Rattle.sail_base.specs.declared.place.Place.{Place}
 use Rattle.sail_types.specs.declared.numbers.Con.{Con}
 use Rattle.sail_types.specs.declared.numbers.Con.TheVariants as C
@@ -15,6 +15,8 @@ use Rattle.sail_core.specs.declared.model.OpeningKind.TheVariants as O
 use Rattle.sail_core.specs.declared.patterns.Arm.{Arm}
 use Rattle.sail_core.specs.declared.patterns.Pattern.{Pattern, Pattern-F, out-Pattern}
 use Rattle.sail_core.specs.declared.tree.Core.{Core, Core-F, out-Core}
+use Rattle.sail_core.specs.declared.tree.Giver.{Giver}
+use Rattle.sail_core.specs.declared.tree.Giver.TheVariants as Gives
 use Rattle.sail_core.specs.declared.tree.Kind.{Kind}
 use Rattle.sail_core.specs.declared.tree.Kind.TheVariants as K
 use Rattle.value_indices.specs.declared.indices.Indices.{Indices}
@@ -30,7 +32,8 @@ use Rattle.call_arguments.specs.declared.aims.Aim.{Aim}
 use Rattle.call_arguments.specs.declared.aims.Aim.TheVariants as Aims
 use Rattle.expression_steps.specs.Expressions.{part}
 use Rattle.expression_steps.specs.Statements.{natural_type}
-use Rattle.function_notes.specs.Functions.{arm_of, constrained, inside_function, last_made, own_indices, reading_under, unwritten, written_walk}
+use Rattle.function_notes.specs.Functions.{arm_of, constrained, direction_giver, inside_function, last_made, own_indices, reading_under, unwritten}
+use Rattle.function_notes.specs.Functions.{written_walk}
 use Rattle.constraint_gen.specs.Models.{around_of, around_with, behind_opening, opening_walk}
 use Rattle.constraint_gen.specs.Obligations.{names_of}
 use Rattle.size_splits.specs.Bodies.{Body, body_read}
@@ -74,23 +77,24 @@ unfoldable pub alone : {A : Type 0} → List Behind → Walk A → Walk (Unit {0
 alone bs walk facts n = went tt facts (walk [] n).next (notes_with bs (walk [] n).notes)
 
 -- a clause under the constraint of its function; what exponents owe is of no matter here
-abbrev pub clause_inside : Con → Place → Option ℕ → Around → List Typ → Aim → Bool → Arm → Core → Walk Indices
-clause_inside con place entry around ts aim declared arm c =
+abbrev pub clause_inside : Con → Place → Giver → Around → List Typ → Aim → Bool → Arm → Core → Walk Indices
+clause_inside con place g around ts aim declared arm c =
     bind (constrained con) (λ t.
-    bind (beforehand (arm_read around ts (arm_of declared arm))) (λ x. written_walk place entry around ts [] aim declared arm c))
+    bind (beforehand (arm_read around ts (arm_of declared arm))) (λ x. written_walk place g around ts [] aim declared arm c))
 
 -- a body as its types are read: of what no `val` declares, the one before it is of no matter
 abbrev pub sized_body : Bool → Core → Core
 sized_body declared c = if declared then c else unwritten c
 
-abbrev pub clause_read : Con → Place → Option ℕ → Around → List Typ → Aim → Bool → Arm → Core → Walk (Unit {0})
-clause_read con place entry around ts aim declared arm c =
-    alone (found_in (node_of around.numbers (sized_body declared c))) (clause_inside con place entry around ts aim declared arm c)
+abbrev pub clause_read : Con → Place → Giver → Around → List Typ → Aim → Bool → Arm → Core → Walk (Unit {0})
+clause_read con place g around ts aim declared arm c =
+    alone (found_in (node_of around.numbers (sized_body declared c))) (clause_inside con place g around ts aim declared arm c)
 
-abbrev pub arms_read : Con → Place → Option ℕ → Around → List Typ → Aim → Bool → List Arm → List Core → Walk (Unit {0})
-arms_read con place entry around ts aim declared (arm ∷ arms) (c ∷ cs) =
-    bind (clause_read con place entry around ts aim declared arm c) (λ t. arms_read con place entry around ts aim declared arms cs)
-arms_read con place entry around ts aim declared arms cs = give tt
+abbrev pub arms_read : Con → Place → ℕ → Around → List Typ → Aim → Bool → List Arm → List Core → Walk (Unit {0})
+arms_read con place k around ts aim declared (arm ∷ arms) (c ∷ cs) =
+    bind (clause_read con place (Gives.Arm k (length arms)) around ts aim declared arm c)
+    (λ t. arms_read con place k around ts aim declared arms cs)
+arms_read con place k around ts aim declared arms cs = give tt
 
 abbrev pub kind_arms : Kind → List Arm
 kind_arms (K.Clauses arms) = arms
@@ -102,11 +106,11 @@ kind_in c = c.kind
 abbrev pub core_kind : Core → Kind
 core_kind core = kind_in (out-Core core)
 
-abbrev pub form_read : Con → Option ℕ → Around → List Typ → Aim → Bool → Core-F Core → Walk (Unit {0})
-form_read con entry around ts aim declared c = arms_read con c.place entry around ts aim declared (kind_arms c.kind) c.parts
+abbrev pub form_read : Con → Around → List Typ → Aim → Bool → Core-F Core → Walk (Unit {0})
+form_read con around ts aim declared c = arms_read con c.place c.number around ts aim declared (kind_arms c.kind) c.parts
 
-abbrev pub clauses_read : Con → Option ℕ → Around → List Typ → Aim → Bool → Core → Walk (Unit {0})
-clauses_read con entry around ts aim declared core = form_read con entry around ts aim declared (out-Core core)
+abbrev pub clauses_read : Con → Around → List Typ → Aim → Bool → Core → Walk (Unit {0})
+clauses_read con around ts aim declared core = form_read con around ts aim declared (out-Core core)
 
 -- ---- functions and their measures
 
@@ -119,7 +123,7 @@ last_read con k r = alone [] (last_inside con k r)
 
 abbrev pub function_arms : Around → Function → List Index → Walk (Unit {0})
 function_arms around f is =
-    clauses_read f.constraint (Some f.entry) (inside_function around f is) f.parameters (aimed Aims.Due (reading_under f.result is)) f.is_declared f.body
+    clauses_read f.constraint (inside_function around f is) f.parameters (aimed Aims.Due (reading_under f.result is)) f.is_declared f.body
 
 abbrev pub declared_read : Around → Function → List Index → Walk (Unit {0})
 declared_read around f is = bind (function_arms around f is) (λ t. last_read f.constraint f.last (reading_under f.result is))
@@ -129,21 +133,21 @@ function_read around f = bind (own_indices f.variables) (declared_read around f)
 
 abbrev pub measured_read : Around → Function → Core → List Index → Walk (Unit {0})
 measured_read around f measure is =
-    clauses_read f.constraint (Some f.entry) (inside_function around f is) f.parameters (Aims.Due natural_type) true measure
+    clauses_read f.constraint (inside_function around f is) f.parameters (Aims.Due natural_type) true measure
 
 abbrev pub measure_read : Around → Function → Core → Walk (Unit {0})
 measure_read around f measure = bind (own_indices f.variables) (measured_read around f measure)
 
 -- ---- mappings: each clause forwards, then backwards
 
-abbrev pub way_read : Place → Around → Direction → Arm → Core → Walk (Unit {0})
-way_read place around m arm c =
-    clause_read (C.Truth true) place None around (m.parameter ∷ []) (aimed Aims.Due (R.Of m.result [] [])) true arm c
+abbrev pub way_read : Place → Around → Direction → ℕ → Arm → Core → Walk (Unit {0})
+way_read place around m behind arm c =
+    clause_read (C.Truth true) place (direction_giver m behind) around (m.parameter ∷ []) (aimed Aims.Due (R.Of m.result [] [])) true arm c
 
 abbrev pub both_read : Place → Around → Direction → Direction → List Arm → List Core → List Arm → List Core → Walk (Unit {0})
 both_read place around m n (arm ∷ arms) (c ∷ cs) (back ∷ backs) (d ∷ ds) =
-    bind (way_read place around m arm c) (λ t.
-    bind (way_read place around n back d) (λ u. both_read place around m n arms cs backs ds))
+    bind (way_read place around m (length arms) arm c) (λ t.
+    bind (way_read place around n (length backs) back d) (λ u. both_read place around m n arms cs backs ds))
 both_read place around m n arms cs backs ds = give tt
 
 abbrev pub forms_read : Around → Direction → Direction → Core-F Core → Core-F Core → Walk (Unit {0})

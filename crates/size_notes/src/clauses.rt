@@ -1,5 +1,5 @@
 //! Clauses, each a walk of its own.
-ghost use Rattle.std.specs.Prelude.{◌≡◌, Some, IfOk, OnOk};
+ghost use Rattle.std.specs.Prelude.{◌≡◌, IfOk, OnOk};
 ghost use Rattle.value_indices.specs.Walking as walk;
 ghost use Rattle.pattern_leaves.specs.Settings.{around_of};
 ghost use Rattle.size_notes.specs.Bodies as spec;
@@ -12,7 +12,7 @@ use call_arguments::Aim;
 use function_notes::{Common, constrain, lesser, make_last, unwritten, walk_written};
 use pattern_leaves::Around;
 use sail_base::Items;
-use sail_core::{Arm, Core, Kind};
+use sail_core::{Arm, Core, Giver, Kind};
 use sail_types::{Con, Typ};
 use std::alloc::{AllocError, Global};
 use value_indices::{Reading, Walking};
@@ -26,11 +26,12 @@ fn walk_inside(
     around: &Around<'_>,
     common: &Common<'_>,
     constraint: &Con,
+    giver: Giver,
     arm: &Arm,
     core: &Core,
 ) -> Result<(), AllocError>
-    ensures { OnOk result (walk.seen walking.new ≡ walk.run (spec.clause_inside constraint.now common.now.place common.now.entry (around_of around.now)
-        common.now.types.now common.now.aim.now common.now.is_declared arm.now core.now) (walk.seen walking.old)) }
+    ensures { OnOk result (walk.seen walking.new ≡ walk.run (spec.clause_inside constraint.now common.now.place giver
+        (around_of around.now) common.now.types.now common.now.aim.now common.now.is_declared arm.now core.now) (walk.seen walking.old)) }
 {
     constrain(alloc, walking, constraint)?;
     read_beforehand(
@@ -41,7 +42,7 @@ fn walk_inside(
         common.is_declared,
         arm,
     )?;
-    walk_written(alloc, walking, around, common, &[], arm, core)?;
+    walk_written(alloc, walking, around, common, giver, &[], arm, core)?;
     Ok(())
 }
 
@@ -53,16 +54,19 @@ fn walk_alone(
     around: &Around<'_>,
     common: &Common<'_>,
     constraint: &Con,
+    giver: Giver,
     arm: &Arm,
     core: &Core,
 ) -> Result<Walking, AllocError>
-    ensures { IfOk result (λ inner. walk.seen inner ≡ walk.restored (walk.run (spec.clause_inside constraint.now common.now.place
-        common.now.entry (around_of around.now) common.now.types.now common.now.aim.now common.now.is_declared arm.now core.now)
+    ensures { IfOk result (λ inner. walk.seen inner ≡ walk.restored (walk.run (spec.clause_inside constraint.now common.now.place giver
+        (around_of around.now) common.now.types.now common.now.aim.now common.now.is_declared arm.now core.now)
         (walk.remembering (walk.begun next)))) }
 {
     let mut inner = Walking::new(alloc, next);
     inner.remember()?;
-    walk_inside(alloc, &mut inner, around, common, constraint, arm, core)?;
+    walk_inside(
+        alloc, &mut inner, around, common, constraint, giver, arm, core,
+    )?;
     inner.restore()?;
     Ok(inner)
 }
@@ -81,14 +85,24 @@ pub fn read_clause(
     around: &Around<'_>,
     common: &Common<'_>,
     constraint: &Con,
+    giver: Giver,
     arm: &Arm,
     core: &Core,
 ) -> Result<(), AllocError>
     requires { IsAtRest (walk.seen body.old) }
-    ensures { OnOk result (walk.seen body.new ≡ walk.run (spec.clause_read constraint.now common.now.place common.now.entry (around_of around.now)
-        common.now.types.now common.now.aim.now common.now.is_declared arm.now core.now) (walk.seen body.old)) }
+    ensures { OnOk result (walk.seen body.new ≡ walk.run (spec.clause_read constraint.now common.now.place giver
+        (around_of around.now) common.now.types.now common.now.aim.now common.now.is_declared arm.now core.now) (walk.seen body.old)) }
 {
-    let inner = walk_alone(alloc, body.next(), around, common, constraint, arm, core)?;
+    let inner = walk_alone(
+        alloc,
+        body.next(),
+        around,
+        common,
+        constraint,
+        giver,
+        arm,
+        core,
+    )?;
     let mut behind = Items::new(alloc);
     let sized = sized_body(common.is_declared, core);
     push_core(alloc, &mut behind, around.numbers, sized)?;
@@ -106,14 +120,15 @@ fn read_arms(
     cores: &[Core],
 ) -> Result<(), AllocError>
     requires { IsAtRest (walk.seen body.old) }
-    ensures { OnOk result (walk.seen body.new ≡ walk.run (spec.arms_read constraint.now common.now.place common.now.entry (around_of around.now)
-        common.now.types.now common.now.aim.now common.now.is_declared arms.now cores.now) (walk.seen body.old)) }
+    ensures { OnOk result (walk.seen body.new ≡ walk.run (spec.arms_read constraint.now common.now.place common.now.number
+        (around_of around.now) common.now.types.now common.now.aim.now common.now.is_declared arms.now cores.now) (walk.seen body.old)) }
 {
     let count = lesser(arms.len(), cores.len());
     for at in 0..count {
         let arm = &arms[at];
         let core = &cores[at];
-        read_clause(alloc, body, around, common, constraint, arm, core)?;
+        let giver = Giver::Arm(common.number, arms.len() - at - 1);
+        read_clause(alloc, body, around, common, constraint, giver, arm, core)?;
     }
     Ok(())
 }
@@ -132,7 +147,6 @@ pub fn arms_of(core: &Core) -> &[Arm]
 pub fn read_clauses(
     alloc: Global,
     body: &mut Walking,
-    entry: u32,
     around: &Around<'_>,
     constraint: &Con,
     types: &[Typ],
@@ -141,12 +155,12 @@ pub fn read_clauses(
     core: &Core,
 ) -> Result<(), AllocError>
     requires { IsAtRest (walk.seen body.old) }
-    ensures { OnOk result (walk.seen body.new ≡ walk.run (spec.clauses_read constraint.now (Some entry) (around_of around.now) types.now aim.now
+    ensures { OnOk result (walk.seen body.new ≡ walk.run (spec.clauses_read constraint.now (around_of around.now) types.now aim.now
         is_declared core.now) (walk.seen body.old)) }
 {
     let common = Common {
         place: core.place,
-        entry: Some(entry),
+        number: core.number,
         types,
         aim,
         is_declared,

@@ -46,7 +46,6 @@ fn read_declared(
     read_clauses(
         alloc,
         body,
-        function.entry,
         &inner,
         &function.constraint,
         function.parameters.as_slice(),
@@ -86,7 +85,6 @@ fn read_measured(
     read_clauses(
         alloc,
         body,
-        function.entry,
         &inner,
         &function.constraint,
         function.parameters.as_slice(),

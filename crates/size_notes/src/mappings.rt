@@ -12,7 +12,7 @@ use call_arguments::Aim;
 use function_notes::{Common, lesser};
 use pattern_leaves::Around;
 use sail_base::{Items, Place};
-use sail_core::{Arm, Core, Direction};
+use sail_core::{Arm, Core, Direction, Giver};
 use sail_types::Con;
 use size_splits::BodySteps;
 use std::alloc::{AllocError, Global};
@@ -27,18 +27,19 @@ struct Side<'a> {
     cores: &'a [Core],
 }
 
-/// What is read of a clause of a direction. It fails where memory is wanting, and where variables are too many.
+/// What is read of a clause of a direction, with so many behind it. It fails where memory is wanting, and where variables are too many.
 fn read_way(
     alloc: Global,
     body: &mut Walking,
     place: Place,
     around: &Around<'_>,
     direction: &Direction,
+    behind: usize,
     arm: &Arm,
     core: &Core,
 ) -> Result<(), AllocError>
     requires { IsAtRest (walk.seen body.old) }
-    ensures { OnOk result (walk.seen body.new ≡ walk.run (spec.way_read place (around_of around.now) direction.now arm.now core.now)
+    ensures { OnOk result (walk.seen body.new ≡ walk.run (spec.way_read place (around_of around.now) direction.now behind arm.now core.now)
         (walk.seen body.old)) }
 {
     let typ = copy_typ(alloc, &direction.result)?;
@@ -47,13 +48,14 @@ fn read_way(
     types.push(copy_typ(alloc, &direction.parameter)?)?;
     let common = Common {
         place,
-        entry: None,
+        number: direction.body.number,
         types: types.as_slice(),
         aim: &aim,
         is_declared: true,
     };
     let free = Con::Truth(true);
-    read_clause(alloc, body, around, &common, &free, arm, core)
+    let giver = Giver::Arm(direction.body.number, behind);
+    read_clause(alloc, body, around, &common, &free, giver, arm, core)
 }
 
 /// How many clauses both sides have whole.
@@ -88,10 +90,30 @@ fn read_both(
     for at in 0..count {
         let arm = &arms[at];
         let core = &cores[at];
-        read_way(alloc, body, place, around, forwards.direction, arm, core)?;
+        let left = arms.len() - at - 1;
+        read_way(
+            alloc,
+            body,
+            place,
+            around,
+            forwards.direction,
+            left,
+            arm,
+            core,
+        )?;
         let back = &backs[at];
         let given = &givens[at];
-        read_way(alloc, body, place, around, backwards.direction, back, given)?;
+        let before = backs.len() - at - 1;
+        read_way(
+            alloc,
+            body,
+            place,
+            around,
+            backwards.direction,
+            before,
+            back,
+            given,
+        )?;
     }
     Ok(())
 }

@@ -4,6 +4,7 @@ use Rattle.std.specs.Prelude.{ℕ, ℤ, List, [], ◌∷◌, ◌++◌, map, Opti
 use Rattle.sail_types.specs.declared.numbers.Index.{Index}
 use Rattle.sail_core.specs.declared.tree.Callee.{Callee}
 use Rattle.sail_core.specs.declared.tree.Callee.TheVariants as D
+use Rattle.sail_core.specs.declared.tree.Giver.{Giver}
 use Rattle.value_indices.specs.declared.indices.Indices.{Indices}
 use Rattle.value_indices.specs.declared.indices.Reading.{Reading}
 use Rattle.value_indices.specs.declared.notes.Fact.{Fact}
@@ -42,13 +43,13 @@ abbrev pub at_call : Inside → List Instance → List Fact → ℕ → List Ind
 at_call r list facts k operands (D.Function f) js qs = function_at r list facts k operands f js qs
 at_call r list facts k operands callee js qs = []
 
-abbrev pub given_at : ℕ → Indices → List NodeSizes
-given_at k i = Z.Gives k i ∷ []
+abbrev pub given_at : Giver → Indices → List NodeSizes
+given_at g i = Z.Gives g i ∷ []
 
 abbrev pub at_note : Inside → List Instance → Note → List NodeSizes
 at_note r list (made_note facts k operands made) = made_at r facts k operands made
 at_note r list (call_note facts place k operands callee js qs) = at_call r list facts k operands callee js qs
-at_note r list (given_note facts k i) = given_at k i
+at_note r list (given_note facts g i) = given_at g i
 at_note r list note = []
 
 -- in the order of the walk; the number of a target comes where it is read and where it is written
@@ -60,7 +61,7 @@ at_notes r list (n ∷ ns) = at_note r list n ++ at_notes r list ns
 abbrev pub at_step : Inside → List Instance → List Fact → Step → List NodeSizes
 at_step r list facts (S.Makes k operands made) = made_at r facts k operands made
 at_step r list facts (S.Calls place k operands callee js qs) = at_call r list facts k operands callee js qs
-at_step r list facts (S.Gives k i) = given_at k i
+at_step r list facts (S.Gives g i) = given_at g i
 at_step r list facts step = []
 
 -- ---- a body, for these numbers and types

@@ -12,7 +12,7 @@ use crate::leads::{FunctionCall, leads_under};
 use crate::trees::NodeSizes;
 use monomorph::{Inside, Instance, Model};
 use sail_base::Items;
-use sail_core::Callee;
+use sail_core::{Callee, Giver};
 use sail_types::Index;
 use size_splits::{BodySteps, follow_telling, splits};
 use size_values::Sized;
@@ -84,16 +84,16 @@ fn push_call(
     }
 }
 
-/// Puts what the value of a node gives numbers to. It fails where memory is wanting.
+/// Puts what a value, or what names hold, gives numbers to. It fails where memory is wanting.
 fn push_given(
     alloc: Global,
     nodes: &mut Items<NodeSizes>,
-    number: u32,
+    giver: Giver,
     indices: &Indices,
 ) -> Result<(), AllocError>
-    ensures { OnOk result (nodes.new ≡ nodes.old ++ spec.given_at number indices.now) }
+    ensures { OnOk result (nodes.new ≡ nodes.old ++ spec.given_at giver indices.now) }
 {
-    nodes.push(NodeSizes::Gives(number, copy_indices(alloc, indices)?))
+    nodes.push(NodeSizes::Gives(giver, copy_indices(alloc, indices)?))
 }
 
 /// Puts what a step says of its node, under these facts. It fails where memory is wanting.
@@ -129,7 +129,7 @@ fn push_step(
             numbers.as_slice(),
             types.as_slice(),
         ),
-        Step::Gives(number, indices) => push_given(alloc, nodes, *number, indices),
+        Step::Gives(giver, indices) => push_given(alloc, nodes, *giver, indices),
         _ => Ok(()),
     }
 }

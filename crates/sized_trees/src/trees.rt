@@ -1,6 +1,7 @@
 //! Models with constant sizes.
 use monomorph::Instance;
 use sail_base::Items;
+use sail_core::Giver;
 use size_values::{Picked, Sized};
 use value_indices::Indices;
 
@@ -32,8 +33,8 @@ pub enum NodeSizes {
     Makes(u32, Items<Case>),
     /// The node of this number calls a function: where each combination that counts there leads.
     Calls(u32, Items<Lead>),
-    /// The value of the node of this number gives numbers to the variables that stand alone in these indices.
-    Gives(u32, Indices),
+    /// A node's value, or what an arm's names hold, gives numbers to the variables that stand alone in these indices.
+    Gives(Giver, Indices),
 }
 
 impl Drop for NodeSizes {

@@ -33,8 +33,7 @@ fn patterns(alloc: Global, parameters: &[Typ]) -> Result<Items<Pattern>, AllocEr
     Ok(made)
 }
 
-/// A function with a `val`, whose arguments come in at node 0, and whose value comes to the type of the result at node 9. Node 2 is the end of
-/// its body.
+/// A function with a `val`: its clause is an arm of node 1, its body ends at node 2, and its value comes to the type of the result at node 9.
 pub fn function(
     alloc: Global,
     variables: Items<Parameter>,

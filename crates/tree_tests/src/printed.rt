@@ -1,5 +1,6 @@
 //! What is constant in a model, as text.
 use sail_base::dec_text;
+use sail_core::Giver;
 use size_values::{Picked, Sized};
 use sized_trees::{Case, Lead, NodeSizes, Signature, SizedCore, SizedInstance};
 use std::alloc::{AllocError, Global};
@@ -69,6 +70,19 @@ fn push_head(alloc: Global, out: &mut Vec<u8>, word: &[u8], number: u32) -> Resu
     out.extend_from_slice(b"\n")
 }
 
+fn push_giver(alloc: Global, out: &mut Vec<u8>, giver: Giver) -> Result<(), AllocError> {
+    match giver {
+        Giver::Node(number) => push_head(alloc, out, b"gives ", number),
+        Giver::Arm(number, behind) => {
+            out.extend_from_slice(b"arm of ")?;
+            push_number(alloc, out, number as i128)?;
+            out.extend_from_slice(b" before ")?;
+            push_number(alloc, out, behind as i128)?;
+            out.extend_from_slice(b"\n")
+        }
+    }
+}
+
 fn push_node(alloc: Global, out: &mut Vec<u8>, node: &NodeSizes) -> Result<(), AllocError> {
     match node {
         NodeSizes::Makes(number, cases) => {
@@ -85,7 +99,7 @@ fn push_node(alloc: Global, out: &mut Vec<u8>, node: &NodeSizes) -> Result<(), A
             }
             Ok(())
         }
-        NodeSizes::Gives(number, _) => push_head(alloc, out, b"gives ", *number),
+        NodeSizes::Gives(giver, _) => push_giver(alloc, out, *giver),
     }
 }
 

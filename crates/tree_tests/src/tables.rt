@@ -51,7 +51,7 @@ fn numbers(alloc: Global) -> Typ {
 
 /// The function stands third, behind `reset` and `step`; `step` has its literal at node 4, which makes nothing of parts.
 const OF_ANY_WIDTH: &str = "function 1: () -> unit
-gives 0
+arm of 1 before 0
 makes 2
   (unit) -> unit
 gives 2
@@ -59,7 +59,7 @@ makes 9
   (unit) -> unit
 gives 9
 function 2: () -> bits 8
-gives 0
+arm of 1 before 0
 calls 3
   (bits 8) to instance 2
 makes 3
@@ -72,7 +72,7 @@ makes 9
   (bits 8) -> bits 8
 gives 9
 function 0: (bits 8) -> bits 8
-gives 0
+arm of 1 before 0
 makes 3
   (bits 8) -> bits 8
 gives 3
@@ -86,7 +86,7 @@ gives 9
 
 /// The variable that the parameter of the range opens, 0, is 1 or 2 at the nodes of the body, and not in force at the last one.
 const BY_RANGE: &str = "function 1: () -> unit
-gives 0
+arm of 1 before 0
 makes 2
   (unit) -> unit
 gives 2
@@ -94,7 +94,7 @@ makes 9
   (unit) -> unit
 gives 9
 function 2: () -> int
-gives 0
+arm of 1 before 0
 calls 3
   (int) to instance 2
 makes 3
@@ -107,7 +107,7 @@ makes 9
   (int) -> int
 gives 9
 function 0: (int) -> int
-gives 0
+arm of 1 before 0
 makes 5
   [0=1] (int) -> int
   [0=2] (int) -> int

@@ -2,6 +2,7 @@
 use Rattle.std.proofs.Common.{◌≡◌, sym, refl, ℕ, suc, List, [], ◌∷◌, ◌++◌, append_assoc, append-nil, Option}
 use Rattle.sail_base.specs.declared.place.Place.{Place}
 use Rattle.sail_core.specs.declared.tree.Callee.{Callee}
+use Rattle.sail_core.specs.declared.tree.Giver.{Giver}
 use Rattle.sail_types.specs.declared.numbers.Con.{Con}
 use Rattle.sail_types.specs.declared.numbers.Index.{Index}
 use Rattle.value_indices.specs.declared.indices.Indices.{Indices}
@@ -117,6 +118,6 @@ pub way_read : (direction : ℕ) (w : Written) → run (note (λ facts. steps.wa
 unfolding run note
 way_read direction w = refl
 
-pub gives_read : (k : ℕ) (indices : Indices) (w : Written) → run (note (λ facts. steps.given_note facts k indices)) w ≡ step_read w (S.Gives k indices)
+pub gives_read : (g : Giver) (indices : Indices) (w : Written) → run (note (λ facts. steps.given_note facts g indices)) w ≡ step_read w (S.Gives g indices)
 unfolding run note
-gives_read k indices w = refl
+gives_read g indices w = refl

@@ -39,7 +39,7 @@ step_counted n w (S.Sizes place made) = refl
 step_counted n w (S.Makes k operands made) = refl
 step_counted n w (S.Calls place k operands callee numbers types) = refl
 step_counted n w (S.Converts direction) = refl
-step_counted n w (S.Gives k indices) = refl
+step_counted n w (S.Gives g indices) = refl
 step_counted n w (S.Names variable name) = refl
 
 -- one step more

@@ -6,6 +6,7 @@ use Rattle.sail_types.specs.declared.numbers.Con.{Con}
 use Rattle.sail_types.specs.declared.numbers.Con.TheVariants as C
 use Rattle.sail_types.specs.declared.numbers.Index.{Index}
 use Rattle.sail_core.specs.declared.tree.Callee.{Callee}
+use Rattle.sail_core.specs.declared.tree.Giver.{Giver}
 use Rattle.value_indices.specs.declared.indices.Indices.{Indices}
 use Rattle.value_indices.specs.declared.notes.Fact.{Fact}
 use Rattle.value_indices.specs.declared.notes.Fact.TheVariants as Y
@@ -37,8 +38,8 @@ pub data Note : Type 0 where
   call_note : List Fact → Place → ℕ → List Indices → Callee → List Index → List Reading → Note
   -- a direction of a mapping in a pattern
   way_note : List Fact → ℕ → Note
-  -- the node of this number gives the numbers of opened variables
-  given_note : List Fact → ℕ → Indices → Note
+  -- the numbers of opened variables are given, by a node's value or by what an arm's names hold
+  given_note : List Fact → Giver → Indices → Note
   -- a variable has this name
   name_note : ℕ → List ℕ → Note
 

@@ -101,7 +101,7 @@ step_read w (S.Sizes place made) = noting w (size_note w.facts place made)
 step_read w (S.Makes k operands made) = noting w (made_note w.facts k operands made)
 step_read w (S.Calls place k operands callee numbers types) = noting w (call_note w.facts place k operands callee numbers types)
 step_read w (S.Converts direction) = noting w (way_note w.facts direction)
-step_read w (S.Gives k indices) = noting w (given_note w.facts k indices)
+step_read w (S.Gives giver indices) = noting w (given_note w.facts giver indices)
 step_read w (S.Names variable name) = noting w (name_note variable name)
 
 abbrev pub steps_read : Written → List Step → Written

@@ -7,7 +7,7 @@ ghost use Rattle.value_indices.specs.Walking.{Written, step_read};
 use crate::force::{forget, restore, unclaim};
 use crate::indices::{Indices, Reading};
 use sail_base::{Items, Place, Text};
-use sail_core::Callee;
+use sail_core::{Callee, Giver};
 use sail_types::{Con, Index};
 use std::alloc::AllocError;
 
@@ -83,8 +83,8 @@ pub enum Step {
     Calls(Place, u32, Items<Indices>, Callee, Items<Index>, Items<Reading>),
     /// A direction of a mapping in a pattern.
     Converts(u32),
-    /// The node of this number gives the numbers of opened variables.
-    Gives(u32, Indices),
+    /// The numbers of opened variables are given, by a node's value or by what an arm's names hold.
+    Gives(Giver, Indices),
     /// A variable has this name.
     Names(u32, Text),
 }

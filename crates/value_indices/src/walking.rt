@@ -8,7 +8,7 @@ use crate::force::facts_of;
 use crate::indices::{Indices, Reading};
 use crate::notes::{Fact, Made, Step};
 use sail_base::{Items, Place, Text};
-use sail_core::Callee;
+use sail_core::{Callee, Giver};
 use sail_types::{Con, Index};
 use std::alloc::{AllocError, Global};
 
@@ -289,11 +289,11 @@ impl Walking {
         self.write(Step::Converts(direction))
     }
 
-    /// Notes that the node of a number gives the numbers of opened variables.
-    pub fn note_given(&mut self, number: u32, indices: Indices) -> Result<(), AllocError>
-        ensures { OnOk result (walk.seen self.new ≡ walk.run (steps.note (λ facts. steps.given_note facts number indices)) (walk.seen self.old)) }
+    /// Notes what gives the numbers of opened variables.
+    pub fn note_given(&mut self, giver: Giver, indices: Indices) -> Result<(), AllocError>
+        ensures { OnOk result (walk.seen self.new ≡ walk.run (steps.note (λ facts. steps.given_note facts giver indices)) (walk.seen self.old)) }
     {
-        self.write(Step::Gives(number, indices))
+        self.write(Step::Gives(giver, indices))
     }
 
     /// The facts that are in force at the end. It fails where memory is wanting.

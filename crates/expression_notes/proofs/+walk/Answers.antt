@@ -6,6 +6,7 @@ use Rattle.sail_types.specs.declared.numbers.Con.{Con}
 use Rattle.sail_core.specs.declared.targets.Target.{Target, out-Target}
 use Rattle.sail_core.specs.declared.targets.TargetKind.TheVariants as T
 use Rattle.sail_core.specs.declared.tree.Core.{out-Core}
+use Rattle.sail_core.specs.declared.tree.Giver.TheVariants as Gives
 use Rattle.value_indices.proofs.Walks.{run_give}
 use Rattle.value_indices.specs.Steps.{Walk, bind}
 use Rattle.value_indices.specs.Walking.{got, run, seen}
@@ -55,7 +56,7 @@ use Rattle.expression_notes.proofs.RowLaws.{row_due, row_free}
 use Rattle.expression_notes.proofs.+walk.Goals as goal
 use Rattle.std.specs.Option.{option_copied}
 use Rattle.expression_steps.proofs.Left.{item_there}
-use Rattle.expression_notes.proofs.BlockSteps.{few_more, names_grown, part_mass, statement_alike}
+use Rattle.expression_notes.proofs.BlockSteps.{few_more, names_grown, part_mass, statement_alike, statements_behind}
 use Rattle.expression_notes.specs.Chains.{written_back}
 use Rattle.expression_notes.proofs.ChainSteps.{gone_alike, last_alike, onward_alike}
 use Rattle.expression_notes.proofs.Blocks.{assert_alike, if_alike, in_alike, more_alike, other_alike}
@@ -542,7 +543,7 @@ branches::walk_cases-returns-in_ok-cases-in-len1-up t c = let around = around_of
 
 pub statements::walk_bound-returns : goal.statements::walk_bound-returns
 statements::walk_bound-returns t c = let value = c.in_ok-value.ensures in
-    let same = names_alike (part c.args.core.now) _ _ _ _ _ _ _ _ _ c.is_nested-nested.ensures c.in_ok-aim.ensures.value c.in_ok-aim.ensures.walked
+    let same = names_alike (part c.args.core.now) _ _ c.args.giver _ _ _ _ _ _ _ c.is_nested-nested.ensures c.in_ok-aim.ensures.value c.in_ok-aim.ensures.walked
     value.value value.walked in
     record { value = value_same _ _ _ same.value c.end_binding.ensures.value; walked = walked_same _ _ _ _ same.walked c.end_binding.ensures.walked }
 
@@ -575,7 +576,7 @@ statements::walk_state-returns-in_ok-walk_expression-in_default t c = let same =
 pub statements::walk_in-returns-in_ok-aim-in-len2 : goal.statements::walk_in-returns-in_ok-aim-in-len2
 statements::walk_in-returns-in_ok-aim-in-len2 t c = let scope = scope_of c.args.scope.now in let found = c.in_ok-found-in-len2.ensures in
     let within = c.with-inside.ensures ∙ ap (λ (bs : List Bound). bs ++ scope) c.as_slice.ensures in
-    let same = in_alike _ (part c.core-item.result) (part c.body-item.result) _ _ _ _ _ _ _ _ found.value found.walked within c.in_ok-aim-in-len2.ensures in
+    let same = in_alike _ _ (part c.core-item.result) (part c.body-item.result) _ _ _ _ _ _ _ _ found.value found.walked within c.in_ok-aim-in-len2.ensures in
     let two = two_of _ _ _ c.in-len2.len_at_least c.in-len2.len_below c.core-item.is c.body-item.is in let by = c.walk_expression.ensures in
     record { value = rw two (value_same _ _ _ same.value by.value); walked = rw two (walked_same _ _ _ _ same.walked by.walked) }
 
@@ -591,10 +592,11 @@ statements::walk_block-loop-index-preserved t c = let l = c.loop-index in let sc
     let stepped = c.in_ok-found-in-Some.ensures in let claimed = c.in_ok-claims-in-Some.ensures in
     let grown = names_grown _ c.in_ok-found-in-Some.found (newest l.groups) scope c.in_ok-bring_in-in-Some.ensures in
     let counted = ap (λ n. l.claims + n) claimed.value in
-    let same = statement_alike c.args.place (around_of c.args.around.now) c.args.aim.now c.args.statements.now c.args.parts.now l.index
+    let behind = statements_behind l.index c.args.statements.now c.loop-index-test.true in
+    let same = statement_alike c.args.place c.args.number (around_of c.args.around.now) c.args.aim.now c.args.statements.now c.args.parts.now l.index
     c.index-statements-index.result c.loop-index-test.true c.index-statements-index.is c.in-Some.core.now (sym there ∙ ap option_copied c.in-Some.is) _ _
-    inside (seen l.walking) _ c.in_ok-found-in-Some.found c.in_ok-found-in-Some.condition stepped.value stepped.walked l.claims _ _ _ counted claimed.walked
-    grown in
+    inside (seen l.walking) _ _ (ap (λ n. Gives.Arm c.args.number n) behind) c.in_ok-found-in-Some.found c.in_ok-found-in-Some.condition
+    stepped.value stepped.walked l.claims _ _ _ counted claimed.walked grown in
     record {
       value = same.value ∙ l.invariant.value;
       walked = same.walked ∙ l.invariant.walked;

@@ -146,8 +146,9 @@ decreases-statements::walk_block l = masses l.parts.now + 28
 abbrev pub invariant-statements::walk_block-loop-index : goal.invariant-statements::walk_block-loop-index
 invariant-statements::walk_block-loop-index l =
     let outer = scope_of l.scope in
-    let rest = block_walk l.place (drop l.index l.statements) (each_part (drop l.index l.parts)) (around_of l.around) (newest l.groups ++ outer) l.aim in
-    let all = block_walk l.place l.statements (each_part l.parts) (around_of l.around) outer l.aim in
+    let rest = block_walk l.place l.number (drop l.index l.statements) (each_part (drop l.index l.parts)) (around_of l.around) (newest l.groups ++ outer)
+    l.aim in
+    let all = block_walk l.place l.number l.statements (each_part l.parts) (around_of l.around) outer l.aim in
     record {
       value : got rest (seen l.walking) ≡ got all (seen l.fn.walking);
       walked : unclaimed_times l.claims (run rest (seen l.walking)) ≡ run all (seen l.fn.walking);

@@ -8,7 +8,7 @@ use Rattle.expression_steps.proofs.ways.case_ways.Given as goal
 abbrev pub invariant-loop-index : goal.invariant-loop-index
 invariant-loop-index l = record {
   ways : (around : Around) (scope : Scope) (aim : Aim)
-      → ways_seen around scope aim l.ways ++ case_ways l.place (drop l.index l.arms) (each_part (drop l.index l.bodies)) around scope aim l.value
-      ≡ ways_seen around scope aim l.fn.ways ++ case_ways l.place l.arms (each_part l.bodies) around scope aim l.value;
+      → ways_seen around scope aim l.ways ++ case_ways l.place l.number (drop l.index l.arms) (each_part (drop l.index l.bodies)) around scope aim l.value
+      ≡ ways_seen around scope aim l.fn.ways ++ case_ways l.place l.number l.arms (each_part l.bodies) around scope aim l.value;
   cores : way_cores l.ways ≡ way_cores l.fn.ways ++ take l.index l.bodies;
 }

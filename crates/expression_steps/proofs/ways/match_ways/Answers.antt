@@ -6,7 +6,7 @@ use Rattle.expression_steps.proofs.ways.match_ways.Goals as goal
 
 pub returns-clause-ways : goal.returns-clause-ways
 returns-clause-ways c = λ around scope aim.
-    cases_seen c.args.place around scope aim c.args.value.now c.args.arms.now c.args.bodies.now c.new-ways.result c.case_ways.new.ways
+    cases_seen c.args.place c.args.number around scope aim c.args.value.now c.args.arms.now c.args.bodies.now c.new-ways.result c.case_ways.new.ways
     c.case_ways.new.ways [] c.new-ways.ensures refl (c.in_ok-case_ways.ensures.ways around scope aim)
 
 pub returns-clause-cores : goal.returns-clause-cores

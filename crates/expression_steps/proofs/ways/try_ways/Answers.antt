@@ -5,7 +5,7 @@ use Rattle.expression_steps.proofs.ways.try_ways.Goals as goal
 
 pub returns-clause-ways : goal.returns-clause-ways
 returns-clause-ways c = λ around scope aim.
-    cases_behind c.args.place around scope aim c.args.value.now c.args.arms.now c.args.bodies.now c.new-ways.result c.push.new.self
+    cases_behind c.args.place c.args.number around scope aim c.args.value.now c.args.arms.now c.args.bodies.now c.new-ways.result c.push.new.self
     c.case_ways.new.ways c.case_ways.new.ways _ c.new-ways.ensures c.in_ok-push.ensures.pushed refl
     (c.in_ok-case_ways.ensures.ways around scope aim)
 

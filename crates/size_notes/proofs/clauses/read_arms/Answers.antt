@@ -1,4 +1,5 @@
-use Rattle.std.proofs.Common.{◌≡◌, refl, sym, subst, arith}
+use Rattle.std.proofs.Common.{◌≡◌, ◌+◌, ◌-◌, refl, sym, subst, arith, drop, length, length-drop}
+use Rattle.sail_core.specs.declared.tree.Giver.TheVariants as Gives
 use Rattle.value_indices.specs.Walking.{Written, seen}
 use Rattle.pattern_leaves.specs.Settings.{around_of}
 use Rattle.size_notes.specs.Behind.{found_in, node_of}
@@ -17,13 +18,15 @@ loop-at-preserved c =
     let arm = c.index-arms-at.result in
     let core = c.index-cores-at.result in
     let walked = c.in_ok-read_clause.ensures in
+    let behind : length c.args.arms.now - l.at - 1 ≡ length (drop (l.at + 1) c.args.arms.now) = omega (arith, length-drop (l.at + 1) c.args.arms.now) in
     record {
       rest = subst (λ (w : Written). IsAtRest w) (sym walked) (alone_rest (found_in (node_of around.numbers (sized_body common.is_declared core)))
-          (clause_inside con common.place common.entry around ts common.aim.now common.is_declared arm core) (seen l.body) l.invariant.rest);
-      walked = pair_next (clause_read con common.place common.entry around ts common.aim.now common.is_declared)
-          (arms_read con common.place common.entry around ts common.aim.now common.is_declared) (λ a xs b ys. refl) (λ ys. refl) (λ a xs. refl)
+          (clause_inside con common.place (Gives.Arm common.number (length c.args.arms.now - l.at - 1)) around ts common.aim.now
+          common.is_declared arm core) (seen l.body) l.invariant.rest);
+      walked = pair_next (λ n. clause_read con common.place (Gives.Arm common.number n) around ts common.aim.now common.is_declared)
+          (arms_read con common.place common.number around ts common.aim.now common.is_declared) (λ a xs b ys. refl) (λ ys. refl) (λ a xs. refl)
           c.args.arms.now c.args.cores.now l.at arm core (seen l.body) (seen c.read_clause.new.body) _ (omega arith) (omega arith)
-          c.index-arms-at.is c.index-cores-at.is walked l.invariant.walked;
+          c.index-arms-at.is c.index-cores-at.is (length c.args.arms.now - l.at - 1) behind walked l.invariant.walked;
     }
 
 pub returns : goal.returns
@@ -34,6 +37,6 @@ returns c =
     let around = around_of c.args.around.now in
     let ts = common.types.now in
     let at : l.at ≡ c.lesser-count.result = omega (arith, c.loop-at-test.false, l.auto.at-end) in
-    pair_end (clause_read con common.place common.entry around ts common.aim.now common.is_declared)
-    (arms_read con common.place common.entry around ts common.aim.now common.is_declared) (λ a xs b ys. refl) (λ ys. refl) (λ a xs. refl)
+    pair_end (λ n. clause_read con common.place (Gives.Arm common.number n) around ts common.aim.now common.is_declared)
+    (arms_read con common.place common.number around ts common.aim.now common.is_declared) (λ a xs b ys. refl) (λ ys. refl) (λ a xs. refl)
     c.args.arms.now c.args.cores.now l.at (seen l.body) _ (omega (arith, at, c.lesser-count.ensures)) l.invariant.walked

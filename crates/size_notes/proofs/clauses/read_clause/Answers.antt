@@ -12,8 +12,8 @@ pub append_alone-requires-clause-ended : goal.append_alone-requires-clause-ended
 append_alone-requires-clause-ended c =
     let common = c.args.common.now in
     subst (λ (w : Written). IsAtRest w) (sym c.in_ok-inner.ensures)
-    (ended_rest (clause_inside c.args.constraint.now common.place common.entry (around_of c.args.around.now) common.types.now common.aim.now common.is_declared
-    c.args.arm.now c.args.core.now) c.next.result)
+    (ended_rest (clause_inside c.args.constraint.now common.place c.args.giver (around_of c.args.around.now) common.types.now common.aim.now
+    common.is_declared c.args.arm.now c.args.core.now) c.next.result)
 
 pub returns : goal.returns
 returns c =
@@ -21,7 +21,8 @@ returns c =
     let around = around_of c.args.around.now in
     let found = found_in (node_of around.numbers (sized_body common.is_declared c.args.core.now)) in
     appended_alone c.append_alone.result found c.as_slice.result.now
-    (clause_inside c.args.constraint.now common.place common.entry around common.types.now common.aim.now common.is_declared c.args.arm.now c.args.core.now)
+    (clause_inside c.args.constraint.now common.place c.args.giver around common.types.now common.aim.now common.is_declared c.args.arm.now
+    c.args.core.now)
     c.next.result (seen c.args.body.now) (seen c.in_ok-inner.inner) (seen c.append_alone.new.body) c.next.ensures c.in_ok-inner.ensures
     (c.as_slice.ensures
     ∙ (c.in_ok-push_core.ensures ∙ (λ j. c.new-behind.ensures j ++ found_in (node_of around.numbers (c.sized_body-sized.ensures j))))) c.append_alone.ensures
