@@ -70,9 +70,6 @@ pub grows_under : (name : List ℕ) (d : Constant) (cs ds : List Constant) → G
 grows_under name d cs ds g zero z h = none h
 grows_under name d cs ds g (suc i) z h = g i z h
 
-pub grows_same : (cs : List Constant) → Grows cs cs
-grows_same cs i z h = h
-
 -- of the numbers of a named type those that are there
 pub open_grows : (zs : List (Option ℤ)) → Grows (map open_of zs) (map constant_of zs)
 open_grows [] i z h = h

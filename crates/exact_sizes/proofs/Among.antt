@@ -208,10 +208,10 @@ module _ (has : ℕ → Bool) (of to : ℕ → Constant) (same : SameAmong has o
 
 -- ---- types under constants
 
-abbrev SameAt : List Bool → List Constant → List Constant → Type 0
+abbrev pub SameAt : List Bool → List Constant → List Constant → Type 0
 SameAt bs cs ds = SameAmong (at bs) (argument_of cs) (argument_of ds)
 
-same_under : (bs : List Bool) (c : Constant) (cs ds : List Constant) → SameAt bs cs ds → SameAt (true ∷ bs) (c ∷ cs) (c ∷ ds)
+pub same_under : (bs : List Bool) (c : Constant) (cs ds : List Constant) → SameAt bs cs ds → SameAt (true ∷ bs) (c ∷ cs) (c ∷ ds)
 same_under bs c cs ds s zero h = refl
 same_under bs c cs ds s (suc i) h = s i h
 
@@ -277,13 +277,13 @@ module _ (types : Types) (ss : List Sized) where
       ap (λ (f : Test). f bs) (fold-roll-Typ Test (form_among types) (form_of y)) in
       sized cs ∙ form_same y bs cs ds s (sym tested ∙ h) ∙ sym (sized ds)
 
-  typ_hangs : (t : Typ) → SuchTyp t
+  pub typ_hangs : (t : Typ) → SuchTyp t
   typ_hangs = ind-Typ SuchTyp (λ e y is. subst (λ d. SuchTyp (roll-Typ d)) is (typ_step y))
 
 -- ---- values
 
 module _ (types : Types) (own : List Sized) (has : ℕ → Bool) (of to : ℕ → Constant) (same : SameAmong has of to) where
-  arguments_same : (is : List Index) → SameAt (map (index_among has) is) (map (index_under of) is) (map (index_under to) is)
+  pub arguments_same : (is : List Index) → SameAt (map (index_among has) is) (map (index_under of) is) (map (index_under to) is)
   arguments_same [] i h = refl
   arguments_same (a ∷ is) zero h = index_same has of to same a h
   arguments_same (a ∷ is) (suc i) h = arguments_same is i h
@@ -389,7 +389,7 @@ module _ (types : Types) (own : List Sized) (has : ℕ → Bool) (of to : ℕ �
   value_hangs = ind-Indices SameI SameR (λ e y is. subst (λ d. SameI (roll-Indices d)) is (value_step y))
       (λ e y is. subst (λ d. SameR (roll-Reading d)) is (reading_step y))
 
-  reading_hangs : (r : Reading) → SameR r
+  pub reading_hangs : (r : Reading) → SameR r
   reading_hangs = ind-Reading SameI SameR (λ e y is. subst (λ d. SameI (roll-Indices d)) is (value_step y))
       (λ e y is. subst (λ d. SameR (roll-Reading d)) is (reading_step y))
 

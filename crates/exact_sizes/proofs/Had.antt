@@ -1,13 +1,12 @@
 -- A value of some indices, or of a type of the walk, has their sizes.
-use Rattle.std.proofs.Common.{◌≡◌, ◌∙◌, ap, sym, refl, subst, ℕ, zero, suc, ℤ, pos, nat_eq, nat_lt, Bool, true, ◌&&◌, List, [], ◌∷◌}
+use Rattle.std.proofs.Common.{◌≡◌, ◌∙◌, ap, sym, refl, subst, ℕ, zero, suc, ℤ, pos, Bool, true, ◌&&◌, List, [], ◌∷◌}
 use Rattle.std.proofs.Common.{◌≤◌, arith, map, length, slice_get}
-use Rattle.std.specs.Prelude.{Option, Some, None}
+use Rattle.std.specs.Prelude.{int_le, Option, Some, None}
 use Rattle.std.specs.List.{list_all}
 use Rattle.std.specs.Ordering.{int_eq}
 use Rattle.std.proofs.lemmas.Bool.{and_parts}
 use Rattle.sail_types.specs.Belongs.{Reading as Closed, Readings as Closeds, reading, no_readings, assigned, belongs}
-use Rattle.sail_types.specs.Limits.{is_length}
-use Rattle.sail_types.specs.Named.{members}
+use Rattle.sail_types.specs.Limits.{is_length, is_small}
 use Rattle.sail_types.specs.Numbers.{Assignment, Positive, number}
 use Rattle.sail_types.specs.Sums.{constant}
 use Rattle.sail_types.specs.Zero.{deepest}
@@ -150,12 +149,12 @@ module _ (types : Types) (past : Positive) (f : ℕ → ℤ) (own : List Closed)
   bits_had t p w h = no h
 
   integer_had : (t : Num) (w : Value-F Value) → form_holds types mu own (W.Integer t) w ≡ true → form_fits types (fitting types w) Z.Int ≡ true
-  integer_had t (V.Integer z) h = refl
+  integer_had t (V.Integer z) h = (and_parts (int_eq z (number mu t)) (is_small z) h).1
   integer_had t w h = no h
 
   integer_wide : (t u : Num) (nu : Assignment) (w : Value-F Value) → form_asked types w (T.Range t u) nu no_readings ≡ true
       → form_fits types (fitting types w) Z.Int ≡ true
-  integer_wide t u nu (V.Integer z) h = refl
+  integer_wide t u nu (V.Integer z) h = (and_parts (int_le (number nu t) z && int_le z (number nu u)) (is_small z) h).1
   integer_wide t u nu w h = no h
 
   string_had : (w : Value-F Value) → form_holds types mu own W.String w ≡ true → form_fits types (fitting types w) Z.String ≡ true
@@ -301,7 +300,7 @@ module _ (types : Types) (past : Positive) (f : ℕ → ℤ) (own : List Closed)
 
     named_had : (w : Value-F Value) → form_holds types mu own (W.Named u args (map (closed types mu own) (readings ys))) w ≡ true
         → form_fits types (fitting types w) (Z.Named u zs qs) ≡ true
-    named_had (V.Member i k) h = (and_parts (nat_eq i u) (nat_lt k (length (members types i))) h).0
+    named_had (V.Member i k) h = h
     named_had (V.Struct i vs) h =
         let d = total (map size vs) in
         struct_fits types d u zs qs (assigned mu args) stood passes (one_fits d) it.fields.pass i vs (at_most_itself d) h

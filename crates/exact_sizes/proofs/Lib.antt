@@ -6,3 +6,5 @@ pub mod Had
 pub mod Settling
 pub mod Equal
 pub mod Among
+pub mod Told
+pub mod Telling

@@ -43,10 +43,10 @@ same_parts (Some x) None h = no h
 same_parts (Some x) (Some y) h = (x, refl, ap (λ (k : ℤ). Some k) (sym ((Decides-int_eq x y).0 h)))
 
 -- where it is certain what a variable is, these stand for it
-abbrev Stays : List Constant → List Index → List Index → Type 0
+abbrev pub Stays : List Constant → List Index → List Index → Type 0
 Stays cs is js = (i : ℕ) (z : ℤ) → number_in (argument_of cs i) ≡ Some z → number_at is i ≡ number_at js i
 
-stays_under : (name : List ℕ) (a b : Index) (cs : List Constant) (is js : List Index) → Stays cs is js → Stays (C.Bound name ∷ cs) (a ∷ is) (b ∷ js)
+pub stays_under : (name : List ℕ) (a b : Index) (cs : List Constant) (is js : List Index) → Stays cs is js → Stays (C.Bound name ∷ cs) (a ∷ is) (b ∷ js)
 stays_under name a b cs is js s zero z h = none h
 stays_under name a b cs is js s (suc i) z h = s i z h
 
@@ -59,7 +59,7 @@ module _ (types : Types) (own : List Sized) (own_count : ℕ) (f : ℕ → ℤ) 
 
   -- ---- sizes
 
-  says : (cs ds : List Constant) (is js : List Index) → Grows cs ds → Stays cs is js → (t : Num) → is_said of is cs t ≡ true → Says types own to js ds t
+  pub says : (cs ds : List Constant) (is js : List Index) → Grows cs ds → Stays cs is js → (t : Num) → is_said of is cs t ≡ true → Says types own to js ds t
   says cs ds is js g s t h =
       let both = same_parts (and_then (read is t) (value_of of)) (value_of (argument_of cs) t) h in
       let p = then_parts (read is t) (value_of of) both.0 both.1 in
@@ -155,7 +155,7 @@ module _ (types : Types) (own : List Sized) (own_count : ℕ) (f : ℕ → ℤ) 
         (grows_under name (C.Bound name) cs ds g) (grows_under name (index_under to (N.Number (variable v))) cs (constants types own to js) k)
         (stays_under name (N.Number (variable 0)) (N.Number (variable v)) cs is js s) h))
 
-    typ_settled : (depth : ℕ) → Settles (typ_settles types of depth)
+    pub typ_settled : (depth : ℕ) → Settles (typ_settles types of depth)
     typ_settled zero t cs ds is js g k s h = no h
     typ_settled (suc depth) t cs ds is js g k s h =
         form_settled depth (typ_settled depth) (out-Typ t) t (roll-out-Typ t) cs ds is js g k s h
@@ -229,7 +229,7 @@ module _ (types : Types) (own : List Sized) (own_count : ℕ) (f : ℕ → ℤ) 
   rolled_settles : (y : Reading-F SuchI SuchR) → SettlesR (roll-Reading (reading_in y))
   rolled_settles y h = form_of_settles y (roll-Reading (reading_in y)) refl (sym (settles_form (reading_in y)) ∙ h)
 
-  reading_settled : (r : Reading) → SettlesR r
+  pub reading_settled : (r : Reading) → SettlesR r
   reading_settled = ind-Reading (λ i. Unit {0}) SettlesR (λ e y is. tt) (λ e y is. subst (λ d. SettlesR (roll-Reading d)) is (rolled_settles y))
 
 pub types_settle : TypesSettle

@@ -1,7 +1,7 @@
 -- A value that belongs to a type whose sizes are constants for certain has those sizes.
-use Rattle.std.proofs.Common.{◌≡◌, ◌∙◌, ap, sym, refl, subst, ℕ, zero, suc, ◌+◌, ◌≤◌, ℤ, pos, nat_eq, nat_lt, Bool, true, false, ◌&&◌, ◌||◌, List, [], ◌∷◌}
+use Rattle.std.proofs.Common.{◌≡◌, ◌∙◌, ap, sym, refl, subst, ℕ, zero, suc, ◌+◌, ◌≤◌, ℤ, pos, nat_eq, Bool, true, false, ◌&&◌, ◌||◌, List, [], ◌∷◌}
 use Rattle.std.proofs.Common.{map, length, slice_get, arith}
-use Rattle.std.specs.Prelude.{Option, Some, None}
+use Rattle.std.specs.Prelude.{int_le, Option, Some, None}
 use Rattle.std.specs.List.{list_all}
 use Rattle.std.specs.Ordering.{int_eq}
 use Rattle.std.proofs.lemmas.Bool.{and_parts}
@@ -9,8 +9,8 @@ use Rattle.std.proofs.lemmas.Bool.Decides.{Decides-eqb}
 use Rattle.std.proofs.lemmas.List.{length-map}
 use Rattle.sail_types.specs.Belongs.{Reading as Closed, Readings as Closeds, reading, assigned, under, read_each, each_belongs, all_belong}
 use Rattle.sail_types.specs.Belongs.{fields_belong, payload_belongs, given_belongs, inner_types, belongs, Asked, Inner}
-use Rattle.sail_types.specs.Limits.{is_length, is_width}
-use Rattle.sail_types.specs.Named.{field_types, fields, form_constructors, in_form, members, payload, typ_of}
+use Rattle.sail_types.specs.Limits.{is_length, is_small, is_width}
+use Rattle.sail_types.specs.Named.{field_types, fields, form_constructors, in_form, payload, typ_of}
 use Rattle.sail_types.specs.Named as Named
 use Rattle.sail_types.specs.Numbers.{Assignment, number, true_in}
 use Rattle.sail_types.specs.Places.{Given, an_int, a_bool, placed}
@@ -364,11 +364,11 @@ module _ (types : Types) where
     bits_form t p w h = no h
 
     int_form : (t : Num) (w : Value-F Value) → form_asked types w (T.Int t) nu rs ≡ true → form_fits types (fitting types w) Z.Int ≡ true
-    int_form t (V.Integer z) h = refl
+    int_form t (V.Integer z) h = (and_parts (int_eq z (number nu t)) (is_small z) h).1
     int_form t w h = no h
 
     range_form : (t u : Num) (w : Value-F Value) → form_asked types w (T.Range t u) nu rs ≡ true → form_fits types (fitting types w) Z.Int ≡ true
-    range_form t u (V.Integer z) h = refl
+    range_form t u (V.Integer z) h = (and_parts (int_le (number nu t) z && int_le z (number nu u)) (is_small z) h).1
     range_form t u w h = no h
 
     string_form : (w : Value-F Value) → form_asked types w T.String nu rs ≡ true → form_fits types (fitting types w) Z.String ≡ true
@@ -432,7 +432,7 @@ module _ (types : Types) where
 
     named_form : (w : Value-F Value) → form_size (sizes w) ≤ suc d → form_asked types w (T.Named u args ts) nu rs ≡ true
         → form_fits types (fitting types w) (Z.Named u zs qs) ≡ true
-    named_form (V.Member i k) le h = (and_parts (nat_eq i u) (nat_lt k (length (members types i))) h).0
+    named_form (V.Member i k) le h = h
     named_form (V.Struct i vs) le h =
         let l : suc (total (map size vs)) ≤ suc d = le in
         struct_fits types d u zs qs (assigned nu args) (read_each nu rs ts) passes one_fits it.fields.pass i vs (omega arith)

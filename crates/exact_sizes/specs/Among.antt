@@ -6,6 +6,7 @@ use Rattle.sail_types.specs.declared.numbers.Num.{Num}
 use Rattle.sail_types.specs.declared.table.Types.{Types}
 use Rattle.sail_types.specs.declared.types.Typ.{Typ, Typ-F, fold-Typ}
 use Rattle.sail_types.specs.declared.types.Typ.TheOpen as T
+use Rattle.sail_types.specs.declared.values.Value.{Value}
 use Rattle.value_indices.specs.declared.indices.Indices.{Indices, fold-Indices}
 use Rattle.value_indices.specs.declared.indices.Indices.TheOpen as W
 use Rattle.value_indices.specs.declared.indices.Indices.TheOpen.{Indices-F, Reading-F}
@@ -15,6 +16,7 @@ use Rattle.size_values.specs.declared.constants.Constant.TheVariants as C
 use Rattle.size_values.specs.declared.sized.Sized.{Sized}
 use Rattle.size_values.specs.Numbers.{first_free}
 use Rattle.size_values.specs.Sized.{hangs_on, reading_sized, value_sized}
+use Rattle.size_laws.specs.Told.{reading_told}
 use Rattle.exact_sizes.specs.Exact.{all_of, only_if}
 
 -- ---- numbers
@@ -94,3 +96,8 @@ abbrev pub SizesHang : Type 0
 SizesHang = (types : Types) (own : List Sized) (has : ℕ → Bool) (of to : ℕ → Constant) → SameAmong has of to
     → ((i : Indices) → value_among types has i ≡ true → value_sized types own of i ≡ value_sized types own to i)
     × ((r : Reading) → reading_among types has r ≡ true → reading_sized types own of r ≡ reading_sized types own to r)
+
+-- so are the types at which values are made
+abbrev pub ToldHang : Type 0
+ToldHang = (types : Types) (own : List Sized) (has : ℕ → Bool) (of to : ℕ → Constant) → SameAmong has of to → (r : Reading)
+    → reading_among types has r ≡ true → (v : Value) → reading_told types own of r v ≡ reading_told types own to r v

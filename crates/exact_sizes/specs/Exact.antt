@@ -4,6 +4,7 @@ use Rattle.std.specs.Prelude.{ℕ, zero, suc, ℤ, nat_eq, Bool, true, false, �
 use Rattle.std.specs.List.{list_all, list_any}
 use Rattle.std.specs.Ordering.{int_eq}
 use Rattle.sail_types.specs.Named.{field_types}
+use Rattle.sail_types.specs.Places.{is_variable}
 use Rattle.sail_types.specs.Sums.{and_then, read, variable}
 use Rattle.sail_types.specs.Zero.{deepest}
 use Rattle.sail_types.specs.declared.numbers.Index.{Index}
@@ -15,7 +16,7 @@ use Rattle.sail_types.specs.declared.types.Typ.TheOpen as T
 use Rattle.value_indices.specs.declared.indices.Indices.{Indices, fold-Indices}
 use Rattle.value_indices.specs.declared.indices.Indices.TheOpen as W
 use Rattle.value_indices.specs.declared.indices.Indices.TheOpen.{Indices-F, Reading-F}
-use Rattle.value_indices.specs.declared.indices.Reading.{Reading, fold-Reading}
+use Rattle.value_indices.specs.declared.indices.Reading.{Reading, fold-Reading, out-Reading}
 use Rattle.size_values.specs.declared.constants.Constant.{Constant}
 use Rattle.size_values.specs.declared.constants.Constant.TheVariants as C
 use Rattle.size_values.specs.Numbers.{argument_of, index_under, value_of}
@@ -196,3 +197,55 @@ no_test i = true
 
 abbrev pub reading_settles : Types → ℕ → (ℕ → Constant) → Reading → Bool
 reading_settles types m of = fold-Reading Bool Bool no_test (readings_settle types m of)
+
+-- ---- types that are opened at a value: what `{'n, C. T}` binds at the front has the number that the value gives, so it may be a size by itself
+
+abbrev pub is_bound : Constant → Bool
+is_bound (C.Bound name) = true
+is_bound c = false
+
+-- of these constants from a variable on
+abbrev pub is_bound_alone : ℕ → List Constant → Num → Bool
+is_bound_alone j [] t = false
+is_bound_alone j (c ∷ cs) t = (is_bound c && is_variable j t) || is_bound_alone (suc j) cs t
+
+abbrev pub is_told : (ℕ → Constant) → List Index → List Constant → Num → Bool
+is_told of is cs t = is_bound_alone 0 cs t || is_said of is cs t
+
+abbrev pub is_told_index : (ℕ → Constant) → List Index → List Constant → Index → Bool
+is_told_index of is cs (N.Number t) = is_told of is cs t
+is_told_index of is cs (N.Truth c) = false
+
+abbrev pub are_told : Types → (ℕ → Constant) → ℕ → ℕ → ℕ → List Index → List Constant → List Index → Bool
+are_told types of u n k is cs [] = true
+are_told types of u n k is cs (a ∷ args) = only_if (hangs_on types u n k) (is_told_index of is cs a) && are_told types of u n (suc k) is cs args
+
+-- behind the front; what a part of a tuple binds itself isn't told
+abbrev pub form_tells : Types → (ℕ → Constant) → (Typ → Opened) → (Typ → Opened) → Typ-F Typ → Opened
+form_tells types of settles inside (T.Bits t) n is cs = is_told of is cs t
+form_tells types of settles inside (T.Vector t a) n is cs = is_told of is cs t
+form_tells types of settles inside (T.Tuple ts) n is cs = all_settle inside ts n is cs
+form_tells types of settles inside (T.Named u args ts) n is cs = are_told types of u (length args) 0 is cs args
+form_tells types of settles inside (T.Variable i) n is cs = is_one_of i n
+form_tells types of settles inside (T.Exists name c t) n is cs = settles t n (N.Number (variable 0) ∷ is) (C.Bound name ∷ cs)
+form_tells types of settles inside form n is cs = true
+
+abbrev pub typ_tells : Types → (ℕ → Constant) → ℕ → Typ → Opened
+typ_tells types of zero t n is cs = false
+typ_tells types of (suc depth) t n is cs = form_tells types of (typ_settles types of depth) (typ_tells types of depth) (out-Typ t) n is cs
+
+abbrev pub front_form : (Typ → Opened) → Opened → Typ-F Typ → Opened
+front_form inside behind (T.Exists name c t) n is cs = inside t n (N.Number (variable 0) ∷ is) (C.Bound name ∷ cs)
+front_form inside behind form n is cs = behind n is cs
+
+abbrev pub front_tells : Types → (ℕ → Constant) → ℕ → Typ → Opened
+front_tells types of zero t n is cs = false
+front_tells types of (suc depth) t n is cs = front_form (front_tells types of depth) (typ_tells types of (suc depth) t) (out-Typ t) n is cs
+
+abbrev pub form_reading_tells : Types → ℕ → (ℕ → Constant) → Reading → Reading-F Indices Reading → Bool
+form_reading_tells types m of r (W.Of t is rs) =
+    list_all (reading_settles types m of) rs && front_tells types of deepest t (or_own m (length rs)) is (exact_constants of is)
+form_reading_tells types m of r form = reading_settles types m of r
+
+abbrev pub reading_tells : Types → ℕ → (ℕ → Constant) → Reading → Bool
+reading_tells types m of r = form_reading_tells types m of r (out-Reading r)

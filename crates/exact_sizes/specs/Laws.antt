@@ -2,19 +2,22 @@
 use Rattle.std.specs.Prelude.{◌≡◌, ℕ, ℤ, true, List, length, Some}
 use Rattle.sail_types.specs.Belongs.{Reading as Closed}
 use Rattle.sail_types.specs.Numbers.{Positive}
+use Rattle.sail_types.specs.declared.numbers.Index.{Index}
 use Rattle.sail_types.specs.declared.table.Types.{Types}
+use Rattle.sail_types.specs.declared.types.Typ.{Typ}
 use Rattle.sail_types.specs.declared.values.Value.{Value}
 use Rattle.value_indices.specs.declared.indices.Indices.{Indices}
 use Rattle.value_indices.specs.declared.indices.Reading.{Reading}
+use Rattle.value_indices.specs.declared.indices.Reading.TheVariants as R
 use Rattle.size_values.specs.declared.constants.Constant.{Constant}
 use Rattle.size_values.specs.declared.sized.Sized.{Sized}
 use Rattle.size_values.specs.Numbers.{number_in}
 use Rattle.size_values.specs.Sized.{reading_sized, value_sized}
 use Rattle.value_laws.specs.Belonging.{has, is_of, standing}
 use Rattle.size_laws.specs.Known.{all_numbers}
-use Rattle.size_laws.specs.Settled.{Settled, of_reading}
+use Rattle.size_laws.specs.Settled.{Settled, Tells, of_reading}
 use Rattle.checked_meaning.specs.Fits.{AllFit, has_sizes}
-use Rattle.exact_sizes.specs.Exact.{reading_passes, reading_settles, value_passes}
+use Rattle.exact_sizes.specs.Exact.{reading_passes, reading_settles, reading_tells, value_passes}
 
 -- what is known by one is known by the other
 abbrev pub More : (ℕ → Constant) → (ℕ → Constant) → Type 0
@@ -43,3 +46,8 @@ ValuesFit = (types : Types) (past : Positive) (f : ℕ → ℤ) (own : List Clos
 abbrev pub TypesSettle : Type 0
 TypesSettle = (types : Types) (own : List Sized) (m : ℕ) (f : ℕ → ℤ) (of : ℕ → Constant) → Stands of f → (r : Reading)
     → reading_settles types m of r ≡ true → Settled types own (all_numbers f) (of_reading r)
+
+-- the type at which a value of a type is made is that at which it is opened
+abbrev pub TypesTell : Type 0
+TypesTell = (types : Types) (own : List Sized) (m : ℕ) (f : ℕ → ℤ) (of : ℕ → Constant) → Stands of f → (t : Typ) (is : List Index) (rs : List Reading)
+    → reading_tells types m of (R.Of t is rs) ≡ true → Tells types own f rs is t

@@ -4,8 +4,8 @@
 //! `specs/Exact` has the tests, `specs/Laws` the laws.
 #![tactic(auto)]
 
-ghost use Rattle.exact_sizes.specs.Among.{SizesHang};
-ghost use Rattle.exact_sizes.specs.Laws.{SizesStand, TypesSettle, ValuesFit};
+ghost use Rattle.exact_sizes.specs.Among.{SizesHang, ToldHang};
+ghost use Rattle.exact_sizes.specs.Laws.{SizesStand, TypesSettle, TypesTell, ValuesFit};
 
 /// Types under constants are the same where more is known. It does nothing.
 pub fn sizes_stand()
@@ -25,4 +25,14 @@ pub fn types_settle()
 /// Types hang on the variables alone that their sizes name. It does nothing.
 pub fn sizes_hang()
     ensures { SizesHang }
+{}
+
+/// A value is opened at the type at which it is made. It does nothing.
+pub fn types_tell()
+    ensures { TypesTell }
+{}
+
+/// The types at which values are made hang on those variables alone, too. It does nothing.
+pub fn told_hang()
+    ensures { ToldHang }
 {}

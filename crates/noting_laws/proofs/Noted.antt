@@ -1,11 +1,12 @@
 -- What a value gives is noted.
 use Rattle.std.proofs.Common.{◌≡◌, ◌∙◌, ap, sym, refl, subst, ℕ, nat_eq, Bool, true, false, ◌&&◌, ◌⊎◌, inl, inr, List, [], ◌∷◌, ◌++◌, map}
-use Rattle.std.specs.Prelude.{ℤ, Option, Some, None, if◌then◌else◌}
+use Rattle.std.specs.Prelude.{ℤ, pos, length, Option, Some, None, if◌then◌else◌}
+use Rattle.std.specs.List.{list_all}
 use Rattle.std.specs.Ordering.{int_eq}
 use Rattle.std.proofs.lemmas.Bool.{and_parts}
 use Rattle.std.proofs.lemmas.Bool.Decides.{Decides-eqb, Decides-int_eq}
-use Rattle.sail_types.specs.Belongs.{Reading as Closed}
-use Rattle.sail_types.specs.Limits.{is_small}
+use Rattle.sail_types.specs.Belongs.{Reading as Closed, belongs}
+use Rattle.sail_types.specs.Limits.{is_length, is_small, is_width}
 use Rattle.sail_types.specs.Numbers.{Assignment, Positive, number}
 use Rattle.sail_types.specs.declared.numbers.Num.{Num}
 use Rattle.sail_types.specs.declared.table.Types.{Types}
@@ -18,7 +19,7 @@ use Rattle.value_indices.specs.declared.indices.Indices.TheOpen.{Indices-F}
 use Rattle.value_indices.specs.declared.indices.Reading.{Reading, fold-Reading}
 use Rattle.size_values.specs.Sizes.{joined}
 use Rattle.call_arguments.specs.Placing.{variable_in}
-use Rattle.value_laws.specs.Belonging.{Integers, each_holds, form_holds, has, indices_hold, meant, standing}
+use Rattle.value_laws.specs.Belonging.{Integers, closed, each_holds, form_holds, has, indices_hold, meant, standing}
 use Rattle.value_laws.proofs.Basics.{no}
 use Rattle.value_laws.proofs.Values.{has_form, meanings}
 use Rattle.call_fits.proofs.Variables.{number_is, variable_found}
@@ -63,7 +64,7 @@ module _ (types : Types) (past : Positive) (f : Integers) (own : List Closed) (w
   unlike : (named : Type 0) (noted : Noted) → (named → false ≡ true) → IsRight noted ⊎ named → IsRight noted
   unlike named noted h k = either k (λ r. r) (λ n. no (h n))
 
-  -- ---- an integer
+  -- ---- a number
 
   written : (u : ℕ) (z : ℤ) (b : Bool) (noted : Noted) → nat_eq u w ≡ b → (IsIn w (u ∷ []) → z ≡ f u) → IsRight noted ⊎ IsIn w (u ∷ [])
       → (if b then Some z else noted w) ≡ Some (f w)
@@ -80,16 +81,38 @@ module _ (types : Types) (past : Positive) (f : Integers) (own : List Closed) (w
   variable_noted (Some u) z noted h k = written u z (nat_eq u w) noted refl (h u refl) k
 
   -- what is had is the variable's integer
-  had : (t : Num) (z : ℤ) (u : ℕ) → variable_in t ≡ Some u → (int_eq z (number mu t) && is_small z) ≡ true → z ≡ f u
-  had t z u e h =
-      (Decides-int_eq z (number mu t)).0 (and_parts (int_eq z (number mu t)) (is_small z) h).0 ∙ number_is mu t u (variable_found t u e)
+  had : (t : Num) (z : ℤ) (within : Bool) (u : ℕ) → variable_in t ≡ Some u → (int_eq z (number mu t) && within) ≡ true → z ≡ f u
+  had t z within u e h =
+      (Decides-int_eq z (number mu t)).0 (and_parts (int_eq z (number mu t)) within h).0 ∙ number_is mu t u (variable_found t u e)
+
+  number_noted : (t : Num) (z : ℤ) (within : Bool) (noted : Noted)
+      → (IsIn w (one_or_none (variable_in t)) → (int_eq z (number mu t) && within) ≡ true) → IsRight noted ⊎ IsIn w (one_or_none (variable_in t))
+      → IsRight (noted_for (variable_in t) z noted)
+  number_noted t z within noted h k =
+      variable_noted (variable_in t) z noted
+      (λ u e i. had t z within u e (h (subst (λ (o : Option ℕ). IsIn w (one_or_none o)) (sym e) i))) k
+
+  -- ---- an integer, a width, and a length
 
   integer_noted : (t : Num) (x : Value-F Value) (noted : Noted)
       → (IsIn w (one_or_none (variable_in t)) → form_holds types mu own (W.Integer t) x ≡ true) → IsRight noted ⊎ IsIn w (one_or_none (variable_in t))
       → IsRight (value_noted (W.Integer t) x noted)
-  integer_noted t (V.Integer z) noted h k =
-      variable_noted (variable_in t) z noted (λ u e i. had t z u e (h (subst (λ (o : Option ℕ). IsIn w (one_or_none o)) (sym e) i))) k
+  integer_noted t (V.Integer z) noted h k = number_noted t z (is_small z) noted h k
   integer_noted t x noted h k = unlike (IsIn w (one_or_none (variable_in t))) noted h k
+
+  bits_noted : (t : Num) (x : Value-F Value) (noted : Noted)
+      → (IsIn w (one_or_none (variable_in t)) → form_holds types mu own (W.Bits t) x ≡ true) → IsRight noted ⊎ IsIn w (one_or_none (variable_in t))
+      → IsRight (value_noted (W.Bits t) x noted)
+  bits_noted t (V.Bits bits) noted h k = number_noted t (pos (length bits)) (is_width (length bits)) noted h k
+  bits_noted t x noted h k = unlike (IsIn w (one_or_none (variable_in t))) noted h k
+
+  vector_noted : (t : Num) (c : Closed) (item : Noting) (x : Value-F Value) (noted : Noted)
+      → (IsIn w (one_or_none (variable_in t)) → form_holds types mu own (W.Vector t c) x ≡ true) → IsRight noted ⊎ IsIn w (one_or_none (variable_in t))
+      → IsRight (value_noted (W.Vector t item) x noted)
+  vector_noted t c item (V.Vector vs) noted h k =
+      number_noted t (pos (length vs)) (is_length (length vs)) noted
+      (λ i. (and_parts (int_eq (pos (length vs)) (number mu t) && is_length (length vs)) (list_all (λ v. belongs types v c) vs) (h i)).0) k
+  vector_noted t c item x noted h k = unlike (IsIn w (one_or_none (variable_in t))) noted h k
 
   -- ---- a tuple
 
@@ -137,6 +160,8 @@ module _ (types : Types) (past : Positive) (f : Integers) (own : List Closed) (w
       → (IsIn w (given_of (indices_of y)) → indices_hold types mu own (meanings types mu own (indices_of y)) v ≡ true)
       → IsRight noted ⊎ IsIn w (given_of (indices_of y)) → IsRight (noting_of (indices_of y) v noted)
   formed (W.Integer t) v noted h k = integer_noted t (out-Value v) noted h k
+  formed (W.Bits t) v noted h k = bits_noted t (out-Value v) noted h k
+  formed (W.Vector t r) v noted h k = vector_noted t (closed types mu own r.0) (types_noted r.0) (out-Value v) noted h k
   formed (W.Tuple ys) v noted h k = tuple_noted ys (out-Value v) noted h k
   formed y v noted h k = either k (λ r. r) (λ n. absurd n)
 

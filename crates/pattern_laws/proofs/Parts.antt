@@ -23,7 +23,7 @@ use Rattle.pattern_leaves.specs.declared.names.Bound.{Bound}
 use Rattle.pattern_leaves.specs.Literals.{wrong_pattern}
 use Rattle.pattern_leaves.specs.Settings.{Around}
 use Rattle.pattern_notes.specs.declared.matching.Matching.{Matching}
-use Rattle.pattern_notes.specs.Patterns.{Look, inside, also, each_match, parts_match, item_met, items_met}
+use Rattle.pattern_notes.specs.Patterns.{Look, inside, also, each_match, part_type, parts_match, item_met, items_met}
 use Rattle.value_laws.specs.Belonging.{Integers}
 use Rattle.value_laws.specs.Known.{Point, Agree, Later}
 use Rattle.value_laws.proofs.Basics.{no}
@@ -54,7 +54,6 @@ module _ (around : Around) (past : Positive) (own : List Closed) {fit : OfSizes}
   grounds_on {f} {g} l s = record {
     still = still_later past f g around.numbers l s.still;
     given = λ h a. s.given h (agree_on l a);
-    says = λ h a. s.says h (agree_on l a);
   }
 
   -- the names of a pattern
@@ -97,7 +96,8 @@ module _ (around : Around) (past : Positive) (own : List Closed) {fit : OfSizes}
   unfolding also
   also_beside one next =
       binds one (λ m g fs bs ls l names. binds (next m g fs l) (λ m2 g2 fs2 cs ks l2 more.
-      rests (bs ++ cs) (ls ++ ks) (names_both around.types past own y around.numbers g2 bs cs ls ks (names_on around.types past own y around.numbers bs ls l2 names) more)))
+      rests (bs ++ cs) (ls ++ ks) (names_both around.types past own y around.numbers g2 bs cs ls ks
+      (names_on around.types past own y around.numbers bs ls l2 names) more)))
 
   -- ---- parts from left to right
 
@@ -134,7 +134,7 @@ module _ (around : Around) (past : Positive) (own : List Closed) {fit : OfSizes}
   unfolding bind note
   item_beside {n} {f} {facts} place how a m k h r x o s t =
       let told : AllMet q past (item_met place a around how r facts n).notes → Stands q past f facts → (g : Integers) → Agree f g
-      → fit g (Makes.ByType r) = λ met stands g c. met.0 g (stands.there g c) (stands.so g c) in
+      → fit g (Makes.ByType (part_type r)) = λ met stands g c. met.0 g (stands.there g c) (stands.so g c) in
       knowing told (λ sizes.
       let made = takes around.types past own y place a.naming r x sizes o in
       walks made.2 (λ m2 g fs i l is.

@@ -21,7 +21,7 @@ use Rattle.checked_meaning.specs.Items.{Item, item}
 use Rattle.pattern_leaves.specs.declared.names.Bound.{Bound}
 use Rattle.pattern_leaves.specs.declared.names.Held.{Held}
 use Rattle.pattern_leaves.specs.declared.names.Held.TheVariants as H
-use Rattle.pattern_notes.specs.Patterns.{taken_out}
+use Rattle.pattern_notes.specs.Patterns.{part_type, taken_out}
 use Rattle.value_laws.specs.Belonging.{Integers, standing, Meant, meant, closed}
 use Rattle.value_laws.specs.Known.{Point, Agree, Later, Goes}
 use Rattle.value_laws.proofs.Basics.{no}
@@ -172,7 +172,7 @@ module _ (types : Types) (past : Positive) (own : List Closed) {fit : OfSizes} (
   Taken x n f facts walk = (m : Meant) × (m.holds x.val ≡ true) × Goes past n f facts walk (λ g i. Is (m, x.typ) g i)
 
   taken : {n : ℕ} {f : Point n} {facts : List Fact} (naming : Naming) (r : Reading) (x : Item)
-      → ((g : Integers) → Agree f g → fit g (Makes.ByType r)) → ItemOf f r x → Taken x n f facts (opened_for naming r)
+      → ((g : Integers) → Agree f g → fit g (Makes.ByType (part_type r))) → ItemOf f r x → Taken x n f facts (opened_for naming r)
   unfolding opened_for
   taken {n} {f} {facts} naming r x sizes o =
       let s = opening_sound types past own r false naming n f facts x.val (λ g a. o.is_typ g a ∙ sym (o.is_typ f.integers (same f)))
@@ -187,7 +187,8 @@ module _ (types : Types) (past : Positive) (own : List Closed) {fit : OfSizes} (
             true_there = w.true_there;
             holds = λ g a. (
               w.holds g a,
-              y.kept.opens g r x.typ naming facts n x.val (sizes g (agree_on w.later a)) (ap (λ m. m.holds x.val) (w.holds g a) ∙ s.1)
+              y.kept.opens g r x.typ naming facts n x.val (sizes g (agree_on w.later a))
+                  (ap (belongs types x.val) (o.is_typ g (agree_on w.later a)) ∙ o.belongs_to) (ap (λ m. m.holds x.val) (w.holds g a) ∙ s.1)
                   (o.reads g (agree_on w.later a)),
             );
             given = w.given;
@@ -197,9 +198,9 @@ module _ (types : Types) (past : Positive) (own : List Closed) {fit : OfSizes} (
 
   -- a value is taken out, its sizes noted
   pub takes : {n : ℕ} {f : Point n} {facts : List Fact} (place : Place) (naming : Naming) (r : Reading) (x : Item)
-      → ((g : Integers) → Agree f g → fit g (Makes.ByType r)) → ItemOf f r x → Taken x n f facts (taken_out place naming r)
+      → ((g : Integers) → Agree f g → fit g (Makes.ByType (part_type r))) → ItemOf f r x → Taken x n f facts (taken_out place naming r)
   takes {n} {f} {facts} place naming r x sizes o =
-      let first : Goes past n f facts (note (λ fs. size_note fs place (Makes.ByType r))) (λ g t. Unit {0}) =
-      note_goes (λ fs. size_note fs place (Makes.ByType r)) in
+      let first : Goes past n f facts (note (λ fs. size_note fs place (Makes.ByType (part_type r)))) (λ g t. Unit {0}) =
+      note_goes (λ fs. size_note fs place (Makes.ByType (part_type r))) in
       let t = taken naming r x (λ g a. sizes g (agree_on first.goes.later a)) (of_on first.goes.later o) in
       (t.0, t.1, goes_on (λ u. opened_for naming r) first t.2)

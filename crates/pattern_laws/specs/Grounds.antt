@@ -1,8 +1,7 @@
 -- What is known around a pattern: the numbers of the function at work, and the directions of mappings.
-use Rattle.std.specs.Prelude.{◌≡◌, ℕ, ℤ, true, List, [], slice_get, Option, Some}
+use Rattle.std.specs.Prelude.{◌≡◌, ℕ, true, List, [], slice_get, Option, Some}
 use Rattle.sail_types.specs.Belongs.{Reading as Closed, assigned}
 use Rattle.sail_types.specs.Numbers.{Positive, number}
-use Rattle.sail_types.specs.Sums.{number_at}
 use Rattle.sail_types.specs.declared.numbers.Index.TheVariants as N
 use Rattle.sail_types.specs.declared.numbers.Num.{Num}
 use Rattle.sail_types.specs.declared.types.Typ.{Typ}
@@ -25,7 +24,6 @@ pub record Grounded (past : Positive) (around : Around) (nu : Givens) {n : ℕ} 
   pub still : (g : Integers) → Agree f g → assigned (standing past g) around.numbers ≡ assigned (standing past f.integers) around.numbers
   pub given : (g : Integers) → Agree f g → (i : ℕ) (t : Num) → slice_get around.numbers i ≡ Some (N.Number t)
       → given_int (slice_get nu i) ≡ Some (number (standing past g) t)
-  pub says : (g : Integers) → Agree f g → (i : ℕ) (z : ℤ) → given_int (slice_get nu i) ≡ Some z → number (standing past g) (number_at around.numbers i) ≡ z
 
 -- where what its type owes is owed already, a value is of the type that is written
 abbrev pub IsOwed : Around → Positive → List Closed → {n : ℕ} → Point n → Matching → Option Written → Item → Type 0

@@ -28,6 +28,7 @@ use Rattle.checked_meaning.specs.Items.{Item, fixed_typ, part_typ}
 use Rattle.wide_types.specs.Widening.{parameters_of}
 use Rattle.call_arguments.specs.Callees.{type_parameters}
 use Rattle.pattern_leaves.specs.Payloads.{payload_readings}
+use Rattle.pattern_notes.specs.Patterns.{part_type}
 use Rattle.pattern_leaves.specs.declared.names.Bound.{Bound}
 use Rattle.pattern_leaves.specs.declared.names.Held.{Held}
 use Rattle.pattern_leaves.specs.declared.names.Held.TheVariants as H
@@ -53,7 +54,8 @@ pub record IsKept (types : Types) (past : Positive) (own : List Closed) (fit : O
     (reads : Integers → Reading → Sized → Type 0) : Type 0 where
   -- a value of a type whose sizes fit, opened
   pub opens : (g : Integers) (r : Reading) (s : Sized) (naming : Naming) (facts : List Fact) (n : ℕ) (v : Value)
-      → fit g (Makes.ByType r) → has types (standing past g) own (opened_for naming r facts n).value v ≡ true → reads g r s
+      → fit g (Makes.ByType (part_type r)) → is_of types (standing past g) own r v ≡ true
+      → has types (standing past g) own (opened_for naming r facts n).value v ≡ true → reads g r s
       → fits g (opened_for naming r facts n).value s
   -- the parts of a tuple, items, payloads, and parts of payloads
   pub parts : (g : Integers) (is : List Indices) (s : Sized) → fits g (I.Tuple is) s → EachFits types (fits g) s 0 is

@@ -6,6 +6,7 @@ use Rattle.sail_base.specs.declared.place.Place.{Place}
 use Rattle.sail_types.specs.Named.{payload}
 use Rattle.sail_types.specs.Sums.{and_then, constant, difference}
 use Rattle.sail_types.specs.declared.numbers.Num.{Num}
+use Rattle.sail_types.specs.declared.types.Typ.TheVariants as T
 use Rattle.sail_core.specs.declared.patterns.Arm.{Arm}
 use Rattle.sail_core.specs.declared.patterns.Arm.TheVariants as A
 use Rattle.sail_core.specs.declared.patterns.Form.{Form}
@@ -74,9 +75,13 @@ abbrev pub named_readings : List Look → List Reading → List (Naming × Readi
 named_readings (p ∷ ps) (r ∷ rs) = (p.naming, r) ∷ named_readings ps rs
 named_readings ps rs = []
 
+-- the type of a part, as what a Type variable stands for: no value of it tells what it binds
+abbrev pub part_type : Reading → Reading
+part_type r = R.Of (T.Variable 0) [] (r ∷ [])
+
 -- a value of a type, whose sizes are noted where it is taken out
 abbrev pub taken_out : Place → Naming → Reading → Walk Indices
-taken_out place naming r = bind (note (λ facts. size_note facts place (Makes.ByType r))) (λ t. opened_for naming r)
+taken_out place naming r = bind (note (λ facts. size_note facts place (Makes.ByType (part_type r)))) (λ t. opened_for naming r)
 
 -- those of several parts, from left to right
 abbrev pub all_taken : Place → List (Naming × Reading) → Walk (List Indices)

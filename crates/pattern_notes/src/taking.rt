@@ -7,8 +7,18 @@ ghost use Rattle.pattern_notes.specs.Patterns as patterns;
 use crate::looks::naming_of;
 use sail_base::{Items, Place};
 use sail_core::Pattern;
+use sail_types::Typ;
 use std::alloc::{AllocError, Global};
 use value_indices::{Indices, Made, Naming, Reading, Walking, copy_reading, opened_for};
+
+/// The type of a part, as what a Type variable stands for. The one error is want of memory.
+fn part_type(alloc: Global, reading: &Reading) -> Result<Reading, AllocError>
+    ensures { IfOk result (λ made. made ≡ patterns.part_type reading.now) }
+{
+    let mut readings = Items::new(alloc);
+    readings.push(copy_reading(alloc, reading)?)?;
+    Ok(Reading::Of(Typ::Variable(0), Items::new(alloc), readings))
+}
 
 /// A value of a type, taken out and opened for a name. The one error is want of memory.
 pub(crate) fn take_out(
@@ -21,7 +31,7 @@ pub(crate) fn take_out(
     ensures taken { IfOk result (λ taken. taken ≡ walk.got (patterns.taken_out place naming.now reading.now) (walk.seen walking.old)) }
     ensures walked { OnOk result (walk.seen walking.new ≡ walk.run (patterns.taken_out place naming.now reading.now) (walk.seen walking.old)) }
 {
-    let made = Made::ByType(copy_reading(alloc, reading)?);
+    let made = Made::ByType(part_type(alloc, reading)?);
     walking.note_sizes(place, made)?;
     opened_for(alloc, walking, naming, reading)
 }

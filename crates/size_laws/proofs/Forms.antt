@@ -60,7 +60,7 @@ module _ (types : Types) (own : List Sized) (of : ℕ → Constant) where
   opened_form rs x is tells name =
       form_opened (with_openings rs) rs (map-Typ Typ (Typ × Inside) (λ t. (t, typ_opened (with_openings rs) t)) x) is tells name
 
-  opens : (rs : List Reading) (x : Typ-F Typ) (is : List Index) (tells : Bool) (name : Naming)
+  pub opens : (rs : List Reading) (x : Typ-F Typ) (is : List Index) (tells : Bool) (name : Naming)
       → typ_opened (with_openings rs) (roll-Typ x) is tells name ≡ opened_form rs x is tells name
   unfolding typ_opened
   opens rs x is tells name =

@@ -5,3 +5,5 @@ pub mod Arguments
 pub mod Wide
 pub mod Opening
 pub mod Parts
+pub mod Alone
+pub mod Telling

@@ -56,7 +56,7 @@ module _ (types : Types) (own : List Sized) (of : ℕ → Constant) where
   abbrev under : List Reading → Typ → List Constant → Sized
   under rs = typ_sized types (stood types own of rs)
 
-  abbrev Keeps : Piece → Type 0
+  abbrev pub Keeps : Piece → Type 0
   Keeps (of_type rs is cs t) = (tells : Bool) (name : Naming) (facts : List Fact) (n : ℕ)
       → sized (typ_opened (with_openings rs) t is tells name facts n).value ≡ under rs t cs
   Keeps (of_types rs is cs ts) = (tells : Bool) (ns : List Naming) (facts : List Fact) (n : ℕ)
@@ -232,7 +232,7 @@ module _ (types : Types) (own : List Sized) (of : ℕ → Constant) where
   reading_form x tells name =
       reading_opened (map-Reading Indices Reading (Indices × Opening) (Reading × Opening) (λ i. (i, wide_opening i)) (λ r. (r, opening r)) x) tells name
 
-  opens_reading : (x : Reading-F Indices Reading) (r : Reading) → roll-Reading x ≡ r → (tells : Bool) (name : Naming)
+  pub opens_reading : (x : Reading-F Indices Reading) (r : Reading) → roll-Reading x ≡ r → (tells : Bool) (name : Naming)
       → opening r tells name ≡ reading_form x tells name
   unfolding wide_opening opening
   opens_reading x r e tells name =
@@ -272,7 +272,7 @@ module _ (types : Types) (own : List Sized) (of : ℕ → Constant) where
 
   -- ---- all of them
 
-  keeps : (p : Piece) → Settled types own of p → Keeps p
+  pub keeps : (p : Piece) → Settled types own of p → Keeps p
   keeps p (unit rs is cs) = unit_keeps rs is cs
   keeps p (bool rs is cs) = bool_keeps rs is cs
   keeps p (truth rs is cs c) = truth_keeps rs is cs c

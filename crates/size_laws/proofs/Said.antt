@@ -18,15 +18,15 @@ use Rattle.size_laws.specs.Known.{AllKnown, IsWithin, all_numbers}
 use Rattle.size_laws.specs.Laws.{SizesAreSaid}
 use Rattle.size_laws.proofs.Numbers.{known_constant, known_number, within_known}
 
-one_low : pos 1 ≤ℤ pos 1
+pub one_low : pos 1 ≤ℤ pos 1
 one_low = omega arith
 
-one_high : pos 1 ≤ℤ pos largest
+pub one_high : pos 1 ≤ℤ pos largest
 unfolding largest
 one_high = omega arith
 
 -- powers past the largest integer don't come into numbers that are known
-abbrev one : Positive
+abbrev pub one : Positive
 one = record { value = pos 1; low = one_low; high = one_high }
 
 module _ (f : ℕ → ℤ) where

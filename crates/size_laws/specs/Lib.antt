@@ -1,3 +1,4 @@
-pub mod Settled
 pub mod Known
+pub mod Settled
+pub mod Told
 pub mod Laws

@@ -1,5 +1,6 @@
 -- Types whose sizes stay what they are where a value is opened (Sail language manual, "Type variables", "Bitvectors").
-use Rattle.std.specs.Prelude.{◌≡◌, ℕ, suc, true, List, [], ◌∷◌, map, length, slice_get, Some, None}
+use Rattle.std.specs.Prelude.{◌≡◌, ℕ, suc, ℤ, Bool, true, false, List, [], ◌∷◌, map, length, slice_get, Some, None}
+use Rattle.sail_types.specs.Limits.{is_small}
 use Rattle.sail_types.specs.Readings.{read_index}
 use Rattle.sail_types.specs.Sums.{read, variable}
 use Rattle.sail_types.specs.declared.numbers.Con.{Con}
@@ -7,7 +8,8 @@ use Rattle.sail_types.specs.declared.numbers.Index.{Index}
 use Rattle.sail_types.specs.declared.numbers.Index.TheVariants as N
 use Rattle.sail_types.specs.declared.numbers.Num.{Num}
 use Rattle.sail_types.specs.declared.table.Types.{Types}
-use Rattle.sail_types.specs.declared.types.Typ.{Typ}
+use Rattle.sail_types.specs.declared.types.Typ.{Typ, Typ-F, out-Typ}
+use Rattle.sail_types.specs.declared.types.Typ.TheOpen as T
 use Rattle.sail_types.specs.declared.types.Typ.TheVariants as U
 use Rattle.value_indices.specs.declared.indices.Reading.{Reading}
 use Rattle.value_indices.specs.declared.indices.Reading.TheVariants as R
@@ -17,6 +19,7 @@ use Rattle.size_values.specs.declared.constants.Constant.TheVariants as C
 use Rattle.size_values.specs.declared.sized.Sized.{Sized}
 use Rattle.size_values.specs.Numbers.{argument_of, constant_under, index_under}
 use Rattle.size_values.specs.Sized.{hangs_on, integer_of, reading_sized, sized_at, typ_sized, types_or_own}
+use Rattle.size_laws.specs.Known.{all_numbers}
 
 -- what is opened: a type, or types in order, under what their variables stand for and under constants for these; types of the walk
 pub data Piece : Type 0 where
@@ -101,3 +104,20 @@ pub data Settled (types : Types) (own : List Sized) (of : ℕ → Constant) : Pi
   no_readings : Settled types own of (of_readings [])
   more_readings : (r : Reading) (rs : List Reading) → Settled types own of (of_reading r) → Settled types own of (of_readings rs)
       → Settled types own of (of_readings (r ∷ rs))
+
+-- ---- what a value of a type tells
+
+abbrev pub form_binds : Typ-F Typ → Bool
+form_binds (T.Exists name c t) = true
+form_binds form = false
+
+-- whether a type binds a variable at its front
+abbrev pub binds : Typ → Bool
+binds t = form_binds (out-Typ t)
+
+-- whatever integers of a model the variables are that are opened for what a type binds at its front, the sizes behind them are settled
+pub data Tells (types : Types) (own : List Sized) (f : ℕ → ℤ) (rs : List Reading) : List Index → Typ → Type 0 where
+  tells_plain : (is : List Index) (t : Typ) → binds t ≡ false
+      → Settled types own (all_numbers f) (of_type rs is (constants types own (all_numbers f) is) t) → Tells types own f rs is t
+  tells_bound : (is : List Index) (name : List ℕ) (c : Con) (t : Typ)
+      → ((v : ℕ) → is_small (f v) ≡ true → Tells types own f rs (N.Number (variable v) ∷ is) t) → Tells types own f rs is (U.Exists name c t)

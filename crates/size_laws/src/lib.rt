@@ -3,4 +3,4 @@
 
 mod laws;
 
-pub use laws::{opening_keeps_sizes, parts_keep_sizes, sizes_are_said};
+pub use laws::{opening_keeps_sizes, opening_tells_sizes, parts_keep_sizes, sizes_are_said};

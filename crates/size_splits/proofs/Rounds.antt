@@ -1,13 +1,13 @@
 -- What the loops put one after the other.
-use Rattle.std.proofs.Common.{◌≡◌, ◌∙◌, ℕ, suc, ◌+◌, ◌-◌, ◌<◌, ◌≤◌, Bool, List, [], ◌∷◌, ◌++◌, length, drop}
+use Rattle.std.proofs.Common.{◌≡◌, ◌∙◌, ℕ, suc, ◌+◌, ◌-◌, ◌<◌, ◌≤◌, Bool, List, [], ◌∷◌, ◌++◌, length, drop, get_or, map}
 use Rattle.std.proofs.Common.{ap, sym, refl, arith, append_assoc, append-nil}
 use Rattle.sail_types.specs.declared.numbers.Index.{Index}
 use Rattle.sail_types.specs.declared.table.Types.{Types}
 use Rattle.sail_core.specs.declared.model.Function.{Function}
 use Rattle.size_splits.specs.declared.bodies.BodySteps.{BodySteps}
-use Rattle.size_splits.specs.Bodies.{Body, bodies_read}
-use Rattle.size_splits.specs.Sizing.{Sizing, indices_where, is_size, sizes_from, sizing_again}
-use Rattle.size_splits.proofs.Lists.{none_left}
+use Rattle.size_splits.specs.Bodies.{Body, bodies_read, body_read}
+use Rattle.size_splits.specs.Sizing.{Sizing, indices_where, is_size, sizes_from, sizing_behind, with_sizes}
+use Rattle.size_splits.proofs.Lists.{none_left, rest_at}
 
 -- one part more behind those that are made
 pub part_more : {A : Type 0} (made new part rest all : List A) → new ≡ made ++ part → made ++ (part ++ rest) ≡ all → new ++ rest ≡ all
@@ -39,13 +39,26 @@ module _ (types : Types) (sizing : Sizing) where
         part_more made new (b ∷ []) (sizes_from types sizing f bs (n - (k + 1)) (k + 1)) all put
         ((λ j. made ++ is j ∷ sizes_from types sizing f bs (n - (k + 1)) (s j)) ∙ (ap (λ m. made ++ sizes_from types sizing f bs m k) (sym e) ∙ h))
 
-  again_none : (fs : List Function) → sizing_again types sizing fs [] ≡ []
-  again_none [] = refl
-  again_none (f ∷ fs) = refl
+module _ (types : Types) where
+  behind_none : (sizing : Sizing) (k : ℕ) (fs : List Function) → sizing_behind types sizing k fs [] ≡ sizing
+  behind_none sizing k [] = refl
+  behind_none sizing k (f ∷ fs) = refl
 
-  module _ (fs : List Function) (bss : List (List BodySteps)) (k : ℕ) (made all : Sizing)
-      (h : made ++ sizing_again types sizing (drop k fs) (bodies_read (drop k bss)) ≡ all) where
-    pub again_stops : length bss ≤ k → made ≡ all
+  module _ (fs : List Function) (bss : List (List BodySteps)) (k : ℕ) (found all : Sizing)
+      (h : sizing_behind types found k (drop k fs) (bodies_read (drop k bss)) ≡ all) where
+    pub again_stops : length bss ≤ k → found ≡ all
     again_stops past =
-        part_last made (sizing_again types sizing (drop k fs) (bodies_read (drop k bss))) all
-        (ap (λ l. sizing_again types sizing (drop k fs) (bodies_read l)) (none_left bss k past) ∙ again_none (drop k fs)) h
+        sym (ap (λ l. sizing_behind types found k (drop k fs) (bodies_read l)) (none_left bss k past) ∙ behind_none found k (drop k fs)) ∙ h
+
+  -- one function more
+  module _ (fs : List Function) (bss : List (List BodySteps)) (k : ℕ) (f : Function) (bs : List BodySteps) (found new all : Sizing) (sizes : List Bool) where
+    pub again_more : k < length fs → k < length bss → f ≡ get_or fs k f → bs ≡ get_or bss k bs
+        → sizes ≡ sizes_from types found f (map body_read bs) (length f.variables) 0 → new ≡ with_sizes found k sizes
+        → sizing_behind types found k (drop k fs) (bodies_read (drop k bss)) ≡ all
+        → sizing_behind types new (k + 1) (drop (k + 1) fs) (bodies_read (drop (k + 1) bss)) ≡ all
+    again_more within inside is was found_so put h =
+        let opened : sizing_behind types found k (drop k fs) (bodies_read (drop k bss))
+        ≡ sizing_behind types found k (f ∷ drop (k + 1) fs) (bodies_read (bs ∷ drop (k + 1) bss)) =
+        λ j. sizing_behind types found k (rest_at fs k f within is j) (bodies_read (rest_at bss k bs inside was j)) in
+        ap (λ s. sizing_behind types s (k + 1) (drop (k + 1) fs) (bodies_read (drop (k + 1) bss))) (put ∙ ap (with_sizes found k) found_so)
+        ∙ (sym opened ∙ h)

@@ -1,11 +1,14 @@
 -- Which variables of functions are numbers of an instance: those that are in a width or length, or in the number that is given to such a
 -- variable of a callee (Sail language manual, "Type variables").
-use Rattle.std.specs.Prelude.{ℕ, zero, suc, ◌+◌, ◌-◌, nat_eq, Bool, true, false, ◌||◌, List, [], ◌∷◌, ◌++◌, length, slice_get}
+use Rattle.std.specs.Prelude.{ℕ, zero, suc, ◌+◌, ◌-◌, nat_eq, nat_lt, Bool, true, false, ◌||◌, List, [], ◌∷◌, ◌++◌, length, slice_get, slice_set}
 use Rattle.std.specs.Prelude.{Option, Some, None, if◌then◌else◌}
 use Rattle.std.specs.List.{list_any}
+use Rattle.sail_base.specs.declared.kind.Kind.{Kind}
+use Rattle.sail_base.specs.declared.kind.Kind.TheVariants as K
 use Rattle.sail_types.specs.declared.numbers.Index.{Index}
 use Rattle.sail_types.specs.declared.rows.Row.{Row}
 use Rattle.sail_types.specs.declared.rows.Row.TheVariants as Rows
+use Rattle.sail_types.specs.declared.table.Parameter.{Parameter}
 use Rattle.sail_types.specs.declared.table.Types.{Types}
 use Rattle.sail_core.specs.declared.model.CoreModel.{CoreModel}
 use Rattle.sail_core.specs.declared.model.Function.{Function}
@@ -78,7 +81,7 @@ abbrev pub first_index : List Indices → List Index
 first_index [] = []
 first_index (i ∷ is) = argument_index i ∷ []
 
--- for each function, which of its Int and Bool variables are size variables
+-- for each function, which of its Int and Bool variables are size variables; a Bool variable is none
 abbrev pub Sizing : Type 0
 Sizing = List (List Bool)
 
@@ -133,16 +136,37 @@ in_notes types sizing beyond v (n ∷ ns) =
 abbrev pub in_body : Types → Sizing → ℕ → Body → Bool
 in_body types sizing v b = in_notes types sizing b.variables v b.notes
 
+-- a Bool variable is in none
+abbrev pub is_truth_kind : Kind → Bool
+is_truth_kind K.Bool = true
+is_truth_kind kind = false
+
+abbrev pub is_truth_of : Option Parameter → Bool
+is_truth_of None = false
+is_truth_of (Some p) = is_truth_kind p.kind
+
+abbrev pub is_truth : Function → ℕ → Bool
+is_truth f v = is_truth_of (slice_get f.variables v)
+
 abbrev pub is_size : Types → Sizing → Function → List Body → ℕ → Bool
-is_size types sizing f bs v = in_signature types f v || list_any (in_body types sizing v) bs
+is_size types sizing f bs v = if is_truth f v then false else in_signature types f v || list_any (in_body types sizing v) bs
 
 abbrev pub sizes_from : Types → Sizing → Function → List Body → ℕ → ℕ → List Bool
 sizes_from types sizing f bs zero v = []
 sizes_from types sizing f bs (suc n) v = is_size types sizing f bs v ∷ sizes_from types sizing f bs n (suc v)
 
+-- with those of the function at a place, which may be the next one
+abbrev pub with_sizes : Sizing → ℕ → List Bool → Sizing
+with_sizes sizing k bs = if nat_lt k (length sizing) then slice_set sizing k bs else sizing ++ bs ∷ []
+
+-- of functions from that place on, one after the other: each knows what came to those before it
+abbrev pub sizing_behind : Types → Sizing → ℕ → List Function → List (List Body) → Sizing
+sizing_behind types sizing k (f ∷ fs) (bs ∷ more) =
+    sizing_behind types (with_sizes sizing k (sizes_from types sizing f bs (length f.variables) 0)) (k + 1) fs more
+sizing_behind types sizing k fs more = sizing
+
 abbrev pub sizing_again : Types → Sizing → List Function → List (List Body) → Sizing
-sizing_again types sizing (f ∷ fs) (bs ∷ more) = sizes_from types sizing f bs (length f.variables) 0 ∷ sizing_again types sizing fs more
-sizing_again types sizing fs more = []
+sizing_again types sizing fs bs = sizing_behind types sizing 0 fs bs
 
 abbrev pub sizing_for : ℕ → Types → Sizing → List Function → List (List Body) → Sizing
 sizing_for zero types sizing fs bs = sizing

@@ -1,5 +1,5 @@
 //! Which variables of functions are size variables.
-ghost use Rattle.std.specs.Prelude.{◌≡◌, ◌↔◌, IsTrue, IfOk, IfSome, length, map};
+ghost use Rattle.std.specs.Prelude.{◌≡◌, ◌↔◌, IsTrue, IfOk, IfSome, OnOk, length, map};
 ghost use Rattle.std.specs.List.{list_any};
 ghost use Rattle.size_values.specs.Sizes as sizes;
 ghost use Rattle.size_splits.specs.Bodies.{body_read, bodies_read};
@@ -9,7 +9,7 @@ ghost use Rattle.size_splits.specs.Sizing as spec;
 use crate::bodies::BodySteps;
 use crate::given::value_names;
 use crate::opened::step_value;
-use sail_base::Items;
+use sail_base::{Items, Kind};
 use sail_core::{CoreModel, Function};
 use sail_types::{Typ, Types};
 use size_values::typ_names;
@@ -126,6 +126,27 @@ fn in_signature(
     typ_names(alloc, types, count, variable, &function.result)
 }
 
+/// Whether variables of this kind stand for truths.
+fn is_truth_kind(kind: Kind) -> bool
+    ensures { result ≡ spec.is_truth_kind kind }
+{
+    match kind {
+        Kind::Bool => true,
+        Kind::Int => false,
+        Kind::Type => false,
+    }
+}
+
+/// Whether a variable of a function is a Bool variable.
+fn is_truth(function: &Function, variable: u32) -> bool
+    ensures { result ≡ spec.is_truth function.now variable }
+{
+    match function.variables.as_slice().get(variable as usize) {
+        None => false,
+        Some(parameter) => is_truth_kind(parameter.kind),
+    }
+}
+
 /// Whether a variable of a function is a size variable, where those of its callees are these. It fails where memory is wanting.
 fn is_size(
     alloc: Global,
@@ -137,6 +158,9 @@ fn is_size(
 ) -> Result<bool, AllocError>
     ensures { IfOk result (λ is. is ≡ spec.is_size types.now sizing.now function.now (map body_read bodies.now) variable) }
 {
+    if is_truth(function, variable) {
+        return Ok(false);
+    }
     if in_signature(alloc, types, function, variable)? {
         return Ok(true);
     }
@@ -166,8 +190,34 @@ fn sizes_of(
     Ok(made)
 }
 
-/// Which variables of functions are size variables, where those of their callees are these. It fails where memory is wanting, and where
-/// variables are too many.
+/// The same once more. It fails where memory is wanting.
+fn copy_sizing(alloc: Global, sizing: &[Items<bool>]) -> Result<Items<Items<bool>>, AllocError>
+    ensures { IfOk result (λ copy. copy ≡ sizing.now) }
+{
+    let mut copy = Items::new(alloc);
+    for flags in sizing {
+        copy.push(Items::from_slice(alloc, flags.as_slice())?)?;
+    }
+    Ok(copy)
+}
+
+/// Puts the size variables of the function at a place, which may be the next one. The one error is want of memory.
+fn put_sizes(
+    sizing: &mut Items<Items<bool>>,
+    at: usize,
+    sizes: Items<bool>,
+) -> Result<(), AllocError>
+    ensures { OnOk result (sizing.new ≡ spec.with_sizes sizing.old at sizes) }
+{
+    if at < sizing.len() {
+        sizing.set(at, sizes);
+        return Ok(());
+    }
+    sizing.push(sizes)
+}
+
+/// Which variables of functions are size variables, where those of their callees are these, of callees before them as it comes out here. It
+/// fails where memory is wanting, and where variables are too many.
 fn sizing_again(
     alloc: Global,
     types: &Types,
@@ -177,15 +227,16 @@ fn sizing_again(
 ) -> Result<Items<Items<bool>>, AllocError>
     ensures { IfOk result (λ made. made ≡ spec.sizing_again types.now sizing.now functions.now (bodies_read bodies.now)) }
 {
-    let mut made = Items::new(alloc);
+    let mut found = copy_sizing(alloc, sizing)?;
     for at in 0..functions.len() {
         if at >= bodies.len() {
-            return Ok(made);
+            return Ok(found);
         }
-        let sizes = sizes_of(alloc, types, sizing, &functions[at], bodies[at].as_slice())?;
-        made.push(sizes)?;
+        let now = found.as_slice();
+        let sizes = sizes_of(alloc, types, now, &functions[at], bodies[at].as_slice())?;
+        put_sizes(&mut found, at, sizes)?;
     }
-    Ok(made)
+    Ok(found)
 }
 
 /// Whether two truths are the same.

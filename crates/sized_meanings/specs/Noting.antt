@@ -1,6 +1,6 @@
--- The numbers that a value gives to the variables that stand alone in its indices: an integer that is one, also as a part of a tuple (Sail
--- language manual, "Type variables").
-use Rattle.std.specs.Prelude.{ℕ, ℤ, nat_eq, List, [], ◌∷◌, Option, Some, None, if◌then◌else◌}
+-- The numbers that a value gives to the variables that stand alone in its indices: an integer, a width or a length that is one, also as a part
+-- of a tuple (Sail language manual, "Type variables").
+use Rattle.std.specs.Prelude.{ℕ, ℤ, pos, nat_eq, List, [], ◌∷◌, length, Option, Some, None, if◌then◌else◌}
 use Rattle.sail_types.specs.declared.values.Value.{Value, Value-F, out-Value}
 use Rattle.sail_types.specs.declared.values.Value.TheOpen as V
 use Rattle.value_indices.specs.declared.indices.Indices.{Indices, fold-Indices}
@@ -25,6 +25,8 @@ each_noted fs vs noted = noted
 
 abbrev pub value_noted : Indices-F Noting Noting → Value-F Value → Noted → Noted
 value_noted (W.Integer t) (V.Integer z) noted = noted_for (variable_in t) z noted
+value_noted (W.Bits t) (V.Bits bits) noted = noted_for (variable_in t) (pos (length bits)) noted
+value_noted (W.Vector t f) (V.Vector vs) noted = noted_for (variable_in t) (pos (length vs)) noted
 value_noted (W.Tuple fs) (V.Tuple vs) noted = each_noted fs vs noted
 value_noted i v noted = noted
 

@@ -2,6 +2,8 @@
 use Rattle.std.specs.Prelude.{ℕ, ℤ, nat_eq, Bool, true, false, ◌&&◌, List, [], ◌∷◌, ◌++◌, Option, Some, None, is_some, if◌then◌else◌}
 use Rattle.std.specs.Ordering.{int_eq}
 use Rattle.sail_types.specs.Places.{first}
+use Rattle.sail_core.specs.declared.tree.Giver.{Giver}
+use Rattle.sail_core.specs.Nodes.{giver_eq}
 use Rattle.value_indices.specs.declared.indices.Indices.{Indices}
 use Rattle.size_values.specs.declared.constants.Picked.{Picked}
 use Rattle.checked_meaning.specs.Checked.{Noted}
@@ -52,11 +54,11 @@ abbrev pub lead_in : ℕ → Noted → NodeSizes → Option Lead
 lead_in k noted (Z.Calls j leads) = if_at k j (present_lead noted leads)
 lead_in k noted node = None
 
--- all that is said of what a value gives there
-abbrev pub gives_in : ℕ → NodeSizes → List Indices
-gives_in k (Z.Gives j i) = if nat_eq k j then i ∷ [] else []
-gives_in k node = []
+-- all that is said of what is given there
+abbrev pub gives_in : Giver → NodeSizes → List Indices
+gives_in g (Z.Gives h i) = if giver_eq g h then i ∷ [] else []
+gives_in g node = []
 
-abbrev pub gives_at : List NodeSizes → ℕ → List Indices
-gives_at [] k = []
-gives_at (n ∷ ns) k = gives_in k n ++ gives_at ns k
+abbrev pub gives_at : List NodeSizes → Giver → List Indices
+gives_at [] g = []
+gives_at (n ∷ ns) g = gives_in g n ++ gives_at ns g

@@ -1,8 +1,9 @@
 -- The types that values carry in patterns stay those of their indices, part by part.
-use Rattle.std.proofs.Common.{◌≡◌, ◌≤◌, ℕ, zero, suc, ◌+◌, ℤ, pos, ◌+ℤ◌, Bool, false, List, [], ◌∷◌, map, slice_get, Option, Some, None}
+use Rattle.std.proofs.Common.{◌≡◌, ◌≤◌, ℕ, zero, suc, ◌+◌, ℤ, pos, ◌+ℤ◌, Bool, true, false, List, [], ◌∷◌, map, slice_get, Option, Some, None}
 use Rattle.std.proofs.Common.{refl, sym, ap, ◌∙◌, subst, if◌then◌else◌, arith}
 use Rattle.std.proofs.lemmas.Int.{ints}
-use Rattle.sail_types.specs.Numbers.{Positive, number}
+use Rattle.sail_types.specs.Belongs.{Reading as Closed}
+use Rattle.sail_types.specs.Numbers.{Assignment, Positive, number}
 use Rattle.sail_types.specs.Sums.{constant}
 use Rattle.sail_types.specs.declared.numbers.Atom.TheFolds.{fold-roll-Num}
 use Rattle.sail_types.specs.declared.numbers.Index.{Index}
@@ -12,6 +13,7 @@ use Rattle.sail_types.specs.declared.types.Typ.{Typ, out-Typ, roll-Typ}
 use Rattle.sail_types.specs.declared.types.Typ.TheOpen as T
 use Rattle.sail_types.specs.declared.types.Typ.TheVariants as U
 use Rattle.sail_types.specs.declared.types.Typ.TheViews.{roll-out-Typ}
+use Rattle.sail_types.specs.declared.values.Value.{Value}
 use Rattle.sail_types.proofs.SumNumbers.{some_same}
 use Rattle.sail_core.specs.Making.{component, payload, one_item}
 use Rattle.sail_core.specs.Values.{bits_typ}
@@ -24,22 +26,24 @@ use Rattle.value_indices.specs.declared.indices.Reading.{Reading}
 use Rattle.value_indices.specs.declared.indices.Reading.TheVariants as R
 use Rattle.value_indices.specs.declared.notes.Fact.{Fact}
 use Rattle.value_indices.specs.declared.notes.Made.TheVariants as Makes
-use Rattle.value_indices.specs.Opening.{opened_for}
+use Rattle.value_indices.specs.Opening.{opened_for, opening}
+use Rattle.value_indices.specs.Steps.{Walk}
 use Rattle.size_values.specs.Numbers.{argument_of, atom_value, constant_under, number_in, small, sum_value, term_value, value_of}
 use Rattle.size_values.specs.declared.constants.Constant.{Constant}
 use Rattle.size_values.specs.declared.constants.Constant.TheVariants as C
 use Rattle.size_values.specs.declared.sized.Sized.{Sized}
 use Rattle.size_values.specs.declared.sized.Sized.TheVariants as S
-use Rattle.size_values.specs.Sized.{UnderConstants, each_sized, integer_of, typ_sized}
+use Rattle.size_values.specs.Sized.{UnderConstants, each_sized, integer_of, typ_sized, value_sized}
 use Rattle.size_laws.specs.Known.{all_numbers}
 use Rattle.size_laws.specs.Settled.{constants, stood}
 use Rattle.size_laws.proofs.Forms.{of_is, typ_is, value_is}
 use Rattle.size_laws.proofs.Numbers.{known_constant, known_number}
-use Rattle.size_laws.proofs.Opening.{opening_keeps_sizes}
 use Rattle.size_laws.proofs.Parts.{component_of, parts_keep_sizes}
+use Rattle.size_laws.proofs.Telling.{part_of, part_opens, part_told}
 use Rattle.checked_meaning.specs.Items.{fixed_typ, part_typ}
 use Rattle.pattern_leaves.specs.Payloads.{payload_readings}
-use Rattle.value_laws.specs.Belonging.{Integers, standing}
+use Rattle.pattern_notes.specs.Patterns.{part_type}
+use Rattle.value_laws.specs.Belonging.{Integers, has, is_of, standing}
 use Rattle.pattern_laws.specs.Typing.{EachFits, EachReads}
 use Rattle.pattern_laws.proofs.Cuts.{small_width}
 use Rattle.pattern_laws.proofs.Literals.{pos_same}
@@ -107,18 +111,18 @@ constant_is past k l =
     (fold-roll-Num (Option ℤ) (Option ℤ) (Option ℤ) (atom_value (argument_of [])) sum_value term_value (record { terms = []; constant = pos k })
     ∙ ap small (plus_zero (pos k)) ∙ ap (λ (b : Bool). if b then Some (pos k) else None) (small_width k l))
 
-module _ (types : Types) (past : Positive) (own : List Sized) where
+module _ (types : Types) (past : Positive) (closed : List Closed) (own : List Sized) where
   -- bits whose size is noted
-  bits_fit : (g : Integers) (t : Num) → SizesFit types own g (Makes.ByIndices (I.Bits t)) → IsWidth g t
+  bits_fit : (g : Integers) (t : Num) → SizesFit types own past closed g (Makes.ByIndices (I.Bits t)) → IsWidth g t
   bits_fit g t h = subst (FormFits types own g) (ap out-Indices (sym (I.rolls-Bits t)) ∙ out-roll-Indices (W.Bits t)) h
 
-  width : (g : Integers) (t : Num) → SizesFit types own g (Makes.ByIndices (I.Bits t)) → (k : ℕ) × (value_of (all_numbers g) t ≡ Some (pos k))
+  width : (g : Integers) (t : Num) → SizesFit types own past closed g (Makes.ByIndices (I.Bits t)) → (k : ℕ) × (value_of (all_numbers g) t ≡ Some (pos k))
   width g t h = let fit = bits_fit g t h in (fit.width, fit.is_so)
 
   variable_says : (g : Integers) (i : ℕ) (z : ℤ) → number_in (all_numbers g i) ≡ Some z → (standing past g).int i ≡ z
   variable_says g i z h = some_same (g i) z h
 
-  cut : (g : Integers) (t : Num) (k : ℕ) → SizesFit types own g (Makes.ByIndices (I.Bits t)) → number (standing past g) t ≡ pos k
+  cut : (g : Integers) (t : Num) (k : ℕ) → SizesFit types own past closed g (Makes.ByIndices (I.Bits t)) → number (standing past g) t ≡ pos k
       → Fits types own g (I.Bits t) (fixed_typ types (bits_typ k))
   cut g t k h e =
       let fit = bits_fit g t h in
@@ -130,22 +134,31 @@ module _ (types : Types) (past : Positive) (own : List Sized) where
       ∙ sym (known_constant of (standing past g) (variable_says g) t (pos fit.width) fit.is_so))
       ∙ sym (value_is types own of (I.Bits t) (W.Bits t) (I.rolls-Bits t))
 
-  -- ---- where a value is opened
+  -- ---- where a part is opened: no value of its type tells what that binds
 
-  opens : (g : Integers) (r : Reading) (s : Sized) (naming : Naming) (facts : List Fact) (n : ℕ) → SizesFit types own g (Makes.ByType r)
-      → Reads types own g r s → Fits types own g (opened_for naming r facts n).value s
+  opens : (g : Integers) (r : Reading) (s : Sized) (naming : Naming) (facts : List Fact) (n : ℕ) (v : Value)
+      → SizesFit types own past closed g (Makes.ByType (part_type r)) → is_of types (standing past g) closed r v ≡ true
+      → has types (standing past g) closed (opened_for naming r facts n).value v ≡ true → Reads types own g r s
+      → Fits types own g (opened_for naming r facts n).value s
   unfolding opened_for
-  opens g r s naming facts n settled e = e ∙ sym (opening_keeps_sizes types own (all_numbers g) r settled false naming facts n)
+  opens g r s naming facts n v fit belongs had e =
+      let of = all_numbers g in
+      let mu : Assignment = standing past g in
+      let same : (opening (part_type r) false naming facts n).value ≡ (opening r false naming facts n).value =
+      ap (λ (w : Walk Indices). (w facts n).value) (part_opens types own of r false naming) in
+      e ∙ sym (part_told types own of r v)
+      ∙ fit v (part_of types past g closed r v ∙ belongs) false naming facts n (ap (λ (i : Indices). has types mu closed i v) same ∙ had)
+      ∙ ap (value_sized types own of) same
 
 pub parts_stay_sized : PartsStaySized
 parts_stay_sized types past closed own hang = record {
-  opens = λ g r s naming facts n v fit has e. opens types past own g r s naming facts n fit e;
+  opens = λ g r s naming facts n v fit belongs had e. opens types past closed own g r s naming facts n v fit belongs had e;
   parts = parts types own;
   list_item = λ g r s e. ap (part_typ types one_item) e ∙ (parts_keep_sizes types own (all_numbers g)).of_list r;
   vector_item = λ g t r s e. ap (part_typ types one_item) e ∙ (parts_keep_sizes types own (all_numbers g)).of_vector t r;
   of_union = λ g u c is rs s t there many e.
       ap (part_typ types (payload u c)) e ∙ (parts_keep_sizes types own (all_numbers g)).of_union u c is rs t there (hang g u c is rs t there many);
   of_tuple = of_tuple types own;
-  width = width types past own;
-  cut = cut types past own;
+  width = width types past closed own;
+  cut = cut types past closed own;
 }
