@@ -1,5 +1,5 @@
 -- The notes of bodies that are tested are met.
-use Rattle.std.proofs.Common.{◌≡◌, inl, inr, List, [], ◌∷◌, map, refl, subst}
+use Rattle.std.proofs.Common.{◌≡◌, inl, inr, List, [], ◌∷◌, map, refl, subst, sym}
 use Rattle.std.specs.List.{list_all}
 use Rattle.std.proofs.lemmas.Bool.{and_parts}
 use Rattle.value_indices.specs.Steps.{Note}
@@ -28,11 +28,16 @@ pub each_there : (P : Note → Type 0) (ns : List Note) → ((n : Note) → IsIn
 each_there P [] h = tt
 each_there P (n ∷ ns) h = (h n (inl refl), each_there P ns (λ m i. h m (inr i)))
 
+pub each_of : (P : Note → Type 0) (ns : List Note) → EachNote P ns → (n : Note) → IsIn n ns → P n
+each_of P [] h n i = absurd i
+each_of P (m ∷ ns) h n (inl e) = subst P (sym e) h.0
+each_of P (m ∷ ns) h n (inr i) = each_of P ns h.1 n i
+
 pub bodies_are_met : BodiesAreMet
-bodies_are_met set x sizing zs awaits list instances reached placed covers own_fit every bs h b i =
+bodies_are_met set x sizing zs awaits list instances reached placed covers exact own_fit every bs h b i =
     let ys = all_noted bs in
     let nodes = all_nodes set.around.types sizing zs x.own list ys in
     let p = and_parts (are_apart ys) (list_all (noted_tested set.around.types sizing zs x.own reached list nodes) ys) h in
     each_there (OfOthers (IsMet set x reached (cases_of set.around.types instances nodes))) b.notes (λ n k.
-    note_met set x sizing zs awaits list instances reached placed covers ys p.0 own_fit every b n (noted_there bs b n i k)
+    note_met set x sizing zs awaits list instances reached placed covers ys p.0 exact own_fit every b n (noted_there bs b n i k)
     (all_in (noted_tested set.around.types sizing zs x.own reached list nodes) ys (note_in b n) p.1 (noted_there bs b n i k)))

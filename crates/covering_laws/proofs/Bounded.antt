@@ -1,5 +1,5 @@
--- No more is found than the definition reads, where each mapping that is found is one of the model: each is found once, and so many instances at most.
-use Rattle.std.proofs.Common.{◌≡◌, ◌∙◌, ap, sym, refl, subst, ℕ, zero, suc, ◌+◌, ◌≤◌, ◌<◌, nat_lt, Bool, true, false, ◌||◌, List, [], ◌∷◌, ◌++◌}
+-- No more is found than the definition reads: each mapping that is found is one of the model, and is found once, and so many instances at most.
+use Rattle.std.proofs.Common.{◌≡◌, ap, sym, refl, subst, ℕ, zero, suc, ◌+◌, ◌≤◌, ◌<◌, nat_lt, Bool, true, false, ◌||◌, List, [], ◌∷◌, ◌++◌}
 use Rattle.std.proofs.Common.{length, if◌then◌else◌, arith}
 use Rattle.std.specs.Prelude.{Ok}
 use Rattle.std.specs.List.{list_any}
@@ -12,7 +12,7 @@ use Rattle.monomorph.specs.Found.{found_eq, instances_in, most_instances}
 use Rattle.monomorph.specs.Instances.{entry, found_from, times_enough}
 use Rattle.monomorph.specs.Lasts.{Model}
 use Rattle.soundness_calls.proofs.Counted.{count, fewer}
-use Rattle.covering_laws.specs.Closed.{AllBelow, ListsAreRead}
+use Rattle.covering_laws.specs.Closed.{ListsAreRead, MappingsAreThere}
 use Rattle.covering_laws.proofs.Closed.{any_front, any_last, found_read}
 use Rattle.covering_laws.proofs.Readings as Readings
 
@@ -57,13 +57,6 @@ module _ (i : ℕ) where
   mapping_no_function (F.Function y ∷ found) = ap suc (mapping_no_function found)
   mapping_no_function (F.Mapping j ∷ found) = mapping_no_function found
 
-  below_both : (n : ℕ) (found : List Found) → AllBelow n (found ++ F.Mapping i ∷ []) → AllBelow n found × (i < n)
-  below_both n [] h = (tt, h.0)
-  below_both n (F.Function y ∷ found) h = below_both n found h
-  below_both n (F.Mapping j ∷ found) h =
-      let rest = below_both n found h.1 in
-      ((h.0, rest.0), rest.1)
-
 module _ (x : Instance) where
   function_counts : (found : List Found) → length (instances_in (found ++ F.Function x ∷ [])) ≡ suc (length (instances_in found))
   function_counts [] = refl
@@ -75,11 +68,6 @@ module _ (x : Instance) where
   function_no_mapping (F.Function y ∷ found) = function_no_mapping found
   function_no_mapping (F.Mapping j ∷ found) = ap suc (function_no_mapping found)
 
-  below_front : (n : ℕ) (found : List Found) → AllBelow n (found ++ F.Function x ∷ []) → AllBelow n found
-  below_front n [] h = tt
-  below_front n (F.Function y ∷ found) h = below_front n found h
-  below_front n (F.Mapping j ∷ found) h = (h.0, below_front n found h.1)
-
   no_mapping_more : (j : ℕ) (found : List Found) → is_among (found ++ F.Function x ∷ []) j ≡ is_among found j
   no_mapping_more j [] = refl
   no_mapping_more j (y ∷ found) = ap (λ (b : Bool). found_eq (F.Mapping j) y || b) (no_mapping_more j found)
@@ -90,7 +78,7 @@ module _ (n : ℕ) where
   pub record Bounded (found : List Found) : Type 0 where
     pub instances : length (instances_in found) ≤ most_instances
     -- each mapping is found once
-    pub mappings : AllBelow n found → mappings_in found ≤ count (is_among found) n
+    pub mappings : mappings_in found ≤ count (is_among found) n
 
   abbrev Goes : List Found → List Found → Type 0
   Goes found all = Bounded found → Bounded all
@@ -107,40 +95,37 @@ module _ (n : ℕ) where
       let more : length (instances_in (found ++ F.Function x ∷ [])) ≡ suc (length (instances_in found)) = function_counts x found in
       record {
         instances = omega (arith, less, more);
-        mappings = λ below.
-            let kept : mappings_in found ≤ count (is_among found) n = h.mappings (below_front x n found below) in
-            subst (λ (k : ℕ). k ≤ count (is_among (found ++ F.Function x ∷ [])) n) (sym (function_no_mapping x found))
-            (subst (λ (test : ℕ → Bool). mappings_in found ≤ count test n) (λ j k. sym (no_mapping_more x k found) j) kept);
+        mappings = subst (λ (k : ℕ). k ≤ count (is_among (found ++ F.Function x ∷ [])) n) (sym (function_no_mapping x found))
+            (subst (λ (test : ℕ → Bool). mappings_in found ≤ count test n) (λ j k. sym (no_mapping_more x k found) j) h.mappings);
       }
 
-  mapping_goes : (i : ℕ) (found : List Found) → list_any (found_eq (F.Mapping i)) found ≡ false → Goes found (found ++ F.Mapping i ∷ [])
-  mapping_goes i found new h = record {
-    instances = subst (λ (k : ℕ). k ≤ most_instances) (sym (mapping_no_function i found)) h.instances;
-    mappings = λ below.
-        let both = below_both i n found below in
-        let kept : mappings_in found ≤ count (is_among found) n = h.mappings both.0 in
-        let more : count (is_among found) n < count (is_among (found ++ F.Mapping i ∷ [])) n =
-        fewer (is_among found) (is_among (found ++ F.Mapping i ∷ [])) (λ j e. any_front (F.Mapping j) found (F.Mapping i ∷ []) e) i n both.1 new
-        (any_last (F.Mapping i) found ((Decides-eqb i i).1 refl)) in
-        let counts : mappings_in (found ++ F.Mapping i ∷ []) ≡ suc (mappings_in found) = mapping_counts i found in
-        omega (arith, kept, more, counts);
-  }
+  mapping_goes : (i : ℕ) → i < n → (found : List Found) → list_any (found_eq (F.Mapping i)) found ≡ false → Goes found (found ++ F.Mapping i ∷ [])
+  mapping_goes i below found new h =
+      let kept : mappings_in found ≤ count (is_among found) n = h.mappings in
+      let more : count (is_among found) n < count (is_among (found ++ F.Mapping i ∷ [])) n =
+      fewer (is_among found) (is_among (found ++ F.Mapping i ∷ [])) (λ j e. any_front (F.Mapping j) found (F.Mapping i ∷ []) e) i n below new
+      (any_last (F.Mapping i) found ((Decides-eqb i i).1 refl)) in
+      let counts : mappings_in (found ++ F.Mapping i ∷ []) ≡ suc (mappings_in found) = mapping_counts i found in
+      record {
+        instances = subst (λ (k : ℕ). k ≤ most_instances) (sym (mapping_no_function i found)) h.instances;
+        mappings = omega (arith, kept, more, counts);
+      }
 
-found_few : (m : Model) (all : List Found) → found_from m (entry m.core.reset ∷ entry m.core.step ∷ []) ≡ Ok all
-    → AllBelow (length m.bodies.mappings) all → length all ≤ times_enough m
-found_few m all h below =
+found_few : (m : Model) (all : List Found) → MappingsAreThere m → found_from m (entry m.core.reset ∷ entry m.core.step ∷ []) ≡ Ok all
+    → length all ≤ times_enough m
+found_few m all there h =
     let n : ℕ = length m.bodies.mappings in
     let start : List Found = entry m.core.reset ∷ entry m.core.step ∷ [] in
     let bounded : Bounded n all =
-    Readings.found_from_goes (Goes n) (stays n) (on n) (function_goes n) (mapping_goes n) m start all h
-    (record { instances = omega arith; mappings = λ b. omega arith }) in
-    let some : mappings_in all ≤ count (is_among all) n = bounded.mappings below in
+    Readings.found_from_goes (λ i. i < n) (Goes n) (stays n) (on n) (function_goes n) (mapping_goes n) m there start all h
+    (record { instances = omega arith; mappings = omega arith }) in
+    let some : mappings_in all ≤ count (is_among all) n = bounded.mappings in
     let most : count (is_among all) n ≤ n = at_most (is_among all) n in
     let few : length (instances_in all) ≤ most_instances = bounded.instances in
     let whole : length all ≡ length (instances_in all) + mappings_in all = all_found all in
     omega (arith, some, most, few, whole)
 
 pub lists_are_read : ListsAreRead
-lists_are_read m all h =
+lists_are_read m all there h =
     let read = found_read m all h in
-    (read.0, λ below x i. read.1 (found_few m all h below) x i)
+    (read.0, λ x i. read.1 (found_few m all there h) x i)

@@ -1,6 +1,6 @@
 -- What is found without refusal: widths and lengths of indices are within their limits, instances stand in the list, and each note is read.
-use Rattle.std.proofs.Common.{◌≡◌, ◌∙◌, ap, sym, refl, subst, ℕ, zero, suc, nat_eq, ℤ, pos, ◌≤ℤ◌, int_le, Bool, true, false, ◌||◌, ◌⊎◌, inl, inr, List, [], ◌∷◌, map}
-use Rattle.std.proofs.Common.{Option, Some, None, if◌then◌else◌, arith}
+use Rattle.std.proofs.Common.{◌≡◌, ◌∙◌, ap, sym, refl, subst, ℕ, zero, suc, nat_eq, ℤ, pos, ◌≤ℤ◌, int_le, Bool, true, false, ◌||◌, ◌⊎◌, inl, inr, List, [], ◌∷◌}
+use Rattle.std.proofs.Common.{map, Option, Some, None, if◌then◌else◌, arith}
 use Rattle.std.specs.Prelude.{drop, is_some, not, take}
 use Rattle.std.specs.List.{list_any}
 use Rattle.std.proofs.lemmas.Bool.{and_parts}
@@ -40,7 +40,7 @@ use Rattle.sized_trees.specs.Within.{all_within, number_within}
 use Rattle.exact_sizes.specs.Exact.{is_exact}
 use Rattle.exact_sizes.proofs.Known.{number_constant_is}
 use Rattle.covering_laws.specs.Closed.{IsAmong, NoteIsRead, NotesAreRead, all_given, is_given}
-use Rattle.covering_laws.specs.Given.{are_nums}
+use Rattle.covering_laws.proofs.KindsGiven.{are_nums}
 use Rattle.covering_laws.specs.Tested.{form_in_limit, in_limit, numbers_pass}
 
 -- ---- a width or length that is a constant within its limit is a number for certain: none past the largest integer is on the way

@@ -1,8 +1,8 @@
 -- A note that is read without refusal and tested is met by cases that are worked out from the numbers of the instance and from those that are noted.
-use Rattle.std.proofs.Common.{◌≡◌, ◌∙◌, ap, sym, refl, subst, ℕ, ◌/◌, nat_eq, ℤ, Bool, true, false, ◌&&◌, ◌||◌, inl, inr, List, [], ◌∷◌, map, length}
-use Rattle.std.proofs.Common.{slice_get, Option, Some, None, if◌then◌else◌}
+use Rattle.std.proofs.Common.{◌≡◌, ◌∙◌, ap, sym, refl, subst, ℕ, ◌/◌, nat_eq, ℤ, Bool, true, false, ◌&&◌, ◌||◌, ◌⊎◌, inl, inr, List, [], ◌∷◌, map}
+use Rattle.std.proofs.Common.{length, slice_get, Option, Some, None, if◌then◌else◌}
 use Rattle.std.specs.Prelude.{is_some, option_map}
-use Rattle.std.specs.List.{list_all}
+use Rattle.std.specs.List.{list_all, list_any}
 use Rattle.std.proofs.lemmas.Bool.{and_parts}
 use Rattle.std.proofs.lemmas.Bool.Decides.{Decides-eqb}
 use Rattle.sail_base.specs.declared.place.Place.{Place}
@@ -13,23 +13,24 @@ use Rattle.sail_types.specs.declared.values.Value.{Value}
 use Rattle.sail_core.specs.Numbers.{Instance as Awaits}
 use Rattle.sail_core.specs.declared.tree.Callee.{Callee}
 use Rattle.sail_core.specs.declared.tree.Callee.TheVariants as D
+use Rattle.sail_core.specs.declared.tree.Giver.{Giver}
 use Rattle.value_indices.specs.Steps.{Note, goal_note, size_note, made_note, call_note, way_note, given_note, name_note}
 use Rattle.value_indices.specs.declared.indices.Indices.{Indices}
 use Rattle.value_indices.specs.declared.indices.Reading.{Reading}
 use Rattle.value_indices.specs.declared.notes.Fact.{Fact}
 use Rattle.value_indices.specs.declared.notes.Made.{Made}
 use Rattle.value_indices.specs.declared.notes.Made.TheVariants as Makes
-use Rattle.value_laws.specs.Belonging.{Integers}
+use Rattle.value_laws.specs.Belonging.{Integers, has, standing, is_of}
 use Rattle.value_laws.proofs.Basics.{no, two}
 use Rattle.size_values.specs.declared.constants.Constant.{Constant}
 use Rattle.size_values.specs.declared.constants.Constant.TheVariants as C
 use Rattle.size_values.specs.Numbers.{index_under, known_of, number_in}
 use Rattle.size_values.specs.Sized.{all_eq, integer_of, number_where, numbers_eq, reading_sized}
-use Rattle.size_laws.proofs.Opening.{opening_keeps_sizes}
 use Rattle.size_splits.specs.Bodies.{Body}
 use Rattle.size_splits.specs.Sizing.{Sizing, flags_of}
 use Rattle.size_splits.specs.Splits.{counted}
 use Rattle.split_laws.specs.Counted.{IsCounted, IsIn}
+use Rattle.split_laws.proofs.Basics.{either, or_cases}
 use Rattle.monomorph.specs.declared.found.Found.{Found}
 use Rattle.monomorph.specs.declared.found.Found.TheVariants as F
 use Rattle.monomorph.specs.declared.found.Instance.{Instance}
@@ -39,10 +40,14 @@ use Rattle.sized_trees.specs.declared.trees.SizedInstance.{SizedInstance}
 use Rattle.sized_trees.specs.Cases.{place_in}
 use Rattle.sized_trees.specs.Combinations.{is_given}
 use Rattle.sized_trees.specs.Within.{is_number}
+use Rattle.sized_meanings.specs.Noting.{noted_by}
+use Rattle.sized_meanings.specs.Present.{gives_at}
 use Rattle.sized_meanings.specs.Sized.{numbers_of}
 use Rattle.soundness_steps.specs.Works.{Setting, Work}
-use Rattle.soundness_steps.specs.Noted.{HasNumbers, IsSo, MadeAs, known, type_sized}
+use Rattle.soundness_steps.specs.Noted.{HasNumbers, IsSo, MadeAs, is_made, known, type_sized, variables_given, OpensAs}
 use Rattle.soundness_steps.specs.Covers.{AllAgree, IsMet, SizesFit}
+use Rattle.noting_laws.specs.Noting.{IsNamed}
+use Rattle.noting_laws.proofs.Noted as Behind
 use Rattle.note_laws.specs.Notes.{EachNote, OfOthers}
 use Rattle.exact_sizes.specs.Among.{SameAmong, index_among, reading_among}
 use Rattle.exact_sizes.specs.Exact.{is_exact_index, only_if}
@@ -52,22 +57,27 @@ use Rattle.exact_sizes.proofs.Among as Among
 use Rattle.exact_sizes.proofs.Among.{sizes_hang}
 use Rattle.exact_sizes.proofs.Equal.{numbers_same}
 use Rattle.exact_sizes.proofs.Known.{some_there}
+use Rattle.exact_sizes.proofs.Told.{told_hang}
 use Rattle.covering_laws.specs.Closed.{IsAmong, NoteIsRead, NotesAreRead}
 use Rattle.covering_laws.specs.Given.{bodies_given, call_given, call_passes, called_at, called_in, calls_at, cases_given, first_noted}
-use Rattle.covering_laws.specs.Given.{function_given, is_certain, is_node, made_given, made_in, made_now, makes_at, note_given, noted_given}
-use Rattle.covering_laws.specs.Given.{are_nums, is_known, now, numbers_among, or_noted, settles, type_given}
+use Rattle.covering_laws.specs.Given.{function_given, is_certain, is_node, is_told, made_given, made_in, made_now, makes_at, note_given, noted_given}
+use Rattle.covering_laws.specs.Given.{is_known, now, numbers_among, or_noted, tells, type_given}
 use Rattle.covering_laws.specs.Laws.{ArePlaced, AreCovered}
-use Rattle.node_counts.specs.Told.{NoteIn, all_noted, are_alike, are_apart, is_apart, note_in}
-use Rattle.covering_laws.specs.Tested.{all_nodes, inside, numbers_pass}
-use Rattle.covering_laws.proofs.Bodies.{each_there, noted_there}
+use Rattle.node_counts.specs.Told.{NoteIn, all_noted, are_alike, are_apart, are_single, is_apart, note_in}
+use Rattle.covering_laws.specs.Tested.{agrees_there, all_nodes, inside, numbers_pass}
+use Rattle.covering_laws.proofs.Agreeing.{given_agree}
+use Rattle.covering_laws.proofs.Bodies.{each_of, each_there, noted_there}
 use Rattle.covering_laws.proofs.Found.{given_pass, indices_in_limit, note_is_read}
+use Rattle.covering_laws.proofs.KindsGiven.{GivesNumbers, are_nums}
 use Rattle.covering_laws.proofs.Notes as Notes
 use Rattle.covering_laws.proofs.Notes.{given_noted, only_there, sized_as_many, work_of}
 use Rattle.covering_laws.proofs.Places.{all_in, is_not, numbers_agree, place_found}
+use Rattle.covering_laws.proofs.Telling.{told_fits}
+use Rattle.size_laws.specs.Told.{reading_told}
 
 -- ---- what is found first
 
-only_false : {A : Type 0} (b : Bool) (x : A) → b ≡ false → only b x ≡ None
+pub only_false : {A : Type 0} (b : Bool) (x : A) → b ≡ false → only b x ≡ None
 only_false true x h = no (sym h)
 only_false false x h = refl
 
@@ -81,7 +91,7 @@ where_node false o h = no h
 
 module _ {A : Type 0} (g : NoteIn → Option A) (it : NoteIn) (a : A) (here : g it ≡ Some a)
     (passes : (y : NoteIn) → are_alike y.note it.note ≡ false → g y ≡ None) where
-  first_found : (ys : List NoteIn) → are_apart ys ≡ true → IsIn it ys → first_noted g ys ≡ Some a
+  pub first_found : (ys : List NoteIn) → are_apart ys ≡ true → IsIn it ys → first_noted g ys ≡ Some a
   first_found [] h i = absurd i
   first_found (y ∷ ys) h (inl e) = ap (λ (o : Option A). first o (first_noted g ys)) (ap g (sym e) ∙ here)
   first_found (y ∷ ys) h (inr i) =
@@ -90,16 +100,22 @@ module _ {A : Type 0} (g : NoteIn → Option A) (it : NoteIn) (a : A) (here : g 
       ap (λ (o : Option A). first o (first_noted g ys)) (passes y other) ∙ first_found ys p.1 i
 
 -- a node of this number and so many operands
-is_itself : (k n : ℕ) (is : List Indices) → n ≡ length is → is_node k n k is ≡ true
+pub is_itself : (k n : ℕ) (is : List Indices) → n ≡ length is → is_node k n k is ≡ true
 is_itself k n is e = two (nat_eq k k) (nat_eq (length is) n) ((Decides-eqb k k).1 refl) ((Decides-eqb (length is) n).1 (sym e))
 
-is_another : (k n j : ℕ) (is others : List Indices) → n ≡ length is → (nat_eq k j && nat_eq (length others) (length is)) ≡ false → is_node k n j others ≡ false
+pub is_another : (k n j : ℕ) (is others : List Indices) → n ≡ length is → (nat_eq k j && nat_eq (length others) (length is)) ≡ false
+    → is_node k n j others ≡ false
 is_another k n j is others e h = subst (λ (l : ℕ). (nat_eq k j && nat_eq (length others) l) ≡ false) (sym e) h
+
+-- one of some numbers
+any_in : (w : ℕ) (vs : List ℕ) → list_any (nat_eq w) vs ≡ true → IsIn w vs
+any_in w [] h = no h
+any_in w (v ∷ vs) h = either (or_cases (nat_eq w v) (list_any (nat_eq w) vs) h) (λ e. inl ((Decides-eqb w v).0 e)) (λ e. inr (any_in w vs e))
 
 -- ---- bodies that are read together
 
 module _ (set : Setting) (x : Work) (sizing : Sizing) (zs : List (Option ℤ)) (awaits : x.instance.numbers ≡ map (option_map an_int) zs)
-    (list : List Instance) (instances : List SizedInstance) (low : ℕ → Bool)
+    (list : List Instance) (instances : List SizedInstance)
     (placed : (i : ℕ) (y : Instance) → slice_get list i ≡ Some y → (s : SizedInstance) × (slice_get instances i ≡ Some s) × (s.instance ≡ y))
     (covers : (p : ℕ) (s : SizedInstance) (y : Work) → slice_get instances p ≡ Some s → s.instance.function ≡ y.function
     → y.instance ≡ record { place = p; numbers = numbers_of s.instance } → all_eq y.own s.instance.types ≡ true → set.covered.function y ≡ true)
@@ -111,9 +127,8 @@ module _ (set : Setting) (x : Work) (sizing : Sizing) (zs : List (Option ℤ)) (
   abbrev inside_of : Body → Inside
   inside_of b = inside types sizing zs x.own b
 
-  -- directions that are covered, of those through which patterns go
   abbrev reached : ℕ → Bool
-  reached d = low d && set.covered.direction d
+  reached = set.covered.direction
 
   -- where the present numbers are one combination that counts
   present : (b : Body) (facts : List Fact) (f : Integers) (noted : Noted) → IsSo set.past x noted f facts
@@ -129,21 +144,22 @@ module _ (set : Setting) (x : Work) (sizing : Sizing) (zs : List (Option ℤ)) (
 
   -- ---- sizes
 
-  type_settled : (b : Body) (facts : List Fact) (q : Reading) → list_all (settles (inside_of b) q) (counted (known_of zs) (inside_of b).split facts []) ≡ true
-      → (f : Integers) (noted : Noted) → IsSo set.past x noted f facts → SizesFit types x.own set.past f (Makes.ByType q)
-  type_settled b facts q h f noted so =
+  type_told : (b : Body) (facts : List Fact) (q : Reading) → list_all (tells (inside_of b) q) (counted (known_of zs) (inside_of b).split facts []) ≡ true
+      → (f : Integers) (noted : Noted) → IsSo set.past x noted f facts → (v : Value) → is_of types (standing set.past f) x.types q v ≡ true
+      → OpensAs types set.past x f q v (reading_told types x.own (known f) q v)
+  type_told b facts q h f noted so =
       let at = present b facts f noted so in
-      Notes.made_fits set x sizing zs awaits list instances reached placed covers b f at.taken (present_stands b facts f noted so) (Makes.ByType q)
-      (all_in (settles (inside_of b) q) (counted (known_of zs) (inside_of b).split facts []) at.taken h at.is_there)
+      told_fits types set.past x f (under (inside_of b) at.taken) (present_stands b facts f noted so) q
+      (all_in (tells (inside_of b) q) (counted (known_of zs) (inside_of b).split facts []) at.taken h at.is_there)
 
   size_met : (b : Body) (facts : List Fact) (place : Place) (made : Made) (named : Option ℕ)
       → NoteIsRead (inside_of b) found (size_note facts place made) named → type_given (inside_of b) facts made ≡ true
-      → (f : Integers) (noted : Noted) → IsSo set.past x noted f facts → SizesFit types x.own set.past f made
+      → (f : Integers) (noted : Noted) → IsSo set.past x noted f facts → SizesFit set x f made
   size_met b facts place (Makes.ByIndices i) named read h f noted so =
       let at = present b facts f noted so in
       Notes.made_fits set x sizing zs awaits list instances reached placed covers b f at.taken (present_stands b facts f noted so) (Makes.ByIndices i)
       (indices_in_limit types (under (inside_of b) at.taken) i (read at.taken at.is_there))
-  size_met b facts place (Makes.ByType q) named read h f noted so = type_settled b facts q h f noted so
+  size_met b facts place (Makes.ByType q) named read h f noted so = λ exact. type_told b facts q h f noted so
 
   -- what is certain is right
   certain_same : (f : Integers) (noted : Noted) (facts : List Fact) → IsSo set.past x noted f facts → SameAmong (is_certain zs facts) (now zs noted) (known f)
@@ -153,18 +169,40 @@ module _ (set : Setting) (x : Work) (sizing : Sizing) (zs : List (Option ℤ)) (
       by (Some z) e g = ap (λ (y : ℤ). C.Number y) (sym (numbers_agree f zs (subst (λ gs. HasNumbers 0 gs f) awaits so.numbers) i z e))
       by None e g = ap (or_noted None) (given_noted noted f facts so.given i g)
 
+  -- so is what a value gives that has such indices
+  told_same : (f : Integers) (noted : Noted) (facts : List Fact) → IsSo set.past x noted f facts → (i : Indices) (v : Value)
+      → has types (standing set.past f) x.types i v ≡ true → SameAmong (is_told zs facts i) (now zs (noted_by i v noted)) (known f)
+  told_same f noted facts so i v held w h = by (known_of zs w) refl h
+    where
+      itself : (j : Indices) → IsIn j (i ∷ []) → has types (standing set.past f) x.types j v ≡ true
+      itself j (inl e) = subst (λ (m : Indices). has types (standing set.past f) x.types m v ≡ true) (sym e) held
+      itself j (inr k) = absurd k
+
+      behind : (noted w ≡ Some (f w)) ⊎ IsNamed w (i ∷ []) → noted_by i v noted w ≡ Some (f w)
+      behind k = Behind.all_noted types set.past f x.types (i ∷ []) v noted w (λ j a n. itself j a) k
+
+      told : (is_given facts w || list_any (nat_eq w) (variables_given i)) ≡ true → noted_by i v noted w ≡ Some (f w)
+      told g =
+          either (or_cases (is_given facts w) (list_any (nat_eq w) (variables_given i)) g) (λ e. behind (inl (given_noted noted f facts so.given w e)))
+          (λ e. behind (inr (inl (any_in w (variables_given i) e))))
+
+      by : (o : Option ℤ) → known_of zs w ≡ o → ((is_some o || is_given facts w) || list_any (nat_eq w) (variables_given i)) ≡ true
+          → or_noted o (noted_by i v noted w) ≡ known f w
+      by (Some z) e g = ap (λ (y : ℤ). C.Number y) (sym (numbers_agree f zs (subst (λ gs. HasNumbers 0 gs f) awaits so.numbers) w z e))
+      by None e g = ap (or_noted None) (told g)
+
   -- ---- what a node makes
 
   made_right : (b : Body) (facts : List Fact) (made : Made) → made_given (inside_of b) facts made ≡ true → (f : Integers) (noted : Noted)
-      → IsSo set.past x noted f facts → (v : Value) → MadeAs types set.past x f made v (made_now types x.own (now zs noted) made)
-  made_right b facts (Makes.ByIndices i) h f noted so v =
-      (sizes_hang types x.own (is_certain zs facts) (now zs noted) (known f) (certain_same f noted facts so)).0 i h
-  made_right b facts (Makes.ByType q) h f noted so v =
+      → IsSo set.past x noted f facts → (v : Value) → is_made types set.past x f made v ≡ true
+      → MadeAs types set.past x f made v (made_now types zs x.own noted made v)
+  made_right b facts (Makes.ByIndices i) h f noted so v held =
+      (sizes_hang types x.own (is_told zs facts i) (now zs (noted_by i v noted)) (known f) (told_same f noted facts so i v held)).0 i h
+  made_right b facts (Makes.ByType q) h f noted so v held =
       let p = and_parts (reading_among types (is_certain zs facts) q) _ h in
       record {
-        each = λ tells name fs n had. (sizes_hang types x.own (is_certain zs facts) (now zs noted) (known f) (certain_same f noted facts so)).1 q p.0
-            ∙ sym (opening_keeps_sizes types x.own (known f) q
-            (type_settled b facts q p.1 f noted so) tells name fs n);
+        each = λ tells name fs n had. told_hang types x.own (is_certain zs facts) (now zs noted) (known f) (certain_same f noted facts so) q p.0 v
+            ∙ (type_told b facts q p.1 f noted so v held).each tells name fs n had;
       }
 
   -- ---- what a call gives to size variables and to Type variables
@@ -209,7 +247,7 @@ module _ (set : Setting) (x : Work) (sizing : Sizing) (zs : List (Option ℤ)) (
       by (C.Open v) e k = no k
       by (C.Bound name) e k = no k
 
-  module _ (ys : List NoteIn) (apart : are_apart ys ≡ true) where
+  module _ (ys : List NoteIn) (apart : are_apart ys ≡ true) (single : are_single ys ≡ true) where
     abbrev cases : Cases
     cases = cases_given types sizing zs x.own list ys
 
@@ -217,46 +255,44 @@ module _ (set : Setting) (x : Work) (sizing : Sizing) (zs : List (Option ℤ)) (
         → made_given (inside_of b) facts made ≡ true → IsMet set x reached cases (made_note facts k operands made)
     made_met b facts k operands made it h f noted so ss are v is =
         let many : length ss ≡ length operands = sized_as_many set x f operands ss are in
-        let typ = made_now types x.own (now zs noted) made in
+        let typ = made_now types zs x.own noted made v in
         record {
           typ = typ;
-          is_there = first_found (made_in types sizing zs x.own list k (length ss) noted) (note_in b (made_note facts k operands made)) typ
+          is_there = first_found (made_in types sizing zs x.own list k (length ss) v noted) (note_in b (made_note facts k operands made)) typ
               (only_there (is_node k (length ss) k operands) typ (is_itself k (length ss) operands many))
-              (λ y other. passed y.note noted many other) ys apart it;
-          is_right = made_right b facts made h f noted so v;
+              (λ y other. passed y.note v noted many other) ys apart it;
+          is_right = λ exact. made_right b facts made h f noted so v is;
         }
       where
-        passed : (n : Note) (noted : Noted) → length ss ≡ length operands → are_alike n (made_note facts k operands made) ≡ false
-            → makes_at types sizing zs x.own list k (length ss) noted n ≡ None
-        passed (made_note more j others value) noted many other =
-            only_false (is_node k (length ss) j others) (made_now types x.own (now zs noted) value) (is_another k (length ss) j operands others many other)
-        passed (goal_note more place goal) noted many other = refl
-        passed (size_note more place value) noted many other = refl
-        passed (call_note more place j others callee js qs) noted many other = refl
-        passed (way_note more d) noted many other = refl
-        passed (given_note more j i) noted many other = refl
-        passed (name_note w name) noted many other = refl
+        passed : (n : Note) (v : Value) (noted : Noted) → length ss ≡ length operands → are_alike n (made_note facts k operands made) ≡ false
+            → makes_at types sizing zs x.own list k (length ss) v noted n ≡ None
+        passed (made_note more j others value) v noted many other =
+            only_false (is_node k (length ss) j others) (made_now types zs x.own noted value v) (is_another k (length ss) j operands others many other)
+        passed (goal_note more place goal) v noted many other = refl
+        passed (size_note more place value) v noted many other = refl
+        passed (call_note more place j others callee js qs) v noted many other = refl
+        passed (way_note more d) v noted many other = refl
+        passed (given_note more j i) v noted many other = refl
+        passed (name_note w name) v noted many other = refl
 
     called_met : (b : Body) (facts : List Fact) (place : Place) (k : ℕ) (operands : List Indices) (g : ℕ) (js : List Index) (qs : List Reading)
         (named : Option ℕ) → IsIn (note_in b (call_note facts place k operands (D.Function g) js qs)) ys
-        → NoteIsRead (inside_of b) found (call_note facts place k operands (D.Function g) js qs) named → function_given (inside_of b) facts g js qs ≡ true
-        → IsMet set x reached cases (call_note facts place k operands (D.Function g) js qs)
-    called_met b facts place k operands g js qs named it read h f noted so ss are =
+        → NoteIsRead (inside_of b) found (call_note facts place k operands (D.Function g) js qs) named → are_nums (flags_of sizing g) js ≡ true
+        → function_given (inside_of b) facts g js qs ≡ true → IsMet set x reached cases (call_note facts place k operands (D.Function g) js qs)
+    called_met b facts place k operands g js qs named it read nums h f noted so ss are =
         let r = inside_of b in
         let has = is_certain zs facts in
         let at = now zs noted in
         let many : length ss ≡ length operands = sized_as_many set x f operands ss are in
         let certain = certain_same f noted facts so in
-        let halves = and_parts (are_nums (flags_of sizing g) js) ((numbers_among has (flags_of sizing g) js && list_all (reading_among types has) qs)
-        && list_all (call_passes r qs) (counted (known_of zs) r.split facts [])) h in
         let tests = and_parts (numbers_among has (flags_of sizing g) js && list_all (reading_among types has) qs)
-        (list_all (call_passes r qs) (counted (known_of zs) r.split facts [])) halves.1 in
+        (list_all (call_passes r qs) (counted (known_of zs) r.split facts [])) h in
         let p = and_parts (numbers_among has (flags_of sizing g) js) (list_all (reading_among types has) qs) tests.0 in
         let here = present b facts f noted so in
         let of = under r here.taken in
         let stands = present_stands b facts f noted so in
         let called = read here.taken here.is_there in
-        let exact : numbers_pass of (flags_of sizing g) js ≡ true = given_pass of (flags_of sizing g) js halves.0 called.numbers in
+        let exact : numbers_pass of (flags_of sizing g) js ≡ true = given_pass of (flags_of sizing g) js nums called.numbers in
         let alike : list_all (reading_among types (is_known r here.taken)) qs ≡ true =
         all_in (call_passes r qs) (counted (known_of zs) r.split facts []) here.taken tests.1 here.is_there in
         let wanted = instance_of r of g js qs in
@@ -280,13 +316,17 @@ module _ (set : Setting) (x : Work) (sizing : Sizing) (zs : List (Option ℤ)) (
         let owns : all_eq (map (type_sized types x.own f) qs) (s.0).instance.types ≡ true =
         ap (λ (z : Instance). all_eq (map (type_sized types x.own f) qs) z.types) s.2
         ∙ ap (λ l. all_eq l (y.0).types) (sym wide) ∙ parts.1 in
+        let agree : AllAgree set.past f awaited.numbers js =
+        subst (λ ns. AllAgree set.past f (map (option_map an_int) ns) js) (sym same_numbers)
+        (Notes.numbers_given set x sizing zs awaits list instances reached placed covers of f stands (flags_of sizing g) js exact) in
         record {
           instance = awaited;
+          awaited = awaited.numbers;
+          awaits = agree;
           is_there = first_found (called_in types sizing zs x.own list k (length ss) noted) (note_in b (call_note facts place k operands (D.Function g) js qs))
               awaited (where_node (is_node k (length ss) k operands) _ (is_itself k (length ss) operands many) ∙ listed)
               (λ z other. passed z.body z.note noted many other) ys apart it;
-          agree = subst (λ ns. AllAgree set.past f (map (option_map an_int) ns) js) (sym same_numbers)
-              (Notes.numbers_given set x sizing zs awaits list instances reached placed covers of f stands (flags_of sizing g) js exact);
+          agree = agree;
           is_covered = λ ts. covers led.0 s.0 (work_of g awaited (map (type_sized types x.own f) qs) ts) s.1 function
               (λ i. record { place = led.0; numbers = map (option_map an_int) (numbers i) }) owns;
         }
@@ -306,42 +346,50 @@ module _ (set : Setting) (x : Work) (sizing : Sizing) (zs : List (Option ℤ)) (
 
     call_met : (b : Body) (facts : List Fact) (place : Place) (k : ℕ) (operands : List Indices) (callee : Callee) (js : List Index) (qs : List Reading)
         (named : Option ℕ) → IsIn (note_in b (call_note facts place k operands callee js qs)) ys
-        → NoteIsRead (inside_of b) found (call_note facts place k operands callee js qs) named → call_given (inside_of b) facts callee js qs ≡ true
+        → NoteIsRead (inside_of b) found (call_note facts place k operands callee js qs) named
+        → GivesNumbers sizing (call_note facts place k operands callee js qs) → call_given (inside_of b) facts callee js qs ≡ true
         → IsMet set x reached cases (call_note facts place k operands callee js qs)
-    call_met b facts place k operands (D.Function g) js qs named it read h = called_met b facts place k operands g js qs named it read h
-    call_met b facts place k operands (D.Row row) js qs named it read h = tt
-    call_met b facts place k operands (D.Constructor u c) js qs named it read h = tt
-    call_met b facts place k operands (D.Converts d) js qs named it read h = λ f noted so.
+    call_met b facts place k operands (D.Function g) js qs named it read nums h = called_met b facts place k operands g js qs named it read nums h
+    call_met b facts place k operands (D.Row row) js qs named it read nums h = tt
+    call_met b facts place k operands (D.Constructor u c) js qs named it read nums h = tt
+    call_met b facts place k operands (D.Converts d) js qs named it read nums h = λ f noted so.
         let here = present b facts f noted so in
         ways d (read here.taken here.is_there).is_among
-    call_met b facts place k operands (D.Applies d) js qs named it read h = tt
+    call_met b facts place k operands (D.Applies d) js qs named it read nums h = tt
+
+    -- ---- numbers that a value gives
+
+    all_agrees : (b : Body) (facts : List Fact) (k : Giver) (i : Indices) → IsIn (note_in b (given_note facts k i)) ys
+        → list_all (agrees_there facts i) (gives_at (all_nodes types sizing zs x.own list ys) k) ≡ true
+    all_agrees b facts k i it = given_agree facts k i types sizing zs x.own list b ys single it
 
     -- ---- a note
 
-    pub note_met : (b : Body) (n : Note) (named : Option ℕ) → IsIn (note_in b n) ys → NoteIsRead (inside_of b) found n named
-        → note_given low (all_nodes types sizing zs x.own list ys) (inside_of b) n ≡ true → OfOthers (IsMet set x reached cases) n
-    note_met b (goal_note facts place goal) named it read h = tt
-    note_met b (size_note facts place made) named it read h = size_met b facts place made named read h
-    note_met b (made_note facts k operands made) named it read h = made_met b facts k operands made it h
-    note_met b (call_note facts place k operands callee js qs) named it read h = call_met b facts place k operands callee js qs named it read h
-    note_met b (way_note facts d) named it read h = λ f noted so.
+    pub note_met : (b : Body) (n : Note) (named : Option ℕ) → IsIn (note_in b n) ys → NoteIsRead (inside_of b) found n named → GivesNumbers sizing n
+        → note_given (inside_of b) n ≡ true → OfOthers (IsMet set x reached cases) n
+    note_met b (goal_note facts place goal) named it read nums h = tt
+    note_met b (size_note facts place made) named it read nums h = size_met b facts place made named read h
+    note_met b (made_note facts k operands made) named it read nums h = made_met b facts k operands made it h
+    note_met b (call_note facts place k operands callee js qs) named it read nums h = call_met b facts place k operands callee js qs named it read nums h
+    note_met b (way_note facts d) named it read nums h = λ f noted so.
         let here = present b facts f noted so in
-        two (low d) (set.covered.direction d) h (ways d (read here.taken here.is_there))
-    note_met b (given_note facts k i) named it read h =
-        Notes.given_met set x sizing zs awaits list instances reached placed covers ys apart b facts k i it h
-    note_met b (name_note v name) named it read h = tt
+        ways d (read here.taken here.is_there)
+    note_met b (given_note facts k i) named it read nums h =
+        Notes.given_met set x sizing zs awaits list instances reached placed covers ys apart b facts k i it (all_agrees b facts k i it)
+    note_met b (name_note v name) named it read nums h = tt
 
 pub bodies_are_given : (set : Setting) (x : Work) (sizing : Sizing) (zs : List (Option ℤ)) → x.instance.numbers ≡ map (option_map an_int) zs
-    → (list : List Instance) (instances : List SizedInstance) (low : ℕ → Bool) → ArePlaced list instances → AreCovered set instances
+    → (list : List Instance) (instances : List SizedInstance) → ArePlaced list instances → AreCovered set instances
     → (found : List Found) → ((y : Instance) → IsAmong (F.Function y) found → is_some (place_in list y) ≡ true)
     → ((d : ℕ) → IsAmong (F.Mapping (d / 2)) found → set.covered.direction d ≡ true) → (bs : List Body)
     → ((b : Body) → IsIn b bs → NotesAreRead (inside set.around.types sizing zs x.own b) found b.notes)
-    → are_apart (all_noted bs) ≡ true → bodies_given set.around.types sizing zs x.own low list bs ≡ true → (b : Body) → IsIn b bs
-    → EachNote (OfOthers (IsMet set x (λ d. low d && set.covered.direction d) (cases_given set.around.types sizing zs x.own list (all_noted bs)))) b.notes
-bodies_are_given set x sizing zs awaits list instances low placed covers found among ways bs read apart h b i =
+    → ((b : Body) → IsIn b bs → EachNote (GivesNumbers sizing) b.notes) → are_apart (all_noted bs) ≡ true
+    → are_single (all_noted bs) ≡ true → bodies_given set.around.types sizing zs x.own bs ≡ true → (b : Body) → IsIn b bs
+    → EachNote (OfOthers (IsMet set x set.covered.direction (cases_given set.around.types sizing zs x.own list (all_noted bs)))) b.notes
+bodies_are_given set x sizing zs awaits list instances placed covers found among ways bs read gives apart single h b i =
     let ys = all_noted bs in
-    let nodes = all_nodes set.around.types sizing zs x.own list ys in
-    each_there (OfOthers (IsMet set x (λ d. low d && set.covered.direction d) (cases_given set.around.types sizing zs x.own list ys))) b.notes (λ n k.
+    each_there (OfOthers (IsMet set x set.covered.direction (cases_given set.around.types sizing zs x.own list ys))) b.notes (λ n k.
     let known = note_is_read (inside set.around.types sizing zs x.own b) found n b.notes k (read b i) in
-    note_met set x sizing zs awaits list instances low placed covers found among ways ys apart b n known.0 (noted_there bs b n i k) known.1
-    (all_in (noted_given set.around.types sizing zs x.own low nodes) ys (note_in b n) h (noted_there bs b n i k)))
+    note_met set x sizing zs awaits list instances placed covers found among ways ys apart single b n known.0 (noted_there bs b n i k) known.1
+    (each_of (GivesNumbers sizing) b.notes (gives b i) n k)
+    (all_in (noted_given set.around.types sizing zs x.own) ys (note_in b n) h (noted_there bs b n i k)))

@@ -1,12 +1,12 @@
 -- The numbers that a value gives are noted, whatever else is said at its node.
 use Rattle.std.proofs.Common.{◌≡◌, ◌∙◌, ap, sym, refl, subst, ℕ, nat_eq, ℤ, Bool, true, false, not, ◌||◌, inl, inr, List, [], ◌∷◌, map}
-use Rattle.std.specs.Prelude.{Option, Some, None, if◌then◌else◌}
+use Rattle.std.specs.Prelude.{pos, length, ◌&&◌, Option, Some, None, if◌then◌else◌}
 use Rattle.std.specs.List.{list_all, list_any}
 use Rattle.std.specs.Ordering.{int_eq}
 use Rattle.std.proofs.lemmas.Bool.{and_parts}
 use Rattle.std.proofs.lemmas.Bool.Decides.{Decides-eqb, Decides-int_eq}
-use Rattle.sail_types.specs.Belongs.{Reading as Closed}
-use Rattle.sail_types.specs.Limits.{is_small}
+use Rattle.sail_types.specs.Belongs.{Reading as Closed, belongs}
+use Rattle.sail_types.specs.Limits.{is_length, is_small, is_width}
 use Rattle.sail_types.specs.Numbers.{Assignment, Positive, number}
 use Rattle.sail_types.specs.declared.numbers.Num.{Num}
 use Rattle.sail_types.specs.declared.table.Types.{Types}
@@ -21,7 +21,7 @@ use Rattle.value_indices.specs.declared.indices.Reading.{Reading, fold-Reading}
 use Rattle.value_indices.specs.declared.notes.Fact.{Fact}
 use Rattle.call_arguments.specs.Placing.{variable_in}
 use Rattle.call_fits.proofs.Variables.{number_is, variable_found}
-use Rattle.value_laws.specs.Belonging.{Integers, each_holds, form_holds, has, indices_hold, meant, standing}
+use Rattle.value_laws.specs.Belonging.{Integers, Meant, closed, each_holds, form_holds, has, indices_hold, meant, standing}
 use Rattle.value_laws.proofs.Basics.{no}
 use Rattle.value_laws.proofs.Values.{has_form, meanings}
 use Rattle.split_laws.specs.Counted.{IsIn}
@@ -30,8 +30,8 @@ use Rattle.checked_meaning.specs.Checked.{Noted}
 use Rattle.sized_trees.specs.Combinations.{is_given}
 use Rattle.sized_meanings.specs.Noting.{Noting, each_noted, form_noted, noted_by, noted_by_each, noted_for, reading_noted, value_noted}
 use Rattle.noting_laws.proofs.Noted.{all_noted}
-use Rattle.covering_laws.specs.Tested.{Agreeing, agrees_there, agrees_with, each_agrees, form_agrees, indices_agree, integer_agrees, integer_is, is_needed}
-use Rattle.covering_laws.specs.Tested.{is_variable, type_agrees}
+use Rattle.covering_laws.specs.Tested.{Agreeing, agrees_there, agrees_with, each_agrees, indices_agree, integer_agrees, is_it, is_needed, is_unneeded}
+use Rattle.covering_laws.specs.Tested.{is_variable, length_agrees, parts_agree, type_agrees, width_agrees}
 
 -- the number of a variable stands alone
 variable_same : (o : Option ℕ) (w : ℕ) → is_variable o w ≡ true → o ≡ Some w
@@ -62,16 +62,7 @@ module _ (types : Types) (past : Positive) (f : Integers) (own : List Closed) (w
   abbrev indices_of : Indices-F SuchI SuchR → Indices-F Indices Reading
   indices_of y = map-Indices SuchI SuchR Indices Reading (λ p. p.0) (λ p. p.0) y
 
-  -- ---- an integer
-
-  -- what the value has there is the variable's number
-  integer_had : (x : Indices-F Indices Reading) (v : Value) (z : ℤ) → out-Value v ≡ V.Integer z → integer_is x w ≡ true
-      → indices_hold types mu own (meanings types mu own x) v ≡ true → z ≡ f w
-  integer_had (W.Integer t) v z e a h =
-      let k = subst (λ (u : Value-F Value). form_holds types mu own (W.Integer t) u ≡ true) e h in
-      (Decides-int_eq z (number mu t)).0 (and_parts (int_eq z (number mu t)) (is_small z) k).0
-      ∙ number_is mu t w (variable_found t w (variable_same (variable_in t) w a))
-  integer_had x v z e a h = no a
+  -- ---- a number
 
   written : (u : ℕ) (z : ℤ) (b : Bool) (noted : Noted) → nat_eq u w ≡ b → (u ≡ w → z ≡ f w) → IsRight noted → (if b then Some z else noted w) ≡ Some (f w)
   written u z true noted e h r = ap (λ (x : ℤ). Some x) (h ((Decides-eqb u w).0 e))
@@ -81,19 +72,110 @@ module _ (types : Types) (past : Positive) (f : Integers) (own : List Closed) (w
   or_needed true c e h = h
   or_needed false c e h = no e
 
-  variable_keeps : (o : Option ℕ) (x : Indices-F Indices Reading) (v : Value) (z : ℤ) (noted : Noted) → out-Value v ≡ V.Integer z
-      → integer_agrees needed o x ≡ true → indices_hold types mu own (meanings types mu own x) v ≡ true → IsRight noted → IsRight (noted_for o z noted)
-  variable_keeps None x v z noted q a h r = r
-  variable_keeps (Some u) x v z noted q a h r =
-      written u z (nat_eq u w) noted refl
-      (λ e. integer_had x v z q
-      (or_needed (needed w) (integer_is x w) is_there (subst (λ (n : ℕ). (not (needed n) || integer_is x n) ≡ true) e a)) h) r
+  not_needed : (b : Bool) → b ≡ true → not b ≡ true → false ≡ true
+  not_needed true e h = h
+  not_needed false e h = e
 
-  integer_keeps : (t : Num) (x : Indices-F Indices Reading) (v : Value) (noted : Noted) → integer_agrees needed (variable_in t) x ≡ true
-      → indices_hold types mu own (meanings types mu own x) v ≡ true → IsRight noted → (u : Value-F Value) → out-Value v ≡ u
-      → IsRight (value_noted (W.Integer t) u noted)
-  integer_keeps t x v noted a h r (V.Integer z) q = variable_keeps (variable_in t) x v z noted q a h r
+  variable_keeps : (o : Option ℕ) (t : Num) (z : ℤ) (noted : Noted) → is_it needed o t ≡ true → (variable_in t ≡ Some w → z ≡ f w) → IsRight noted
+      → IsRight (noted_for o z noted)
+  variable_keeps None t z noted a h r = r
+  variable_keeps (Some u) t z noted a h r =
+      written u z (nat_eq u w) noted refl
+      (λ e. h (variable_same (variable_in t) w
+      (or_needed (needed w) (is_variable (variable_in t) w) is_there
+      (subst (λ (n : ℕ). (not (needed n) || is_variable (variable_in t) n) ≡ true) e a)))) r
+
+  -- where the variable isn't needed
+  unneeded_keeps : (o : Option ℕ) (z : ℤ) (noted : Noted) → is_unneeded needed o ≡ true → IsRight noted → IsRight (noted_for o z noted)
+  unneeded_keeps None z noted a r = r
+  unneeded_keeps (Some u) z noted a r =
+      written u z (nat_eq u w) noted refl
+      (λ e. no (not_needed (needed w) is_there (subst (λ (n : ℕ). not (needed n) ≡ true) e a))) r
+
+  -- what the value has there is the variable's number
+  number_had : (t : Num) (z : ℤ) (within : Bool) → (int_eq z (number mu t) && within) ≡ true → variable_in t ≡ Some w → z ≡ f w
+  number_had t z within h e =
+      (Decides-int_eq z (number mu t)).0 (and_parts (int_eq z (number mu t)) within h).0 ∙ number_is mu t w (variable_found t w e)
+
+  -- the form of the value
+  at_form : (y : Indices-F Meant Closed) (v : Value) (u : Value-F Value) → out-Value v ≡ u → form_holds types mu own y (out-Value v) ≡ true
+      → form_holds types mu own y u ≡ true
+  at_form y v u q h = subst (λ (d : Value-F Value). form_holds types mu own y d ≡ true) q h
+
+  abbrev meant_there : Indices-F Indices Reading → Indices-F Meant Closed
+  meant_there x = meanings types mu own x
+
+  abbrev Had : Indices-F Indices Reading → Value → Type 0
+  Had x v = indices_hold types mu own (meant_there x) v ≡ true
+
+  -- ---- an integer, a width, and a length
+
+  integer_there : (o : Option ℕ) (z : ℤ) (x : Indices-F Indices Reading) (v : Value) (noted : Noted) → out-Value v ≡ V.Integer z
+      → integer_agrees needed o x ≡ true → Had x v → IsRight noted → IsRight (noted_for o z noted)
+  integer_there o z (W.Integer s) v noted q a h r =
+      variable_keeps o s z noted a (number_had s z (is_small z) (at_form (meant_there (W.Integer s)) v (V.Integer z) q h)) r
+  integer_there o z (W.Variable i) v noted q a h r = unneeded_keeps o z noted a r
+  integer_there o z W.Never v noted q a h r = no (at_form (meant_there W.Never) v (V.Integer z) q h)
+  integer_there o z W.Unit v noted q a h r = no (at_form (meant_there W.Unit) v (V.Integer z) q h)
+  integer_there o z (W.Truth c) v noted q a h r = no (at_form (meant_there (W.Truth c)) v (V.Integer z) q h)
+  integer_there o z W.Bit v noted q a h r = no (at_form (meant_there W.Bit) v (V.Integer z) q h)
+  integer_there o z (W.Bits s) v noted q a h r = no (at_form (meant_there (W.Bits s)) v (V.Integer z) q h)
+  integer_there o z W.String v noted q a h r = no (at_form (meant_there W.String) v (V.Integer z) q h)
+  integer_there o z (W.List c) v noted q a h r = no (at_form (meant_there (W.List c)) v (V.Integer z) q h)
+  integer_there o z (W.Vector s c) v noted q a h r = no (at_form (meant_there (W.Vector s c)) v (V.Integer z) q h)
+  integer_there o z (W.Tuple is) v noted q a h r = no (at_form (meant_there (W.Tuple is)) v (V.Integer z) q h)
+  integer_there o z (W.Named u is rs) v noted q a h r = no (at_form (meant_there (W.Named u is rs)) v (V.Integer z) q h)
+
+  width_there : (o : Option ℕ) (bits : List Bool) (x : Indices-F Indices Reading) (v : Value) (noted : Noted) → out-Value v ≡ V.Bits bits
+      → width_agrees needed o x ≡ true → Had x v → IsRight noted → IsRight (noted_for o (pos (length bits)) noted)
+  width_there o bits (W.Bits s) v noted q a h r =
+      variable_keeps o s (pos (length bits)) noted a
+      (number_had s (pos (length bits)) (is_width (length bits)) (at_form (meant_there (W.Bits s)) v (V.Bits bits) q h)) r
+  width_there o bits (W.Variable i) v noted q a h r = unneeded_keeps o (pos (length bits)) noted a r
+  width_there o bits W.Never v noted q a h r = no (at_form (meant_there W.Never) v (V.Bits bits) q h)
+  width_there o bits W.Unit v noted q a h r = no (at_form (meant_there W.Unit) v (V.Bits bits) q h)
+  width_there o bits (W.Truth c) v noted q a h r = no (at_form (meant_there (W.Truth c)) v (V.Bits bits) q h)
+  width_there o bits W.Bit v noted q a h r = no (at_form (meant_there W.Bit) v (V.Bits bits) q h)
+  width_there o bits (W.Integer s) v noted q a h r = no (at_form (meant_there (W.Integer s)) v (V.Bits bits) q h)
+  width_there o bits W.String v noted q a h r = no (at_form (meant_there W.String) v (V.Bits bits) q h)
+  width_there o bits (W.List c) v noted q a h r = no (at_form (meant_there (W.List c)) v (V.Bits bits) q h)
+  width_there o bits (W.Vector s c) v noted q a h r = no (at_form (meant_there (W.Vector s c)) v (V.Bits bits) q h)
+  width_there o bits (W.Tuple is) v noted q a h r = no (at_form (meant_there (W.Tuple is)) v (V.Bits bits) q h)
+  width_there o bits (W.Named u is rs) v noted q a h r = no (at_form (meant_there (W.Named u is rs)) v (V.Bits bits) q h)
+
+  length_there : (o : Option ℕ) (vs : List Value) (x : Indices-F Indices Reading) (v : Value) (noted : Noted) → out-Value v ≡ V.Vector vs
+      → length_agrees needed o x ≡ true → Had x v → IsRight noted → IsRight (noted_for o (pos (length vs)) noted)
+  length_there o vs (W.Vector s c) v noted q a h r =
+      variable_keeps o s (pos (length vs)) noted a
+      (number_had s (pos (length vs)) (is_length (length vs))
+      (and_parts (int_eq (pos (length vs)) (number mu s) && is_length (length vs)) (list_all (λ i. belongs types i (closed types mu own c)) vs)
+      (at_form (meant_there (W.Vector s c)) v (V.Vector vs) q h)).0) r
+  length_there o vs (W.Variable i) v noted q a h r = unneeded_keeps o (pos (length vs)) noted a r
+  length_there o vs W.Never v noted q a h r = no (at_form (meant_there W.Never) v (V.Vector vs) q h)
+  length_there o vs W.Unit v noted q a h r = no (at_form (meant_there W.Unit) v (V.Vector vs) q h)
+  length_there o vs (W.Truth c) v noted q a h r = no (at_form (meant_there (W.Truth c)) v (V.Vector vs) q h)
+  length_there o vs W.Bit v noted q a h r = no (at_form (meant_there W.Bit) v (V.Vector vs) q h)
+  length_there o vs (W.Bits s) v noted q a h r = no (at_form (meant_there (W.Bits s)) v (V.Vector vs) q h)
+  length_there o vs (W.Integer s) v noted q a h r = no (at_form (meant_there (W.Integer s)) v (V.Vector vs) q h)
+  length_there o vs W.String v noted q a h r = no (at_form (meant_there W.String) v (V.Vector vs) q h)
+  length_there o vs (W.List c) v noted q a h r = no (at_form (meant_there (W.List c)) v (V.Vector vs) q h)
+  length_there o vs (W.Tuple is) v noted q a h r = no (at_form (meant_there (W.Tuple is)) v (V.Vector vs) q h)
+  length_there o vs (W.Named u is rs) v noted q a h r = no (at_form (meant_there (W.Named u is rs)) v (V.Vector vs) q h)
+
+  integer_keeps : (t : Num) (x : Indices-F Indices Reading) (v : Value) (noted : Noted) → integer_agrees needed (variable_in t) x ≡ true → Had x v
+      → IsRight noted → (u : Value-F Value) → out-Value v ≡ u → IsRight (value_noted (W.Integer t) u noted)
+  integer_keeps t x v noted a h r (V.Integer z) q = integer_there (variable_in t) z x v noted q a h r
   integer_keeps t x v noted a h r u q = r
+
+  bits_keep : (t : Num) (x : Indices-F Indices Reading) (v : Value) (noted : Noted) → width_agrees needed (variable_in t) x ≡ true → Had x v
+      → IsRight noted → (u : Value-F Value) → out-Value v ≡ u → IsRight (value_noted (W.Bits t) u noted)
+  bits_keep t x v noted a h r (V.Bits bits) q = width_there (variable_in t) bits x v noted q a h r
+  bits_keep t x v noted a h r u q = r
+
+  vector_keeps : (t : Num) (item : Noting) (x : Indices-F Indices Reading) (v : Value) (noted : Noted) → length_agrees needed (variable_in t) x ≡ true
+      → Had x v → IsRight noted → (u : Value-F Value) → out-Value v ≡ u → IsRight (value_noted (W.Vector t item) u noted)
+  vector_keeps t item x v noted a h r (V.Vector vs) q = length_there (variable_in t) vs x v noted q a h r
+  vector_keeps t item x v noted a h r u q = r
 
   -- ---- a tuple
 
@@ -107,13 +189,26 @@ module _ (types : Types) (past : Positive) (f : Integers) (own : List Closed) (w
       let k = and_parts (has types mu own i v) (each_holds (map (meant types mu own) is) vs) h in
       parts_keep ys is vs (noted_by y.0 v noted) p.1 k.1 (y.1 i v noted p.0 k.0 r)
 
+  parts_there : (ys : List SuchI) (vs : List Value) (x : Indices-F Indices Reading) (v : Value) (noted : Noted) → out-Value v ≡ V.Tuple vs
+      → parts_agree (map (agrees_with needed) (bare ys)) x ≡ true → Had x v → IsRight noted → IsRight (each_noted (map noted_by (bare ys)) vs noted)
+  parts_there ys vs (W.Tuple is) v noted q a h r = parts_keep ys is vs noted a (at_form (meant_there (W.Tuple is)) v (V.Tuple vs) q h) r
+  parts_there ys vs (W.Variable i) v noted q a h r = no a
+  parts_there ys vs W.Never v noted q a h r = no (at_form (meant_there W.Never) v (V.Tuple vs) q h)
+  parts_there ys vs W.Unit v noted q a h r = no (at_form (meant_there W.Unit) v (V.Tuple vs) q h)
+  parts_there ys vs (W.Truth c) v noted q a h r = no (at_form (meant_there (W.Truth c)) v (V.Tuple vs) q h)
+  parts_there ys vs W.Bit v noted q a h r = no (at_form (meant_there W.Bit) v (V.Tuple vs) q h)
+  parts_there ys vs (W.Bits s) v noted q a h r = no (at_form (meant_there (W.Bits s)) v (V.Tuple vs) q h)
+  parts_there ys vs (W.Integer s) v noted q a h r = no (at_form (meant_there (W.Integer s)) v (V.Tuple vs) q h)
+  parts_there ys vs W.String v noted q a h r = no (at_form (meant_there W.String) v (V.Tuple vs) q h)
+  parts_there ys vs (W.List c) v noted q a h r = no (at_form (meant_there (W.List c)) v (V.Tuple vs) q h)
+  parts_there ys vs (W.Vector s c) v noted q a h r = no (at_form (meant_there (W.Vector s c)) v (V.Tuple vs) q h)
+  parts_there ys vs (W.Named u is rs) v noted q a h r = no (at_form (meant_there (W.Named u is rs)) v (V.Tuple vs) q h)
+
   tuple_keeps : (ys : List SuchI) (x : Indices-F Indices Reading) (v : Value) (noted : Noted)
-      → form_agrees needed (W.Tuple (map (agrees_with needed) (bare ys))) x ≡ true → indices_hold types mu own (meanings types mu own x) v ≡ true
-      → IsRight noted → (u : Value-F Value) → out-Value v ≡ u → IsRight (value_noted (W.Tuple (map noted_by (bare ys))) u noted)
-  tuple_keeps ys (W.Tuple is) v noted a h r (V.Tuple vs) q =
-      parts_keep ys is vs noted a (subst (λ (u : Value-F Value). form_holds types mu own (W.Tuple (map (meant types mu own) is)) u ≡ true) q h) r
-  tuple_keeps ys (W.Tuple is) v noted a h r u q = r
-  tuple_keeps ys x v noted a h r u q = no a
+      → parts_agree (map (agrees_with needed) (bare ys)) x ≡ true → Had x v → IsRight noted → (u : Value-F Value) → out-Value v ≡ u
+      → IsRight (value_noted (W.Tuple (map noted_by (bare ys))) u noted)
+  tuple_keeps ys x v noted a h r (V.Tuple vs) q = parts_there ys vs x v noted q a h r
+  tuple_keeps ys x v noted a h r u q = r
 
   -- ---- all indices
 
@@ -133,6 +228,10 @@ module _ (types : Types) (past : Positive) (f : Integers) (own : List Closed) (w
       → IsRight noted → IsRight (noting_of (indices_of y) v noted)
   formed (W.Integer t) i v noted a h r =
       integer_keeps t (out-Indices i) v noted a (sym (has_form types mu own i (out-Indices i) v (roll-out-Indices i)) ∙ h) r (out-Value v) refl
+  formed (W.Bits t) i v noted a h r =
+      bits_keep t (out-Indices i) v noted a (sym (has_form types mu own i (out-Indices i) v (roll-out-Indices i)) ∙ h) r (out-Value v) refl
+  formed (W.Vector t p) i v noted a h r =
+      vector_keeps t (types_noted p.0) (out-Indices i) v noted a (sym (has_form types mu own i (out-Indices i) v (roll-out-Indices i)) ∙ h) r (out-Value v) refl
   formed (W.Tuple ys) i v noted a h r =
       tuple_keeps ys (out-Indices i) v noted a (sym (has_form types mu own i (out-Indices i) v (roll-out-Indices i)) ∙ h) r (out-Value v) refl
   formed y i v noted a h r = r

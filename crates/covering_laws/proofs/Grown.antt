@@ -1,5 +1,5 @@
 -- What is found stays where it is: whatever is read puts more behind it. So the functions that a hart enters are the first instances of a list.
-use Rattle.std.proofs.Common.{◌≡◌, ◌∙◌, ap, sym, refl, ℕ, ◌/◌, nat_eq, nat_lt, Bool, true, false, ◌&&◌, List, [], ◌∷◌, ◌++◌, length}
+use Rattle.std.proofs.Common.{◌≡◌, ◌∙◌, ap, sym, refl, ℕ, nat_eq, nat_lt, Bool, true, false, ◌&&◌, List, [], ◌∷◌, ◌++◌, length}
 use Rattle.std.proofs.Common.{Some, None, if◌then◌else◌, append_assoc, append-nil}
 use Rattle.std.specs.Prelude.{Ok, Err, is_some}
 use Rattle.std.specs.List.{list_any}
@@ -53,38 +53,44 @@ further found some all first next =
 function_more : (x : Instance) (found : List Found) → nat_lt (length (instances_in found)) most_instances ≡ true → Extends found (found ++ F.Function x ∷ [])
 function_more x found e = (F.Function x ∷ [], refl)
 
-mapping_more : (i : ℕ) (found : List Found) → list_any (found_eq (F.Mapping i)) found ≡ false → Extends found (found ++ F.Mapping i ∷ [])
-mapping_more i found e = (F.Mapping i ∷ [], refl)
+-- whichever it is
+abbrev any : ℕ → Type 0
+any i = Unit {0}
+
+mapping_more : (i : ℕ) → any i → (found : List Found) → list_any (found_eq (F.Mapping i)) found ≡ false → Extends found (found ++ F.Mapping i ∷ [])
+mapping_more i may found e = (F.Mapping i ∷ [], refl)
 
 -- ---- so readings keep it
 
 pub over_keeps : {A : Type 0} (read : A → List Found → Answer) → ((x : A) → Keeps (read x)) → (xs : List A) → Keeps (over read xs)
-over_keeps read k xs = Readings.over_goes Extends nothing_more further function_more mapping_more read k xs
+over_keeps read k xs = Readings.over_goes any Extends nothing_more further function_more mapping_more read k xs
 
 pub mapping_keeps : (i : ℕ) → Keeps (λ found. Ok (add_mapping i found))
-mapping_keeps i = Readings.mapping_goes Extends nothing_more further function_more mapping_more i
+mapping_keeps i = Readings.mapping_goes any Extends nothing_more further function_more mapping_more i tt
 
 pub call_keeps : (r : Inside) (place : Place) (operands : List Indices) (callee : Callee) (js : List Index) (qs : List Reading) (ps : List Picked)
     → Keeps (read_call r place operands callee js qs ps)
-call_keeps r place operands callee js qs ps = Readings.call_goes Extends nothing_more further function_more mapping_more r place operands callee js qs ps
+call_keeps r place operands callee js qs ps =
+    Readings.call_goes any Extends nothing_more further function_more mapping_more r place operands callee (Readings.callee_any any (λ i. tt) callee) js qs ps
 
 pub sizes_keep : (r : Inside) (place : Place) (i : Indices) (ps : List Picked) → Keeps (read_sizes r place i ps)
-sizes_keep r place i ps = Readings.sizes_go Extends nothing_more further function_more mapping_more r place i ps
+sizes_keep r place i ps = Readings.sizes_go any Extends nothing_more further function_more mapping_more r place i ps
 
 pub notes_keep : (r : Inside) (ns : List Note) → Keeps (read_notes r ns)
-notes_keep r ns = Readings.notes_go Extends nothing_more further function_more mapping_more r ns
+notes_keep r ns = Readings.notes_go any Extends nothing_more further function_more mapping_more r ns (Readings.notes_any any (λ i. tt) ns)
 
 pub found_keeps : (m : Model) (x : Found) → Keeps (read_found m x)
-found_keeps m x = Readings.found_goes Extends nothing_more further function_more mapping_more m x
+found_keeps m x = Readings.found_goes any Extends nothing_more further function_more mapping_more m (Readings.model_any any (λ i. tt) m) x
 
 pub grow_keeps : (m : Model) (times i : ℕ) → Keeps (grow times m i)
-grow_keeps m times i = Readings.grow_goes Extends nothing_more further function_more mapping_more m times i
+grow_keeps m times i = Readings.grow_goes any Extends nothing_more further function_more mapping_more m (Readings.model_any any (λ i. tt) m) times i
 
 pub last_keeps : (m : Model) (rs : List Register) (texts : List RegisterText) (os : List Opening) (bs : List Body) → Keeps (last_from m rs texts os bs)
-last_keeps m rs texts os bs = Readings.last_goes Extends nothing_more further function_more mapping_more m rs texts os bs
+last_keeps m rs texts os bs =
+    Readings.last_goes any Extends nothing_more further function_more mapping_more m rs texts os bs (Readings.bodies_any any (λ i. tt) bs)
 
-found_from_keeps : (m : Model) → Keeps (found_from m)
-found_from_keeps m = Readings.found_from_goes Extends nothing_more further function_more mapping_more m
+pub found_from_keeps : (m : Model) → Keeps (found_from m)
+found_from_keeps m = Readings.found_from_goes any Extends nothing_more further function_more mapping_more m (Readings.model_any any (λ i. tt) m)
 
 -- ---- a model
 
@@ -98,7 +104,8 @@ module _ (m : Model) where
   abbrev pub starts : List Instance → Type 0
   starts list = (more : List Instance) × (list ≡ plain m.core.reset ∷ plain m.core.step ∷ more)
 
-  all_start : (list : List Instance) (all : List Found) → Extends (entry m.core.reset ∷ entry m.core.step ∷ []) all → listed (Ok all) ≡ Ok list → starts list
+  pub all_start : (list : List Instance) (all : List Found) → Extends (entry m.core.reset ∷ entry m.core.step ∷ []) all → listed (Ok all) ≡ Ok list
+      → starts list
   all_start list all more e =
       let is : instances_in all ≡ list = cc e in
       (instances_in more.0, sym is ∙ ap instances_in more.1)

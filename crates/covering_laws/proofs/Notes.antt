@@ -47,7 +47,10 @@ use Rattle.split_laws.proofs.Domains.{le_true}
 use Rattle.split_laws.proofs.Combinations.{at_agrees, picked_agrees, present_counted}
 use Rattle.monomorph.specs.declared.found.Instance.{Instance}
 use Rattle.monomorph.specs.Reading.{Inside, given, instance_of, under}
+use Rattle.sail_core.specs.Nodes.{giver_eq}
 use Rattle.sail_core.specs.Numbers.{Instance as Awaits}
+use Rattle.sail_core.specs.declared.tree.Giver.{Giver}
+use Rattle.sail_core.specs.declared.tree.Giver.TheVariants as By
 use Rattle.checked_meaning.specs.Checked.{Cases, Noted}
 use Rattle.sized_trees.specs.declared.trees.Case.{Case}
 use Rattle.sized_trees.specs.declared.trees.Lead.{Lead}
@@ -64,7 +67,7 @@ use Rattle.checked_meaning.specs.Fits.{AllFit, has_sizes}
 use Rattle.sized_meanings.specs.Noting.{noted_by_all, noted_by_each}
 use Rattle.sized_meanings.specs.Present.{first_in, gives_at, gives_in, if_at, present_case, present_lead}
 use Rattle.sized_meanings.specs.Sized.{awaited_at, cases_of, led_by, led_in, made_in, makes_in, numbers_of}
-use Rattle.soundness_steps.specs.Works.{Setting, Work}
+use Rattle.soundness_steps.specs.Works.{Setting, Work, IsExact}
 use Rattle.soundness_steps.specs.Noted.{EachNoted, HasNumbers, IsSo, is_made, MadeAs, known, sized, type_sized, variables_given, with_given}
 use Rattle.soundness_steps.specs.Covers.{Agrees, AllAgree, AreSized, FormFits, IsMet, SizesFit, given_there}
 use Rattle.note_laws.specs.Notes.{OfOthers}
@@ -86,6 +89,7 @@ use Rattle.covering_laws.specs.Tested.{call_tested, function_tested, lead_passes
 use Rattle.covering_laws.specs.Tested.{values_pass}
 use Rattle.covering_laws.proofs.Giving.{now_noted, still_noted}
 use Rattle.covering_laws.proofs.Places.{all_in, is_not, numbers_agree, place_found}
+use Rattle.covering_laws.proofs.Telling.{told_fits}
 
 -- ---- what is in force
 
@@ -194,15 +198,15 @@ module _ (set : Setting) (x : Work) (sizing : Sizing) (zs : List (Option ℤ)) (
       → reading_sized types x.own of q ≡ type_sized types x.own f q
   type_same of f stands q h = (sizes_stand types x.own (length x.own) of (known f) (more_there of f stands)).1 q h
 
-  operands_same : (b : Body) (f : Integers) (ps : List Picked) → Stands (under (inside_of b) ps) f → (is : List Indices) (ss : List Sized)
+  operands_same : IsExact set → (b : Body) (f : Integers) (ps : List Picked) → Stands (under (inside_of b) ps) f → (is : List Indices) (ss : List Sized)
       → values_pass (inside_of b) ps is ≡ true → AreSized set x f is ss → all_sized_under (inside_of b) ps is ≡ ss
-  operands_same b f ps stands [] [] h a = refl
-  operands_same b f ps stands [] (s ∷ ss) h a = absurd a
-  operands_same b f ps stands (i ∷ is) [] h a = absurd a
-  operands_same b f ps stands (i ∷ is) (s ∷ ss) h a =
+  operands_same exact b f ps stands [] [] h a = refl
+  operands_same exact b f ps stands [] (s ∷ ss) h a = absurd a
+  operands_same exact b f ps stands (i ∷ is) [] h a = absurd a
+  operands_same exact b f ps stands (i ∷ is) (s ∷ ss) h a =
       let p = and_parts (value_passes types (length x.own) (under (inside_of b) ps) i) (values_pass (inside_of b) ps is) h in
-      let one : value_sized types x.own (under (inside_of b) ps) i ≡ s = value_same (under (inside_of b) ps) f stands i p.0 ∙ sym a.0 in
-      let rest = operands_same b f ps stands is ss p.1 a.1 in
+      let one : value_sized types x.own (under (inside_of b) ps) i ≡ s = value_same (under (inside_of b) ps) f stands i p.0 ∙ sym (a.0 exact) in
+      let rest = operands_same exact b f ps stands is ss p.1 a.1 in
       λ j. one j ∷ rest j
 
   -- ---- sizes
@@ -239,9 +243,9 @@ module _ (set : Setting) (x : Work) (sizing : Sizing) (zs : List (Option ℤ)) (
   form_fits of f stands (W.Variable i) h = tt
 
   pub made_fits : (b : Body) (f : Integers) (ps : List Picked) → Stands (under (inside_of b) ps) f → (made : Made) → size_passes (inside_of b) made ps ≡ true
-      → SizesFit types x.own set.past f made
+      → SizesFit set x f made
   made_fits b f ps stands (Makes.ByIndices i) h = form_fits (under (inside_of b) ps) f stands (out-Indices i) h
-  made_fits b f ps stands (Makes.ByType q) h = types_settle types x.own (length x.own) f (under (inside_of b) ps) stands q h
+  made_fits b f ps stands (Makes.ByType q) h = λ exact. told_fits types set.past x f (under (inside_of b) ps) stands q h
 
   -- the present numbers are one combination that counts
   pub counted_there : (b : Body) (facts : List Fact) (f : Integers) (noted : Noted) → IsSo set.past x noted f facts
@@ -252,7 +256,7 @@ module _ (set : Setting) (x : Work) (sizing : Sizing) (zs : List (Option ℤ)) (
 
   pub size_met : (b : Body) (facts : List Fact) (made : Made)
       → list_all (size_passes (inside_of b) made) (counted (known_of zs) (inside_of b).split facts []) ≡ true
-      → (f : Integers) (noted : Noted) → IsSo set.past x noted f facts → SizesFit types x.own set.past f made
+      → (f : Integers) (noted : Noted) → IsSo set.past x noted f facts → SizesFit set x f made
   size_met b facts made h f noted so =
       let at = counted_there b facts f noted so in
       made_fits b f at.taken (stands_there b f at.taken (so_there b f noted facts so).known at.are) made
@@ -310,9 +314,6 @@ module _ (set : Setting) (x : Work) (sizing : Sizing) (zs : List (Option ℤ)) (
       (are : AreSized set x f operands ss) (v : Value) where
     abbrev makes : NodeSizes → Option Sized
     makes = made_in types k ss v noted
-
-    abbrev own_note : NoteIn
-    own_note = record { body = b; note = made_note facts k operands made }
 
     made_passed : (y : NoteIn) → are_alike y.note (made_note facts k operands made) ≡ false → (rest : List NodeSizes)
         → first_in makes (at_note (inside_of y.body) list y.note ++ rest) ≡ first_in makes rest
@@ -471,14 +472,18 @@ module _ (set : Setting) (x : Work) (sizing : Sizing) (zs : List (Option ℤ)) (
 
   -- ---- what is said of the numbers that a node gives
 
-  gives_front : (xs ns : List NodeSizes) (k : ℕ) (i : Indices) → IsIn i (gives_at ns k) → IsIn i (gives_at (xs ++ ns) k)
+  gives_front : (xs ns : List NodeSizes) (k : Giver) (i : Indices) → IsIn i (gives_at ns k) → IsIn i (gives_at (xs ++ ns) k)
   gives_front [] ns k i h = h
   gives_front (n ∷ xs) ns k i h = in_back i (gives_in k n) (gives_at (xs ++ ns) k) (gives_front xs ns k i h)
 
-  own_gives : (k : ℕ) (i : Indices) → IsIn i (gives_in k (Z.Gives k i))
-  own_gives k i = subst (λ (b : Bool). IsIn i (if b then i ∷ [] else [])) (sym ((Decides-eqb k k).1 refl)) (inl refl)
+  own_eq : (g : Giver) → giver_eq g g ≡ true
+  own_eq (By.Node k) = (Decides-eqb k k).1 refl
+  own_eq (By.Arm k n) = (λ j. (Decides-eqb k k).1 refl j && (Decides-eqb n n).1 refl j)
 
-  gives_there : (ys : List NoteIn) (b : Body) (facts : List Fact) (k : ℕ) (i : Indices) → IsIn (note_in b (given_note facts k i)) ys
+  own_gives : (k : Giver) (i : Indices) → IsIn i (gives_in k (Z.Gives k i))
+  own_gives k i = subst (λ (b : Bool). IsIn i (if b then i ∷ [] else [])) (sym (own_eq k)) (inl refl)
+
+  gives_there : (ys : List NoteIn) (b : Body) (facts : List Fact) (k : Giver) (i : Indices) → IsIn (note_in b (given_note facts k i)) ys
       → IsIn i (gives_at (all_nodes types sizing zs x.own list ys) k)
   gives_there [] b facts k i h = absurd h
   gives_there (y ∷ ys) b facts k i (inl e) =
@@ -499,9 +504,10 @@ module _ (set : Setting) (x : Work) (sizing : Sizing) (zs : List (Option ℤ)) (
     abbrev cases : Cases
     cases = cases_of types instances nodes
 
-    made_met : AllFit types x.types x.own → (b : Body) (facts : List Fact) (k : ℕ) (operands : List Indices) (made : Made)
-        → IsIn (note_in b (made_note facts k operands made)) ys → made_tested (inside_of b) facts operands made ≡ true → IsMet set x reached cases (made_note facts k operands made)
-    made_met own_fit b facts k operands made it h f noted so ss are v is =
+    made_met : IsExact set → AllFit types x.types x.own → (b : Body) (facts : List Fact) (k : ℕ) (operands : List Indices) (made : Made)
+        → IsIn (note_in b (made_note facts k operands made)) ys → made_tested (inside_of b) facts operands made ≡ true
+        → IsMet set x reached cases (made_note facts k operands made)
+    made_met exact own_fit b facts k operands made it h f noted so ss are v is =
         let r = inside_of b in
         let tests = and_parts (C.has_all_cases r facts operands made) (list_all (node_passes r operands made) (combinations_at r facts)) h in
         let there = so_there b f noted facts so in
@@ -512,7 +518,7 @@ module _ (set : Setting) (x : Work) (sizing : Sizing) (zs : List (Option ℤ)) (
         let gives = made_sized r at.picked made in
         let g = makes b facts k operands made f noted ss are v in
         let takes : all_eq (all_sized_under r at.picked operands) ss ≡ true =
-        ap (λ l. all_eq l ss) (operands_same b f at.picked stands operands ss p.0 are) ∙ all_itself ss in
+        ap (λ l. all_eq l ss) (operands_same exact b f at.picked stands operands ss p.0 are) ∙ all_itself ss in
         let fits : has_sizes types v gives ≡ true = made_has own_fit b f at.picked stands made v p.1 is in
         let found : g (Z.Makes k (node_cases r facts operands made)) ≡ Some gives =
         ap (λ (o : Option Case). and_then o (makes_in types ss v)) (if_there k (present_case noted (node_cases r facts operands made)) ∙ at.is_there)
@@ -523,13 +529,13 @@ module _ (set : Setting) (x : Work) (sizing : Sizing) (zs : List (Option ℤ)) (
           is_there = found_first g gives (note_in b (made_note facts k operands made))
               (λ rest. first_some g (Z.Makes k (node_cases r facts operands made)) rest gives found)
               (λ y q rest. made_passed b facts k operands made f noted ss are v y q rest) ys apart it;
-          is_right = made_right b f at.picked stands made v p.1;
+          is_right = λ matters. made_right b f at.picked stands made v p.1;
         }
 
-    called_met : (b : Body) (facts : List Fact) (place : Place) (k : ℕ) (operands : List Indices) (g : ℕ) (js : List Index) (qs : List Reading)
+    called_met : IsExact set → (b : Body) (facts : List Fact) (place : Place) (k : ℕ) (operands : List Indices) (g : ℕ) (js : List Index) (qs : List Reading)
         → IsIn (note_in b (call_note facts place k operands (D.Function g) js qs)) ys → function_tested (inside_of b) list facts operands g js qs ≡ true
         → IsMet set x reached cases (call_note facts place k operands (D.Function g) js qs)
-    called_met b facts place k operands g js qs it h f noted so ss are =
+    called_met exact b facts place k operands g js qs it h f noted so ss are =
         let r = inside_of b in
         let tests = and_parts (C.has_all_leads r list facts operands g js qs) (list_all (lead_passes r operands g js qs) (combinations_at r facts)) h in
         let there = so_there b f noted facts so in
@@ -550,7 +556,7 @@ module _ (set : Setting) (x : Work) (sizing : Sizing) (zs : List (Option ℤ)) (
         let awaited : Awaits = record { place = led.place; numbers = numbers_of (s.0).instance } in
         let c = calls k operands place (D.Function g) js qs facts f noted ss are in
         let takes : all_eq (all_sized_under r at.picked operands) ss ≡ true =
-        ap (λ l. all_eq l ss) (operands_same b f at.picked stands operands ss p.0 are) ∙ all_itself ss in
+        ap (λ l. all_eq l ss) (operands_same exact b f at.picked stands operands ss p.0 are) ∙ all_itself ss in
         let by_lead : led_by instances ss (lead_to r operands at.picked led.place) ≡ Some awaited =
         ap (λ (d : Bool). and_then (only d led.place) (awaited_at instances)) takes
         ∙ ap (option_map (λ (z : SizedInstance). record { place = led.place; numbers = numbers_of z.instance })) s.1 in
@@ -561,28 +567,34 @@ module _ (set : Setting) (x : Work) (sizing : Sizing) (zs : List (Option ℤ)) (
         let owns : all_eq (map (type_sized types x.own f) qs) (s.0).instance.types ≡ true =
         ap (λ (z : Instance). all_eq (map (type_sized types x.own f) qs) z.types) s.2
         ∙ ap (λ l. all_eq l (y.0).types) (sym (readings_same b f at.picked stands qs q.0)) ∙ parts.1 in
+        let agree : AllAgree set.past f awaited.numbers js =
+        subst (λ ns. AllAgree set.past f (map (option_map an_int) ns) js) numbers (numbers_given of f stands (flags_of r.sizing g) js q.1) in
         record {
           instance = awaited;
+          awaited = awaited.numbers;
+          awaits = agree;
           is_there = found_first c awaited (note_in b (call_note facts place k operands (D.Function g) js qs))
               (λ rest. first_some c (Z.Calls k (node_leads r list facts operands g js qs)) rest awaited found)
               (λ z l rest. call_passed k operands place (D.Function g) js qs facts f noted ss are z l rest) ys apart it;
-          agree = subst (λ ns. AllAgree set.past f (map (option_map an_int) ns) js) numbers (numbers_given of f stands (flags_of r.sizing g) js q.1);
+          agree = agree;
           is_covered = λ ts. covers led.place s.0
               (work_of g awaited (map (type_sized types x.own f) qs) ts) s.1 function (refl {a = awaited}) owns;
         }
 
-    call_met : ((d : ℕ) → set.covered.direction d ≡ true) → (b : Body) (facts : List Fact) (place : Place) (k : ℕ) (operands : List Indices) (callee : Callee)
-        (js : List Index) (qs : List Reading) → IsIn (note_in b (call_note facts place k operands callee js qs)) ys → call_tested (inside_of b) list facts operands callee js qs ≡ true
+    call_met : IsExact set → ((d : ℕ) → set.covered.direction d ≡ true)
+        → (b : Body) (facts : List Fact) (place : Place) (k : ℕ) (operands : List Indices) (callee : Callee)
+        (js : List Index) (qs : List Reading) → IsIn (note_in b (call_note facts place k operands callee js qs)) ys
+        → call_tested (inside_of b) list facts operands callee js qs ≡ true
         → IsMet set x reached cases (call_note facts place k operands callee js qs)
-    call_met every b facts place k operands (D.Function g) js qs it h = called_met b facts place k operands g js qs it h
-    call_met every b facts place k operands (D.Row row) js qs it h = tt
-    call_met every b facts place k operands (D.Constructor u c) js qs it h = tt
-    call_met every b facts place k operands (D.Converts d) js qs it h = λ f noted so. every d
-    call_met every b facts place k operands (D.Applies d) js qs it h = tt
+    call_met exact every b facts place k operands (D.Function g) js qs it h = called_met exact b facts place k operands g js qs it h
+    call_met exact every b facts place k operands (D.Row row) js qs it h = tt
+    call_met exact every b facts place k operands (D.Constructor u c) js qs it h = tt
+    call_met exact every b facts place k operands (D.Converts d) js qs it h = λ f noted so. every d
+    call_met exact every b facts place k operands (D.Applies d) js qs it h = tt
 
     -- ---- numbers that a value gives
 
-    pub given_met : (b : Body) (facts : List Fact) (k : ℕ) (i : Indices) → IsIn (note_in b (given_note facts k i)) ys
+    pub given_met : (b : Body) (facts : List Fact) (k : Giver) (i : Indices) → IsIn (note_in b (given_note facts k i)) ys
         → list_all (agrees_there facts i) (gives_at nodes k) ≡ true → IsMet set x reached cases (given_note facts k i)
     given_met b facts k i it h f noted so v had =
         let js = gives_at nodes k in
@@ -603,12 +615,12 @@ module _ (set : Setting) (x : Work) (sizing : Sizing) (zs : List (Option ℤ)) (
 
     -- ---- a note
 
-    pub note_met : AllFit types x.types x.own → ((d : ℕ) → set.covered.direction d ≡ true) → (b : Body) (n : Note) → IsIn (note_in b n) ys
+    pub note_met : IsExact set → AllFit types x.types x.own → ((d : ℕ) → set.covered.direction d ≡ true) → (b : Body) (n : Note) → IsIn (note_in b n) ys
         → note_tested reached list nodes (inside_of b) n ≡ true → OfOthers (IsMet set x reached cases) n
-    note_met own_fit every b (goal_note facts place goal) it h = tt
-    note_met own_fit every b (size_note facts place made) it h = size_met b facts made h
-    note_met own_fit every b (made_note facts k operands made) it h = made_met own_fit b facts k operands made it h
-    note_met own_fit every b (call_note facts place k operands callee js qs) it h = call_met every b facts place k operands callee js qs it h
-    note_met own_fit every b (way_note facts d) it h = λ f noted so. h
-    note_met own_fit every b (given_note facts k i) it h = given_met b facts k i it h
-    note_met own_fit every b (name_note v name) it h = tt
+    note_met exact own_fit every b (goal_note facts place goal) it h = tt
+    note_met exact own_fit every b (size_note facts place made) it h = size_met b facts made h
+    note_met exact own_fit every b (made_note facts k operands made) it h = made_met exact own_fit b facts k operands made it h
+    note_met exact own_fit every b (call_note facts place k operands callee js qs) it h = call_met exact every b facts place k operands callee js qs it h
+    note_met exact own_fit every b (way_note facts d) it h = λ f noted so. h
+    note_met exact own_fit every b (given_note facts k i) it h = given_met b facts k i it h
+    note_met exact own_fit every b (name_note v name) it h = tt

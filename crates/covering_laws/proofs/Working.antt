@@ -169,7 +169,8 @@ module _ (instances : List SizedInstance) (x : Work) (s : SizedInstance) where
 pub covered_at : (c : SizedCore) (p : ℕ) (s : SizedInstance) (y : Work) → slice_get c.instances p ≡ Some s → s.instance.function ≡ y.function
     → y.instance ≡ record { place = p; numbers = numbers_of s.instance } → all_eq y.own s.instance.types ≡ true → function_covered c y ≡ true
 covered_at c p s y e f i a =
-    let same : is_at y s ≡ true = two (nat_eq s.instance.function y.function) (same_numbers (numbers_of s.instance) y.instance.numbers && all_eq y.own s.instance.types)
+    let same : is_at y s ≡ true = two (nat_eq s.instance.function y.function)
+    (same_numbers (numbers_of s.instance) y.instance.numbers && all_eq y.own s.instance.types)
     ((Decides-eqb s.instance.function y.function).1 f)
     (two (same_numbers (numbers_of s.instance) y.instance.numbers) (all_eq y.own s.instance.types)
     (ap (λ z. same_numbers (numbers_of s.instance) z.numbers) i ∙ numbers_themselves (numbers_of s.instance)) a) in

@@ -1,6 +1,6 @@
 -- What is so of the instances and mappings that are found without refusal: in the bodies that are read for each, sizes are constants within their limits,
 -- numbers that calls give are constants below the largest integer, and what is called is among them (Sail language manual, "Type variables").
-use Rattle.std.specs.Prelude.{◌≡◌, ◌<◌, ℕ, ℤ, pos, int_le, ◌/◌, Bool, true, false, not, List, [], ◌∷◌, length, map, slice_get, Option, Ok}
+use Rattle.std.specs.Prelude.{◌≡◌, ◌<◌, ℕ, ℤ, pos, int_le, ◌/◌, Bool, true, false, not, List, [], ◌∷◌, length, map, slice_get, Option, Some, Ok}
 use Rattle.std.specs.List.{list_all, list_any}
 use Rattle.sail_types.specs.Limits.{largest}
 use Rattle.sail_types.specs.declared.numbers.Index.{Index}
@@ -28,6 +28,7 @@ use Rattle.monomorph.specs.Instances.{entry, found_from, one_or_none, or_none}
 use Rattle.monomorph.specs.Lasts.{Model}
 use Rattle.monomorph.specs.Reading.{Inside, instance_of, reading_of, under}
 use Rattle.sized_trees.specs.Within.{all_within}
+use Rattle.note_laws.specs.Notes.{EachNote}
 
 abbrev pub IsAmong : Found → List Found → Type 0
 IsAmong x found = list_any (found_eq x) found ≡ true
@@ -82,13 +83,31 @@ abbrev pub IsRead : Model → List Found → Found → Type 0
 IsRead m found (F.Function y) = BodiesAreRead m y.numbers y.types (or_none (slice_get m.bodies.functions y.function)) found
 IsRead m found (F.Mapping i) = BodiesAreRead m [] [] (one_or_none (slice_get m.bodies.mappings i)) found
 
--- mappings among what is found are of so many
-abbrev pub AllBelow : ℕ → List Found → Type 0
-AllBelow n [] = Unit {0}
-AllBelow n (F.Function y ∷ found) = AllBelow n found
-AllBelow n (F.Mapping i ∷ found) = (i < n) × AllBelow n found
+-- ---- mappings that are named are those of the model
 
--- top-level lets and initial values; and whatever is found, where each mapping that is found is one of the model
+-- each mapping that a note names is such
+abbrev pub CalleeNames : (ℕ → Type 0) → Callee → Type 0
+CalleeNames P (D.Converts d) = P (d / 2)
+CalleeNames P (D.Applies d) = P (d / 2)
+CalleeNames P callee = Unit {0}
+
+abbrev pub Names : (ℕ → Type 0) → Note → Type 0
+Names P (call_note facts place k operands callee js qs) = CalleeNames P callee
+Names P (way_note facts d) = P (d / 2)
+Names P note = Unit {0}
+
+abbrev pub AllName : (ℕ → Type 0) → List Body → Type 0
+AllName P bs = (b : Body) → IsIn b bs → EachNote (Names P) b.notes
+
+pub record BodiesName (P : ℕ → Type 0) (m : Model) : Type 0 where
+  pub functions : (i : ℕ) (bs : List Body) → slice_get m.bodies.functions i ≡ Some bs → AllName P bs
+  pub mappings : AllName P m.bodies.mappings
+  pub openings : AllName P m.bodies.openings
+
+abbrev pub MappingsAreThere : Model → Type 0
+MappingsAreThere m = BodiesName (λ i. i < length m.bodies.mappings) m
+
+-- top-level lets and initial values, and whatever is found
 abbrev pub ListsAreRead : Type 0
-ListsAreRead = (m : Model) (all : List Found) → found_from m (entry m.core.reset ∷ entry m.core.step ∷ []) ≡ Ok all
-    → BodiesAreRead m [] [] m.bodies.openings all × (AllBelow (length m.bodies.mappings) all → (x : Found) → IsIn x all → IsRead m all x)
+ListsAreRead = (m : Model) (all : List Found) → MappingsAreThere m → found_from m (entry m.core.reset ∷ entry m.core.step ∷ []) ≡ Ok all
+    → BodiesAreRead m [] [] m.bodies.openings all × ((x : Found) → IsIn x all → IsRead m all x)

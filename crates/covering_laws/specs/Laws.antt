@@ -10,7 +10,7 @@ use Rattle.checked_meaning.specs.Fits.{AllFit}
 use Rattle.sized_meanings.specs.Sized.{cases_of, numbers_of}
 use Rattle.split_laws.specs.Counted.{IsIn}
 use Rattle.note_laws.specs.Notes.{EachNote, OfOthers}
-use Rattle.soundness_steps.specs.Works.{Setting, Work}
+use Rattle.soundness_steps.specs.Works.{Setting, Work, IsExact}
 use Rattle.soundness_steps.specs.Covers.{IsMet}
 use Rattle.node_counts.specs.Told.{all_noted}
 use Rattle.covering_laws.specs.Tested.{all_nodes, bodies_tested}
@@ -28,7 +28,7 @@ AreCovered set instances =
 
 abbrev pub BodiesAreMet : Type 0
 BodiesAreMet = (set : Setting) (x : Work) (sizing : Sizing) (zs : List (Option ℤ)) → x.instance.numbers ≡ map (option_map an_int) zs
-    → (list : List Instance) (instances : List SizedInstance) (reached : ℕ → Bool) → ArePlaced list instances → AreCovered set instances
+    → (list : List Instance) (instances : List SizedInstance) (reached : ℕ → Bool) → ArePlaced list instances → AreCovered set instances → IsExact set
     → AllFit set.around.types x.types x.own → ((d : ℕ) → set.covered.direction d ≡ true)
     → (bs : List Body) → bodies_tested set.around.types sizing zs x.own reached list bs ≡ true → (b : Body) → IsIn b bs
     → EachNote (OfOthers (IsMet set x reached

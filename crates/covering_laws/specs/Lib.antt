@@ -4,3 +4,5 @@ pub mod Laws
 pub mod Apart
 pub mod Covered
 pub mod Closed
+pub mod Plain
+pub mod Listed

@@ -3,9 +3,11 @@
 use Rattle.std.specs.Prelude.{ℕ, ℤ, pos, int_le, nat_eq, Bool, true, false, not, ◌&&◌, ◌||◌, List, [], ◌∷◌, ◌++◌, length, Option, Some, None}
 use Rattle.std.specs.List.{list_all, list_any}
 use Rattle.sail_types.specs.declared.numbers.Index.{Index}
+use Rattle.sail_types.specs.declared.numbers.Num.{Num}
 use Rattle.sail_types.specs.declared.table.Types.{Types}
 use Rattle.sail_core.specs.declared.tree.Callee.{Callee}
 use Rattle.sail_core.specs.declared.tree.Callee.TheVariants as D
+use Rattle.sail_core.specs.declared.tree.Giver.{Giver}
 use Rattle.value_indices.specs.Steps.{Note, size_note, made_note, call_note, way_note, given_note}
 use Rattle.value_indices.specs.declared.indices.Indices.{Indices, fold-Indices, out-Indices}
 use Rattle.value_indices.specs.declared.indices.Indices.TheOpen as W
@@ -30,7 +32,7 @@ use Rattle.sized_trees.specs.Combinations.{combinations_at, is_given}
 use Rattle.sized_meanings.specs.Present.{gives_at}
 use Rattle.soundness_steps.specs.Noted.{variables_given}
 use Rattle.node_counts.specs.Told.{NoteIn, all_noted, are_apart}
-use Rattle.exact_sizes.specs.Exact.{is_exact_index, only_if, reading_passes, reading_settles, value_passes}
+use Rattle.exact_sizes.specs.Exact.{is_exact_index, only_if, reading_passes, reading_settles, reading_tells, value_passes}
 use Rattle.case_laws.specs.Cases.{has_all_cases, has_all_leads}
 
 -- ---- where these numbers are taken
@@ -41,7 +43,7 @@ values_pass r ps is = list_all (value_passes r.types (length r.own) (under r ps)
 abbrev pub readings_pass : Inside → List Picked → List Reading → Bool
 readings_pass r ps qs = list_all (reading_passes r.types (length r.own) (under r ps)) qs
 
--- ---- sizes: a width or length within its limit; those of a type stay what they are where it is opened
+-- ---- sizes: a width or length within its limit; those of a type are told where a value of it is opened
 
 abbrev pub in_limit : ℕ → Option ℤ → Bool
 in_limit largest None = false
@@ -54,7 +56,7 @@ form_in_limit of form = true
 
 abbrev pub size_passes : Inside → Made → List Picked → Bool
 size_passes r (Makes.ByIndices i) ps = form_in_limit (under r ps) (out-Indices i)
-size_passes r (Makes.ByType q) ps = reading_settles r.types (length r.own) (under r ps) q
+size_passes r (Makes.ByType q) ps = reading_tells r.types (length r.own) (under r ps) q
 
 abbrev pub size_tested : Inside → List Fact → Made → Bool
 size_tested r facts made = list_all (size_passes r made) (counted (known_of r.numbers) r.split facts [])
@@ -90,7 +92,7 @@ abbrev pub call_tested : Inside → List Instance → List Fact → List Indices
 call_tested r list facts operands (D.Function f) js qs = function_tested r list facts operands f js qs
 call_tested r list facts operands callee js qs = true
 
--- ---- the numbers that a value gives: all that is said at its node gives one number to a variable that is noted by then, or that the note gives
+-- ---- the numbers that a value gives: all that is said where it gives them gives one number to a variable that is noted by then, or that the note gives
 
 abbrev pub is_needed : List Fact → Indices → ℕ → Bool
 is_needed facts i v = is_given facts v || list_any (nat_eq v) (variables_given i)
@@ -103,23 +105,46 @@ abbrev pub is_variable : Option ℕ → ℕ → Bool
 is_variable None v = false
 is_variable (Some w) v = nat_eq w v
 
-abbrev pub integer_is : Indices-F Indices Reading → ℕ → Bool
-integer_is (W.Integer t) v = is_variable (variable_in t) v
-integer_is form v = false
+-- a variable that isn't needed, or is the one there
+abbrev pub is_it : (ℕ → Bool) → Option ℕ → Num → Bool
+is_it needed None t = true
+is_it needed (Some v) t = not (needed v) || is_variable (variable_in t) v
 
+abbrev pub is_unneeded : (ℕ → Bool) → Option ℕ → Bool
+is_unneeded needed None = true
+is_unneeded needed (Some v) = not (needed v)
+
+-- of an integer, a width and a length, which a value of another form doesn't have, be it not of a Type variable
 abbrev pub integer_agrees : (ℕ → Bool) → Option ℕ → Indices-F Indices Reading → Bool
-integer_agrees needed None form = true
-integer_agrees needed (Some v) form = not (needed v) || integer_is form v
+integer_agrees needed o (W.Integer t) = is_it needed o t
+integer_agrees needed o (W.Variable i) = is_unneeded needed o
+integer_agrees needed o form = true
+
+abbrev pub width_agrees : (ℕ → Bool) → Option ℕ → Indices-F Indices Reading → Bool
+width_agrees needed o (W.Bits t) = is_it needed o t
+width_agrees needed o (W.Variable i) = is_unneeded needed o
+width_agrees needed o form = true
+
+abbrev pub length_agrees : (ℕ → Bool) → Option ℕ → Indices-F Indices Reading → Bool
+length_agrees needed o (W.Vector t r) = is_it needed o t
+length_agrees needed o (W.Variable i) = is_unneeded needed o
+length_agrees needed o form = true
 
 abbrev pub each_agrees : List Agreeing → List Indices → Bool
 each_agrees [] [] = true
 each_agrees (f ∷ fs) (i ∷ is) = f i && each_agrees fs is
 each_agrees fs is = false
 
+abbrev pub parts_agree : List Agreeing → Indices-F Indices Reading → Bool
+parts_agree fs (W.Tuple is) = each_agrees fs is
+parts_agree fs (W.Variable i) = false
+parts_agree fs form = true
+
 abbrev pub form_agrees : (ℕ → Bool) → Indices-F Agreeing Agreeing → Indices-F Indices Reading → Bool
 form_agrees needed (W.Integer t) form = integer_agrees needed (variable_in t) form
-form_agrees needed (W.Tuple fs) (W.Tuple is) = each_agrees fs is
-form_agrees needed (W.Tuple fs) form = false
+form_agrees needed (W.Bits t) form = width_agrees needed (variable_in t) form
+form_agrees needed (W.Vector t f) form = length_agrees needed (variable_in t) form
+form_agrees needed (W.Tuple fs) form = parts_agree fs form
 form_agrees needed x form = true
 
 abbrev pub indices_agree : (ℕ → Bool) → Indices-F Agreeing Agreeing → Agreeing
@@ -134,8 +159,8 @@ agrees_with needed = fold-Indices Agreeing Agreeing (indices_agree needed) type_
 abbrev pub agrees_there : List Fact → Indices → Indices → Bool
 agrees_there facts i j = agrees_with (is_needed facts i) j i
 
-abbrev pub given_tested : List NodeSizes → List Fact → ℕ → Indices → Bool
-given_tested nodes facts k i = list_all (agrees_there facts i) (gives_at nodes k)
+abbrev pub given_tested : List NodeSizes → List Fact → Giver → Indices → Bool
+given_tested nodes facts g i = list_all (agrees_there facts i) (gives_at nodes g)
 
 -- ---- a note; a body goes through these directions of mappings
 
@@ -144,7 +169,7 @@ note_tested reached list nodes r (size_note facts place made) = size_tested r fa
 note_tested reached list nodes r (made_note facts k operands made) = made_tested r facts operands made
 note_tested reached list nodes r (call_note facts place k operands callee js qs) = call_tested r list facts operands callee js qs
 note_tested reached list nodes r (way_note facts d) = reached d
-note_tested reached list nodes r (given_note facts k i) = given_tested nodes facts k i
+note_tested reached list nodes r (given_note facts g i) = given_tested nodes facts g i
 note_tested reached list nodes r note = true
 
 -- ---- bodies that are read together

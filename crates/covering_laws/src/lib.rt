@@ -6,6 +6,7 @@
 ghost use Rattle.covering_laws.specs.Closed.{ListsAreRead};
 ghost use Rattle.covering_laws.specs.Covered.{ModelsAreRead};
 ghost use Rattle.covering_laws.specs.Laws.{BodiesAreMet};
+ghost use Rattle.covering_laws.specs.Listed.{ListsCover};
 
 /// The notes of bodies that are tested are met by the cases of their tables. It does nothing.
 pub fn bodies_are_met()
@@ -20,4 +21,9 @@ pub fn models_are_read()
 /// Of what is found without refusal sizes are constants within their limits, and what is called is found. It does nothing.
 pub fn lists_are_read()
     ensures { ListsAreRead }
+{}
+
+/// Of an accepted list all that walks note, but goals, is met by checks by which a value may be of any type. It does nothing.
+pub fn lists_cover()
+    ensures { ListsCover }
 {}

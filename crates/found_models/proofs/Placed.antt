@@ -22,7 +22,7 @@ abbrev pub KindAs : Givens → ℕ → Bool → Type 0
 KindAs nu j true = is_there (given_bool (slice_get nu j)) ≡ true
 KindAs nu j false = is_there (given_int (slice_get nu j)) ≡ true
 
-out_of : (nu : Givens) (j : ℕ) (b : Bool) → KindAs (inside nu) (suc j) b → KindAs nu j b
+pub out_of : (nu : Givens) (j : ℕ) (b : Bool) → KindAs (inside nu) (suc j) b → KindAs nu j b
 out_of nu j true h = h
 out_of nu j false h = h
 

@@ -55,13 +55,13 @@ alike (v ∷ variables) = one_alike v.kind (number_parameter v) (number_paramete
 
 -- ---- each has a place of its kind
 
-as_it_is : (nu : Givens) (g : Given) (b : Bool) → KindAs (g ∷ nu) 0 b → b ≡ is_truth g
+pub as_it_is : (nu : Givens) (g : Given) (b : Bool) → KindAs (g ∷ nu) 0 b → b ≡ is_truth g
 as_it_is nu (an_int z) true h = no h
 as_it_is nu (an_int z) false h = refl
 as_it_is nu (a_bool c) true h = refl
 as_it_is nu (a_bool c) false h = no h
 
-later : (nu : Givens) (g : Given) (i : ℕ) (b : Bool) → KindAs (g ∷ nu) (suc i) b → KindAs nu i b
+pub later : (nu : Givens) (g : Given) (i : ℕ) (b : Bool) → KindAs (g ∷ nu) (suc i) b → KindAs nu i b
 later nu g i true h = h
 later nu g i false h = h
 

@@ -1,5 +1,6 @@
 -- Operators on truths, branches, names that are bound, blocks, cases and loops note no more than their parts and their own node.
-use Rattle.std.proofs.Common.{ℕ, ◌+◌, ◌≤◌, Bool, true, false, not, ◌&&◌, ◌++◌, List, [], ◌∷◌, Option, Some, None, is_none, if◌then◌else◌, arith}
+use Rattle.std.proofs.Common.{◌≡◌, ◌∙◌, refl, sym, ap, subst, ℕ, suc, ◌+◌, ◌≤◌, Bool, true, false, not, ◌&&◌, ◌++◌, List, [], ◌∷◌, Option, Some, None, is_none}
+use Rattle.std.proofs.Common.{arith, length}
 use Rattle.sail_base.specs.declared.place.Place.{Place}
 use Rattle.sail_types.specs.Sums.{variable}
 use Rattle.sail_types.specs.declared.numbers.Con.{Con}
@@ -10,6 +11,7 @@ use Rattle.sail_types.specs.declared.table.Types.{Types}
 use Rattle.sail_core.specs.declared.patterns.Arm.{Arm}
 use Rattle.sail_core.specs.declared.tree.Counting.{Counting}
 use Rattle.sail_core.specs.declared.tree.Counting.TheVariants.{Down, Up}
+use Rattle.sail_core.specs.declared.tree.Giver.TheVariants as Gives
 use Rattle.sail_core.specs.declared.tree.Statement.{Statement}
 use Rattle.sail_core.specs.declared.tree.Statement.TheVariants as S
 use Rattle.sail_core.specs.declared.written.Written.{Written}
@@ -18,6 +20,7 @@ use Rattle.value_indices.specs.declared.indices.Indices.{Indices, out-Indices}
 use Rattle.value_indices.specs.declared.indices.Indices.TheOpen as W
 use Rattle.value_indices.specs.declared.indices.Indices.TheOpen.{Indices-F}
 use Rattle.value_indices.specs.declared.indices.Indices.TheVariants as I
+use Rattle.value_indices.specs.declared.indices.Indices.TheViews.{out-roll-Indices}
 use Rattle.value_indices.specs.declared.indices.Reading.{Reading}
 use Rattle.value_indices.specs.declared.notes.Made.TheVariants as Makes
 use Rattle.wide_types.specs.Widening.{met, widened}
@@ -28,11 +31,12 @@ use Rattle.call_arguments.specs.Holes.{without_holes}
 use Rattle.call_arguments.specs.declared.aims.Aim.{Aim}
 use Rattle.call_arguments.specs.declared.aims.Aim.TheVariants as Aims
 use Rattle.call_notes.specs.Ends.{integer_number, sized, wrong_value}
-use Rattle.call_notes.specs.Noted.{node_ended, node_given, node_made, numbers_noted}
+use Rattle.call_notes.specs.Noted.{names_given, node_ended, node_given, node_made, numbers_noted}
 use Rattle.expression_forms.specs.Meeting.{met_ways, thrown}
 use Rattle.expression_forms.specs.Truths.{and_right, either, both, or_right, right_form}
 use Rattle.expression_steps.specs.Parts.{Part, given_that, numbers_walk, truth_walk, under}
-use Rattle.expression_steps.specs.Statements.{Way, and_under, and_walk, assert_state, bind_names, block_walk, bounds_of, branches_forms, case_walk}
+use Rattle.expression_steps.specs.Statements.{Way, and_under, and_walk, assert_state, bind_given, bind_names, block_end, block_walk, bounds_of}
+use Rattle.expression_steps.specs.Statements.{branches_forms, case_names, case_walk, let_given}
 use Rattle.expression_steps.specs.Statements.{case_ways, caught_at, claim_behind, counted, each_way, either_met, either_walk, first_behind}
 use Rattle.expression_steps.specs.Statements.{foreach_walk, guarded, if_end, if_forms, if_state, if_under, if_ways, is_written, let_names, let_walk, loop_walk}
 use Rattle.expression_steps.specs.Statements.{match_under, match_walk, measure_walk, measured, meeting, meeting_from, met_made, met_value, natural_type}
@@ -40,14 +44,14 @@ use Rattle.expression_steps.specs.Statements.{one_way, or_under, or_walk, owed_o
 use Rattle.expression_steps.specs.Statements.{turn_begun, turn_named, turn_part, turn_walk, turns_walk, two_ways, under_claim, unit_form, unit_of, unit_under}
 use Rattle.expression_steps.specs.Statements.{value_met, var_name, var_walk, way_behind, when_met, when_under, written_aim}
 use Rattle.expression_steps.specs.declared.counting.Bounds.{Bounds}
-use Rattle.node_counts.specs.Counts.{Counted, bit, is_of, own, weigh}
-use Rattle.node_counts.proofs.Budgets.{within_claimed, within_scoped}
+use Rattle.node_counts.specs.Counts.{Counted, armed, arming, bit, form_may_give, giving, is_of, last_arms, making, may_give, own, weigh}
+use Rattle.node_counts.proofs.Budgets.{leaves_bind, leaves_give, leaves_rest, within_claimed, within_left, within_scoped}
 use Rattle.node_counts.proofs.Openings as Opened
 use Rattle.node_counts.proofs.Widening as Met
 use Rattle.node_counts.proofs.Patterns as Matched
-use Rattle.node_counts.proofs.Weights.{Light, caught_own, lights, made_own}
-use Rattle.node_counts.proofs.Nodes.{In, fit_light, in_both, in_first, in_give, in_last, in_more, made_exact, next_light}
-use Rattle.node_counts.proofs.Nodes.{node_light, noted_light, opened_exact, owes_light, settled_light, sized_light, wrong_in}
+use Rattle.node_counts.proofs.Weights.{Light, all_own, arms_all, arms_next, caught_own, lights, made_own, node_own}
+use Rattle.node_counts.proofs.Nodes.{In, caught_light, few, fit_light, in_both, in_first, in_give, in_last, in_more, made_exact, next_light}
+use Rattle.node_counts.proofs.Nodes.{names_given_in, node_in, opened_exact, owes_light, settled_light, sized_light, wrong_in}
 use Rattle.node_counts.proofs.Parts.{Costed, condition_in, given_in, integer_light, numbers_in, parts_of, total, truth_in, under_in, walk_in}
 
 module _ (q : Counted) where
@@ -100,7 +104,7 @@ module _ (q : Counted) where
       ways_in h.1 around is_free m shape ws o h.4))
 
   abbrev exact : ℕ → ℕ
-  exact k = bit (not q.calls && is_of q k (I.Unit ∷ []))
+  exact k = bit (not q.gives && (not q.calls && is_of q k (I.Unit ∷ [])))
 
   met_ways_light : (around : Around) (place : Place) (m : ℕ) (shape : Shape) (o : Option Indices) → In q 0 (met_ways around place m shape o)
   met_ways_light around place m shape None = in_give q I.Never
@@ -116,17 +120,18 @@ module _ (q : Counted) where
   made_met around place k shape (Some r) m o = opened_exact q place k (I.Unit ∷ []) r
 
   meeting_exact : (b : ℕ) (around : Around) (place : Place) (k : ℕ) (shape : Shape) (r : Option Reading) (ws : List Way) → WaysIn b ws
-      → In q (b + exact k) (meeting around place k shape r ws)
+      → In q (b + (exact k + giving q k)) (meeting around place k shape r ws)
   meeting_exact b around place k shape r ws h =
       in_first q next_variable (meeting_from around place k shape r ws) (next_light q) (λ m.
       in_both q (each_way around (is_none r) m shape ws None) (met_value around place k shape r m) (ways_in b around (is_none r) m shape ws None h) (λ o.
-      in_last q (met_made around place k shape r m o) (node_given k) (made_met around place k shape r m o) (node_light q k)))
+      in_both q (met_made around place k shape r m o) (node_given k) (made_met around place k shape r m o) (node_in q k)))
 
   pub meeting_in : (b : ℕ) (around : Around) (place : Place) (k : ℕ) (shape : Shape) (r : Option Reading) (ws : List Way) → WaysIn b ws
       → In q (own q k + b) (meeting around place k shape r ws)
   meeting_in b around place k shape r ws h =
-      let l : exact k ≤ own q k = made_own q [] k (I.Unit ∷ []) (Makes.ByIndices I.Unit) in
-      in_more q (meeting around place k shape r ws) (omega (arith, l)) (meeting_exact b around place k shape r ws h)
+      let l : exact k ≤ making q k = made_own q [] k (I.Unit ∷ []) (Makes.ByIndices I.Unit) in
+      let n : making q k + giving q k ≤ own q k = node_own q k in
+      in_more q (meeting around place k shape r ws) (omega (arith, l, n)) (meeting_exact b around place k shape r ws h)
 
   -- ---- `if`
 
@@ -227,11 +232,21 @@ module _ (q : Counted) where
       Matched.let_kept (Light q) (lights q) around place arm
       (record { in_case = false; is_owed = is_written (arm_written arm) && a.part.is_nested }) i)
 
-  pub let_in : (place : Place) (arm : Arm) (a b : Costed q) (around : Around) (scope : Scope) (aim : Aim)
-      → In q (a.cost + b.cost) (let_walk place arm a.part b.part around scope aim)
-  let_in place arm a b around scope aim =
-      in_both q (let_names place arm a.part around scope) (λ found. b.part.walk around (found ++ scope) (inner_aim aim)) (names_in place arm a around scope)
-      (λ found. walk_in q b around (found ++ scope) (inner_aim aim))
+  -- with the numbers that they give
+  given_names_in : (k n : ℕ) (place : Place) (arm : Arm) (a : Costed q) (around : Around) (scope : Scope)
+      → In q (a.cost + arming q k n) (let_given (Gives.Arm k n) place arm a.part around scope)
+  given_names_in k n place arm a around scope =
+      let owed : Bool = is_written (arm_written arm) && a.part.is_nested in
+      in_both q (a.part.walk around scope (written_aim around (arm_written arm))) (bind_given (Gives.Arm k n) place arm around owed)
+      (walk_in q a around scope (written_aim around (arm_written arm))) (λ i.
+      in_first q (bind_names place arm around owed i) (names_given (Gives.Arm k n) (i ∷ []))
+      (Matched.let_kept (Light q) (lights q) around place arm (record { in_case = false; is_owed = owed }) i) (λ found. names_given_in q k n (i ∷ []) found))
+
+  pub let_in : (k n : ℕ) (place : Place) (arm : Arm) (a b : Costed q) (around : Around) (scope : Scope) (aim : Aim)
+      → In q ((a.cost + arming q k n) + b.cost) (let_walk (Gives.Arm k n) place arm a.part b.part around scope aim)
+  let_in k n place arm a b around scope aim =
+      in_both q (let_given (Gives.Arm k n) place arm a.part around scope) (λ found. b.part.walk around (found ++ scope) (inner_aim aim))
+      (given_names_in k n place arm a around scope) (λ found. walk_in q b around (found ++ scope) (inner_aim aim))
 
   var_name_in : (name : List ℕ) (written : Option Written) (a : Costed q) (around : Around) (scope : Scope)
       → In q a.cost (var_name name written a.part around scope)
@@ -255,63 +270,98 @@ module _ (q : Counted) where
   under_claim_in rest h None = h
   under_claim_in rest h (Some c) = within_claimed (weigh q) c rest h
 
-  pub block_in : (place : Place) (ss : List Statement) (ys : List (Costed q)) (around : Around) (scope : Scope) (aim : Aim)
-      → In q (total q ys) (block_walk place ss (parts_of q ys) around scope aim)
-  block_in place [] [] around scope aim = settled_light q around place (inner_aim aim) I.Unit
-  block_in place [] (y ∷ []) around scope aim =
+  end_in : (place : Place) (ys : List (Costed q)) (around : Around) (scope : Scope) (aim : Aim)
+      → In q (total q ys) (block_end place (parts_of q ys) around scope aim)
+  end_in place [] around scope aim = settled_light q around place (inner_aim aim) I.Unit
+  end_in place (y ∷ []) around scope aim =
       in_more q (y.part.walk around scope (inner_aim aim)) (omega arith) (walk_in q y around scope (inner_aim aim))
-  block_in place [] (y ∷ z ∷ ys) around scope aim = wrong_in q place
-  block_in place (S.Evaluate ∷ ss) (y ∷ ys) around scope aim =
-      in_both q (y.part.state around scope) (under_claim (block_walk place ss (parts_of q ys) around scope aim)) (y.within.1 around scope)
-      (under_claim_in (block_walk place ss (parts_of q ys) around scope aim) (block_in place ss ys around scope aim))
-  block_in place (S.Define at arm ∷ ss) (y ∷ ys) around scope aim =
-      in_both q (let_names at arm y.part around scope) (λ found. block_walk place ss (parts_of q ys) around (found ++ scope) aim)
-      (names_in at arm y around scope) (λ found. block_in place ss ys around (found ++ scope) aim)
-  block_in place (S.Declare name written ∷ ss) (y ∷ ys) around scope aim =
-      in_both q (var_name name written y.part around scope) (λ found. block_walk place ss (parts_of q ys) around (found ++ scope) aim)
-      (var_name_in name written y around scope) (λ found. block_in place ss ys around (found ++ scope) aim)
-  block_in place (S.Evaluate ∷ ss) [] around scope aim = wrong_in q place
-  block_in place (S.Define at arm ∷ ss) [] around scope aim = wrong_in q place
-  block_in place (S.Declare name written ∷ ss) [] around scope aim = wrong_in q place
+  end_in place (y ∷ z ∷ ys) around scope aim = wrong_in q place
+
+  pub block_in : (place : Place) (k : ℕ) (ss : List Statement) (ys : List (Costed q)) (around : Around) (scope : Scope) (aim : Aim)
+      → In q (last_arms q k (length ss) + total q ys) (block_walk place k ss (parts_of q ys) around scope aim)
+  block_in place k [] ys around scope aim =
+      in_more q (block_end place (parts_of q ys) around scope aim) (omega arith) (end_in place ys around scope aim)
+  block_in place k (S.Evaluate ∷ ss) (y ∷ ys) around scope aim =
+      let l : arming q k (length ss) + last_arms q k (length ss) ≤ last_arms q k (suc (length ss)) = arms_next q k (length ss) in
+      in_more q (block_walk place k (S.Evaluate ∷ ss) (y.part ∷ parts_of q ys) around scope aim) (omega (arith, l))
+      (in_both q (y.part.state around scope) (under_claim (block_walk place k ss (parts_of q ys) around scope aim)) (y.within.1 around scope)
+      (under_claim_in (block_walk place k ss (parts_of q ys) around scope aim) (block_in place k ss ys around scope aim)))
+  block_in place k (S.Define at arm ∷ ss) (y ∷ ys) around scope aim =
+      let l : arming q k (length ss) + last_arms q k (length ss) ≤ last_arms q k (suc (length ss)) = arms_next q k (length ss) in
+      in_more q (block_walk place k (S.Define at arm ∷ ss) (y.part ∷ parts_of q ys) around scope aim) (omega (arith, l))
+      (in_both q (let_given (Gives.Arm k (length ss)) at arm y.part around scope)
+      (λ found. block_walk place k ss (parts_of q ys) around (found ++ scope) aim) (given_names_in k (length ss) at arm y around scope)
+      (λ found. block_in place k ss ys around (found ++ scope) aim))
+  block_in place k (S.Declare name written ∷ ss) (y ∷ ys) around scope aim =
+      let l : arming q k (length ss) + last_arms q k (length ss) ≤ last_arms q k (suc (length ss)) = arms_next q k (length ss) in
+      in_more q (block_walk place k (S.Declare name written ∷ ss) (y.part ∷ parts_of q ys) around scope aim) (omega (arith, l))
+      (in_both q (var_name name written y.part around scope) (λ found. block_walk place k ss (parts_of q ys) around (found ++ scope) aim)
+      (var_name_in name written y around scope) (λ found. block_in place k ss ys around (found ++ scope) aim))
+  block_in place k (S.Evaluate ∷ ss) [] around scope aim = wrong_in q place
+  block_in place k (S.Define at arm ∷ ss) [] around scope aim = wrong_in q place
+  block_in place k (S.Declare name written ∷ ss) [] around scope aim = wrong_in q place
 
   -- ---- `match` and `try`
 
-  case_in : (place : Place) (arm : Arm) (y : Costed q) (around : Around) (scope : Scope) (aim : Aim) (i : Indices)
-      → In q y.cost (case_walk place arm y.part around scope aim i)
-  case_in place arm y around scope aim i =
-      in_first q (arm_match place arm around (record { in_case = true; is_owed = false }) (i ∷ []))
-      (λ found. y.part.walk around (found ++ scope) (branch_aim aim))
+  case_in : (place : Place) (k n : ℕ) (arm : Arm) (y : Costed q) (around : Around) (scope : Scope) (aim : Aim) (i : Indices)
+      → In q (arming q k n + y.cost) (case_walk (Gives.Arm k n) place arm y.part around scope aim i)
+  case_in place k n arm y around scope aim i =
+      in_both q (case_names (Gives.Arm k n) place arm around i) (λ found. y.part.walk around (found ++ scope) (branch_aim aim))
+      (in_first q (arm_match place arm around (record { in_case = true; is_owed = false }) (i ∷ [])) (names_given (Gives.Arm k n) (i ∷ []))
       (Matched.arm_kept (Light q) (lights q) around place arm (record { in_case = true; is_owed = false }) (i ∷ []))
-      (λ found. walk_in q y around (found ++ scope) (branch_aim aim))
+      (λ found. names_given_in q k n (i ∷ []) found)) (λ found. walk_in q y around (found ++ scope) (branch_aim aim))
 
-  cases_in : (place : Place) (arms : List Arm) (ys : List (Costed q)) (around : Around) (scope : Scope) (aim : Aim) (i : Indices)
-      → WaysIn (total q ys) (case_ways place arms (parts_of q ys) around scope aim i)
-  cases_in place [] ys around scope aim i = tt
-  cases_in place (arm ∷ arms) [] around scope aim i = tt
-  cases_in place (arm ∷ arms) (y ∷ ys) around scope aim i =
-      (y.cost, total q ys, omega arith, case_in place arm y around scope aim i, cases_in place arms ys around scope aim i)
+  cases_in : (place : Place) (k : ℕ) (cases : List Arm) (ys : List (Costed q)) (around : Around) (scope : Scope) (aim : Aim) (i : Indices)
+      → WaysIn (last_arms q k (length cases) + total q ys) (case_ways place k cases (parts_of q ys) around scope aim i)
+  cases_in place k [] ys around scope aim i = tt
+  cases_in place k (arm ∷ cases) [] around scope aim i = tt
+  cases_in place k (arm ∷ cases) (y ∷ ys) around scope aim i =
+      let l : arming q k (length cases) + last_arms q k (length cases) ≤ last_arms q k (suc (length cases)) = arms_next q k (length cases) in (
+        arming q k (length cases) + y.cost,
+        last_arms q k (length cases) + total q ys,
+        omega (arith, l),
+        case_in place k (length cases) arm y around scope aim i,
+        cases_in place k cases ys around scope aim i,
+      )
 
-  pub match_in : (place : Place) (k : ℕ) (shape : Shape) (arms : List Arm) (a : Costed q) (ys : List (Costed q)) (around : Around) (scope : Scope) (aim : Aim)
-      → In q (own q k + (a.cost + total q ys)) (match_walk place k shape arms a.part (parts_of q ys) around scope aim)
-  match_in place k shape arms a ys around scope aim =
-      in_more q (match_walk place k shape arms a.part (parts_of q ys) around scope aim) (omega arith)
-      (in_both q (a.part.walk around scope Aims.Free) (match_under place k shape arms (parts_of q ys) around scope aim) (walk_in q a around scope Aims.Free)
-      (λ i. meeting_in (total q ys) around place k shape (wanted aim) (case_ways place arms (parts_of q ys) around scope aim i)
-      (cases_in place arms ys around scope aim i)))
+  pub match_in : (place : Place) (k : ℕ) (shape : Shape) (cases : List Arm) (a : Costed q) (ys : List (Costed q)) (around : Around) (scope : Scope) (aim : Aim)
+      → In q (own q k + (a.cost + total q ys)) (match_walk place k shape cases a.part (parts_of q ys) around scope aim)
+  match_in place k shape cases a ys around scope aim =
+      let l : exact k ≤ making q k = made_own q [] k (I.Unit ∷ []) (Makes.ByIndices I.Unit) in
+      let n : making q k + (giving q k + armed q k) ≤ own q k = all_own q k in
+      let m : last_arms q k (length cases) ≤ armed q k = arms_all q k (length cases) in
+      in_more q (match_walk place k shape cases a.part (parts_of q ys) around scope aim) (omega (arith, l, n, m))
+      (in_both q (a.part.walk around scope Aims.Free) (match_under place k shape cases (parts_of q ys) around scope aim) (walk_in q a around scope Aims.Free)
+      (λ i. meeting_exact (last_arms q k (length cases) + total q ys) around place k shape (wanted aim)
+      (case_ways place k cases (parts_of q ys) around scope aim i) (cases_in place k cases ys around scope aim i)))
 
-  pub try_in : (place : Place) (k : ℕ) (shape : Shape) (arms : List Arm) (a : Costed q) (ys : List (Costed q)) (around : Around) (scope : Scope) (aim : Aim)
-      → In q (own q k + (a.cost + total q ys)) (try_walk place k shape arms a.part (parts_of q ys) around scope aim)
-  try_in place k shape arms a ys around scope aim =
+  -- what is caught gives no numbers
+  thrown_none : (o : Option ℕ) → may_give (thrown o) ≡ false
+  thrown_none None = ap form_may_give (ap out-Indices (sym I.rolls-Never) ∙ out-roll-Indices W.Never)
+  thrown_none (Some u) = ap form_may_give (ap out-Indices (sym (I.rolls-Named u [] [])) ∙ out-roll-Indices (W.Named u [] []))
+
+  caught_in : (k : ℕ) (i : Indices) → may_give i ≡ false → In q (bit (not q.gives && (not q.calls && is_of q k []))) (caught_at k i)
+  caught_in k i none =
+      within_left (weigh q) (node_ended k [] i) (numbers_noted k) (λ x d. x ≡ i)
+      (leaves_bind (weigh q) (node_made k [] (Makes.ByIndices i)) (λ t. give i) (λ t d. Unit {0}) (λ x d. x ≡ i)
+      (leaves_rest (weigh q) (node_made k [] (Makes.ByIndices i)) (bit (not q.gives && (not q.calls && is_of q k []))) 0 (λ t d. Unit {0})
+      (made_exact q k [] (Makes.ByIndices i)) (omega arith) (λ t. tt)) (λ t d h. leaves_give (weigh q) (λ x e. x ≡ i) d i refl)) (λ x d e.
+      subst (λ (j : Indices). In q d (numbers_noted k j)) (sym e) (few q (numbers_noted k i) (caught_light q k i none)))
+
+  pub try_in : (place : Place) (k : ℕ) (shape : Shape) (cases : List Arm) (a : Costed q) (ys : List (Costed q)) (around : Around) (scope : Scope) (aim : Aim)
+      → In q (own q k + (a.cost + total q ys)) (try_walk place k shape cases a.part (parts_of q ys) around scope aim)
+  try_in place k shape cases a ys around scope aim =
       let i = thrown around.exception in
-      let l : bit (not q.calls && is_of q k []) + bit (not q.calls && is_of q k (I.Unit ∷ [])) ≤ own q k = caught_own q k I.Unit in
-      let ws : List Way = try_way a.part around scope aim ∷ case_ways place arms (parts_of q ys) around scope aim i in
-      let ways : WaysIn (a.cost + total q ys) ws =
-      (a.cost, total q ys, omega arith, walk_in q a around scope (branch_aim aim), cases_in place arms ys around scope aim i) in
-      in_more q (try_walk place k shape arms a.part (parts_of q ys) around scope aim) (omega (arith, l))
-      (in_both q (caught_at k i) (λ t. try_over place k shape arms a.part (parts_of q ys) around scope aim i)
-      (in_last q (node_ended k [] i) (numbers_noted k)
-      (in_last q (node_made k [] (Makes.ByIndices i)) (λ t. give i) (made_exact q k [] (Makes.ByIndices i)) (λ t. in_give q i)) (noted_light q k)) (λ t.
-      meeting_exact (a.cost + total q ys) around place k shape (wanted aim) ws ways))
+      let l : bit (not q.gives && (not q.calls && is_of q k [])) + exact k ≤ making q k = caught_own q k I.Unit in
+      let n : making q k + (giving q k + armed q k) ≤ own q k = all_own q k in
+      let m : last_arms q k (length cases) ≤ armed q k = arms_all q k (length cases) in
+      let rest = last_arms q k (length cases) + total q ys in
+      let ws : List Way = try_way a.part around scope aim ∷ case_ways place k cases (parts_of q ys) around scope aim i in
+      let ways : WaysIn (a.cost + rest) ws =
+      (a.cost, rest, omega arith, walk_in q a around scope (branch_aim aim), cases_in place k cases ys around scope aim i) in
+      in_more q (try_walk place k shape cases a.part (parts_of q ys) around scope aim) (omega (arith, l, n, m))
+      (in_both q (caught_at k i) (λ t. try_over place k shape cases a.part (parts_of q ys) around scope aim i) (caught_in k i (thrown_none around.exception))
+      (λ t. meeting_exact (a.cost + rest) around place k shape (wanted aim) ws ways))
 
   pub guarded_in : (a b : Costed q) (around : Around) (scope : Scope) (aim : Aim) → In q (a.cost + b.cost) (guarded a.part b.part around scope aim)
   guarded_in a b around scope aim =

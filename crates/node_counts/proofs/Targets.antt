@@ -137,7 +137,7 @@ module _ (q : Counted) where
   module _ (around : Around) (scope : Scope) (place : Place) (k : ℕ) (base : Spot) (b : ℕ) (h : SpotIn q b base) where
     -- what pays for the part's own write, and for its base's
     abbrev rest : ℕ
-    rest = own q k + h.renews
+    rest = own q k + (h.gives + h.renews)
 
     part_spotted_left : (s : Suffix) (held : Indices) (o : Option Taken) (e m : ℕ) → e ≡ rest + m → TakenLeft q o m
         → Leaves (weigh q) e (give (part_spotted around k s base held o)) (SpottedLeft q)
@@ -177,10 +177,10 @@ module _ (q : Counted) where
         (leaves_beside (weigh q) rest (suffixes_walk true ss around scope (parts_of q zs) held) (PassedLeft q)
         (suffixes_left q true ss zs (parts_of q zs) refl around scope held)) (λ x m t. then_last s held x m t.0 t.1 t.2))
 
-    part_of_left : (ss : List Suffix) (zs : List (Costed q))
+    part_of_left : base.is_base ≡ true → (ss : List Suffix) (zs : List (Costed q))
         → Leaves (weigh q) (own q k + (b + total q zs)) (part_of place k ss around scope base (parts_of q zs)) (SpottedLeft q)
-    part_of_left ss zs =
-        let l : h.reads + h.renews ≤ b = h.enough in
+    part_of_left e ss zs =
+        let l : h.reads + (h.gives + h.renews) ≤ b = h.enough_again e in
         leaves_bind (weigh q) base.read _ (λ i m. rest + total q zs ≤ m) (SpottedLeft q)
         (leaves_rest (weigh q) base.read (own q k + (b + total q zs)) (rest + total q zs) (λ i m. rest + total q zs ≤ m) h.read (omega (arith, l))
         (λ i. omega arith))
@@ -223,10 +223,10 @@ module _ (q : Counted) where
         (leaves_rest (weigh q) (ways_late place ss around ns a) c c (λ o d. c ≤ d) (ways_light ss ns a) (omega arith) (λ o. omega arith)) (λ o d u.
         late_given a n _ zs left e d (let t1 : m ≤ c = t in let u1 : c ≤ d = u in omega (arith, l, t1, u1)) o))
 
-    each_late_left : (ss : List Suffix) (zs : List (Costed q))
+    each_late_left : base.is_base ≡ true → (ss : List Suffix) (zs : List (Costed q))
         → Leaves (weigh q) (own q k + (b + total q zs)) (each_late place k ss around scope base (parts_of q zs)) (SpottedLeft q)
-    each_late_left ss zs =
-        let l : h.reads + h.renews ≤ b = h.enough in
+    each_late_left e ss zs =
+        let l : h.reads + (h.gives + h.renews) ≤ b = h.enough_again e in
         let c = late_count ss (parts_of q zs) in
         leaves_bind (weigh q) (read_ahead base) _ (λ a m. rest + total q zs ≤ m) (SpottedLeft q)
         (leaves_rest (weigh q) (read_ahead base) (own q k + (b + total q zs)) (rest + total q zs) (λ a m. rest + total q zs ≤ m)
@@ -242,17 +242,17 @@ module _ (q : Counted) where
 
     within_left_part : (ss : List Suffix) (zs : List (Costed q))
         → Leaves (weigh q) (own q k + (b + total q zs)) (part_within place k ss around scope base (parts_of q zs)) (SpottedLeft q)
-    within_left_part ss zs = by base.is_base base.is_late (has_no_way ss (length (parts_of q zs)))
+    within_left_part ss zs = by base.is_base refl base.is_late (has_no_way ss (length (parts_of q zs)))
       where
-        by : (is_base is_late short : Bool) → Leaves (weigh q) (own q k + (b + total q zs))
+        by : (is_base : Bool) → base.is_base ≡ is_base → (is_late short : Bool) → Leaves (weigh q) (own q k + (b + total q zs))
             (if is_base
             then (if is_late then (if short then no_spot place else each_late place k ss around scope base (parts_of q zs))
             else part_of place k ss around scope base (parts_of q zs))
             else no_spot place) (SpottedLeft q)
-        by false is_late short = no_spot_left q _ place
-        by true false short = part_of_left ss zs
-        by true true true = no_spot_left q _ place
-        by true true false = each_late_left ss zs
+        by false e is_late short = no_spot_left q _ place
+        by true e false short = part_of_left e ss zs
+        by true e true true = no_spot_left q _ place
+        by true e true false = each_late_left e ss zs
 
   part_spotting : (place : Place) (k : ℕ) (ss : List Suffix) (c : ℕ) (t : Spotting) → SpottingIn q c t
       → SpottingIn q (own q k + c) (kind_spot place k (T.Part ss) (t ∷ []))
@@ -272,9 +272,6 @@ module _ (q : Counted) where
           (within_left_part around scope place k s.spot r.0 r.2 ss r.1))
 
   -- ---- the kinds
-
-  any_spot_in : (b : ℕ) (place : Place) → SpottingIn q b (λ around scope parts. no_spot place)
-  any_spot_in b place around scope ys parts e = no_spot_left q (b + total q ys) place
 
   own_spot_in : (b k : ℕ) (s : Spot) → SpotIn q (own q k) s → (ys : List (Costed q)) (parts : List Part) → parts_of q ys ≡ parts → own q k ≤ b
       → Leaves (weigh q) (b + total q ys) (give (spotted s parts)) (SpottedLeft q)

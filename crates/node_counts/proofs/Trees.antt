@@ -1,20 +1,22 @@
 -- A node of any kind, and so any tree, notes no more than its parts and the numbers that are its own.
 use Rattle.std.proofs.Common.{◌≡◌, ℕ, ◌+◌, ◌≤◌, Bool, true, false, List, [], ◌∷◌, ◌++◌, map, Option, Some, None, slice_get, if◌then◌else◌, sym, ap, subst}
-use Rattle.std.proofs.Common.{refl, arith}
+use Rattle.std.proofs.Common.{length, refl, arith}
 use Rattle.sail_base.specs.declared.place.Place.{Place}
 use Rattle.sail_types.specs.declared.numbers.Con.{Con}
 use Rattle.sail_types.specs.declared.numbers.Num.{Num}
 use Rattle.sail_core.specs.Nodes.{joined, kind_numbers, numbers, suffix_numbers, target_numbers}
 use Rattle.sail_core.specs.declared.targets.Suffix.{Suffix}
 use Rattle.sail_core.specs.declared.targets.Target.{Target}
+use Rattle.sail_core.specs.declared.patterns.Arm.{Arm}
 use Rattle.sail_core.specs.declared.targets.Way.TheVariants as Y
 use Rattle.sail_core.specs.declared.tree.Core.{Core, Core-F, fold-roll-Core, ind-Core, map-Core, roll-Core}
 use Rattle.sail_core.specs.declared.tree.Kind.{Kind}
+use Rattle.sail_core.specs.declared.tree.Giver.TheVariants as Gives
 use Rattle.sail_core.specs.declared.tree.Kind.TheVariants as K
 use Rattle.sail_core.specs.declared.written.Written.{Written}
 use Rattle.sail_core.specs.declared.written.WrittenNumber.{WrittenNumber}
 use Rattle.value_indices.specs.Opening.{number_or_fresh, truth_or_fresh}
-use Rattle.value_indices.specs.Steps.{Walk, give, owe}
+use Rattle.value_indices.specs.Steps.{Walk, bind, give, owe}
 use Rattle.value_indices.specs.declared.indices.Indices.{Indices}
 use Rattle.value_indices.specs.declared.indices.Indices.TheVariants as I
 use Rattle.value_indices.specs.declared.indices.Reading.{Reading}
@@ -32,12 +34,14 @@ use Rattle.expression_steps.specs.Expressions.{kind_state, kind_walk, leaf_form,
 use Rattle.expression_steps.specs.Expressions.{makes_value, node_end, option_indices, part, parted, place_walk, plain, return_owed, return_walk, settled_walk}
 use Rattle.expression_steps.specs.Expressions.{throw_walk, thrown_aim, thrown_owed, thrown_type, written_ended}
 use Rattle.expression_steps.specs.Parts.{Part}
+use Rattle.expression_steps.specs.Statements.{let_walk}
 use Rattle.expression_steps.specs.Targets.{assigned, spotting}
-use Rattle.node_counts.specs.Counts.{Counted, own, times}
+use Rattle.node_counts.specs.Counts.{Counted, armed, arming, giving, last_arms, making, own, times}
 use Rattle.node_counts.proofs.Openings as Opened
-use Rattle.node_counts.proofs.Weights.{Light, lights}
+use Rattle.node_counts.proofs.Weights.{Light, all_own, arms_all, arms_next, lights, node_own}
 use Rattle.node_counts.proofs.Nodes.{In, cast_in, ended_in, few, in_both, in_first}
-use Rattle.node_counts.proofs.Nodes.{in_give, in_last, in_more, node_light, owes_light, part_light, settled_light}
+use Rattle.node_counts.proofs.Nodes as Nodes
+use Rattle.node_counts.proofs.Nodes.{in_give, in_last, in_more, owes_light, part_light, settled_light}
 use Rattle.node_counts.proofs.Nodes.{wrong_in}
 use Rattle.node_counts.proofs.Parts.{Costed, PartIn, four_only, led_in, none_in, one_in, one_only, parts_of, three_only, total, truth_of_light, two_in}
 use Rattle.node_counts.proofs.Parts.{two_only, walk_in}
@@ -66,23 +70,44 @@ module _ (q : Counted) where
     abbrev Fits : ℕ → Kind → List (Costed q) → {A : Type 0} → Walk A → Type 0
     Fits k kind ys {A} w = In q (own q k + (times q (kind_numbers kind) + total q ys)) w
 
-    plainly : {A : Type 0} (k t : ℕ) (ys : List (Costed q)) (w : Walk A) → In q (own q k + total q ys) w → In q (own q k + (t + total q ys)) w
-    plainly k t ys w h = in_more q w (omega arith) h
+    -- of a node that makes a value, which gives its numbers behind it; and of any other
+    abbrev before_end : Kind → ℕ → ℕ
+    before_end kind k = if makes_value kind then making q k else own q k
 
-    lightly : {A : Type 0} (k t : ℕ) (ys : List (Costed q)) (w : Walk A) → In q (total q ys) w → In q (own q k + (t + total q ys)) w
-    lightly k t ys w h = in_more q w (omega arith) h
+    making_before : (kind : Kind) (k : ℕ) → making q k ≤ before_end kind k
+    making_before kind k = by (makes_value kind)
+      where
+        by : (b : Bool) → making q k ≤ (if b then making q k else own q k)
+        by true = omega arith
+        by false = let l : making q k + giving q k ≤ own q k = node_own q k in omega (arith, l)
+
+    abbrev FitsBefore : ℕ → Kind → List (Costed q) → {A : Type 0} → Walk A → Type 0
+    FitsBefore k kind ys {A} w = In q (before_end kind k + (times q (kind_numbers kind) + total q ys)) w
+
+    plainly : (kind : Kind) {A : Type 0} (k : ℕ) (ys : List (Costed q)) (w : Walk A) → In q (making q k + total q ys) w → FitsBefore k kind ys w
+    plainly kind k ys w h = let l : making q k ≤ before_end kind k = making_before kind k in in_more q w (omega (arith, l)) h
+
+    lightly : (kind : Kind) {A : Type 0} (k : ℕ) (ys : List (Costed q)) (w : Walk A) → In q (total q ys) w → FitsBefore k kind ys w
+    lightly kind k ys w h = in_more q w (omega arith) h
+
+    -- one that gives the numbers of its value further in
+    wholly : (kind : Kind) → makes_value kind ≡ false → {A : Type 0} (k : ℕ) (ys : List (Costed q)) (w : Walk A) → In q (own q k + total q ys) w
+        → FitsBefore k kind ys w
+    wholly kind e k ys w h =
+        let same : before_end kind k ≡ own q k = ap (λ (b : Bool). if b then making q k else own q k) e in
+        in_more q w (omega (arith, same)) h
 
     -- ---- `e : T`, and leaving
 
     written_in_node : (around : Around) (place : Place) (k : ℕ) (w : Written) (nested : Bool) (i : Indices)
-        → In q (own q k) (written_ended around place k w nested i)
+        → In q (making q k) (written_ended around place k w nested i)
     written_in_node around place k w nested i =
         in_first q (cast_owed around place w nested i) (λ t. node_ended k (i ∷ []) i)
         (in_first q (exponents_owed around w.numbers) _ (exponents_light q around w) (λ t. part_light q around nested place i (written_in around w)))
         (λ t. ended_in q k (i ∷ []) i)
 
     cast_walk_in : (place : Place) (k : ℕ) (o : Option Written) (y : Costed q) (around : Around) (scope : Scope) (aim : Aim)
-        → In q (own q k + y.cost) (cast_walk place k o y.part around scope aim)
+        → In q (making q k + y.cost) (cast_walk place k o y.part around scope aim)
     cast_walk_in place k None y around scope aim = in_more q (y.part.walk around scope aim) (omega arith) (walk_in q y around scope aim)
     cast_walk_in place k (Some w) y around scope aim =
         in_more q (cast_walk place k (Some w) y.part around scope aim) (omega arith)
@@ -127,32 +152,47 @@ module _ (q : Counted) where
 
     -- ---- kinds that take a wanted type further in
 
-    place_in : (k : ℕ) (y : Costed q) (around : Around) (scope : Scope) (aim : Aim) → In q (own q k + y.cost) (place_walk k y.part around scope aim)
+    place_in : (k : ℕ) (y : Costed q) (around : Around) (scope : Scope) (aim : Aim) → In q (making q k + y.cost) (place_walk k y.part around scope aim)
     place_in k y around scope aim =
         in_more q (place_walk k y.part around scope aim) (omega arith)
         (in_both q (y.part.walk around scope aim) (cast_ended k aim) (walk_in q y around scope aim) (cast_in q k aim))
 
+    arms_own : (k n : ℕ) → last_arms q k n ≤ own q k
+    arms_own k n =
+        let l : making q k + (giving q k + armed q k) ≤ own q k = all_own q k in
+        let m : last_arms q k n ≤ armed q k = arms_all q k n in omega (arith, l, m)
+
+    let_own : (k : ℕ) (place : Place) (arm : Arm) (a b : Costed q) (around : Around) (scope : Scope) (aim : Aim)
+        → In q (own q k + (a.cost + b.cost)) (let_walk (Gives.Arm k 0) place arm a.part b.part around scope aim)
+    let_own k place arm a b around scope aim =
+        let l : arming q k 0 + last_arms q k 0 ≤ last_arms q k 1 = arms_next q k 0 in
+        let m : last_arms q k 1 ≤ own q k = arms_own k 1 in
+        in_more q (let_walk (Gives.Arm k 0) place arm a.part b.part around scope aim) (omega (arith, l, m)) (let_in q k 0 place arm a b around scope aim)
+
     inward_in : (place : Place) (k : ℕ) (kind : Kind) (ys : List (Costed q)) (around : Around) (scope : Scope) (aim : Aim)
-        → Fits k kind ys (inward place k kind (parts_of q ys) around scope aim)
+        → FitsBefore k kind ys (inward place k kind (parts_of q ys) around scope aim)
     inward_in place k (K.Cast None) ys around scope aim =
-        plainly k _ ys (inward place k (K.Cast None) (parts_of q ys) around scope aim) (one_in q _ place _ ys (λ y. place_in k y around scope aim))
+        plainly (K.Cast None) k ys (inward place k (K.Cast None) (parts_of q ys) around scope aim) (one_in q _ place _ ys (λ y. place_in k y around scope aim))
     inward_in place k (K.Block ss) ys around scope aim =
-        lightly k _ ys (inward place k (K.Block ss) (parts_of q ys) around scope aim) (block_in q place ss ys around scope aim)
+        let l : last_arms q k (length ss) ≤ own q k = arms_own k (length ss) in
+        wholly (K.Block ss) refl k ys (inward place k (K.Block ss) (parts_of q ys) around scope aim)
+        (in_more q (inward place k (K.Block ss) (parts_of q ys) around scope aim) (omega (arith, l)) (block_in q place k ss ys around scope aim))
     inward_in place k (K.Let arm) ys around scope aim =
-        lightly k _ ys (inward place k (K.Let arm) (parts_of q ys) around scope aim) (two_only q place _ ys (λ a b. let_in q place arm a b around scope aim))
+        wholly (K.Let arm) refl k ys (inward place k (K.Let arm) (parts_of q ys) around scope aim)
+        (two_in q (own q k) place _ ys (λ a b. let_own k place arm a b around scope aim))
     inward_in place k (K.Var name written) ys around scope aim =
-        lightly k _ ys (inward place k (K.Var name written) (parts_of q ys) around scope aim)
+        lightly (K.Var name written) k ys (inward place k (K.Var name written) (parts_of q ys) around scope aim)
         (two_only q place _ ys (λ a b. var_in q name written a b around scope aim))
     inward_in place k (K.If shape) ys around scope aim =
-        plainly k _ ys (inward place k (K.If shape) (parts_of q ys) around scope aim) (if_in q place k shape ys around scope aim)
+        wholly (K.If shape) refl k ys (inward place k (K.If shape) (parts_of q ys) around scope aim) (if_in q place k shape ys around scope aim)
     inward_in place k (K.Match arms shape) ys around scope aim =
-        plainly k _ ys (inward place k (K.Match arms shape) (parts_of q ys) around scope aim)
+        wholly (K.Match arms shape) refl k ys (inward place k (K.Match arms shape) (parts_of q ys) around scope aim)
         (led_in q _ place _ ys (λ a zs. match_in q place k shape arms a zs around scope aim))
     inward_in place k (K.Try arms shape) ys around scope aim =
-        plainly k _ ys (inward place k (K.Try arms shape) (parts_of q ys) around scope aim)
+        wholly (K.Try arms shape) refl k ys (inward place k (K.Try arms shape) (parts_of q ys) around scope aim)
         (led_in q _ place _ ys (λ a zs. try_in q place k shape arms a zs around scope aim))
     inward_in place k K.When ys around scope aim =
-        lightly k _ ys (inward place k K.When (parts_of q ys) around scope aim) (two_only q place _ ys (λ a b. guarded_in q a b around scope aim))
+        lightly K.When k ys (inward place k K.When (parts_of q ys) around scope aim) (two_only q place _ ys (λ a b. guarded_in q a b around scope aim))
     inward_in place k kind ys around scope aim = wrong_in q place
 
     -- ---- leaves
@@ -174,7 +214,7 @@ module _ (q : Counted) where
         in_first q (owe place _) _ (owes_light q place _) (λ x.
         in_first q (truth_or_fresh _) (λ d. give (I.Truth d)) (Opened.truth_kept (Light q) (lights q) _) (λ d. in_give q _)))
 
-    leaf_in : (place : Place) (k : ℕ) (kind : Kind) (around : Around) (scope : Scope) → In q (own q k) (leaf_form place k kind around scope)
+    leaf_in : (place : Place) (k : ℕ) (kind : Kind) (around : Around) (scope : Scope) → In q (making q k) (leaf_form place k kind around scope)
     leaf_in place k (K.Constant literal) around scope = in_give q _
     leaf_in place k (K.Local name) around scope = local_in q place k (held_in name scope)
     leaf_in place k (K.Variable name) around scope = variable_in q place k name (held_in name scope)
@@ -185,110 +225,119 @@ module _ (q : Counted) where
     leaf_in place k kind around scope = wrong_in q place
 
     leaves_in : (place : Place) (k : ℕ) (kind : Kind) (ys : List (Costed q)) (around : Around) (scope : Scope)
-        → Fits k kind ys (leaf_walk place k kind (parts_of q ys) around scope)
+        → FitsBefore k kind ys (leaf_walk place k kind (parts_of q ys) around scope)
     leaves_in place k kind ys around scope =
-        plainly k _ ys (leaf_walk place k kind (parts_of q ys) around scope)
+        plainly kind k ys (leaf_walk place k kind (parts_of q ys) around scope)
         (none_in q place (leaf_form place k kind around scope) ys (leaf_in place k kind around scope))
 
     -- ---- kinds whose parts are walked from left to right
 
     made_in_order : (place : Place) (k : ℕ) (kind : Kind) (ys : List (Costed q)) (around : Around) (scope : Scope) (aim : Aim)
-        → Fits k kind ys (made_plain place k kind (parts_of q ys) around scope aim)
+        → FitsBefore k kind ys (made_plain place k kind (parts_of q ys) around scope aim)
     made_in_order place k (K.Call callee) ys around scope aim =
-        plainly k _ ys (made_plain place k (K.Call callee) (parts_of q ys) around scope aim) (call_in q place k callee ys around scope aim)
+        plainly (K.Call callee) k ys (made_plain place k (K.Call callee) (parts_of q ys) around scope aim) (call_in q place k callee ys around scope aim)
     made_in_order place k (K.Cast o) ys around scope aim =
-        plainly k _ ys (made_plain place k (K.Cast o) (parts_of q ys) around scope aim) (one_in q _ place _ ys (λ y. cast_walk_in place k o y around scope aim))
+        plainly (K.Cast o) k ys (made_plain place k (K.Cast o) (parts_of q ys) around scope aim)
+        (one_in q _ place _ ys (λ y. cast_walk_in place k o y around scope aim))
     made_in_order place k K.Tuple ys around scope aim =
-        plainly k _ ys (made_plain place k K.Tuple (parts_of q ys) around scope aim) (tuple_in q k ys around scope aim)
+        plainly K.Tuple k ys (made_plain place k K.Tuple (parts_of q ys) around scope aim) (tuple_in q k ys around scope aim)
     made_in_order place k (K.Cons shape) ys around scope aim =
-        plainly k _ ys (made_plain place k (K.Cons shape) (parts_of q ys) around scope aim)
+        plainly (K.Cons shape) k ys (made_plain place k (K.Cons shape) (parts_of q ys) around scope aim)
         (two_in q _ place _ ys (λ a b. cons_in q k shape a b around scope aim))
     made_in_order place k (K.Struct u ks) ys around scope aim =
-        plainly k _ ys (made_plain place k (K.Struct u ks) (parts_of q ys) around scope aim) (struct_in q k u ks ys around scope)
+        plainly (K.Struct u ks) k ys (made_plain place k (K.Struct u ks) (parts_of q ys) around scope aim) (struct_in q k u ks ys around scope)
     made_in_order place k K.Return ys around scope aim =
-        lightly k _ ys (made_plain place k K.Return (parts_of q ys) around scope aim)
+        lightly K.Return k ys (made_plain place k K.Return (parts_of q ys) around scope aim)
         (one_only q place _ ys (λ y. return_in place y around scope around.answer))
     made_in_order place k K.Throw ys around scope aim =
-        lightly k _ ys (made_plain place k K.Throw (parts_of q ys) around scope aim)
+        lightly K.Throw k ys (made_plain place k K.Throw (parts_of q ys) around scope aim)
         (one_only q place _ ys (λ y. throw_in place y around scope around.exception))
     made_in_order place k K.Exit ys around scope aim =
-        lightly k _ ys (made_plain place k K.Exit (parts_of q ys) around scope aim) (one_only q place _ ys (λ y. left_in y around scope))
+        lightly K.Exit k ys (made_plain place k K.Exit (parts_of q ys) around scope aim) (one_only q place _ ys (λ y. left_in y around scope))
     made_in_order place k (K.Assert text) ys around scope aim =
-        lightly k _ ys (made_plain place k (K.Assert text) (parts_of q ys) around scope aim) (one_only q place _ ys (λ y. assert_in y around scope))
+        lightly (K.Assert text) k ys (made_plain place k (K.Assert text) (parts_of q ys) around scope aim)
+        (one_only q place _ ys (λ y. assert_in y around scope))
     made_in_order place k (K.Optional t) ys around scope aim =
-        lightly k _ ys (made_plain place k (K.Optional t) (parts_of q ys) around scope aim)
+        lightly (K.Optional t) k ys (made_plain place k (K.Optional t) (parts_of q ys) around scope aim)
         (one_only q place _ ys (λ y. free_giving_in y around scope (option_indices t)))
     made_in_order place k kind ys around scope aim = leaves_in place k kind ys around scope
 
     parted_in : (place : Place) (k : ℕ) (kind : Kind) (ys : List (Costed q)) (around : Around) (scope : Scope) (aim : Aim)
-        → Fits k kind ys (parted place k kind (parts_of q ys) around scope aim)
+        → FitsBefore k kind ys (parted place k kind (parts_of q ys) around scope aim)
     parted_in place k K.And ys around scope aim =
-        lightly k _ ys (parted place k K.And (parts_of q ys) around scope aim) (two_only q place _ ys (λ a b. and_in q a b around scope))
+        lightly K.And k ys (parted place k K.And (parts_of q ys) around scope aim) (two_only q place _ ys (λ a b. and_in q a b around scope))
     parted_in place k K.Or ys around scope aim =
-        lightly k _ ys (parted place k K.Or (parts_of q ys) around scope aim) (two_only q place _ ys (λ a b. or_in q a b around scope))
+        lightly K.Or k ys (parted place k K.Or (parts_of q ys) around scope aim) (two_only q place _ ys (λ a b. or_in q a b around scope))
     parted_in place k (K.Vector shape) ys around scope aim =
-        plainly k _ ys (parted place k (K.Vector shape) (parts_of q ys) around scope aim) (vector_in q place k shape ys around scope aim)
+        plainly (K.Vector shape) k ys (parted place k (K.Vector shape) (parts_of q ys) around scope aim) (vector_in q place k shape ys around scope aim)
     parted_in place k (K.List shape) ys around scope aim =
-        plainly k _ ys (parted place k (K.List shape) (parts_of q ys) around scope aim) (list_in q place k shape ys around scope aim)
+        plainly (K.List shape) k ys (parted place k (K.List shape) (parts_of q ys) around scope aim) (list_in q place k shape ys around scope aim)
     parted_in place k (K.With u ks) ys around scope aim =
-        plainly k _ ys (parted place k (K.With u ks) (parts_of q ys) around scope aim)
+        plainly (K.With u ks) k ys (parted place k (K.With u ks) (parts_of q ys) around scope aim)
         (led_in q _ place _ ys (λ a zs. with_in q place k u ks a zs around scope))
     parted_in place k (K.Part ss) ys around scope aim =
         let e : suffixes_own q false ss ≡ times q (suffix_numbers ss) = suffix_times ss in
         in_more q (parted place k (K.Part ss) (parts_of q ys) around scope aim) (omega (arith, e)) (part_in q place ss ys around scope)
     parted_in place k K.WithItem ys around scope aim =
-        plainly k _ ys (parted place k K.WithItem (parts_of q ys) around scope aim) (updates_in q place k Y.Item ys around scope)
+        plainly K.WithItem k ys (parted place k K.WithItem (parts_of q ys) around scope aim) (updates_in q place k Y.Item ys around scope)
     parted_in place k K.WithSlice ys around scope aim =
-        plainly k _ ys (parted place k K.WithSlice (parts_of q ys) around scope aim) (updates_in q place k Y.Slice ys around scope)
+        plainly K.WithSlice k ys (parted place k K.WithSlice (parts_of q ys) around scope aim) (updates_in q place k Y.Slice ys around scope)
     parted_in place k (K.Assign ts) ys around scope aim =
         in_more q (parted place k (K.Assign ts) (parts_of q ys) around scope aim) (omega arith) (targets place ts ys around scope)
     parted_in place k (K.Foreach name way) ys around scope aim =
-        lightly k _ ys (parted place k (K.Foreach name way) (parts_of q ys) around scope aim)
+        lightly (K.Foreach name way) k ys (parted place k (K.Foreach name way) (parts_of q ys) around scope aim)
         (four_only q place _ ys (λ a b c y. foreach_in q place name way a b c y around scope))
     parted_in place k K.While ys around scope aim =
-        lightly k _ ys (parted place k K.While (parts_of q ys) around scope aim) (three_only q place _ ys (λ m a b. loop_in q true m a b around scope))
+        lightly K.While k ys (parted place k K.While (parts_of q ys) around scope aim) (three_only q place _ ys (λ m a b. loop_in q true m a b around scope))
     parted_in place k K.Repeat ys around scope aim =
-        lightly k _ ys (parted place k K.Repeat (parts_of q ys) around scope aim) (three_only q place _ ys (λ m a b. loop_in q false m a b around scope))
+        lightly K.Repeat k ys (parted place k K.Repeat (parts_of q ys) around scope aim) (three_only q place _ ys (λ m a b. loop_in q false m a b around scope))
     parted_in place k kind ys around scope aim = wrong_in q place
 
     -- ---- any kind
 
     plain_kind_in : (place : Place) (k : ℕ) (kind : Kind) (ys : List (Costed q)) (around : Around) (scope : Scope) (aim : Aim)
-        → Fits k kind ys (plain place k kind (parts_of q ys) around scope aim)
+        → FitsBefore k kind ys (plain place k kind (parts_of q ys) around scope aim)
     plain_kind_in place k kind ys around scope aim = by (is_made kind)
       where
-        by : (b : Bool) → Fits k kind ys (if b then made_plain place k kind (parts_of q ys) around scope aim else parted place k kind
+        by : (b : Bool) → FitsBefore k kind ys (if b then made_plain place k kind (parts_of q ys) around scope aim else parted place k kind
             (parts_of q ys) around scope aim)
         by true = made_in_order place k kind ys around scope aim
         by false = parted_in place k kind ys around scope aim
 
     form_in : (place : Place) (k : ℕ) (kind : Kind) (ys : List (Costed q)) (around : Around) (scope : Scope) (aim : Aim)
-        → Fits k kind ys (form_walk place k kind (parts_of q ys) around scope aim)
+        → FitsBefore k kind ys (form_walk place k kind (parts_of q ys) around scope aim)
     form_in place k kind ys around scope aim = by (goes_inward kind)
       where
-        by : (b : Bool) → Fits k kind ys (if b then inward place k kind (parts_of q ys) around scope aim else settled_walk place k kind
+        by : (b : Bool) → FitsBefore k kind ys (if b then inward place k kind (parts_of q ys) around scope aim else settled_walk place k kind
             (parts_of q ys) around scope aim)
         by true = inward_in place k kind ys around scope aim
         by false =
             in_last q (plain place k kind (parts_of q ys) around scope aim) (settled around place aim) (plain_kind_in place k kind ys around scope aim)
             (settled_light q around place aim)
 
-    end_light : (k : ℕ) (made : Bool) (i : Indices) → In q 0 (node_end k made i)
-    end_light k true i = node_light q k i
-    end_light k false i = in_give q i
-
     pub kind_in : (place : Place) (k : ℕ) (kind : Kind) (ys : List (Costed q)) (around : Around) (scope : Scope) (aim : Aim)
         → Fits k kind ys (kind_walk place k kind (parts_of q ys) around scope aim)
-    kind_in place k kind ys around scope aim =
-        in_last q (form_walk place k kind (parts_of q ys) around scope aim) (node_end k (makes_value kind)) (form_in place k kind ys around scope aim)
-        (end_light k (makes_value kind))
+    kind_in place k kind ys around scope aim = by (makes_value kind) refl
+      where
+        by : (b : Bool) → makes_value kind ≡ b → Fits k kind ys (bind (form_walk place k kind (parts_of q ys) around scope aim) (node_end k b))
+        by true e =
+            let same : before_end kind k ≡ making q k = ap (λ (c : Bool). if c then making q k else own q k) e in
+            let l : making q k + giving q k ≤ own q k = node_own q k in
+            in_more q (bind (form_walk place k kind (parts_of q ys) around scope aim) (node_end k true)) (omega (arith, same, l))
+            (in_both q (form_walk place k kind (parts_of q ys) around scope aim) (node_end k true) (form_in place k kind ys around scope aim)
+            (λ i. Nodes.node_in q k i))
+        by false e =
+            let same : before_end kind k ≡ own q k = ap (λ (c : Bool). if c then making q k else own q k) e in
+            in_more q (bind (form_walk place k kind (parts_of q ys) around scope aim) (node_end k false)) (omega (arith, same))
+            (in_last q (form_walk place k kind (parts_of q ys) around scope aim) (node_end k false) (form_in place k kind ys around scope aim)
+            (λ i. in_give q i))
 
     pub state_in : (place : Place) (k : ℕ) (kind : Kind) (ys : List (Costed q)) (around : Around) (scope : Scope)
         → Fits k kind ys (kind_state place k kind (parts_of q ys) around scope)
     state_in place k (K.If shape) ys around scope =
-        plainly k _ ys (kind_state place k (K.If shape) (parts_of q ys) around scope) (if_state_in q place k shape ys around scope)
+        in_more q (kind_state place k (K.If shape) (parts_of q ys) around scope) (omega arith) (if_state_in q place k shape ys around scope)
     state_in place k (K.Assert text) ys around scope =
-        lightly k _ ys (kind_state place k (K.Assert text) (parts_of q ys) around scope) (assert_state_in q place ys around scope)
+        in_more q (kind_state place k (K.Assert text) (parts_of q ys) around scope) (omega arith) (assert_state_in q place ys around scope)
     state_in place k kind ys around scope =
         plain_in q (kind_walk place k kind (parts_of q ys) around scope Aims.Free) (kind_in place k kind ys around scope Aims.Free)
 

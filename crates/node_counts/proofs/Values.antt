@@ -40,7 +40,7 @@ use Rattle.call_arguments.specs.declared.aims.Aim.{Aim}
 use Rattle.call_arguments.specs.declared.aims.Aim.TheVariants as Aims
 use Rattle.call_notes.specs.Calls.{one_owed, parts_owed}
 use Rattle.call_notes.specs.Ends.{any_never, is_never, sized}
-use Rattle.call_notes.specs.Noted.{node_ended, node_given, node_made}
+use Rattle.call_notes.specs.Noted.{node_ended, node_made}
 use Rattle.expression_forms.specs.Names.{local_walk, made_read, named_opened, named_read, read_form, register_type, register_walk, top_level_walk}
 use Rattle.expression_forms.specs.Names.{type_read, variable_walk}
 use Rattle.expression_forms.specs.Ways.{if_never_value, indexed, part_made, read_into, suffix_read, taken_out, update_operands, with_width}
@@ -57,13 +57,13 @@ use Rattle.expression_steps.specs.Values.{part_walk, passed, reached_by, read_ta
 use Rattle.expression_steps.specs.Values.{struct_count, struct_made, struct_walk, suffix_walk, suffixed, suffixes_walk, taken, then_on, tuple_of, tuple_walk}
 use Rattle.expression_steps.specs.Values.{update_forms, update_walk, updated, value_on, vector_of, vector_walk, way_taken, way_walk, wanted_item}
 use Rattle.expression_steps.specs.Values.{with_behind, with_walk}
-use Rattle.node_counts.specs.Counts.{Counted, own, weigh}
+use Rattle.node_counts.specs.Counts.{Counted, making, own, weigh}
 use Rattle.node_counts.proofs.Budgets.{Leaves, leaves_beside, leaves_bind, leaves_give, leaves_more, leaves_rest, within_left}
 use Rattle.node_counts.proofs.Openings as Opened
 use Rattle.node_counts.proofs.Widening as Met
 use Rattle.node_counts.proofs.Weights.{Light, lights}
-use Rattle.node_counts.proofs.Nodes.{In, called_in, ended_in, few, fit_light, in_both, in_either, in_first, in_give, in_last, in_more, made_in}
-use Rattle.node_counts.proofs.Nodes.{named_light, next_light, node_light, opened_in, opened_light, owes_light, part_light, sized_light, typed_light, wrong_in}
+use Rattle.node_counts.proofs.Nodes.{In, called_in, ended_in, few, fit_light, in_both, in_either, in_first, in_give, in_last, in_more, made_and_given, made_in}
+use Rattle.node_counts.proofs.Nodes.{named_light, next_light, opened_in, opened_light, owes_light, part_light, sized_light, typed_light, wrong_in}
 use Rattle.node_counts.proofs.Parts.{Costed, dropped_parts, each_in, first_in, numbers_in, parts_of, split_total, taken_parts, total, walk_in}
 
 module _ (q : Counted) where
@@ -72,15 +72,15 @@ module _ (q : Counted) where
   named_opened_light : (place : Place) (name : List ℕ) (r : Reading) → In q 0 (named_opened place name r)
   named_opened_light place name r = in_first q _ (λ t. opened_for (M.Named name) r) (typed_light q place r) (λ t. named_light q (M.Named name) r)
 
-  pub named_in : (place : Place) (k : ℕ) (name : List ℕ) (r : Reading) → In q (own q k) (named_read place k name r)
+  pub named_in : (place : Place) (k : ℕ) (name : List ℕ) (r : Reading) → In q (making q k) (named_read place k name r)
   named_in place k name r =
       in_last q (node_made k [] (Makes.ByType r)) (λ t. named_opened place name r) (made_in q k [] (Makes.ByType r)) (λ t. named_opened_light place name r)
 
-  pub local_in : (place : Place) (k : ℕ) (o : Option Held) → In q (own q k) (local_walk place k o)
+  pub local_in : (place : Place) (k : ℕ) (o : Option Held) → In q (making q k) (local_walk place k o)
   local_in place k (Some (H.Value i)) = ended_in q k (i ∷ []) i
   local_in place k o = wrong_in q place
 
-  pub variable_in : (place : Place) (k : ℕ) (name : List ℕ) (o : Option Held) → In q (own q k) (variable_walk place k name o)
+  pub variable_in : (place : Place) (k : ℕ) (name : List ℕ) (o : Option Held) → In q (making q k) (variable_walk place k name o)
   variable_in place k name (Some (H.Var r)) = named_in place k name r
   variable_in place k name o = wrong_in q place
 
@@ -91,14 +91,14 @@ module _ (q : Counted) where
   read_light types r (W.Widened i) = filled_light types 0 V.Hole i
   read_light types r form = in_give q r
 
-  pub top_in : (types : Types) (place : Place) (k : ℕ) (o : Option TopLevel) → In q (own q k) (top_level_walk types place k o)
+  pub top_in : (types : Types) (place : Place) (k : ℕ) (o : Option TopLevel) → In q (making q k) (top_level_walk types place k o)
   top_in types place k None = wrong_in q place
   top_in types place k (Some (T.Known i)) = ended_in q k [] i
   top_in types place k (Some (T.Read name r)) =
       in_first q (type_read types r) (made_read k name) (read_light types r (out-Reading r)) (λ s.
       in_last q (node_made k [] (Makes.ByType s)) (λ t. opened_for (M.Named name) s) (made_in q k [] (Makes.ByType s)) (λ t. named_light q (M.Named name) s))
 
-  pub register_in : (place : Place) (k : ℕ) (o : Option Register) → In q (own q k) (register_walk place k o)
+  pub register_in : (place : Place) (k : ℕ) (o : Option Register) → In q (making q k) (register_walk place k o)
   register_in place k None = wrong_in q place
   register_in place k (Some r) = named_in place k r.name (register_type r)
 
@@ -134,7 +134,7 @@ module _ (q : Counted) where
   -- ---- calls
 
   pub made_call_in : (around : Around) (place : Place) (k : ℕ) (callee : Callee) (args : List Part) (aim : Aim) (is : List Indices)
-      → In q (own q k) (call_made around place k callee args aim is)
+      → In q (making q k) (call_made around place k callee args aim is)
   made_call_in around place k (D.Constructor u c) args aim is =
       in_first q (named_made around u args _ _ is) (node_ended k is) (named_type_light around u args _ _ is) (ended_in q k is)
   made_call_in around place k (D.Function f) args aim is = called_in q around place k (D.Function f) (nestings args) is
@@ -143,7 +143,7 @@ module _ (q : Counted) where
   made_call_in around place k (D.Applies d) args aim is = called_in q around place k (D.Applies d) (nestings args) is
 
   pub call_in : (place : Place) (k : ℕ) (callee : Callee) (ys : List (Costed q)) (around : Around) (scope : Scope) (aim : Aim)
-      → In q (own q k + total q ys) (call_walk place k callee (parts_of q ys) around scope aim)
+      → In q (making q k + total q ys) (call_walk place k callee (parts_of q ys) around scope aim)
   call_in place k callee ys around scope aim =
       in_more q (call_walk place k callee (parts_of q ys) around scope aim) (omega arith)
       (in_both q (each_walk (take _ (parts_of q ys)) around scope _) (call_made around place k callee (parts_of q ys) aim)
@@ -152,7 +152,7 @@ module _ (q : Counted) where
   -- ---- tuples, vectors and lists
 
   pub tuple_in : (k : ℕ) (ys : List (Costed q)) (around : Around) (scope : Scope) (aim : Aim)
-      → In q (own q k + total q ys) (tuple_walk k (parts_of q ys) around scope aim)
+      → In q (making q k + total q ys) (tuple_walk k (parts_of q ys) around scope aim)
   tuple_in k ys around scope aim =
       in_more q (tuple_walk k (parts_of q ys) around scope aim) (omega arith)
       (in_both q (each_walk (parts_of q ys) around scope _) (tuple_of k) (each_in q ys around scope _) (λ is. ended_in q k is _))
@@ -191,25 +191,25 @@ module _ (q : Counted) where
   items_in ys around scope shape (W.Widened i) r = wanted_in ys around scope r
   items_in ys around scope shape (W.Parts rs) r = wanted_in ys around scope r
 
-  vector_of_in : (place : Place) (k : ℕ) (x : Row) → In q (own q k) (vector_of place k x)
+  vector_of_in : (place : Place) (k : ℕ) (x : Row) → In q (making q k) (vector_of place k x)
   vector_of_in place k x =
       in_first q (sized_vector place (constant (pos (length x.1))) x.0) (node_ended k x.1)
       (in_first q (sized place (I.Vector (constant (pos (length x.1))) x.0)) _ (sized_light q place _) (λ t. in_give q _)) (ended_in q k x.1)
 
   pub vector_in : (place : Place) (k : ℕ) (shape : Shape) (ys : List (Costed q)) (around : Around) (scope : Scope) (aim : Aim)
-      → In q (own q k + total q ys) (vector_walk place k shape (parts_of q ys) around scope aim)
+      → In q (making q k + total q ys) (vector_walk place k shape (parts_of q ys) around scope aim)
   vector_in place k shape ys around scope aim =
       in_more q (vector_walk place k shape (parts_of q ys) around scope aim) (omega arith)
       (in_both q (items_walk (parts_of q ys) around scope shape (wanted_item aim)) (vector_of place k)
       (items_in ys around scope shape (out-Reading (wanted_item aim)) (wanted_item aim)) (vector_of_in place k))
 
-  list_of_in : (place : Place) (k : ℕ) (x : Row) → In q (own q k) (list_of place k x)
+  list_of_in : (place : Place) (k : ℕ) (x : Row) → In q (making q k) (list_of place k x)
   list_of_in place k x =
       in_first q (sized_list place x.0) (node_ended k x.1) (in_first q (sized place (I.List x.0)) _ (sized_light q place _) (λ t. in_give q _))
       (ended_in q k x.1)
 
   pub list_in : (place : Place) (k : ℕ) (shape : Shape) (ys : List (Costed q)) (around : Around) (scope : Scope) (aim : Aim)
-      → In q (own q k + total q ys) (list_walk place k shape (parts_of q ys) around scope aim)
+      → In q (making q k + total q ys) (list_walk place k shape (parts_of q ys) around scope aim)
   list_in place k shape ys around scope aim =
       in_more q (list_walk place k shape (parts_of q ys) around scope aim) (omega arith)
       (in_both q (items_walk (parts_of q ys) around scope shape (wanted_item aim)) (list_of place k)
@@ -233,32 +233,32 @@ module _ (q : Counted) where
   before_light around shape place i W.Never = in_give q I.Never
   before_light around shape place i form = wrong_in q place
 
-  cons_found_in : (around : Around) (shape : Shape) (place : Place) (k : ℕ) (i j : Indices) → In q (own q k) (cons_found around shape place k i j)
+  cons_found_in : (around : Around) (shape : Shape) (place : Place) (k : ℕ) (i j : Indices) → In q (making q k) (cons_found around shape place k i j)
   cons_found_in around shape place k i j =
       in_first q (cons_before around shape place i (out-Indices j)) (node_ended k (i ∷ j ∷ [])) (before_light around shape place i (out-Indices j))
       (ended_in q k (i ∷ j ∷ []))
 
   cons_free_in : (k : ℕ) (shape : Shape) (a b : Costed q) (around : Around) (scope : Scope)
-      → In q (a.cost + (b.cost + own q k)) (cons_free k shape a.part b.part around scope)
+      → In q (a.cost + (b.cost + making q k)) (cons_free k shape a.part b.part around scope)
   cons_free_in k shape a b around scope =
       in_both q (a.part.walk around scope Aims.Free) _ (walk_in q a around scope Aims.Free) (λ i.
       in_both q (b.part.walk around scope Aims.Free) _ (walk_in q b around scope Aims.Free) (cons_found_in around shape a.part.place k i))
 
   cons_due_in : (k : ℕ) (a b : Costed q) (around : Around) (scope : Scope) (r : Reading)
-      → In q (a.cost + (b.cost + own q k)) (cons_due k a.part b.part around scope r)
+      → In q (a.cost + (b.cost + making q k)) (cons_due k a.part b.part around scope r)
   cons_due_in k a b around scope r =
       in_both q (a.part.walk around scope (aimed Aims.Due r)) _ (walk_in q a around scope _) (λ i.
       in_both q (b.part.walk around scope (Aims.Due (R.Widened (I.List r)))) _ (walk_in q b around scope _) (λ j. ended_in q k (i ∷ j ∷ []) (I.List r)))
 
   cons_of_in : (k : ℕ) (shape : Shape) (a b : Costed q) (around : Around) (scope : Scope) (form : Reading-F Indices Reading) (r : Reading)
-      → In q (a.cost + (b.cost + own q k)) (cons_of k shape a.part b.part around scope form r)
+      → In q (a.cost + (b.cost + making q k)) (cons_of k shape a.part b.part around scope form r)
   cons_of_in k shape a b around scope W.Hole r = cons_free_in k shape a b around scope
   cons_of_in k shape a b around scope (W.Of t is rs) r = cons_due_in k a b around scope r
   cons_of_in k shape a b around scope (W.Widened i) r = cons_due_in k a b around scope r
   cons_of_in k shape a b around scope (W.Parts rs) r = cons_due_in k a b around scope r
 
   pub cons_in : (k : ℕ) (shape : Shape) (a b : Costed q) (around : Around) (scope : Scope) (aim : Aim)
-      → In q (own q k + (a.cost + b.cost)) (cons_walk k shape a.part b.part around scope aim)
+      → In q (making q k + (a.cost + b.cost)) (cons_walk k shape a.part b.part around scope aim)
   cons_in k shape a b around scope aim =
       in_more q (cons_walk k shape a.part b.part around scope aim) (omega arith)
       (cons_of_in k shape a b around scope (out-Reading (wanted_item aim)) (wanted_item aim))
@@ -266,7 +266,7 @@ module _ (q : Counted) where
   -- ---- structs
 
   pub struct_in : (k u : ℕ) (ks : List ℕ) (ys : List (Costed q)) (around : Around) (scope : Scope)
-      → In q (own q k + total q ys) (struct_walk k u ks (parts_of q ys) around scope)
+      → In q (making q k + total q ys) (struct_walk k u ks (parts_of q ys) around scope)
   struct_in k u ks ys around scope =
       in_more q (struct_walk k u ks (parts_of q ys) around scope) (omega arith)
       (in_both q (each_walk (take (struct_count around u ks) (parts_of q ys)) around scope _) (struct_made around k u ks (parts_of q ys))
@@ -285,7 +285,7 @@ module _ (q : Counted) where
   with_filled_light around place ts i is form = in_give q i
 
   ended_with_in : (around : Around) (place : Place) (k u : ℕ) (ks : List ℕ) (i : Indices) (is : List Indices)
-      → In q (own q k) (with_ended around place k u ks i is)
+      → In q (making q k) (with_ended around place k u ks i is)
   ended_with_in around place k u ks i is =
       in_first q (with_made around place u ks i is) (node_ended k (i ∷ is))
       (in_either q (struct_holed (out-Indices i)) _ _ (with_filled_light around place _ i is (out-Indices i)) (in_give q i)) (ended_in q k (i ∷ is))
@@ -295,14 +295,14 @@ module _ (q : Counted) where
   no_struct_light place form = wrong_in q place
 
   with_behind_in : (place : Place) (k u : ℕ) (ks : List ℕ) (ys : List (Costed q)) (around : Around) (scope : Scope) (i : Indices) (o : Option (List Aim))
-      → In q (total q ys + own q k) (with_behind place k u ks (parts_of q ys) around scope i o)
+      → In q (total q ys + making q k) (with_behind place k u ks (parts_of q ys) around scope i o)
   with_behind_in place k u ks ys around scope i None = few q (no_struct place (out-Indices i)) (no_struct_light place (out-Indices i))
   with_behind_in place k u ks ys around scope i (Some aims) =
       in_both q (each_walk (take (length aims) (parts_of q ys)) around scope aims) (with_ended around place k u ks i)
       (first_in q (length aims) ys around scope aims) (ended_with_in around place k u ks i)
 
   pub with_in : (place : Place) (k u : ℕ) (ks : List ℕ) (a : Costed q) (ys : List (Costed q)) (around : Around) (scope : Scope)
-      → In q (own q k + (a.cost + total q ys)) (with_walk place k u ks a.part (parts_of q ys) around scope)
+      → In q (making q k + (a.cost + total q ys)) (with_walk place k u ks a.part (parts_of q ys) around scope)
   with_in place k u ks a ys around scope =
       in_more q (with_walk place k u ks a.part (parts_of q ys) around scope) (omega arith)
       (in_both q (a.part.walk around scope Aims.Free) _ (walk_in q a around scope Aims.Free) (λ i. with_behind_in place k u ks ys around scope i _))
@@ -331,8 +331,8 @@ module _ (q : Counted) where
   taken_out_in : (place : Place) (k : ℕ) (i : Indices) (o : Option Reached) → In q (own q k) (taken_out place k i o)
   taken_out_in place k i None = few q (if_never_value place i) (if_never_light place i)
   taken_out_in place k i (Some x) =
-      in_last q (part_made place k (i ∷ indexed x) x) (node_given k)
-      (in_first q (owe place x.conditions) _ (owes_light q place x.conditions) (λ t. opened_in q place k (i ∷ indexed x) x.typ)) (node_light q k)
+      made_and_given q k (part_made place k (i ∷ indexed x) x)
+      (in_first q (owe place x.conditions) _ (owes_light q place x.conditions) (λ t. opened_in q place k (i ∷ indexed x) x.typ))
 
   pub into_light : (place : Place) (i : Indices) (o : Option Reached) → In q 0 (read_into place i o)
   into_light place i None = if_never_light place i
@@ -463,7 +463,7 @@ module _ (q : Counted) where
   holed_light around place i r j form = in_first q (owe_fit place _) (λ t. give i) (fit_light q place _) (λ t. in_give q i)
 
   put_in : (around : Around) (place : Place) (k : ℕ) (nested : Bool) (i : Indices) (x : Reached) (j : Indices)
-      → In q (own q k) (put_ended around place k nested i x j)
+      → In q (making q k) (put_ended around place k nested i x j)
   put_in around place k nested i x j =
       in_first q (part_put around place nested i x j) (node_ended k (update_operands i x j))
       (in_first q (owe_fit place _) (λ t. part_behind around place i x.typ j) (fit_light q place _) (λ t.
@@ -471,27 +471,27 @@ module _ (q : Counted) where
       (ended_in q k (update_operands i x j))
 
   updated_in : (place : Place) (k : ℕ) (c : Costed q) (around : Around) (scope : Scope) (i : Indices) (o : Option Reached)
-      → In q (c.cost + own q k) (updated place k c.part around scope i o)
+      → In q (c.cost + making q k) (updated place k c.part around scope i o)
   updated_in place k c around scope i None = few q (if_never_value place i) (if_never_light place i)
   updated_in place k c around scope i (Some x) =
       in_both q (c.part.walk around scope (put_aim x.typ)) (put_ended around place k c.part.is_nested i x) (walk_in q c around scope (put_aim x.typ))
       (put_in around place k c.part.is_nested i x)
 
   numbers_updated_in : (place : Place) (k : ℕ) (way : Way) (c : Costed q) (around : Around) (scope : Scope) (i : Indices) (o : Option (List Num))
-      → In q (c.cost + own q k) (numbers_updated place k way c.part around scope i o)
+      → In q (c.cost + making q k) (numbers_updated place k way c.part around scope i o)
   numbers_updated_in place k way c around scope i None = in_give q I.Never
   numbers_updated_in place k way c around scope i (Some ns) =
       in_first q (reached_by around i way ns) (updated place k c.part around scope i) (reached_light around i way ns) (updated_in place k c around scope i)
 
   update_in : (place : Place) (k : ℕ) (way : Way) (a : Costed q) (zs : List (Costed q)) (c : Costed q) (around : Around) (scope : Scope)
-      → In q (a.cost + (total q zs + (c.cost + own q k))) (update_walk place k way a.part (parts_of q zs) c.part around scope)
+      → In q (a.cost + (total q zs + (c.cost + making q k))) (update_walk place k way a.part (parts_of q zs) c.part around scope)
   update_in place k way a zs c around scope =
       in_both q (a.part.walk around scope Aims.Free) _ (walk_in q a around scope Aims.Free) (λ i.
       in_both q (numbers_walk (parts_of q zs) around scope) (numbers_updated place k way c.part around scope i) (numbers_in q zs around scope)
       (numbers_updated_in place k way c around scope i))
 
   pub updates_in : (place : Place) (k : ℕ) (way : Way) (ys : List (Costed q)) (around : Around) (scope : Scope)
-      → In q (own q k + total q ys) (update_forms place k way (parts_of q ys) around scope)
+      → In q (making q k + total q ys) (update_forms place k way (parts_of q ys) around scope)
   updates_in place k (Y.Field u f) (a ∷ c ∷ []) around scope =
       in_more q (update_walk place k (Y.Field u f) a.part [] c.part around scope) (omega arith) (update_in place k (Y.Field u f) a [] c around scope)
   updates_in place k (Y.Field u f) [] around scope = wrong_in q place

@@ -25,13 +25,11 @@ use Rattle.value_indices.specs.declared.indices.Naming.TheVariants as M
 use Rattle.value_indices.specs.declared.indices.Reading.{Reading, roll-Reading}
 use Rattle.value_indices.specs.declared.indices.Reading.TheVariants as R
 use Rattle.value_indices.specs.Opening.{any_integer, any_truth}
-use Rattle.value_indices.specs.Steps.{Walk, assume_if, bind, each, fresh, give, next_variable}
+use Rattle.value_indices.specs.Steps.{Walk, assume_if, bind, each, fresh, give}
 use Rattle.wide_types.specs.Widening.{Keep, KeepIndices, each_kept, filled, fresh_index, fresh_indices, in_turn, is_below, is_con_below, kept_con, kept_each}
 use Rattle.wide_types.specs.Widening.{kept_index, kept_indices, kept_integer, kept_num, kept_reading, kept_truth, kept_type, kept_value, opened_or_not}
 use Rattle.wide_types.specs.Widening.{parameters_of}
 use Rattle.wide_types.specs.Widening.{met, part_shapes, value_spelled, widest_form, widest_of, wide_typ}
-use Rattle.pattern_leaves.specs.Settings.{Around}
-use Rattle.expression_steps.specs.Values.{filled_here}
 use Rattle.value_indices.specs.Steps.{assume}
 use Rattle.node_counts.proofs.Openings as Opened
 use Rattle.node_counts.proofs.Openings.{Keeps}
@@ -51,9 +49,6 @@ module _ (P : (A : Type 0) → Walk A → Type 0) (keeps : Keeps P) where
 
   fresh_kept : Kept fresh
   fresh_kept = keeps.counts
-
-  next_kept : Kept next_variable
-  next_kept = keeps.next_one
 
   each_kept_by : {A B : Type 0} (f : A → Walk B) → ((x : A) → Kept (f x)) → (xs : List A) → Kept (each f xs)
   each_kept_by f h xs = Opened.each_kept P keeps f h xs
@@ -249,9 +244,6 @@ module _ (P : (A : Type 0) → Walk A → Type 0) (keeps : Keeps P) where
       pub filled_value : (s : Shape) (i : Indices) → Kept (filled types m s i)
       unfolding ValueKept
       filled_value s i = bind_kept (kept_value types m i false s) _ (value_kept i false s) (λ j. give_kept (R.Widened j))
-
-  pub filled_kept : (around : Around) (s : Shape) (i : Indices) → Kept (filled_here around s i)
-  filled_kept around s i = bind_kept next_variable _ next_kept (λ m. filled_value around.types m s i)
 
   -- and what is met where ways meet
   pub met_kept : (types : Types) (m : ℕ) (s : Shape) (i : Indices) → Kept (met types m s i)

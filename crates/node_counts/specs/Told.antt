@@ -1,8 +1,10 @@
--- When notes of bodies that are read together are told apart by their nodes' numbers.
+-- When notes of bodies that are read together are told apart by their nodes' numbers, and when each node, and each arm, gives its numbers once.
 use Rattle.std.specs.Prelude.{nat_eq, Bool, true, false, not, ◌&&◌, List, [], ◌∷◌, ◌++◌, map, length}
 use Rattle.std.specs.List.{list_all}
-use Rattle.value_indices.specs.Steps.{Note, call_note, made_note}
+use Rattle.sail_core.specs.Nodes.{giver_eq}
+use Rattle.value_indices.specs.Steps.{Note, call_note, given_note, made_note}
 use Rattle.size_splits.specs.Bodies.{Body}
+use Rattle.node_counts.specs.Counts.{may_give}
 
 -- ---- the notes of several bodies, each with its body
 
@@ -29,3 +31,16 @@ is_apart x y = not (are_alike x.note y.note)
 abbrev pub are_apart : List NoteIn → Bool
 are_apart [] = true
 are_apart (x ∷ xs) = list_all (is_apart x) xs && are_apart xs
+
+-- ---- the numbers that are given
+
+abbrev pub give_alike : Note → Note → Bool
+give_alike (given_note facts g i) (given_note more h l) = giver_eq h g && (may_give i && may_give l)
+give_alike n m = false
+
+abbrev pub is_single : NoteIn → NoteIn → Bool
+is_single x y = not (give_alike x.note y.note)
+
+abbrev pub are_single : List NoteIn → Bool
+are_single [] = true
+are_single (x ∷ xs) = list_all (is_single x) xs && are_single xs

@@ -1,5 +1,5 @@
 //! The walk over an expression notes each node once, and so does what is read of a definition.
-ghost use Rattle.node_counts.specs.Apart.{NotesAreApart};
+ghost use Rattle.node_counts.specs.Apart.{NotesAreApart, NumbersAreGivenOnce};
 ghost use Rattle.node_counts.specs.Laws.{NodesAreCounted};
 
 /// The walk over an expression writes no more notes of what the node of a number makes of so many operands, or calls of so many, than the expression's
@@ -12,4 +12,9 @@ pub fn nodes_are_counted()
 /// they call, are of one number and as many operands, where the numbers differ.
 pub fn notes_are_apart()
     ensures { NotesAreApart }
+{}
+
+/// There each node gives the numbers of its value once, but where a function is entered: there each clause gives those of the arguments. It does nothing.
+pub fn numbers_are_given_once()
+    ensures { NumbersAreGivenOnce }
 {}

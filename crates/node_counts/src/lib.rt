@@ -5,4 +5,4 @@
 
 mod laws;
 
-pub use laws::{nodes_are_counted, notes_are_apart};
+pub use laws::{nodes_are_counted, notes_are_apart, numbers_are_given_once};

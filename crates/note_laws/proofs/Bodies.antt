@@ -1,5 +1,6 @@
 -- Definition by definition: the notes of clauses that are read by themselves are those of the clauses of the whole.
-use Rattle.std.proofs.Common.{◌≡◌, ◌∙◌, ap, sym, refl, subst, ℕ, zero, suc, Bool, true, false, List, [], ◌∷◌, ◌++◌, Option, Some, None, if◌then◌else◌}
+use Rattle.std.proofs.Common.{◌≡◌, ◌∙◌, ap, sym, refl, subst, ℕ, zero, suc, Bool, true, false, List, [], ◌∷◌, ◌++◌, length}
+use Rattle.std.proofs.Common.{if◌then◌else◌}
 use Rattle.sail_base.specs.declared.place.Place.{Place}
 use Rattle.sail_types.specs.declared.numbers.Con.{Con, out-Con}
 use Rattle.sail_types.specs.declared.numbers.Con.TheOpen as F
@@ -13,6 +14,8 @@ use Rattle.sail_core.specs.declared.model.Function.{Function}
 use Rattle.sail_core.specs.declared.model.Opening.{Opening}
 use Rattle.sail_core.specs.declared.patterns.Arm.{Arm}
 use Rattle.sail_core.specs.declared.tree.Core.{Core, Core-F, out-Core}
+use Rattle.sail_core.specs.declared.tree.Giver.{Giver}
+use Rattle.sail_core.specs.declared.tree.Giver.TheVariants as By
 use Rattle.sail_core.specs.declared.tree.Kind.{Kind}
 use Rattle.sail_core.specs.declared.tree.Kind.TheVariants as K
 use Rattle.sail_core.specs.declared.written.WrittenNumber.{WrittenNumber}
@@ -24,7 +27,7 @@ use Rattle.value_indices.specs.declared.notes.Fact.TheVariants as Y
 use Rattle.value_indices.specs.Steps.{Conditions, Note, goal_note, size_note, made_note, call_note, way_note, given_note, name_note, Walk, Went, went}
 use Rattle.value_indices.specs.Steps.{assume, bind, fresh_named, give, goals_under, owe, scoped}
 use Rattle.pattern_leaves.specs.Settings.{Around, exponents_owed, number_owed}
-use Rattle.pattern_notes.specs.Patterns.{arm_match, looks}
+use Rattle.pattern_notes.specs.Patterns.{looks}
 use Rattle.call_arguments.specs.Aims.{aimed}
 use Rattle.call_arguments.specs.Placing.{is_trivial_form}
 use Rattle.call_arguments.specs.declared.aims.Aim.{Aim}
@@ -32,11 +35,11 @@ use Rattle.call_arguments.specs.declared.aims.Aim.TheVariants as Aims
 use Rattle.expression_steps.specs.Expressions.{part}
 use Rattle.expression_steps.specs.Parts.{Part}
 use Rattle.expression_steps.specs.Statements.{natural_type}
-use Rattle.function_notes.specs.Functions.{arm_of, arms_walk, body_part, body_walk, both_walk, clause_arms, clause_walk, clauses_walk, constrained}
-use Rattle.function_notes.specs.Functions.{direction_walk}
+use Rattle.function_notes.specs.Functions.{arm_of, arms_walk, body_part, body_walk, both_walk, clause_arms, clause_names, clause_walk, clauses_walk}
+use Rattle.function_notes.specs.Functions.{constrained, direction_giver, direction_walk}
 use Rattle.function_notes.specs.Functions.{function_walk, mapping_walk, measure_walk}
-use Rattle.function_notes.specs.Functions.{in_clause, in_function, inside_function, kind_clauses, last_made, measured_walk, own_indices}
-use Rattle.function_notes.specs.Functions.{parameters_entered, reading_under, written_walk}
+use Rattle.function_notes.specs.Functions.{in_function, inside_function, kind_clauses, last_made, measured_walk, own_indices}
+use Rattle.function_notes.specs.Functions.{parameters_opened, reading_under, written_walk}
 use Rattle.constraint_gen.specs.Models.{opening_walk}
 use Rattle.size_notes.specs.declared.behind.Behind.{Behind}
 use Rattle.size_notes.specs.Behind.{found_in, node_of, notes_with, sizes_behind, sizes_noted}
@@ -110,111 +113,113 @@ module _ (P : Note → Type 0) where
 
   -- ---- one clause
 
-  module _ (place : Place) (entry : Option ℕ) (around : Around) (ts : List Typ) (aim : Aim) where
-    abbrev behind_parameters : Arm → Part → List Indices → Walk Indices
-    behind_parameters arm body is = bind (arm_match place arm around in_clause is) (λ found. body.walk around found aim)
+  module _ (place : Place) (around : Around) (ts : List Typ) (aim : Aim) where
+    abbrev behind_parameters : Giver → Arm → Part → List Indices → Walk Indices
+    behind_parameters g arm body is = bind (clause_names place g around arm is) (λ found. body.walk around found aim)
 
-    clause_next : (once : List WrittenNumber) (arm : Arm) (body : Part) (facts : List Fact) (n : ℕ)
-        → (clause_walk place entry around ts once aim arm body facts n).next ≡ (clause_walk place entry around ts [] aim arm body facts n).next
+    clause_next : (g : Giver) (once : List WrittenNumber) (arm : Arm) (body : Part) (facts : List Fact) (n : ℕ)
+        → (clause_walk place g around ts once aim arm body facts n).next ≡ (clause_walk place g around ts [] aim arm body facts n).next
     unfolding bind give scoped
-    clause_next once arm body facts n =
-        let first = parameters_entered entry (looks arm) around.numbers ts facts n in
-        λ j. (behind_parameters arm body first.value (exponents_facts around once first.facts first.next j) (exponents_next around once first.facts
+    clause_next g once arm body facts n =
+        let first = parameters_opened (looks arm) around.numbers ts facts n in
+        λ j. (behind_parameters g arm body first.value (exponents_facts around once first.facts first.next j) (exponents_next around once first.facts
         first.next j)).next
 
-    clause_others : (once : List WrittenNumber) (arm : Arm) (body : Part) (facts : List Fact) (n : ℕ)
-        → EachNote P (clause_walk place entry around ts [] aim arm body facts n).notes
-        → EachNote (OfOthers P) (clause_walk place entry around ts once aim arm body facts n).notes
+    clause_others : (g : Giver) (once : List WrittenNumber) (arm : Arm) (body : Part) (facts : List Fact) (n : ℕ)
+        → EachNote P (clause_walk place g around ts [] aim arm body facts n).notes
+        → EachNote (OfOthers P) (clause_walk place g around ts once aim arm body facts n).notes
     unfolding bind give scoped
-    clause_others once arm body facts n h =
-        let first = parameters_entered entry (looks arm) around.numbers ts facts n in
+    clause_others g once arm body facts n h =
+        let first = parameters_opened (looks arm) around.numbers ts facts n in
         let owed = exponents_owed around once first.facts first.next in
-        let rest = others (behind_parameters arm body first.value first.facts first.next).notes (back first.notes _ h) in
+        let rest = others (behind_parameters g arm body first.value first.facts first.next).notes (back first.notes _ h) in
         join first.notes _ (others first.notes (front first.notes _ h))
         (join owed.notes _ (exponents_other around once first.facts first.next)
-        (subst (λ n. EachNote (OfOthers P) (behind_parameters arm body first.value owed.facts n).notes)
+        (subst (λ n. EachNote (OfOthers P) (behind_parameters g arm body first.value owed.facts n).notes)
         (sym (exponents_next around once first.facts first.next))
-        (subst (λ fs. EachNote (OfOthers P) (behind_parameters arm body first.value fs first.next).notes)
+        (subst (λ fs. EachNote (OfOthers P) (behind_parameters g arm body first.value fs first.next).notes)
         (sym (exponents_facts around once first.facts first.next)) rest)))
 
     -- ---- all clauses: read by themselves, each begins with the constraint in force
 
     module _ (con : Con) (in_force : List Fact) (limit : (n : ℕ) → constrained con [] n ≡ went tt in_force n []) (declared : Bool) where
-      read_next : (arm : Arm) (c : Core) (n : ℕ)
-          → (clause_inside con place entry around ts aim declared arm c [] n).next
-          ≡ (written_walk place entry around ts [] aim declared arm c in_force n).next
+      read_next : (g : Giver) (arm : Arm) (c : Core) (n : ℕ)
+          → (clause_inside con place g around ts aim declared arm c [] n).next
+          ≡ (written_walk place g around ts [] aim declared arm c in_force n).next
       unfolding bind beforehand
-      read_next arm c n = λ j. (written_walk place entry around ts [] aim declared arm c (limit n j).facts (limit n j).next).next
+      read_next g arm c n = λ j. (written_walk place g around ts [] aim declared arm c (limit n j).facts (limit n j).next).next
 
-      read_notes : (arm : Arm) (c : Core) (n : ℕ) → EachNote P (clause_inside con place entry around ts aim declared arm c [] n).notes
-          → EachNote P (written_walk place entry around ts [] aim declared arm c in_force n).notes
+      read_notes : (g : Giver) (arm : Arm) (c : Core) (n : ℕ) → EachNote P (clause_inside con place g around ts aim declared arm c [] n).notes
+          → EachNote P (written_walk place g around ts [] aim declared arm c in_force n).notes
       unfolding bind beforehand
-      read_notes arm c n h =
+      read_notes g arm c n h =
           let own = constrained con [] n in
           let sizes = arm_read around ts (arm_of declared arm) own.facts own.next in
-          subst (λ o. EachNote P (written_walk place entry around ts [] aim declared arm c o.facts o.next).notes) (limit n)
+          subst (λ o. EachNote P (written_walk place g around ts [] aim declared arm c o.facts o.next).notes) (limit n)
           (back sizes.notes _ (back own.notes _ h))
 
-      clauses_others : (once : List WrittenNumber) (arms : List Arm) (cs : List Core) (facts : List Fact) (n : ℕ)
-          → EachNote P (arms_read con place entry around ts aim declared arms cs facts n).notes
-          → EachNote (OfOthers P) (clauses_walk place entry around ts once aim declared arms cs in_force n).notes
+      clauses_others : (k : ℕ) (once : List WrittenNumber) (arms : List Arm) (cs : List Core) (facts : List Fact) (n : ℕ)
+          → EachNote P (arms_read con place k around ts aim declared arms cs facts n).notes
+          → EachNote (OfOthers P) (clauses_walk place k around ts once aim declared arms cs in_force n).notes
       unfolding bind give scoped owe alone
-      clauses_others once [] [] facts n h = tt
-      clauses_others once [] (c ∷ cs) facts n h = (tt, tt)
-      clauses_others once (arm ∷ arms) [] facts n h = (tt, tt)
-      clauses_others once (arm ∷ arms) (c ∷ cs) facts n h =
+      clauses_others k once [] [] facts n h = tt
+      clauses_others k once [] (c ∷ cs) facts n h = (tt, tt)
+      clauses_others k once (arm ∷ arms) [] facts n h = (tt, tt)
+      clauses_others k once (arm ∷ arms) (c ∷ cs) facts n h =
+          let g = By.Arm k (length arms) in
           let bs : List Behind = found_in (node_of around.numbers (sized_body declared c)) in
-          let inside = clause_inside con place entry around ts aim declared arm c [] n in
-          let one = written_walk place entry around ts once aim declared arm c in_force n in
-          let own = read_notes arm c n (without_sizes bs inside.notes (front (notes_with bs inside.notes) _ h)) in
+          let inside = clause_inside con place g around ts aim declared arm c [] n in
+          let one = written_walk place g around ts once aim declared arm c in_force n in
+          let own = read_notes g arm c n (without_sizes bs inside.notes (front (notes_with bs inside.notes) _ h)) in
           let same : inside.next ≡ one.next =
-          read_next arm c n ∙ sym (clause_next once (arm_of declared arm) (body_part declared c) in_force n) in
-          join one.notes _ (clause_others once (arm_of declared arm) (body_part declared c) in_force n own)
-          (clauses_others [] arms cs facts one.next
-          (subst (λ n. EachNote P (arms_read con place entry around ts aim declared arms cs facts n).notes) same (back (notes_with bs inside.notes) _ h)))
+          read_next g arm c n ∙ sym (clause_next g once (arm_of declared arm) (body_part declared c) in_force n) in
+          join one.notes _ (clause_others g once (arm_of declared arm) (body_part declared c) in_force n own)
+          (clauses_others k [] arms cs facts one.next
+          (subst (λ n. EachNote P (arms_read con place k around ts aim declared arms cs facts n).notes) same (back (notes_with bs inside.notes) _ h)))
 
-      clauses_end : (once : List WrittenNumber) (arms : List Arm) (cs : List Core) (facts : List Fact) (n : ℕ)
-          → (arms_read con place entry around ts aim declared arms cs facts n).next
-          ≡ (clauses_walk place entry around ts once aim declared arms cs in_force n).next
+      clauses_end : (k : ℕ) (once : List WrittenNumber) (arms : List Arm) (cs : List Core) (facts : List Fact) (n : ℕ)
+          → (arms_read con place k around ts aim declared arms cs facts n).next
+          ≡ (clauses_walk place k around ts once aim declared arms cs in_force n).next
       unfolding bind give scoped owe alone
-      clauses_end once [] [] facts n = refl
-      clauses_end once [] (c ∷ cs) facts n = refl
-      clauses_end once (arm ∷ arms) [] facts n = refl
-      clauses_end once (arm ∷ arms) (c ∷ cs) facts n =
-          let same = read_next arm c n ∙ sym (clause_next once (arm_of declared arm) (body_part declared c) in_force n) in
-          (λ j. (arms_read con place entry around ts aim declared arms cs facts (same j)).next)
-          ∙ clauses_end [] arms cs facts (written_walk place entry around ts once aim declared arm c in_force n).next
+      clauses_end k once [] [] facts n = refl
+      clauses_end k once [] (c ∷ cs) facts n = refl
+      clauses_end k once (arm ∷ arms) [] facts n = refl
+      clauses_end k once (arm ∷ arms) (c ∷ cs) facts n =
+          let g = By.Arm k (length arms) in
+          let same = read_next g arm c n ∙ sym (clause_next g once (arm_of declared arm) (body_part declared c) in_force n) in
+          (λ j. (arms_read con place k around ts aim declared arms cs facts (same j)).next)
+          ∙ clauses_end k [] arms cs facts (written_walk place g around ts once aim declared arm c in_force n).next
 
-      clauses_force : (once : List WrittenNumber) (arms : List Arm) (cs : List Core) (n : ℕ)
-          → (clauses_walk place entry around ts once aim declared arms cs in_force n).facts ≡ in_force
+      clauses_force : (k : ℕ) (once : List WrittenNumber) (arms : List Arm) (cs : List Core) (n : ℕ)
+          → (clauses_walk place k around ts once aim declared arms cs in_force n).facts ≡ in_force
       unfolding bind give scoped owe
-      clauses_force once [] [] n = refl
-      clauses_force once [] (c ∷ cs) n = refl
-      clauses_force once (arm ∷ arms) [] n = refl
-      clauses_force once (arm ∷ arms) (c ∷ cs) n =
-          clauses_force [] arms cs (written_walk place entry around ts once aim declared arm c in_force n).next
+      clauses_force k once [] [] n = refl
+      clauses_force k once [] (c ∷ cs) n = refl
+      clauses_force k once (arm ∷ arms) [] n = refl
+      clauses_force k once (arm ∷ arms) (c ∷ cs) n =
+          clauses_force k [] arms cs (written_walk place (By.Arm k (length arms)) around ts once aim declared arm c in_force n).next
 
       -- whatever the kind of the node
 
-      kinds_others : (once : List WrittenNumber) (kind : Kind) (cs : List Core) (facts : List Fact) (n : ℕ)
-          → EachNote P (arms_read con place entry around ts aim declared (kind_arms kind) cs facts n).notes
-          → EachNote (OfOthers P) (kind_clauses place entry around ts once aim declared kind cs in_force n).notes
+      kinds_others : (k : ℕ) (once : List WrittenNumber) (kind : Kind) (cs : List Core) (facts : List Fact) (n : ℕ)
+          → EachNote P (arms_read con place k around ts aim declared (kind_arms kind) cs facts n).notes
+          → EachNote (OfOthers P) (kind_clauses place k around ts once aim declared kind cs in_force n).notes
       unfolding owe
-      kinds_others once (K.Clauses arms) cs facts n h = clauses_others once arms cs facts n h
-      kinds_others once kind cs facts n h = (tt, tt)
+      kinds_others k once (K.Clauses arms) cs facts n h = clauses_others k once arms cs facts n h
+      kinds_others k once kind cs facts n h = (tt, tt)
 
-      kinds_end : (once : List WrittenNumber) (kind : Kind) (cs : List Core) (facts : List Fact) (n : ℕ)
-          → (arms_read con place entry around ts aim declared (kind_arms kind) cs facts n).next
-          ≡ (kind_clauses place entry around ts once aim declared kind cs in_force n).next
+      kinds_end : (k : ℕ) (once : List WrittenNumber) (kind : Kind) (cs : List Core) (facts : List Fact) (n : ℕ)
+          → (arms_read con place k around ts aim declared (kind_arms kind) cs facts n).next
+          ≡ (kind_clauses place k around ts once aim declared kind cs in_force n).next
       unfolding give owe
-      kinds_end once (K.Clauses arms) cs facts n = clauses_end once arms cs facts n
-      kinds_end once kind cs facts n = refl
+      kinds_end k once (K.Clauses arms) cs facts n = clauses_end k once arms cs facts n
+      kinds_end k once kind cs facts n = refl
 
-      kinds_force : (once : List WrittenNumber) (kind : Kind) (cs : List Core) (n : ℕ)
-          → (kind_clauses place entry around ts once aim declared kind cs in_force n).facts ≡ in_force
+      kinds_force : (k : ℕ) (once : List WrittenNumber) (kind : Kind) (cs : List Core) (n : ℕ)
+          → (kind_clauses place k around ts once aim declared kind cs in_force n).facts ≡ in_force
       unfolding owe
-      kinds_force once (K.Clauses arms) cs n = clauses_force once arms cs n
-      kinds_force once kind cs n = refl
+      kinds_force k once (K.Clauses arms) cs n = clauses_force k once arms cs n
+      kinds_force k once kind cs n = refl
 
   -- ---- what comes last, under the constraint too
 
@@ -272,23 +277,24 @@ module _ (P : Note → Type 0) where
     aim = aimed Aims.Due (reading_under f.result own.value)
 
     abbrev clauses : Went (Unit {0})
-    clauses = kind_clauses form.place (Some f.entry) inner f.parameters f.numbers aim f.is_declared form.kind form.parts in_force own.next
+    clauses = kind_clauses form.place form.number inner f.parameters f.numbers aim f.is_declared form.kind form.parts in_force own.next
 
     abbrev arms : Went (Unit {0})
-    arms = arms_read f.constraint form.place (Some f.entry) inner f.parameters aim f.is_declared (kind_arms form.kind) form.parts own.facts own.next
+    arms = arms_read f.constraint form.place form.number inner f.parameters aim f.is_declared (kind_arms form.kind) form.parts own.facts
+        own.next
 
     body_others : EachNote P (declared_read around f own.value own.facts own.next).notes → EachNote (OfOthers P) (body_walk f inner in_force own.next).notes
     unfolding bind
     body_others h =
         let limit = limited f.constraint in
-        let end = kinds_end form.place (Some f.entry) inner f.parameters aim f.constraint in_force limit f.is_declared f.numbers form.kind form.parts own.facts
-        own.next in
-        let force = kinds_force form.place (Some f.entry) inner f.parameters aim f.constraint in_force limit f.is_declared f.numbers form.kind form.parts
-        own.next in
+        let end = kinds_end form.place inner f.parameters aim f.constraint in_force limit f.is_declared form.number f.numbers form.kind
+        form.parts own.facts own.next in
+        let force = kinds_force form.place inner f.parameters aim f.constraint in_force limit f.is_declared form.number f.numbers form.kind
+        form.parts own.next in
         let last = last_others f.constraint in_force limit f.last (reading_under f.result own.value) arms.facts arms.next (back arms.notes _ h) in
         join clauses.notes _
-        (kinds_others form.place (Some f.entry) inner f.parameters aim f.constraint in_force limit f.is_declared f.numbers form.kind form.parts own.facts
-        own.next (front arms.notes _ h))
+        (kinds_others form.place inner f.parameters aim f.constraint in_force limit f.is_declared form.number f.numbers form.kind
+        form.parts own.facts own.next (front arms.notes _ h))
         (subst (λ fs. EachNote (OfOthers P) (last_made f.last (reading_under f.result own.value) fs clauses.next).notes) (sym force)
         (subst (λ n. EachNote (OfOthers P) (last_made f.last (reading_under f.result own.value) in_force n).notes) end last))
 
@@ -301,8 +307,8 @@ module _ (P : Note → Type 0) where
     measure_others measure h =
         let m = out-Core measure in
         behind_limit (measured_walk f measure) (front own.notes _ h)
-        (kinds_others m.place (Some f.entry) inner f.parameters (Aims.Due natural_type) f.constraint in_force (limited f.constraint) true [] m.kind m.parts
-        own.facts own.next (back own.notes _ h))
+        (kinds_others m.place inner f.parameters (Aims.Due natural_type) f.constraint in_force (limited f.constraint) true m.number [] m.kind
+        m.parts own.facts own.next (back own.notes _ h))
 
   -- ---- mappings: nothing is in force where a clause begins
 
@@ -312,21 +318,23 @@ module _ (P : Note → Type 0) where
       (ap out-Con (sym (C.rolls-Truth true)) ∙ out-roll-Con (F.Truth true))
 
   module _ (place : Place) (around : Around) where
-    way_others : (m : Direction) (arm : Arm) (c : Core) (facts : List Fact) (n : ℕ) → EachNote P (way_read place around m arm c facts n).notes
-        → EachNote (OfOthers P) (direction_walk place around m arm c [] n).notes
+    way_others : (m : Direction) (behind : ℕ) (arm : Arm) (c : Core) (facts : List Fact) (n : ℕ)
+        → EachNote P (way_read place around m behind arm c facts n).notes → EachNote (OfOthers P) (direction_walk place around m behind arm c [] n).notes
     unfolding alone
-    way_others m arm c facts n h =
+    way_others m behind arm c facts n h =
         let bs : List Behind = found_in (node_of around.numbers c) in
         let aim = aimed Aims.Due (R.Of m.result [] []) in
-        let inside = clause_inside (C.Truth true) place None around (m.parameter ∷ []) aim true arm c [] n in
-        others (direction_walk place around m arm c [] n).notes
-        (read_notes place None around (m.parameter ∷ []) aim (C.Truth true) [] no_limit true arm c n (without_sizes bs inside.notes h))
+        let inside = clause_inside (C.Truth true) place (direction_giver m behind) around (m.parameter ∷ []) aim true arm c [] n in
+        others (direction_walk place around m behind arm c [] n).notes
+        (read_notes place around (m.parameter ∷ []) aim (C.Truth true) [] no_limit true (direction_giver m behind) arm c n
+        (without_sizes bs inside.notes h))
 
-    way_next : (m : Direction) (arm : Arm) (c : Core) (facts : List Fact) (n : ℕ)
-        → (way_read place around m arm c facts n).next ≡ (direction_walk place around m arm c [] n).next
+    way_next : (m : Direction) (behind : ℕ) (arm : Arm) (c : Core) (facts : List Fact) (n : ℕ)
+        → (way_read place around m behind arm c facts n).next ≡ (direction_walk place around m behind arm c [] n).next
     unfolding alone
-    way_next m arm c facts n =
-        read_next place None around (m.parameter ∷ []) (aimed Aims.Due (R.Of m.result [] [])) (C.Truth true) [] no_limit true arm c n
+    way_next m behind arm c facts n =
+        read_next place around (m.parameter ∷ []) (aimed Aims.Due (R.Of m.result [] [])) (C.Truth true) [] no_limit true (direction_giver m behind) arm c
+        n
 
     both_others : (m n : Direction) (aheads : List Arm) (cs : List Core) (backs : List Arm) (ds : List Core) (facts : List Fact) (k : ℕ)
         → EachNote P (both_read place around m n aheads cs backs ds facts k).notes
@@ -340,19 +348,20 @@ module _ (P : Note → Type 0) where
     both_others m n (a ∷ aheads) (c ∷ cs) [] ds facts k h = (tt, tt)
     both_others m n (a ∷ aheads) (c ∷ cs) (b ∷ backs) [] facts k h = (tt, tt)
     both_others m n (a ∷ aheads) (c ∷ cs) (b ∷ backs) (d ∷ ds) facts k h =
-        let first = way_read place around m a c facts k in
-        let ahead = direction_walk place around m a c [] k in
-        let second = way_read place around n b d facts first.next in
-        let same : first.next ≡ ahead.next = way_next m a c facts k in
+        let first = way_read place around m (length aheads) a c facts k in
+        let ahead = direction_walk place around m (length aheads) a c [] k in
+        let second = way_read place around n (length backs) b d facts first.next in
+        let same : first.next ≡ ahead.next = way_next m (length aheads) a c facts k in
         let rest = back first.notes _ h in
-        let other = subst (λ i. EachNote P ((way_read place around n b d facts i).notes
-        ++ (both_read place around m n aheads cs backs ds facts (way_read place around n b d facts i).next).notes)) same rest in
-        let behind = way_read place around n b d facts ahead.next in
-        let given = direction_walk place around n b d [] ahead.next in
-        join ahead.notes _ (way_others m a c facts k (front first.notes _ h))
-        (join given.notes _ (way_others n b d facts ahead.next (front behind.notes _ other))
+        let other = subst (λ i. EachNote P ((way_read place around n (length backs) b d facts i).notes
+        ++ (both_read place around m n aheads cs backs ds facts (way_read place around n (length backs) b d facts i).next).notes)) same rest in
+        let behind = way_read place around n (length backs) b d facts ahead.next in
+        let given = direction_walk place around n (length backs) b d [] ahead.next in
+        join ahead.notes _ (way_others m (length aheads) a c facts k (front first.notes _ h))
+        (join given.notes _ (way_others n (length backs) b d facts ahead.next (front behind.notes _ other))
         (both_others m n aheads cs backs ds facts given.next
-        (subst (λ i. EachNote P (both_read place around m n aheads cs backs ds facts i).notes) (way_next n b d facts ahead.next) (back behind.notes _ other))))
+        (subst (λ i. EachNote P (both_read place around m n aheads cs backs ds facts i).notes) (way_next n (length backs) b d facts ahead.next)
+        (back behind.notes _ other))))
 
   forms_others : (around : Around) (m n : Direction) (x y : Kind) (cs ds : List Core) (facts : List Fact) (k : ℕ)
       → EachNote P (both_read m.place around m n (kind_arms x) cs (kind_arms y) ds facts k).notes

@@ -19,54 +19,55 @@ use Rattle.expression_forms.specs.Ways.{fields_of, update_operands}
 use Rattle.expression_forms.specs.declared.ways.Reached.{Reached}
 use Rattle.expression_steps.specs.Filling.{filled_or, types_behind, refilled, with_filled, struct_holed, with_made}
 use Rattle.expression_steps.specs.Filling.{with_ended, items_filled, part_holed, part_behind, part_put, put_ended}
+use Rattle.note_laws.specs.Ways.{Told}
 use Rattle.note_laws.proofs.Goes.{Goes, give_goes, bind_goes, if_goes, next_variable_goes, owe_fit_goes}
 use Rattle.note_laws.proofs.NodeGoes.{node_ended_goes}
 use Rattle.note_laws.proofs.WayGoes.{owe_part_goes}
 
-module _ (reached : ℕ → Bool) where
+module _ (told : Told) where
   pub refilled_goes : (around : Around) (place : Place) (ts : List Typ) (i : Indices) (v : ℕ) (js : List Index) (qs : List Reading) (is : List Indices)
-      → Goes reached (refilled around place ts i v js qs is)
+      → Goes told (refilled around place ts i v js qs is)
   refilled_goes around place ts i v js qs is =
-      bind_goes reached _ _ (owe_fit_goes reached place (fits around.types (I.Tuple is) (R.Of (Y.Tuple ts) js (types_without_holes qs))))
-      (λ t. bind_goes reached _ _ (owe_fit_goes reached place (fits around.types i (R.Widened (I.Named v js (types_without_holes qs)))))
-      (λ u. give_goes reached _))
+      bind_goes told _ _ (owe_fit_goes told place (fits around.types (I.Tuple is) (R.Of (Y.Tuple ts) js (types_without_holes qs))))
+      (λ t. bind_goes told _ _ (owe_fit_goes told place (fits around.types i (R.Widened (I.Named v js (types_without_holes qs)))))
+      (λ u. give_goes told _))
 
   pub with_filled_goes : (around : Around) (place : Place) (ts : List Typ) (i : Indices) (is : List Indices) (form : Indices-F Indices Reading)
-      → Goes reached (with_filled around place ts i is form)
+      → Goes told (with_filled around place ts i is form)
   with_filled_goes around place ts i is (W.Named v js rs) =
-      bind_goes reached _ _ (next_variable_goes reached) (λ m. refilled_goes around place ts i v js (types_behind m ts rs is) is)
-  with_filled_goes around place ts i is form = give_goes reached _
+      bind_goes told _ _ (next_variable_goes told) (λ m. refilled_goes around place ts i v js (types_behind m ts rs is) is)
+  with_filled_goes around place ts i is form = give_goes told _
 
   pub with_made_goes : (around : Around) (place : Place) (u : ℕ) (ks : List ℕ) (i : Indices) (is : List Indices)
-      → Goes reached (with_made around place u ks i is)
+      → Goes told (with_made around place u ks i is)
   with_made_goes around place u ks i is =
-      if_goes reached (struct_holed (out-Indices i)) _ _ (with_filled_goes around place (fields_of around u ks) i is (out-Indices i)) (give_goes reached _)
+      if_goes told (struct_holed (out-Indices i)) _ _ (with_filled_goes around place (fields_of around u ks) i is (out-Indices i)) (give_goes told _)
 
   pub with_ended_goes : (around : Around) (place : Place) (k : ℕ) (u : ℕ) (ks : List ℕ) (i : Indices) (is : List Indices)
-      → Goes reached (with_ended around place k u ks i is)
-  with_ended_goes around place k u ks i is = bind_goes reached _ _ (with_made_goes around place u ks i is) (node_ended_goes reached k (i ∷ is))
+      → Goes told (with_ended around place k u ks i is)
+  with_ended_goes around place k u ks i is = bind_goes told _ _ (with_made_goes around place u ks i is) (node_ended_goes told k (i ∷ is))
 
   pub items_filled_goes : (around : Around) (place : Place) (i : Indices) (n : Num) (j : Indices) (q : Reading)
-      → Goes reached (items_filled around place i n j q)
+      → Goes told (items_filled around place i n j q)
   items_filled_goes around place i n j q =
-      bind_goes reached _ _ (owe_fit_goes reached place (fits around.types j (without_holes q)))
-      (λ t. bind_goes reached _ _ (owe_fit_goes reached place (fits around.types i (R.Widened (I.Vector n (without_holes q))))) (λ u. give_goes reached _))
+      bind_goes told _ _ (owe_fit_goes told place (fits around.types j (without_holes q)))
+      (λ t. bind_goes told _ _ (owe_fit_goes told place (fits around.types i (R.Widened (I.Vector n (without_holes q))))) (λ u. give_goes told _))
 
   pub part_holed_goes : (around : Around) (place : Place) (i : Indices) (r : Reading) (j : Indices) (form : Indices-F Indices Reading)
-      → Goes reached (part_holed around place i r j form)
+      → Goes told (part_holed around place i r j form)
   part_holed_goes around place i r j (W.Vector n s) = items_filled_goes around place i n j (filled_or r (widened j))
   part_holed_goes around place i r j form =
-      bind_goes reached _ _ (owe_fit_goes reached place (fits around.types j (without_holes r))) (λ t. give_goes reached _)
+      bind_goes told _ _ (owe_fit_goes told place (fits around.types j (without_holes r))) (λ t. give_goes told _)
 
-  pub part_behind_goes : (around : Around) (place : Place) (i : Indices) (r : Reading) (j : Indices) → Goes reached (part_behind around place i r j)
-  part_behind_goes around place i r j = if_goes reached (has_hole r) _ _ (part_holed_goes around place i r j (out-Indices i)) (give_goes reached _)
+  pub part_behind_goes : (around : Around) (place : Place) (i : Indices) (r : Reading) (j : Indices) → Goes told (part_behind around place i r j)
+  part_behind_goes around place i r j = if_goes told (has_hole r) _ _ (part_holed_goes around place i r j (out-Indices i)) (give_goes told _)
 
   pub part_put_goes : (around : Around) (place : Place) (is_nested : Bool) (i : Indices) (x : Reached) (j : Indices)
-      → Goes reached (part_put around place is_nested i x j)
+      → Goes told (part_put around place is_nested i x j)
   part_put_goes around place is_nested i x j =
-      bind_goes reached _ _ (owe_part_goes reached around place x (has_hole x.typ || is_nested) j) (λ t. part_behind_goes around place i x.typ j)
+      bind_goes told _ _ (owe_part_goes told around place x (has_hole x.typ || is_nested) j) (λ t. part_behind_goes around place i x.typ j)
 
   pub put_ended_goes : (around : Around) (place : Place) (k : ℕ) (is_nested : Bool) (i : Indices) (x : Reached) (j : Indices)
-      → Goes reached (put_ended around place k is_nested i x j)
+      → Goes told (put_ended around place k is_nested i x j)
   put_ended_goes around place k is_nested i x j =
-      bind_goes reached _ _ (part_put_goes around place is_nested i x j) (node_ended_goes reached k (update_operands i x j))
+      bind_goes told _ _ (part_put_goes around place is_nested i x j) (node_ended_goes told k (update_operands i x j))

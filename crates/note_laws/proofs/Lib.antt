@@ -23,5 +23,7 @@ pub mod ValueGoes
 pub mod TargetGoes
 pub mod ExpressionGoes
 pub mod FunctionGoes
+pub mod BareGoes
 pub mod BodyGoes
+pub mod ModelGoes
 pub mod Bodies

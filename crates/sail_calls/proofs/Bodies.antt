@@ -36,9 +36,8 @@ module _ (q : Scene) (w : World Item) (model : ModelStands q.set q.work) (declar
 pub clauses_follow : ClausesFollow
 clauses_follow q w f r declared core model h =
     let form : Core-F Core = out-Core core in
-    subst (λ kind. ClausesHold (clause_scene q w) w f.entry f.parameters r declared form kind) (sym h.kind) (
-      h.noted,
+    subst (λ kind. ClausesHold (clause_scene q w) w f.parameters r declared form kind) (sym h.kind) (
       arms_follow q w model declared form.place h.arms form.parts h.bodies
           (all_match (clause_scene q w) w model.fits refl (map (arm_of declared) h.arms) h.patterns),
-      all_count.clauses (clause_scene q w) form.place f.entry f.parameters r declared h.arms form.parts (bodies_grow q w model declared form.parts h.bodies),
+      all_count.clauses (clause_scene q w) form.place f.parameters r declared h.arms form.parts (bodies_grow q w model declared form.parts h.bodies),
     )

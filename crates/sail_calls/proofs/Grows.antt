@@ -1,17 +1,17 @@
 -- A clause counts variables on: its parameters, what is owed of exponents, its patterns and its body.
-use Rattle.std.proofs.Common.{ℕ, Bool, true, List, [], ◌∷◌, Option, Some, None}
+use Rattle.std.proofs.Common.{Bool, true, List, [], ◌∷◌}
 use Rattle.sail_base.specs.declared.place.Place.{Place}
 use Rattle.sail_types.specs.declared.numbers.Index.{Index}
 use Rattle.sail_types.specs.declared.types.Typ.{Typ}
 use Rattle.sail_core.specs.declared.model.Direction.{Direction}
 use Rattle.sail_core.specs.declared.patterns.Arm.{Arm}
 use Rattle.sail_core.specs.declared.tree.Core.{Core}
+use Rattle.sail_core.specs.declared.tree.Giver.{Giver}
 use Rattle.sail_core.specs.declared.written.WrittenNumber.{WrittenNumber}
 use Rattle.value_indices.specs.declared.indices.Indices.{Indices}
-use Rattle.value_indices.specs.declared.indices.Indices.TheVariants as I
 use Rattle.value_indices.specs.declared.indices.Reading.{Reading}
 use Rattle.value_indices.specs.declared.indices.Reading.TheVariants as R
-use Rattle.value_indices.specs.Steps.{bind, given_note, give, note, owe}
+use Rattle.value_indices.specs.Steps.{bind, give, owe}
 use Rattle.fitting_laws.proofs.Counting as Counting
 use Rattle.pattern_leaves.specs.Settings.{Around, exponents_owed, number_owed}
 use Rattle.pattern_notes.specs.Patterns.{Look, arm_match, looks}
@@ -20,16 +20,15 @@ use Rattle.pattern_laws.proofs.Growing as Growing
 use Rattle.call_arguments.specs.Aims.{aimed}
 use Rattle.call_arguments.specs.declared.aims.Aim.{Aim}
 use Rattle.call_arguments.specs.declared.aims.Aim.TheVariants as Aims
-use Rattle.call_notes.specs.Noted.{numbers_given}
+use Rattle.call_notes.specs.Noted.{names_given}
 use Rattle.expression_steps.specs.Expressions.{part}
 use Rattle.expression_steps.specs.Parts.{Part}
-use Rattle.function_notes.specs.Functions.{arm_of, body_part, clause_walk, entered_at, in_clause, other_looks, parameter_naming, parameter_opened}
-use Rattle.function_notes.specs.Functions.{parameters_entered, parameters_opened, reading_under}
+use Rattle.function_notes.specs.Functions.{arm_of, body_part, clause_names, clause_walk, direction_giver, in_clause, other_looks}
+use Rattle.function_notes.specs.Functions.{parameter_naming, parameter_opened, parameters_opened, reading_under}
 use Rattle.soundness_steps.specs.Works.{Scene, here}
-use Rattle.soundness_steps.specs.Noted.{variables_given}
 use Rattle.soundness_steps.specs.Steps.{Grows}
-use Rattle.soundness_forms.proofs.Giving.{gives_all}
-use Rattle.soundness_forms.proofs.Growth.{grows_bind, grows_give, grows_gives, grows_note, grows_opening, grows_owe, grows_scoped}
+use Rattle.soundness_forms.proofs.Growth.{grows_bind, grows_give, grows_opening, grows_owe, grows_scoped}
+use Rattle.soundness_forms.proofs.NamesGiven.{names_grow}
 use Rattle.soundness_calls.specs.Premises.{ClausesGrow}
 use Rattle.soundness_calls.specs.Directions.{WaysGrow}
 use Rattle.sail_calls.specs.ArmLaws.{AllCount, EachGrows, PartGrows}
@@ -44,17 +43,6 @@ parameters_grow ps is (t ∷ ts) =
     grows_bind (parameters_opened (other_looks ps) is ts) (λ more. give (i ∷ more)) (parameters_grow (other_looks ps) is ts) (λ more.
     grows_give (i ∷ more)))
 
-numbers_grow : (entry : Option ℕ) (is : List Indices) → Grows (entered_at entry is)
-numbers_grow None is = grows_give tt
-numbers_grow (Some k) is =
-    grows_bind (note (λ facts. given_note facts k (I.Tuple is))) (λ t. numbers_given (I.Tuple is)) (grows_note (λ facts. given_note facts k (I.Tuple is)))
-    (λ t. grows_gives (numbers_given (I.Tuple is)) (variables_given (I.Tuple is)) (gives_all (I.Tuple is)))
-
-entered_grow : (entry : Option ℕ) (ps : List Look) (is : List Index) (ts : List Typ) → Grows (parameters_entered entry ps is ts)
-entered_grow entry ps is ts =
-    grows_bind (parameters_opened ps is ts) (λ found. bind (entered_at entry found) (λ t. give found)) (parameters_grow ps is ts) (λ found.
-    grows_bind (entered_at entry found) (λ t. give found) (numbers_grow entry found) (λ t. grows_give found))
-
 -- ---- a clause
 
 exponents_grow : (around : Around) (ns : List WrittenNumber) → Grows (exponents_owed around ns)
@@ -67,37 +55,39 @@ arm_grows around place arm how is =
     let h : Counting.Grows (arm_match place arm around how is) = Growing.arm_grows around place arm how is in
     record { onward = h.onward; more = h.more; extends = h.extends }
 
-clause_grows : (place : Place) (entry : Option ℕ) (around : Around) (ts : List Typ) (once : List WrittenNumber) (aim : Aim) (arm : Arm) (body : Part)
-    → PartGrows body → Grows (clause_walk place entry around ts once aim arm body)
-clause_grows place entry around ts once aim arm body h =
-    grows_scoped (bind (parameters_entered entry (looks arm) around.numbers ts) (λ is. bind (exponents_owed around once) (λ t.
-    bind (arm_match place arm around in_clause is) (λ found. body.walk around found aim))))
-    (grows_bind (parameters_entered entry (looks arm) around.numbers ts)
-    (λ is. bind (exponents_owed around once) (λ t. bind (arm_match place arm around in_clause is) (λ found. body.walk around found aim)))
-    (entered_grow entry (looks arm) around.numbers ts) (λ is.
-    grows_bind (exponents_owed around once) (λ t. bind (arm_match place arm around in_clause is) (λ found. body.walk around found aim))
+clause_grows : (place : Place) (giver : Giver) (around : Around) (ts : List Typ) (once : List WrittenNumber) (aim : Aim) (arm : Arm) (body : Part)
+    → PartGrows body → Grows (clause_walk place giver around ts once aim arm body)
+clause_grows place giver around ts once aim arm body h =
+    grows_scoped (bind (parameters_opened (looks arm) around.numbers ts) (λ is. bind (exponents_owed around once) (λ t.
+    bind (clause_names place giver around arm is) (λ found. body.walk around found aim))))
+    (grows_bind (parameters_opened (looks arm) around.numbers ts)
+    (λ is. bind (exponents_owed around once) (λ t. bind (clause_names place giver around arm is) (λ found. body.walk around found aim)))
+    (parameters_grow (looks arm) around.numbers ts) (λ is.
+    grows_bind (exponents_owed around once) (λ t. bind (clause_names place giver around arm is) (λ found. body.walk around found aim))
     (exponents_grow around once) (λ t.
-    grows_bind (arm_match place arm around in_clause is) (λ found. body.walk around found aim) (arm_grows around place arm in_clause is) (λ found.
-    h around found aim))))
+    grows_bind (clause_names place giver around arm is) (λ found. body.walk around found aim)
+    (grows_bind (arm_match place arm around in_clause is) (names_given giver is) (arm_grows around place arm in_clause is) (names_grow giver is))
+    (λ found. h around found aim))))
 
 -- ---- clauses of functions, and of directions of mappings
 
-clauses_grow : (q : Scene) (place : Place) (entry : ℕ) (ts : List Typ) (r : Reading) (declared : Bool) (arms : List Arm) (bodies : List Core)
-    → EachGrows (body_part declared) bodies → ClausesGrow q place entry ts r declared arms bodies
-clauses_grow q place entry ts r declared [] bodies h = tt
-clauses_grow q place entry ts r declared (arm ∷ arms) [] h = tt
-clauses_grow q place entry ts r declared (arm ∷ arms) (body ∷ bodies) h = (
-  λ once facts n.
-      (clause_grows place (Some entry) (here q) ts once (Aims.Due r) (arm_of declared arm) (body_part declared body) h.0).onward facts n,
-  clauses_grow q place entry ts r declared arms bodies h.1,
+clauses_grow : (q : Scene) (place : Place) (ts : List Typ) (r : Reading) (declared : Bool) (arms : List Arm) (bodies : List Core)
+    → EachGrows (body_part declared) bodies → ClausesGrow q place ts r declared arms bodies
+clauses_grow q place ts r declared [] bodies h = tt
+clauses_grow q place ts r declared (arm ∷ arms) [] h = tt
+clauses_grow q place ts r declared (arm ∷ arms) (body ∷ bodies) h = (
+  λ giver once facts n.
+      (clause_grows place giver (here q) ts once (Aims.Due r) (arm_of declared arm) (body_part declared body) h.0).onward facts n,
+  clauses_grow q place ts r declared arms bodies h.1,
 )
 
 ways_grow : (q : Scene) (place : Place) (m : Direction) (arms : List Arm) (bodies : List Core) → EachGrows part bodies → WaysGrow q place m arms bodies
 ways_grow q place m [] bodies h = tt
 ways_grow q place m (arm ∷ arms) [] h = tt
 ways_grow q place m (arm ∷ arms) (body ∷ bodies) h = (
-  λ facts n.
-      (clause_grows place None (here q) (m.parameter ∷ []) [] (aimed Aims.Due (R.Of m.result [] [])) arm (part body) h.0).onward facts n,
+  λ behind facts n.
+      (clause_grows place (direction_giver m behind) (here q) (m.parameter ∷ []) [] (aimed Aims.Due (R.Of m.result [] [])) arm (part body)
+      h.0).onward facts n,
   ways_grow q place m arms bodies h.1,
 )
 

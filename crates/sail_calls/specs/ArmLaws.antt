@@ -1,5 +1,5 @@
 -- An arm with its body, as a clause of a function or a mapping has it.
-use Rattle.std.specs.Prelude.{ℕ, Bool, true, List, [], ◌∷◌}
+use Rattle.std.specs.Prelude.{Bool, true, List, [], ◌∷◌}
 use Rattle.sail_base.specs.declared.place.Place.{Place}
 use Rattle.sail_types.specs.declared.types.Typ.{Typ}
 use Rattle.sail_core.specs.declared.model.Direction.{Direction}
@@ -40,6 +40,6 @@ EachGrows read [] = Unit {0}
 EachGrows read (c ∷ cs) = PartGrows (read c) × EachGrows read cs
 
 pub record AllCount : Type 0 where
-  pub clauses : (q : Scene) (place : Place) (entry : ℕ) (ts : List Typ) (r : Reading) (declared : Bool) (arms : List Arm) (bodies : List Core)
-      → EachGrows (body_part declared) bodies → ClausesGrow q place entry ts r declared arms bodies
+  pub clauses : (q : Scene) (place : Place) (ts : List Typ) (r : Reading) (declared : Bool) (arms : List Arm) (bodies : List Core)
+      → EachGrows (body_part declared) bodies → ClausesGrow q place ts r declared arms bodies
   pub ways : (q : Scene) (place : Place) (m : Direction) (arms : List Arm) (bodies : List Core) → EachGrows part bodies → WaysGrow q place m arms bodies

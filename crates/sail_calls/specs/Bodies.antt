@@ -10,7 +10,7 @@ use Rattle.function_notes.specs.Functions.{arm_of}
 use Rattle.checked_meaning.specs.Items.{Item}
 use Rattle.soundness_steps.specs.Works.{Scene}
 use Rattle.soundness_forms.specs.Standing.{standing}
-use Rattle.soundness_calls.specs.Premises.{CoreHolds, NotedAlone}
+use Rattle.soundness_calls.specs.Premises.{CoreHolds}
 use Rattle.soundness_binding.specs.Patterned.{arms_stand}
 use Rattle.sail_soundness.specs.Whole.{EachFine, ModelStands, nodes}
 use Rattle.sail_calls.specs.ArmLaws.{clause_scene}
@@ -26,8 +26,6 @@ pub record Clauses (q : Scene) (w : World Item) (declared : Bool) (core : Core) 
   pub kind : (out-Core core).kind ≡ K.Clauses arms
   pub bodies : BodiesStand q w (out-Core core).parts
   pub patterns : arms_stand q.set.around.types q.numbers (map (arm_of declared) arms) ≡ true
-  -- where it has no clause, numbers are noted all the same where it is entered
-  pub noted : NotedAlone q.cases arms
 
 -- so what calls take of a function's clauses holds, where the model stands
 abbrev pub ClausesFollow : Type 0

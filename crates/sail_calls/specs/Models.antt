@@ -12,7 +12,7 @@ use Rattle.size_values.specs.declared.sized.Sized.{Sized}
 use Rattle.checked_meaning.specs.Checked.{Checks}
 use Rattle.checked_meaning.specs.Items.{Item}
 use Rattle.value_laws.specs.Belonging.{Integers}
-use Rattle.soundness_steps.specs.Works.{Scene, Setting, Work, nobody}
+use Rattle.soundness_steps.specs.Works.{Scene, Setting, Work, nobody, IsExact}
 use Rattle.soundness_steps.specs.Noted.{OpensAs}
 use Rattle.soundness_steps.specs.Covers.{AreMet}
 use Rattle.soundness_steps.specs.Calls.{IsOf}
@@ -57,7 +57,7 @@ pub record DirectionStands (set : Setting) (rank : ℕ → ℕ) (k : Checks) (d 
   pub side : Side
   pub met : AreMet set nobody (below set rank d) (k.direction d) (mapping_of set side m [] 0).notes
   pub takes : (v : Value) → IsOf set m.parameter v → (s : Sized) × (k.takes d v ≡ Some s)
-      × ((g : Integers) → OpensAs set.around.types set.past nobody g (bare_type m.parameter) v s)
+      × (IsExact set → (g : Integers) → OpensAs set.around.types set.past nobody g (bare_type m.parameter) v s)
   pub model : Whole.ModelStands set nobody
   pub ways : WaysOf (scene_across set k rank d) side m
   pub patterns : arms_stand set.around.types [] (own_arms (scene_across set k rank d) side m ways) ≡ true

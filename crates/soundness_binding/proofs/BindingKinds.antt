@@ -4,13 +4,14 @@ use Rattle.std.proofs.lemmas.Bool.{and_parts}
 use Rattle.sail_core.specs.Making.{World}
 use Rattle.sail_core.specs.Run.{Run}
 use Rattle.sail_core.specs.declared.patterns.Arm.{Arm}
+use Rattle.sail_core.specs.declared.tree.Giver.TheVariants as By
 use Rattle.sail_core.specs.declared.tree.Kind.TheVariants as K
 use Rattle.sail_core.specs.declared.tree.Statement.{Statement}
 use Rattle.sail_core.specs.declared.written.Written.{Written}
 use Rattle.call_arguments.specs.Aims.{inner_aim}
 use Rattle.expression_steps.specs.Expressions.{node_end}
 use Rattle.expression_steps.specs.Parts.{Part}
-use Rattle.expression_steps.specs.Statements.{block_walk, let_names, let_walk, var_name, var_walk}
+use Rattle.expression_steps.specs.Statements.{block_walk, let_given, let_walk, var_name, var_walk}
 use Rattle.checked_meaning.specs.Items.{Item}
 use Rattle.value_laws.proofs.Basics.{no}
 use Rattle.soundness_steps.specs.Works.{Scene}
@@ -33,9 +34,9 @@ module _ (q : Scene) (w : World Item) where
         let fb = value_fine q w s2 b rb both.1 h.1.0 in
         fine_by q w false false (node q w place k (K.Let arm) (a ∷ b ∷ [])) _ (λ around scope. refl)
         (λ names falls g n f facts scope aim there st. let_fine q w arm matches names falls scope place k aim a b ra rb s1.cast fa fb there st)
-        (λ around scope aim. grows_bind (let_walk place arm a b around scope aim) (node_end k false)
-        (grows_bind (let_names place arm a around scope) (λ found. b.walk around (found ++ scope) (inner_aim aim))
-        (names_grow q w around place arm a ra s1.cast fa scope) (λ found. fb.grows around (found ++ scope) (inner_aim aim)))
+        (λ around scope aim. grows_bind (let_walk (By.Arm k 0) place arm a b around scope aim) (node_end k false)
+        (grows_bind (let_given (By.Arm k 0) place arm a around scope) (λ found. b.walk around (found ++ scope) (inner_aim aim))
+        (names_grow q w around (By.Arm k 0) place arm a ra s1.cast fa scope) (λ found. fb.grows around (found ++ scope) (inner_aim aim)))
         (grows_end k false))
     let_kind place k [] [] [] h right =
         wrong_inward q w false false false place k (node q w place k (K.Let arm) []) _ (λ around scope. refl) (λ around scope aim. refl)
@@ -111,5 +112,5 @@ module _ (q : Scene) (w : World Item) where
       let all = each_statement statements ss ps rs h right in
       fine_by q w false false (node q w place k (K.Block statements) ps) _ (λ around scope. refl)
       (λ names falls g n f facts scope aim there st. block_fine q w fit place k statements ps rs all matches names falls scope aim there st)
-      (λ around scope aim. grows_bind (block_walk place statements ps around scope aim) (node_end k false)
-      (block_grows q w around place statements ps rs all scope aim) (grows_end k false))
+      (λ around scope aim. grows_bind (block_walk place k statements ps around scope aim) (node_end k false)
+      (block_grows q w around place k statements ps rs all scope aim) (grows_end k false))

@@ -1,5 +1,5 @@
 -- `let`, `var` and blocks, beside their runs.
-use Rattle.std.proofs.Common.{◌≡◌, ℕ, pos, Bool, true, false, ◌&&◌, List, [], ◌∷◌, ◌++◌, Option, Some, None, if◌then◌else◌, refl, sym, subst, append_assoc}
+use Rattle.std.proofs.Common.{◌≡◌, ℕ, pos, Bool, true, false, ◌&&◌, List, [], ◌∷◌, ◌++◌, Option, Some, None, if◌then◌else◌, length, refl, subst}
 use Rattle.sail_base.specs.declared.place.Place.{Place}
 use Rattle.sail_types.proofs.SumNumbers.{some_same}
 use Rattle.sail_types.specs.Belongs.{Reading as Closed, belongs}
@@ -9,6 +9,8 @@ use Rattle.sail_core.specs.Meaning.{block, kind_meaning, let_in}
 use Rattle.sail_core.specs.Run.{Run, local, within, ◌then◌}
 use Rattle.sail_core.specs.declared.patterns.Arm.{Arm}
 use Rattle.sail_core.specs.declared.patterns.Literal.TheVariants as L
+use Rattle.sail_core.specs.declared.tree.Giver.{Giver}
+use Rattle.sail_core.specs.declared.tree.Giver.TheVariants as By
 use Rattle.sail_core.specs.declared.tree.Kind.TheVariants as K
 use Rattle.sail_core.specs.declared.tree.Statement.{Statement}
 use Rattle.sail_core.specs.declared.tree.Statement.TheVariants as S
@@ -18,7 +20,7 @@ use Rattle.value_indices.specs.declared.indices.Indices.TheVariants as I
 use Rattle.value_indices.specs.declared.indices.Reading.{Reading}
 use Rattle.value_indices.specs.declared.notes.Fact.{Fact}
 use Rattle.value_indices.specs.declared.notes.Fact.TheVariants as Y
-use Rattle.value_indices.specs.Steps.{Walk, bind, give, went}
+use Rattle.value_indices.specs.Steps.{Walk, bind, give}
 use Rattle.fitting_laws.proofs.Holes.{first_full}
 use Rattle.call_fits.proofs.Filled.{filled_full}
 use Rattle.pattern_leaves.specs.Settings.{Around, Scope, declared, exponents_owed, written_in}
@@ -31,7 +33,7 @@ use Rattle.call_arguments.specs.declared.aims.Aim.{Aim}
 use Rattle.call_arguments.specs.declared.aims.Aim.TheVariants as Aims
 use Rattle.expression_steps.specs.Expressions.{kind_walk}
 use Rattle.expression_steps.specs.Parts.{Part}
-use Rattle.expression_steps.specs.Statements.{bind_names, block_walk, is_written, last_never_ends, let_names, under_claim, var_name, written_aim}
+use Rattle.expression_steps.specs.Statements.{bind_given, block_walk, is_written, last_never_ends, let_given, under_claim, var_name, written_aim}
 use Rattle.checked_meaning.specs.Checked.{checked}
 use Rattle.checked_meaning.specs.Items.{Item}
 use Rattle.value_laws.specs.Belonging.{Integers, standing, closed}
@@ -53,30 +55,12 @@ use Rattle.soundness_forms.proofs.Casts.{aimed_due, aimed_given, free_is, no_gua
 use Rattle.soundness_forms.proofs.Constants.{literal_has, literal_sized}
 use Rattle.soundness_forms.proofs.Leaving.{aimed_is}
 use Rattle.soundness_forms.proofs.Lets.{let_runs}
+use Rattle.soundness_forms.proofs.NamesGiven.{given_then, nests}
 use Rattle.soundness_forms.proofs.Worlds.{surrounds_more, surrounds_on}
 use Rattle.soundness_forms.proofs.Written.{exponents_any, written_wanted}
 use Rattle.soundness_binding.specs.Matches.{AllLetsMatch, LetsMatch}
 use Rattle.soundness_binding.proofs.Grows.{Statements, block_grows}
 use Rattle.soundness_binding.proofs.Wide.{vars_widen}
-
--- ---- walks one behind the other
-
-bound_later : {A B C : Type 0} (a : Walk A) (b : A → Walk B) (k : B → Walk C) → bind (bind a b) k ≡ bind a (λ i. bind (b i) k)
-unfolding bind
-bound_later a b k = λ j. λ facts n.
-    let r = a facts n in
-    let s = b r.value r.facts r.next in
-    let t = k s.value s.facts s.next in
-    went t.value t.facts t.next (append_assoc r.notes s.notes t.notes j)
-
-pub nests : {q : Scene} {n : ℕ} {f : Point n} {facts : List Fact} {A B C D : Type 0} (a : Walk A) (b : A → Walk B) (k : B → Walk C) {c : Run Item D}
-    {Holds : (m : ℕ) → Point m → C → D → Type 0} → Beside q n f facts (bind a (λ i. bind (b i) k)) c Holds → Beside q n f facts (bind (bind a b) k) c Holds
-nests {q} {n} {f} {facts} a b k {c} {Holds} h = subst (λ w. Beside q n f facts w c Holds) (sym (bound_later a b k)) h
-
-pub given_then : {q : Scene} {n : ℕ} {f : Point n} {facts : List Fact} {A C D : Type 0} (a : A) (k : A → Walk C) {c : Run Item D}
-    {Holds : (m : ℕ) → Point m → C → D → Type 0} → Beside q n f facts (k a) c Holds → Beside q n f facts (bind (give a) k) c Holds
-unfolding bind give
-given_then a k b = record { run = λ now stands met ok. b.run now stands met ok }
 
 -- ---- what is wanted of a body, and of what is bound
 
@@ -142,21 +126,21 @@ module _ (q : Scene) (w : World Item) where
 
   module _ (arm : Arm) (matches : LetsMatch q w arm) where
     -- a value that is bound, and a walk under its names
-    pub let_bound : {n : ℕ} {f : Point n} {facts : List Fact} (names : List Kept) (falls : Bool) (scope : Scope) (place : Place) (a : Part)
+    pub let_bound : {n : ℕ} {f : Point n} {facts : List Fact} (giver : Giver) (names : List Kept) (falls : Bool) (scope : Scope) (place : Place) (a : Part)
         (ra : Run Item Item) (cast : Bool) → Fine q w cast false a ra → {A : Type 0} (k : List Bound → Walk A) (r : Run Item Item)
         {Holds : (m : ℕ) → Point m → A → Item → Type 0} → Surrounds (at q w names falls) w f scope
         → ((m : ℕ) (g : Point m) (fs : List Fact) (found : List Bound) (ks : List Kept) → Later f g
         → a.never_ends ≡ false → Surrounds (at q w (ks ++ names) true) w g (found ++ scope)
         → Beside (at q w (ks ++ names) true) m g fs (k found) r Holds)
-        → Beside (at q w names falls) n f facts (bind (let_names place arm a (here q) scope) k) (ra then λ x. let_in z w place arm x r) Holds
-    let_bound {n} {f} {facts} names falls scope place a ra cast ha k r {Holds} there next =
+        → Beside (at q w names falls) n f facts (bind (let_given giver place arm a (here q) scope) k) (ra then λ x. let_in z w giver place arm x r) Holds
+    let_bound {n} {f} {facts} giver names falls scope place a ra cast ha k r {Holds} there next =
         let o = arm_written arm in
         let how = is_written o && a.is_nested in
-        nests (a.walk (here q) scope (written_aim (here q) o)) (bind_names place arm (here q) how) k
-        (binds (λ i. bind (bind_names place arm (here q) how i) k) (λ x. let_in z w place arm x r)
+        nests (a.walk (here q) scope (written_aim (here q) o)) (bind_given giver place arm (here q) how) k
+        (binds (λ i. bind (bind_given giver place arm (here q) how i) k) (λ x. let_in z w giver place arm x r)
         (ha.walks names falls no_guard n f facts scope (written_aim (here q) o) there (bound_steady o there))
         (λ m g fs i x l c.
-        let_runs (at q w names falls) w arm (matches names) scope place (record { in_case = false; is_owed = how }) i x k r
+        let_runs (at q w names falls) w arm (matches names) scope place (record { in_case = false; is_owed = how }) i x giver k r
         (surrounds_on (at q w names falls) w scope l there) (bound_is q.set q.work g (here q) o cast a.is_nested a.never_ends i x c)
         (bound_owes o (surrounds_on (at q w names falls) w scope l there) cast a.is_nested a.never_ends i x c)
         (λ m2 g2 fs2 found ks l2 there2. next m2 g2 fs2 found ks (later_on l l2) c.ends there2)))
@@ -168,7 +152,7 @@ module _ (q : Scene) (w : World Item) where
         (kind_meaning z w place k (K.Let arm) (ra ∷ rb ∷ [])) (λ m g i x. Comes q.set q.work g false true false aim i x)
     let_fine names falls scope place k aim a b ra rb cast ha hb there st =
         then_walks (λ i. give i)
-        (let_bound names falls scope place a ra cast ha (λ found. b.walk (here q) (found ++ scope) (inner_aim aim)) rb there
+        (let_bound (By.Arm k 0) names falls scope place a ra cast ha (λ found. b.walk (here q) (found ++ scope) (inner_aim aim)) rb there
         (λ m g fs found ks l e there2.
         means (λ m2 g2 i x l2 c. ends_as q.set q.work g2 aim b.never_ends false i x refl (inner_comes q.set q.work g2 aim b.is_nested b.never_ends i x c))
         (hb.walks (ks ++ names) true no_guard m g fs (found ++ scope) (inner_aim aim) there2
@@ -232,7 +216,8 @@ module _ (q : Scene) (w : World Item) where
       (λ m2 g2 fs2 i x l2 h.
       let steady = wanted_on q.set q.work r l2 (wanted_on q.set q.work r l wanted) in
       let typ = closed q.set.around.types (standing q.set.past g2.integers) q.work.types r in
-      var_runs names falls scope name r typ x (surrounds_on (at q w names falls) w scope l2 (surrounds_on (at q w names falls) w scope l there)) steady.0 wanted.1
+      var_runs names falls scope name r typ x
+      (surrounds_on (at q w names falls) w scope l2 (surrounds_on (at q w names falls) w scope l there)) steady.0 wanted.1
       (due_belongs cast a.is_nested a.never_ends r i x wanted.1 h g2.integers (same g2)) k c
       (λ there2. next m2 g2 fs2 r typ (later_on l l2) h.ends there2)))))
 
@@ -253,13 +238,14 @@ module _ (q : Scene) (w : World Item) where
   -- ---- blocks
 
   -- what a block comes to
-  abbrev Block : {n : ℕ} → Point n → List Fact → List Kept → Bool → Scope → Place → Aim → List Statement → List Part → List (Run Item Item) → Type 0
-  Block {n} f facts names falls scope place aim ss ps rs =
-      Beside (at q w names falls) n f facts (block_walk place ss ps (here q) scope aim) (block z w ss rs)
+  abbrev Block : {n : ℕ} → Point n → List Fact → List Kept → Bool → Scope → Place → ℕ → Aim → List Statement → List Part → List (Run Item Item)
+      → Type 0
+  Block {n} f facts names falls scope place k aim ss ps rs =
+      Beside (at q w names falls) n f facts (block_walk place k ss ps (here q) scope aim) (block z w k ss rs)
       (λ m g i x. Comes q.set q.work g false true (last_never_ends ps) aim i x)
 
   unit_is : {n : ℕ} (f : Point n) → Is q.set q.work f I.Unit (nothing z)
-  unit_is f = record { has = literal_has q.set q.work f L.Unit refl; typ = λ g a. literal_sized q.set.around.types q.work.own g L.Unit }
+  unit_is f = record { has = literal_has q.set q.work f L.Unit refl; typ = λ exact g a. literal_sized q.set.around.types q.work.own g L.Unit }
 
   -- the end of what is behind a statement
   end_of : (a : Part) (ps : List Part) → a.never_ends ≡ false → last_never_ends ps ≡ false → last_never_ends (a ∷ ps) ≡ false
@@ -270,19 +256,19 @@ module _ (q : Scene) (w : World Item) where
       → Comes q.set q.work f false true (last_never_ends ps) aim i x → Comes q.set q.work f false true (last_never_ends (a ∷ ps)) aim i x
   behind f a ps aim i x e c = ends_as q.set q.work f aim (last_never_ends ps) (last_never_ends (a ∷ ps)) i x (end_of a ps e c.ends) c
 
-  module _ (fit : FitsSuffice) (place : Place) where
+  module _ (fit : FitsSuffice) (place : Place) (k : ℕ) where
     under_claims : (o : Option Con) {m : ℕ} {g : Point m} {fs : List Fact} (names : List Kept) (falls : Bool) (scope : Scope) (aim : Aim)
         (ss : List Statement) (ps : List Part) (rs : List (Run Item Item)) → Statements q w ss ps rs → Claims q.set q.work g o
-        → ((gs : List Fact) → Block g gs names falls scope place aim ss ps rs)
-        → Beside (at q w names falls) m g fs (under_claim (block_walk place ss ps (here q) scope aim) o) (block z w ss rs)
+        → ((gs : List Fact) → Block g gs names falls scope place k aim ss ps rs)
+        → Beside (at q w names falls) m g fs (under_claim (block_walk place k ss ps (here q) scope aim) o) (block z w k ss rs)
         (λ j p i x. Comes q.set q.work p false true (last_never_ends ps) aim i x)
     under_claims None {fs = fs} names falls scope aim ss ps rs h t next = next fs
     under_claims (Some c) {fs = fs} names falls scope aim ss ps rs h t next =
-        claims c (block_grows q w (here q) place ss ps rs h scope aim) t (next (fs ++ Y.Holds c ∷ []))
+        claims c (block_grows q w (here q) place k ss ps rs h scope aim) t (next (fs ++ Y.Holds c ∷ []))
 
     pub block_runs : (ss : List Statement) (ps : List Part) (rs : List (Run Item Item)) → Statements q w ss ps rs → AllLetsMatch q w ss
         → (names : List Kept) (falls : Bool) (scope : Scope) (aim : Aim) (n : ℕ) (f : Point n) (facts : List Fact)
-        → Surrounds (at q w names falls) w f scope → AimSteady q.set q.work f aim → Block f facts names falls scope place aim ss ps rs
+        → Surrounds (at q w names falls) w f scope → AimSteady q.set q.work f aim → Block f facts names falls scope place k aim ss ps rs
     block_runs [] [] [] h ms names falls scope aim n f facts there st =
         means (λ m g i x l c. inner_comes q.set q.work g aim false false i x c)
         (rests (nothing z) (settles fit place (inner_aim aim) I.Unit (nothing z) (inner_steady q.set q.work f aim st) (unit_is f)))
@@ -290,19 +276,20 @@ module _ (q : Scene) (w : World Item) where
         means (λ m g i x l c. inner_comes q.set q.work g aim p.is_nested p.never_ends i x c)
         (h.walks names falls no_guard n f facts scope (inner_aim aim) there (inner_steady q.set q.work f aim st))
     block_runs (S.Evaluate ∷ ss) (p ∷ ps) (r ∷ rs) h ms names falls scope aim n f facts there st =
-        binds (under_claim (block_walk place ss ps (here q) scope aim)) (λ x. block z w ss rs)
+        binds (under_claim (block_walk place k ss ps (here q) scope aim)) (λ x. block z w k ss rs)
         (h.0.1.states names falls no_guard n f facts scope there)
         (λ m g fs c x l t.
         means (λ m2 g2 i y l2 d. behind g2 p ps aim i y t.1 d)
         (under_claims c names falls scope aim ss ps rs h.1 t.0 (λ gs.
         block_runs ss ps rs h.1 ms names falls scope aim m g gs (surrounds_on (at q w names falls) w scope l there) (aim_on q.set q.work aim l st))))
     block_runs (S.Define here_at arm ∷ ss) (p ∷ ps) (r ∷ rs) h ms names falls scope aim n f facts there st =
-        let_bound arm ms.0 names falls scope here_at p r h.0.0 h.0.1 (λ found. block_walk place ss ps (here q) (found ++ scope) aim) (block z w ss rs) there
+        let_bound arm ms.0 (By.Arm k (length ss)) names falls scope here_at p r h.0.0 h.0.1
+        (λ found. block_walk place k ss ps (here q) (found ++ scope) aim) (block z w k ss rs) there
         (λ m g fs found ks l e there2.
         means (λ m2 g2 i y l2 d. behind g2 p ps aim i y e d)
         (block_runs ss ps rs h.1 ms.1 (ks ++ names) true (found ++ scope) aim m g fs there2 (aim_on q.set q.work aim l st)))
     block_runs (S.Declare name written ∷ ss) (p ∷ ps) (r ∷ rs) h ms names falls scope aim n f facts there st =
-        var_bound names falls scope name written p r h.0.0 h.0.1 (λ found. block_walk place ss ps (here q) (found ++ scope) aim) (block z w ss rs) there
+        var_bound names falls scope name written p r h.0.0 h.0.1 (λ found. block_walk place k ss ps (here q) (found ++ scope) aim) (block z w k ss rs) there
         (λ m g fs rd t l e there2.
         means (λ m2 g2 i y l2 d. behind g2 p ps aim i y e d)
         (block_runs ss ps rs h.1 ms (is_var name t ∷ names) falls (declared name rd ∷ scope) aim m g fs there2 (aim_on q.set q.work aim l st)))
@@ -314,10 +301,10 @@ module _ (q : Scene) (w : World Item) where
     block_runs (s ∷ ss) [] rs h ms names falls scope aim n f facts there st = absurd h
     block_runs (s ∷ ss) (p ∷ ps) [] h ms names falls scope aim n f facts there st = absurd h
 
-    pub block_fine : {n : ℕ} {f : Point n} {facts : List Fact} (k : ℕ) (ss : List Statement) (ps : List Part) (rs : List (Run Item Item))
+    pub block_fine : {n : ℕ} {f : Point n} {facts : List Fact} (ss : List Statement) (ps : List Part) (rs : List (Run Item Item))
         → Statements q w ss ps rs → AllLetsMatch q w ss → (names : List Kept) (falls : Bool) (scope : Scope) (aim : Aim)
         → Surrounds (at q w names falls) w f scope → AimSteady q.set q.work f aim
         → Beside (at q w names falls) n f facts (kind_walk place k (K.Block ss) ps (here q) scope aim) (kind_meaning z w place k (K.Block ss) rs)
         (λ m g i x. Comes q.set q.work g false true (last_never_ends ps) aim i x)
-    block_fine {n} {f} {facts} k ss ps rs h ms names falls scope aim there st =
+    block_fine {n} {f} {facts} ss ps rs h ms names falls scope aim there st =
         then_walks (λ i. give i) (block_runs ss ps rs h ms names falls scope aim n f facts there st) (λ m g fs i x l d. given_back i d)

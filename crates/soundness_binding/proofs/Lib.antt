@@ -1,5 +1,6 @@
 pub mod BindingKinds
 pub mod Bound
+pub mod Exact
 pub mod Filled
 pub mod Grows
 pub mod Plain

@@ -11,6 +11,7 @@ use Rattle.value_indices.specs.declared.indices.Reading.{Reading}
 use Rattle.pattern_leaves.specs.declared.names.Bound.{Bound}
 use Rattle.pattern_leaves.specs.declared.names.Held.{Held}
 use Rattle.pattern_leaves.specs.declared.names.Held.TheVariants as H
+use Rattle.call_notes.specs.Noted.{indices_held}
 use Rattle.checked_meaning.specs.Items.{Item}
 use Rattle.value_laws.specs.Belonging.{standing, meant}
 use Rattle.value_laws.specs.Known.{Point}
@@ -18,7 +19,7 @@ use Rattle.value_laws.proofs.Steps.{same}
 use Rattle.pattern_laws.specs.Standing.{arm_stands}
 use Rattle.pattern_laws.specs.Typing.{AllBear, Bears, HeldBears, NamesBear, TypeBears}
 use Rattle.pattern_laws.proofs.Steady.{meant_same}
-use Rattle.soundness_steps.specs.Values.{AllAre, HeldValue, Is}
+use Rattle.soundness_steps.specs.Values.{AllAre, Has, HeldValue, Is}
 use Rattle.soundness_steps.specs.Works.{Scene, is_value}
 use Rattle.soundness_steps.proofs.Steps.{means}
 use Rattle.soundness_forms.specs.Forms.{at}
@@ -40,7 +41,7 @@ module _ (q : Scene) (w : World Item) (model : ModelFits q.set q.work) where
     wide = s.has.meaning.wide;
     has_it = λ g a. ap (λ m. m.holds x.val) (s.has.steady g a) ∙ s.has.is_so;
     is_wide = λ g a. ap (λ m. m.wide) (s.has.steady g a);
-    typed = λ g a. s.typ g a;
+    typed = λ g a exact. s.typ exact g a;
   }
 
   all_bear : {n : ℕ} (f : Point n) (is : List Indices) (xs : List Item) → AllAre q.set q.work f is xs
@@ -59,7 +60,7 @@ module _ (q : Scene) (w : World Item) (model : ModelFits q.set q.work) where
           meant_same q.set.around.types q.set.past q.work.types g f.integers i x.val (b.has_it g a) (b.has_it f.integers (same f))
           (b.is_wide g a ∙ sym (b.is_wide f.integers (same f)));
     };
-    typ = λ g a. b.typed g a;
+    typ = λ exact g a. b.typed g a exact;
   }
 
   -- ---- names that a pattern binds
@@ -69,9 +70,14 @@ module _ (q : Scene) (w : World Item) (model : ModelFits q.set q.work) where
   held_of f (H.Value i) x h = is_of i x h
   held_of f (H.Var r) x h = absurd h
 
+  has_of : {n : ℕ} (f : Point n) (held : Held) (x : Item) → HeldBears q.set.around.types q.set.past q.work.types (y q w model) f held x
+      → Has q.set q.work f (indices_held held) x.val
+  has_of f (H.Value i) x h = (is_of i x h).has
+  has_of f (H.Var r) x h = absurd h
+
   names_bind : {n : ℕ} {f : Point n} (bs : List Bound) (ls : List (Local Item))
       → NamesBear q.set.around.types q.set.past q.work.types (y q w model) q.numbers n f bs ls → Binds q.set q.work f bs ls
-  names_bind [] [] h = record { names = []; in_scope = tt; kept = tt }
+  names_bind [] [] h = record { names = []; in_scope = tt; kept = tt; values = tt }
   names_bind [] (l ∷ ls) h = absurd h
   names_bind (b ∷ bs) [] h = absurd h
   names_bind {f = f} (b ∷ bs) (l ∷ ls) h =
@@ -80,6 +86,7 @@ module _ (q : Scene) (w : World Item) (model : ModelFits q.set q.work) where
         names = is_value l.name l.held ∷ more.names;
         in_scope = ((h.0, held_of f b.held l.held h.1), more.in_scope);
         kept = ((refl, refl), more.kept);
+        values = (has_of f b.held l.held h.1, more.values);
       }
 
   -- ---- what is told of them

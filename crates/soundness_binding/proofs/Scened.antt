@@ -1,15 +1,13 @@
 -- Patterns beside their runs, in a scene: from the laws of patterns, which know of no scene.
-use Rattle.std.proofs.Common.{◌≡◌, ◌≤◌, ◌≤ℤ◌, ℕ, zero, suc, ℤ, pos, negsuc, true, List, [], ◌∷◌, slice_get, Option, None, Some, option_map}
+use Rattle.std.proofs.Common.{◌≡◌, ◌≤◌, ◌≤ℤ◌, ℕ, zero, suc, ℤ, pos, negsuc, true, List, [], ◌∷◌, slice_get, Option, Some, option_map}
 use Rattle.std.proofs.Common.{refl, sym, ap, ◌∙◌, subst, arith}
 use Rattle.std.proofs.lemmas.Int.{ints}
 use Rattle.sail_base.specs.declared.place.Place.{Place}
 use Rattle.sail_types.specs.Numbers.{number}
 use Rattle.sail_types.specs.Places.{Given}
-use Rattle.sail_types.specs.Sums.{number_at}
 use Rattle.sail_types.specs.declared.numbers.Index.{Index}
 use Rattle.sail_types.specs.declared.numbers.Index.TheVariants as N
 use Rattle.sail_types.specs.declared.numbers.Num.{Num}
-use Rattle.sail_types.proofs.SumNumbers.{some_same}
 use Rattle.sail_core.specs.Making.{World}
 use Rattle.sail_core.specs.Numbers.{given_int}
 use Rattle.sail_core.specs.Patterns.{arm_meaning}
@@ -36,7 +34,7 @@ use Rattle.pattern_laws.specs.Grounds.{Grounded, IsGiven, IsOwed, Ways}
 use Rattle.pattern_laws.specs.Standing.{arm_stands}
 use Rattle.pattern_laws.specs.Typing.{AllBear, Bears, NamesBear, Typing}
 use Rattle.pattern_laws.proofs.Patterns.{arm_is_sound, let_is_sound}
-use Rattle.sized_patterns.specs.Laws.{Fits, FormFits, IsWidth, Reads, SizesFit}
+use Rattle.sized_patterns.specs.Laws.{FormFits, IsWidth}
 use Rattle.sized_patterns.proofs.Stay.{parts_stay_sized}
 use Rattle.hanging_sizes.proofs.Payloads.{payloads_hang}
 use Rattle.soundness_steps.proofs.Points.{agree_on, behind}
@@ -51,7 +49,8 @@ use Rattle.soundness_steps.specs.Works.{Scene, Setting, Work, here}
 use Rattle.soundness_forms.specs.Worlds.{AreGiven, Surrounds}
 use Rattle.soundness_forms.proofs.Registers.{closed_here}
 use Rattle.soundness_forms.proofs.Written.{numbers_still}
-use Rattle.soundness_binding.specs.Scenes.{ModelFits, ends}
+use Rattle.soundness_binding.specs.Scenes.{ModelFits, SizesThere, ends}
+use Rattle.soundness_binding.proofs.Exact.{FitsThere, ReadsThere, kept_there}
 use Rattle.soundness_binding.proofs.Plain.{plain_read}
 
 -- ---- sizes that are noted fit as patterns want it
@@ -83,9 +82,9 @@ module _ (set : Setting) (work : Work) (g : Integers) where
   form_fits (W.Named u is rs) h = tt
   form_fits (W.Variable i) h = tt
 
-  sizes_fit : (made : Made) → C.SizesFit set.around.types work.own set.past g made → SizesFit set.around.types work.own g made
+  sizes_fit : (made : Made) → C.SizesFit set work g made → SizesThere set work g made
   sizes_fit (Makes.ByIndices i) h = form_fits (out-Indices i) h
-  sizes_fit (Makes.ByType r) h = h
+  sizes_fit (Makes.ByType r) h = λ exact v is tells naming facts n had. (h exact v is).each tells naming facts n had
 
 -- ---- a piece beside a walk goes over into a scene
 
@@ -143,21 +142,7 @@ in_scene q {n} {f} {facts} {walk = walk} fall b = record {
 
 -- ---- what is known there
 
-none_is : (x z : ℤ) → None ≡ Some z → x ≡ z
-none_is x z e = absurd (cc)
-
 module _ (q : Scene) (w : World Item) {n : ℕ} (f : Point n) where
-  each_says : (is : List Index) (ys : List Given) → AreGiven q w f is ys → (g : Integers) → Agree f g → (i : ℕ) (z : ℤ)
-      → given_int (slice_get ys i) ≡ Some z → number (standing q.set.past g) (number_at is i) ≡ z
-  each_says (N.Number t ∷ is) (y ∷ ys) h g a zero z e =
-      some_same (number (standing q.set.past g) t) z (sym (ap (λ u. given_int (Some u)) (h.0 g a)) ∙ e)
-  each_says (N.Truth c ∷ is) (y ∷ ys) h g a zero z e =
-      none_is (number (standing q.set.past g) (number_at (N.Truth c ∷ is) zero)) z (sym (ap (λ u. given_int (Some u)) (h.0 g a)) ∙ e)
-  each_says (i ∷ is) (y ∷ ys) h g a (suc k) z e = each_says is ys h.1 g a k z e
-  each_says [] [] h g a k z e = absurd (cc)
-  each_says [] (y ∷ ys) h g a k z e = absurd h
-  each_says (i ∷ is) [] h g a k z e = absurd h
-
   each_given : (is : List Index) (ys : List Given) → AreGiven q w f is ys → (g : Integers) → Agree f g → (i : ℕ) (t : Num)
       → slice_get is i ≡ Some (N.Number t) → given_int (slice_get ys i) ≡ Some (number (standing q.set.past g) t)
   each_given (x ∷ is) (y ∷ ys) h g a zero t e =
@@ -171,20 +156,19 @@ module _ (q : Scene) (w : World Item) {n : ℕ} (f : Point n) where
   grounded h = record {
     still = numbers_still q w f q.numbers w.numbers h;
     given = each_given q.numbers w.numbers h;
-    says = each_says q.numbers w.numbers h;
   }
 
 -- the types that values carry in patterns are those of their indices
-abbrev pub carried : (q : Scene) → ModelFits q.set q.work → Typing q.set.around.types q.set.past q.work.types (SizesFit q.set.around.types q.work.own)
+abbrev pub carried : (q : Scene) → ModelFits q.set q.work → Typing q.set.around.types q.set.past q.work.types (SizesThere q.set q.work)
 carried q model = record {
-  fits = Fits q.set.around.types q.work.own;
-  reads = Reads q.set.around.types q.work.own;
-  kept = parts_stay_sized q.set.around.types q.set.past q.work.types q.work.own
-      (payloads_hang q.set.around.types q.work.own model.alone);
+  fits = FitsThere q.set q.work;
+  reads = ReadsThere q.set q.work;
+  kept = kept_there q.set q.work
+      (parts_stay_sized q.set.around.types q.set.past q.work.types q.work.own (payloads_hang q.set.around.types q.work.own model.alone));
 }
 
 module _ (q : Scene) (w : World Item) (model : ModelFits q.set q.work) where
-  abbrev pub y : Typing q.set.around.types q.set.past q.work.types (SizesFit q.set.around.types q.work.own)
+  abbrev pub y : Typing q.set.around.types q.set.past q.work.types (SizesThere q.set q.work)
   y = carried q model
 
   after_ok : (now after : Now Item) → Sound q now → After q.set now after → Sound q after
@@ -196,7 +180,7 @@ module _ (q : Scene) (w : World Item) (model : ModelFits q.set q.work) where
       let closed = (model.mappings d m found).1 in
       record {
         belongs_to = λ g. closed_here q.set q.work m.result closed g x.val ∙ k.belongs;
-        reads = λ g. k.typ ∙ plain_read q.set.around.types q.work.own g m.result closed;
+        reads = λ g exact. k.typ ∙ plain_read q.set.around.types q.work.own g m.result closed;
       }
 
   call_as : (noted : Noted) (m : Direction) (d : ℕ) → slice_get q.set.around.directions d ≡ Some m → (now : Now Item) → Sound q now → {e : Ended Item Item}

@@ -6,8 +6,9 @@ use Rattle.sail_core.specs.declared.patterns.Arm.TheVariants as A
 use Rattle.sail_core.specs.declared.patterns.Form.{Form}
 use Rattle.sail_core.specs.declared.patterns.Form.TheVariants as F
 use Rattle.sail_core.specs.declared.patterns.Pattern.{Pattern, Pattern-F, roll-Pattern, map-Pattern, fold-roll-Pattern, ind-Pattern}
+use Rattle.sail_core.specs.declared.tree.Giver.{Giver}
 use Rattle.sail_core.specs.Making.{Making, World}
-use Rattle.sail_core.specs.Meaning.{arm_taken}
+use Rattle.sail_core.specs.Meaning.{arm_taken, names_noted}
 use Rattle.sail_core.specs.Patterns.{Matcher, arm_meaning, counted, matcher, parts_match, pattern_meaning}
 use Rattle.sail_core.specs.Run.{Run, within, ◌then◌}
 use Rattle.function_notes.specs.Functions.{arm_of, bare_arm, bare_form, bare_of, bare_pattern, is_typed, only}
@@ -78,5 +79,7 @@ module _ {X : Type 0} (z : Making X) (w : World X) where
   arm_same false arm xs = bare_arm_same arm xs
 
   -- an arm with its body, as it is walked
-  pub taken_same : (declared : Bool) (arm : Arm) (body : Run X X) (xs : List X) → arm_taken z w (arm_of declared arm) body xs ≡ arm_taken z w arm body xs
-  taken_same declared arm body xs = λ j. arm_same declared arm xs j then λ found. within found body
+  pub taken_same : (giver : Giver) (declared : Bool) (arm : Arm) (body : Run X X) (xs : List X)
+      → arm_taken z w giver (arm_of declared arm) body xs ≡ arm_taken z w giver arm body xs
+  taken_same giver declared arm body xs =
+      λ j. arm_same declared arm xs j then λ found. names_noted z giver xs found then λ t. within found body

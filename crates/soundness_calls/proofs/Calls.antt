@@ -13,7 +13,7 @@ use Rattle.checked_meaning.specs.Checked.{Checks}
 use Rattle.checked_meaning.specs.Items.{Item}
 use Rattle.soundness_steps.specs.Works.{Setting, nobody}
 use Rattle.soundness_steps.specs.States.{StateBelongs}
-use Rattle.soundness_steps.specs.Calls.{CallEnds, IsGiven, IsOf, IsResult, SoundCalls, call_falls, call_gives, call_stops, call_throws}
+use Rattle.soundness_steps.specs.Calls.{CallEnds, IsGiven, IsOf, IsResult, SoundCalls, call_falls, call_gives, call_stops, call_throws, awaited_at}
 use Rattle.soundness_calls.specs.Laws.{running}
 use Rattle.soundness_calls.specs.Directions as Lower
 use Rattle.soundness_calls.specs.Calls.{CallsAreSound, CoveredModel, SoundBelow}
@@ -43,7 +43,8 @@ module _ (set : Setting) (k : Checks) (rank : ℕ → ℕ) (lets : List Value) (
 
     -- covered directions below so many
     abbrev WaysBelow : ℕ → Measures → Type 0
-    WaysBelow r active = (d : ℕ) (m : Direction) (x : Item) → height d < r → set.covered.direction d ≡ true → slice_get set.around.directions d ≡ Some m → IsOf set m.parameter x.val
+    WaysBelow r active = (d : ℕ) (m : Direction) (x : Item) → height d < r → set.covered.direction d ≡ true → slice_get set.around.directions d ≡ Some m
+        → IsOf set m.parameter x.val
         → (before : Now Item) → StateBelongs set before.state
         → CallEnds set true before (IsGiven set m) (ways (running set k lets) below active r d x before)
 
@@ -58,7 +59,8 @@ module _ (set : Setting) (k : Checks) (rank : ℕ → ℕ) (lets : List Value) (
 
     -- a direction whose patterns reach no further
     one_ends : (r : ℕ) (active : Measures) → WaysBelow r active → (d : ℕ) (m : Direction) (v : Value) → height d ≤ r
-        → set.covered.direction d ≡ true → slice_get set.around.directions d ≡ Some m → IsOf set m.parameter v → (before : Now Item) → StateBelongs set before.state
+        → set.covered.direction d ≡ true → slice_get set.around.directions d ≡ Some m → IsOf set m.parameter v → (before : Now Item)
+        → StateBelongs set before.state
         → CallEnds set true before (IsOf set m.result)
         (gone (running set k lets) (asking (running set k lets) below active (ways (running set k lets) below active r) []) d v (Some m) before)
     one_ends r active h d m v le covered there is before s =
@@ -90,11 +92,12 @@ module _ (set : Setting) (k : Checks) (rank : ℕ → ℕ) (lets : List Value) (
 
     deeper_sound : SoundBelow set (deeper (running set k lets) below)
     deeper_sound = record {
-      call = λ active place x f vs h enters before s.
+      call = λ active place x f vs h enters awaited agrees before s.
           let both = model.functions x f enters.is_covered enters.is_it in
-          subst (λ o. CallEnds set false before (IsResult set x f h) (entered (running set k lets) below active place x.function (Some x.instance) vs o before))
+          subst (λ o. CallEnds set false before (IsResult set x f h) (entered (running set k lets) below active place x.function (Some (awaited_at x awaited))
+          vs o before))
           (sym enters.is_it)
-          (functions_sound set k lets x f (model.lets_are x) below world_sound both.0 both.1 vs h enters active place before s);
+          (functions_sound set k lets x f (model.lets_are x) below world_sound both.0 both.1 vs h enters awaited agrees active place before s);
       enter = λ active d m v covered there is before s.
           let r : ℕ = length set.around.directions in
           let less : height d < r = all_below d m there in
@@ -104,7 +107,7 @@ module _ (set : Setting) (k : Checks) (rank : ℕ → ℕ) (lets : List Value) (
 
   depth_sound : (depth : ℕ) → SoundBelow set (calls (running set k lets) depth)
   depth_sound zero = record {
-    call = λ active place x f vs h enters before s. call_stops WorkLimit before;
+    call = λ active place x f vs h enters awaited agrees before s. call_stops WorkLimit before;
     enter = λ active d m v covered there is before s. call_stops WorkLimit before;
   }
   depth_sound (suc depth) = deeper_sound (calls (running set k lets) depth) (depth_sound depth)

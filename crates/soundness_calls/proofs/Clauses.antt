@@ -1,6 +1,6 @@
--- Clauses beside their walk: the parameters are opened anew for each, but a run notes their numbers once, where the function is entered.
+-- Clauses beside their walk: the parameters are opened anew for each, and each notes their numbers with those of its names.
 use Rattle.std.proofs.Common.{◌≡◌, ◌∙◌, ap, sym, refl, subst, ℕ, ◌≤◌, arith, Bool, true, false, ◌&&◌, true≢false, List, [], ◌∷◌, map, Option}
-use Rattle.std.proofs.Common.{Some, None}
+use Rattle.std.proofs.Common.{length, Some, None}
 use Rattle.sail_base.specs.declared.place.Place.{Place}
 use Rattle.sail_types.specs.Numbers.{Assignment, form_true, true_in}
 use Rattle.sail_types.specs.declared.numbers.Con.{fold-roll-Con}
@@ -10,47 +10,41 @@ use Rattle.sail_types.specs.Belongs.{Reading as Closed}
 use Rattle.sail_types.specs.Places.{Given}
 use Rattle.sail_types.specs.declared.numbers.Index.{Index}
 use Rattle.sail_types.specs.declared.types.Typ.{Typ}
-use Rattle.sail_types.specs.declared.values.Value.{Value}
-use Rattle.sail_types.specs.declared.values.Value.TheVariants as U
-use Rattle.sail_types.proofs.SumNumbers.{some_same}
 use Rattle.sail_core.specs.declared.model.Function.{Function}
 use Rattle.sail_core.specs.declared.patterns.Arm.{Arm}
 use Rattle.sail_core.specs.declared.tree.Core.{Core}
+use Rattle.sail_core.specs.declared.tree.Giver.TheVariants as By
+use Rattle.sail_core.specs.declared.tree.Giver.{Giver}
 use Rattle.sail_core.specs.declared.written.WrittenNumber.{WrittenNumber}
 use Rattle.sail_core.specs.Making.{World}
 use Rattle.sail_core.specs.Meaning.{arm_taken, first_of, meaning, or_then}
 use Rattle.sail_core.specs.Run.{Ended, Now, Run, falls, or_so}
 use Rattle.value_indices.specs.declared.indices.Indices.{Indices}
-use Rattle.value_indices.specs.declared.indices.Indices.TheVariants as I
 use Rattle.value_indices.specs.declared.indices.Reading.{Reading}
 use Rattle.value_indices.specs.declared.notes.Fact.{Fact}
-use Rattle.value_indices.specs.Steps.{Walk, bind, give, note, owe, scoped, wrong}
-use Rattle.pattern_leaves.specs.Settings.{exponents_owed}
-use Rattle.pattern_notes.specs.Patterns.{Look, looks}
-use Rattle.call_arguments.specs.declared.aims.Aim.{Aim}
+use Rattle.value_indices.specs.Steps.{Walk, bind, give, owe, scoped, wrong}
+use Rattle.pattern_notes.specs.Patterns.{looks}
 use Rattle.call_arguments.specs.declared.aims.Aim.TheVariants as Aims
 use Rattle.expression_steps.specs.Parts.{Part}
-use Rattle.function_notes.specs.Functions.{arm_of, body_part, clause_walk, clauses_walk, in_clause, parameters_entered, parameters_opened, written_walk}
+use Rattle.function_notes.specs.Functions.{arm_of, body_part, clause_walk, clauses_walk, in_clause, parameters_opened, written_walk}
 use Rattle.checked_meaning.specs.Checked.{Noted}
-use Rattle.checked_meaning.specs.Items.{Item, vals}
-use Rattle.value_laws.specs.Belonging.{Integers, standing}
-use Rattle.value_laws.specs.Known.{Agree, Point, given_in}
+use Rattle.checked_meaning.specs.Items.{Item}
+use Rattle.value_laws.specs.Belonging.{standing}
+use Rattle.value_laws.specs.Known.{Point}
 use Rattle.value_laws.proofs.Numbers.{truth_is}
 use Rattle.value_laws.proofs.Steps.{same}
 use Rattle.soundness_steps.specs.Points.{Later}
 use Rattle.soundness_steps.proofs.Points.{agree_on, later_on}
 use Rattle.soundness_steps.specs.Works.{Kept, Scene, Setting, Work, here}
-use Rattle.soundness_steps.specs.Noted.{EachNoted, IsSo, variables_given, with_given}
 use Rattle.soundness_steps.specs.States.{Sound}
-use Rattle.soundness_steps.specs.Steps.{AllMet, Beside, EndsWell, Reach, Stands, Walks, well_given, well_no, well_returned, well_stopped, well_thrown}
-use Rattle.soundness_steps.specs.Values.{AllAre, AllHave, InScope, IsWanted}
-use Rattle.soundness_steps.proofs.Steps.{grown, grown_later, inside_well, met_behind, met_front, stands_on, walks_then, well_on}
+use Rattle.soundness_steps.specs.Steps.{AllMet, Beside, EndsWell, Stands, Walks, well_given, well_no, well_returned, well_stopped, well_thrown}
+use Rattle.soundness_steps.specs.Values.{AllAre, InScope, IsWanted}
+use Rattle.soundness_steps.proofs.Steps.{grown, grown_later, met_behind, met_front, scopes, stands_on, walks_then, well_on}
 use Rattle.soundness_forms.specs.Worlds.{AnswerIs, AreGiven, Surrounds}
 use Rattle.soundness_forms.proofs.Basics.{wanted_on}
-use Rattle.soundness_forms.proofs.Giving.{gives_all}
-use Rattle.soundness_calls.specs.Premises.{ArmIsSound, ArmsAreSound, ClausesGrow, Results, arm_walk, own_of, own_type, read_as}
+use Rattle.soundness_calls.specs.Premises.{ArmIsSound, ArmsAreSound, ClausesGrow, Results, own_of, own_type, read_as}
 use Rattle.soundness_calls.proofs.Bare.{taken_same}
-use Rattle.soundness_calls.proofs.Opens.{AllOf, all_are_on, all_have, all_of_on, exponents, parameters_open, tuple_has}
+use Rattle.soundness_calls.proofs.Opens.{AllOf, all_are_on, all_of_on, exponents, parameters_open}
 
 -- no number is noted yet
 abbrev pub nothing_noted : Noted
@@ -87,7 +81,7 @@ world_on {q} {p = p} {g = g} {w = w} l s = record {
 }
 
 pub results_on : {q : Scene} {n m : ℕ} {p : Point n} {g : Point m} {r : Reading} {x : Item} → Later p g → Results q p r x → Results q g r x
-results_on l h = record { belongs = λ k a. h.belongs k (agree_on l a); typ = λ k a. h.typ k (agree_on l a) }
+results_on l h = record { belongs = λ k a. h.belongs k (agree_on l a); typ = λ exact k a. h.typ exact k (agree_on l a) }
 
 -- ---- what is false is met nowhere
 
@@ -101,76 +95,15 @@ unfolding owe
 wrong_never q {p = p} place stands met =
     true≢false (sym (met.0 p.integers (stands.there p.integers (same p)).true_there) ∙ all_false (standing q.set.past p.integers))
 
--- ---- the parameters, where their numbers come to be noted
-
-pub record Enter (q : Scene) {n : ℕ} (p : Point n) (facts : List Fact) (more : Noted) {A : Type 0} (walk : Walk A) (Holds : (m : ℕ) → Point m → A → Type 0)
-    : Type 0 where
-  pub go : Stands q.set q.work nothing_noted p facts → AllMet q (walk facts n).notes
-      → Reach q.set q.work more p (walk facts n).next (walk facts n).facts (λ g. Holds (walk facts n).next g (walk facts n).value)
-
-entered : {q : Scene} {n : ℕ} {p : Point n} {facts : List Fact} {more : Noted} (f : Function) (k : ℕ) (ps : List Look) (ts : List Typ) (xs : List Item)
-    (vs : List Value) → vals xs ≡ vs → AllOf q.set q.work p (map (own_type f) ts) xs → q.cases.notes k (U.Tuple vs) nothing_noted ≡ Some more
-    → Enter q p facts more (parameters_entered (Some k) ps (own_of f) ts) (λ m g is. AllAre q.set q.work g is xs)
-unfolding bind note give
-entered {q} {n} {p} {facts} {more} f k ps ts xs vs values all e = record {
-  go = λ stands met.
-      let first = parameters_opened ps (own_of f) ts facts n in
-      let a = (parameters_open q (own_of f) ps ts xs all).go nothing_noted stands (met_front q first.notes _ met) in
-      let i : Indices = I.Tuple first.value in
-      let noted = (met_behind q first.notes _ met).0 in
-      let here_is : (g : Integers) → Agree a.point g → IsSo q.set.past q.work more g (with_given first.facts (variables_given i)) = λ g b.
-      let there = noted g nothing_noted (a.stands.there g b) (U.Tuple vs)
-      (tuple_has q.set q.work first.value vs g b (subst (AllHave q.set q.work a.point first.value) values
-      (all_have q.set q.work a.point first.value xs a.holds))) in
-      subst (λ u. IsSo q.set.past q.work u g (with_given first.facts (variables_given i))) (some_same there.more more (sym there.is_there ∙ e)) there.is_so in
-      subst (λ r. Reach q.set q.work more p r.next r.facts (λ g. AllAre q.set q.work {n = r.next} g first.value xs)) (sym (gives_all i first.facts first.next))
-      (record { point = a.point; later = a.later; stands = record { there = here_is }; holds = a.holds });
-}
-
--- they are noted
-pub entry_noted : (q : Scene) {n : ℕ} {p : Point n} {facts : List Fact} (f : Function) (place : Place) (once : List WrittenNumber) (aim : Aim) (arm : Arm)
-    (body : Part) (xs : List Item) (vs : List Value) → vals xs ≡ vs → q.numbers ≡ own_of f → AllOf q.set q.work p (map (own_type f) f.parameters) xs
-    → Stands q.set q.work nothing_noted p facts
-    → AllMet q (clause_walk place (Some f.entry) (here q) f.parameters once aim arm body facts n).notes
-    → (more : Noted) × (q.cases.notes f.entry (U.Tuple vs) nothing_noted ≡ Some more)
-unfolding bind note give scoped
-entry_noted q {n} {p} {facts} f place once aim arm body xs vs values numbers all stands met =
-    let first = parameters_opened (looks arm) q.numbers f.parameters facts n in
-    let opens = subst (λ is. Walks q n p facts (parameters_opened (looks arm) is f.parameters) (λ m g is. AllAre q.set q.work g is xs)) (sym numbers)
-    (parameters_open q (own_of f) (looks arm) f.parameters xs all) in
-    let enter = parameters_entered (Some f.entry) (looks arm) q.numbers f.parameters facts n in
-    let entering = met_front q enter.notes _ met in
-    let a = opens.go nothing_noted stands (met_front q first.notes _ entering) in
-    let there = (met_behind q first.notes _ entering).0 a.point.integers nothing_noted (a.stands.there a.point.integers (same a.point)) (U.Tuple vs)
-    (tuple_has q.set q.work first.value vs a.point.integers (same a.point)
-    (subst (AllHave q.set q.work a.point first.value) values (all_have q.set q.work a.point first.value xs a.holds))) in
-    (there.more, there.is_there)
-
 -- ---- one clause
-
--- what is in force gives no number
-abbrev pub NoneGiven : List Fact → Type 0
-NoneGiven facts = given_in facts ≡ []
-
-pub renoted : {set : Setting} {work : Work} {n : ℕ} {p : Point n} {facts : List Fact} {noted : Noted} (more : Noted) → NoneGiven facts
-    → Stands set work noted p facts → Stands set work more p facts
-renoted {p} more none s = record {
-  there = λ g a. record {
-    numbers = (s.there g a).numbers;
-    true_there = (s.there g a).true_there;
-    given = subst (EachNoted more g) (sym none) tt;
-  };
-}
 
 -- what is known of the call at every clause
 pub record Entering (q : Scene) (w : World Item) (f : Function) {n : ℕ} (p : Point n) (facts : List Fact) (r : Reading) (xs : List Item) (more : Noted)
     : Type 0 where
-  pub stands : Stands q.set q.work nothing_noted p facts
-  pub none : NoneGiven facts
+  pub stands : Stands q.set q.work more p facts
   pub world : Surrounds q w p []
   pub wanted : IsWanted q.set q.work p r
   pub all : AllOf q.set q.work p (map (own_type f) f.parameters) xs
-  pub noted : q.cases.notes f.entry (U.Tuple (vals xs)) nothing_noted ≡ Some more
   pub numbers : q.numbers ≡ own_of f
   pub may_fall : q.may_fall ≡ true
 
@@ -178,35 +111,28 @@ entering_on : {q : Scene} {w : World Item} {f : Function} {n m : ℕ} {p : Point
     {more : Noted} → Later p g → Entering q w f p facts r xs more → Entering q w f g facts r xs more
 entering_on {q} {f = f} {r = r} {xs = xs} l h = record {
   stands = stands_on l h.stands;
-  none = h.none;
   world = world_on l h.world;
   wanted = wanted_on q.set q.work r l h.wanted;
   all = all_of_on q.set q.work (map (own_type f) f.parameters) xs l h.all;
-  noted = h.noted;
   numbers = h.numbers;
   may_fall = h.may_fall;
 }
 
-clause_ends : {q : Scene} {w : World Item} {f : Function} {n : ℕ} {p : Point n} {facts : List Fact} {r : Reading} {xs : List Item} {more : Noted}
-    (place : Place) (once : List WrittenNumber) (arm : Arm) (body : Part) (run : Run Item Item) → Entering q w f p facts r xs more
+clause_ends : (q : Scene) {w : World Item} {f : Function} {n : ℕ} {p : Point n} {facts : List Fact} {r : Reading} {xs : List Item} {more : Noted}
+    (place : Place) (giver : Giver) (once : List WrittenNumber) (arm : Arm) (body : Part) (run : Run Item Item) → Entering q w f p facts r xs more
     → ArmIsSound q w place arm body run
-    → AllMet q (clause_walk place (Some f.entry) (here q) f.parameters once (Aims.Due r) arm body facts n).notes
-    → (now : Now Item) → now.opened ≡ more → Sound q now
-    → EndsWell q p (clause_walk place (Some f.entry) (here q) f.parameters once (Aims.Due r) arm body facts n).next facts (λ g x. Results q g r x)
-    ((read_as q).inside (arm_taken (read_as q) w arm run xs) now)
-unfolding bind scoped
-clause_ends {q} {w} {f} {n} {p} {facts} {r} {xs} {more} place once arm body run h sound met now opened ok =
-    let enter = parameters_entered (Some f.entry) (looks arm) q.numbers f.parameters in
-    let first = enter facts n in
-    let to = subst (λ is. Enter q p facts more (parameters_entered (Some f.entry) (looks arm) is f.parameters) (λ m g is. AllAre q.set q.work g is xs))
-    (sym h.numbers) (entered f f.entry (looks arm) f.parameters xs (vals xs) refl h.all h.noted) in
-    let a = to.go h.stands (met_front q first.notes _ met) in
-    let rest : Beside q first.next a.point first.facts (bind (exponents_owed (here q) once) (λ t. arm_walk place arm (here q) in_clause first.value body
-    (Aims.Due r))) (arm_taken (read_as q) w arm run xs) (λ m g i x. Results q g r x) =
-    walks_then _ (exponents (here q) once) (λ m g fs t l u. sound m g (world_on (later_on a.later l) h.world) fs in_clause r
-    (wanted_on q.set q.work r (later_on a.later l) h.wanted) first.value xs (all_are_on q.set q.work first.value xs l a.holds)) in
-    inside_well now.opened (renoted now.opened h.none h.stands)
-    (well_on a.later (rest.run now (subst (λ u. Stands q.set q.work u a.point first.facts) (sym opened) a.stands) (met_behind q first.notes _ met) ok))
+    → Beside q n p facts (clause_walk place giver (here q) f.parameters once (Aims.Due r) arm body)
+    ((read_as q).inside (arm_taken (read_as q) w giver arm run xs)) (λ m g i x. Results q g r x)
+clause_ends q {w} {f} {n} {p} {facts} {r} {xs} place giver once arm body run h sound =
+    scopes (walks_then _ come (λ m g fs is l are.
+    walks_then _ (exponents (here q) once) (λ m2 g2 fs2 t l2 u.
+    sound giver m2 g2 (world_on (later_on l l2) h.world) fs2 in_clause r (wanted_on q.set q.work r (later_on l l2) h.wanted) is xs
+    (all_are_on q.set q.work is xs l2 are))))
+  where
+    come : Walks q n p facts (parameters_opened (looks arm) q.numbers f.parameters) (λ m g is. AllAre q.set q.work g is xs)
+    come =
+        subst (λ ns. Walks q n p facts (parameters_opened (looks arm) ns f.parameters) (λ m g is. AllAre q.set q.work g is xs)) (sym h.numbers)
+        (parameters_open q (own_of f) (looks arm) f.parameters xs h.all)
 
 -- ---- all clauses
 
@@ -228,27 +154,28 @@ grow_well next le (well_thrown v now b s) rest = well_thrown v now b s
 grow_well next le (well_stopped cause now) rest = well_stopped cause now
 
 -- behind all clauses is in force what was, and no variable is from before
-pub clauses_facts : (q : Scene) (place : Place) (entry : ℕ) (ts : List Typ) (once : List WrittenNumber) (r : Reading) (declared : Bool) (arms : List Arm)
-    (bodies : List Core) (facts : List Fact) (n : ℕ)
-    → (clauses_walk place (Some entry) (here q) ts once (Aims.Due r) declared arms bodies facts n).facts ≡ facts
+pub clauses_facts : (q : Scene) (place : Place) (k : ℕ) (ts : List Typ) (once : List WrittenNumber) (r : Reading) (declared : Bool)
+    (arms : List Arm) (bodies : List Core) (facts : List Fact) (n : ℕ)
+    → (clauses_walk place k (here q) ts once (Aims.Due r) declared arms bodies facts n).facts ≡ facts
 unfolding bind give scoped owe
-clauses_facts q place entry ts once r declared [] [] facts n = refl
-clauses_facts q place entry ts once r declared [] (b ∷ bodies) facts n = refl
-clauses_facts q place entry ts once r declared (a ∷ arms) [] facts n = refl
-clauses_facts q place entry ts once r declared (a ∷ arms) (b ∷ bodies) facts n =
-    clauses_facts q place entry ts [] r declared arms bodies facts (written_walk place (Some entry) (here q) ts once (Aims.Due r) declared a b facts n).next
+clauses_facts q place k ts once r declared [] [] facts n = refl
+clauses_facts q place k ts once r declared [] (b ∷ bodies) facts n = refl
+clauses_facts q place k ts once r declared (a ∷ arms) [] facts n = refl
+clauses_facts q place k ts once r declared (a ∷ arms) (b ∷ bodies) facts n =
+    clauses_facts q place k ts [] r declared arms bodies facts
+    (written_walk place (By.Arm k (length arms)) (here q) ts once (Aims.Due r) declared a b facts n).next
 
-clauses_next : (q : Scene) (place : Place) (entry : ℕ) (ts : List Typ) (once : List WrittenNumber) (r : Reading) (declared : Bool) (arms : List Arm)
-    (bodies : List Core) → ClausesGrow q place entry ts r declared arms bodies → (facts : List Fact) (n : ℕ)
-    → n ≤ (clauses_walk place (Some entry) (here q) ts once (Aims.Due r) declared arms bodies facts n).next
+clauses_next : (q : Scene) (place : Place) (k : ℕ) (ts : List Typ) (once : List WrittenNumber) (r : Reading) (declared : Bool) (arms : List Arm)
+    (bodies : List Core) → ClausesGrow q place ts r declared arms bodies → (facts : List Fact) (n : ℕ)
+    → n ≤ (clauses_walk place k (here q) ts once (Aims.Due r) declared arms bodies facts n).next
 unfolding bind give scoped owe
-clauses_next q place entry ts once r declared [] [] g facts n = omega arith
-clauses_next q place entry ts once r declared [] (b ∷ bodies) g facts n = omega arith
-clauses_next q place entry ts once r declared (a ∷ arms) [] g facts n = omega arith
-clauses_next q place entry ts once r declared (a ∷ arms) (b ∷ bodies) g facts n =
-    let first = written_walk place (Some entry) (here q) ts once (Aims.Due r) declared a b facts n in
-    let one : n ≤ first.next = g.0 once facts n in
-    let others = clauses_next q place entry ts [] r declared arms bodies g.1 facts first.next in
+clauses_next q place k ts once r declared [] [] g facts n = omega arith
+clauses_next q place k ts once r declared [] (b ∷ bodies) g facts n = omega arith
+clauses_next q place k ts once r declared (a ∷ arms) [] g facts n = omega arith
+clauses_next q place k ts once r declared (a ∷ arms) (b ∷ bodies) g facts n =
+    let first = written_walk place (By.Arm k (length arms)) (here q) ts once (Aims.Due r) declared a b facts n in
+    let one : n ≤ first.next = g.0 (By.Arm k (length arms)) once facts n in
+    let others = clauses_next q place k ts [] r declared arms bodies g.1 facts first.next in
     omega (arith, one, others)
 
 -- one clause, and those behind it
@@ -261,56 +188,61 @@ next_clause q {p = p} {facts = facts} {r = r} m k walked taken rest same up le n
     (subst (λ (c : Run Item Item). EndsWell q p m facts (λ g x. Results q g r x) ((read_as q).inside c now)) same one)
     (λ after s. well_on (grown_later p up) (others (grown p up) after (grown_later p up) s))
 
-module _ (q : Scene) (w : World Item) (f : Function) (r : Reading) (xs : List Item) (more : Noted) (place : Place) (declared : Bool) where
-  abbrev clauses_from : List WrittenNumber → List Arm → List Core → Walk (Unit {0})
-  clauses_from once arms bodies = clauses_walk place (Some f.entry) (here q) f.parameters once (Aims.Due r) declared arms bodies
+module _ (q : Scene) (w : World Item) (f : Function) (r : Reading) (xs : List Item) (more : Noted) (place : Place) (number : ℕ) (declared : Bool)
+  where
+    abbrev clauses_from : List WrittenNumber → List Arm → List Core → Walk (Unit {0})
+    clauses_from once arms bodies = clauses_walk place number (here q) f.parameters once (Aims.Due r) declared arms bodies
 
-  abbrev first_from : List WrittenNumber → Arm → Core → Walk Indices
-  first_from once arm body = written_walk place (Some f.entry) (here q) f.parameters once (Aims.Due r) declared arm body
+    abbrev first_from : List WrittenNumber → ℕ → Arm → Core → Walk Indices
+    first_from once left arm body = written_walk place (By.Arm number left) (here q) f.parameters once (Aims.Due r) declared arm body
 
-  abbrev run_of : List Arm → List Core → Run Item Item
-  run_of arms bodies = first_of (read_as q) w arms (map (meaning (read_as q) w) bodies) falls xs
+    abbrev run_of : List Arm → List Core → Run Item Item
+    run_of arms bodies = first_of (read_as q) w number arms (map (meaning (read_as q) w) bodies) falls xs
 
-  -- how clauses end, from wherever they begin
-  abbrev ClausesEnd : List Arm → List Core → Type 0
-  ClausesEnd arms bodies = (once : List WrittenNumber) (n : ℕ) (p : Point n) (facts : List Fact) → Entering q w f p facts r xs more
-      → ArmsAreSound q w place declared arms bodies → ClausesGrow q place f.entry f.parameters r declared arms bodies
-      → AllMet q (clauses_from once arms bodies facts n).notes → (now : Now Item) → now.opened ≡ more → Sound q now
-      → EndsWell q p (clauses_from once arms bodies facts n).next facts (λ g x. Results q g r x) (run_of arms bodies now)
+    -- how clauses end, from wherever they begin
+    abbrev ClausesEnd : List Arm → List Core → Type 0
+    ClausesEnd arms bodies = (once : List WrittenNumber) (n : ℕ) (p : Point n) (facts : List Fact) → Entering q w f p facts r xs more
+        → ArmsAreSound q w place declared arms bodies → ClausesGrow q place f.parameters r declared arms bodies
+        → AllMet q (clauses_from once arms bodies facts n).notes → (now : Now Item) → now.opened ≡ more → Sound q now
+        → EndsWell q p (clauses_from once arms bodies facts n).next facts (λ g x. Results q g r x) (run_of arms bodies now)
 
-  split_next : (once : List WrittenNumber) (a : Arm) (b : Core) (arms : List Arm) (bodies : List Core) (facts : List Fact) (n : ℕ)
-      → (clauses_from [] arms bodies facts (first_from once a b facts n).next).next ≡ (clauses_from once (a ∷ arms) (b ∷ bodies) facts n).next
-  unfolding bind scoped
-  split_next once a b arms bodies facts n = refl
+    split_next : (once : List WrittenNumber) (a : Arm) (b : Core) (arms : List Arm) (bodies : List Core) (facts : List Fact) (n : ℕ)
+        → (clauses_from [] arms bodies facts (first_from once (length arms) a b facts n).next).next ≡ (clauses_from once (a ∷ arms) (b ∷ bodies) facts n).next
+    unfolding bind scoped
+    split_next once a b arms bodies facts n = refl
 
-  split_front : (once : List WrittenNumber) (a : Arm) (b : Core) (arms : List Arm) (bodies : List Core) (facts : List Fact) (n : ℕ)
-      → AllMet q (clauses_from once (a ∷ arms) (b ∷ bodies) facts n).notes → AllMet q (first_from once a b facts n).notes
-  unfolding bind scoped
-  split_front once a b arms bodies facts n met =
-      met_front q (first_from once a b facts n).notes (clauses_from [] arms bodies facts (first_from once a b facts n).next).notes met
+    split_front : (once : List WrittenNumber) (a : Arm) (b : Core) (arms : List Arm) (bodies : List Core) (facts : List Fact) (n : ℕ)
+        → AllMet q (clauses_from once (a ∷ arms) (b ∷ bodies) facts n).notes → AllMet q (first_from once (length arms) a b facts n).notes
+    unfolding bind scoped
+    split_front once a b arms bodies facts n met =
+        met_front q (first_from once (length arms) a b facts n).notes
+        (clauses_from [] arms bodies facts (first_from once (length arms) a b facts n).next).notes met
 
-  split_behind : (once : List WrittenNumber) (a : Arm) (b : Core) (arms : List Arm) (bodies : List Core) (facts : List Fact) (n : ℕ)
-      → AllMet q (clauses_from once (a ∷ arms) (b ∷ bodies) facts n).notes
-      → AllMet q (clauses_from [] arms bodies facts (first_from once a b facts n).next).notes
-  unfolding bind scoped
-  split_behind once a b arms bodies facts n met =
-      met_behind q (first_from once a b facts n).notes (clauses_from [] arms bodies facts (first_from once a b facts n).next).notes met
+    split_behind : (once : List WrittenNumber) (a : Arm) (b : Core) (arms : List Arm) (bodies : List Core) (facts : List Fact) (n : ℕ)
+        → AllMet q (clauses_from once (a ∷ arms) (b ∷ bodies) facts n).notes
+        → AllMet q (clauses_from [] arms bodies facts (first_from once (length arms) a b facts n).next).notes
+    unfolding bind scoped
+    split_behind once a b arms bodies facts n met =
+        met_behind q (first_from once (length arms) a b facts n).notes
+        (clauses_from [] arms bodies facts (first_from once (length arms) a b facts n).next).notes met
 
-  clauses_more : (a : Arm) (b : Core) (arms : List Arm) (bodies : List Core) → ClausesEnd arms bodies → ClausesEnd (a ∷ arms) (b ∷ bodies)
-  clauses_more a b arms bodies others once n p facts h sound grow met now opened ok =
-      let next : ℕ = (first_from once a b facts n).next in
-      subst (λ k. EndsWell q p k facts (λ g x. Results q g r x) (run_of (a ∷ arms) (b ∷ bodies) now)) (split_next once a b arms bodies facts n)
-      (next_clause q {p = p} {facts = facts} {r = r} next (clauses_from [] arms bodies facts next).next
-      (arm_taken (read_as q) w (arm_of declared a) (meaning (read_as q) w b) xs) (arm_taken (read_as q) w a (meaning (read_as q) w b) xs)
-      (run_of arms bodies) (taken_same (read_as q) w declared a (meaning (read_as q) w b) xs) (grow.0 once facts n)
-      (clauses_next q place f.entry f.parameters [] r declared arms bodies grow.1 facts next) now
-      (clause_ends place once (arm_of declared a) (body_part declared b) (meaning (read_as q) w b) h sound.0 (split_front once a b arms bodies facts n met)
-      now opened ok)
-      (λ g after l s. others [] next g facts (entering_on l h) sound.1 grow.1 (split_behind once a b arms bodies facts n met)
-      ((read_as q).back now after) opened (record { state = s.state; names = s.names })))
+    clauses_more : (a : Arm) (b : Core) (arms : List Arm) (bodies : List Core) → ClausesEnd arms bodies → ClausesEnd (a ∷ arms) (b ∷ bodies)
+    unfolding scoped
+    clauses_more a b arms bodies others once n p facts h sound grow met now opened ok =
+        let giver = By.Arm number (length arms) in
+        let next : ℕ = (first_from once (length arms) a b facts n).next in
+        subst (λ k. EndsWell q p k facts (λ g x. Results q g r x) (run_of (a ∷ arms) (b ∷ bodies) now)) (split_next once a b arms bodies facts n)
+        (next_clause q {p = p} {facts = facts} {r = r} next (clauses_from [] arms bodies facts next).next
+        (arm_taken (read_as q) w giver (arm_of declared a) (meaning (read_as q) w b) xs) (arm_taken (read_as q) w giver a (meaning (read_as q) w b) xs)
+        (run_of arms bodies) (taken_same (read_as q) w giver declared a (meaning (read_as q) w b) xs) (grow.0 giver once facts n)
+        (clauses_next q place number f.parameters [] r declared arms bodies grow.1 facts next) now
+        ((clause_ends q place giver once (arm_of declared a) (body_part declared b) (meaning (read_as q) w b) h sound.0).run now
+        (subst (λ o. Stands q.set q.work o p facts) (sym opened) h.stands) (split_front once a b arms bodies facts n met) ok)
+        (λ g after l s. others [] next g facts (entering_on l h) sound.1 grow.1 (split_behind once a b arms bodies facts n met)
+        ((read_as q).back now after) opened (record { state = s.state; names = s.names })))
 
-  pub clauses_end : (arms : List Arm) (bodies : List Core) → ClausesEnd arms bodies
-  clauses_end [] [] = λ once n p facts h sound grow met now opened ok. well_no now h.may_fall ok
-  clauses_end [] (b ∷ bodies) = λ once n p facts h sound grow met now opened ok. absurd (wrong_never q place h.stands met)
-  clauses_end (a ∷ arms) [] = λ once n p facts h sound grow met now opened ok. absurd (wrong_never q place h.stands met)
-  clauses_end (a ∷ arms) (b ∷ bodies) = clauses_more a b arms bodies (clauses_end arms bodies)
+    pub clauses_end : (arms : List Arm) (bodies : List Core) → ClausesEnd arms bodies
+    clauses_end [] [] = λ once n p facts h sound grow met now opened ok. well_no now h.may_fall ok
+    clauses_end [] (b ∷ bodies) = λ once n p facts h sound grow met now opened ok. absurd (wrong_never q place h.stands met)
+    clauses_end (a ∷ arms) [] = λ once n p facts h sound grow met now opened ok. absurd (wrong_never q place h.stands met)
+    clauses_end (a ∷ arms) (b ∷ bodies) = clauses_more a b arms bodies (clauses_end arms bodies)

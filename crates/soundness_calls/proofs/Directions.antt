@@ -1,6 +1,6 @@
 -- Directions of mappings: a run of one passes over the clauses of the other.
 use Rattle.std.proofs.Common.{◌≡◌, ◌∙◌, ap, sym, refl, subst, ℕ, ◌≤◌, arith, Bool, true, false, if◌then◌else◌, true≢false}
-use Rattle.std.proofs.Common.{List, [], ◌∷◌, ◌++◌, map, Some, None, option_map}
+use Rattle.std.proofs.Common.{List, [], ◌∷◌, ◌++◌, length, map, Some, None, option_map}
 use Rattle.std.specs.Prelude.{pos}
 use Rattle.sail_base.specs.declared.place.Place.{Place}
 use Rattle.sail_types.specs.Belongs.{assigned, belongs, no_readings, reading}
@@ -31,7 +31,8 @@ use Rattle.call_arguments.specs.Aims.{aimed, is_hole, is_hole_form}
 use Rattle.call_arguments.specs.Holes.{has_hole, type_holed, value_holed}
 use Rattle.call_arguments.specs.declared.aims.Aim.TheVariants as Aims
 use Rattle.expression_steps.specs.Expressions.{part}
-use Rattle.function_notes.specs.Functions.{arms_walk, both_walk, clause_arms, clause_walk, direction_walk, in_clause, parameters_entered}
+use Rattle.function_notes.specs.Functions.{arms_walk, both_walk, clause_arms, clause_walk, direction_giver, direction_walk, in_clause}
+use Rattle.function_notes.specs.Functions.{parameters_opened}
 use Rattle.checked_meaning.specs.Checked.{Checks, Noted}
 use Rattle.checked_meaning.specs.Items.{Item, item}
 use Rattle.value_laws.specs.Belonging.{Integers, closed, is_of, standing}
@@ -41,13 +42,13 @@ use Rattle.value_laws.proofs.Steps.{same}
 use Rattle.value_laws.proofs.Values.{closed_is}
 use Rattle.soundness_steps.specs.Points.{Later}
 use Rattle.soundness_steps.proofs.Points.{later_on}
-use Rattle.soundness_steps.specs.Works.{Scene, Setting, nobody, here}
+use Rattle.soundness_steps.specs.Works.{Scene, Setting, nobody, here, IsExact}
 use Rattle.soundness_steps.specs.Noted.{OpensAs}
 use Rattle.soundness_steps.specs.States.{IsAnswer, Sound, StateBelongs, nothing_stands}
 use Rattle.soundness_steps.specs.Steps.{AllMet, Beside, EndsWell, Stands, Walks, well_given, well_no, well_returned, well_stopped, well_thrown}
 use Rattle.soundness_steps.specs.Values.{AllAre, IsSteady, IsWanted}
 use Rattle.soundness_steps.specs.Calls.{CallEnds, IsOf, SoundCalls, call_falls, call_gives, call_stops, call_throws}
-use Rattle.soundness_steps.proofs.Steps.{given_back, grown, grown_later, met_behind, met_front, scopes, stands_on, walks_on, walks_then, well_on}
+use Rattle.soundness_steps.proofs.Steps.{grown, grown_later, met_behind, met_front, scopes, stands_on, walks_then, well_on}
 use Rattle.soundness_forms.specs.Worlds.{AreGiven, LetsAre, Surrounds}
 use Rattle.soundness_forms.proofs.Basics.{wanted_on}
 use Rattle.soundness_calls.specs.Premises.{ArmIsSound, Results, read_as}
@@ -109,25 +110,26 @@ crossing_on {q} {m = m} l h = record {
   may_fall = h.may_fall;
 }
 
-way_ends : (q : Scene) {w : World Item} {n : ℕ} {p : Point n} {facts : List Fact} {m : Direction} {x : Item} {more : Noted} (place : Place) (arm : Arm)
-    (body : Core) → Crossing q w p facts m x more → ArmIsSound q w place arm (part body) (meaning (read_as q) w body)
-    → Beside q n p facts (direction_walk place (here q) m arm body)
-    ((read_as q).inside (arm_taken (read_as q) w arm (meaning (read_as q) w body) (x ∷ []))) (λ j g i y. Results q g (bare_type m.result) y)
-way_ends q {w} {n} {p} {facts} {m} {x} place arm body h sound =
-    subst (λ aim. Beside q n p facts (clause_walk place None (here q) (m.parameter ∷ []) [] aim arm (part body))
-    ((read_as q).inside (arm_taken (read_as q) w arm (meaning (read_as q) w body) (x ∷ []))) (λ j g i y. Results q g (bare_type m.result) y))
+way_ends : (q : Scene) {w : World Item} {n : ℕ} {p : Point n} {facts : List Fact} {m : Direction} {x : Item} {more : Noted} (place : Place) (left : ℕ)
+    (arm : Arm) (body : Core) → Crossing q w p facts m x more → ArmIsSound q w place arm (part body) (meaning (read_as q) w body)
+    → Beside q n p facts (direction_walk place (here q) m left arm body)
+    ((read_as q).inside (arm_taken (read_as q) w (direction_giver m left) arm (meaning (read_as q) w body) (x ∷ [])))
+    (λ j g i y. Results q g (bare_type m.result) y)
+way_ends q {w} {n} {p} {facts} {m} {x} place left arm body h sound =
+    subst (λ aim. Beside q n p facts (clause_walk place (direction_giver m left) (here q) (m.parameter ∷ []) [] aim arm (part body))
+    ((read_as q).inside (arm_taken (read_as q) w (direction_giver m left) arm (meaning (read_as q) w body) (x ∷ [])))
+    (λ j g i y. Results q g (bare_type m.result) y))
     (sym (bare_aim m.result))
     (scopes (walks_then _ come (λ j g fs is l are.
     walks_then _ (exponents (here q) []) (λ j2 g2 fs2 t l2 u.
-    sound j2 g2 (world_on (later_on l l2) h.world) fs2 in_clause (bare_type m.result) (wanted_on q.set q.work (bare_type m.result) (later_on l l2) h.wanted)
+    sound (direction_giver m left) j2 g2 (world_on (later_on l l2) h.world) fs2 in_clause (bare_type m.result)
+    (wanted_on q.set q.work (bare_type m.result) (later_on l l2) h.wanted)
     is (x ∷ []) (all_are_on q.set q.work is (x ∷ []) l2 are)))))
   where
-    come : Walks q n p facts (parameters_entered None (looks arm) q.numbers (m.parameter ∷ [])) (λ j g is. AllAre q.set q.work g is (x ∷ []))
+    come : Walks q n p facts (parameters_opened (looks arm) q.numbers (m.parameter ∷ [])) (λ j g is. AllAre q.set q.work g is (x ∷ []))
     come =
-        subst (λ ns. Walks q n p facts (parameters_entered None (looks arm) ns (m.parameter ∷ [])) (λ j g is. AllAre q.set q.work g is (x ∷ [])))
-        (sym h.nowhere)
-        (walks_on _ (parameters_open q [] (looks arm) (m.parameter ∷ []) (x ∷ []) (h.made, tt)) (λ j g fs is l are.
-        walks_on _ (given_back tt {Holds = λ j2 g2 t. Unit {0}} tt) (λ j2 g2 fs2 t l2 u. given_back is (all_are_on q.set q.work is (x ∷ []) l2 are))))
+        subst (λ ns. Walks q n p facts (parameters_opened (looks arm) ns (m.parameter ∷ [])) (λ j g is. AllAre q.set q.work g is (x ∷ [])))
+        (sym h.nowhere) (parameters_open q [] (looks arm) (m.parameter ∷ []) (x ∷ []) (h.made, tt))
 
 -- ---- the clauses of both
 
@@ -143,69 +145,70 @@ module _ (q : Scene) (place : Place) (m n : Direction) where
   both_next (a ∷ arms) (c ∷ cs) [] ds g h facts k = omega arith
   both_next (a ∷ arms) (c ∷ cs) (b ∷ backs) [] g h facts k = omega arith
   both_next (a ∷ arms) (c ∷ cs) (b ∷ backs) (d ∷ ds) g h facts k =
-      let first = direction_walk place (here q) m a c facts k in
-      let second = direction_walk place (here q) n b d facts first.next in
-      let one : k ≤ first.next = g.0 facts k in
-      let two : first.next ≤ second.next = h.0 facts first.next in
+      let first = direction_walk place (here q) m (length arms) a c facts k in
+      let second = direction_walk place (here q) n (length backs) b d facts first.next in
+      let one : k ≤ first.next = g.0 (length arms) facts k in
+      let two : first.next ≤ second.next = h.0 (length backs) facts first.next in
       let rest : second.next ≤ (both_walk place (here q) m n arms cs backs ds facts second.next).next = both_next arms cs backs ds g.1 h.1 facts second.next in
       omega (arith, one, two, rest)
 
   abbrev both : List Arm → List Core → List Arm → List Core → Walk (Unit {0})
   both arms cs backs ds = both_walk place (here q) m n arms cs backs ds
 
-  abbrev ahead : Arm → Core → Walk Indices
-  ahead arm c = direction_walk place (here q) m arm c
+  abbrev ahead : ℕ → Arm → Core → Walk Indices
+  ahead left arm c = direction_walk place (here q) m left arm c
 
-  abbrev behind : Arm → Core → Walk Indices
-  behind back d = direction_walk place (here q) n back d
+  abbrev behind : ℕ → Arm → Core → Walk Indices
+  behind left back d = direction_walk place (here q) n left back d
 
   -- the walk over a clause both ways, and over those behind it
   module _ (a : Arm) (c : Core) (b : Arm) (d : Core) (arms : List Arm) (cs : List Core) (backs : List Arm) (ds : List Core) (facts : List Fact) (k : ℕ) where
     abbrev over : ℕ
-    over = (ahead a c facts k).next
+    over = (ahead (length arms) a c facts k).next
 
     abbrev next : ℕ
-    next = (behind b d facts over).next
+    next = (behind (length backs) b d facts over).next
 
     split_next : (both arms cs backs ds facts next).next ≡ (both (a ∷ arms) (c ∷ cs) (b ∷ backs) (d ∷ ds) facts k).next
     unfolding bind scoped
     split_next = refl
 
     split_met : AllMet q (both (a ∷ arms) (c ∷ cs) (b ∷ backs) (d ∷ ds) facts k).notes
-        → AllMet q (ahead a c facts k).notes × AllMet q (behind b d facts over).notes × AllMet q (both arms cs backs ds facts next).notes
+        → AllMet q (ahead (length arms) a c facts k).notes × AllMet q (behind (length backs) b d facts over).notes
+        × AllMet q (both arms cs backs ds facts next).notes
     unfolding bind scoped
     split_met met =
         let rest : List Note = (both arms cs backs ds facts next).notes in
-        let second : List Note = (behind b d facts over).notes in
-        let later = met_behind q (ahead a c facts k).notes (second ++ rest) met in
-        (met_front q (ahead a c facts k).notes (second ++ rest) met, met_front q second rest later, met_behind q second rest later)
+        let second : List Note = (behind (length backs) b d facts over).notes in
+        let later = met_behind q (ahead (length arms) a c facts k).notes (second ++ rest) met in
+        (met_front q (ahead (length arms) a c facts k).notes (second ++ rest) met, met_front q second rest later, met_behind q second rest later)
 
   module _ (w : World Item) (x : Item) (more : Noted) where
-    abbrev run_of : List Arm → List Core → Run Item Item
-    run_of arms cs = first_of (read_as q) w arms (map (meaning (read_as q) w) cs) falls (x ∷ [])
+    abbrev run_of : Direction → List Arm → List Core → Run Item Item
+    run_of o arms cs = first_of (read_as q) w (out-Core o.body).number arms (map (meaning (read_as q) w) cs) falls (x ∷ [])
 
     -- a run of the first
     abbrev AheadEnds : List Arm → List Core → List Arm → List Core → Type 0
     AheadEnds arms cs backs ds = (k : ℕ) (p : Point k) (facts : List Fact) → WaysGrow q place m arms cs → WaysGrow q place n backs ds
         → Crossing q w p facts m x more → WaysAreSound q w place arms cs → AllMet q (both arms cs backs ds facts k).notes
         → (now : Now Item) → now.opened ≡ more → Sound q now
-        → EndsWell q p (both arms cs backs ds facts k).next facts (λ g y. Results q g (bare_type m.result) y) (run_of arms cs now)
+        → EndsWell q p (both arms cs backs ds facts k).next facts (λ g y. Results q g (bare_type m.result) y) (run_of m arms cs now)
 
     ahead_more : (a : Arm) (c : Core) (b : Arm) (d : Core) (arms : List Arm) (cs : List Core) (backs : List Arm) (ds : List Core)
         → AheadEnds arms cs backs ds → AheadEnds (a ∷ arms) (c ∷ cs) (b ∷ backs) (d ∷ ds)
     unfolding scoped
     ahead_more a c b d arms cs backs ds others k p facts g grow h sound met now opened ok =
-        let taken = arm_taken (read_as q) w a (meaning (read_as q) w c) (x ∷ []) in
+        let taken = arm_taken (read_as q) w (direction_giver m (length arms)) a (meaning (read_as q) w c) (x ∷ []) in
         let first : ℕ = over a c b d arms cs backs ds facts k in
         let then_on : ℕ = next a c b d arms cs backs ds facts k in
         let parts = split_met a c b d arms cs backs ds facts k met in
-        let up : first ≤ then_on = grow.0 facts first in
+        let up : first ≤ then_on = grow.0 (length backs) facts first in
         let last : then_on ≤ (both arms cs backs ds facts then_on).next = both_next arms cs backs ds g.1 grow.1 facts then_on in
-        subst (λ e. EndsWell q p e facts (λ g y. Results q g (bare_type m.result) y) (run_of (a ∷ arms) (c ∷ cs) now))
+        subst (λ e. EndsWell q p e facts (λ g y. Results q g (bare_type m.result) y) (run_of m (a ∷ arms) (c ∷ cs) now))
         (split_next a c b d arms cs backs ds facts k)
-        (next_clause q {p = p} {facts = facts} {r = bare_type m.result} first (both arms cs backs ds facts then_on).next taken taken (run_of arms cs) refl
-        (g.0 facts k) (omega (arith, up, last)) now
-        ((way_ends q place a c h sound.0).run now (subst (λ o. Stands q.set q.work o p facts) (sym opened) h.stands) parts.0 ok)
+        (next_clause q {p = p} {facts = facts} {r = bare_type m.result} first (both arms cs backs ds facts then_on).next taken taken
+        (run_of m arms cs) refl (g.0 (length arms) facts k) (omega (arith, up, last)) now
+        ((way_ends q place (length arms) a c h sound.0).run now (subst (λ o. Stands q.set q.work o p facts) (sym opened) h.stands) parts.0 ok)
         (λ at after l s. well_on (grown_later at up) (others then_on (grown at up) facts g.1 grow.1 (crossing_on (later_on l (grown_later at up)) h) sound.1
         parts.2 ((read_as q).back now after) opened (record { state = s.state; names = s.names }))))
 
@@ -224,24 +227,24 @@ module _ (q : Scene) (place : Place) (m n : Direction) where
     BackEnds arms cs backs ds = (k : ℕ) (p : Point k) (facts : List Fact) → WaysGrow q place m arms cs → WaysGrow q place n backs ds
         → Crossing q w p facts n x more → WaysAreSound q w place backs ds → AllMet q (both arms cs backs ds facts k).notes
         → (now : Now Item) → now.opened ≡ more → Sound q now
-        → EndsWell q p (both arms cs backs ds facts k).next facts (λ g y. Results q g (bare_type n.result) y) (run_of backs ds now)
+        → EndsWell q p (both arms cs backs ds facts k).next facts (λ g y. Results q g (bare_type n.result) y) (run_of n backs ds now)
 
     back_more : (a : Arm) (c : Core) (b : Arm) (d : Core) (arms : List Arm) (cs : List Core) (backs : List Arm) (ds : List Core)
         → BackEnds arms cs backs ds → BackEnds (a ∷ arms) (c ∷ cs) (b ∷ backs) (d ∷ ds)
     unfolding scoped
     back_more a c b d arms cs backs ds others k p facts g grow h sound met now opened ok =
-        let taken = arm_taken (read_as q) w b (meaning (read_as q) w d) (x ∷ []) in
+        let taken = arm_taken (read_as q) w (direction_giver n (length backs)) b (meaning (read_as q) w d) (x ∷ []) in
         let first : ℕ = over a c b d arms cs backs ds facts k in
         let then_on : ℕ = next a c b d arms cs backs ds facts k in
         let parts = split_met a c b d arms cs backs ds facts k met in
-        let l = grown_later p (g.0 facts k) in
-        let at : Point first = grown p (g.0 facts k) in
+        let l = grown_later p (g.0 (length arms) facts k) in
+        let at : Point first = grown p (g.0 (length arms) facts k) in
         let there : Crossing q w at facts n x more = crossing_on l h in
-        subst (λ e. EndsWell q p e facts (λ g y. Results q g (bare_type n.result) y) (run_of (b ∷ backs) (d ∷ ds) now))
+        subst (λ e. EndsWell q p e facts (λ g y. Results q g (bare_type n.result) y) (run_of n (b ∷ backs) (d ∷ ds) now))
         (split_next a c b d arms cs backs ds facts k)
         (well_on l (next_clause q {p = at} {facts = facts} {r = bare_type n.result} then_on (both arms cs backs ds facts then_on).next taken taken
-        (run_of backs ds) refl (grow.0 facts first) (both_next arms cs backs ds g.1 grow.1 facts then_on) now
-        ((way_ends q place b d there sound.0).run now (subst (λ o. Stands q.set q.work o at facts) (sym opened) there.stands) parts.1 ok)
+        (run_of n backs ds) refl (grow.0 (length backs) facts first) (both_next arms cs backs ds g.1 grow.1 facts then_on) now
+        ((way_ends q place (length backs) b d there sound.0).run now (subst (λ o. Stands q.set q.work o at facts) (sym opened) there.stands) parts.1 ok)
         (λ more_on after l2 s. others then_on more_on facts g.1 grow.1 (crossing_on l2 there) sound.1 parts.2 ((read_as q).back now after) opened
         (record { state = s.state; names = s.names }))))
 
@@ -285,7 +288,8 @@ module _ (set : Setting) (k : Checks) (rank : ℕ → ℕ) (lets : List Value) (
 
   -- of what comes in
   crossing : (w : World Item) (v : Value) → IsOf set m.parameter v → w.hart ≡ set.hart → w.numbers ≡ [] → w.lets ≡ lets
-      → SoundCalls set (below set rank d) w → (s : Sized) → ((g : Integers) → OpensAs set.around.types set.past nobody g (bare_type m.parameter) v s)
+      → SoundCalls set (below set rank d) w → (s : Sized)
+      → (IsExact set → (g : Integers) → OpensAs set.around.types set.past nobody g (bare_type m.parameter) v s)
       → Crossing q w start_point [] m (item s v) nothing_noted
   crossing w v is hart numbers let_values sound s made = record {
     stands = record { there = λ g a. record { numbers = tt; true_there = tt; given = tt } };
@@ -301,7 +305,7 @@ module _ (set : Setting) (k : Checks) (rank : ℕ → ℕ) (lets : List Value) (
     made = record {
       steady = bare_steady set start_point m.parameter;
       belongs = λ g a. ap (belongs set.around.types v) (bare_closed set g m.parameter) ∙ is;
-      made = λ g a. made g;
+      made = λ exact g a. made exact g;
     };
     nowhere = refl;
     may_fall = refl;
@@ -321,9 +325,9 @@ module _ (set : Setting) (k : Checks) (rank : ℕ → ℕ) (lets : List Value) (
       λ j. arms_walk (here (nowhere_scene set)) m other (clause_arms (hold.ahead j)) (bodies_of m) (clause_arms (hold.back j)) (bodies_of other) in
       subst (λ (c : Run Item Item). EndsWell q start_point (mapping_of set (is_ahead other) m [] 0).next [] (λ g y. Results q g (bare_type m.result) y) (c now))
       (sym (clauses_mean w (K.Clauses hold.arms) hold.ahead
-      ∙ ap (first_of (read_as q) w hold.arms (map (meaning (read_as q) w) (bodies_of m)) falls) arguments))
+      ∙ ap (first_of (read_as q) w (out-Core m.body).number hold.arms (map (meaning (read_as q) w) (bodies_of m)) falls) arguments))
       (subst (λ (o : Walk (Unit {0})). EndsWell q start_point (o [] 0).next [] (λ g y. Results q g (bare_type m.result) y)
-      (first_of (read_as q) w hold.arms (map (meaning (read_as q) w) (bodies_of m)) falls (x ∷ []) now)) (sym same)
+      (first_of (read_as q) w (out-Core m.body).number hold.arms (map (meaning (read_as q) w) (bodies_of m)) falls (x ∷ []) now)) (sym same)
       (ahead_end q m.place m other w x nothing_noted hold.arms (bodies_of m) hold.backs (bodies_of other) 0 start_point [] hold.ahead_grows hold.back_grows
       cross arms
       (subst (λ (o : Walk (Unit {0})). AllMet q (o [] 0).notes) same met) now opened ok))
@@ -333,9 +337,9 @@ module _ (set : Setting) (k : Checks) (rank : ℕ → ℕ) (lets : List Value) (
       λ j. arms_walk (here (nowhere_scene set)) other m (clause_arms (hold.ahead j)) (bodies_of other) (clause_arms (hold.back j)) (bodies_of m) in
       subst (λ (c : Run Item Item). EndsWell q start_point (mapping_of set (is_back other) m [] 0).next [] (λ g y. Results q g (bare_type m.result) y) (c now))
       (sym (clauses_mean w (K.Clauses hold.backs) hold.back
-      ∙ ap (first_of (read_as q) w hold.backs (map (meaning (read_as q) w) (bodies_of m)) falls) arguments))
+      ∙ ap (first_of (read_as q) w (out-Core m.body).number hold.backs (map (meaning (read_as q) w) (bodies_of m)) falls) arguments))
       (subst (λ (o : Walk (Unit {0})). EndsWell q start_point (o [] 0).next [] (λ g y. Results q g (bare_type m.result) y)
-      (first_of (read_as q) w hold.backs (map (meaning (read_as q) w) (bodies_of m)) falls (x ∷ []) now)) (sym same)
+      (first_of (read_as q) w (out-Core m.body).number hold.backs (map (meaning (read_as q) w) (bodies_of m)) falls (x ∷ []) now)) (sym same)
       (back_end q other.place other m w x nothing_noted hold.arms (bodies_of other) hold.backs (bodies_of m) 0 start_point [] hold.ahead_grows hold.back_grows
       cross arms
       (subst (λ (o : Walk (Unit {0})). AllMet q (o [] 0).notes) same met) now opened ok))

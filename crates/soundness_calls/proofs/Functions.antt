@@ -1,6 +1,6 @@
--- Functions: a tick, the numbers of the arguments, their note at the entry, the measure, the clauses, and what comes last.
+-- Functions: a tick, the numbers of the arguments, the measure, the clauses, and what comes last.
 use Rattle.std.proofs.Common.{◌≡◌, ◌∙◌, ap, sym, refl, subst, ℕ, zero, suc, nat_lt, Bool, true, false, true≢false, List, [], ◌∷◌, map}
-use Rattle.std.proofs.Common.{Option, Some, None, option_map, if◌then◌else◌}
+use Rattle.std.proofs.Common.{length, Option, Some, None, option_map, if◌then◌else◌}
 use Rattle.sail_base.specs.declared.place.Place.{Place}
 use Rattle.sail_types.specs.Belongs.{Reading as Closed, belongs}
 use Rattle.sail_types.specs.Numbers.{Assignment, true_in}
@@ -15,11 +15,12 @@ use Rattle.model_state.specs.declared.cause.Cause.TheVariants.{MatchFailure, Mea
 use Rattle.sail_core.specs.declared.model.Function.{Function}
 use Rattle.sail_core.specs.declared.patterns.Arm.{Arm}
 use Rattle.sail_core.specs.declared.tree.Core.{Core, Core-F, out-Core, fold-roll-Core, roll-out-Core}
+use Rattle.sail_core.specs.declared.tree.Giver.TheVariants as By
 use Rattle.sail_core.specs.declared.tree.Kind.{Kind}
 use Rattle.sail_core.specs.declared.written.WrittenNumber.{WrittenNumber}
 use Rattle.sail_core.specs.Making.{Making, World, made, natural}
 use Rattle.sail_core.specs.Meaning.{arm_taken, first_of, kind_meaning, meaning}
-use Rattle.sail_core.specs.Numbers.{Givens, as_awaited}
+use Rattle.sail_core.specs.Numbers.{Givens, as_awaited, all_agree}
 use Rattle.sail_core.specs.Program.{Calls, Measures, answered, below, entered, entering, framed, measured, nearest, world_of}
 use Rattle.sail_core.specs.Run.{Ended, Local, Now, Run, falls, gives, goes_on, if_so, leaving, needs, or_so, returned, stops, stuck, tick_at, ◌then◌}
 use Rattle.sail_core.specs.Run.{◌or_else◌}
@@ -33,12 +34,12 @@ use Rattle.call_arguments.specs.Placing.{is_trivial_form}
 use Rattle.call_arguments.specs.declared.aims.Aim.{Aim}
 use Rattle.call_notes.specs.Noted.{numbers_given, numbers_noted}
 use Rattle.expression_steps.specs.Statements.{natural_type}
-use Rattle.function_notes.specs.Functions.{arm_of, body_part, body_walk, clauses_of, clauses_walk, constrained, in_function, inside_function, kind_clauses}
-use Rattle.function_notes.specs.Functions.{last_made, last_of, measured_walk, own_indices, written_walk}
-use Rattle.checked_meaning.specs.Checked.{Cases, Checks, Noted, checked, noting}
+use Rattle.function_notes.specs.Functions.{body_walk, clauses_of, constrained, in_function, inside_function, kind_clauses}
+use Rattle.function_notes.specs.Functions.{last_made, last_of, measured_walk, own_indices}
+use Rattle.checked_meaning.specs.Checked.{Cases, Checks, Noted, checked}
 use Rattle.checked_meaning.specs.Items.{Item, item, items_of, typs, vals}
 use Rattle.value_laws.specs.Belonging.{Integers, closed, standing}
-use Rattle.value_laws.specs.Known.{AllTrue, Point}
+use Rattle.value_laws.specs.Known.{AllTrue, Point, given_in}
 use Rattle.value_laws.proofs.Steps.{same}
 use Rattle.call_fits.specs.Calls.{AllBelong, givens_at}
 use Rattle.soundness_steps.specs.Points.{Later}
@@ -48,41 +49,41 @@ use Rattle.soundness_steps.specs.Noted.{EachNoted}
 use Rattle.soundness_steps.specs.States.{AllKept, IsAnswer, IsThrown, Sound, StateBelongs}
 use Rattle.soundness_steps.specs.Steps.{AllMet, Beside, EndsWell, Stands, well_given, well_no, well_returned, well_stopped, well_thrown}
 use Rattle.soundness_steps.specs.Values.{IsWanted}
-use Rattle.soundness_steps.specs.Calls.{CallEnds, Enters, IsResult, SoundCalls, call_falls, call_gives, call_stops, call_throws}
+use Rattle.soundness_steps.specs.Calls.{CallEnds, Enters, IsResult, SoundCalls, call_falls, call_gives, call_stops, call_throws, awaited_at}
 use Rattle.soundness_steps.specs.Calls.{inside}
 use Rattle.soundness_steps.proofs.Steps.{binds, gives_numbers, makes, met_behind, met_front, stands_on, walks_then, well_then}
 use Rattle.soundness_forms.specs.Worlds.{LetsAre, Surrounds}
 use Rattle.soundness_forms.proofs.Basics.{has_there, is_on, wanted_on}
 use Rattle.soundness_forms.proofs.Giving.{gives_all}
-use Rattle.soundness_calls.specs.Premises.{AllMade, ClausesHold, CoreHolds, Covered, EntersAs, NotedAlone, OwnSame, Results, own_type, own_of, read_as}
+use Rattle.soundness_calls.specs.Premises.{AllMade, ClausesHold, CoreHolds, Covered, EntersAs, OwnSame, Results, own_type, own_of, read_as}
 use Rattle.soundness_calls.specs.Laws.{FunctionsAreSound, PartsHold, running, scene_of}
 use Rattle.soundness_calls.proofs.Natural.{NaturalIsRead, natural_read}
 use Rattle.soundness_calls.proofs.Own.{all_agreed, all_given, constrained_is, constraint_facts, natural_hole, natural_steady, own_agree, own_aim}
 use Rattle.soundness_calls.proofs.Own.{own_closed, own_hole, own_is, own_next, own_over, own_point, same_from}
 use Rattle.soundness_calls.proofs.Opens.{AllOf, IsOf, opens_as}
-use Rattle.soundness_calls.proofs.Clauses.{Entering, NoneGiven, clauses_end, clauses_facts, entry_noted, nothing_noted, renoted, wrong_never}
-use Rattle.sail_types.specs.declared.values.Value.TheVariants as U
+use Rattle.soundness_calls.proofs.Clauses.{Entering, clauses_end, clauses_facts, nothing_noted}
+use Rattle.sail_types.specs.Places as Places
 use Rattle.sail_core.specs.declared.tree.Kind.TheVariants as K
 use Rattle.sail_core.specs.Run as R
 use Rattle.value_indices.specs.declared.indices.Naming.TheVariants as M
 use Rattle.value_indices.specs.declared.notes.Made.TheVariants as Makes
 use Rattle.call_arguments.specs.declared.aims.Aim.TheVariants as Aims
 
--- ---- how a piece of a function's body ends, before the frame is left: nothing is in scope, and what was noted at the entry is noted
+-- ---- how a piece of a function's body ends, before the frame is left: nothing is in scope, and no number is noted
 
-pub data FrameEnds (set : Setting) (answer : Closed) (more : Noted) {A : Type 0} (Holds : A → Type 0) : Ended Item A → Type 0 where
-  frame_gives : (x : A) (now : Now Item) → Holds x → StateBelongs set now.state → now.locals ≡ [] → now.opened ≡ more
-      → FrameEnds set answer more Holds (R.Gives x now)
+pub data FrameEnds (set : Setting) (answer : Closed) {A : Type 0} (Holds : A → Type 0) : Ended Item A → Type 0 where
+  frame_gives : (x : A) (now : Now Item) → Holds x → StateBelongs set now.state → now.locals ≡ [] → now.opened ≡ nothing_noted
+      → FrameEnds set answer Holds (R.Gives x now)
   frame_returns : (v : Value) (now : Now Item) → belongs set.around.types v answer ≡ true → StateBelongs set now.state
-      → FrameEnds set answer more Holds (R.Returns v now)
+      → FrameEnds set answer Holds (R.Returns v now)
   frame_throws : (v : Value) (now : Now Item) → IsThrown set set.around.exception v → StateBelongs set now.state
-      → FrameEnds set answer more Holds (R.Throws v now)
-  frame_stops : (cause : Cause) (now : Now Item) → FrameEnds set answer more Holds (R.Stops cause now)
+      → FrameEnds set answer Holds (R.Throws v now)
+  frame_stops : (cause : Cause) (now : Now Item) → FrameEnds set answer Holds (R.Stops cause now)
 
-frame_then : {set : Setting} {answer : Closed} {more : Noted} {A B : Type 0} {Holds : A → Type 0} {Then : B → Type 0} {e : Ended Item A}
-    (c : A → Run Item B) → FrameEnds set answer more Holds e
-    → ((x : A) (now : Now Item) → Holds x → StateBelongs set now.state → now.locals ≡ [] → now.opened ≡ more → FrameEnds set answer more Then (c x now))
-    → FrameEnds set answer more Then (goes_on e c)
+frame_then : {set : Setting} {answer : Closed} {A B : Type 0} {Holds : A → Type 0} {Then : B → Type 0} {e : Ended Item A}
+    (c : A → Run Item B) → FrameEnds set answer Holds e
+    → ((x : A) (now : Now Item) → Holds x → StateBelongs set now.state → now.locals ≡ [] → now.opened ≡ nothing_noted → FrameEnds set answer Then (c x now))
+    → FrameEnds set answer Then (goes_on e c)
 frame_then c (frame_gives x now h s l o) next = next x now h s l o
 frame_then c (frame_returns v now b s) next = frame_returns v now b s
 frame_then c (frame_throws v now b s) next = frame_throws v now b s
@@ -96,9 +97,9 @@ pub data FrameAlone (set : Setting) (answer : Closed) : Ended Item Value → Typ
   alone_throws : (v : Value) (now : Now Item) → IsThrown set set.around.exception v → StateBelongs set now.state → FrameAlone set answer (R.Throws v now)
   alone_stops : (cause : Cause) (now : Now Item) → FrameAlone set answer (R.Stops cause now)
 
-frame_last : {set : Setting} {answer : Closed} {more : Noted} {A : Type 0} {Holds : A → Type 0} {e : Ended Item A} (c : A → Run Item Value)
-    → FrameEnds set answer more Holds e
-    → ((x : A) (now : Now Item) → Holds x → StateBelongs set now.state → now.locals ≡ [] → now.opened ≡ more → FrameAlone set answer (c x now))
+frame_last : {set : Setting} {answer : Closed} {A : Type 0} {Holds : A → Type 0} {e : Ended Item A} (c : A → Run Item Value)
+    → FrameEnds set answer Holds e
+    → ((x : A) (now : Now Item) → Holds x → StateBelongs set now.state → now.locals ≡ [] → now.opened ≡ nothing_noted → FrameAlone set answer (c x now))
     → FrameAlone set answer (goes_on e c)
 frame_last c (frame_gives x now h s l o) next = next x now h s l o
 frame_last c (frame_returns v now b s) next = alone_returns v now b s
@@ -136,14 +137,15 @@ one_leaves noted (R.Throws v now) next h = tt
 one_leaves noted (R.Stops cause now) next h = tt
 one_leaves noted R.Stuck next h = tt
 
-clauses_leave : (q : Scene) (w : World Item) (arms : List Arm) (bodies : List (Run Item Item)) (xs : List Item) (now : Now Item)
-    → Leaves now.opened (first_of (read_as q) w arms bodies falls xs now)
-clauses_leave q w [] [] xs now = tt
-clauses_leave q w [] (b ∷ bodies) xs now = tt
-clauses_leave q w (a ∷ arms) [] xs now = tt
-clauses_leave q w (a ∷ arms) (b ∷ bodies) xs now =
-    one_leaves now.opened (arm_taken (read_as q) w a b xs now) (λ after. first_of (read_as q) w arms bodies falls xs ((read_as q).back now after))
-    (λ after. clauses_leave q w arms bodies xs ((read_as q).back now after))
+clauses_leave : (q : Scene) (w : World Item) (k : ℕ) (arms : List Arm) (bodies : List (Run Item Item)) (xs : List Item) (now : Now Item)
+    → Leaves now.opened (first_of (read_as q) w k arms bodies falls xs now)
+clauses_leave q w k [] [] xs now = tt
+clauses_leave q w k [] (b ∷ bodies) xs now = tt
+clauses_leave q w k (a ∷ arms) [] xs now = tt
+clauses_leave q w k (a ∷ arms) (b ∷ bodies) xs now =
+    one_leaves now.opened (arm_taken (read_as q) w (By.Arm k (length arms)) a b xs now)
+    (λ after. first_of (read_as q) w k arms bodies falls xs ((read_as q).back now after))
+    (λ after. clauses_leave q w k arms bodies xs ((read_as q).back now after))
 
 -- ---- from a piece beside its walk
 
@@ -168,10 +170,10 @@ module _ (q : Scene) (names : q.names ≡ []) where
     names = subst (λ ks. AllKept q.set.around.types ks now.locals) (sym names) (subst (λ ls. AllKept q.set.around.types [] ls) (sym e) tt);
   }
 
-  module _ {n : ℕ} {p : Point n} {m : ℕ} {facts : List Fact} {answer : Closed} (more : Noted) (is : q.answer ≡ Some answer) where
+  module _ {n : ℕ} {p : Point n} {m : ℕ} {facts : List Fact} {answer : Closed} (is : q.answer ≡ Some answer) where
     -- clauses, behind which the run stops where none is taken
-    clauses_frame : {r : Reading} (cause : Cause) (e : Ended Item Item) → Leaves more e → EndsWell q p m facts (λ g x. Results q g r x) e
-        → FrameEnds q.set answer more (Given q p m r) (or_so e (stops cause))
+    clauses_frame : {r : Reading} (cause : Cause) (e : Ended Item Item) → Leaves nothing_noted e → EndsWell q p m facts (λ g x. Results q g r x) e
+        → FrameEnds q.set answer (Given q p m r) (or_so e (stops cause))
     clauses_frame cause e left (well_given x now h s) =
         frame_gives x now (record { point = h.point; later = h.later; results = h.holds }) s.state (bare_now now s) left
     clauses_frame cause e left (well_no now b s) = frame_stops cause now
@@ -192,10 +194,10 @@ last_beside : {q : Scene} {n : ℕ} {p : Point n} {facts : List Fact} (k : ℕ) 
 unfolding opened
 last_beside {q} {n} {p} {facts} k r x h =
     walks_then (last_of k r) (opens_as r x false M.Unnamed h) (λ m g fs i l is.
-    binds (λ t. numbers_noted k i) (λ y. (read_as q).note k x.val then λ t. gives y)
+    binds (λ t. numbers_noted k i) (λ y. (read_as q).note (By.Node k) x.val then λ t. gives y)
     (makes k (i ∷ []) (Makes.ByType r) (x ∷ []) x.val (is.typ, tt) (λ j a. h.belongs j (agree_on l a)))
     (λ m2 g2 fs2 t y l2 e.
-    binds_after (gives_numbers k i x.val (numbers_given i) (gives_all i) (λ j a. has_there (is_on l2 is).has j a)) y e.0))
+    binds_after (gives_numbers (By.Node k) i x.val (numbers_given i) (gives_all i) (λ j a. has_there (is_on l2 is).has j a)) y e.0))
   where
     binds_after : {q : Scene} {n : ℕ} {p : Point n} {facts : List Fact} {w : Walk (Unit {0})} {c : Run Item (Unit {0})} {v : Value}
         → Beside q n p facts w c (λ m g t u. Unit {0}) → (y : Item) → y.val ≡ v → Beside q n p facts w (c then λ t. gives y) (λ m g t z. z.val ≡ v)
@@ -205,15 +207,15 @@ last_beside {q} {n} {p} {facts} k r x h =
     }
 
 -- what a function gives
-last_frame : (q : Scene) {n : ℕ} {p : Point n} {m : ℕ} {facts : List Fact} {answer : Closed} {v : Value} (more : Noted) (e : Ended Item Item)
+last_frame : (q : Scene) {n : ℕ} {p : Point n} {m : ℕ} {facts : List Fact} {answer : Closed} {v : Value} (e : Ended Item Item)
     → q.answer ≡ Some answer → belongs q.set.around.types v answer ≡ true → EndsWell (quiet q) p m facts (λ g y. y.val ≡ v) e
     → FrameAlone q.set answer (goes_on e (λ y. gives y.val))
-last_frame q {answer = answer} {v = v} more e is b (well_given y now h s) =
+last_frame q {answer = answer} {v = v} e is b (well_given y now h s) =
     alone_gives y.val now (ap (λ u. belongs q.set.around.types u answer) h.holds ∙ b) s.state
-last_frame q more e is b (well_no now a s) = absurd (true≢false (sym a))
-last_frame q more e is b (well_returned u now a s) = alone_returns u now (subst (λ t. IsAnswer q.set.around.types t u) is a) s.state
-last_frame q more e is b (well_thrown u now a s) = alone_throws u now a s.state
-last_frame q more e is b (well_stopped cause now) = alone_stops cause now
+last_frame q e is b (well_no now a s) = absurd (true≢false (sym a))
+last_frame q e is b (well_returned u now a s) = alone_returns u now (subst (λ t. IsAnswer q.set.around.types t u) is a) s.state
+last_frame q e is b (well_thrown u now a s) = alone_throws u now a s.state
+last_frame q e is b (well_stopped cause now) = alone_stops cause now
 
 -- ---- arguments as they come in
 
@@ -238,14 +240,14 @@ all_items set x f h (t ∷ ts) (y ∷ xs) b m = (
   record {
     steady = λ g a. own_closed set x f h g t (own_agree f h g a);
     belongs = λ g a. ap (belongs set.around.types y.val) (own_closed set x f h g t (own_agree f h g a) ∙ own_over set x f h t) ∙ b.0;
-    made = λ g a. (m g (own_agree f h g a)).0;
+    made = λ exact g a. (m g (own_agree f h g a)).0 exact;
   },
   all_items set x f h ts xs b.1 (λ g a. (m g a).1),
 )
 
 -- ---- what is in force where the clauses begin
 
-none_given : (b : Bool) (c : Con) → NoneGiven (constraint_facts b c)
+none_given : (b : Bool) (c : Con) → given_in (constraint_facts b c) ≡ []
 none_given true c = refl
 none_given false c = refl
 
@@ -344,74 +346,51 @@ module _ (set : Setting) (k : Checks) (lets : List Value) (x : Work) (f : Functi
     form = out-Core core
 
     abbrev walked : Walk (Unit {0})
-    walked = kind_clauses form.place (Some f.entry) (here q) f.parameters once (Aims.Due r) declared form.kind form.parts
+    walked = kind_clauses form.place form.number (here q) f.parameters once (Aims.Due r) declared form.kind form.parts
 
     abbrev after_clauses : ℕ
     after_clauses = (walked cf (own_next 0 f.variables)).next
 
     -- behind them is in force what was
-    facts_same : (kind : Kind) → (kind_clauses form.place (Some f.entry) (here q) f.parameters once (Aims.Due r) declared kind form.parts cf
+    facts_same : (kind : Kind) → (kind_clauses form.place form.number (here q) f.parameters once (Aims.Due r) declared kind form.parts cf
         (own_next 0 f.variables)).facts ≡ cf
     unfolding owe
     facts_same (K.Clauses arms) =
-        clauses_facts q form.place f.entry f.parameters once r declared arms form.parts cf (own_next 0 f.variables)
+        clauses_facts q form.place form.number f.parameters once r declared arms form.parts cf (own_next 0 f.variables)
     facts_same kind = refl
 
-    first_noted : (active : Measures) (kind : Kind) → ClausesHold q (w active) f.entry f.parameters r declared form kind
-        → AllMet q (kind_clauses form.place (Some f.entry) (here q) f.parameters once (Aims.Due r) declared kind form.parts cf (own_next 0 f.variables)).notes
-        → (more : Noted) × (cases.notes f.entry (U.Tuple (vals xs)) nothing_noted ≡ Some more)
-    unfolding bind
-    first_noted active (K.Clauses arms) hold met = by arms form.parts hold.0 met
-      where
-        by : (arms : List Arm) (bodies : List Core) → NotedAlone cases arms → AllMet q (clauses_walk form.place (Some f.entry) (here q) f.parameters once
-            (Aims.Due r) declared arms bodies cf (own_next 0 f.variables)).notes
-            → (more : Noted) × (cases.notes f.entry (U.Tuple (vals xs)) nothing_noted ≡ Some more)
-        by [] bodies always m = always f.entry (U.Tuple (vals xs)) nothing_noted
-        by (arm ∷ arms) [] always m = absurd (wrong_never q form.place stands m)
-        by (arm ∷ arms) (b ∷ bodies) always m =
-            let first = written_walk form.place (Some f.entry) (here q) f.parameters once (Aims.Due r) declared arm b cf (own_next 0 f.variables) in
-            entry_noted q f form.place once (Aims.Due r) (arm_of declared arm) (body_part declared b) xs (vals xs) refl refl all stands
-            (met_front q first.notes _ m)
-    first_noted active kind hold met = let no : ⊥ = hold in absurd no
-
-    entering_there : (active : Measures) (more : Noted) → cases.notes f.entry (U.Tuple (vals xs)) nothing_noted ≡ Some more
-        → Entering q (w active) f p cf r xs more
-    entering_there active more e = record {
+    entering_there : (active : Measures) → Entering q (w active) f p cf r xs nothing_noted
+    entering_there active = record {
       stands = stands;
-      none = none_given (is_trivial_form (out-Con f.constraint)) f.constraint;
       world = surrounds active;
       wanted = wanted;
       all = all;
-      noted = e;
       numbers = refl;
       may_fall = refl;
     }
 
-    core_ends : (active : Measures) (more : Noted) (cause : Cause) (kind : Kind) → form.kind ≡ kind
-        → cases.notes f.entry (U.Tuple (vals xs)) nothing_noted ≡ Some more
-        → ClausesHold q (w active) f.entry f.parameters r declared form kind
-        → AllMet q (kind_clauses form.place (Some f.entry) (here q) f.parameters once (Aims.Due r) declared kind form.parts cf (own_next 0 f.variables)).notes
-        → (now : Now Item) → now.opened ≡ more → StateBelongs set now.state → now.locals ≡ []
-        → FrameEnds set answer more (Given q p (kind_clauses form.place (Some f.entry) (here q) f.parameters once (Aims.Due r) declared kind form.parts cf
+    core_ends : (active : Measures) (cause : Cause) (kind : Kind) → form.kind ≡ kind → ClausesHold q (w active) f.parameters r declared form kind
+        → AllMet q (kind_clauses form.place form.number (here q) f.parameters once (Aims.Due r) declared kind form.parts cf (own_next 0 f.variables)).notes
+        → (now : Now Item) → now.opened ≡ nothing_noted → StateBelongs set now.state → now.locals ≡ []
+        → FrameEnds set answer (Given q p (kind_clauses form.place form.number (here q) f.parameters once (Aims.Due r) declared kind form.parts cf
         (own_next 0 f.variables)).next r)
         (or_so (kind_meaning (read_as q) (w active) form.place form.number kind (map (meaning (read_as q) (w active)) form.parts) now) (stops cause))
-    core_ends active more cause (K.Clauses arms) is e hold met now opened s bare =
-        clauses_frame q refl more refl cause _
-        (subst (λ o. Leaves o (first_of (read_as q) (w active) arms (map (meaning (read_as q) (w active)) form.parts) falls xs now)) opened
-        (clauses_leave q (w active) arms (map (meaning (read_as q) (w active)) form.parts) xs now))
-        (clauses_end q (w active) f r xs more form.place declared arms form.parts once (own_next 0 f.variables) p cf (entering_there active more e)
-        hold.1 hold.2 met now opened (sound_now q refl now s bare))
-    core_ends active more cause kind is e hold met now opened s bare = let no : ⊥ = hold in absurd no
+    core_ends active cause (K.Clauses arms) is hold met now opened s bare =
+        clauses_frame q refl refl cause _
+        (subst (λ o. Leaves o (first_of (read_as q) (w active) form.number arms (map (meaning (read_as q) (w active)) form.parts) falls xs now)) opened
+        (clauses_leave q (w active) form.number arms (map (meaning (read_as q) (w active)) form.parts) xs now))
+        (clauses_end q (w active) f r xs nothing_noted form.place form.number declared arms form.parts once (own_next 0 f.variables) p cf
+        (entering_there active) hold.0 hold.1 met now opened (sound_now q refl now s bare))
+    core_ends active cause kind is hold met now opened s bare = let no : ⊥ = hold in absurd no
 
     -- a run of it, that stops where no clause is taken
-    core_frame : (active : Measures) (more : Noted) (cause : Cause) → cases.notes f.entry (U.Tuple (vals xs)) nothing_noted ≡ Some more
-        → CoreHolds q (w active) f r declared core → AllMet q (walked cf (own_next 0 f.variables)).notes
-        → (now : Now Item) → now.opened ≡ more → StateBelongs set now.state → now.locals ≡ []
-        → FrameEnds set answer more (Given q p after_clauses r) ((meaning (read_as q) (w active) core or_else stops cause) now)
-    core_frame active more cause e hold met now opened s bare =
-        subst (λ (c : Run Item Item). FrameEnds set answer more (Given q p after_clauses r) (or_so (c now) (stops cause)))
+    core_frame : (active : Measures) (cause : Cause) → CoreHolds q (w active) f r declared core → AllMet q (walked cf (own_next 0 f.variables)).notes
+        → (now : Now Item) → now.opened ≡ nothing_noted → StateBelongs set now.state → now.locals ≡ []
+        → FrameEnds set answer (Given q p after_clauses r) ((meaning (read_as q) (w active) core or_else stops cause) now)
+    core_frame active cause hold met now opened s bare =
+        subst (λ (c : Run Item Item). FrameEnds set answer (Given q p after_clauses r) (or_so (c now) (stops cause)))
         (sym (core_out (read_as q) (w active) core form.kind refl))
-        (core_ends active more cause form.kind refl e hold met now opened s bare)
+        (core_ends active cause form.kind refl hold met now opened s bare)
 
   -- ---- the body, the measure, and what comes last
 
@@ -422,7 +401,7 @@ module _ (set : Setting) (k : Checks) (lets : List Value) (x : Work) (f : Functi
   body_met = behind_own (body_walk f) (covered.body nu enters.awaited)
 
   abbrev clauses_of_body : Aim → Walk (Unit {0})
-  clauses_of_body aim = clauses_of (Some f.entry) (here q) f.parameters f.numbers aim f.is_declared f.body
+  clauses_of_body aim = clauses_of (here q) f.parameters f.numbers aim f.is_declared f.body
 
   abbrev walk_with : Aim → Walk (Unit {0})
   walk_with aim = bind (clauses_of_body aim) (λ t. last_made f.last result)
@@ -447,22 +426,17 @@ module _ (set : Setting) (k : Checks) (lets : List Value) (x : Work) (f : Functi
   given_of_result : {m : ℕ} (g : Point m) (y : Item) → Later p g → Results q g result y → IsOf set x g result y
   given_of_result g y l r = record { steady = (wanted_on set x result l result_wanted).0; belongs = r.belongs; made = r.typ }
 
-  stands_last : (more : Noted) {m : ℕ} (g : Point m) → Later p g → Stands set x more g cf
-  stands_last more g l = renoted more (none_given (is_trivial_form (out-Con f.constraint)) f.constraint) (stands_on l stands)
-
-  answered_frame : (active : Measures) (more : Noted) → cases.notes f.entry (U.Tuple (vals xs)) nothing_noted ≡ Some more
-      → (now : Now Item) → now.opened ≡ more → StateBelongs set now.state → now.locals ≡ []
+  answered_frame : (active : Measures) (now : Now Item) → now.opened ≡ nothing_noted → StateBelongs set now.state → now.locals ≡ []
       → FrameAlone set answer (answered (read_as q) (w active) f now)
-  answered_frame active more e now opened s bare =
+  answered_frame active now opened s bare =
       frame_last (λ y. made (read_as q) f.last (y ∷ []) y.val then λ z. gives z.val)
-      (core_frame f.body result f.is_declared f.numbers result_wanted active more (MatchFailure f.place) e (parts.body h nu (w active)) front_met now opened s
-      bare)
+      (core_frame f.body result f.is_declared f.numbers result_wanted active (MatchFailure f.place) (parts.body h nu (w active)) front_met now opened s bare)
       (λ y after given state locals noted.
-      last_frame q more (made (read_as q) f.last (y ∷ []) y.val after) refl
+      last_frame q (made (read_as q) f.last (y ∷ []) y.val after) refl
       (ap (belongs set.around.types y.val) (sym (own_closed set x f h given.point.integers f.result (own_agree f h given.point.integers
       (agree_on given.later (same given.point))))) ∙ given.results.belongs given.point.integers (same given.point))
       ((last_beside {q = quiet q} f.last result y (given_of_result given.point y given.later given.results)).run after
-      (subst (λ o. Stands set x o given.point cf) (sym noted) (stands_last more given.point given.later)) last_met
+      (subst (λ o. Stands set x o given.point cf) (sym noted) (stands_on given.later stands)) last_met
       (record { state = state; names = (sound_now q refl after state locals).names })))
 
   -- a measure is a natural number, below that of the nearest call of its cycle
@@ -470,37 +444,33 @@ module _ (set : Setting) (k : Checks) (lets : List Value) (x : Work) (f : Functi
     measure_met : AllMet q (measured_walk f core (here q) cf (own_next 0 f.variables)).notes
     measure_met = behind_own (measured_walk f core) (covered.measure nu enters.awaited core is)
 
-    below_frame : (more : Noted) (place : Place) (cycle : ℕ) (active : Measures) (o : Option ℕ) (i : ℕ) (now : Now Item) → now.opened ≡ more
-        → StateBelongs set now.state → now.locals ≡ [] → FrameEnds set answer more (λ (a : Measures). Unit {0}) (below place cycle active o i now)
-    below_frame more place cycle active None i now opened s bare = frame_gives ((cycle, i) ∷ active) now tt s bare opened
-    below_frame more place cycle active (Some last) i now opened s bare = by (nat_lt i last)
+    below_frame : (place : Place) (cycle : ℕ) (active : Measures) (o : Option ℕ) (i : ℕ) (now : Now Item) → now.opened ≡ nothing_noted
+        → StateBelongs set now.state → now.locals ≡ [] → FrameEnds set answer (λ (a : Measures). Unit {0}) (below place cycle active o i now)
+    below_frame place cycle active None i now opened s bare = frame_gives ((cycle, i) ∷ active) now tt s bare opened
+    below_frame place cycle active (Some last) i now opened s bare = by (nat_lt i last)
       where
-        by : (b : Bool) → FrameEnds set answer more (λ (a : Measures). Unit {0})
-            ((if b then gives ((cycle, i) ∷ active) else stops (Measure place)) now)
+        by : (b : Bool) → FrameEnds set answer (λ (a : Measures). Unit {0}) ((if b then gives ((cycle, i) ∷ active) else stops (Measure place)) now)
         by true = frame_gives ((cycle, i) ∷ active) now tt s bare opened
         by false = frame_stops (Measure place) now
 
-    measure_frame : (active : Measures) (more : Noted) (place : Place) (cycle : ℕ) → cases.notes f.entry (U.Tuple (vals xs)) nothing_noted ≡ Some more
-        → (now : Now Item) → now.opened ≡ more → StateBelongs set now.state → now.locals ≡ []
-        → FrameEnds set answer more (λ (a : Measures). Unit {0}) (measured (read_as q) (w active) place (Some cycle) (Some core) active now)
-    measure_frame active more place cycle e now opened s bare =
+    measure_frame : (active : Measures) (place : Place) (cycle : ℕ) (now : Now Item) → now.opened ≡ nothing_noted → StateBelongs set now.state
+        → now.locals ≡ [] → FrameEnds set answer (λ (a : Measures). Unit {0}) (measured (read_as q) (w active) place (Some cycle) (Some core) active now)
+    measure_frame active place cycle now opened s bare =
         frame_then (λ y. natural (read_as q) y then below place cycle active (nearest cycle active))
-        (core_frame core natural_type true [] natural_wanted active more (MatchFailure place) e (parts.measure h nu (w active) core is) measure_met now opened s
-        bare)
+        (core_frame core natural_type true [] natural_wanted active (MatchFailure place) (parts.measure h nu (w active) core is) measure_met now opened s bare)
         (λ y after given state locals noted.
         let i = one_read q _ given.point y given.results in
-        subst (λ r. FrameEnds set answer more (λ (a : Measures). Unit {0}) (goes_on r (below place cycle active (nearest cycle active)))) (sym (i.1 after))
-        (below_frame more place cycle active (nearest cycle active) i.0 after noted state locals))
+        subst (λ r. FrameEnds set answer (λ (a : Measures). Unit {0}) (goes_on r (below place cycle active (nearest cycle active)))) (sym (i.1 after))
+        (below_frame place cycle active (nearest cycle active) i.0 after noted state locals))
 
-  measured_frame : NaturalIsRead → IsWanted set x p natural_type → (active : Measures) (more : Noted) (place : Place)
-      → cases.notes f.entry (U.Tuple (vals xs)) nothing_noted ≡ Some more → (cycle : Option ℕ) (measure : Option Core) → f.measure ≡ measure
-      → (now : Now Item) → now.opened ≡ more → StateBelongs set now.state → now.locals ≡ []
-      → FrameEnds set answer more (λ (a : Measures). Unit {0}) (measured (read_as q) (w active) place cycle measure active now)
-  measured_frame one_read wanted active more place e None None is now opened s bare = frame_gives active now tt s bare opened
-  measured_frame one_read wanted active more place e None (Some core) is now opened s bare = frame_gives active now tt s bare opened
-  measured_frame one_read wanted active more place e (Some cycle) None is now opened s bare = frame_gives active now tt s bare opened
-  measured_frame one_read wanted active more place e (Some cycle) (Some core) is now opened s bare =
-      measure_frame one_read core is wanted active more place cycle e now opened s bare
+  measured_frame : NaturalIsRead → IsWanted set x p natural_type → (active : Measures) (place : Place) (cycle : Option ℕ) (measure : Option Core)
+      → f.measure ≡ measure → (now : Now Item) → now.opened ≡ nothing_noted → StateBelongs set now.state → now.locals ≡ []
+      → FrameEnds set answer (λ (a : Measures). Unit {0}) (measured (read_as q) (w active) place cycle measure active now)
+  measured_frame one_read wanted active place None None is now opened s bare = frame_gives active now tt s bare opened
+  measured_frame one_read wanted active place None (Some core) is now opened s bare = frame_gives active now tt s bare opened
+  measured_frame one_read wanted active place (Some cycle) None is now opened s bare = frame_gives active now tt s bare opened
+  measured_frame one_read wanted active place (Some cycle) (Some core) is now opened s bare =
+      measure_frame one_read core is wanted active place cycle now opened s bare
 
   -- ---- the frame
 
@@ -508,20 +478,12 @@ module _ (set : Setting) (k : Checks) (lets : List Value) (x : Work) (f : Functi
   piece active place =
       measured (read_as q) (w active) place f.cycle f.measure active then λ then_active. answered (read_as q) (w then_active) f
 
-  -- with the numbers of the arguments noted
   body_frame : NaturalIsRead → IsWanted set x p natural_type → (active : Measures) (place : Place) (start : Now Item) → start.opened ≡ nothing_noted
-      → StateBelongs set start.state → start.locals ≡ []
-      → FrameAlone set answer (((read_as q).note f.entry (U.Tuple vs) then λ t. piece active place) start)
+      → StateBelongs set start.state → start.locals ≡ [] → FrameAlone set answer (piece active place start)
   body_frame one_read wanted active place start opened s bare =
-      let noted = first_noted f.body result f.is_declared f.numbers result_wanted active (out-Core f.body).kind (parts.body h nu (w active)) front_met in
-      let more : Noted = noted.0 in
-      let at : cases.notes f.entry (U.Tuple vs) start.opened ≡ Some more =
-      (λ j. cases.notes f.entry (U.Tuple (sym arguments.2 j)) (opened j)) ∙ noted.1 in
-      let now : Now Item = record start { opened = more } in
-      subst (λ o. FrameAlone set answer (goes_on (noting o start) (λ t. piece active place))) (sym at)
-      (frame_last (λ then_active. answered (read_as q) (w then_active) f)
-      (measured_frame one_read wanted active more place noted.1 f.cycle f.measure refl now refl s bare)
-      (λ then_active after u state locals left. answered_frame then_active more noted.1 after left state locals))
+      frame_last (λ then_active. answered (read_as q) (w then_active) f)
+      (measured_frame one_read wanted active place f.cycle f.measure refl start opened s bare)
+      (λ then_active after u state locals left. answered_frame then_active after left state locals)
 
   -- ---- the call
 
@@ -530,52 +492,41 @@ module _ (set : Setting) (k : Checks) (lets : List Value) (x : Work) (f : Functi
       measured z (world_of (running set k lets) calls active nu xs) place f.cycle f.measure active then λ then_active.
       answered z (world_of (running set k lets) calls then_active nu xs) f
 
-  entering_is : (active : Measures) (place : Place) (now : Now Item)
-      → entering (running set k lets) x.function f (Some x.instance) vs (inner active place) now
-      ≡ framed ((read_as q).note f.entry (U.Tuple vs) then λ t. piece active place) now
-  entering_is active place now =
-      let body = λ (n : Givens) (us : List Item). framed ((checked set.around.types (k.function x.function x.instance.place n)).note f.entry (U.Tuple vs)
-      then λ t. inner active place (checked set.around.types (k.function x.function x.instance.place n)) n us) in
+  entering_is : (awaited : List (Option Places.Given)) → all_agree awaited nu ≡ true → (active : Measures) (place : Place) (now : Now Item)
+      → entering (running set k lets) x.function f (Some (awaited_at x awaited)) vs (inner active place) now ≡ framed (piece active place) now
+  entering_is awaited agrees active place now =
+      let body = λ (n : Givens) (us : List Item). framed (inner active place (checked set.around.types (k.function x.function x.instance.place n)) n us) in
       let read = λ (n : Givens). needs (and_then (k.enters x.function x.instance.place n vs) (λ ss. items_of ss vs)) then body n in
-      (λ j. goes_on (needs (enters.are_given j) now) (λ n. if_so (read n) stuck (as_awaited (Some x.instance) n)))
-      ∙ (λ j. if_so (read nu) stuck (enters.awaited j) now)
+      (λ j. goes_on (needs (enters.are_given j) now) (λ n. if_so (read n) stuck (as_awaited (Some (awaited_at x awaited)) n)))
+      ∙ (λ j. if_so (read nu) stuck (agrees j) now)
       ∙ (λ j. goes_on (needs (and_then (come.is_there j) (λ ss. items_of ss vs)) now) (body nu))
       ∙ (λ j. goes_on (needs (arguments.1 j) now) (body nu))
 
-  call_ends : NaturalIsRead → IsWanted set x p natural_type → (active : Measures) (place : Place) (before : Now Item) → StateBelongs set before.state
-      → CallEnds set false before (λ v. belongs set.around.types v answer ≡ true)
-      (entered (running set k lets) calls active place x.function (Some x.instance) vs (Some f) before)
-  call_ends one_read wanted active place before s = by before.ticks
+  call_ends : NaturalIsRead → IsWanted set x p natural_type → (awaited : List (Option Places.Given)) → all_agree awaited nu ≡ true → (active : Measures)
+      (place : Place) (before : Now Item) → StateBelongs set before.state → CallEnds set false before (λ v. belongs set.around.types v answer ≡ true)
+      (entered (running set k lets) calls active place x.function (Some (awaited_at x awaited)) vs (Some f) before)
+  call_ends one_read wanted awaited agrees active place before s = by before.ticks
     where
       by : (ticks : ℕ) → CallEnds set false before (λ v. belongs set.around.types v answer ≡ true)
-          (goes_on (tick_at ticks before) (λ t. entering (running set k lets) x.function f (Some x.instance) vs (inner active place)))
+          (goes_on (tick_at ticks before) (λ t. entering (running set k lets) x.function f (Some (awaited_at x awaited)) vs (inner active place)))
       by zero = call_stops WorkLimit before
       by (suc ticks) =
           let now : Now Item = record before { ticks = ticks } in
-          subst (CallEnds set false before (λ v. belongs set.around.types v answer ≡ true)) (sym (entering_is active place now))
+          subst (CallEnds set false before (λ v. belongs set.around.types v answer ≡ true)) (sym (entering_is awaited agrees active place now))
           (framed_ends before _ (body_frame one_read wanted active place (record now { locals = []; opened = nothing_noted }) refl s refl))
 
   -- ---- an event: no tick, no measure
 
   entering_alone : x.instance.place ≡ 0 → (inner : Making Item → Givens → List Item → Run Item Value) (now : Now Item)
-      → entering (running set k lets) x.function f None vs inner now ≡ framed ((read_as q).note f.entry (U.Tuple vs) then λ t. inner (read_as q) nu xs) now
+      → entering (running set k lets) x.function f None vs inner now ≡ framed (inner (read_as q) nu xs) now
   entering_alone first inner now =
       let reading = λ (place : ℕ) (n : Givens). checked set.around.types (k.function x.function place n) in
-      let body = λ (place : ℕ) (n : Givens) (us : List Item). framed ((reading place n).note f.entry (U.Tuple vs) then λ t. inner (reading place n) n us) in
+      let body = λ (place : ℕ) (n : Givens) (us : List Item). framed (inner (reading place n) n us) in
       let read = λ (place : ℕ) (n : Givens). needs (and_then (k.enters x.function place n vs) (λ ss. items_of ss vs)) then body place n in
       (λ j. goes_on (needs (enters.are_given j) now) (read 0))
       ∙ (λ j. read (sym first j) nu now)
       ∙ (λ j. goes_on (needs (and_then (come.is_there j) (λ ss. items_of ss vs)) now) (body x.instance.place nu))
       ∙ (λ j. goes_on (needs (arguments.1 j) now) (body x.instance.place nu))
-
-  event_frame : (start : Now Item) → start.opened ≡ nothing_noted → StateBelongs set start.state → start.locals ≡ []
-      → FrameAlone set answer (((read_as q).note f.entry (U.Tuple vs) then λ t. answered (read_as q) (w []) f) start)
-  event_frame start opened s bare =
-      let noted = first_noted f.body result f.is_declared f.numbers result_wanted [] (out-Core f.body).kind (parts.body h nu (w [])) front_met in
-      let at : cases.notes f.entry (U.Tuple vs) start.opened ≡ Some noted.0 =
-      (λ j. cases.notes f.entry (U.Tuple (sym arguments.2 j)) (opened j)) ∙ noted.1 in
-      subst (λ o. FrameAlone set answer (goes_on (noting o start) (λ t. answered (read_as q) (w []) f))) (sym at)
-      (answered_frame [] noted.0 noted.1 (record start { opened = noted.0 }) refl s bare)
 
   pub event_ends : x.instance.place ≡ 0 → (before : Now Item) → StateBelongs set before.state
       → CallEnds set false before (λ v. belongs set.around.types v answer ≡ true)
@@ -583,16 +534,17 @@ module _ (set : Setting) (k : Checks) (lets : List Value) (x : Work) (f : Functi
   event_ends first before s =
       subst (CallEnds set false before (λ v. belongs set.around.types v answer ≡ true))
       (sym (entering_alone first (λ z nu us. answered z (world_of (running set k lets) calls [] nu us) f) before))
-      (framed_ends before _ (event_frame (record before { locals = []; opened = nothing_noted }) refl s refl))
+      (framed_ends before _ (answered_frame [] (record before { locals = []; opened = nothing_noted }) refl s refl))
 
 -- a natural number is of one type everywhere
 natural_one : (set : Setting) (x : Work) {n : ℕ} (p : Point n) → IsWanted set x p natural_type
 natural_one set x p = (natural_steady set x p, natural_hole)
 
 pub functions_sound : FunctionsAreSound
-functions_sound set k lets x f lets_are calls sound covered parts vs h enters active place before s =
+functions_sound set k lets x f lets_are calls sound covered parts vs h enters awaited agrees active place before s =
     answer_holds
-    (call_ends set k lets x f lets_are calls sound covered parts vs h enters natural_read (natural_one set x (own_point f h)) active place before s)
+    (call_ends set k lets x f lets_are calls sound covered parts vs h enters natural_read (natural_one set x (own_point f h)) awaited agrees active place
+    before s)
   where
     answer_holds : {e : Ended Item Value} → CallEnds set false before (λ v. belongs set.around.types v (closed set.around.types (standing set.past h) x.types
         (own_type f f.result)) ≡ true) e → CallEnds set false before (IsResult set x f h) e

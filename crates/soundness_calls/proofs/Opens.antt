@@ -45,7 +45,7 @@ pub of_on : {set : Setting} {work : Work} {n m : ℕ} {p : Point n} {g : Point m
 of_on {set} {work} {r = r} l h = record {
   steady = steady_on set work r l h.steady;
   belongs = λ k a. h.belongs k (agree_on l a);
-  made = λ k a. h.made k (agree_on l a);
+  made = λ exact k a. h.made exact k (agree_on l a);
 }
 
 -- opened for a name, it is of the type of its indices

@@ -19,7 +19,7 @@ use Rattle.function_notes.specs.Functions.{direction_walk, mapping_walk}
 use Rattle.checked_meaning.specs.Checked.{Cases, Checks}
 use Rattle.checked_meaning.specs.Items.{Item}
 use Rattle.value_laws.specs.Belonging.{Integers}
-use Rattle.soundness_steps.specs.Works.{Scene, Setting, nobody, here}
+use Rattle.soundness_steps.specs.Works.{Scene, Setting, nobody, here, IsExact}
 use Rattle.soundness_steps.specs.Noted.{OpensAs}
 use Rattle.soundness_steps.specs.Covers.{AreMet}
 use Rattle.soundness_steps.specs.Calls.{IsOf}
@@ -63,7 +63,7 @@ abbrev pub WaysGrow : Scene → Place → Direction → List Arm → List Core �
 WaysGrow q place m [] bodies = Unit {0}
 WaysGrow q place m (arm ∷ arms) [] = Unit {0}
 WaysGrow q place m (arm ∷ arms) (body ∷ bodies) =
-    ((facts : List Fact) (n : ℕ) → n ≤ (direction_walk place (here q) m arm body facts n).next) × WaysGrow q place m arms bodies
+    ((behind : ℕ) (facts : List Fact) (n : ℕ) → n ≤ (direction_walk place (here q) m behind arm body facts n).next) × WaysGrow q place m arms bodies
 
 abbrev pub bodies_of : Direction → List Core
 bodies_of m = (out-Core m.body).parts
@@ -102,6 +102,6 @@ pub record CoveredDirection (set : Setting) (rank : ℕ → ℕ) (k : Checks) (d
   pub side : Side
   pub met : AreMet set nobody (below set rank d) (k.direction d) (mapping_of set side m [] 0).notes
   pub takes : (v : Value) → IsOf set m.parameter v → (s : Sized) × (k.takes d v ≡ Some s)
-      × ((g : Integers) → OpensAs set.around.types set.past nobody g (bare_type m.parameter) v s)
+      × (IsExact set → (g : Integers) → OpensAs set.around.types set.past nobody g (bare_type m.parameter) v s)
   pub clauses : ClausesOf (scene_across set k rank d) side m
   pub arms : (w : World Item) → ArmsOf (scene_across set k rank d) w side m clauses

@@ -1,11 +1,12 @@
 -- Calls of functions of a model end well.
-use Rattle.std.specs.Prelude.{◌≡◌, true, false, List, [], Some}
+use Rattle.std.specs.Prelude.{◌≡◌, true, false, List, [], Some, Option}
 use Rattle.sail_base.specs.declared.place.Place.{Place}
 use Rattle.sail_types.specs.declared.values.Value.{Value}
+use Rattle.sail_types.specs.Places.{Given}
 use Rattle.sail_core.specs.declared.model.Function.{Function}
 use Rattle.sail_core.specs.declared.tree.Core.{Core}
 use Rattle.sail_core.specs.Making.{World}
-use Rattle.sail_core.specs.Numbers.{Givens}
+use Rattle.sail_core.specs.Numbers.{Givens, all_agree}
 use Rattle.sail_core.specs.Program as P
 use Rattle.sail_core.specs.Program.{Calls, Measures, entered, world_of}
 use Rattle.sail_core.specs.Run.{Now}
@@ -15,9 +16,10 @@ use Rattle.checked_meaning.specs.Items.{Item}
 use Rattle.value_laws.specs.Belonging.{Integers, standing, closed}
 use Rattle.soundness_steps.specs.Works.{Work, Setting, Scene}
 use Rattle.soundness_steps.specs.States.{StateBelongs}
-use Rattle.soundness_steps.specs.Calls.{CallEnds, Enters, IsResult, SoundCalls}
+use Rattle.soundness_steps.specs.Calls.{CallEnds, Enters, IsResult, SoundCalls, awaited_at}
 use Rattle.soundness_forms.specs.Worlds.{LetsAre}
 use Rattle.soundness_calls.specs.Premises.{CoreHolds, Covered, own_of, own_type}
+use Rattle.call_fits.specs.Calls.{givens_at}
 
 -- a model at work, each definition read with the checks
 abbrev pub running : Setting → Checks → List Value → P.Setting Item
@@ -56,6 +58,6 @@ FunctionsAreSound = (set : Setting) (k : Checks) (lets : List Value) (x : Work) 
     → (calls : Calls Item) → ((active : Measures) (nu : Givens) (xs : List Item)
     → SoundCalls set set.covered.direction (world_of (running set k lets) calls active nu xs))
     → Covered set k x f → PartsHold set k x f → (vs : List Value) (h : Integers) → Enters set x f vs h
-    → (active : Measures) (place : Place) (before : Now Item) → StateBelongs set before.state
-    → CallEnds set false before (IsResult set x f h)
-    (entered (running set k lets) calls active place x.function (Some x.instance) vs (Some f) before)
+    → (awaited : List (Option Given)) → all_agree awaited (givens_at h 0 f.variables) ≡ true → (active : Measures) (place : Place) (before : Now Item)
+    → StateBelongs set before.state → CallEnds set false before (IsResult set x f h)
+    (entered (running set k lets) calls active place x.function (Some (awaited_at x awaited)) vs (Some f) before)

@@ -9,6 +9,7 @@ use Rattle.sail_core.specs.declared.model.Function.{Function}
 use Rattle.sail_core.specs.declared.patterns.Arm.{Arm}
 use Rattle.sail_core.specs.declared.written.WrittenNumber.{WrittenNumber}
 use Rattle.sail_core.specs.declared.tree.Core.{Core, Core-F, out-Core}
+use Rattle.sail_core.specs.declared.tree.Giver.{Giver}
 use Rattle.sail_core.specs.declared.tree.Kind.{Kind}
 use Rattle.sail_core.specs.declared.tree.Kind.TheVariants as K
 use Rattle.sail_core.specs.Making.{Making, World}
@@ -27,14 +28,15 @@ use Rattle.pattern_notes.specs.Patterns.{arm_match}
 use Rattle.pattern_notes.specs.declared.matching.Matching.{Matching}
 use Rattle.call_arguments.specs.declared.aims.Aim.{Aim}
 use Rattle.call_arguments.specs.declared.aims.Aim.TheVariants as Aims
+use Rattle.call_notes.specs.Noted.{names_given}
 use Rattle.expression_steps.specs.Parts.{Part}
 use Rattle.function_notes.specs.Functions.{arm_of, body_part, function_walk, measure_walk, written_walk}
-use Rattle.checked_meaning.specs.Checked.{Cases, Checks, Noted, checked}
+use Rattle.checked_meaning.specs.Checked.{Checks, checked}
 use Rattle.checked_meaning.specs.Items.{Item}
 use Rattle.value_laws.specs.Belonging.{Integers, standing}
 use Rattle.value_laws.specs.Known.{Point}
 use Rattle.call_fits.specs.Calls.{givens_at, own_variables}
-use Rattle.soundness_steps.specs.Works.{Work, Setting, Scene, here}
+use Rattle.soundness_steps.specs.Works.{Work, Setting, Scene, here, IsExact}
 use Rattle.soundness_steps.specs.Noted.{OpensAs}
 use Rattle.soundness_steps.specs.Covers.{AreMet}
 use Rattle.soundness_steps.specs.Steps.{Beside}
@@ -61,14 +63,15 @@ pub record Results (q : Scene) {n : ℕ} (p : Point n) (r : Reading) (x : Item) 
   pub belongs : Belongs q.set q.work p r x.val
   pub typ : IsMadeAs q.set q.work p (Makes.ByType r) x.val x.typ
 
-abbrev pub arm_walk : Place → Arm → Around → Matching → List Indices → Part → Aim → Walk Indices
-arm_walk place arm around how is body aim = bind (arm_match place arm around how is) (λ found. body.walk around found aim)
+abbrev pub arm_walk : Place → Giver → Arm → Around → Matching → List Indices → Part → Aim → Walk Indices
+arm_walk place giver arm around how is body aim =
+    bind (bind (arm_match place arm around how is) (names_given giver is)) (λ found. body.walk around found aim)
 
 -- values that have these indices are matched, and the body comes to what is due; or the pattern doesn't match, or the guard is false
 abbrev pub ArmIsSound : Scene → World Item → Place → Arm → Part → Run Item Item → Type 0
-ArmIsSound q w place arm body run = (n : ℕ) (p : Point n) → Surrounds q w p [] → (facts : List Fact) (how : Matching) (r : Reading) → IsWanted q.set q.work p r
-    → (is : List Indices) (xs : List Item) → AllAre q.set q.work p is xs
-    → Beside q n p facts (arm_walk place arm (here q) how is body (Aims.Due r)) (arm_taken (read_as q) w arm run xs) (λ m g i x. Results q g r x)
+ArmIsSound q w place arm body run = (giver : Giver) (n : ℕ) (p : Point n) → Surrounds q w p [] → (facts : List Fact) (how : Matching) (r : Reading)
+    → IsWanted q.set q.work p r → (is : List Indices) (xs : List Item) → AllAre q.set q.work p is xs
+    → Beside q n p facts (arm_walk place giver arm (here q) how is body (Aims.Due r)) (arm_taken (read_as q) w giver arm run xs) (λ m g i x. Results q g r x)
 
 abbrev pub ArmsAreSound : Scene → World Item → Place → Bool → List Arm → List Core → Type 0
 ArmsAreSound q w place declared [] bodies = Unit {0}
@@ -77,31 +80,22 @@ ArmsAreSound q w place declared (arm ∷ arms) (body ∷ bodies) =
     ArmIsSound q w place (arm_of declared arm) (body_part declared body) (meaning (read_as q) w body) × ArmsAreSound q w place declared arms bodies
 
 -- and a clause that isn't run only adds variables
-abbrev pub ClausesGrow : Scene → Place → ℕ → List Typ → Reading → Bool → List Arm → List Core → Type 0
-ClausesGrow q place entry ts r declared [] bodies = Unit {0}
-ClausesGrow q place entry ts r declared (arm ∷ arms) [] = Unit {0}
-ClausesGrow q place entry ts r declared (arm ∷ arms) (body ∷ bodies) =
-    ((once : List WrittenNumber) (facts : List Fact) (n : ℕ)
-    → n ≤ (written_walk place (Some entry) (here q) ts once (Aims.Due r) declared arm body facts n).next)
-    × ClausesGrow q place entry ts r declared arms bodies
-
--- behind each node numbers are noted, be there none
-abbrev pub NotesAlways : Cases → Type 0
-NotesAlways cases = (k : ℕ) (v : Value) (noted : Noted) → (more : Noted) × (cases.notes k v noted ≡ Some more)
-
--- where there is no clause, no walk notes the numbers of the parameters: they are noted all the same
-abbrev pub NotedAlone : Cases → List Arm → Type 0
-NotedAlone cases [] = NotesAlways cases
-NotedAlone cases (arm ∷ arms) = Unit {0}
+abbrev pub ClausesGrow : Scene → Place → List Typ → Reading → Bool → List Arm → List Core → Type 0
+ClausesGrow q place ts r declared [] bodies = Unit {0}
+ClausesGrow q place ts r declared (arm ∷ arms) [] = Unit {0}
+ClausesGrow q place ts r declared (arm ∷ arms) (body ∷ bodies) =
+    ((giver : Giver) (once : List WrittenNumber) (facts : List Fact) (n : ℕ)
+    → n ≤ (written_walk place giver (here q) ts once (Aims.Due r) declared arm body facts n).next)
+    × ClausesGrow q place ts r declared arms bodies
 
 -- the arms of clauses
-abbrev pub ClausesHold : Scene → World Item → ℕ → List Typ → Reading → Bool → Core-F Core → Kind → Type 0
-ClausesHold q w entry ts r declared c (K.Clauses arms) =
-    NotedAlone q.cases arms × ArmsAreSound q w c.place declared arms c.parts × ClausesGrow q c.place entry ts r declared arms c.parts
-ClausesHold q w entry ts r declared c kind = ⊥
+abbrev pub ClausesHold : Scene → World Item → List Typ → Reading → Bool → Core-F Core → Kind → Type 0
+ClausesHold q w ts r declared c (K.Clauses arms) =
+    ArmsAreSound q w c.place declared arms c.parts × ClausesGrow q c.place ts r declared arms c.parts
+ClausesHold q w ts r declared c kind = ⊥
 
 abbrev pub CoreHolds : Scene → World Item → Function → Reading → Bool → Core → Type 0
-CoreHolds q w f r declared core = ClausesHold q w f.entry f.parameters r declared (out-Core core) (out-Core core).kind
+CoreHolds q w f r declared core = ClausesHold q w f.parameters r declared (out-Core core) (out-Core core).kind
 
 -- ---- a function under an instance
 
@@ -111,7 +105,7 @@ OwnSame f h g = (i : ℕ) → i < length f.variables → h i ≡ g i
 
 abbrev pub AllMade : Setting → Work → Function → Integers → List Typ → List Value → List Sized → Type 0
 AllMade set x f g [] [] [] = Unit {0}
-AllMade set x f g (t ∷ ts) (v ∷ vs) (s ∷ ss) = OpensAs set.around.types set.past x g (own_type f t) v s × AllMade set x f g ts vs ss
+AllMade set x f g (t ∷ ts) (v ∷ vs) (s ∷ ss) = (IsExact set → OpensAs set.around.types set.past x g (own_type f t) v s) × AllMade set x f g ts vs ss
 AllMade set x f g ts vs ss = ⊥
 
 pub record EntersAs (set : Setting) (k : Checks) (x : Work) (f : Function) (vs : List Value) (h : Integers) (c : Enters set x f vs h) : Type 0 where

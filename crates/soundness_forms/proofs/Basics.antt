@@ -10,6 +10,7 @@ use Rattle.sail_types.specs.declared.values.Value.{Value}
 use Rattle.sail_core.specs.Run as R
 use Rattle.sail_core.specs.Run.{Now, Ended, Run, gives, goes_on, needs, ◌then◌}
 use Rattle.sail_core.specs.Making.{made}
+use Rattle.sail_core.specs.declared.tree.Giver.TheVariants as By
 use Rattle.size_values.specs.declared.sized.Sized.{Sized}
 use Rattle.value_indices.specs.declared.indices.Indices.{Indices}
 use Rattle.value_indices.specs.declared.indices.Indices.TheVariants as I
@@ -31,7 +32,7 @@ use Rattle.value_laws.proofs.Opening.{opening_sound}
 use Rattle.value_laws.proofs.Steps.{same}
 use Rattle.soundness_steps.specs.Points.{Later}
 use Rattle.soundness_steps.proofs.Points.{agree_on}
-use Rattle.soundness_steps.specs.Works.{Work, Setting, Scene, here}
+use Rattle.soundness_steps.specs.Works.{IsExact, Work, Setting, Scene, here}
 use Rattle.soundness_steps.specs.Noted.{sized}
 use Rattle.soundness_steps.specs.Steps.{Beside, Walks}
 use Rattle.soundness_steps.specs.Values.{Has, Is, IsSteady, Belongs, IsWanted, IsMadeAs, IsMet, AimSteady, Comes}
@@ -45,7 +46,7 @@ module _ {set : Setting} {work : Work} {n m : ℕ} {f : Point n} {g : Point m} w
   has_on l h = record { meaning = h.meaning; is_so = h.is_so; steady = λ k a. h.steady k (agree_on l a) }
 
   pub is_on : {i : Indices} {x : Item} → Later f g → Is set work f i x → Is set work g i x
-  is_on l h = record { has = has_on l h.has; typ = λ k a. h.typ k (agree_on l a) }
+  is_on l h = record { has = has_on l h.has; typ = λ exact k a. h.typ exact k (agree_on l a) }
 
 module _ (set : Setting) (work : Work) {n m : ℕ} {f : Point n} {g : Point m} where
   pub steady_on : (r : Reading) → Later f g → IsSteady set work f r → IsSteady set work g r
@@ -121,7 +122,8 @@ then_walks k {c} b next = runs_as (λ now. then_gives (c now)) (binds k gives b 
 pub opens : {q : Scene} {n : ℕ} {f : Point n} {facts : List Fact} (r : Reading) (tells : Bool) (name : Naming) (v : Value)
     → IsSteady q.set q.work f r → Belongs q.set q.work f r v
     → Walks q n f facts (opening r tells name) (λ m p i. Has q.set q.work p i v
-    × ((s : Sized) → IsMadeAs q.set q.work f (Makes.ByType r) v s → (g : Integers) → Agree p g → s ≡ sized q.set.around.types q.work.own g i))
+    × ((s : Sized) → IsMadeAs q.set q.work f (Makes.ByType r) v s → IsExact q.set → (g : Integers) → Agree p g
+    → s ≡ sized q.set.around.types q.work.own g i))
 opens {q} {n} {f} {facts} r tells name v steady is = record {
   go = λ noted stands met.
       let o = opening_sound q.set.around.types q.set.past q.work.types r tells name n f facts v steady (is f.integers (same f)) in
@@ -131,7 +133,7 @@ opens {q} {n} {f} {facts} r tells name v steady is = record {
         point = k.point;
         later = k.later;
         stands = k.stands;
-        holds = (h, λ s made g a. (made g (agree_on k.later a)).each tells name facts n (has_there h g a));
+        holds = (h, λ s made exact g a. (made exact g (agree_on k.later a)).each tells name facts n (has_there h g a));
       };
 }
 
@@ -150,13 +152,13 @@ settles fit {q} {n} {f} {facts} place (Aims.Due r) i x st h = walks_on (λ t. gi
 
 module _ (types : Types) (cases : Cases) where
   made_alike : (k : ℕ) (xs : List Item) (v : Value) (now : Now Item) (o : Option Sized)
-      → goes_on ((needs o then λ s. gives (item s v)) now) (λ x. (checked types cases).note k v then λ t. gives x)
-      ≡ goes_on ((needs o then λ s. gives (item s v)) now) (λ x. (checked types cases).note k x.val then λ t. gives x)
+      → goes_on ((needs o then λ s. gives (item s v)) now) (λ x. (checked types cases).note (By.Node k) v then λ t. gives x)
+      ≡ goes_on ((needs o then λ s. gives (item s v)) now) (λ x. (checked types cases).note (By.Node k) x.val then λ t. gives x)
   made_alike k xs v now None = refl
   made_alike k xs v now (Some s) = refl
 
   pub ended_alike : {B : Type 0} (k : ℕ) (xs : B → List Item) (v : B → Value) (e : Ended Item B)
-      → goes_on (goes_on e (λ b. (checked types cases).make k (xs b) (v b))) (λ x. (checked types cases).note k x.val then λ t. gives x)
+      → goes_on (goes_on e (λ b. (checked types cases).make k (xs b) (v b))) (λ x. (checked types cases).note (By.Node k) x.val then λ t. gives x)
       ≡ goes_on e (λ b. made (checked types cases) k (xs b) (v b))
   ended_alike k xs v (R.Gives b now) = sym (made_alike k (xs b) (v b) now (cases.makes k (typs (xs b)) (v b) now.opened))
   ended_alike k xs v (R.No now) = refl

@@ -22,6 +22,7 @@ use Rattle.value_indices.specs.Opening.{opened}
 use Rattle.value_indices.specs.Steps.{call_note, note, bind}
 use Rattle.call_arguments.specs.Callees.{numbers_from, types_from}
 use Rattle.call_notes.specs.Calls.{function_called, noted_call}
+use Rattle.call_fits.specs.Calls.{givens_at}
 use Rattle.call_notes.specs.Noted.{made_opened}
 use Rattle.checked_meaning.specs.Items.{Item, typs, vals}
 use Rattle.checked_meaning.specs.Checked.{checked}
@@ -33,7 +34,7 @@ use Rattle.soundness_steps.proofs.Points.{agree_on, later_on, no_later}
 use Rattle.soundness_steps.specs.Works.{Scene, Work, here}
 use Rattle.soundness_steps.specs.Noted.{type_sized}
 use Rattle.soundness_steps.specs.Covers.{AllAgree, given_there}
-use Rattle.soundness_steps.specs.Calls.{After, CallEnds, Enters, SoundCalls, call_falls, call_gives, call_stops, call_throws, inside}
+use Rattle.soundness_steps.specs.Calls.{After, CallEnds, Enters, SoundCalls, awaited_at, call_falls, call_gives, call_stops, call_throws, inside}
 use Rattle.soundness_steps.specs.States.{AllKept, Sound}
 use Rattle.soundness_steps.specs.Steps.{Beside, EndsWell, Stands, well_given, well_stopped, well_thrown}
 use Rattle.soundness_steps.specs.Values.{AllTyped, Is}
@@ -96,6 +97,10 @@ module _ (q : Scene) (w : World Item) (place : Place) (k i : ℕ) (fn : Function
   abbrev Gives : {n : ℕ} {f : Point n} → CallFits q.set q.work f fn js qs (vals xs) → Value → Type 0
   Gives fits v = belongs q.set.around.types v (over (inside q.set fn fits.integers) fn.result fits.types) ≡ true
 
+  pub agrees : {n : ℕ} (f : Point n) (fits : CallFits q.set q.work f fn js qs (vals xs)) (numbers : List (Option Given))
+      → AllAgree q.set.past f.integers numbers js → all_agree numbers (givens_at fits.integers 0 fn.variables) ≡ true
+  agrees f fits numbers h = ap (all_agree numbers) (sym (fits.given f.integers (same f))) ∙ agree_all q.set.past f.integers numbers js h
+
   call_runs : {n : ℕ} {f : Point n} {facts : List Fact} → AllTyped q.set q.work f is xs → (fits : CallFits q.set q.work f fn js qs (vals xs))
       → Beside q n f facts (note (λ fs. call_note fs place k is (D.Function i) js qs))
       ((checked q.set.around.types q.cases).calls k xs then λ awaited. w.call place i awaited (vals xs)) (λ m p t v. Gives fits v)
@@ -116,11 +121,11 @@ module _ (q : Scene) (w : World Item) (place : Place) (k i : ℕ) (fn : Function
           belong = fits.belong;
           constraint = fits.constraint;
           are_given = fits.are_given;
-          awaited = ap (all_agree lead.instance.numbers) (sym (fits.given f.integers
-              (same f))) ∙ agree_all q.set.past f.integers lead.instance.numbers js lead.agree;
+          awaited = agrees f fits lead.instance.numbers lead.agree;
         } in
-        called_for (q.cases.calls k (typs xs) now.opened) lead.instance (λ awaited. w.call place i awaited (vals xs)) now lead.is_there
-        (calls_well now stands ok (calls.call place x fn (vals xs) fits.integers enters now ok.state));
+        called_for (q.cases.calls k (typs xs) now.opened) (awaited_at x lead.awaited) (λ awaited. w.call place i awaited (vals xs)) now lead.is_there
+        (calls_well now stands ok
+        (calls.call place x fn (vals xs) fits.integers enters lead.awaited (agrees f fits lead.awaited lead.awaits) now ok.state));
   }
 
   -- the type of what it gives

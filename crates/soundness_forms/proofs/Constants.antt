@@ -184,6 +184,6 @@ module _ (fit : FitsSuffice) (q : Scene) (w : World Item) {n : ℕ} (f : Point n
       let x : Item = item (fixed_typ q.set.around.types (literal_typ l)) (literal_value l) in
       rests x (walks_on (λ i. give i)
       (walks_on (settled (here q) place aim) {Holds = λ m g i. Is q.set q.work g i x × AimSteady q.set q.work g aim} (given_back (literal_indices l)
-      (record { has = literal_has q.set q.work f l h; typ = λ g a. literal_sized q.set.around.types q.work.own g l }, st))
+      (record { has = literal_has q.set q.work f l h; typ = λ exact g a. literal_sized q.set.around.types q.work.own g l }, st))
       (λ m g fs i l2 e. settles fit place aim i x e.1 e.0))
       (λ m g fs i l2 e. given_back i e))

@@ -62,10 +62,10 @@ form_gives_all W.Never = gives_none
 form_gives_all W.Unit = gives_none
 form_gives_all (W.Truth c) = gives_none
 form_gives_all W.Bit = gives_none
-form_gives_all (W.Bits t) = gives_none
+form_gives_all (W.Bits t) = gives_one (variable_in t)
 form_gives_all W.String = gives_none
 form_gives_all (W.List r) = gives_none
-form_gives_all (W.Vector t r) = gives_none
+form_gives_all (W.Vector t r) = gives_one (variable_in t)
 form_gives_all (W.Named u is rs) = gives_none
 form_gives_all (W.Variable i) = gives_none
 

@@ -2,6 +2,8 @@
 use Rattle.std.proofs.Common.{ℕ, ◌≤◌, Bool, true, false, List, [], ◌∷◌, ◌++◌, map, Some, refl, sym, ap, ◌∙◌, subst, arith}
 use Rattle.std.proofs.lemmas.List.{append-nil, append_assoc}
 use Rattle.sail_base.specs.declared.place.Place.{Place}
+use Rattle.sail_core.specs.declared.tree.Giver.TheVariants as By
+use Rattle.sail_core.specs.declared.tree.Giver.{Giver}
 use Rattle.sail_types.specs.Zero.{deepest}
 use Rattle.sail_types.specs.declared.numbers.Con.{Con}
 use Rattle.sail_types.specs.declared.numbers.Con.TheVariants as C
@@ -26,7 +28,7 @@ use Rattle.pattern_leaves.specs.Settings.{Around}
 use Rattle.call_arguments.specs.declared.aims.Aim.{Aim}
 use Rattle.call_arguments.specs.declared.aims.Aim.TheVariants as Aims
 use Rattle.call_notes.specs.Ends.{settled, sized_by, wrong_value}
-use Rattle.call_notes.specs.Noted.{node_ended, node_given, node_made, numbers_given, numbers_noted}
+use Rattle.call_notes.specs.Noted.{node_ended, node_given, node_made, numbers_by, numbers_given, numbers_noted}
 use Rattle.expression_forms.specs.Names.{named_opened, named_read}
 use Rattle.expression_steps.specs.Expressions.{node_end}
 use Rattle.soundness_steps.specs.Noted.{variables_given}
@@ -102,10 +104,13 @@ grows_settled around place (Aims.PartOf r) i = grows_give i
 grows_settled around place (Aims.Due r) i =
     grows_bind (owe_fit place (fits around.types i r)) (λ t. give i) (grows_fits place around.types i r) (λ t. grows_give i)
 
+pub grows_by : (giver : Giver) (i : Indices) → Grows (numbers_by giver i)
+grows_by giver i =
+    grows_bind (note (λ facts. given_note facts giver i)) (λ t. numbers_given i) (grows_note (λ facts. given_note facts giver i)) (λ t.
+    grows_gives (numbers_given i) (variables_given i) (gives_all i))
+
 pub grows_given : (k : ℕ) (i : Indices) → Grows (node_given k i)
-grows_given k i = grows_bind (numbers_noted k i) (λ t. give i)
-    (grows_bind (note (λ facts. given_note facts k i)) (λ t. numbers_given i) (grows_note (λ facts. given_note facts k i)) (λ t.
-    grows_gives (numbers_given i) (variables_given i) (gives_all i))) (λ t. grows_give i)
+grows_given k i = grows_bind (numbers_noted k i) (λ t. give i) (grows_by (By.Node k) i) (λ t. grows_give i)
 
 pub grows_end : (k : ℕ) (made : Bool) (i : Indices) → Grows (node_end k made i)
 grows_end k true i = grows_given k i

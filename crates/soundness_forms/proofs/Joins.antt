@@ -69,7 +69,7 @@ z q = checked q.set.around.types q.cases
 
 -- `()` is of its type
 pub unit_is : (q : Scene) {n : ℕ} (f : Point n) → Is q.set q.work f I.Unit (nothing (z q))
-unit_is q f = record { has = literal_has q.set q.work f L.Unit refl; typ = λ g a. literal_sized q.set.around.types q.work.own g L.Unit }
+unit_is q f = record { has = literal_has q.set q.work f L.Unit refl; typ = λ exact g a. literal_sized q.set.around.types q.work.own g L.Unit }
 
 -- ---- of which a type is wanted
 
@@ -108,7 +108,7 @@ module _ (q : Scene) (m : ℕ) (shape : Shape) where
           point = d.point;
           later = d.later;
           stands = d.stands;
-          holds = (((λ k a. e.0.0 k (agree_on d.later a)), (λ k a. e.0.1 k (agree_on d.later a))), e.1);
+          holds = (((λ k a. e.0.0 k (agree_on d.later a)), (λ exact k a. e.0.1 exact k (agree_on d.later a))), e.1);
         };
   }
 
@@ -133,7 +133,7 @@ module _ (q : Scene) (m : ℕ) (shape : Shape) where
               later = d.later;
               stands = d.stands;
               holds = (
-                record { has = d.holds.0; typ = d.holds.1 x.typ (λ k y. h.1 k (agree_on b y)) },
+                record { has = d.holds.0; typ = d.holds.1 x.typ (λ exact k y. h.1 exact k (agree_on b y)) },
                 λ k y. h.0 k (agree_on b (agree_on d.later y)),
               );
             };

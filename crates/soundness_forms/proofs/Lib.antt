@@ -11,6 +11,7 @@ pub mod Parts
 pub mod Tests
 pub mod Growth
 pub mod Joins
+pub mod NamesGiven
 pub mod Lets
 pub mod Branches
 pub mod Cases

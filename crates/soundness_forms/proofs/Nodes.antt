@@ -4,6 +4,7 @@ use Rattle.sail_base.specs.declared.place.Place.{Place}
 use Rattle.sail_types.specs.declared.values.Value.{Value}
 use Rattle.sail_core.specs.Run.{Run, gives, ◌then◌}
 use Rattle.sail_core.specs.Making.{made}
+use Rattle.sail_core.specs.declared.tree.Giver.TheVariants as By
 use Rattle.value_indices.specs.declared.indices.Indices.{Indices}
 use Rattle.value_indices.specs.declared.indices.Naming.{Naming}
 use Rattle.value_indices.specs.declared.indices.Reading.{Reading}
@@ -32,7 +33,7 @@ pub comes_on : {set : Setting} {work : Work} {n m : ℕ} {f : Point n} {g : Poin
     → Later f g → Comes set work f cast nested never_ends aim i x → Comes set work g cast nested never_ends aim i x
 comes_on {set} {work} cast nested never_ends aim i x l h = record {
   has = has_on l h.has;
-  typ = λ k a. h.typ k (agree_on l a);
+  typ = λ exact k a. h.typ exact k (agree_on l a);
   met = met_on set work aim nested x.val l h.met;
   ends = h.ends;
 }
@@ -40,17 +41,17 @@ comes_on {set} {work} cast nested never_ends aim i x l h = record {
 pub typed_on : (set : Setting) (work : Work) {n m : ℕ} {f : Point n} {g : Point m} (is : List Indices) (xs : List Item) → Later f g
     → AllTyped set work f is xs → AllTyped set work g is xs
 typed_on set work [] [] l h = tt
-typed_on set work (i ∷ is) (x ∷ xs) l h = ((λ k a. h.0 k (agree_on l a)), typed_on set work is xs l h.1)
+typed_on set work (i ∷ is) (x ∷ xs) l h = ((λ exact k a. h.0 exact k (agree_on l a)), typed_on set work is xs l h.1)
 typed_on set work [] (x ∷ xs) l h = absurd h
 typed_on set work (i ∷ is) [] l h = absurd h
 
 -- what a value gives is noted
 pub gives_node : {q : Scene} {n : ℕ} {f : Point n} {facts : List Fact} (k : ℕ) (i : Indices) (x : Item) (cast nested never_ends : Bool) (aim : Aim)
     → Comes q.set q.work f cast nested never_ends aim i x
-    → Beside q n f facts (node_given k i) ((checked q.set.around.types q.cases).note k x.val then λ t. gives x)
+    → Beside q n f facts (node_given k i) ((checked q.set.around.types q.cases).note (By.Node k) x.val then λ t. gives x)
     (λ m g j y. Comes q.set q.work g cast nested never_ends aim j y)
 gives_node k i x cast nested never_ends aim h =
-    binds (λ t. give i) (λ t. gives x) (gives_numbers k i x.val (numbers_given i) (gives_all i) (has_there h.has)) (λ m g fs t u l e.
+    binds (λ t. give i) (λ t. gives x) (gives_numbers (By.Node k) i x.val (numbers_given i) (gives_all i) (has_there h.has)) (λ m g fs t u l e.
     rests x (given_back i (comes_on cast nested never_ends aim i x l h)))
 
 -- a node behind a walk to the value that it makes
@@ -62,7 +63,7 @@ pub ends_node : {q : Scene} {n : ℕ} {f : Point n} {facts : List Fact} {B : Typ
     (λ m g i x. Comes q.set q.work g cast nested never_ends aim i x)
 ends_node {q} k c xs v cast nested never_ends aim h =
     runs_as (λ now. ended_alike q.set.around.types q.cases k xs v (c now))
-    (binds (node_given k) (λ x. (checked q.set.around.types q.cases).note k x.val then λ t. gives x) h (λ m g fs i x l e.
+    (binds (node_given k) (λ x. (checked q.set.around.types q.cases).note (By.Node k) x.val then λ t. gives x) h (λ m g fs i x l e.
     gives_node k i x cast nested never_ends aim e))
 
 -- ---- what is made of operands
@@ -85,7 +86,7 @@ made_opens {q} place k is r tells name xs v typed steady belongs =
     let there = later_on l b in
     walks_mean (λ o d i h. record {
       has = subst (Has q.set q.work d i) (sym e.0) h.0;
-      typ = h.1 y.typ (λ x c. e.1 x (agree_on b c));
+      typ = h.1 y.typ (λ exact x c. e.1 exact x (agree_on b c));
     }) (opens r tells name v (steady_on q.set q.work r there steady) (λ h c. belongs h (agree_on there c)))))
 
 -- a node whose value is settled

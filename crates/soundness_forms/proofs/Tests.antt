@@ -1,5 +1,5 @@
 -- Truths and integers, as a run tests them.
-use Rattle.std.proofs.Common.{◌≡◌, ℕ, ℤ, Bool, true, false, List, [], Option, Some, None, refl, sym, ap, ◌∙◌}
+use Rattle.std.proofs.Common.{◌≡◌, ℕ, ℤ, Bool, true, false, List, Option, Some, None, refl, sym, ap, ◌∙◌}
 use Rattle.std.specs.Bool.{beq}
 use Rattle.std.specs.Ordering.{int_eq}
 use Rattle.std.proofs.lemmas.Bool.{and_parts}
@@ -7,26 +7,18 @@ use Rattle.std.proofs.lemmas.Bool.Decides.{Decides-int_eq}
 use Rattle.sail_base.specs.declared.place.Place.{Place}
 use Rattle.sail_types.specs.Limits.{is_small}
 use Rattle.sail_types.specs.Numbers.{number, true_in}
-use Rattle.sail_types.specs.Sums.{constant}
 use Rattle.sail_types.specs.declared.numbers.Con.{Con}
 use Rattle.sail_types.specs.declared.numbers.Num.{Num}
 use Rattle.sail_types.specs.declared.table.Types.{Types}
-use Rattle.sail_types.specs.declared.types.Typ.TheFolds.{fold-roll-Typ}
-use Rattle.sail_types.specs.declared.types.Typ.TheOpen as T
-use Rattle.sail_types.specs.declared.types.Typ.TheVariants as U
 use Rattle.sail_types.specs.declared.values.Value.{Value, Value-F, out-Value}
 use Rattle.sail_types.specs.declared.values.Value.TheOpen as V
-use Rattle.row_types.specs.Formulas.{least, most}
 use Rattle.sail_core.specs.Making.{integer, truth}
 use Rattle.sail_core.specs.Run as R
 use Rattle.sail_core.specs.Run.{Now, needs}
-use Rattle.sail_core.specs.Values.{form_integer, form_truth, int_typ}
-use Rattle.size_values.specs.declared.sized.Sized.{Sized, out-Sized}
-use Rattle.size_values.specs.declared.sized.Sized.TheFolds.{fold-roll-Sized}
-use Rattle.size_values.specs.declared.sized.Sized.TheOpen as Z
+use Rattle.sail_core.specs.Values.{form_integer, form_truth}
+use Rattle.size_values.specs.declared.sized.Sized.{Sized}
 use Rattle.size_values.specs.declared.sized.Sized.TheVariants as S
-use Rattle.size_values.specs.declared.sized.Sized.TheViews.{out-roll-Sized}
-use Rattle.size_values.specs.Sized.{Like, UnderConstants, eq_step, form_eq, form_reading_sized, form_sized, indices_sized, sized_eq}
+use Rattle.size_values.specs.Sized.{form_reading_sized, indices_sized}
 use Rattle.value_indices.specs.declared.indices.Indices.{Indices, out-Indices, roll-Indices}
 use Rattle.value_indices.specs.declared.indices.Indices.TheFolds.{fold-roll-Indices}
 use Rattle.value_indices.specs.declared.indices.Indices.TheOpen as W
@@ -37,7 +29,7 @@ use Rattle.value_indices.specs.declared.indices.Reading.{Reading}
 use Rattle.value_indices.specs.declared.notes.Fact.{Fact}
 use Rattle.call_notes.specs.Ends.{number_form, integer_number}
 use Rattle.expression_forms.specs.Truths.{truth_form, truth_of}
-use Rattle.checked_meaning.specs.Items.{Item, fixed_typ}
+use Rattle.checked_meaning.specs.Items.{Item}
 use Rattle.checked_meaning.specs.Checked.{checked}
 use Rattle.value_laws.specs.Belonging.{Integers, form_holds, standing}
 use Rattle.value_laws.specs.Known.{Point, Agree}
@@ -60,21 +52,6 @@ truth_sized types own g c = ap (sized types own g) (sym (I.rolls-Truth c))
 pub integer_sized : (types : Types) (own : List Sized) (g : Integers) (t : Num) → sized types own g (I.Integer t) ≡ S.Int
 integer_sized types own g t = ap (sized types own g) (sym (I.rolls-Integer t))
     ∙ fold-roll-Indices Sized Sized (indices_sized types own (known g)) (form_reading_sized types own (known g)) (W.Integer t)
-
-bool_fixed : (types : Types) → fixed_typ types U.Bool ≡ S.Bool
-bool_fixed types = ap (fixed_typ types) (sym U.rolls-Bool) ∙ ap (λ h. h []) (fold-roll-Typ UnderConstants (form_sized types []) T.Bool)
-
-pub int_fixed : (types : Types) → fixed_typ types int_typ ≡ S.Int
-int_fixed types = ap (fixed_typ types) (sym (U.rolls-Range (constant least) (constant most)))
-    ∙ ap (λ h. h []) (fold-roll-Typ UnderConstants (form_sized types []) (T.Range (constant least) (constant most)))
-
-bool_same : sized_eq S.Bool S.Bool ≡ true
-bool_same = ap (λ s. sized_eq s S.Bool) (sym S.rolls-Bool) ∙ ap (λ h. h S.Bool) (fold-roll-Sized Like eq_step Z.Bool)
-    ∙ ap (form_eq Z.Bool) (ap out-Sized (sym S.rolls-Bool) ∙ out-roll-Sized Z.Bool)
-
-pub int_same : sized_eq S.Int S.Int ≡ true
-int_same = ap (λ s. sized_eq s S.Int) (sym S.rolls-Int) ∙ ap (λ h. h S.Int) (fold-roll-Sized Like eq_step Z.Int)
-    ∙ ap (form_eq Z.Int) (ap out-Sized (sym S.rolls-Int) ∙ out-roll-Sized Z.Int)
 
 -- ---- truths
 
@@ -112,9 +89,7 @@ module _ (q : Scene) {n : ℕ} {f : Point n} where
       let types = q.set.around.types in
       let found = truth_in_form c (out-Value x.val) (λ g a.
       sym (has_form types (standing q.set.past g) q.work.types i (W.Truth c) x.val (I.rolls-Truth c ∙ sym e)) ∙ has_there h.has g a) in
-      let typ : x.typ ≡ S.Bool = h.typ f.integers (same f) ∙ ap (sized types q.work.own f.integers) e ∙ truth_sized types q.work.own f.integers c in
-      let fits : sized_eq (fixed_typ types U.Bool) x.typ ≡ true = (λ j. sized_eq (bool_fixed types j) (typ j)) ∙ bool_same in
-      (found.0, (λ now. sym ((λ j. R.if_so (needs (form_truth (out-Value x.val))) R.stuck (fits j) now) ∙ ap (λ o. needs o now) found.1)), found.2)
+      (found.0, (λ now. sym (ap (λ o. needs o now) found.1)), found.2)
 
   truth_by : {facts : List Fact} (place : Place) (i : Indices) (x : Item) → Is q.set q.work f i x → (y : Indices-F Indices Reading) → out-Indices i ≡ y
       → Beside q n f facts (truth_form place y) (truth (checked q.set.around.types q.cases) x) (λ m p o b. TruthIs q p o b)
@@ -156,9 +131,7 @@ module _ (q : Scene) {n : ℕ} {f : Point n} where
       let types = q.set.around.types in
       let found = integer_in_form t (out-Value x.val) (λ g a.
       sym (has_form types (standing q.set.past g) q.work.types i (W.Integer t) x.val (I.rolls-Integer t ∙ sym e)) ∙ has_there h.has g a) in
-      let typ : x.typ ≡ S.Int = h.typ f.integers (same f) ∙ ap (sized types q.work.own f.integers) e ∙ integer_sized types q.work.own f.integers t in
-      let fits : sized_eq (fixed_typ types int_typ) x.typ ≡ true = (λ j. sized_eq (int_fixed types j) (typ j)) ∙ int_same in
-      (found.0, (λ now. sym ((λ j. R.if_so (needs (form_integer (out-Value x.val))) R.stuck (fits j) now) ∙ ap (λ o. needs o now) found.1)), (found.2, found.3))
+      (found.0, (λ now. sym (ap (λ o. needs o now) found.1)), (found.2, found.3))
 
   integer_by : {facts : List Fact} (place : Place) (i : Indices) (x : Item) → Is q.set q.work f i x → (y : Indices-F Indices Reading) → out-Indices i ≡ y
       → Beside q n f facts (number_form place y) (integer (checked q.set.around.types q.cases) x) (λ m p o z. NumberIs q p o z)

@@ -134,7 +134,7 @@ module _ (fit : FitsSuffice) (q : Scene) (w : World Item) (scope : Scope) (place
   asserts = ra then λ x. truth (z q w) x then if_so (gives (nothing (z q w))) (stops (Assertion place text))
 
   unit_is : {n : ℕ} (f : Point n) → Is q.set q.work f I.Unit (nothing (z q w))
-  unit_is f = record { has = literal_has q.set q.work f L.Unit refl; typ = λ g a. literal_sized q.set.around.types q.work.own g L.Unit }
+  unit_is f = record { has = literal_has q.set q.work f L.Unit refl; typ = λ exact g a. literal_sized q.set.around.types q.work.own g L.Unit }
 
   held_by : {A : Type 0} {m : ℕ} {g : Point m} {fs : List Fact} (a : A) (o : Option Con) (t : Bool) → TruthIs q g o t
       → {Holds : (j : ℕ) → Point j → A → Item → Type 0} → (t ≡ true → Holds m g a (nothing (z q w)))

@@ -1,7 +1,8 @@
 -- What is taken of patterns: what a pattern binds beside its run are names of the walk's indices.
-use Rattle.std.specs.Prelude.{◌≡◌, ℕ, Bool, true, List, [], ◌∷◌, Option, Some}
+use Rattle.std.specs.Prelude.{◌≡◌, ℕ, Bool, true, List, [], ◌∷◌, map, Option, Some}
 use Rattle.sail_base.specs.declared.place.Place.{Place}
 use Rattle.sail_core.specs.Making.{World}
+use Rattle.sail_core.specs.Meaning.{held_by}
 use Rattle.sail_core.specs.Patterns.{arm_meaning}
 use Rattle.sail_core.specs.Run.{Local}
 use Rattle.sail_core.specs.declared.patterns.Arm.{Arm}
@@ -13,19 +14,21 @@ use Rattle.pattern_leaves.specs.declared.names.Bound.{Bound}
 use Rattle.pattern_notes.specs.Patterns.{arm_match, arm_written, looks, one_match}
 use Rattle.pattern_notes.specs.declared.matching.Matching.{Matching}
 use Rattle.checked_meaning.specs.Checked.{checked}
-use Rattle.checked_meaning.specs.Items.{Item}
+use Rattle.call_notes.specs.Noted.{name_indices}
+use Rattle.checked_meaning.specs.Items.{Item, vals}
 use Rattle.value_laws.specs.Known.{Point}
 use Rattle.soundness_steps.specs.Works.{Kept, Scene, Setting, Work, here}
 use Rattle.soundness_steps.specs.States.{AllKept}
 use Rattle.soundness_steps.specs.Steps.{Beside}
-use Rattle.soundness_steps.specs.Values.{AllAre, Belongs, InScope, Is}
+use Rattle.soundness_steps.specs.Values.{AllAre, AllHave, Belongs, InScope, Is}
 use Rattle.soundness_forms.specs.Worlds.{Surrounds}
 
--- names that are bound, as the run keeps them
+-- names that are bound, as the run keeps them: what each holds is of what the walk has for it
 pub record Binds (set : Setting) (work : Work) {n : ℕ} (f : Point n) (found : List Bound) (locals : List (Local Item)) : Type 0 where
   pub names : List Kept
   pub in_scope : InScope set work f found names
   pub kept : AllKept set.around.types names locals
+  pub values : AllHave set work f (map name_indices found) (vals (map held_by locals))
 
 -- the patterns of this arm over as many values; a pattern may say No
 abbrev pub ArmMatches : Scene → World Item → Arm → Type 0

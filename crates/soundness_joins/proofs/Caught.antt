@@ -1,5 +1,5 @@
 -- `try`, beside its run.
-use Rattle.std.proofs.Common.{◌≡◌, ℕ, pos, true, false, List, [], ◌∷◌, ◌++◌, Option, Some, None, refl, sym, ap, ◌∙◌, subst, arith}
+use Rattle.std.proofs.Common.{◌≡◌, ℕ, pos, true, false, List, [], ◌∷◌, ◌++◌, length, Option, Some, None, refl, sym, ap, ◌∙◌, subst, arith}
 use Rattle.std.proofs.lemmas.List.{append-nil}
 use Rattle.std.specs.Prelude.{is_none}
 use Rattle.sail_base.specs.declared.place.Place.{Place}
@@ -14,6 +14,7 @@ use Rattle.sail_core.specs.Meaning.{first_of, kind_meaning, met_at}
 use Rattle.sail_core.specs.Run as R
 use Rattle.sail_core.specs.Run.{Now, Ended, Run, caught, gives, goes_on, throws, ◌then◌}
 use Rattle.sail_core.specs.declared.patterns.Arm.{Arm}
+use Rattle.sail_core.specs.declared.tree.Giver.TheVariants as By
 use Rattle.sail_core.specs.declared.tree.Kind.TheVariants as K
 use Rattle.value_indices.specs.declared.indices.Indices.{Indices}
 use Rattle.value_indices.specs.declared.indices.Indices.TheFolds.{fold-roll-Indices}
@@ -26,11 +27,11 @@ use Rattle.pattern_leaves.specs.Settings.{Scope}
 use Rattle.pattern_notes.specs.Patterns.{arm_match}
 use Rattle.call_arguments.specs.Aims.{branch_aim, wanted}
 use Rattle.call_arguments.specs.declared.aims.Aim.{Aim}
-use Rattle.call_notes.specs.Noted.{node_ended, numbers_given, numbers_noted}
+use Rattle.call_notes.specs.Noted.{names_given, node_ended, numbers_given, numbers_noted}
 use Rattle.expression_forms.specs.Meeting.{thrown}
 use Rattle.expression_steps.specs.Expressions.{kind_walk}
 use Rattle.expression_steps.specs.Parts.{Part}
-use Rattle.expression_steps.specs.Statements.{case_ways, caught_at, each_way, try_over, try_way, way_behind}
+use Rattle.expression_steps.specs.Statements.{case_names, case_ways, caught_at, each_way, try_over, try_way, way_behind}
 use Rattle.checked_meaning.specs.Checked.{checked}
 use Rattle.checked_meaning.specs.Items.{Item}
 use Rattle.value_laws.specs.Belonging.{form_holds, meant, standing}
@@ -58,6 +59,7 @@ use Rattle.soundness_forms.proofs.Casts.{no_guard}
 use Rattle.soundness_forms.proofs.Giving.{gives_all}
 use Rattle.soundness_forms.proofs.Growth.{grows_bind}
 use Rattle.soundness_forms.proofs.Joins.{joined, joining, met_behind_all, runs_past, z}
+use Rattle.soundness_forms.proofs.NamesGiven.{names_grow}
 use Rattle.soundness_forms.proofs.Worlds.{surrounds_on}
 use Rattle.soundness_joins.proofs.Pieces.{then_runs}
 
@@ -106,7 +108,7 @@ module _ (q : Scene) where
   catch_passes k o =
       walks_on (numbers_noted k) {Holds = λ m g j. j ≡ thrown o}
       (walks_on (λ t. give (thrown o)) (notes (λ fs. made_note fs k [] (Makes.ByIndices (thrown o)))) (λ m g fs t l h. given_back (thrown o) refl))
-      (λ m g fs j l e. walks_on (λ t. numbers_given j) (notes (λ gs. given_note gs k j)) (λ m2 g2 fs2 t l2 h.
+      (λ m g fs j l e. walks_on (λ t. numbers_given j) (notes (λ gs. given_note gs (By.Node k) j)) (λ m2 g2 fs2 t l2 h.
       numbers_pass j (ap variables_given e ∙ exception_given o)))
 
   node_is : {n : ℕ} {f : Point n} {facts : List Fact} (k : ℕ) (i : Indices) (v : Value) → Has q.set q.work f i v
@@ -119,9 +121,9 @@ module _ (q : Scene) where
   catch_made k i v h =
       let z = checked q.set.around.types q.cases in
       runs_as (λ now. ended_alike q.set.around.types q.cases k (λ (t : Unit {0}). []) (λ t. v) (R.Gives tt now))
-      (binds (numbers_noted k) (λ x. z.note k x.val then λ t. gives x) (node_is k i v h) (λ m g fs j x l d.
+      (binds (numbers_noted k) (λ x. z.note (By.Node k) x.val then λ t. gives x) (node_is k i v h) (λ m g fs j x l d.
       then_runs (λ t. gives x)
-      (gives_numbers k j x.val (numbers_given j) (gives_all j) (has_there (subst (λ e. Has q.set q.work g e x.val) (sym d.0) d.1.has)))
+      (gives_numbers (By.Node k) j x.val (numbers_given j) (gives_all j) (has_there (subst (λ e. Has q.set q.work g e x.val) (sym d.0) d.1.has)))
       (λ m2 g2 fs2 a u l2 b. rests x (given_back tt (is_on l2 d.1)))))
 
 thrown_well : {q : Scene} {n : ℕ} {f : Point n} {m : ℕ} {fs : List Fact} {B : Type 0} {Holds : Point m → B → Type 0} {v : Value} {now : Now Item}
@@ -148,12 +150,12 @@ module _ (free : FreeJoining) (q : Scene) (w : World Item) (grows : ArmsGrow q w
   abbrev over : Indices
   over = thrown q.set.around.exception
 
-  ways_grow : (cs : List Arm) (bs : List Part) (ds : List (Run Item Item)) → Bodies q w cs bs ds → AllGrow (case_ways place cs bs (here q) scope aim over)
+  ways_grow : (cs : List Arm) (bs : List Part) (ds : List (Run Item Item)) → Bodies q w cs bs ds → AllGrow (case_ways place k cs bs (here q) scope aim over)
   ways_grow [] [] [] h = tt
   ways_grow (c ∷ cs) (b ∷ bs) (d ∷ ds) h = (
-    grows_bind (arm_match place c (here q) (record { in_case = true; is_owed = false }) (over ∷ [])) (λ found.
-        b.walk (here q) (found ++ scope) (branch_aim aim))
-        (grows place c over) (λ found. h.0.1.grows (here q) (found ++ scope) (branch_aim aim)),
+    grows_bind (case_names (By.Arm k (length cs)) place c (here q) over) (λ found. b.walk (here q) (found ++ scope) (branch_aim aim))
+        (grows_bind (arm_match place c (here q) (record { in_case = true; is_owed = false }) (over ∷ [])) (names_given (By.Arm k (length cs)) (over ∷ []))
+        (grows place c over) (names_grow (By.Arm k (length cs)) (over ∷ []))) (λ found. h.0.1.grows (here q) (found ++ scope) (branch_aim aim)),
     ways_grow cs bs ds h.1,
   )
   ways_grow [] [] (d ∷ ds) h = absurd h
@@ -167,25 +169,25 @@ module _ (free : FreeJoining) (q : Scene) (w : World Item) (grows : ArmsGrow q w
       (λ m g i x. Comes q.set q.work g false true false aim i x)
   first_runs {n} {f} {facts} there st =
       let join = joining free q n shape aim in
-      joined q aim shape join place k (try_way a (here q) scope aim ∷ case_ways place arms ps (here q) scope aim over) ((z q).inside ra) false st
+      joined q aim shape join place k (try_way a (here q) scope aim ∷ case_ways place k arms ps (here q) scope aim over) ((z q).inside ra) false st
       (means (λ m g o y l e. (e.0, refl))
-      (join.taken q.may_fall a.is_nested (try_way a (here q) scope aim) (case_ways place arms ps (here q) scope aim over) ra None n f facts (omega arith)
+      (join.taken q.may_fall a.is_nested (try_way a (here q) scope aim) (case_ways place k arms ps (here q) scope aim over) ra None n f facts (omega arith)
       (ways_grow arms ps rs hs)
       (ha.walks q.names q.may_fall no_guard n f facts scope (branch_aim aim) there (branch_steady q f aim st))))
 
   -- what is thrown is matched; what no case takes is thrown on
   catch_runs : {n : ℕ} {f : Point n} {facts : List Fact} (v : Value) (x : Item) → IsThrown q.set q.set.around.exception v → Surrounds q w f scope
       → AimSteady q.set q.work f aim → Is q.set q.work f over x
-      → Beside q n f facts (try_over place k shape arms a ps (here q) scope aim over) (met_at (z q) k (first_of (z q) w arms rs (throws v) (x ∷ [])))
+      → Beside q n f facts (try_over place k shape arms a ps (here q) scope aim over) (met_at (z q) k (first_of (z q) w k arms rs (throws v) (x ∷ [])))
       (λ m g i y. Comes q.set q.work g false true false aim i y)
   catch_runs {n} {f} {facts} v x is there st h =
       let join = joining free q n shape aim in
-      joined q aim shape join place k (try_way a (here q) scope aim ∷ case_ways place arms ps (here q) scope aim over)
-      (first_of (z q) w arms rs (throws v) (x ∷ [])) false st
-      (runs_past {q = q} (each_way (here q) (is_none (wanted aim)) n shape (case_ways place arms ps (here q) scope aim over))
+      joined q aim shape join place k (try_way a (here q) scope aim ∷ case_ways place k arms ps (here q) scope aim over)
+      (first_of (z q) w k arms rs (throws v) (x ∷ [])) false st
+      (runs_past {q = q} (each_way (here q) (is_none (wanted aim)) n shape (case_ways place k arms ps (here q) scope aim over))
       (way_behind (here q) (is_none (wanted aim)) n shape (try_way a (here q) scope aim) None)
       (join.grows (try_way a (here q) scope aim) None (ha.grows (here q) scope (branch_aim aim)))
-      (λ g l. cases_run q w grows scope place over x aim n shape join (throws v) (λ now ok i e m fs Holds. well_thrown v now is ok) arms ps rs ms hs
+      (λ g l. cases_run q w grows scope place k over x aim n shape join (throws v) (λ now ok i e m fs Holds. well_thrown v now is ok) arms ps rs ms hs
       (way_behind (here q) (is_none (wanted aim)) n shape (try_way a (here q) scope aim) None facts n).value
       (let on = l.onward in omega (arith, on)) (surrounds_on q w scope l there) (aim_on q.set q.work aim l st) (is_on l h)))
 
@@ -197,14 +199,14 @@ module _ (free : FreeJoining) (q : Scene) (w : World Item) (grows : ArmsGrow q w
       then_walks (λ i. give i)
       (record {
         run = λ now stands met ok.
-            catches ((z q).inside ra now) (λ v after. (made (z q) k [] v then λ x. first_of (z q) w arms rs (throws v) (x ∷ [])) ((z q).back now after))
+            catches ((z q).inside ra now) (λ v after. (made (z q) k [] v then λ x. first_of (z q) w k arms rs (throws v) (x ∷ [])) ((z q).back now after))
             (λ x. made (z q) k (nothing (z q) ∷ []) x.val)
             ((walks_then (λ t. try_over place k shape arms a ps (here q) scope aim over) (catch_passes q k q.set.around.exception) (λ m g fs t l e.
             first_runs (surrounds_on q w scope l there) (aim_on q.set q.work aim l st))).run now stands met ok)
             (λ v after is ok2.
-            (met_behind_all k (made (z q) k [] v) (λ x. first_of (z q) w arms rs (throws v) (x ∷ []))
+            (met_behind_all k (made (z q) k [] v) (λ x. first_of (z q) w k arms rs (throws v) (x ∷ []))
             (binds (λ t. try_over place k shape arms a ps (here q) scope aim over)
-            (λ x. met_at (z q) k (first_of (z q) w arms rs (throws v) (x ∷ [])))
+            (λ x. met_at (z q) k (first_of (z q) w k arms rs (throws v) (x ∷ [])))
             (catch_made q k over v (thrown_has q f q.set.around.exception v is)) (λ m g fs t x l h.
             catch_runs v x is (surrounds_on q w scope l there) (aim_on q.set q.work aim l st) h))).run ((z q).back now after) stands met
             (record { state = ok2.state; names = ok2.names }));

@@ -154,7 +154,7 @@ module _ (q : Scene) (name : List ℕ) (i : ℤ) (small : is_small i ≡ true) w
               ∙ sym (meant_is types (standing past g) own (I.Integer (constant i)) (W.Integer (constant i)) (I.rolls-Integer (constant i)))
               ∙ k.steady g a;
         };
-        typ = λ g a. literal_sized types q.work.own g (L.Integer i) ∙ integer_sized types q.work.own g (constant i)
+        typ = λ exact g a. literal_sized types q.work.own g (L.Integer i) ∙ integer_sized types q.work.own g (constant i)
             ∙ sym (integer_sized types q.work.own g (variable v));
       }
 

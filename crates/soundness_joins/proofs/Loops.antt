@@ -94,7 +94,7 @@ module _ (q : Scene) where
 
 module _ (q : Scene) {n : ℕ} {f : Point n} where
   pub unit_is : Is q.set q.work f I.Unit (nothing (z q))
-  unit_is = record { has = literal_has q.set q.work f L.Unit refl; typ = λ g a. literal_sized q.set.around.types q.work.own g L.Unit }
+  unit_is = record { has = literal_has q.set q.work f L.Unit refl; typ = λ exact g a. literal_sized q.set.around.types q.work.own g L.Unit }
 
   measured : (x : Item) (i : Indices) → Is q.set q.work f i x → Belongs q.set q.work f natural_type x.val → (t : Num) → out-Indices i ≡ W.Integer t
       → Natural q x

@@ -102,7 +102,7 @@ module _ (q : Scene) where
           steady = λ g a. truth_means types past own d b g (other g a) ∙ sym (truth_means types past own c b g (one g a))
               ∙ ap (meant types (standing past g) own) (sym e) ∙ h.has.steady g a;
         };
-        typ = λ g a. h.typ g a ∙ ap (sized types q.work.own g) e ∙ truth_sized types q.work.own g c ∙ sym (truth_sized types q.work.own g d);
+        typ = λ exact g a. h.typ exact g a ∙ ap (sized types q.work.own g) e ∙ truth_sized types q.work.own g c ∙ sym (truth_sized types q.work.own g d);
       }
 
   -- ---- the left one

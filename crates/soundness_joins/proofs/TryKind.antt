@@ -7,6 +7,7 @@ use Rattle.std.specs.Prelude.{nat_eq}
 use Rattle.sail_types.specs.declared.shapes.Shape.{Shape}
 use Rattle.sail_core.specs.Making.{World}
 use Rattle.sail_core.specs.declared.patterns.Arm.{Arm}
+use Rattle.sail_core.specs.declared.tree.Giver.TheVariants as By
 use Rattle.sail_core.specs.declared.tree.Kind.TheVariants as K
 use Rattle.value_indices.specs.declared.indices.Indices.{Indices}
 use Rattle.value_indices.specs.Steps.{given_note, note}
@@ -34,7 +35,7 @@ use Rattle.soundness_joins.proofs.Caught.{try_fine}
 
 caught_grows : (k : ℕ) (i : Indices) → Grows (caught_at k i)
 caught_grows k i = grows_bind (node_ended k [] i) (numbers_noted k) (grows_ended k [] i) (λ j.
-    grows_bind (note (λ facts. given_note facts k j)) (λ t. numbers_given j) (grows_note (λ facts. given_note facts k j)) (λ t.
+    grows_bind (note (λ facts. given_note facts (By.Node k) j)) (λ t. numbers_given j) (grows_note (λ facts. given_note facts (By.Node k) j)) (λ t.
     grows_gives (numbers_given j) (variables_given j) (gives_all j)))
 
 module _ (grows : AllArmsGrow) (q : Scene) (w : World Item) where
@@ -53,8 +54,8 @@ module _ (grows : AllArmsGrow) (q : Scene) (w : World Item) where
       (grows_bind (caught_at k (thrown around.exception)) (λ t. try_over place k shape arms p ps around scope aim (thrown around.exception))
       (caught_grows k (thrown around.exception)) (λ t.
       meeting_grows met agree around place k shape (wanted aim)
-      (try_way p around scope aim ∷ case_ways place arms ps around scope aim (thrown around.exception))
-      (head.grows around scope (branch_aim aim), cases_grow grows q w around scope place (thrown around.exception) aim arms ps rs bodies)))
+      (try_way p around scope aim ∷ case_ways place k arms ps around scope aim (thrown around.exception))
+      (head.grows around scope (branch_aim aim), cases_grow grows q w around scope place k (thrown around.exception) aim arms ps rs bodies)))
       (grows_end k false))
   try_kind free met agree arms shape patterns place k [] [] [] h right =
       wrong_inward q w false false false place k (node q w place k (K.Try arms shape) []) _ (λ around scope. refl) (λ around scope aim. refl)

@@ -68,7 +68,7 @@ module _ {q : Scene} {n : ℕ} {f : Point n} {facts : List Fact} (place : Place)
       let first = there g.integers (same g) in
       runs_as (λ now. ap (λ o. goes_on (needs o now) (λ v. (z q).make k (x ∷ xs) v)) (sym first.is_there))
       (made_opens place k (i ∷ indexed r) r.typ false M.Unnamed (x ∷ xs) first.part
-      ((λ c a. h.typ c (agree_on l a)), typed_on q.set q.work (indexed r) xs l typed) (steady_on q.set q.work r.typ l steady) (λ c a.
+      ((λ exact c a. h.typ exact c (agree_on l a)), typed_on q.set q.work (indexed r) xs l typed) (steady_on q.set q.work r.typ l steady) (λ c a.
       let other = there c a in
       subst (λ u. is_of q.set.around.types (standing q.set.past c) q.work.types r.typ u ≡ true)
       (some_same other.part first.part (sym other.is_there ∙ first.is_there)) other.is_typed)))

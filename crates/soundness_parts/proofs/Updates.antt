@@ -132,9 +132,9 @@ module _ (q : Scene) {n : ℕ} {f : Point n} (place : Place) (k : ℕ) (i : Indi
           let kept = has_on l h.has in
           runs_as (λ now. ap (λ o. goes_on (needs o now) (λ v. (z q).make k (x ∷ xs ++ new ∷ []) v)) (sym other.is_there))
           (node_ends k (update_operands i r j) i (x ∷ xs ++ new ∷ []) other.whole (
-            (λ c a. h.typ c (agree_on l a)),
+            (λ exact c a. h.typ exact c (agree_on l a)),
             typed_both q g (indexed r) (j ∷ []) xs (new ∷ []) (typed_on q.set q.work (indexed r) xs l typed)
-                ((λ c a. is_new.typ c (agree_on l a)), tt),
+                ((λ exact c a. is_new.typ exact c (agree_on l a)), tt),
           ) (record {
             meaning = kept.meaning;
             is_so = ap (λ (b : Meant). b.holds other.whole) (sym (kept.steady g.integers (same g))) ∙ other.is_so;

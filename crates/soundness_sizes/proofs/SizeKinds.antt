@@ -1,7 +1,7 @@
 -- `sizeof` and `constraint`, as kinds of nodes.
 use Rattle.std.proofs.Common.{◌≡◌, ◌∙◌, ap, sym, refl, subst, ℕ, zero, suc, ◌^◌, arith, ℤ, pos, negsuc, int_le, Bool, true, false, List, [], ◌∷◌}
 use Rattle.std.proofs.Common.{slice_get, ◌++◌, Option, Some, None}
-use Rattle.std.specs.Prelude.{◌<◌, ◌≤ℤ◌, ◌+ℤ◌, ◌&&◌, ◌||◌, not, if◌then◌else◌}
+use Rattle.std.specs.Prelude.{◌<◌, ◌≤ℤ◌, ◌+ℤ◌, ◌||◌, not, if◌then◌else◌}
 use Rattle.std.specs.List.{list_any}
 use Rattle.std.proofs.lemmas.Bool.{and_parts, lt-ltb}
 use Rattle.std.proofs.lemmas.Int.{ints}
@@ -249,7 +249,7 @@ module _ (q : Scene) {n : ℕ} {f : Point n} where
               ∙ sym (meant_is types (standing past g) own (I.Integer (constant z)) (W.Integer (constant z)) (I.rolls-Integer (constant z)))
               ∙ k.steady g a;
         };
-        typ = λ g a. literal_sized types q.work.own g (L.Integer z) ∙ integer_sized types q.work.own g (constant z)
+        typ = λ exact g a. literal_sized types q.work.own g (L.Integer z) ∙ integer_sized types q.work.own g (constant z)
             ∙ sym (integer_sized types q.work.own g t);
       }
 
@@ -269,7 +269,7 @@ module _ (q : Scene) {n : ℕ} {f : Point n} where
               ∙ sym (meant_is types (standing past g) own (I.Truth (V.Truth b)) (W.Truth (V.Truth b)) (I.rolls-Truth (V.Truth b)))
               ∙ k.steady g a;
         };
-        typ = λ g a. literal_sized types q.work.own g (L.Truth b) ∙ truth_sized types q.work.own g (V.Truth b)
+        typ = λ exact g a. literal_sized types q.work.own g (L.Truth b) ∙ truth_sized types q.work.own g (V.Truth b)
             ∙ sym (truth_sized types q.work.own g c);
       }
 

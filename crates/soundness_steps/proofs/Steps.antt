@@ -5,6 +5,7 @@ use Rattle.sail_types.specs.Numbers.{Assignment, Positive, true_in}
 use Rattle.sail_types.specs.declared.numbers.Con.{Con}
 use Rattle.sail_types.specs.declared.values.Value.{Value}
 use Rattle.sail_core.specs.Run as R
+use Rattle.sail_core.specs.declared.tree.Giver.{Giver}
 use Rattle.sail_core.specs.Run.{Now, Ended, Run, goes_on, gives, needs, ◌then◌}
 use Rattle.sail_types.proofs.SumNumbers.{some_same}
 use Rattle.value_indices.specs.declared.indices.Indices.{Indices}
@@ -269,7 +270,7 @@ owes {f} place some cs = record {
 pub all_sized : (q : Scene) {n : ℕ} (f : Point n) (is : List Indices) (xs : List Item) (g : Integers) → Agree f g → AllTyped q.set q.work f is xs
     → AreSized q.set q.work g is (typs xs)
 all_sized q f [] [] g a h = tt
-all_sized q f (i ∷ is) (x ∷ xs) g a h = (h.0 g a, all_sized q f is xs g a h.1)
+all_sized q f (i ∷ is) (x ∷ xs) g a h = ((λ exact. h.0 exact g a), all_sized q f is xs g a h.1)
 all_sized q f [] (x ∷ xs) g a h = absurd h
 all_sized q f (i ∷ is) [] g a h = absurd h
 
@@ -298,9 +299,10 @@ makes {q} {n} {f} {facts} k is made xs v typed is_so = record {
         stands = stands;
         holds = (
           refl,
-          λ g a.
+          λ exact g a.
               let other = at g a in
-              subst (MadeAs q.set.around.types q.set.past q.work g made v) (some_same other.typ first.typ (sym other.is_there ∙ first.is_there)) other.is_right,
+              subst (MadeAs q.set.around.types q.set.past q.work g made v) (some_same other.typ first.typ (sym other.is_there ∙ first.is_there))
+              (other.is_right exact),
         );
       }) ok);
 }
@@ -313,17 +315,18 @@ noted_well {q} {f} {m} {fs} {Holds} None s now e h = absurd (cc)
 noted_well {q} {f} {m} {fs} {Holds} (Some t) s now e h =
     subst (λ x. EndsWell q f m fs Holds (R.Gives tt (record now { opened = x }))) (sym (some_same t s e)) h
 
-pub gives_numbers : {q : Scene} {n : ℕ} {f : Point n} {facts : List Fact} (k : ℕ) (i : Indices) (v : Value) (w : Walk (Unit {0})) → Gives w (variables_given i)
+pub gives_numbers : {q : Scene} {n : ℕ} {f : Point n} {facts : List Fact} (giver : Giver) (i : Indices) (v : Value) (w : Walk (Unit {0}))
+    → Gives w (variables_given i)
     → ((g : Integers) → Agree f g → has q.set.around.types (standing q.set.past g) q.work.types i v ≡ true)
-    → Beside q n f facts (bind (note (λ fs. given_note fs k i)) (λ t. w)) ((checked q.set.around.types q.cases).note k v) (λ m p t x. Unit {0})
+    → Beside q n f facts (bind (note (λ fs. given_note fs giver i)) (λ t. w)) ((checked q.set.around.types q.cases).note giver v) (λ m p t x. Unit {0})
 unfolding bind note
-gives_numbers {q} {n} {f} {facts} k i v w e is_so = record {
+gives_numbers {q} {n} {f} {facts} giver i v w e is_so = record {
   run = λ now stands met ok.
-      let at : (g : Integers) → Agree f g → Notes q.set q.work g facts (variables_given i) (q.cases.notes k v now.opened) = λ g a.
+      let at : (g : Integers) → Agree f g → Notes q.set q.work g facts (variables_given i) (q.cases.notes giver v now.opened) = λ g a.
       met.0 g now.opened (stands.there g a) v (is_so g a) in
       let first = at f.integers (same f) in
-      subst (λ r. EndsWell q f r.next r.facts (λ p x. Unit {0}) (noting (q.cases.notes k v now.opened) now)) (sym (e facts n))
-      (noted_well (q.cases.notes k v now.opened) first.more now first.is_there
+      subst (λ r. EndsWell q f r.next r.facts (λ p x. Unit {0}) (noting (q.cases.notes giver v now.opened) now)) (sym (e facts n))
+      (noted_well (q.cases.notes giver v now.opened) first.more now first.is_there
       (well_given tt (record now { opened = first.more }) (record {
         point = f;
         later = no_later f;

@@ -1,15 +1,16 @@
 -- What is known of calls inside a piece: a call on values that belong to the parameters ends well, and what it gives belongs to the result.
-use Rattle.std.specs.Prelude.{◌≡◌, ℕ, Bool, true, false, List, ◌∷◌, length, slice_get, Some}
+use Rattle.std.specs.Prelude.{◌≡◌, ℕ, Bool, true, false, List, length, slice_get, Option, Some}
 use Rattle.sail_base.specs.declared.place.Place.{Place}
 use Rattle.sail_types.specs.Belongs.{reading, no_readings, assigned, belongs}
 use Rattle.sail_types.specs.Numbers.{Assignment, true_in}
+use Rattle.sail_types.specs.Places.{Given}
 use Rattle.sail_types.specs.declared.types.Typ.{Typ}
 use Rattle.sail_types.specs.declared.values.Value.{Value}
 use Rattle.model_state.specs.declared.cause.Cause.{Cause}
 use Rattle.sail_core.specs.declared.model.Direction.{Direction}
 use Rattle.sail_core.specs.declared.model.Function.{Function}
 use Rattle.sail_core.specs.Making.{World}
-use Rattle.sail_core.specs.Numbers.{givens_of, all_agree}
+use Rattle.sail_core.specs.Numbers.{Instance, all_agree, givens_of}
 use Rattle.sail_core.specs.Run as R
 use Rattle.sail_core.specs.Run.{Now, Ended}
 use Rattle.checked_meaning.specs.Items.{Item, fixed_typ}
@@ -32,6 +33,10 @@ pub data CallEnds (set : Setting) (may_fall : Bool) (before : Now Item) {A : Typ
   call_stops : (cause : Cause) (now : Now Item) → CallEnds set may_fall before Holds (R.Stops cause now)
 
 -- ---- functions: arguments that belong to the parameters, for numbers that make the constraint true and are those of a covered instance
+
+-- an instance that is awaited in its place, of whose numbers none is another
+abbrev pub awaited_at : Work → List (Option Given) → Instance
+awaited_at x awaited = record { place = x.instance.place; numbers = awaited }
 
 -- what they stand for
 abbrev pub inside : Setting → Function → Integers → Assignment
@@ -61,8 +66,8 @@ pub record IsGiven (set : Setting) (m : Direction) (y : Item) : Type 0 where
 
 pub record SoundCalls (set : Setting) (reached : ℕ → Bool) (w : World Item) : Type 0 where
   pub call : (place : Place) (x : Work) (f : Function) (vs : List Value) (h : Integers) → Enters set x f vs h
-      → (before : Now Item) → StateBelongs set before.state
-      → CallEnds set false before (IsResult set x f h) (w.call place x.function (Some x.instance) vs before)
+      → (awaited : List (Option Given)) → all_agree awaited (givens_at h 0 f.variables) ≡ true → (before : Now Item) → StateBelongs set before.state
+      → CallEnds set false before (IsResult set x f h) (w.call place x.function (Some (awaited_at x awaited)) vs before)
   pub enter : (d : ℕ) (m : Direction) (v : Value) → set.covered.direction d ≡ true → slice_get set.around.directions d ≡ Some m → IsOf set m.parameter v
       → (before : Now Item) → StateBelongs set before.state → CallEnds set true before (IsOf set m.result) (w.enter d v before)
   pub way : (d : ℕ) (m : Direction) (x : Item) → reached d ≡ true → slice_get set.around.directions d ≡ Some m → IsOf set m.parameter x.val

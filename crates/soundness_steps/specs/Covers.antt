@@ -8,7 +8,6 @@ use Rattle.sail_types.specs.declared.numbers.Con.{Con}
 use Rattle.sail_types.specs.declared.numbers.Index.{Index}
 use Rattle.sail_types.specs.declared.numbers.Index.TheVariants as N
 use Rattle.sail_types.specs.declared.numbers.Num.{Num}
-use Rattle.sail_types.specs.declared.table.Types.{Types}
 use Rattle.sail_types.specs.declared.values.Value.{Value}
 use Rattle.sail_core.specs.Numbers.{Instance}
 use Rattle.sail_core.specs.declared.tree.Callee.{Callee}
@@ -24,11 +23,11 @@ use Rattle.value_indices.specs.declared.notes.Made.{Made}
 use Rattle.value_indices.specs.declared.notes.Made.TheVariants as Makes
 use Rattle.value_indices.specs.Steps.{Note, goal_note, size_note, made_note, call_note, way_note, given_note, name_note, conditions}
 use Rattle.checked_meaning.specs.Checked.{Noted, Cases}
-use Rattle.value_laws.specs.Belonging.{Integers, has, standing}
+use Rattle.value_laws.specs.Belonging.{Integers, has, is_of, standing}
 use Rattle.value_laws.specs.Known.{AllTrue}
-use Rattle.size_laws.specs.Settled.{Settled, of_reading}
-use Rattle.soundness_steps.specs.Works.{Work, Setting}
-use Rattle.soundness_steps.specs.Noted.{IsSo, variables_given, with_given, known, sized, type_sized, is_made, MadeAs}
+use Rattle.size_laws.specs.Told.{reading_told}
+use Rattle.soundness_steps.specs.Works.{IsExact, Work, Setting}
+use Rattle.soundness_steps.specs.Noted.{IsSo, OpensAs, variables_given, with_given, known, sized, type_sized, is_made, MadeAs}
 
 -- ---- sizes: a width is from 0 to 128, a length from 0 to 4,096, and no number past the largest integer is on the way
 
@@ -41,10 +40,11 @@ FormFits past f (W.Bits t) = IsSize past f t 128
 FormFits past f (W.Vector t r) = IsSize past f t 4096
 FormFits past f form = Unit {0}
 
--- those of a type are the same where a value of it is opened
-abbrev pub SizesFit : Types → List Sized → Positive → Integers → Made → Type 0
-SizesFit types own past f (Makes.ByIndices i) = FormFits past f (out-Indices i)
-SizesFit types own past f (Makes.ByType r) = Settled types own (known f) (of_reading r)
+-- a value of a type is opened at the type that it tells, where that is of matter
+abbrev pub SizesFit : Setting → Work → Integers → Made → Type 0
+SizesFit set work f (Makes.ByIndices i) = FormFits set.past f (out-Indices i)
+SizesFit set work f (Makes.ByType r) = IsExact set → (v : Value) → is_of set.around.types (standing set.past f) work.types r v ≡ true
+    → OpensAs set.around.types set.past work f r v (reading_told set.around.types work.own (known f) r v)
 
 -- ---- calls: what is awaited are numbers that the call gives
 
@@ -65,19 +65,22 @@ module _ (set : Setting) (work : Work) where
   -- operands of these indices
   abbrev pub AreSized : Integers → List Indices → List Sized → Type 0
   AreSized f [] [] = Unit {0}
-  AreSized f (i ∷ is) (s ∷ ss) = (s ≡ sized set.around.types work.own f i) × AreSized f is ss
+  AreSized f (i ∷ is) (s ∷ ss) = (IsExact set → s ≡ sized set.around.types work.own f i) × AreSized f is ss
   AreSized f is ss = ⊥
 
   -- the node's value is made at a type that is right there
   pub record HasCase (f : Integers) (made : Made) (v : Value) (found : Option Sized) : Type 0 where
     pub typ : Sized
     pub is_there : found ≡ Some typ
-    pub is_right : MadeAs set.around.types set.past work f made v typ
+    pub is_right : IsExact set → MadeAs set.around.types set.past work f made v typ
 
-  -- there is an instance, it is covered whatever its Type variables stand for, and its numbers and sized types are those of the call
+  -- there is an instance, it is covered whatever its Type variables stand for, and its numbers and sized types are those of the call; one is awaited in
+  -- its place, of whose numbers none is another
   pub record Leads (f : Integers) (function : ℕ) (js : List Index) (qs : List Reading) (found : Option Instance) : Type 0 where
     pub instance : Instance
-    pub is_there : found ≡ Some instance
+    pub awaited : List (Option Given)
+    pub is_there : found ≡ Some (record { place = instance.place; numbers = awaited })
+    pub awaits : AllAgree set.past f awaited js
     pub agree : AllAgree set.past f instance.numbers js
     pub is_covered : (types : List Closed)
         → set.covered.function (record { function = function; instance = instance; own = map (type_sized set.around.types work.own f) qs; types = types }) ≡ true
@@ -102,7 +105,7 @@ module _ (set : Setting) (work : Work) where
   abbrev pub IsMet : (ℕ → Bool) → Cases → Note → Type 0
   IsMet reached cases (goal_note facts place goal) = GoalHolds facts goal
   IsMet reached cases (size_note facts place made) = (f : Integers) (noted : Noted) → IsSo set.past work noted f facts
-      → SizesFit set.around.types work.own set.past f made
+      → SizesFit set work f made
   IsMet reached cases (made_note facts k operands made) = (f : Integers) (noted : Noted) → IsSo set.past work noted f facts
       → (ss : List Sized) → AreSized f operands ss → (v : Value) → is_made set.around.types set.past work f made v ≡ true
       → HasCase f made v (cases.makes k ss v noted)

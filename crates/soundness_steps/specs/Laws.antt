@@ -1,6 +1,7 @@
 -- What a node makes and notes beside its walk.
 use Rattle.std.specs.Prelude.{◌≡◌, ℕ, true, List}
 use Rattle.sail_types.specs.declared.values.Value.{Value}
+use Rattle.sail_core.specs.declared.tree.Giver.{Giver}
 use Rattle.value_indices.specs.declared.indices.Indices.{Indices}
 use Rattle.value_indices.specs.declared.notes.Fact.{Fact}
 use Rattle.value_indices.specs.declared.notes.Made.{Made}
@@ -23,6 +24,7 @@ NodesMakeValues = (q : Scene) (n : ℕ) (f : Point n) (facts : List Fact) (k : �
 
 -- the numbers that a value gives are noted behind it, as what comes into force says
 abbrev pub NodesNoteNumbers : Type 0
-NodesNoteNumbers = (q : Scene) (n : ℕ) (f : Point n) (facts : List Fact) (k : ℕ) (i : Indices) (v : Value) (w : Walk (Unit {0})) → Gives w (variables_given i)
+NodesNoteNumbers = (q : Scene) (n : ℕ) (f : Point n) (facts : List Fact) (giver : Giver) (i : Indices) (v : Value) (w : Walk (Unit {0}))
+    → Gives w (variables_given i)
     → ((g : Integers) → Agree f g → has q.set.around.types (standing q.set.past g) q.work.types i v ≡ true)
-    → Beside q n f facts (bind (note (λ fs. given_note fs k i)) (λ t. w)) ((checked q.set.around.types q.cases).note k v) (λ m p t x. Unit {0})
+    → Beside q n f facts (bind (note (λ fs. given_note fs giver i)) (λ t. w)) ((checked q.set.around.types q.cases).note giver v) (λ m p t x. Unit {0})

@@ -46,7 +46,7 @@ pub record IsSo (past : Positive) (work : Work) (noted : Noted) (f : Integers) (
   pub true_there : AllTrue (standing past f) (conditions facts)
   pub given : EachNoted noted f (given_in facts)
 
--- ---- the variables whose numbers a value gives: an integer that is one, also as a part of a tuple
+-- ---- the variables whose numbers a value gives: an integer, a width or a length that is one, also as a part of a tuple
 
 abbrev pub one_or_none : Option ℕ → List ℕ
 one_or_none None = []
@@ -54,6 +54,8 @@ one_or_none (Some v) = v ∷ []
 
 abbrev pub form_gives : Indices-F (List ℕ) (List ℕ) → List ℕ
 form_gives (W.Integer n) = one_or_none (variable_in n)
+form_gives (W.Bits n) = one_or_none (variable_in n)
+form_gives (W.Vector n vs) = one_or_none (variable_in n)
 form_gives (W.Tuple vs) = joined vs
 form_gives form = []
 

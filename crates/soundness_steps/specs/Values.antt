@@ -19,7 +19,7 @@ use Rattle.call_arguments.specs.declared.aims.Aim.TheVariants as Aims
 use Rattle.checked_meaning.specs.Items.{Item}
 use Rattle.value_laws.specs.Belonging.{Integers, Meant, standing, meant, closed, is_of}
 use Rattle.value_laws.specs.Known.{Point, Agree}
-use Rattle.soundness_steps.specs.Works.{Work, Setting, Kept, is_value, is_var}
+use Rattle.soundness_steps.specs.Works.{IsExact, Work, Setting, Kept, is_value, is_var}
 use Rattle.soundness_steps.specs.Noted.{sized, MadeAs}
 
 module _ (set : Setting) (work : Work) {n : ℕ} (f : Point n) where
@@ -32,12 +32,12 @@ module _ (set : Setting) (work : Work) {n : ℕ} (f : Point n) where
   -- an item has them, and is of their type
   pub record Is (i : Indices) (x : Item) : Type 0 where
     pub has : Has i x.val
-    pub typ : (g : Integers) → Agree f g → x.typ ≡ sized set.around.types work.own g i
+    pub typ : IsExact set → (g : Integers) → Agree f g → x.typ ≡ sized set.around.types work.own g i
 
   -- items of the types of these indices
   abbrev pub AllTyped : List Indices → List Item → Type 0
   AllTyped [] [] = Unit {0}
-  AllTyped (i ∷ is) (x ∷ xs) = ((g : Integers) → Agree f g → x.typ ≡ sized set.around.types work.own g i) × AllTyped is xs
+  AllTyped (i ∷ is) (x ∷ xs) = (IsExact set → (g : Integers) → Agree f g → x.typ ≡ sized set.around.types work.own g i) × AllTyped is xs
   AllTyped is xs = ⊥
 
   abbrev pub AllHave : List Indices → List Value → Type 0
@@ -64,7 +64,7 @@ module _ (set : Setting) (work : Work) {n : ℕ} (f : Point n) where
 
   -- a type at which a value is made
   abbrev pub IsMadeAs : Made → Value → Sized → Type 0
-  IsMadeAs made v s = (g : Integers) → Agree f g → MadeAs set.around.types set.past work g made v s
+  IsMadeAs made v s = IsExact set → (g : Integers) → Agree f g → MadeAs set.around.types set.past work g made v s
 
   -- ---- what is wanted: of a type that is due, what the expression comes to belongs to it; where it is given, that is so of an expression that
   -- owes it further in; of a part of a tuple the tuple owes it

@@ -1,5 +1,5 @@
 -- What a definition is at work for, and what is known around a piece of it.
-use Rattle.std.specs.Prelude.{ℕ, Bool, List, [], Option}
+use Rattle.std.specs.Prelude.{◌≡◌, ℕ, Bool, true, List, [], Option}
 use Rattle.sail_types.specs.Belongs.{Reading as Closed}
 use Rattle.sail_types.specs.Numbers.{Positive}
 use Rattle.sail_types.specs.declared.numbers.Index.{Index}
@@ -21,10 +21,11 @@ pub record Work : Type 0 where
 abbrev pub nobody : Work
 nobody = record { function = 0; instance = record { place = 0; numbers = [] }; own = []; types = [] }
 
--- the functions at work and the directions of mappings that instances cover
+-- the functions at work and the directions of mappings that instances cover; and whether they cover the types that values carry, else any type will do
 pub record Coverage : Type 0 where
   pub function : Work → Bool
   pub direction : ℕ → Bool
+  pub exact : Bool
 
 -- what stays the same in all runs of a model by a hart: what the walk knows of the model, the integer that powers past the largest are taken for,
 -- the hart, and what is covered
@@ -33,6 +34,10 @@ pub record Setting : Type 0 where
   pub past : Positive
   pub hart : ℕ
   pub covered : Coverage
+
+-- where the types that values carry are those of their indices
+abbrev pub IsExact : Setting → Type 0
+IsExact set = set.covered.exact ≡ true
 
 -- a name in scope: one that a pattern binds keeps its item; a `var` keeps a type, the numbers of which are those of the moment at which it was
 -- declared

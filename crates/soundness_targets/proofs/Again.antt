@@ -6,6 +6,7 @@ use Rattle.sail_types.specs.declared.values.Value.{Value}
 use Rattle.sail_core.specs.Making.{made}
 use Rattle.sail_core.specs.Run as R
 use Rattle.sail_core.specs.Run.{Now, gives, goes_on, needs, ◌then◌}
+use Rattle.sail_core.specs.declared.tree.Giver.TheVariants as By
 use Rattle.size_values.specs.declared.sized.Sized.{Sized}
 use Rattle.value_indices.specs.declared.indices.Indices.{Indices}
 use Rattle.value_indices.specs.declared.notes.Fact.{Fact}
@@ -61,7 +62,8 @@ module _ (q : Scene) where
   -- the numbers that it gives
   abbrev pub CanNote : List Fact → ℕ → Indices → Type 0
   CanNote facts k i = (g : Integers) (noted : Noted) → IsSo q.set.past q.work noted g facts → (v : Value)
-      → has q.set.around.types (standing q.set.past g) q.work.types i v ≡ true → Notes q.set q.work g facts (variables_given i) (q.cases.notes k v noted)
+      → has q.set.around.types (standing q.set.past g) q.work.types i v ≡ true
+      → Notes q.set q.work g facts (variables_given i) (q.cases.notes (By.Node k) v noted)
 
   -- how a node makes a value and notes its numbers, at a moment
   pub record MadeThere {n : ℕ} (f : Point n) (facts : List Fact) (k : ℕ) (i : Indices) (xs : List Item) (v : Value) (now : Now Item) : Type 0 where
@@ -73,10 +75,10 @@ module _ (q : Scene) where
 
   -- the case and the numbers are found
   made_is : (k : ℕ) (xs : List Item) (v : Value) (now : Now Item) (s : Sized) (more : Noted) → q.cases.makes k (typs xs) v now.opened ≡ Some s
-      → q.cases.notes k v now.opened ≡ Some more
+      → q.cases.notes (By.Node k) v now.opened ≡ Some more
       → made (checked q.set.around.types q.cases) k xs v now ≡ R.Gives (item s v) (record now { opened = more })
   made_is k xs v now s more e h =
-      ap (λ o. goes_on ((needs o then λ t. gives (item t v)) now) (λ x. (checked q.set.around.types q.cases).note k v then λ t. gives x)) e
+      ap (λ o. goes_on ((needs o then λ t. gives (item t v)) now) (λ x. (checked q.set.around.types q.cases).note (By.Node k) v then λ t. gives x)) e
       ∙ ap (λ o. goes_on (noting o now) (λ t. gives (item s v))) h
 
   module _ {n : ℕ} {f : Point n} (k : ℕ) (operands : List Indices) (made_of : Made) (i : Indices) (xs : List Item) (v : Value) (now : Now Item) where
@@ -88,7 +90,7 @@ module _ (q : Scene) where
         let g : Integers = f.integers in
         let case : HasCase q.set q.work g made_of v (q.cases.makes k (typs xs) v now.opened) =
         makes g now.opened (before.there g (same f)) (typs xs) (all_sized q f operands xs g (same f) typed) v (is_so g (same f)) in
-        let at : (h : Integers) → Agree f h → Notes q.set q.work h facts (variables_given i) (q.cases.notes k v now.opened) =
+        let at : (h : Integers) → Agree f h → Notes q.set q.work h facts (variables_given i) (q.cases.notes (By.Node k) v now.opened) =
         λ h a. notes h now.opened (stands.there h a) v (has_there has_it h a) in
         let first = at g (same f) in
         record {

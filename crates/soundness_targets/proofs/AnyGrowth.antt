@@ -83,9 +83,11 @@ module _ (around : Around) (scope : Scope) where
     part_of_base ps grow =
         let next : Indices → Walk (Option Spotted) = suffixes_spot at k (slice_get ss (length ss - 1)) (take (length ss - 1) ss) around scope s ps in (
           grows_bind s.read next h.reads (λ held.
-              spots_grow around scope Good at k s held (λ t o. part_good t.place t.way held o) (slice_get ss (length ss - 1)) (take (length ss - 1) ss) ps grow),
+              spots_grow around scope Good at k s held (λ t o. part_good t.place t.way held o) (slice_get ss (length ss - 1))
+              (take (length ss - 1) ss) ps grow),
           gives_bind (λ i. Unit {0}) Spots s.read next (any s.read) (λ held u.
-              spots_give around scope Good at k s held (λ t o. part_good t.place t.way held o) (slice_get ss (length ss - 1)) (take (length ss - 1) ss) ps grow),
+              spots_give around scope Good at k s held (λ t o. part_good t.place t.way held o) (slice_get ss (length ss - 1))
+              (take (length ss - 1) ss) ps grow),
         )
 
     late_good : (place : Place) (held : Indices) (o : Option Reached) (known : Known) → Good (late_part around place k s held o known)
@@ -218,3 +220,7 @@ module _ (around : Around) (scope : Scope) where
 
   pub target_grows : (t : Target) → MemberGrows around scope (spotting t around scope)
   target_grows t = as_member t (any_grows t)
+
+  pub members_grow : (ts : List Target) → AllMembersGrow around scope (map spotting ts)
+  members_grow [] = none_grow around scope
+  members_grow (t ∷ ts) = more_grow around scope (spotting t) (map spotting ts) (target_grows t) (members_grow ts)

@@ -52,8 +52,8 @@ use Rattle.soundness_values.proofs.Mappings.{arguments_steady, none_beside}
 use Rattle.soundness_values.proofs.NamedKinds.{all_taken}
 use Rattle.soundness_parts.proofs.PartGrowth.{Gives, any, gives_back, gives_bind}
 use Rattle.soundness_parts.proofs.Taken.{z}
-use Rattle.soundness_targets.specs.Plain.{Shape, a_call, a_late, a_name, a_part, a_parted, a_tuple, a_wrong, is_item, is_member, is_wrong, part_form, shape}
-use Rattle.soundness_targets.specs.Plain.{shape_form}
+use Rattle.soundness_targets.proofs.Plain.{Shape, a_call, a_late, a_name, a_part, a_parted, a_tuple, a_wrong, is_item, is_member, is_wrong, part_form, shape}
+use Rattle.soundness_targets.proofs.Plain.{shape_form}
 use Rattle.soundness_targets.proofs.CallTargets.{all_dropped}
 use Rattle.soundness_targets.proofs.Findings.{Finding, FoundSo, part_finding}
 use Rattle.soundness_targets.proofs.LateGrowth.{call_base, part_late_grows}
@@ -295,7 +295,8 @@ module _ (q : Scene) (w : World Item) (narrow : TypesNarrow q.set.around.types) 
             point = grown p more;
             later = grown_later p more;
             stands = stands_on (grown_later p more) stands;
-            holds = subst (λ o. LeftWays (late_spotted at (here q) k base a m (known_from m (part_late at (s ∷ ss) (here q) ns a.held)) behind o) t) (sym x.1) e;
+            holds = subst (λ o. LeftWays (late_spotted at (here q) k base a m (known_from m (part_late at (s ∷ ss) (here q) ns a.held)) behind o) t)
+                (sym x.1) e;
           };
     }
 

@@ -9,6 +9,7 @@ use Rattle.sail_core.specs.Targets as Runs
 use Rattle.sail_core.specs.Targets.{called as run_called, target_meaning}
 use Rattle.sail_core.specs.declared.targets.Caller.{Caller}
 use Rattle.sail_core.specs.declared.targets.TargetKind.TheVariants as T
+use Rattle.sail_core.specs.declared.tree.Giver.TheVariants as By
 use Rattle.value_indices.specs.Steps.{Walk, bind, give}
 use Rattle.value_indices.specs.declared.indices.Indices.{Indices}
 use Rattle.value_indices.specs.declared.indices.Indices.TheOpen as W
@@ -91,14 +92,14 @@ module _ (q : Scene) (k : ℕ) where
   put_as {n} {f} {facts} i x h =
       subst (λ m. Beside q n f facts (bind (node_made k (i ∷ []) m) (λ t. numbers_noted k i)) (made (z q) k (x ∷ []) x.val)
       (λ d g t y. Is q.set q.work g i y × (y.val ≡ x.val))) (sym (made_as i))
-      (binds (λ t. numbers_noted k i) (λ y. (z q).note k x.val then λ t. gives y)
+      (binds (λ t. numbers_noted k i) (λ y. (z q).note (By.Node k) x.val then λ t. gives y)
       (makes k (i ∷ []) (Makes.ByIndices i) (x ∷ []) x.val (h.typ, tt) (λ g a. has_there h.has g a)) (λ m g fs t y l e.
       noted m g fs y l (record { has = subst (λ v. Has q.set q.work g i v) (sym e.0) (is_on l h).has; typ = e.1 }, e.0)))
     where
       noted : (m : ℕ) (g : Point m) (fs : List Fact) (y : Item) → Later f g → Is q.set q.work g i y × (y.val ≡ x.val)
-          → Beside q m g fs (numbers_noted k i) ((z q).note k x.val then λ t. gives y) (λ d p a u. Is q.set q.work p i u × (u.val ≡ x.val))
+          → Beside q m g fs (numbers_noted k i) ((z q).note (By.Node k) x.val then λ t. gives y) (λ d p a u. Is q.set q.work p i u × (u.val ≡ x.val))
       noted m g fs y l e =
-          runs_on (λ t. gives y) (gives_numbers k i x.val (numbers_given i) (gives_all i) (has_there (is_on l h).has)) (λ d p gs t u l2 s.
+          runs_on (λ t. gives y) (gives_numbers (By.Node k) i x.val (numbers_given i) (gives_all i) (has_there (is_on l h).has)) (λ d p gs t u l2 s.
           rests y (given_back t (is_on l2 e.0, e.1)))
 
 -- ---- the call, with the new value
@@ -165,7 +166,8 @@ module _ (fit : FitsSuffice) (q : Scene) (w : World Item) (narrow : TypesNarrow 
   pub call_target : Goes fit q w narrow closed place scope (kind_spot at k (T.Call count reader writer) [])
       (target_meaning (z q) w at k (T.Call count reader writer) [])
   call_target right right_fine further splits n f facts ps us fine there =
-      walk_regrouped (each_walk (take count ps) (here q) scope (argument_aims types)) (call_spotted (here q) at k count reader writer ps) (then_assigned further)
+      walk_regrouped (each_walk (take count ps) (here q) scope (argument_aims types)) (call_spotted (here q) at k count reader writer ps)
+      (then_assigned further)
       (runs_as (λ now. sym (under (in_turn (take count us) now) _ _ (λ r. right.run r.left then r.found.write) (λ xs n1. refl)))
       (binds (λ is. bind (call_spotted (here q) at k count reader writer ps is) (then_assigned further))
       (λ xs. right.run (drop count us) then (Runs.call_spot (z q) w at k reader writer xs).write)

@@ -121,7 +121,8 @@ module _ (set : Setting) (work : Work) {n : ℕ} (f : Point n) where
 
 -- ---- a call on other than as many arguments
 
-module _ (q : Scene) (at : Place) (k i : ℕ) (fn : Function) (bs : List Bool) (is : List Indices) (other : nat_eq (length bs) (length fn.parameters) ≡ false) where
+module _ (q : Scene) (at : Place) (k i : ℕ) (fn : Function) (bs : List Bool) (is : List Indices)
+    (other : nat_eq (length bs) (length fn.parameters) ≡ false) where
   pub none_fits : {n : ℕ} {f : Point n} {facts : List Fact} (js : List Index) (qs : List Reading)
       → Walks q n f facts (owe_fit at (call_conditions (fits q.set.around.types) fn js qs bs is)) (λ m g t. ⊥)
   none_fits {n} {f} {facts} js qs =
@@ -164,7 +165,8 @@ module _ (fit : FitsSuffice) (q : Scene) (w : World Item) (places : (i : ℕ) �
     run_function i = Functions.calling q w scope at b i fit (places i)
 
     function_by : {facts : List Fact} (i : ℕ) (o : Option Function) → slice_get q.set.around.functions i ≡ o
-        → EachIs q.set q.work f ps (argument_aims (parameter_types o)) is xs → IsMet q.set q.work f (aimed Aims.Given (last_type (parameter_types o))) nested y.val
+        → EachIs q.set q.work f ps (argument_aims (parameter_types o)) is xs
+        → IsMet q.set q.work f (aimed Aims.Given (last_type (parameter_types o))) nested y.val
         → Beside q n f facts (function_call (here q) at b i o (nestings all_parts) all_is)
         (run_function i all_items then λ v. (z q).make b all_items v) (λ m g a u. Is q.set q.work g a u)
     function_by i None e each met = none_beside (wrong_walks at)
@@ -218,4 +220,5 @@ module _ (fit : FitsSuffice) (q : Scene) (w : World Item) (places : (i : ℕ) �
         → IsMet q.set q.work f (aimed Aims.Given (last_type (callee_types (here q) callee))) nested y.val
         → Answers facts (called (here q) at b callee (nestings ps ++ nested ∷ []) all_is) (run_called (z q) w at b callee all_items)
     answers {facts} callee each met =
-        subst (λ bs. Answers facts (called (here q) at b callee bs all_is) (run_called (z q) w at b callee all_items)) (nested_more at nested ps) (callee_by callee each met)
+        subst (λ bs. Answers facts (called (here q) at b callee bs all_is) (run_called (z q) w at b callee all_items)) (nested_more at nested ps)
+        (callee_by callee each met)

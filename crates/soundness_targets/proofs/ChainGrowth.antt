@@ -1,5 +1,5 @@
 -- Walks over chains of targets count variables on.
-use Rattle.std.proofs.Common.{◌≡◌, Bool, false, List, [], ◌∷◌, map, Option, Some, None}
+use Rattle.std.proofs.Common.{Bool, false, List, [], ◌∷◌, map, Option, Some, None}
 use Rattle.sail_base.specs.declared.place.Place.{Place}
 use Rattle.sail_core.specs.declared.targets.Target.{Target}
 use Rattle.value_indices.specs.Steps.{Walk, bind}
@@ -46,7 +46,8 @@ module _ (around : Around) (scope : Scope) (place : Place) where
 
   pub behind_grows : (t : List Part → Walk (Option Spotted)) (further : Spot → List Part → Walk Indices) → Spots t → Goes further → (ps : List Part)
       → AnyGrow around scope ps → Grows (bind (t ps) (then_assigned further))
-  behind_grows t further spots goes ps grow = grows_bind_at (SpottedGrow around scope Good) (t ps) (then_assigned further) (spots ps grow).1 (spots ps grow).0 next
+  behind_grows t further spots goes ps grow = grows_bind_at (SpottedGrow around scope Good) (t ps) (then_assigned further) (spots ps grow).1
+      (spots ps grow).0 next
     where
       next : (o : Option Spotted) → SpottedGrow around scope Good o → Grows (then_assigned further o)
       next None h = grows_give I.Never

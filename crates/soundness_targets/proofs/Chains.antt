@@ -27,7 +27,7 @@ use Rattle.soundness_forms.specs.Worlds.{Surrounds}
 use Rattle.soundness_forms.proofs.Basics.{then_walks, wrongs}
 use Rattle.soundness_parts.proofs.Taken.{z}
 use Rattle.soundness_values.specs.Named.{TypesNarrow}
-use Rattle.soundness_targets.specs.Plain.{Shape, a_call, a_late, a_name, a_part, a_parted, a_tuple, a_wrong, shape}
+use Rattle.soundness_targets.proofs.Plain.{Shape, a_call, a_late, a_name, a_part, a_parted, a_tuple, a_wrong, shape}
 use Rattle.soundness_targets.proofs.AnyTarget.{wrong_found}
 use Rattle.soundness_targets.proofs.CallTargets.{call_target}
 use Rattle.soundness_targets.proofs.ChainGrowth.{chain_grows}

@@ -113,7 +113,8 @@ module _ (q : Scene) (w : World Item) (narrow : TypesNarrow q.set.around.types) 
           (λ d h gs o c. FoundSo q w scope (plain_mode q f) e h gs o c) =
           walks_then (suffixes_spot at k None [] (here q) scope base ps)
           (seen base_at b name r v.0 named.whole (steady_on q.set q.work r l named.steady)
-          (λ c a. ap (belongs q.set.around.types v.0) (named.steady c (agree_on l a)) ∙ v.1)) (λ d h gs held l2 k2. wrong_alone at (base_part [] run_of_base us)) in
+          (λ c a. ap (belongs q.set.around.types v.0) (named.steady c (agree_on l a)) ∙ v.1))
+          (λ d h gs held l2 k2. wrong_alone at (base_part [] run_of_base us)) in
           alone.run now stands met ok;
     })
 
@@ -199,7 +200,8 @@ module _ (q : Scene) (w : World Item) (narrow : TypesNarrow q.set.around.types) 
       finds = λ v ok m g fs ps us l fine here_too.
           subst (λ (c : Walk (Option Spotted)). Behind q m g fs c (target_meaning (z q) w at k (T.Part ss) (btr ∷ []) us)
           (λ d h gs o x. FoundSo q w scope one.mode v h gs o x)) (sym (opens ss ps))
-          (runs_as (λ now. λ j. (sym (base_runs us) j then λ c. ways_of (z q) ss c.left then λ ways. Runs.spotted (part_spot (z q) k c.found ways.found) ways.left) now)
+          (runs_as (λ now. λ j. (sym (base_runs us) j then λ c. ways_of (z q) ss c.left then λ ways. Runs.spotted
+          (part_spot (z q) k c.found ways.found) ways.left) now)
           (one.finds v ok m g fs ps us l fine here_too));
     }
 
@@ -208,7 +210,8 @@ module _ (q : Scene) (w : World Item) (narrow : TypesNarrow q.set.around.types) 
       (target_meaning (z q) w at k (T.Part ss) (target_meaning (z q) w base_at b (T.Variable name) [] ∷ [])) f
   variable_finding ss name o is h =
       starts_so (kind_spot base_at b (T.Variable name) []) (target_meaning (z q) w base_at b (T.Variable name) []) (held_spot (here q) base_at b name o)
-      (Runs.variable_spot (z q) b name) (held_once (here q) base_at b name o) (λ ps. λ j. give (spotted (held_spot (here q) base_at b name (is j)) ps)) (λ us. refl) ss (by o is h)
+      (Runs.variable_spot (z q) b name) (held_once (here q) base_at b name o) (λ ps. λ j. give (spotted (held_spot (here q) base_at b name (is j)) ps))
+      (λ us. refl) ss (by o is h)
     where
       by : (c : Option Held) → held_in name scope ≡ c → Var q f c
           → Finding q w scope (of_base ss (held_spot (here q) base_at b name c)) (base_part ss (Runs.variable_spot (z q) b name)) f
@@ -222,7 +225,8 @@ module _ (q : Scene) (w : World Item) (narrow : TypesNarrow q.set.around.types) 
       (target_meaning (z q) w at k (T.Part ss) (target_meaning (z q) w base_at b (T.Register i) [] ∷ [])) f
   register_finding ss i o is =
       starts_so (kind_spot base_at b (T.Register i) []) (target_meaning (z q) w base_at b (T.Register i) []) (register_spot (here q) base_at b o)
-      (Runs.register_spot (z q) w b i) (register_once (here q) base_at b o) (λ ps. λ j. give (spotted (register_spot (here q) base_at b (is j)) ps)) (λ us. refl) ss (by o is)
+      (Runs.register_spot (z q) w b i) (register_once (here q) base_at b o) (λ ps. λ j. give (spotted (register_spot (here q) base_at b (is j)) ps))
+      (λ us. refl) ss (by o is)
     where
       by : (c : Option Register) → slice_get q.set.around.registers i ≡ c
           → Finding q w scope (of_base ss (register_spot (here q) base_at b c)) (base_part ss (Runs.register_spot (z q) w b i)) f
@@ -246,7 +250,8 @@ pub member_finding : (q : Scene) (w : World Item) (scope : Scope) (t : Spotting)
     → ((m : ℕ) (g : Point m) (fs : List Fact) (ps : List Part) (us : List (Run Item Item)) → AllFine q w ps us → Surrounds q w g scope
     → Beside q m g fs (t (here q) scope ps) (tr us) (λ d h o r. FoundOne q w h o r)) → Finding q w scope t tr f
 member_finding q w scope t tr f finds =
-    plain_finding q w scope t tr f (λ v m g fs ps us l fine there. means (λ d h o r l2 e. was v o r h e (t (here q) scope ps fs m).facts) (finds m g fs ps us fine there))
+    plain_finding q w scope t tr f (λ v m g fs ps us l fine there. means (λ d h o r l2 e. was v o r h e (t (here q) scope ps fs m).facts)
+    (finds m g fs ps us fine there))
   where
     was : (v : Unit {0}) (o : Option Spotted) (r : Runs.Spotted Item (Runs.Spot Item)) {d : ℕ} (h : Point d) → FoundOne q w h o r → (gs : List Fact)
         → FoundSo q w scope (plain_mode q f) v h gs o r

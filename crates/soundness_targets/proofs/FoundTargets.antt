@@ -284,7 +284,8 @@ module _ (q : Scene) (w : World Item) (scope : Scope) where
 
         pub all_finds : (us : List (Run Item Item)) → Later f g → AllFine q w ps us → Surrounds q w g scope → (now : Now Item)
             → Stands q.set q.work now.opened g fs → AllMet q (each_spot (t ∷ ts) (here q) scope ps fs m).notes → Sound q now
-            → Ends q all_modes.T (λ v r after. There q g (each_spot (t ∷ ts) (here q) scope ps fs m).next (each_spot (t ∷ ts) (here q) scope ps fs m).facts (λ h.
+            → Ends q all_modes.T (λ v r after.
+            There q g (each_spot (t ∷ ts) (here q) scope ps fs m).next (each_spot (t ∷ ts) (here q) scope ps fs m).facts (λ h.
             (left : List Part) × ((each_spot (t ∷ ts) (here q) scope ps fs m).value ≡ spotted_all (first.spot ∷ others.spots) left) × AllFine q w left r.left
             × all_modes.Ready v (each_spot (t ∷ ts) (here q) scope ps fs m).next h (each_spot (t ∷ ts) (here q) scope ps fs m).facts r.found) after)
             (all_run us now)

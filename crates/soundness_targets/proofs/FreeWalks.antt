@@ -2,6 +2,7 @@
 use Rattle.std.proofs.Common.{◌≡◌, ◌∙◌, ◌≤◌, ℕ, false, List, [], ◌∷◌, ◌++◌, Option, Some, None, refl, sym, ap, subst, arith}
 use Rattle.std.proofs.lemmas.List.{append-nil, append_assoc}
 use Rattle.sail_base.specs.declared.place.Place.{Place}
+use Rattle.sail_core.specs.declared.tree.Giver.TheVariants as By
 use Rattle.sail_types.specs.declared.numbers.Con.{Con}
 use Rattle.sail_types.specs.declared.numbers.Con.TheVariants as C
 use Rattle.value_indices.specs.declared.indices.Indices.{Indices}
@@ -10,16 +11,13 @@ use Rattle.value_indices.specs.declared.notes.Fact.{Fact}
 use Rattle.value_indices.specs.declared.notes.Fact.TheVariants as Y
 use Rattle.value_indices.specs.declared.notes.Made.{Made}
 use Rattle.value_indices.specs.declared.notes.Made.TheVariants as Makes
-use Rattle.value_indices.specs.Steps.{Conditions, Note, Walk, assume, assume_all, assume_if, bind, each, fresh, fresh_named, give, given_note, made_note}
-use Rattle.value_indices.specs.Steps.{next_variable, note, owe, scoped}
+use Rattle.value_indices.specs.Steps.{Conditions, Note, Walk, assume, assume_all, assume_if, bind, each, fresh, fresh_named, give, made_note}
+use Rattle.value_indices.specs.Steps.{next_variable, note, owe}
 use Rattle.value_fits.specs.Fitting.{owe_fit, owe_made}
 use Rattle.value_fits.specs.declared.fitted.Fitted.{Fitted}
 use Rattle.call_notes.specs.Ends.{wrong_value}
-use Rattle.call_notes.specs.Noted.{node_ended, node_given, node_made, numbers_given, numbers_noted}
+use Rattle.call_notes.specs.Noted.{node_ended, node_made}
 use Rattle.value_laws.specs.Known.{given_in}
-use Rattle.soundness_steps.specs.Noted.{variables_given}
-use Rattle.soundness_steps.specs.Steps.{Gives}
-use Rattle.soundness_forms.proofs.Giving.{gives_all}
 
 pub record FactFree {A : Type 0} (walk : Walk A) : Type 0 where
   pub value : (facts : List Fact) (n : ℕ) → (walk facts n).value ≡ (walk [] n).value
@@ -51,10 +49,6 @@ bind_free w k h more = record {
       ∙ append_assoc facts (w [] n).facts behind
       ∙ ap (λ fs. facts ++ fs) (sym ((more (w [] n).value).facts (w [] n).facts (w [] n).next));
 }
-
-pub scoped_free : {A : Type 0} (w : Walk A) → FactFree w → FactFree (scoped w)
-unfolding scoped
-scoped_free w h = record { value = h.value; next = h.next; facts = λ facts n. sym (append-nil facts) }
 
 pub note_free : (make : List Fact → Note) → FactFree (note make)
 unfolding note
@@ -166,22 +160,8 @@ wrong_quiet place = bind_quiet (owe place (Some (C.Truth false) ∷ [])) (λ t. 
 
 -- ---- nodes
 
-pub gives_free : (w : Walk (Unit {0})) (vs : List ℕ) → Gives w vs → FactFree w
-gives_free w vs e = record {
-  value = λ facts n. (λ i. (e facts n i).value) ∙ sym (λ i. (e [] n i).value);
-  next = λ facts n. (λ i. (e facts n i).next) ∙ sym (λ i. (e [] n i).next);
-  facts = λ facts n. (λ i. (e facts n i).facts) ∙ ap (λ fs. facts ++ fs) (sym (λ i. (e [] n i).facts));
-}
-
 pub made_free : (k : ℕ) (is : List Indices) (m : Made) → FactFree (node_made k is m)
 made_free k is m = note_free (λ facts. made_note facts k is m)
 
 pub ended_free : (k : ℕ) (is : List Indices) (i : Indices) → FactFree (node_ended k is i)
 ended_free k is i = bind_free (node_made k is (Makes.ByIndices i)) (λ t. give i) (made_free k is (Makes.ByIndices i)) (λ t. give_free i)
-
-pub noted_free : (k : ℕ) (i : Indices) → FactFree (numbers_noted k i)
-noted_free k i = bind_free (note (λ facts. given_note facts k i)) (λ t. numbers_given i) (note_free (λ facts. given_note facts k i)) (λ t.
-    gives_free (numbers_given i) (variables_given i) (gives_all i))
-
-pub given_free : (k : ℕ) (i : Indices) → FactFree (node_given k i)
-given_free k i = bind_free (numbers_noted k i) (λ t. give i) (noted_free k i) (λ t. give_free i)

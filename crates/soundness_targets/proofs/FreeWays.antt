@@ -1,5 +1,5 @@
 -- What a way reaches, and what is read of it, hangs on no facts and notes no number; so it is with the ways into what a call gives.
-use Rattle.std.proofs.Common.{ℕ, Bool, true, false, List, [], ◌∷◌, Option, Some, None, if◌then◌else◌, refl}
+use Rattle.std.proofs.Common.{ℕ, Bool, true, false, List, [], ◌∷◌, Option, Some, None, if◌then◌else◌}
 use Rattle.std.specs.Prelude.{length, slice_get, take, ◌-◌}
 use Rattle.sail_base.specs.declared.place.Place.{Place}
 use Rattle.sail_types.specs.declared.numbers.Con.TheVariants as C
@@ -10,10 +10,8 @@ use Rattle.sail_core.specs.declared.targets.Way.TheVariants as Y
 use Rattle.value_indices.specs.Steps.{give, owe, wrong}
 use Rattle.value_indices.specs.declared.indices.Indices.{Indices, out-Indices}
 use Rattle.value_indices.specs.declared.indices.Indices.TheVariants as I
-use Rattle.value_indices.specs.declared.notes.Fact.{Fact}
 use Rattle.pattern_leaves.specs.Settings.{Around}
 use Rattle.call_notes.specs.Ends.{is_never, never_value, opened_at, wrong_value}
-use Rattle.expression_forms.specs.Spots.{in_force}
 use Rattle.expression_forms.specs.Ways.{if_never_value, into_field, into_item, part_read, read_into, slice_width, suffix_read, with_width}
 use Rattle.expression_forms.specs.declared.ways.Ends.{Ends}
 use Rattle.expression_forms.specs.declared.ways.Reached.{Reached}
@@ -22,7 +20,7 @@ use Rattle.expression_steps.specs.Values.{reached_by, slice_between, slice_reach
 use Rattle.expression_steps.specs.declared.late.Late.{Late}
 use Rattle.soundness_targets.proofs.FreeCalls.{opened_at_quiet}
 use Rattle.soundness_targets.proofs.FreeOpenings.{number_quiet}
-use Rattle.soundness_targets.proofs.FreeWalks.{FactFree, Quiet, bind_quiet, give_quiet, owe_quiet, wrong_quiet}
+use Rattle.soundness_targets.proofs.FreeWalks.{Quiet, bind_quiet, give_quiet, owe_quiet, wrong_quiet}
 
 -- ---- what a way reaches
 
@@ -64,10 +62,6 @@ suffix_read_quiet : (place : Place) (k : ℕ) (i : Indices) (o : Option Reached)
 suffix_read_quiet place k i o = read_into_quiet place i o
 
 -- ---- parts of what is there late
-
-pub in_force_free : (fs : List Fact) → FactFree (in_force fs)
-unfolding in_force
-in_force_free fs = record { value = λ facts n. refl; next = λ facts n. refl; facts = λ facts n. refl }
 
 read_late_quiet : (around : Around) (ss : List Suffix) (ns : List Num) (i : Indices) → Quiet (read_late around ss ns i)
 read_late_quiet around [] ns i = give_quiet (onward_to ns i)

@@ -19,12 +19,12 @@ use Rattle.soundness_forms.specs.Registers.{RegistersClosed}
 use Rattle.soundness_forms.specs.Worlds.{Surrounds}
 use Rattle.soundness_parts.proofs.Taken.{z}
 use Rattle.soundness_values.specs.Named.{TypesNarrow}
-use Rattle.soundness_targets.specs.Plain.{Shape, a_call, a_late, a_name, a_part, a_parted, a_tuple, a_wrong, is_item, is_member, shape}
+use Rattle.soundness_targets.proofs.Plain.{Shape, a_call, a_late, a_name, a_part, a_parted, a_tuple, a_wrong, is_item, is_member, shape}
 use Rattle.soundness_targets.proofs.Findings.{Finding, member_finding, part_finding}
 use Rattle.soundness_targets.proofs.FoundTargets.{FindsEach, FindsOne, more_found, none_found, one_found, tuple_found}
 use Rattle.soundness_targets.proofs.LateItems.{late_item}
 use Rattle.soundness_targets.proofs.Members.{meaning, member_finds}
-use Rattle.soundness_targets.proofs.PartMembers.{items_grow}
+use Rattle.soundness_targets.proofs.AnyGrowth.{members_grow}
 use Rattle.soundness_targets.proofs.Shapes.{LateIs, PartIs, PartedIs, ShapeIs, height, heights, parts_low, shape_is}
 
 module _ (fit : FitsSuffice) (q : Scene) (w : World Item) (narrow : TypesNarrow q.set.around.types) (closed : RegistersClosed q.set)
@@ -107,7 +107,7 @@ module _ (fit : FitsSuffice) (q : Scene) (w : World Item) (narrow : TypesNarrow 
     each_of d one (t ∷ ts) low e m fs ps =
         let both = and_parts (is_item (shape t)) (list_all is_item (map shape ts)) e in
         more_found q w scope f (spotting t) (runs t) (map spotting ts) (map runs ts) (one t (omega (arith, low)) both.0)
-        (each_of d one ts (omega (arith, low)) both.1) (λ qs grow. (items_grow (here q) scope ts both.1 qs grow).0) m fs ps
+        (each_of d one ts (omega (arith, low)) both.1) (λ qs grow. (members_grow (here q) scope ts qs grow).0) m fs ps
 
     item_found : (d : ℕ) (t : Target) → height t ≤ d → is_item (shape t) ≡ true → One t
     item_found zero t low e = item_by zero (λ ts bad e2. absurd (omega (arith, bad))) t (shape t) refl (shape_is t) e low

@@ -26,6 +26,7 @@ use Rattle.sail_core.specs.declared.model.Direction.{Direction}
 use Rattle.sail_core.specs.declared.model.Function.{Function}
 use Rattle.sail_core.specs.declared.tree.Callee.{Callee}
 use Rattle.sail_core.specs.declared.tree.Callee.TheVariants as D
+use Rattle.sail_core.specs.declared.tree.Giver.TheVariants as By
 use Rattle.size_values.specs.declared.sized.Sized.{Sized}
 use Rattle.value_indices.specs.Steps.{Walk, bind, call_note, next_variable, note}
 use Rattle.value_indices.specs.declared.indices.Indices.{Indices}
@@ -39,6 +40,7 @@ use Rattle.call_arguments.specs.Callees.{argument_aim, is_closed, numbers_from, 
 use Rattle.call_arguments.specs.Placing.{call_conditions}
 use Rattle.call_arguments.specs.declared.aims.Aim.{Aim}
 use Rattle.call_arguments.specs.declared.aims.Aim.TheVariants as Aims
+use Rattle.call_fits.specs.Calls.{givens_at}
 use Rattle.call_notes.specs.Calls.{called, direction_applied, direction_call, direction_called, direction_types, function_call, function_called, noted_call}
 use Rattle.call_notes.specs.Calls.{numbered_call}
 use Rattle.call_notes.specs.Ends.{fits_unless, never_value}
@@ -49,7 +51,7 @@ use Rattle.checked_meaning.specs.Items.{Item, item, typs, vals}
 use Rattle.value_laws.specs.Belonging.{Integers}
 use Rattle.value_laws.specs.Known.{Point}
 use Rattle.value_laws.proofs.Steps.{same}
-use Rattle.soundness_steps.specs.Calls.{CallEnds, Enters, IsOf, SoundCalls, call_falls, call_gives, call_stops, call_throws}
+use Rattle.soundness_steps.specs.Calls.{CallEnds, Enters, IsOf, SoundCalls, awaited_at, call_falls, call_gives, call_stops, call_throws}
 use Rattle.soundness_steps.specs.Covers.{AllAgree, given_there}
 use Rattle.soundness_steps.specs.Noted.{type_sized}
 use Rattle.soundness_steps.specs.States.{Sound}
@@ -171,6 +173,9 @@ module _ (q : Scene) (w : World Item) (place : Place) (k i : ℕ) (fn : Function
       → Kept now (calling now)
   unfolding note
   call_kept {n} {f} {facts} typed fits now stands met ok =
+      let agrees : (numbers : List (Option Given)) → AllAgree q.set.past f.integers numbers js
+      → all_agree numbers (givens_at fits.integers 0 fn.variables) ≡ true =
+      λ numbers h. ap (all_agree numbers) (sym (fits.given f.integers (same f))) ∙ agree_all q.set.past f.integers numbers js h in
       let lead = met.0 f.integers now.opened (stands.there f.integers (same f)) (typs xs) (all_sized q f is xs f.integers (same f) typed) in
       let x : Work = record {
         function = i;
@@ -184,11 +189,10 @@ module _ (q : Scene) (w : World Item) (place : Place) (k i : ℕ) (fn : Function
         belong = fits.belong;
         constraint = fits.constraint;
         are_given = fits.are_given;
-        awaited = ap (all_agree lead.instance.numbers) (sym (fits.given f.integers (same f)))
-            ∙ agree_all q.set.past f.integers lead.instance.numbers js lead.agree;
+        awaited = agrees lead.instance.numbers lead.agree;
       } in
-      called_kept (q.cases.calls k (typs xs) now.opened) lead.instance (λ awaited. w.call place i awaited (vals xs)) now lead.is_there
-      (ends_kept now (calls.call place x fn (vals xs) fits.integers enters now ok.state))
+      called_kept (q.cases.calls k (typs xs) now.opened) (awaited_at x lead.awaited) (λ awaited. w.call place i awaited (vals xs)) now lead.is_there
+      (ends_kept now (calls.call place x fn (vals xs) fits.integers enters lead.awaited (agrees lead.awaited lead.awaits) now ok.state))
 
   function_kept : CallsFit fn → {f : Point next} {facts : List Fact} (bs : List Bool) → ArgumentsAre q.set q.work f bs fn.parameters is (vals xs)
       → AllTyped q.set q.work f is xs → (now : Now Item) → Stands q.set q.work now.opened f facts
@@ -297,13 +301,13 @@ module _ (fit : FitsSuffice) (q : Scene) (w : World Item) (places : (i : ℕ) �
   read_run callee = callee_runs callee then λ v. (z q).make c xs v
 
   abbrev noted : Item → Run Item Item
-  noted old = (z q).note c old.val then λ t. gives old
+  noted old = (z q).note (By.Node c) old.val then λ t. gives old
 
   make_split : (v : Value) (now : Now Item) → goes_on ((z q).make c xs v now) noted ≡ made (z q) c xs v now
   make_split v now = by (q.cases.makes c (typs xs) v now.opened)
     where
       by : (o : Option Sized) → goes_on (goes_on (needs o now) (λ s. gives (item s v))) noted
-          ≡ goes_on (goes_on (needs o now) (λ s. gives (item s v))) (λ x. (z q).note c v then λ t. gives x)
+          ≡ goes_on (goes_on (needs o now) (λ s. gives (item s v))) (λ x. (z q).note (By.Node c) v then λ t. gives x)
       by None = refl
       by (Some s) = refl
 
@@ -312,7 +316,7 @@ module _ (fit : FitsSuffice) (q : Scene) (w : World Item) (places : (i : ℕ) �
 
   -- a call is all of it
   pub asked_is : (callee : Callee) → (now : Now Item) → (read_run callee now ≡ R.Stuck → ⊥)
-      → called_run (z q) w at c callee xs now ≡ goes_on (read_run callee now) (λ old. (z q).note c old.val then λ t. gives old)
+      → called_run (z q) w at c callee xs now ≡ goes_on (read_run callee now) (λ old. (z q).note (By.Node c) old.val then λ t. gives old)
   asked_is (D.Function i) now there =
       sym ((λ k. Functions.called_as q w scope at c i fit (places i) xs k now)) ∙ sym (split (callee_runs (D.Function i)) now)
   asked_is (D.Row row) now there = sym (split (callee_runs (D.Row row)) now)

@@ -7,7 +7,7 @@ use Rattle.sail_base.specs.declared.place.Place.{Place}
 use Rattle.sail_types.specs.declared.numbers.Num.{Num}
 use Rattle.sail_core.specs.declared.targets.Caller.{Caller}
 use Rattle.sail_core.specs.declared.targets.Suffix.{Suffix}
-use Rattle.value_indices.specs.Steps.{Walk, bind, give, next_variable, scoped, wrong}
+use Rattle.value_indices.specs.Steps.{Walk, bind, give, next_variable, scoped}
 use Rattle.value_indices.specs.declared.indices.Indices.{Indices}
 use Rattle.value_indices.specs.declared.indices.Reading.TheVariants as R
 use Rattle.value_indices.specs.declared.notes.Fact.{Fact}
@@ -23,9 +23,9 @@ use Rattle.expression_forms.specs.Spots as Walked
 use Rattle.expression_forms.specs.declared.spots.Known.{Known}
 use Rattle.expression_forms.specs.declared.ways.Reached.{Reached}
 use Rattle.expression_steps.specs.Parts.{Part, numbers_walk}
-use Rattle.expression_steps.specs.Targets.{Onward, Spotted, ahead, each_late, has_no_way, its_numbers, known_late, last_late, late_count, late_reached}
-use Rattle.expression_steps.specs.Targets.{late_place, late_spotted, no_spot, numbered_late, onward_to, other_numbers, part_late, read_ahead}
-use Rattle.expression_steps.specs.Targets.{read_late, spotted_late}
+use Rattle.expression_steps.specs.Targets.{Onward, Spotted, ahead, each_late, its_numbers, known_late, last_late, late_count, late_reached}
+use Rattle.expression_steps.specs.Targets.{late_place, late_spotted, numbered_late, onward_to, other_numbers, part_late, read_ahead}
+use Rattle.expression_steps.specs.Targets.{read_late}
 use Rattle.expression_steps.specs.Targets.{suffixes_late, ways_late}
 use Rattle.expression_steps.specs.Values.{reached_by}
 use Rattle.expression_steps.specs.declared.late.Ahead.{Ahead}
@@ -37,7 +37,7 @@ use Rattle.soundness_parts.proofs.PartGrowth.{Gives, any, first_grow, gives_back
 use Rattle.soundness_targets.proofs.CallGrowth.{called_grows, says_counts}
 use Rattle.soundness_targets.proofs.PartGrows.{BaseGrows, Renews, noted_grows, write_grows}
 use Rattle.soundness_targets.proofs.TargetGrowth.{AnyGrow, SpottedGrow, free_grow, into_grows, left_grow}
-use Rattle.soundness_targets.proofs.TupleGrowth.{MemberGrows, WriteGrows, wrong_write_grows}
+use Rattle.soundness_targets.proofs.TupleGrowth.{WriteGrows, wrong_write_grows}
 use Rattle.soundness_targets.proofs.WriteGrowth.{put_grows}
 
 next_grows : Grows next_variable
@@ -182,11 +182,3 @@ module _ (around : Around) (scope : Scope) where
         gives_bind (λ a. Unit {0}) Spots (read_ahead base) _ (any (read_ahead base)) (λ a u.
         gives_bind (λ o. Unit {0}) Spots (numbers_walk (take c ps) around scope) (numbered_late at k ss around base (drop c ps) a)
         (any (numbers_walk (take c ps) around scope)) (λ o v. numbered_gives (drop c ps) (left_grow around scope c ps grow) a o))
-
-    pub late_member : MemberGrows around scope (spotted_late at k ss around scope base)
-    late_member ps grow = by (has_no_way ss (length ps))
-      where
-        by : (b : Bool) → Grows (if b then no_spot at else each_late at k ss around scope base ps)
-            × Gives Spots (if b then no_spot at else each_late at k ss around scope base ps)
-        by true = (none_grows at, gives_bind (λ t. Unit {0}) Spots (wrong at) (λ t. give None) (any (wrong at)) (λ t u. gives_back Spots None tt))
-        by false = (each_late_grows ps grow, each_late_gives ps grow)

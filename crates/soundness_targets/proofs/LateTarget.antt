@@ -254,7 +254,8 @@ module _ (fit : FitsSuffice) (q : Scene) (w : World Item) (narrow : TypesNarrow 
         (runs_as (λ now. sym (same_run us right now))
         (binds (λ is. bind (spot is) (λ o. bind (parts o) (then_assigned further)))
         (λ xs. ways_of (z q) (r ∷ ss) (drop count us) then λ t. right.run t.left then (part_spot (z q) k (base_run xs) t.found).write)
-        (each_fine q w scope (take count ps) (take count us) (all_taken q w count ps us fine) (argument_aims types) there (arguments_steady q.set q.work f types))
+        (each_fine q w scope (take count ps) (take count us) (all_taken q w count ps us fine) (argument_aims types) there
+        (arguments_steady q.set q.work f types))
         (λ m g fs is xs l e.
         starts (spotted (call_spot (here q) base_at kb reader writer (nestings (take count ps)) is) (drop count ps))
         (λ o. bind (parts o) (then_assigned further))

@@ -13,6 +13,7 @@ use Rattle.sail_core.specs.Targets as Runs
 use Rattle.sail_core.specs.Targets.{part_spot, renewed}
 use Rattle.sail_core.specs.Values.{Into, replaced}
 use Rattle.sail_core.specs.declared.targets.Caller.{Caller}
+use Rattle.sail_core.specs.declared.tree.Giver.TheVariants as By
 use Rattle.value_indices.specs.Steps.{Walk, Went, bind, conditions, give, given_note, made_note, note, went}
 use Rattle.value_indices.specs.declared.indices.Indices.{Indices}
 use Rattle.value_indices.specs.declared.indices.Reading.{out-Reading}
@@ -136,26 +137,26 @@ stands_again q {before} {after} {f = f} {p = p} facts later s l front t = record
 
 module _ (q : Scene) (k : ℕ) where
   hole_put_is : (n : ℕ) (facts : List Fact) (i : Indices) → put k (i ∷ []) Q.Hole i facts n
-      ≡ went tt (with_given facts (variables_given i)) n (made_note facts k (i ∷ []) (Makes.ByIndices i) ∷ given_note facts k i ∷ [])
+      ≡ went tt (with_given facts (variables_given i)) n (made_note facts k (i ∷ []) (Makes.ByIndices i) ∷ given_note facts (By.Node k) i ∷ [])
   unfolding bind note
   hole_put_is n facts i =
       ap (λ (w : Went (Unit {0})). went w.value w.facts w.next
-      (made_note facts k (i ∷ []) (form_made (out-Reading Q.Hole) Q.Hole i) ∷ given_note facts k i ∷ w.notes))
+      (made_note facts k (i ∷ []) (form_made (out-Reading Q.Hole) Q.Hole i) ∷ given_note facts (By.Node k) i ∷ w.notes))
       (gives_all i facts n)
-      ∙ ap (λ m. went tt (with_given facts (variables_given i)) n (made_note facts k (i ∷ []) m ∷ given_note facts k i ∷ [])) (made_as q k i)
+      ∙ ap (λ m. went tt (with_given facts (variables_given i)) n (made_note facts k (i ∷ []) m ∷ given_note facts (By.Node k) i ∷ [])) (made_as q k i)
 
   put_again : {n : ℕ} {f : Point n} {facts : List Fact} (i : Indices) (v : Value) → Has q.set q.work f i v
       → Beside q n f facts (put k [] Q.Hole i) (made (z q) k [] v) (λ m g t y. Is q.set q.work g i y)
   put_again {n} {f} {facts} i v h =
       subst (λ m. Beside q n f facts (bind (note (λ fs. made_note fs k [] m)) (λ t. numbers_noted k i)) (made (z q) k [] v) (λ d g t y. Is q.set q.work g i y))
       (sym (made_as q k i))
-      (binds (λ t. numbers_noted k i) (λ y. (z q).note k v then λ t. gives y) (makes k [] (Makes.ByIndices i) [] v tt (λ g a. has_there h g a))
+      (binds (λ t. numbers_noted k i) (λ y. (z q).note (By.Node k) v then λ t. gives y) (makes k [] (Makes.ByIndices i) [] v tt (λ g a. has_there h g a))
       (λ m g fs t y l e. noted m g fs y l (record { has = subst (λ u. Has q.set q.work g i u) (sym e.0) (has_on l h); typ = e.1 })))
     where
       noted : (m : ℕ) (g : Point m) (fs : List Fact) (y : Item) → Later f g → Is q.set q.work g i y
-          → Beside q m g fs (numbers_noted k i) ((z q).note k v then λ t. gives y) (λ d p a u. Is q.set q.work p i u)
+          → Beside q m g fs (numbers_noted k i) ((z q).note (By.Node k) v then λ t. gives y) (λ d p a u. Is q.set q.work p i u)
       noted m g fs y l e =
-          runs_on (λ t. gives y) (gives_numbers k i v (numbers_given i) (gives_all i) (has_there (has_on l h))) (λ d p gs t u l2 s.
+          runs_on (λ t. gives y) (gives_numbers (By.Node k) i v (numbers_given i) (gives_all i) (has_there (has_on l h))) (λ d p gs t u l2 s.
           rests y (given_back t (is_on l2 e)))
 
 walk_starts : {q : Scene} {n : ℕ} {f : Point n} {facts : List Fact} {A C : Type 0} (a : A) (k : A → Walk C) {Holds : (m : ℕ) → Point m → C → Type 0}
@@ -243,12 +244,13 @@ module _ (fit : FitsSuffice) (q : Scene) (w : World Item) (places : (i : ℕ) �
 
       -- what is left of the run
       abbrev pub rest : Run Item Item
-      rest = (z q).note c old.val then λ t. needs (replaced ways old.val v) then renews
+      rest = (z q).note (By.Node c) old.val then λ t. needs (replaced ways old.val v) then renews
 
       again_grows : Grows again
       again_grows =
           grows_bind (numbers_noted c held) (λ t. walk_renewed)
-          (grows_bind (note (λ facts. given_note facts c held)) (λ u. numbers_given held) (grows_note (λ facts. given_note facts c held)) (λ u.
+          (grows_bind (note (λ facts. given_note facts (By.Node c) held)) (λ u. numbers_given held)
+          (grows_note (λ facts. given_note facts (By.Node c) held)) (λ u.
           grows_gives (numbers_given held) (variables_given held) (gives_all held))) (λ t. renewed_grows)
 
       record Renewed {n : ℕ} (f : Point n) : Type 0 where
@@ -260,7 +262,7 @@ module _ (fit : FitsSuffice) (q : Scene) (w : World Item) (places : (i : ℕ) �
           → Beside q n f facts again rest (λ m g a u. Is q.set q.work g a u)
       again_fine there each has r =
           binds (λ t. walk_renewed) (λ t. needs (replaced ways old.val v) then renews)
-          (gives_numbers c held old.val (numbers_given held) (gives_all held) (has_there has)) (λ m g fs t u l e.
+          (gives_numbers (By.Node c) held old.val (numbers_given held) (gives_all held) (has_there has)) (λ m g fs t u l e.
           runs_as (λ now. ap (λ o. goes_on (needs o now) renews) (sym r.is_all))
           (renewed_fine (surrounds_on q w scope l there) (each_on q ps (argument_aims types) is xs l each) r.all (has_on l r.has_all)))
 
@@ -428,7 +430,7 @@ module _ (fit : FitsSuffice) (q : Scene) (w : World Item) (places : (i : ℕ) �
         run_write = (part_spot (z q) k (Runs.call_spot (z q) w at kb (Some asker) writer xs) ways).write y
 
         abbrev notes_it : Item → Run Item Item
-        notes_it old = (z q).note asker.number old.val then λ t. gives old
+        notes_it old = (z q).note (By.Node asker.number) old.val then λ t. gives old
 
         abbrev replaced_then : Value → Item → Run Item Item
         replaced_then v old = needs (replaced ways old.val v) then renews
@@ -445,9 +447,10 @@ module _ (fit : FitsSuffice) (q : Scene) (w : World Item) (places : (i : ℕ) �
         read_is now moment u old after put_so same_value is_it =
             run_is now moment u put_so (unstuck (reading moment) is_it)
             ∙ ap (λ e. goes_on (goes_on e notes_it) (replaced_then u.val)) is_it
-            ∙ under ((z q).note asker.number old.val after) (λ t. gives old) (λ t. needs (replaced ways old.val u.val) then renews) (replaced_then u.val)
+            ∙ under ((z q).note (By.Node asker.number) old.val after) (λ t. gives old) (λ t. needs (replaced ways old.val u.val) then renews)
+            (replaced_then u.val)
             (λ t last. refl)
-            ∙ ap (λ v. goes_on ((z q).note asker.number old.val after) (λ t. needs (replaced ways old.val v) then renews)) same_value
+            ∙ ap (λ v. goes_on ((z q).note (By.Node asker.number) old.val after) (λ t. needs (replaced ways old.val v) then renews)) same_value
           where
             unstuck : (e : Ended Item Item) → e ≡ R.Gives old after → e ≡ R.Stuck → ⊥
             unstuck e h s = absurd (cc)
@@ -489,7 +492,7 @@ module _ (fit : FitsSuffice) (q : Scene) (w : World Item) (places : (i : ℕ) �
             vs = with_given facts (variables_given i)
 
             behind_put : Stands q.set q.work now.opened f facts
-                → AllMet q (made_note facts k (i ∷ []) (Makes.ByIndices i) ∷ given_note facts k i ∷ [])
+                → AllMet q (made_note facts k (i ∷ []) (Makes.ByIndices i) ∷ given_note facts (By.Node k) i ∷ [])
                 → AllMet q (bind in_it (owed_answer place) vs n).notes
                 → EndsWell q f (bind in_it (owed_answer place) vs n).next (bind in_it (owed_answer place) vs n).facts
                 (λ p a. Is q.set q.work p (bind in_it (owed_answer place) vs n).value a) (run_write now)
@@ -521,7 +524,7 @@ module _ (fit : FitsSuffice) (q : Scene) (w : World Item) (places : (i : ℕ) �
 
             -- in a tuple, where nothing is left
             behind_alone : Stands q.set q.work now.opened f facts
-                → AllMet q (made_note facts k (i ∷ []) (Makes.ByIndices i) ∷ given_note facts k i ∷ []) → AllMet q (in_it vs n).notes
+                → AllMet q (made_note facts k (i ∷ []) (Makes.ByIndices i) ∷ given_note facts (By.Node k) i ∷ []) → AllMet q (in_it vs n).notes
                 → EndsWell q f (in_it vs n).next (in_it vs n).facts (λ p a. Unit {0}) (run_write now)
             unfolding bind in_force
             behind_alone stands notes met_rest =

@@ -1,3 +1,4 @@
+pub mod Plain
 pub mod FreeWalks
 pub mod FreeOpenings
 pub mod FreeCalls
@@ -28,7 +29,6 @@ pub mod TupleGrowth
 pub mod PartGrows
 pub mod LateGrowth
 pub mod AnyGrowth
-pub mod PartMembers
 pub mod ChainGrowth
 pub mod OneTarget
 pub mod Callings

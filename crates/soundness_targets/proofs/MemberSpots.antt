@@ -169,7 +169,8 @@ module _ (fit : FitsSuffice) (q : Scene) (w : World Item) (places : (i : ℕ) �
 
 -- ---- a tuple
 
-module _ (q : Scene) (w : World Item) {n : ℕ} (f : Point n) (at : Place) (k : ℕ) (ss : List Spot) (srs : List (Runs.Spot Item)) (all : AllWritable q f ss srs) where
+module _ (q : Scene) (w : World Item) {n : ℕ} (f : Point n) (at : Place) (k : ℕ) (ss : List Spot) (srs : List (Runs.Spot Item))
+    (all : AllWritable q f ss srs) where
   abbrev pub a_tuple : Spot
   a_tuple = tuple_spot at k ss
 

@@ -42,7 +42,7 @@ use Rattle.soundness_forms.proofs.Worlds.{surrounds_on}
 use Rattle.soundness_values.proofs.Mappings.{arguments_steady}
 use Rattle.soundness_values.proofs.NamedKinds.{all_taken}
 use Rattle.soundness_parts.proofs.Taken.{z}
-use Rattle.soundness_targets.specs.Plain.{Shape, a_call, a_late, a_name, a_part, a_parted, a_tuple, a_wrong, is_item, is_member, shape, shape_form}
+use Rattle.soundness_targets.proofs.Plain.{Shape, a_call, a_late, a_name, a_part, a_parted, a_tuple, a_wrong, is_item, is_member, shape, shape_form}
 use Rattle.soundness_targets.proofs.CallTargets.{all_dropped}
 use Rattle.soundness_targets.proofs.MemberSpots.{call_writable, name_writable, tuple_writable}
 use Rattle.soundness_targets.proofs.Setters.{Var, held_keeps}

@@ -6,6 +6,7 @@ use Rattle.sail_types.specs.declared.values.Value.{Value}
 use Rattle.sail_core.specs.Making.{made}
 use Rattle.sail_core.specs.Run as R
 use Rattle.sail_core.specs.Run.{Ended, Now, Run, goes_on}
+use Rattle.sail_core.specs.declared.tree.Giver.TheVariants as By
 use Rattle.value_indices.specs.declared.indices.Indices.{Indices}
 use Rattle.value_indices.specs.declared.indices.Reading.{Reading, out-Reading}
 use Rattle.value_indices.specs.declared.notes.Fact.{Fact}
@@ -113,17 +114,19 @@ module _ {q : Scene} {n : ℕ} {f : Point n} {facts : List Fact} {noted : Noted}
 
 -- the notes of what a name gets
 pub put_is : (n : ℕ) (facts : List Fact) (k : ℕ) (i : Indices) (r : Reading) → has_hole r ≡ false → put k (i ∷ []) r i facts n
-    ≡ went tt (with_given facts (variables_given i)) n (made_note facts k (i ∷ []) (Makes.ByType r) ∷ given_note facts k i ∷ [])
+    ≡ went tt (with_given facts (variables_given i)) n (made_note facts k (i ∷ []) (Makes.ByType r) ∷ given_note facts (By.Node k) i ∷ [])
 unfolding bind note
 put_is n facts k i r whole =
-    ap (λ (w : Went (Unit {0})). went w.value w.facts w.next (made_note facts k (i ∷ []) (form_made (out-Reading r) r i) ∷ given_note facts k i ∷ w.notes))
+    ap (λ (w : Went (Unit {0})). went w.value w.facts w.next (made_note facts k (i ∷ []) (form_made (out-Reading r) r i) ∷ given_note facts (By.Node k) i ∷
+    w.notes))
     (gives_all i facts n)
-    ∙ ap (λ m. went tt (with_given facts (variables_given i)) n (made_note facts k (i ∷ []) m ∷ given_note facts k i ∷ [])) (hole_made r i (out-Reading r) refl whole)
+    ∙ ap (λ m. went tt (with_given facts (variables_given i)) n (made_note facts k (i ∷ []) m ∷ given_note facts (By.Node k) i ∷ []))
+    (hole_made r i (out-Reading r) refl whole)
 
 pub noted_is : (n : ℕ) (facts : List Fact) (k : ℕ) (i : Indices)
-    → numbers_noted k i facts n ≡ went tt (with_given facts (variables_given i)) n (given_note facts k i ∷ [])
+    → numbers_noted k i facts n ≡ went tt (with_given facts (variables_given i)) n (given_note facts (By.Node k) i ∷ [])
 unfolding bind note
-noted_is n facts k i = ap (λ (w : Went (Unit {0})). went w.value w.facts w.next (given_note facts k i ∷ w.notes)) (gives_all i facts n)
+noted_is n facts k i = ap (λ (w : Went (Unit {0})). went w.value w.facts w.next (given_note facts (By.Node k) i ∷ w.notes)) (gives_all i facts n)
 
 -- what is made goes on with it
 goes : (q : Scene) {B : Type 0} (d : Item → Run Item B) (now : Now Item) (k : ℕ) (xs : List Item) (v : Value) (value : Item) (more : Noted)
@@ -151,7 +154,8 @@ module _ {q : Scene} {n : ℕ} {f : Point n} {facts : List Fact} where
         → At q n f facts (bind (numbers_noted k i) (λ t. rest)) now.opened (goes_on (made (checked q.set.around.types q.cases) k [] v now) d) Then
     at_given k i r v earlier makes front has_it belongs next =
         at_exact (numbers_noted k i) (λ t. rest) _ (noted_is n facts k i) (λ stands notes met.
-        let m = made_there q k [] (Makes.ByType r) i [] v now earlier facts makes notes.0 (stands_before q earlier facts front stands) stands tt belongs has_it in
+        let m = made_there q k [] (Makes.ByType r) i [] v now earlier facts makes notes.0
+        (stands_before q earlier facts front stands) stands tt belongs has_it in
         subst (EndsWell q f (rest (with_given facts (variables_given i)) n).next (rest (with_given facts (variables_given i)) n).facts
         (λ p x. Then (rest (with_given facts (variables_given i)) n).next p (rest (with_given facts (variables_given i)) n).value x))
         (goes q d now k [] v m.value m.noted m.is_there) ((next m.noted m.value m.is_v notes.0).go m.stands met))
@@ -164,7 +168,8 @@ module _ {q : Scene} {n : ℕ} {f : Point n} {facts : List Fact} where
     at_again k i r v earlier makes front notes has_it belongs next = record {
       go = λ stands met.
           let here_so = stands_front facts (map Y.IsGiven (variables_given i)) stands in
-          let m = made_there q k [] (Makes.ByType r) i [] v now earlier facts makes notes (stands_before q earlier facts front here_so) here_so tt belongs has_it in
+          let m = made_there q k [] (Makes.ByType r) i [] v now earlier facts makes notes
+          (stands_before q earlier facts front here_so) here_so tt belongs has_it in
           subst (EndsWell q f (rest (with_given facts (variables_given i)) n).next (rest (with_given facts (variables_given i)) n).facts
           (λ p x. Then (rest (with_given facts (variables_given i)) n).next p (rest (with_given facts (variables_given i)) n).value x))
           (goes q d now k [] v m.value m.noted m.is_there) ((next m.noted m.value m.is_v).go m.stands met);

@@ -3,6 +3,7 @@ use Rattle.std.proofs.Common.{◌≡◌, ℕ, Bool, true, false, List, [], ◌�
 use Rattle.sail_base.specs.declared.place.Place.{Place}
 use Rattle.sail_core.specs.Making.{made}
 use Rattle.sail_core.specs.Run.{Run, gives, ◌then◌}
+use Rattle.sail_core.specs.declared.tree.Giver.TheVariants as By
 use Rattle.value_indices.specs.declared.indices.Indices.{Indices}
 use Rattle.value_indices.specs.declared.indices.Indices.TheOpen as W
 use Rattle.value_indices.specs.declared.indices.Indices.TheOpen.{Reading-F}
@@ -59,7 +60,8 @@ module _ (fit : FitsSuffice) (q : Scene) (place : Place) (k : ℕ) (name : List 
       (met : IsMet q.set q.work f (Aims.Given r) nested x.val) (wanted : IsWanted q.set q.work f r) where
     -- that it belongs is owed behind it, or further in
     belongs_by : (facts : List Fact) (b : Bool) → nested ≡ b → (noted : Noted) → Stands q.set q.work noted f facts
-        → AllMet q (owed_answer place (puts nested i facts n).value (puts nested i facts n).facts (puts nested i facts n).next).notes → Belongs q.set q.work f r x.val
+        → AllMet q (owed_answer place (puts nested i facts n).value (puts nested i facts n).facts (puts nested i facts n).next).notes
+        → Belongs q.set q.work f r x.val
     unfolding bind give note
     belongs_by facts true e noted stands all = subst (λ b. IsMet q.set q.work f (Aims.Given r) b x.val) e met
     belongs_by facts false e noted stands all =
@@ -68,20 +70,21 @@ module _ (fit : FitsSuffice) (q : Scene) (place : Place) (k : ℕ) (name : List 
         (subst (λ c. AllMet q (owed_answer place (left c i) (with_given facts (variables_given i)) n).notes) e
         (subst (λ s. AllMet q (owed_answer place (left nested i) s.facts s.next).notes) (gives_all i facts n) all)))
 
-    pub put_fine : {facts : List Fact} → Belongs q.set q.work f r x.val → Beside q n f facts (puts nested i) (made (checked q.set.around.types q.cases) k (x ∷ []) x.val)
+    pub put_fine : {facts : List Fact} → Belongs q.set q.work f r x.val
+        → Beside q n f facts (puts nested i) (made (checked q.set.around.types q.cases) k (x ∷ []) x.val)
         (λ m g a y. (a ≡ left nested i) × (y.val ≡ x.val))
     put_fine {facts} is_so =
         then_walks (λ t. give (left nested i))
         (subst (λ m. Beside q n f facts (bind (node_made k (i ∷ []) m) (λ t. numbers_noted k i)) (made (checked q.set.around.types q.cases) k (x ∷ []) x.val)
         (λ d g a y. y.val ≡ x.val)) (sym (hole_made r i (out-Reading r) refl wanted.1))
-        (binds (λ t. numbers_noted k i) (λ y. (checked q.set.around.types q.cases).note k x.val then λ t. gives y)
+        (binds (λ t. numbers_noted k i) (λ y. (checked q.set.around.types q.cases).note (By.Node k) x.val then λ t. gives y)
         (makes k (i ∷ []) (Makes.ByType r) (x ∷ []) x.val (h.typ, tt) is_so) (λ m g fs t y l e.
         noted_fine m g fs y l e.0))) (λ m g fs a y l e. given_back (left nested i) (refl, e))
       where
         noted_fine : (m : ℕ) (g : Point m) (fs : List Fact) (y : Item) → Later f g → y.val ≡ x.val
-            → Beside q m g fs (numbers_noted k i) ((checked q.set.around.types q.cases).note k x.val then λ t. gives y) (λ d p a u. u.val ≡ x.val)
+            → Beside q m g fs (numbers_noted k i) ((checked q.set.around.types q.cases).note (By.Node k) x.val then λ t. gives y) (λ d p a u. u.val ≡ x.val)
         noted_fine m g fs y l e =
-            runs_on (λ t. gives y) (gives_numbers k i x.val (numbers_given i) (gives_all i) (has_there (is_on l h).has)) (λ d p gs t u l2 s.
+            runs_on (λ t. gives y) (gives_numbers (By.Node k) i x.val (numbers_given i) (gives_all i) (has_there (is_on l h).has)) (λ d p gs t u l2 s.
             rests y (given_back t e))
 
     owed_walks : {m : ℕ} {g : Point m} {fs : List Fact} → Later f g → Walks q m g fs (owe_fit place (fits_unless nested (here q) i r)) (λ d p t. Unit {0})

@@ -56,7 +56,8 @@ use Rattle.soundness_targets.proofs.Setters.{Var, held_keeps}
 use Rattle.soundness_targets.proofs.Shapes.{IsName}
 use Rattle.soundness_targets.proofs.TargetNames.{register_fine, variable_fine}
 
-module _ (fit : FitsSuffice) (q : Scene) (w : World Item) (narrow : TypesNarrow q.set.around.types) (closed : RegistersClosed q.set) (place : Place) (scope : Scope) where
+module _ (fit : FitsSuffice) (q : Scene) (w : World Item) (narrow : TypesNarrow q.set.around.types) (closed : RegistersClosed q.set) (place : Place)
+    (scope : Scope) where
   abbrev pub runs_on : Right → Runs.Spotting Item (Runs.Spot Item) → List (Run Item Item) → Run Item Item
   runs_on right t us = t us then λ r. right.run r.left then r.found.write
 
@@ -145,7 +146,8 @@ module _ (fit : FitsSuffice) (q : Scene) (w : World Item) (narrow : TypesNarrow 
           run = λ now stands met ok.
               let v = named.first now ok in
               let alone : PartGoes [] =
-              walk_regrouped (named_read at b name r) (suffixes_spot part_at k None [] (here q) scope (named_spot (here q) at b name r) ps) (then_assigned further)
+              walk_regrouped (named_read at b name r) (suffixes_spot part_at k None [] (here q) scope (named_spot (here q) at b name r) ps)
+              (then_assigned further)
               (walks_then (λ held. bind (suffixes_spot part_at k None [] (here q) scope (named_spot (here q) at b name r) ps held) (then_assigned further))
               (seen at b name r v.0 named.whole named.steady (λ g a. ap (belongs q.set.around.types v.0) (named.steady g a) ∙ v.1))
               (λ m g fs held l e. no_spot_goes part_at (run_part []))) in

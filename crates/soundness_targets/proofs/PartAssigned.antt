@@ -69,7 +69,8 @@ split_last s (u ∷ ss) =
       ap (λ ts. s ∷ ts) r.4,
     )
 
-module _ (q : Scene) (w : World Item) (narrow : TypesNarrow q.set.around.types) (place at : Place) (k : ℕ) (init : List Suffix) (s : Suffix) (base_at : Place) (b : ℕ)
+module _ (q : Scene) (w : World Item) (narrow : TypesNarrow q.set.around.types) (place at : Place) (k : ℕ) (init : List Suffix) (s : Suffix)
+    (base_at : Place) (b : ℕ)
     (name : List ℕ) (r : Reading) (rd : Run Item Item) (wr set : Item → Run Item Item) (scope : Scope) (right : Right)
     (right_fine : RightFine q w place scope right) where
   abbrev base : Spot
@@ -120,7 +121,8 @@ module _ (q : Scene) (w : World Item) (narrow : TypesNarrow q.set.around.types) 
     Ends {n} f facts walk now t y = AllMet q (walk facts n).notes
         → EndsWell q f (walk facts n).next (walk facts n).facts (λ p u. Is q.set q.work p (walk facts n).value u) (writes t y now)
 
-    module _ {n : ℕ} {f : Point n} {facts : List Fact} (i : Indices) (t : Runs.Spotted Item (List Into)) (y : Item) (front : Front earlier facts) (now : Now Item)
+    module _ {n : ℕ} {f : Point n} {facts : List Fact} (i : Indices) (t : Runs.Spotted Item (List Into)) (y : Item) (front : Front earlier facts)
+        (now : Now Item)
         (ok : Sound q now) (current : Current q b rd v now) (sets : Sets q r set f) (stands : Stands q.set q.work now.opened f facts) where
       written_by_way : (held : Indices) (x : Option Reached) (nested : Bool) → Seen q earlier b r f held v → WayThere q f held v t.found x
           → Is q.set q.work f i y → IsMet q.set q.work f (aimed Aims.Given (spot_at held x).typ) nested y.val
@@ -200,5 +202,6 @@ module _ (q : Scene) (w : World Item) (narrow : TypesNarrow q.set.around.types) 
         (two_passes (λ p. spot_last right p.0 p.1) writes_to (λ v. Is_at q f.integers r v) (λ v now. Current q b rd v now)
         (λ v m g p c. Valued facts v g p.0 p.1 c.0 c.1) (λ m g j u. Is q.set q.work g j u) fine.first values
         (λ v is g c l h now current stands met ok.
-        written facts v (with_value ps facts n).value.1 c.0 c.1 (front_on facts facts n (with_value ps) (with_grows ps (grow_of q w (here q) scope ps us parts)) ([], sym (append-nil facts))) now ok
+        written facts v (with_value ps facts n).value.1 c.0 c.1
+        (front_on facts facts n (with_value ps) (with_grows ps (grow_of q w (here q) scope ps us parts)) ([], sym (append-nil facts))) now ok
         current (fine.sets _ g l) stands (with_value ps facts n).value.0 h met))))

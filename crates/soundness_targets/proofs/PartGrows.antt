@@ -5,6 +5,7 @@ use Rattle.sail_base.specs.declared.place.Place.{Place}
 use Rattle.sail_types.specs.Zero.{deepest}
 use Rattle.model_state.specs.declared.state.Register.{Register}
 use Rattle.sail_core.specs.declared.targets.Way.{Way}
+use Rattle.sail_core.specs.declared.tree.Giver.TheVariants as By
 use Rattle.value_indices.specs.Steps.{Walk, bind, give}
 use Rattle.value_indices.specs.declared.indices.Indices.{Indices}
 use Rattle.value_indices.specs.declared.indices.Indices.TheVariants as I
@@ -33,7 +34,7 @@ use Rattle.soundness_targets.proofs.TupleGrowth.{wrong_write_grows}
 
 pub noted_grows : (k : ℕ) (i : Indices) → Grows (numbers_noted k i)
 noted_grows k i =
-    grows_bind (note (λ facts. given_note facts k i)) (λ t. numbers_given i) (grows_note (λ facts. given_note facts k i)) (λ t.
+    grows_bind (note (λ facts. given_note facts (By.Node k) i)) (λ t. numbers_given i) (grows_note (λ facts. given_note facts (By.Node k) i)) (λ t.
     grows_gives (numbers_given i) (variables_given i) (gives_all i))
 
 pub part_counts : (around : Around) (x : Reached) (nested : Bool) (i : Indices) → Counts (part_fits around x nested i)
@@ -61,7 +62,8 @@ module _ (around : Around) where
 
     pub write_grows : (owes nested : Bool) (i : Indices) → Grows (part_write around at owes x again nested i)
     write_grows true nested i =
-        grows_bind (owe_part around at x nested i) (λ t. bind again gives) (grows_owe_fit at (part_fits around x nested i) (part_counts around x nested i)) (λ t.
+        grows_bind (owe_part around at x nested i) (λ t. bind again gives)
+        (grows_owe_fit at (part_fits around x nested i) (part_counts around x nested i)) (λ t.
         grows_bind again gives again_grows (λ j. grows_give (wrote (says []) j)))
     write_grows false nested i =
         grows_bind again (part_left around x nested i) again_grows (λ j. grows_give (wrote (part_fits around x nested i) j))

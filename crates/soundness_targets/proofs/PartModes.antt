@@ -181,10 +181,12 @@ module _ (q : Scene) (w : World Item) {n : ℕ} (f : Point n) (base_at : Place) 
         → PartDue owes x u there
         → At q m g fs (part_put (here q) s.place k owes x (again held) nested i) now.opened (writes u now) (λ d p a t. Unit {0})
     put_by true x way is met due =
-        at_means (λ p t l2 e. tt) (index_put q s.place s.place k s.way base_at b name r held x nested i u earlier v ways rd (λ e. made (z q) b (e ∷ []) e.val then set) set now ok
+        at_means (λ p t l2 e. tt) (index_put q s.place s.place k s.way base_at b name r held x nested i u earlier v ways rd
+        (λ e. made (z q) b (e ∷ []) e.val then set) set now ok
         current sn front way is met (named.sets m g l))
     put_by false x way is met due =
-        at_means (λ p t l2 e. tt) (field_put q s.place s.place k s.way base_at b name r held x nested i u earlier v ways rd (λ e. made (z q) b (e ∷ []) e.val then set) set now ok
+        at_means (λ p t l2 e. tt) (field_put q s.place s.place k s.way base_at b name r held x nested i u earlier v ways rd
+        (λ e. made (z q) b (e ∷ []) e.val then set) set now ok
         current sn front way is met (named.sets m g l)
         (record {
           there = there;

@@ -181,7 +181,8 @@ module _ (q : Scene) (place at : Place) (k : ℕ) (way : Way) (base_at : Place) 
       abbrev replaced_then : Item → Run Item Item
       replaced_then old = needs (replaced ways old.val y.val) then named.renew
 
-      module _ {n : ℕ} {f : Point n} {facts : List Fact} (now : Now Item) (ok : Sound q now) (current : Current q b rd v now) (seen : Seen q earlier b r f held v)
+      module _ {n : ℕ} {f : Point n} {facts : List Fact} (now : Now Item) (ok : Sound q now) (current : Current q b rd v now)
+          (seen : Seen q earlier b r f held v)
           (front : Front earlier facts) (reaches : WayTo q f held v ways x) (is : Is q.set q.work f i y)
           (met : IsMet q.set q.work f (Aims.Given x.typ) nested y.val) (sets : Sets q r set f) where
         abbrev Renewed : Type 0
@@ -223,7 +224,8 @@ module _ (q : Scene) (place at : Place) (k : ℕ) (way : Way) (base_at : Place) 
             (at_give (wrote left I.Unit) (owed_answer place)
             (at_walks (λ t. give I.Unit) (owes m g (with_given fs (variables_given held)) l) (λ p l2 t.
             at_last (record now { opened = last })
-            (sets _ p _ w (later_on l l2) (λ c h. ap (is_of q.set.around.types (standing q.set.past c) q.work.types r) same_value ∙ a.3 c (agree_on l (agree_on l2 h))))
+            (sets _ p _ w (later_on l l2) (λ c h. ap (is_of q.set.around.types (standing q.set.past c) q.work.types r) same_value
+            ∙ a.3 c (agree_on l (agree_on l2 h))))
             (record { state = ok.state; names = ok.names })))))))))
 
         nothing_owed : (d : ℕ) (c : Point d) (gs : List Fact) → Later f c → Walks q d c gs (owe_fit place (says [])) (λ e h t. Unit {0})

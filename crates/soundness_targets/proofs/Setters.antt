@@ -44,7 +44,8 @@ module _ (q : Scene) {n : ℕ} (f : Point n) where
   Var (Some (H.Var r)) = (t : Closed) × HeldVar q.set q.work f (H.Var r) t
   Var held = Unit {0}
 
-  by_value : (b : Bool) (held : Held) (x : Item) → ((r : Reading) → held ≡ H.Var r → ⊥) → (other : Option Held) → Var other → Var (if b then Some held else other)
+  by_value : (b : Bool) (held : Held) (x : Item) → ((r : Reading) → held ≡ H.Var r → ⊥) → (other : Option Held) → Var other
+      → Var (if b then Some held else other)
   by_value false held x never other k = k
   by_value true (H.Value i) x never other k = tt
   by_value true (H.Var r) x never other k = absurd (never r refl)
@@ -67,11 +68,12 @@ module _ (q : Scene) (w : World Item) where
   unit = nothing (checked q.set.around.types q.cases)
 
   pub unit_is : {n : ℕ} (f : Point n) → Is q.set q.work f I.Unit unit
-  unit_is f = record { has = literal_has q.set q.work f L.Unit refl; typ = λ g a. literal_sized q.set.around.types q.work.own g L.Unit }
+  unit_is f = record { has = literal_has q.set q.work f L.Unit refl; typ = λ exact g a. literal_sized q.set.around.types q.work.own g L.Unit }
 
   -- ---- a `var`
 
-  pub variable_set : (name : List ℕ) {m : ℕ} {g : Point m} {fs : List Fact} (r : Reading) (scope : Scope) → held_in name scope ≡ Some (H.Var r) → Surrounds q w g scope → (y : Item)
+  pub variable_set : (name : List ℕ) {m : ℕ} {g : Point m} {fs : List Fact} (r : Reading) (scope : Scope) → held_in name scope ≡ Some (H.Var r)
+      → Surrounds q w g scope → (y : Item)
       → Belongs q.set q.work g r y.val
       → Beside q m g fs (give I.Unit) (set_variable (checked q.set.around.types q.cases) name y) (λ d b j u. Is q.set q.work b j u)
   unfolding give
@@ -111,7 +113,8 @@ module _ (q : Scene) (w : World Item) where
         old.2,
       )
 
-  pub register_set : (i : ℕ) {m : ℕ} {g : Point m} {fs : List Fact} (r : Register) (scope : Scope) → slice_get q.set.around.registers i ≡ Some r → is_closed r.typ ≡ true
+  pub register_set : (i : ℕ) {m : ℕ} {g : Point m} {fs : List Fact} (r : Register) (scope : Scope) → slice_get q.set.around.registers i ≡ Some r
+      → is_closed r.typ ≡ true
       → Surrounds q w g scope → (y : Item) → Belongs q.set q.work g (register_type r) y.val
       → Beside q m g fs (give I.Unit) (write_register (checked q.set.around.types q.cases) w i y.val) (λ d b j u. Is q.set q.work b j u)
   unfolding give

@@ -7,8 +7,8 @@ use Rattle.sail_core.specs.declared.targets.Suffix.{Suffix}
 use Rattle.sail_core.specs.declared.targets.Target.{Target, Target-F, fold-Target, fold-roll-Target, ind-Target, map-Target, roll-Target}
 use Rattle.sail_core.specs.declared.targets.TargetKind.{TargetKind}
 use Rattle.sail_core.specs.declared.targets.TargetKind.TheVariants as T
-use Rattle.soundness_targets.specs.Plain.{Shape, a_call, a_late, a_name, a_part, a_parted, a_tuple, a_wrong, is_item, is_member}
-use Rattle.soundness_targets.specs.Plain.{shape, shape_form}
+use Rattle.soundness_targets.proofs.Plain.{Shape, a_call, a_late, a_name, a_part, a_parted, a_tuple, a_wrong, is_item, is_member}
+use Rattle.soundness_targets.proofs.Plain.{shape, shape_form}
 
 -- a target without targets inside it
 abbrev pub target : Place → ℕ → TargetKind → Target
@@ -144,9 +144,3 @@ step y =
 
 pub shape_is : (t : Target) → ShapeIs t (shape t)
 shape_is = ind-Target Shaped (λ e y same_form. subst (λ d. Shaped (roll-Target d)) same_form (step y))
-
--- a tuple may be a part of one
-pub tuple_is_member : (t : Target) → TupleIs t → is_member (shape t) ≡ true
-tuple_is_member t h =
-    ap is_member (ap shape h.same ∙ fold-roll-Target Shape (λ u. shape_form u.kind u.parts) _
-    ∙ ap (λ b. if b then a_tuple else if list_all is_item (map shape h.parts) then a_parted else a_wrong) h.members)

@@ -1,14 +1,9 @@
 -- Tuples of targets: what was in force still is.
-use Rattle.std.proofs.Common.{◌≡◌, ◌∙◌, ℕ, Bool, true, false, List, [], ◌∷◌, if◌then◌else◌}
-use Rattle.std.proofs.Common.{drop, map, slice_get, take, Option, Some, None, refl, sym, subst, arith}
-use Rattle.std.specs.List.{list_all}
-use Rattle.std.proofs.lemmas.Bool.{and_parts}
+use Rattle.std.proofs.Common.{ℕ, Bool, List, [], ◌∷◌}
+use Rattle.std.proofs.Common.{drop, take, Option, Some, None, arith}
 use Rattle.sail_base.specs.declared.place.Place.{Place}
 use Rattle.model_state.specs.declared.state.Register.{Register}
 use Rattle.sail_core.specs.declared.targets.Caller.{Caller}
-use Rattle.sail_core.specs.declared.targets.Suffix.{Suffix}
-use Rattle.sail_core.specs.declared.targets.Target.{Target, Target-F, fold-roll-Target, ind-Target, map-Target, roll-Target}
-use Rattle.sail_core.specs.declared.targets.TargetKind.{TargetKind}
 use Rattle.sail_core.specs.declared.targets.TargetKind.TheVariants as T
 use Rattle.value_indices.specs.Steps.{Walk, bind, give, scoped}
 use Rattle.value_indices.specs.declared.indices.Indices.{Indices, out-Indices}
@@ -20,7 +15,7 @@ use Rattle.value_indices.specs.declared.notes.Fact.{Fact}
 use Rattle.value_fits.specs.Fitting.{joined, says}
 use Rattle.value_fits.specs.declared.fitted.Fitted.{Fitted}
 use Rattle.fitting_laws.proofs.Counted.{Counts}
-use Rattle.pattern_leaves.specs.Settings.{Around, Scope, held_in}
+use Rattle.pattern_leaves.specs.Settings.{Around, Scope}
 use Rattle.pattern_leaves.specs.declared.names.Held.{Held}
 use Rattle.pattern_leaves.specs.declared.names.Held.TheVariants as H
 use Rattle.call_notes.specs.Calls.{callee_types}
@@ -32,11 +27,10 @@ use Rattle.expression_forms.specs.Spots.{tuple_spot, tuple_write, wrong_spot, wr
 use Rattle.expression_steps.specs.Calls.{argument_aims, nestings}
 use Rattle.expression_steps.specs.Parts.{Part, each_walk}
 use Rattle.expression_steps.specs.Targets.{Spotted, SpottedAll, Spotting, call_spotted, each_spot, kind_spot}
-use Rattle.expression_steps.specs.Targets.{spotted, spotted_all, spotting, then_spot, tuple_spotted, with_spot}
+use Rattle.expression_steps.specs.Targets.{spotted, spotted_all, then_spot, with_spot}
 use Rattle.soundness_steps.specs.Steps.{Grows}
 use Rattle.soundness_forms.proofs.Growth.{grows_bind, grows_give, grows_scoped, grows_wrong}
 use Rattle.soundness_parts.proofs.PartGrowth.{Gives, any, gives_back, gives_bind, grows_bind_at}
-use Rattle.soundness_targets.specs.Plain.{Shape, a_call, a_late, a_name, a_part, a_parted, a_tuple, a_wrong, is_item, is_member, shape, shape_form}
 use Rattle.soundness_targets.proofs.CallGrowth.{each_grows, left_counts, says_counts, taken_grow, written_grow}
 use Rattle.soundness_targets.proofs.TargetGrowth.{AnyGrow, SpottedGrow, left_grow}
 use Rattle.soundness_targets.proofs.WriteGrowth.{put_grows, puts_count, wrong_count}
@@ -135,10 +129,6 @@ module _ (around : Around) (scope : Scope) where
   abbrev pub AllMembersGrow : List Spotting → Type 0
   AllMembersGrow ts = (ps : List Part) → AnyGrow around scope ps → Grows (each_spot ts around scope ps) × Gives AllGrown (each_spot ts around scope ps)
 
-  once_grows : (s : Spot) → WriteGrows s → (ps : List Part) → AnyGrow around scope ps
-      → Grows (give (spotted s ps)) × Gives (SpottedGrow around scope WriteGrows) (give (spotted s ps))
-  once_grows s h ps grow = (grows_give (spotted s ps), gives_back (SpottedGrow around scope WriteGrows) (spotted s ps) (grow, h))
-
   pub call_member : (at : Place) (k count : ℕ) (reader : Option Caller) (writer : Caller)
       → MemberGrows (kind_spot at k (T.Call count reader writer) [] around scope)
   call_member at k count reader writer ps grow =
@@ -186,75 +176,3 @@ module _ (around : Around) (scope : Scope) where
       grows_bind_at (SpottedGrow around scope WriteGrows) (t around scope ps) (then_spot others) (h ps grow).1 (h ps grow).0 next_grows,
       gives_bind (SpottedGrow around scope WriteGrows) AllGrown (t around scope ps) (then_spot others) (h ps grow).1 next_gives,
     )
-
-  pub tuple_member : (at : Place) (k : ℕ) (ts : List Spotting) → AllMembersGrow ts → MemberGrows (kind_spot at k T.Tuple ts around scope)
-  tuple_member at k ts h ps grow = (
-    grows_bind (each_spot ts around scope ps) (λ all. give (tuple_spotted at k all)) (h ps grow).0 (λ all. grows_give (tuple_spotted at k all)),
-    gives_bind AllGrown (SpottedGrow around scope WriteGrows) (each_spot ts around scope ps) (λ all. give (tuple_spotted at k all)) (h ps grow).1 (λ all e.
-        gives_back (SpottedGrow around scope WriteGrows) (tuple_spotted at k all) (tuple_grown all e)),
-  )
-    where
-      tuple_grown : (all : Option SpottedAll) → AllGrown all → SpottedGrow around scope WriteGrows (tuple_spotted at k all)
-      tuple_grown None e = tt
-      tuple_grown (Some all) e = (e.0, tuple_write_grows at all.spots e.1 k)
-
-  -- ---- each target that may be one
-
-  abbrev GrowsSo : Target → Type 0
-  GrowsSo t = is_member (shape t) ≡ true → MemberGrows (spotting t around scope)
-
-  abbrev Such : Type 0
-  Such = (t : Target) × GrowsSo t
-
-  abbrev targets_of : List Such → List Target
-  targets_of ys = map (λ (y : Such). y.0) ys
-
-  all_members : (ys : List Such) → list_all is_member (map shape (targets_of ys)) ≡ true → AllMembersGrow (map spotting (targets_of ys))
-  all_members [] e = none_grow
-  all_members (y ∷ ys) e =
-      let both = and_parts (is_member (shape y.0)) (list_all is_member (map shape (targets_of ys))) e in
-      more_grow (spotting y.0) (map spotting (targets_of ys)) (y.1 both.0) (all_members ys both.1)
-
-  module _ (at : Place) (k : ℕ) where
-    by_tuple : (ys : List Such) (b c : Bool) → list_all is_member (map shape (targets_of ys)) ≡ b
-        → is_member (if b then a_tuple else if c then a_parted else a_wrong) ≡ true
-        → MemberGrows (kind_spot at k T.Tuple (map spotting (targets_of ys)) around scope)
-    by_tuple ys true c e m = tuple_member at k (map spotting (targets_of ys)) (all_members ys e)
-    by_tuple ys false true e m = absurd (cc)
-    by_tuple ys false false e m = absurd (cc)
-
-    no_part : (ss : List Suffix) (cs : List Shape) → is_member (shape_form (T.Part ss) cs) ≡ false
-    no_part ss [] = refl
-    no_part ss (a_name ∷ []) = refl
-    no_part ss (a_part ∷ []) = refl
-    no_part [] (a_call ∷ []) = refl
-    no_part (s ∷ ss) (a_call ∷ []) = refl
-    no_part ss (a_late ∷ []) = refl
-    no_part ss (a_tuple ∷ []) = refl
-    no_part ss (a_parted ∷ []) = refl
-    no_part ss (a_wrong ∷ []) = refl
-    no_part ss (c ∷ d ∷ cs) = refl
-
-    form_by : (kind : TargetKind) (ys : List Such) → is_member (shape_form kind (map shape (targets_of ys))) ≡ true
-        → MemberGrows (kind_spot at k kind (map spotting (targets_of ys)) around scope)
-    form_by (T.Variable name) [] m = once_grows (held_spot around at k name (held_in name scope)) (held_write_grows around at k name (held_in name scope))
-    form_by (T.Register i) [] m =
-        once_grows (register_spot around at k (slice_get around.registers i)) (register_write_grows around at k (slice_get around.registers i))
-    form_by (T.Call count reader writer) [] m = call_member at k count reader writer
-    form_by T.Tuple ys m = by_tuple ys (list_all is_member (map shape (targets_of ys))) (list_all is_item (map shape (targets_of ys))) refl m
-    form_by (T.Part ss) ys m =
-        let bad : true ≡ false = sym m ∙ no_part ss (map shape (targets_of ys)) in
-        absurd (cc)
-    form_by (T.Variable name) (y ∷ ys) m = absurd (cc)
-    form_by (T.Register i) (y ∷ ys) m = absurd (cc)
-    form_by (T.Call count reader writer) (y ∷ ys) m = absurd (cc)
-
-  step : (y : Target-F Such) → GrowsSo (roll-Target (map-Target Such Target (λ p. p.0) y))
-  step y m =
-      subst (λ (s : Spotting). MemberGrows (s around scope))
-      (sym (fold-roll-Target Spotting (λ u. kind_spot u.place u.number u.kind u.parts) (map-Target Such Target (λ p. p.0) y)))
-      (form_by y.place y.number y.kind y.parts
-      (subst (λ c. is_member c ≡ true) (fold-roll-Target Shape (λ t. shape_form t.kind t.parts) (map-Target Such Target (λ p. p.0) y)) m))
-
-  pub member_grows : (t : Target) → GrowsSo t
-  member_grows = ind-Target GrowsSo (λ e y same_form. subst (λ d. GrowsSo (roll-Target d)) same_form (step y))

@@ -24,7 +24,7 @@ use Rattle.value_laws.proofs.Values.{belongs_form, closed_is, form_asked}
 use Rattle.value_laws.proofs.WidenedTypes.{AllIn, tuple_in}
 use Rattle.pattern_laws.proofs.Steady.{meant_same}
 use Rattle.pattern_laws.proofs.Values.{AllWide, tuple_had, tuple_wide}
-use Rattle.soundness_steps.specs.Works.{Scene}
+use Rattle.soundness_steps.specs.Works.{IsExact, Scene}
 use Rattle.soundness_steps.specs.Noted.{known, sized}
 use Rattle.soundness_steps.specs.Values.{AllAre, Belongs, Is}
 use Rattle.soundness_parts.proofs.Taken.{z}
@@ -34,7 +34,8 @@ shift : {A : Type 0} (all : List A) (k : ℕ) (x : A) (xs : List A) → ((j : �
     → (j : ℕ) (i : A) → slice_get xs j ≡ Some i → slice_get all (suc k + j) ≡ Some i
 shift all k x xs at j i e = subst (λ m. slice_get all m ≡ Some i) (omega arith) (at (suc j) i e)
 
-module _ (q : Scene) {n : ℕ} (f : Point n) (all : List Indices) (y : Item) (typed : (g : Integers) → Agree f g → y.typ ≡ sized q.set.around.types q.work.own g (I.Tuple all)) where
+module _ (q : Scene) {n : ℕ} (f : Point n) (all : List Indices) (y : Item) (typed : IsExact q.set → (g : Integers) → Agree f g
+    → y.typ ≡ sized q.set.around.types q.work.own g (I.Tuple all)) where
   parts_are : (k : ℕ) (is : List Indices) (vs : List Value) → ((j : ℕ) (i : Indices) → slice_get is j ≡ Some i → slice_get all (k + j) ≡ Some i)
       → ((g : Integers) → Agree f g → each_holds (map (meant q.set.around.types (standing q.set.past g) q.work.types) is) vs ≡ true)
       → ((g : Integers) → Agree f g → AllWide q.set.around.types q.set.past q.work.types g f.integers is)
@@ -54,8 +55,8 @@ module _ (q : Scene) {n : ℕ} (f : Point n) (all : List Indices) (y : Item) (ty
             is_so = (both f.integers (same f)).0;
             steady = λ g a. meant_same types q.set.past own g f.integers i v (both g a).0 (both f.integers (same f)).0 (e g a).0;
           };
-          typ = λ g a.
-              ap (part_typ types (component k)) (typed g a)
+          typ = λ exact g a.
+              ap (part_typ types (component k)) (typed exact g a)
               ∙ (parts_keep_sizes types q.work.own (known g)).of_tuple all k i (subst (λ m. slice_get all m ≡ Some i) (omega arith) (at 0 i refl));
         },
         parts_are (suc k) is vs (shift all k i is at) (λ g a. (both g a).1) (λ g a. (e g a).1),

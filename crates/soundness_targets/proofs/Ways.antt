@@ -123,7 +123,8 @@ module _ (q : Scene) (w : World Item) (scope : Scope) (narrow : TypesNarrow q.se
   field_fine {n} {f} {facts} c d ps rs fine h whole =
       let x : Option Reached = into_field (here q) c d (out-Indices i) in
       let none : Walks q n f facts (give (Some [])) (λ m g o. o ≡ Some []) = given_back (Some []) refl in
-      subst (λ b. Beside q n f facts (if b then no_way place else bind (numbers_walk (take 0 ps) (here q) scope) (way_taken (here q) i (Y.Field c d) (drop 0 ps)))
+      subst (λ b. Beside q n f facts (if b then no_way place else bind (numbers_walk (take 0 ps) (here q) scope)
+      (way_taken (here q) i (Y.Field c d) (drop 0 ps)))
       (gives (stepped q (field_way c d) rs)) (λ m g o r. WayIs q w g i u o r)) (sym (none_below (length ps)))
       (rests (stepped q (field_way c d) rs) (walks_on (way_taken (here q) i (Y.Field c d) ps) none (λ m g gs o l e.
       subst (λ s. Walks q m g gs (way_taken (here q) i (Y.Field c d) ps s) (λ j p b. WayIs q w p i u b (stepped q (field_way c d) rs))) (sym e)
@@ -175,7 +176,8 @@ module _ (q : Scene) (w : World Item) (scope : Scope) (narrow : TypesNarrow q.se
 
   -- ---- a slice
 
-  pub slice_there : {n : ℕ} {f : Point n} (k : ℕ) (x : Item) (y b : Item) (r : Option Reached) (e : Ranges q w scope place k i x f r y b) → Has q.set q.work f i u
+  pub slice_there : {n : ℕ} {f : Point n} (k : ℕ) (x : Item) (y b : Item) (r : Option Reached) (e : Ranges q w scope place k i x f r y b)
+      → Has q.set q.work f i u
       → (form : Indices-F Indices Reading) → roll-Indices form ≡ i
       → PartThere q f i u (into_slice e.high e.low e.width form) (slice_way e.is_high.integer_there e.is_low.integer_there)
   slice_there k x y b r e h (W.Bits m) is = (

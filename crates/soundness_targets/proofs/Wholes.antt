@@ -61,7 +61,8 @@ Wholes is = list_any (λ b. b) (map value_has_hole is) ≡ false
 abbrev Opens : Walk Indices → Type 0
 Opens w = Gives Whole w
 
-leaf : (i : Indices) (x : Indices-F Indices Reading) → roll-Indices x ≡ i → value_holed (map-Indices Indices Reading Bool Bool value_has_hole has_hole x) ≡ false
+leaf : (i : Indices) (x : Indices-F Indices Reading) → roll-Indices x ≡ i
+    → value_holed (map-Indices Indices Reading Bool Bool value_has_hole has_hole x) ≡ false
     → Opens (give i)
 leaf i x e h = gives_back Whole i (value_hole_is i x e ∙ h)
 
@@ -136,7 +137,8 @@ tuple_whole tells name os h =
 abbrev ReadingWhole : Reading → Type 0
 ReadingWhole r = has_hole r ≡ false → (tells : Bool) (name : Naming) → Opens (opening r tells name)
 
-module _ (rs : List Reading) (full : Full rs) (go : (i : ℕ) (r : Reading) → slice_get rs i ≡ Some r → (tells : Bool) (name : Naming) → Opens (opening r tells name)) where
+module _ (rs : List Reading) (full : Full rs) (go : (i : ℕ) (r : Reading) → slice_get rs i ≡ Some r → (tells : Bool) (name : Naming)
+    → Opens (opening r tells name)) where
   abbrev TypWhole : Typ → Type 0
   TypWhole t = (is : List Index) (tells : Bool) (name : Naming) → Opens (typ_opened (with_openings rs) t is tells name)
 
@@ -275,7 +277,8 @@ no_such e = absurd (cc)
 known_at : (ys : List Known) → Full (readings_in ys) → (i : ℕ) (r : Reading) → slice_get (readings_in ys) i ≡ Some r → (tells : Bool) (name : Naming)
     → Opens (opening r tells name)
 known_at [] h i r e = no_such e
-known_at (y ∷ ys) h zero r e = subst (λ q. (tells : Bool) (name : Naming) → Opens (opening q tells name)) (some_same y.0 r e) (y.1 (first_full y.0 (readings_in ys) h).0)
+known_at (y ∷ ys) h zero r e = subst (λ q. (tells : Bool) (name : Naming)
+    → Opens (opening q tells name)) (some_same y.0 r e) (y.1 (first_full y.0 (readings_in ys) h).0)
 known_at (y ∷ ys) h (suc i) r e = known_at ys (first_full y.0 (readings_in ys) h).1 i r e
 
 form_wide : (y : Indices-F Wide Known) (name : Naming) → value_holed (map-Indices Indices Reading Bool Bool value_has_hole has_hole (indices_of y)) ≡ false

@@ -2,6 +2,7 @@
 use Rattle.std.proofs.Common.{◌∙◌, ◌++◌, ℕ, Bool, true, false, List, [], ◌∷◌, ap, arith}
 use Rattle.std.proofs.lemmas.List.{append_assoc}
 use Rattle.sail_base.specs.declared.place.Place.{Place}
+use Rattle.sail_core.specs.declared.tree.Giver.TheVariants as By
 use Rattle.sail_types.specs.Zero.{deepest}
 use Rattle.value_indices.specs.Steps.{Walk, bind, give, given_note, note}
 use Rattle.value_indices.specs.declared.indices.Indices.{Indices}
@@ -14,7 +15,7 @@ use Rattle.pattern_leaves.specs.Settings.{Around}
 use Rattle.call_notes.specs.Ends.{fits_unless, wrong_value}
 use Rattle.call_notes.specs.Noted.{node_made, numbers_given, numbers_noted}
 use Rattle.expression_forms.specs.Nodes.{form_made, put}
-use Rattle.expression_forms.specs.Spots.{Wrote, gives, named_spot, owed_answer, written_by, wrote}
+use Rattle.expression_forms.specs.Spots.{Wrote, gives, owed_answer, wrote}
 use Rattle.soundness_steps.specs.Noted.{variables_given}
 use Rattle.soundness_steps.specs.Steps.{Grows}
 use Rattle.soundness_forms.specs.Forms.{at}
@@ -28,14 +29,15 @@ unless_counts around false i r = λ n. fits_count around.types deepest i r n
 pub put_grows : (k : ℕ) (is : List Indices) (r : Reading) (i : Indices) → Grows (put k is r i)
 put_grows k is r i =
     grows_bind (node_made k is (form_made (out-Reading r) r i)) (λ t. numbers_noted k i) (grows_made k is (form_made (out-Reading r) r i)) (λ t.
-    grows_bind (note (λ facts. given_note facts k i)) (λ u. numbers_given i) (grows_note (λ facts. given_note facts k i)) (λ u.
+    grows_bind (note (λ facts. given_note facts (By.Node k) i)) (λ u. numbers_given i) (grows_note (λ facts. given_note facts (By.Node k) i)) (λ u.
     grows_gives (numbers_given i) (variables_given i) (gives_all i)))
 
 answer_grows : (place : Place) (w : Wrote) → Counts w.left → Grows (owed_answer place w)
 answer_grows place w h = grows_bind (owe_fit place w.left) (λ t. give w.answer) (grows_owe_fit place w.left h) (λ t. grows_give w.answer)
 
 -- behind a walk that leaves to owe what counts on
-pub written_grows : (w : Walk Wrote) (place : Place) → ((facts : List Fact) (n : ℕ) → Counts (w facts n).value.left) → Grows w → Grows (bind w (owed_answer place))
+pub written_grows : (w : Walk Wrote) (place : Place) → ((facts : List Fact) (n : ℕ) → Counts (w facts n).value.left) → Grows w
+    → Grows (bind w (owed_answer place))
 unfolding bind
 written_grows w place c h = record {
   onward = λ facts n.
@@ -56,10 +58,6 @@ module _ (around : Around) (nested : Bool) (k : ℕ) (r : Reading) (i : Indices)
   pub puts_count : (facts : List Fact) (n : ℕ) → Counts (bind (put k (i ∷ []) r i) (λ t. give left) facts n).value.left
   unfolding bind give
   puts_count facts n = unless_counts around nested i r
-
-  pub named_written : (place at : Place) (name : List ℕ) → Grows (written_by place (named_spot around at k name r) nested i)
-  named_written place at name = written_grows (bind (put k (i ∷ []) r i) (λ t. give left)) place puts_count
-      (grows_bind (put k (i ∷ []) r i) (λ t. give left) (put_grows k (i ∷ []) r i) (λ t. grows_give left))
 
 pub wrong_count : (at : Place) (facts : List Fact) (n : ℕ) → Counts (bind (wrong_value at) gives facts n).value.left
 unfolding bind give

@@ -98,7 +98,7 @@ module _ (q : Scene) {n : ℕ} (f : Point n) (facts : List Fact) (noted : Noted)
   size_form g (W.Named u is rs) h = tt
   size_form g (W.Variable i) h = tt
 
-  size_fits : (g : Integers) (made : Made) → C.SizesFit q.set.around.types q.work.own q.set.past g made → M.SizeFits (standing q.set.past g) made
+  size_fits : (g : Integers) (made : Made) → C.SizesFit q.set q.work g made → M.SizeFits (standing q.set.past g) made
   size_fits g (Makes.ByIndices i) h = size_form g (out-Indices i) h
   size_fits g (Makes.ByType r) h = tt
 

@@ -13,8 +13,10 @@ use Rattle.sail_core.specs.declared.model.Opening.{Opening}
 use Rattle.pattern_leaves.specs.Settings.{Around}
 use Rattle.pattern_leaves.specs.declared.names.TopLevel.{TopLevel}
 use Rattle.function_notes.specs.Functions.{mapping_walk}
-use Rattle.constraint_gen.specs.Models.{around_of, around_with, lets_behind, names_of}
+use Rattle.constraint_gen.specs.Models.{around_of, around_opening, around_with, lets_behind, names_of}
+use Rattle.size_notes.specs.Bodies.{opening_read}
 use Rattle.checked_meaning.specs.Checked.{Cases, Checks, checking}
+use Rattle.met_notes.specs.Covers.{AreRead, Covers, CoversDirection, CoversFunction, pair_of, side_at}
 use Rattle.met_notes.specs.Met.{WalksAreMet, pairs}
 use Rattle.met_notes.proofs.Whole.{notes_met}
 use Rattle.soundness_steps.specs.Works.{Coverage, Setting, Work, nobody}
@@ -30,9 +32,9 @@ use Rattle.whole_runs.proofs.Anywhere.{lets_anywhere, lets_told}
 use Rattle.whole_runs.proofs.AllOpenings.{openings_sound}
 use Rattle.sail_calls.specs.Models as S
 use Rattle.sail_calls.proofs.Models.{calls_from}
-use Rattle.whole_runs.proofs.OpeningsStand.{openings_stand}
+use Rattle.whole_runs.proofs.Notes.{all_met}
+use Rattle.whole_runs.proofs.OpeningsStand.{CoversOpenings, openings_stand}
 use Rattle.whole_runs.proofs.Own.{constraint_stands}
-use Rattle.whole_runs.specs.Covers.{Covers, CoversDirection, CoversFunction, pair_of, side_at}
 use Rattle.whole_runs.specs.Never.{AllEnd, DirectionStands, FunctionStands, IsFound, NeverStuck, Stands, setting_in}
 
 -- ---- what is known of a model behind its top-level lets
@@ -61,6 +63,24 @@ outside_kept : (m : CoreModel) (lets : List TopLevel) (os : List Opening)
     → outside (lets_behind (around_with m lets) os) ≡ lets_behind (around_with m lets) os
 outside_kept m lets [] = refl
 outside_kept m lets (o ∷ os) = outside_kept m (lets ++ names_of (around_with m lets) o o.kind) os
+
+-- ---- openings, in a model that has nothing of what is called, whatever names of lets stand before them
+
+module _ (m : CoreModel) (past : Positive) (hart : ℕ) (covered : Coverage) (k : Checks) (rank : ℕ → ℕ)
+    (covers : Covers (setting_in m past hart covered) m k rank) where
+  abbrev of_names : List TopLevel → Types → Setting
+  of_names names types = record {
+    around = record (pure_around m [] names) { types = types };
+    past = past;
+    hart = 0;
+    covered = record covered { direction = λ d. true };
+  }
+
+  pub openings_covered : CoversOpenings m past covered k
+  openings_covered i o at names =
+      let notes = (opening_read (around_opening m i) o [] 0).notes in
+      subst (λ (types : Types). AreRead (of_names names types) nobody (λ d. true) (k.opening i) notes) (types_kept m [] m.openings)
+      (all_met (setting_in m past hart covered) (pure_around m [] names) 0 nobody covered.direction (k.opening i) notes (covers.openings i o at))
 
 -- ---- mappings, of which two directions stand one behind the other
 
@@ -168,7 +188,7 @@ module _ (m : CoreModel) (walks : WalksAreMet m (around_of m)) (past : Positive)
   lets_stand : (x : Work) → LetsAre set x set.around.lets (lets_of (checking (checks_of m k)) m)
   lets_stand x =
       let names : List TopLevel = (around_of m).lets in
-      let opens = openings_stand m past covered (checks_of m k) walks covers.openings stands.openings in
+      let opens = openings_stand m past covered (checks_of m k) walks (openings_covered m past hart covered k rank covers) stands.openings in
       let right : LetsAre (pure_setting m past covered [] []) nobody names end.0 =
       (subst (OpenedRight m past covered [] names) end.2
       (openings_sound m past covered [] (λ r x e. absurd (no_register r x e)) (checks_of m k) refl opens (nowhere m.types)

@@ -51,7 +51,7 @@ module _ (m : CoreModel) (past : Positive) (covered : Coverage) (registers : Lis
   -- there is nothing that could be called
   no_calls : SoundCalls set q.reached w
   no_calls = record {
-    call = λ place x f us h enters before s. let e : None ≡ Some f = enters.is_it in absurd (cc);
+    call = λ place x f us h enters awaited agrees before s. let e : None ≡ Some f = enters.is_it in absurd (cc);
     enter = λ d n v covers at is before s. let e : None ≡ Some n = at in absurd (cc);
     way = λ d n x reached at is before s. let e : None ≡ Some n = at in absurd (cc);
   }

@@ -6,6 +6,7 @@ pub mod AllOpenings
 pub mod OpeningsStand
 pub mod Anywhere
 pub mod Own
+pub mod Notes
 pub mod Events
 pub mod Fit
 pub mod Runs

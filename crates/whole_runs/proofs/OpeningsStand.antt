@@ -18,10 +18,12 @@ use Rattle.value_indices.specs.declared.notes.Fact.{Fact}
 use Rattle.value_indices.specs.Steps.{Note, Walk, bind, give, owe, wrong}
 use Rattle.pattern_leaves.specs.declared.names.TopLevel.{TopLevel}
 use Rattle.expression_steps.specs.Expressions.{part}
+use Rattle.size_notes.specs.Bodies.{opening_read}
 use Rattle.constraint_gen.specs.Models.{around_of, around_opening, around_with, initial_of, let_walk, lets_behind, names_of, opening_walk}
 use Rattle.checked_meaning.specs.Checked.{Cases, Checks}
 use Rattle.value_laws.specs.Belonging.{Integers, standing}
 use Rattle.value_laws.proofs.Numbers.{truth_is}
+use Rattle.met_notes.specs.Covers.{AreRead}
 use Rattle.met_notes.specs.Met.{WalksAreMet}
 use Rattle.soundness_steps.specs.Works.{Coverage, Setting, nobody}
 use Rattle.soundness_steps.specs.Covers.{AreMet}
@@ -29,8 +31,12 @@ use Rattle.soundness_forms.specs.Forms.{at}
 use Rattle.soundness_binding.proofs.Matched.{let_tells}
 use Rattle.whole_runs.specs.Initials.{ValueStands, initial_aim, pure_around, pure_scene, pure_setting}
 use Rattle.whole_runs.specs.AllOpenings.{Behind, KindStands, OpeningsStand, RegisterStands}
-use Rattle.whole_runs.specs.Covers.{CoversOpenings}
 use Rattle.whole_runs.specs.OpeningsStand.{KindIsRight, OpeningsAreRight}
+
+-- what is read of top-level lets and initial values is met, whatever names of lets stand before them
+abbrev pub CoversOpenings : CoreModel → Positive → Coverage → Checks → Type 0
+CoversOpenings m past covered k = (i : ℕ) (o : Opening) → slice_get m.openings i ≡ Some o → (names : List TopLevel)
+    → AreRead (pure_setting m past covered [] names) nobody (λ d. true) (k.opening i) (opening_read (around_opening m i) o [] 0).notes
 
 -- a walk of which nothing is taken notes what it notes
 bare_notes : {A : Type 0} (w : Walk A) (facts : List Fact) (n : ℕ) → (bind w (λ x. give (tt {0})) facts n).notes ≡ (w facts n).notes

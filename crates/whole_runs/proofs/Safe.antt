@@ -25,7 +25,7 @@ use Rattle.whole_runs.specs.AllOpenings.{OpenedRight}
 use Rattle.whole_runs.proofs.AllOpenings.{openings_sound}
 use Rattle.whole_runs.specs.Never.{AllEnd, setting_in}
 use Rattle.whole_runs.proofs.OpeningsStand.{openings_stand}
-use Rattle.whole_runs.proofs.Events.{never}
+use Rattle.whole_runs.proofs.Events.{never, openings_covered}
 use Rattle.whole_runs.proofs.Ending.{end_anywhere}
 use Rattle.whole_runs.specs.Runs.{AreThere, Behind, EventsGo, Goes, PartsGo, ResetsGo, RunGoes}
 use Rattle.whole_runs.specs.Safe.{CoversThroughout, IsFit, IsFoundThroughout, ModelsRunSafely, StandsThroughout, core_parts}
@@ -71,7 +71,8 @@ module _ (models_alike : ModelsAreAlike) (models_keep : ModelsKeep) (m : CoreMod
 
   opened_right : (state : RunState) → Fit state → OpenedRight m past covered m.registers (around_of m).lets (openings_of (checking c) m state)
   opened_right state ok =
-      let opens = openings_stand m past covered c (notes_met m held) (covers 0 some).openings (stands 0 some).openings in
+      let read = openings_covered m past 0 covered k rank (covers 0 some) in
+      let opens = openings_stand m past covered c (notes_met m held) read (stands 0 some).openings in
       openings_sound m past covered m.registers (λ r x e. e) c refl opens state (at_start m past count covered some state ok)
 
   init_there : (state : RunState) → Fit state → There (init_ran (checking c) m state) (init_ran plain m state) (λ ran. Fit ran.state)

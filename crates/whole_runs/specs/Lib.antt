@@ -2,7 +2,6 @@ pub mod Initials
 pub mod Lets
 pub mod Told
 pub mod AllOpenings
-pub mod Covers
 pub mod OpeningsStand
 pub mod Own
 pub mod Never

@@ -17,6 +17,7 @@ use Rattle.checked_meaning.specs.Checked.{Checks, checking}
 use Rattle.checked_meaning.specs.Items.{Item}
 use Rattle.value_laws.specs.Belonging.{Integers}
 use Rattle.goal_laws.specs.Goals.{AllHold}
+use Rattle.met_notes.specs.Covers.{Covers, DirectionsPaired, side_at}
 use Rattle.soundness_steps.specs.Works.{Coverage, Setting, Work, nobody}
 use Rattle.soundness_steps.specs.States.{StateBelongs}
 use Rattle.soundness_binding.specs.Patterned.{arms_stand}
@@ -26,7 +27,6 @@ use Rattle.soundness_calls.specs.Directions.{Side, scene_across}
 use Rattle.soundness_calls.specs.Events.{EndsRight, EventEnters, checks_of, entered_by, reset_arguments}
 use Rattle.sail_calls.specs.Bodies.{Clauses}
 use Rattle.sail_calls.specs.Models.{WaysOf, own_arms}
-use Rattle.whole_runs.specs.Covers.{Covers, side_at}
 use Rattle.whole_runs.specs.OpeningsStand.{OpeningsAreRight}
 use Rattle.whole_runs.specs.Own.{is_own}
 
@@ -40,7 +40,7 @@ pub record IsFound (set : Setting) (m : CoreModel) : Type 0 where
   -- a constraint names its function's own variables alone, each by its kind
   pub constraints : (i : ℕ) (f : Function) → slice_get m.functions i ≡ Some f → is_own f.variables f.constraint ≡ true
   -- each direction stands beside the other one of its mapping
-  pub sides : (d : ℕ) (n : Direction) → slice_get m.directions d ≡ Some n → (side : Side) × (side_at m.directions d ≡ Some side)
+  pub sides : DirectionsPaired m
   -- the functions that a hart enters have no variables, and the arguments of an event belong to their parameters
   pub step : set.covered.function (entered_by m.step) ≡ true → EventEnters set m.step (V.Unit ∷ [])
   pub reset : set.covered.function (entered_by m.reset) ≡ true → (entry : ℕ) → EventEnters set m.reset (reset_arguments set.hart entry)

@@ -12,7 +12,7 @@ use Rattle.soundness_steps.specs.Works.{Coverage}
 use Rattle.soundness_steps.specs.States.{AllHarts}
 use Rattle.soundness_calls.specs.Events.{checks_of}
 use Rattle.whole_runs.specs.Initials.{pure_setting}
-use Rattle.whole_runs.specs.Covers.{Covers}
+use Rattle.met_notes.specs.Covers.{Covers}
 use Rattle.whole_runs.specs.Never.{AllEnd, IsFound, Stands, setting_in}
 use Rattle.whole_runs.specs.Runs.{AreThere, Parts, PartsGo, RunGoes}
 
@@ -22,7 +22,7 @@ core_parts sizing m = record { init = init_ran sizing m; reset = reset_ran sizin
 
 -- where nothing has to be covered
 abbrev pub nothing_covered : Coverage
-nothing_covered = record { function = λ x. false; direction = λ d. false }
+nothing_covered = record { function = λ x. false; direction = λ d. false; exact = false }
 
 -- there are so many harts, and each register of each belongs to its type
 pub record IsFit (m : CoreModel) (past : Positive) (count : ℕ) (state : RunState) : Type 0 where

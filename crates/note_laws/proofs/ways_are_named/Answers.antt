@@ -1,6 +1,5 @@
-use Rattle.std.specs.Prelude.{[]}
-use Rattle.note_laws.proofs.BodyGoes.{mapping_read_goes}
+use Rattle.note_laws.proofs.ModelGoes as ModelGoes
 use Rattle.note_laws.proofs.ways_are_named.Goals as goal
 
 pub returns : goal.returns
-returns c = λ reached around m n h k. (mapping_read_goes reached around m n h k).notes [] 0
+returns c = ModelGoes.ways_are_named
