@@ -39,7 +39,7 @@ use Rattle.pattern_stands.proofs.Patterns.{patterns_stand}
 
 -- ---- mappings
 
-all_halves : (p : ℕ → Bool) (xs ys : List ℕ) → list_all p (xs ++ ys) ≡ true → (list_all p xs ≡ true) × (list_all p ys ≡ true)
+pub all_halves : (p : ℕ → Bool) (xs ys : List ℕ) → list_all p (xs ++ ys) ≡ true → (list_all p xs ≡ true) × (list_all p ys ≡ true)
 all_halves p [] ys h = (refl, h)
 all_halves p (x ∷ xs) ys h =
     let k = and_parts (p x) (list_all p (xs ++ ys)) h in

@@ -230,7 +230,7 @@ ExpForm d =
     ExpStands (Rules.exp_form (found_Exp d)) (Uses.expression_form (failed_Exp d)) (Trees.expression_form (written_Exp d))
     (Manner.expression_form (manner_Exp d)) (λ known. Callees.expression_form Patterns known (in_Exp known d))
 
-numbers_Exp : (d : OverTrees Exp-F) → in_exp (roll-Exp d) ≡ (λ known. Callees.expression_form Patterns known (in_Exp known d))
+pub numbers_Exp : (d : OverTrees Exp-F) → in_exp (roll-Exp d) ≡ (λ known. Callees.expression_form Patterns known (in_Exp known d))
 numbers_Exp d = λ i known.
     fold-roll-Exp (List ℕ) (List ℕ) (List ℕ) (List ℕ) (List ℕ) (List ℕ) (List ℕ) (List ℕ) (List ℕ)
     (Callees.expression_form Patterns known) (Callees.target_form Patterns known) (Callees.statement_form known) Callees.suffix_form
@@ -280,7 +280,7 @@ LExpForm d =
     LExpStands (Rules.target_form (found_LExp d)) (Uses.target_form (failed_LExp d)) (Trees.target_form (written_LExp d))
     (Manner.target_form (manner_LExp d)) (λ known. Callees.target_form Patterns known (in_LExp known d))
 
-numbers_LExp : (d : OverTrees LExp-F) → in_lexp (roll-LExp d) ≡ (λ known. Callees.target_form Patterns known (in_LExp known d))
+pub numbers_LExp : (d : OverTrees LExp-F) → in_lexp (roll-LExp d) ≡ (λ known. Callees.target_form Patterns known (in_LExp known d))
 numbers_LExp d = λ i known.
     fold-roll-LExp (List ℕ) (List ℕ) (List ℕ) (List ℕ) (List ℕ) (List ℕ) (List ℕ) (List ℕ) (List ℕ)
     (Callees.expression_form Patterns known) (Callees.target_form Patterns known) (Callees.statement_form known) Callees.suffix_form
@@ -331,7 +331,7 @@ StmtForm d =
     StmtStands (Rules.statement_form (found_Stmt d)) (Uses.statement_form (failed_Stmt d)) (Trees.statement_form (written_Stmt d))
     (Manner.statement_form (manner_Stmt d)) (λ known. Callees.statement_form known (in_Stmt known d))
 
-numbers_Stmt : (d : OverTrees Stmt-F) → in_stmt (roll-Stmt d) ≡ (λ known. Callees.statement_form known (in_Stmt known d))
+pub numbers_Stmt : (d : OverTrees Stmt-F) → in_stmt (roll-Stmt d) ≡ (λ known. Callees.statement_form known (in_Stmt known d))
 numbers_Stmt d = λ i known.
     fold-roll-Stmt (List ℕ) (List ℕ) (List ℕ) (List ℕ) (List ℕ) (List ℕ) (List ℕ) (List ℕ) (List ℕ)
     (Callees.expression_form Patterns known) (Callees.target_form Patterns known) (Callees.statement_form known) Callees.suffix_form
@@ -382,7 +382,7 @@ SuffixForm d =
     SuffixTreeStands (Rules.suffix_form (found_Suffix d)) (Uses.suffix_form (failed_Suffix d)) (Trees.suffix_form (written_Suffix d))
     (Manner.suffix_form (manner_Suffix d)) (λ known. Callees.suffix_form (in_Suffix known d))
 
-numbers_Suffix : (d : OverTrees Suffix-F) → in_suffix (roll-Suffix d) ≡ (λ known. Callees.suffix_form (in_Suffix known d))
+pub numbers_Suffix : (d : OverTrees Suffix-F) → in_suffix (roll-Suffix d) ≡ (λ known. Callees.suffix_form (in_Suffix known d))
 numbers_Suffix d = λ i known.
     fold-roll-Suffix (List ℕ) (List ℕ) (List ℕ) (List ℕ) (List ℕ) (List ℕ) (List ℕ) (List ℕ) (List ℕ)
     (Callees.expression_form Patterns known) (Callees.target_form Patterns known) (Callees.statement_form known) Callees.suffix_form
@@ -436,7 +436,7 @@ CaseForm d =
     CaseTreeStands (Rules.case_form (found_Case d)) (Uses.case_form (failed_Case d)) (Trees.case_form (written_Case d))
     (Manner.case_form (manner_Case d)) (λ known. Callees.case_form known (in_Case known d))
 
-numbers_Case : (d : OverTrees Case-F) → in_case (roll-Case d) ≡ (λ known. Callees.case_form known (in_Case known d))
+pub numbers_Case : (d : OverTrees Case-F) → in_case (roll-Case d) ≡ (λ known. Callees.case_form known (in_Case known d))
 numbers_Case d = λ i known.
     fold-roll-Case (List ℕ) (List ℕ) (List ℕ) (List ℕ) (List ℕ) (List ℕ) (List ℕ) (List ℕ) (List ℕ)
     (Callees.expression_form Patterns known) (Callees.target_form Patterns known) (Callees.statement_form known) Callees.suffix_form
@@ -486,7 +486,7 @@ FieldValueForm d =
     FieldStands (Rules.field_form (found_FieldValue d)) (Uses.field_form (failed_FieldValue d)) (Trees.field_form (written_FieldValue d))
     (Manner.field_form (manner_FieldValue d)) (λ known. Callees.field_form (in_FieldValue known d))
 
-numbers_FieldValue : (d : OverTrees FieldValue-F) → in_field (roll-FieldValue d) ≡ (λ known. Callees.field_form (in_FieldValue known d))
+pub numbers_FieldValue : (d : OverTrees FieldValue-F) → in_field (roll-FieldValue d) ≡ (λ known. Callees.field_form (in_FieldValue known d))
 numbers_FieldValue d = λ i known.
     fold-roll-FieldValue (List ℕ) (List ℕ) (List ℕ) (List ℕ) (List ℕ) (List ℕ) (List ℕ) (List ℕ) (List ℕ)
     (Callees.expression_form Patterns known) (Callees.target_form Patterns known) (Callees.statement_form known) Callees.suffix_form
@@ -541,7 +541,7 @@ IndexForm d =
     IndexTreeStands (Rules.index_form (found_Index d)) (Uses.index_form (failed_Index d)) (Trees.index_form (written_Index d))
     (Manner.index_form (manner_Index d)) (λ known. Callees.index_form (in_Index known d))
 
-numbers_Index : (d : OverTrees Index-F) → in_index (roll-Index d) ≡ (λ known. Callees.index_form (in_Index known d))
+pub numbers_Index : (d : OverTrees Index-F) → in_index (roll-Index d) ≡ (λ known. Callees.index_form (in_Index known d))
 numbers_Index d = λ i known.
     fold-roll-Index (List ℕ) (List ℕ) (List ℕ) (List ℕ) (List ℕ) (List ℕ) (List ℕ) (List ℕ) (List ℕ)
     (Callees.expression_form Patterns known) (Callees.target_form Patterns known) (Callees.statement_form known) Callees.suffix_form
@@ -594,7 +594,7 @@ RangeForm d =
     RangeTreeStands (Rules.range_form (found_Range d)) (Uses.range_form (failed_Range d)) (Trees.range_form (written_Range d))
     (Manner.range_form (manner_Range d)) (λ known. Callees.range_form (in_Range known d))
 
-numbers_Range : (d : OverTrees Range-F) → in_range (roll-Range d) ≡ (λ known. Callees.range_form (in_Range known d))
+pub numbers_Range : (d : OverTrees Range-F) → in_range (roll-Range d) ≡ (λ known. Callees.range_form (in_Range known d))
 numbers_Range d = λ i known.
     fold-roll-Range (List ℕ) (List ℕ) (List ℕ) (List ℕ) (List ℕ) (List ℕ) (List ℕ) (List ℕ) (List ℕ)
     (Callees.expression_form Patterns known) (Callees.target_form Patterns known) (Callees.statement_form known) Callees.suffix_form
@@ -647,7 +647,7 @@ TargetForm d =
     FurtherTreeStands (Rules.further_form (found_Target d)) (Uses.further_form (failed_Target d)) (Trees.further_form (written_Target d))
     (Manner.further_form (manner_Target d)) (λ known. Callees.further_form (in_Target known d))
 
-numbers_Target : (d : OverTrees Target-F) → in_target (roll-Target d) ≡ (λ known. Callees.further_form (in_Target known d))
+pub numbers_Target : (d : OverTrees Target-F) → in_target (roll-Target d) ≡ (λ known. Callees.further_form (in_Target known d))
 numbers_Target d = λ i known.
     fold-roll-Target (List ℕ) (List ℕ) (List ℕ) (List ℕ) (List ℕ) (List ℕ) (List ℕ) (List ℕ) (List ℕ)
     (Callees.expression_form Patterns known) (Callees.target_form Patterns known) (Callees.statement_form known) Callees.suffix_form

@@ -3,6 +3,7 @@ pub mod Sides
 pub mod Clauses
 pub mod Models
 pub mod CorePasses
+pub mod Converting
 pub mod Passing
 pub mod Covering
 pub mod PassingSteps

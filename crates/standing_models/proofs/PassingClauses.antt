@@ -20,6 +20,9 @@ use Rattle.sail_core.specs.declared.patterns.Pattern.{Pattern}
 use Rattle.sail_core.specs.declared.tree.Core.{Core, Core-F, fold-roll-Core, out-Core}
 use Rattle.sail_core.specs.declared.tree.Core.TheViews.{out-roll-Core}
 use Rattle.sail_core.specs.declared.tree.Kind.TheVariants as K
+use Rattle.sail_cycles.specs.declared.expressions.Which.TheVariants.{Patterns}
+use Rattle.sail_cycles.specs.Callees.{pattern_callees}
+use Rattle.sail_cycles.specs.Cycles.{mapping_clause_callees, maybe_callees, side_callees}
 use Rattle.sail_names.specs.Clauses.{behind_parameters, function_clause_failures, mapping_clause_failures, side_failures, values_failures}
 use Rattle.sail_names.specs.Known as Tables
 use Rattle.sail_names.specs.Locals as Bound
@@ -48,9 +51,11 @@ use Rattle.shape_clauses.specs.Functions.{Measure, function_clause, function_cla
 use Rattle.shape_clauses.specs.Mappings.{backwards_clauses, direction_clause, forwards_clauses, guard_part}
 use Rattle.shape_meanings.specs.Whole.{all_of}
 use Rattle.shape_meanings.specs.Trees.{pattern_written, side_written, written}
+use Rattle.form_stands.proofs.Folds.{in_exp}
 use Rattle.body_meanings.specs.Directions.{both_ways_written, guard_written}
 use Rattle.standing_models.specs.Tests.{arm_tested, arms_tested}
-use Rattle.standing_models.specs.Tests.{Fits, Tested}
+use Rattle.standing_models.specs.Tests.{Converts, Fits, Tested}
+use Rattle.standing_models.proofs.Converting.{halves}
 use Rattle.standing_models.proofs.CorePasses.{AllPass, Passes, cast_passes}
 use Rattle.standing_models.proofs.Passing.{MaybeIs, not_empty, typed_passes}
 use Rattle.standing_models.proofs.PassingFound.{found_passes}
@@ -67,6 +72,11 @@ EachNamed names (c ∷ cs) = (function_clause_failures names c ≡ []) × EachNa
 abbrev pub EachCrossed : Tables.Setting → List MappingClause → Type 0
 EachCrossed names [] = Unit {0}
 EachCrossed names (c ∷ cs) = (mapping_clause_failures names c ≡ []) × EachCrossed names cs
+
+-- whose patterns convert by these mappings
+abbrev pub EachConverts : (ℕ → Bool) → Tables.Setting → List MappingClause → Type 0
+EachConverts converts names [] = Unit {0}
+EachConverts converts names (c ∷ cs) = Converts converts names (mapping_clause_callees Patterns names.known c) × EachConverts converts names cs
 
 -- a clause as the grammar has it, and one of a mapping
 abbrev pub clause_written : FunctionClause → Bool
@@ -141,14 +151,15 @@ module _ (around : Around) (numbers : List Index) (fits : Pattern → Bool) wher
       let f = both_empty one.faults (each_looked ps setting no_widths ss).faults e in
       two (fits one.pattern) _ (h.0 s f.0) (each_piece setting ps h.1 ss f.1)
 
-  module _ (setting : Setting) (names : Tables.Setting) (fit : Fits around numbers fits setting names) where
+  module _ (setting : Setting) (names : Tables.Setting) (fit : Fits around numbers fits setting names)
+      (every : (xs : List ℕ) → Converts fit.converts names xs) where
     parameters_are : (ps : List Pat) → all_of (map pattern_written ps) ≡ true → all_failures (map (uses_failures names) ps) ≡ []
         → PiecesAre setting (map piece ps)
     parameters_are [] q u = tt
     parameters_are (p ∷ ps) q u =
         let k = and_parts (pattern_written p) (all_of (map pattern_written ps)) q in
         let h = both_empty (uses_failures names p) (all_failures (map (uses_failures names) ps)) u in
-        (λ subject e. fit.patterns p subject h.0 k.0 e, parameters_are ps k.1 h.1)
+        (λ subject e. fit.patterns p subject h.0 k.0 (every (pattern_callees names.known p)) e, parameters_are ps k.1 h.1)
 
     pieces_are : (place : Place) (params : List Shape) (ps : List Pat) → all_of (map pattern_written ps) ≡ true → parameters_failures names ps ≡ []
         → PiecesAre setting (parameter_pieces place params ps)
@@ -180,14 +191,15 @@ module _ (around : Around) (numbers : List Index) (fits : Pattern → Bool) wher
 
     body_passes : (typ : Option TyExp) (e : Exp) → written e ≡ true → (bound : Bound.Locals) → expression_failures e names bound ≡ []
         → Tested around numbers fits setting (body_part typ (part e))
-    body_passes None e q bound u = found_passes around numbers fits e q names bound u setting fit
+    body_passes None e q bound u = found_passes around numbers fits e q names bound u setting fit (every (in_exp e names.known))
     body_passes (Some typ) e q bound u =
-        typed_passes around numbers fits setting names fit (part e).place (part e) typ (found_passes around numbers fits e q names bound u setting fit)
+        typed_passes around numbers fits setting names fit (part e).place (part e) typ
+        (found_passes around numbers fits e q names bound u setting fit (every (in_exp e names.known)))
 
   -- ---- functions
 
   module _ (setting : Setting) (params : List Shape) (answer : Shape) (names : Tables.Setting)
-      (fit : Fits around numbers fits (answering (Some answer) setting) names) where
+      (fit : Fits around numbers fits (answering (Some answer) setting) names) (every : (xs : List ℕ) → Converts fit.converts names xs) where
     function_passes : (c : FunctionClause) → clause_written c ≡ true → function_clause_failures names c ≡ []
         → (function_clause setting params answer c).faults ≡ [] → ClausePasses (function_clause setting params answer c)
     function_passes c q u f =
@@ -195,10 +207,10 @@ module _ (around : Around) (numbers : List Index) (fits : Pattern → Bool) wher
         let bound = behind_parameters names c.parameters [] in
         let h = both_empty (parameters_failures names c.parameters ++ maybe_type c.result names) (expression_failures c.body names bound) u in
         let h2 = both_empty (parameters_failures names c.parameters) (maybe_type c.result names) h.0 in
-        clause_passes (answering (Some answer) setting) names fit (body_part c.result (part c.body))
-        (body_passes (answering (Some answer) setting) names fit c.result c.body k.1 bound h.1) c.place params
+        clause_passes (answering (Some answer) setting) names fit every (body_part c.result (part c.body))
+        (body_passes (answering (Some answer) setting) names fit every c.result c.body k.1 bound h.1) c.place params
         (parameter_pieces c.place params c.parameters)
-        (pieces_are (answering (Some answer) setting) names fit c.place params c.parameters k.0 h2.0) (part c.body).place answer f
+        (pieces_are (answering (Some answer) setting) names fit every c.place params c.parameters k.0 h2.0) (part c.body).place answer f
 
     functions_pass : (cs : List FunctionClause) → all_of (map clause_written cs) ≡ true → EachNamed names cs
         → clauses_faults (function_clauses setting params answer cs) ≡ [] → EachClause (function_clauses setting params answer cs)
@@ -213,15 +225,16 @@ module _ (around : Around) (numbers : List Index) (fits : Pattern → Bool) wher
         → ClausesPass (numbered (clauses_core place (function_clauses setting params answer cs)) n).it
     body_clauses place cs n q u f = clauses_pass place (function_clauses setting params answer cs) n (functions_pass cs q u f)
 
-  pub measure_clauses : (setting : Setting) (params : List Shape) (names : Tables.Setting) → Fits around numbers fits (plainly setting) names
+  pub measure_clauses : (setting : Setting) (params : List Shape) (names : Tables.Setting) (fit : Fits around numbers fits (plainly setting) names)
+      → ((xs : List ℕ) → Converts fit.converts names xs)
       → (m : Measure) (n : ℕ) → all_of (map pattern_written m.parameters) ≡ true → written m.value ≡ true → parameters_failures names m.parameters ≡ []
       → expression_failures m.value names (behind_parameters names m.parameters []) ≡ []
       → (measure_clause setting m.place params m.parameters m.value).faults ≡ [] → ClausesPass (numbered (measure_tree setting params m) n).it
-  measure_clauses setting params names fit m n q k u v f =
+  measure_clauses setting params names fit every m n q k u v f =
       clauses_pass m.place (measure_clause setting m.place params m.parameters m.value ∷ []) n (
-        clause_passes (plainly setting) names fit (body_part None (part m.value))
-            (body_passes (plainly setting) names fit None m.value k (behind_parameters names m.parameters []) v) m.place params
-            (parameter_pieces m.place params m.parameters) (pieces_are (plainly setting) names fit m.place params m.parameters q u) (part m.value).place
+        clause_passes (plainly setting) names fit every (body_part None (part m.value))
+            (body_passes (plainly setting) names fit every None m.value k (behind_parameters names m.parameters []) v) m.place params
+            (parameter_pieces m.place params m.parameters) (pieces_are (plainly setting) names fit every m.place params m.parameters q u) (part m.value).place
             V.Int f,
         tt,
       )
@@ -231,20 +244,21 @@ module _ (around : Around) (numbers : List Index) (fits : Pattern → Bool) wher
   module _ (setting : Setting) (names : Tables.Setting) (fit : Fits around numbers fits (answering None setting) names)
       (right : Typ → Bool)
       (sides : (from to : Pat) (from_typ to_typ : Typ) → right to_typ ≡ true → uses_failures names from ≡ [] → uses_failures names to ≡ []
-      → pattern_written from ≡ true → pattern_written to ≡ true
+      → pattern_written from ≡ true → pattern_written to ≡ true → Converts fit.converts names (pattern_callees names.known from)
       → (look from setting (width_given (gives to setting (Some to_typ))) (shape from_typ)).faults ≡ []
       → Stands (look from setting (width_given (gives to setting (Some to_typ))) (shape from_typ)).pattern) where
     guard_is : (guard : Option Exp) → guard_written guard ≡ true → (bound : Bound.Locals)
-        → maybe_failures (option_map expression_failures guard) names bound ≡ []
+        → maybe_failures (option_map expression_failures guard) names bound ≡ [] → Converts fit.converts names (maybe_callees Patterns names.known guard)
         → MaybeIs around numbers fits (answering None setting) names fit (guard_part guard)
-    guard_is None q bound u = tt
-    guard_is (Some e) q bound u = found_passes around numbers fits e q names bound u (answering None setting) fit
+    guard_is None q bound u v = tt
+    guard_is (Some e) q bound u v = found_passes around numbers fits e q names bound u (answering None setting) fit v
 
     direction_passes : (from to : Side) (from_typ to_typ : Typ) → right to_typ ≡ true → both_ways_written from ≡ true → both_ways_written to ≡ true
         → side_failures names from ≡ []
-        → side_failures names to ≡ [] → (direction_clause setting from from_typ to to_typ).faults ≡ []
+        → side_failures names to ≡ [] → Converts fit.converts names (side_callees Patterns names.known from)
+        → (direction_clause setting from from_typ to to_typ).faults ≡ []
         → ClausePasses (direction_clause setting from from_typ to to_typ)
-    direction_passes from to from_typ to_typ of_typ q k u v f =
+    direction_passes from to from_typ to_typ of_typ q k u v c f =
         let p : Looked = look from.pattern setting (width_given (gives to.pattern setting (Some to_typ))) (shape from_typ) in
         let s : Setting = answering None setting in
         let locals : Locals = under p.binds [] in
@@ -256,18 +270,23 @@ module _ (around : Around) (numbers : List Index) (fits : Pattern → Bool) wher
         let q1 = and_parts (pattern_written from.pattern) (guard_written from.guard) q0.0 in
         let k0 = and_parts (pattern_written to.pattern && guard_written to.guard) (side_written to.pattern) k in
         let k1 = and_parts (pattern_written to.pattern) (guard_written to.guard) k0.0 in
+        let n = halves fit.converts names (pattern_callees names.known from.pattern) (maybe_callees Patterns names.known from.guard) c in
         let bound = behind (binds names.known from.pattern) [] in
         let u1 = both_empty (pattern_failures names from.pattern) (maybe_failures (option_map expression_failures from.guard) names bound) u in
         let u2 = both_empty (uses_failures names from.pattern) (clashes (binds names.known from.pattern)) u1.0 in
         let v1 = both_empty (pattern_failures names to.pattern) _ v in
         let v2 = both_empty (uses_failures names to.pattern) (clashes (binds names.known to.pattern)) v1.0 in
         record {
-          arm = two (fits p.pattern) true (sides from.pattern to.pattern from_typ to_typ of_typ u2.0 v2.0 q1.0 k1.0 f2.0) refl;
+          arm = two (fits p.pattern) true (sides from.pattern to.pattern from_typ to_typ of_typ u2.0 v2.0 q1.0 k1.0 n.0 f2.0) refl;
           body = guarded_passes around numbers fits s names fit (guard_part from.guard) (cast given.core (read_side to.pattern).place)
-              (guard_is from.guard q1.1 bound u1.1) locals f2.1
+              (guard_is from.guard q1.1 bound u1.1 n.1) locals f2.1
               (cast_passes around numbers fits given.core (read_side to.pattern).place
               (side_passes around numbers fits s names fit to.pattern k1.0 locals (shape to_typ) f1.1));
         }
+
+    sides_convert : (c : MappingClause) → Converts fit.converts names (mapping_clause_callees Patterns names.known c)
+        → Converts fit.converts names (side_callees Patterns names.known c.left) × Converts fit.converts names (side_callees Patterns names.known c.right)
+    sides_convert c v = halves fit.converts names (side_callees Patterns names.known c.left) (side_callees Patterns names.known c.right) v
 
     -- sides of a clause in whose names no failure is found
     both_sides : (c : MappingClause) → mapping_clause_failures names c ≡ [] → (side_failures names c.left ≡ []) × (side_failures names c.right ≡ [])
@@ -279,31 +298,31 @@ module _ (around : Around) (numbers : List Index) (fits : Pattern → Bool) wher
         ((both_empty (side_failures names c.left) one b.0).0, b.1)
 
     forwards_pass : (m : Mapping) (cs : List MappingClause) → right m.right ≡ true → all_of (map crossing_written cs) ≡ true → EachCrossed names cs
-        → clauses_faults (forwards_clauses setting m cs) ≡ [] → EachClause (forwards_clauses setting m cs)
-    forwards_pass m [] of_typ q u f = tt
-    forwards_pass m (c ∷ cs) of_typ q u f =
+        → EachConverts fit.converts names cs → clauses_faults (forwards_clauses setting m cs) ≡ [] → EachClause (forwards_clauses setting m cs)
+    forwards_pass m [] of_typ q u v f = tt
+    forwards_pass m (c ∷ cs) of_typ q u v f =
         let k = and_parts (crossing_written c) (all_of (map crossing_written cs)) q in
         let l = and_parts (both_ways_written c.left) (both_ways_written c.right) k.0 in
         let g = both_empty (direction_clause setting c.left m.left c.right m.right).faults (clauses_faults (forwards_clauses setting m cs)) f in
         let s = both_sides c u.0 in
-        (direction_passes c.left c.right m.left m.right of_typ l.0 l.1 s.0 s.1 g.0, forwards_pass m cs of_typ k.1 u.1 g.1)
+        (direction_passes c.left c.right m.left m.right of_typ l.0 l.1 s.0 s.1 (sides_convert c v.0).0 g.0, forwards_pass m cs of_typ k.1 u.1 v.1 g.1)
 
     backwards_pass : (m : Mapping) (cs : List MappingClause) → right m.left ≡ true → all_of (map crossing_written cs) ≡ true → EachCrossed names cs
-        → clauses_faults (backwards_clauses setting m cs) ≡ [] → EachClause (backwards_clauses setting m cs)
-    backwards_pass m [] of_typ q u f = tt
-    backwards_pass m (c ∷ cs) of_typ q u f =
+        → EachConverts fit.converts names cs → clauses_faults (backwards_clauses setting m cs) ≡ [] → EachClause (backwards_clauses setting m cs)
+    backwards_pass m [] of_typ q u v f = tt
+    backwards_pass m (c ∷ cs) of_typ q u v f =
         let k = and_parts (crossing_written c) (all_of (map crossing_written cs)) q in
         let l = and_parts (both_ways_written c.left) (both_ways_written c.right) k.0 in
         let g = both_empty (direction_clause setting c.right m.right c.left m.left).faults (clauses_faults (backwards_clauses setting m cs)) f in
         let s = both_sides c u.0 in
-        (direction_passes c.right c.left m.right m.left of_typ l.1 l.0 s.1 s.0 g.0, backwards_pass m cs of_typ k.1 u.1 g.1)
+        (direction_passes c.right c.left m.right m.left of_typ l.1 l.0 s.1 s.0 (sides_convert c v.0).1 g.0, backwards_pass m cs of_typ k.1 u.1 v.1 g.1)
 
     pub ahead_clauses : (place : Place) (m : Mapping) (cs : List MappingClause) (n : ℕ) → right m.right ≡ true → all_of (map crossing_written cs) ≡ true
-        → EachCrossed names cs
+        → EachCrossed names cs → EachConverts fit.converts names cs
         → clauses_faults (forwards_clauses setting m cs) ≡ [] → ClausesPass (numbered (clauses_core place (forwards_clauses setting m cs)) n).it
-    ahead_clauses place m cs n of_typ q u f = clauses_pass place (forwards_clauses setting m cs) n (forwards_pass m cs of_typ q u f)
+    ahead_clauses place m cs n of_typ q u v f = clauses_pass place (forwards_clauses setting m cs) n (forwards_pass m cs of_typ q u v f)
 
     pub back_clauses : (place : Place) (m : Mapping) (cs : List MappingClause) (n : ℕ) → right m.left ≡ true → all_of (map crossing_written cs) ≡ true
-        → EachCrossed names cs
+        → EachCrossed names cs → EachConverts fit.converts names cs
         → clauses_faults (backwards_clauses setting m cs) ≡ [] → ClausesPass (numbered (clauses_core place (backwards_clauses setting m cs)) n).it
-    back_clauses place m cs n of_typ q u f = clauses_pass place (backwards_clauses setting m cs) n (backwards_pass m cs of_typ q u f)
+    back_clauses place m cs n of_typ q u v f = clauses_pass place (backwards_clauses setting m cs) n (backwards_pass m cs of_typ q u v f)

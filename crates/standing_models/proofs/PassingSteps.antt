@@ -33,6 +33,7 @@ use Rattle.sail_core.specs.declared.tree.Kind.{Kind}
 use Rattle.sail_core.specs.declared.tree.Kind.TheVariants as K
 use Rattle.sail_core.specs.declared.tree.Statement.{Statement}
 use Rattle.sail_core.specs.declared.tree.Statement.TheVariants as S
+use Rattle.sail_cycles.specs.Callees.{pattern_callees}
 use Rattle.sail_names.specs.Known as Tables
 use Rattle.sail_names.specs.Patterns.{binds, clashes, pattern_failures, type_failures, uses_failures}
 use Rattle.sail_names.specs.Uses.{asked_kind, struct_failures}
@@ -67,7 +68,7 @@ use Rattle.shape_meanings.proofs.TargetNames.{struct_known}
 use Rattle.shape_meanings.proofs.Withs.{placed_are, placed_count}
 use Rattle.soundness_forms.specs.Standing.{has_fields}
 use Rattle.shape_meanings.specs.Trees.{pattern_written}
-use Rattle.standing_models.specs.Tests.{Fits, Tested, arm_tested, arms_tested, kind_fits, lets_tested}
+use Rattle.standing_models.specs.Tests.{Converts, Fits, Tested, arm_tested, arms_tested, kind_fits, lets_tested}
 use Rattle.standing_models.proofs.CorePasses.{AllPass, Passes, also_pass, cast_passes, counted_passes, missing_passes, over_passes, settled_passes}
 use Rattle.standing_models.proofs.Covering.{fields_hold}
 use Rattle.standing_models.proofs.Passing.{AreEach, MaybeIs, PartsAre, SuffixesAre, args_pass, each_of, named_passes, parts_pass, solved_count}
@@ -209,24 +210,24 @@ module _ (around : Around) (numbers : List Index) (fits : Pattern → Bool) (set
   one_stands p h = two (fits p) true h refl
 
   pub bound_passes : (place : Place) (p : Pat) (value : Part) → Is value.elaborate → pattern_failures names p ≡ [] → pattern_written p ≡ true
-      → (locals : Locals) → (bound place p value setting locals).faults ≡ []
+      → Converts fit.converts names (pattern_callees names.known p) → (locals : Locals) → (bound place p value setting locals).faults ≡ []
       → It (bound place p value setting locals).part × (arm_tested fits (bound place p value setting locals).arm ≡ true)
-  bound_passes place p value one u limits locals e =
+  bound_passes place p value one u limits v locals e =
       let a : Found = value.elaborate setting locals (wanted_by setting p) in
       let found : Looked = look p setting no_widths a.shape in
       let f = both_empty (a.faults ++ hole_faults place (has_typ p) a.shape) found.faults e in
       let g = both_empty a.faults (hole_faults place (has_typ p) a.shape) f.0 in (
         cast_passes around numbers fits a.core value.place (one locals (wanted_by setting p) g.0),
-        one_stands found.pattern (fit.patterns p a.shape (used p u) limits f.1),
+        one_stands found.pattern (fit.patterns p a.shape (used p u) limits v f.1),
       )
 
   pub let_passes : (place : Place) (p : Pat) (value body : Part) → Is value.elaborate → pattern_failures names p ≡ [] → pattern_written p ≡ true
-      → Is body.elaborate → Is (let_found place p value body)
-  let_passes place p value body one u limits next locals want e =
+      → Converts fit.converts names (pattern_callees names.known p) → Is body.elaborate → Is (let_found place p value body)
+  let_passes place p value body one u limits v next locals want e =
       let b : Binding = bound place p value setting locals in
       let inner : Locals = under b.binds locals in
       let f = both_empty b.faults (body.elaborate setting inner want).faults e in
-      let k = bound_passes place p value one u limits locals f.0 in
+      let k = bound_passes place p value one u limits v locals f.0 in
       over_passes around numbers fits place (K.Let b.arm) (b.part ∷ (body.elaborate setting inner want).core ∷ [])
       (two true (arm_tested fits b.arm && true) refl (two (arm_tested fits b.arm) true k.1 refl))
       (k.0, (next inner want f.1, tt))
@@ -281,6 +282,7 @@ module _ (around : Around) (numbers : List Index) (fits : Pattern → Bool) (set
   pub record CaseIs (c : CasePart) : Type 0 where
     pub named : pattern_failures names c.pattern ≡ []
     pub limits : pattern_written c.pattern ≡ true
+    pub converts : Converts fit.converts names (pattern_callees names.known c.pattern)
     pub guard : Maybe c.guard
     pub body : Is c.body.elaborate
 
@@ -308,7 +310,7 @@ module _ (around : Around) (numbers : List Index) (fits : Pattern → Bool) (set
       let k = both_empty (guard_faults c.guard setting inner) body.faults g.1 in
       let rest = cases_pass cs h.1 locals subject (given_on want body.shape) f.1 in (
         two (arm_tested fits (A.Nested (found.pattern ∷ []))) (arms_tested fits more.arms)
-            (one_stands found.pattern (fit.patterns c.pattern subject (used c.pattern h.0.named) h.0.limits g.0)) rest.0,
+            (one_stands found.pattern (fit.patterns c.pattern subject (used c.pattern h.0.named) h.0.limits h.0.converts g.0)) rest.0,
         (
           guarded_passes c.guard (cast body.core c.body.place) h.0.guard inner k.0
               (cast_passes around numbers fits body.core c.body.place (h.0.body inner want k.1)),
@@ -352,9 +354,10 @@ module _ (around : Around) (numbers : List Index) (fits : Pattern → Bool) (set
   evaluated_passes a h locals e = (h locals V.Unit e, refl)
 
   pub defined_passes : (place : Place) (p : Pat) (value : Part) → Is value.elaborate → pattern_failures names p ≡ [] → pattern_written p ≡ true
+      → Converts fit.converts names (pattern_callees names.known p)
       → StatementIs (λ s locals. defined_as place (bound place p value s locals) locals)
-  defined_passes place p value one u limits locals e =
-      let k = bound_passes place p value one u limits locals e in
+  defined_passes place p value one u limits v locals e =
+      let k = bound_passes place p value one u limits v locals e in
       (k.0, two (arm_tested fits (bound place p value setting locals).arm) true k.1 refl)
 
   pub declare_passes : (place : Place) (name : Name) (typ : Option TyExp) (value : Part) → Is value.elaborate

@@ -26,10 +26,12 @@ use Rattle.sail_core.specs.declared.tree.Kind.TheVariants as K
 use Rattle.sail_core.specs.declared.tree.Statement.{Statement}
 use Rattle.sail_core.specs.declared.tree.Statement.TheVariants as S
 use Rattle.sail_names.specs.Known as Tables
-use Rattle.sail_names.specs.Known.{in_measure}
+use Rattle.sail_names.specs.Known.{in_measure, is_any}
 use Rattle.sail_names.specs.Locals as Bound
 use Rattle.sail_names.specs.Patterns.{type_failures, uses_failures}
 use Rattle.sail_names.specs.Uses.{expression_failures}
+use Rattle.sail_cycles.specs.Callees.{expression_callees, pattern_callees}
+use Rattle.sail_cycles.specs.declared.expressions.Which.TheVariants.{Patterns}
 use Rattle.pattern_leaves.specs.Settings.{Around}
 use Rattle.shape_rules.specs.declared.callees.Candidate.{Candidate}
 use Rattle.shape_rules.specs.declared.callees.Doing.{Doing}
@@ -101,11 +103,21 @@ meant_fits around (Some (M.Overload fs)) = list_all (candidate_fits around) fs
 meant_fits around (Some (M.Member e k)) = nat_lt k (length (members around.types e))
 meant_fits around meant = true
 
+-- the mappings by which a part converts in patterns are among these: nothing is asked of what is plain, in which there are none
+abbrev pub Converts : (ℕ → Bool) → Tables.Setting → List ℕ → Type 0
+Converts converts names numbers = is_any names.allowed ≡ true → list_all converts numbers ≡ true
+
 -- what is found of a pattern as the grammar has it, in whose names and shapes nothing is wrong, passes the test of patterns
 abbrev pub PatternsFit : (Pattern → Bool) → Setting → Tables.Setting → Type 0
 PatternsFit fits setting names =
     (p : Pat) (subject : Shape) → uses_failures names p ≡ [] → pattern_written p ≡ true → (look p setting no_widths subject).faults ≡ []
     → fits (look p setting no_widths subject).pattern ≡ true
+
+-- what is found of one that converts by these mappings alone
+abbrev pub PatternsFitBy : (ℕ → Bool) → (Pattern → Bool) → Setting → Tables.Setting → Type 0
+PatternsFitBy converts fits setting names =
+    (p : Pat) (subject : Shape) → uses_failures names p ≡ [] → pattern_written p ≡ true → Converts converts names (pattern_callees names.known p)
+    → (look p setting no_widths subject).faults ≡ [] → fits (look p setting no_widths subject).pattern ≡ true
 
 abbrev pub unit_pattern : Place → Pattern
 unit_pattern place = roll-Pattern (record { place = place; form = F.Opens (H.Is L.Unit); parts = [] })
@@ -117,9 +129,11 @@ pub record Fits (around : Around) (numbers : List Index) (fits : Pattern → Boo
   pub added : (operator : Operator) → list_all (candidate_fits around) (setting.added operator) ≡ true
   pub sizes : (typ : TyExp) (n : Num) → type_failures Sort.Int typ names ≡ [] → number_in setting.within typ ≡ Some n → number_own numbers n ≡ true
   pub truths : (typ : TyExp) (c : Con) → type_failures Sort.Bool typ names ≡ [] → constraint_in setting.within typ ≡ Some c → con_own numbers c ≡ true
-  pub patterns : PatternsFit fits setting names
+  -- by which patterns convert
+  pub converts : ℕ → Bool
+  pub patterns : PatternsFitBy converts fits setting names
   -- in a loop's measure too, which is plain
-  pub measures : PatternsFit fits (plainly setting) (in_measure names)
+  pub measures : PatternsFitBy converts fits (plainly setting) (in_measure names)
   -- what is matched where a function has no parameter
   pub unit : (place : Place) → fits (unit_pattern place) ≡ true
 
@@ -128,11 +142,12 @@ abbrev pub Tested : Around → List Index → (Pattern → Bool) → Setting →
 Tested around numbers fits setting e =
     (locals : Locals) (want : Shape) → (e setting locals want).faults ≡ [] → passes around numbers fits (e setting locals want).core ≡ true
 
--- where no failure is found in the names and the shapes of an expression as the grammar has it
+-- where no failure is found in the names and the shapes of an expression as the grammar has it, whose patterns convert by such mappings
 abbrev pub FoundCoresPass : Type 0
 FoundCoresPass = (around : Around) (numbers : List Index) (fits : Pattern → Bool) (e : Exp) → written e ≡ true
     → (names : Tables.Setting) (bound : Bound.Locals) → expression_failures e names bound ≡ []
-    → (setting : Setting) → Fits around numbers fits setting names → Tested around numbers fits setting (elaborate e)
+    → (setting : Setting) (fit : Fits around numbers fits setting names) → Converts fit.converts names (expression_callees Patterns names.known e)
+    → Tested around numbers fits setting (elaborate e)
 
 -- the types that are written in an expression read, where types in whose names nothing is wrong do
 abbrev pub FoundTypesRead : Type 0

@@ -22,6 +22,7 @@ use Rattle.sail_core.specs.declared.tree.Core.{Core, out-Core}
 use Rattle.core_numbers.specs.Numbers.{numbered}
 use Rattle.sail_names.specs.Clauses.{function_clause_failures}
 use Rattle.sail_names.specs.Known as Tables
+use Rattle.sail_names.specs.Known.{in_measure}
 use Rattle.sail_names.specs.declared.around.Allowed.TheVariants.{Any}
 use Rattle.sail_signatures.specs.Signatures.{variables_in}
 use Rattle.sail_signatures.specs.declared.signature.Signature.{Signature}
@@ -64,7 +65,8 @@ use Rattle.known_texts.proofs.Signed.{each_signed, variables_are}
 use Rattle.known_texts.proofs.Tuples.{TuplesHaveParts}
 use Rattle.known_texts.proofs.Types.{types_known}
 use Rattle.known_texts.proofs.Vals.{vals_signed}
-use Rattle.standing_models.specs.Tests.{Fits, passes}
+use Rattle.standing_models.specs.Tests.{Fits, PatternsFitBy, passes, unit_pattern}
+use Rattle.standing_models.proofs.Converting.{any_convert, any_mapping}
 use Rattle.standing_models.proofs.CorePasses.{AllPass as EachPasses}
 use Rattle.standing_models.proofs.PassingClauses.{ClausesPass, EachNamed, body_clauses, measure_clauses}
 use Rattle.text_progress.proofs.Entries.{all_in}
@@ -98,6 +100,56 @@ pass_at around fits [] h i f e = none e
 pass_at around fits (x ∷ fs) h zero f e = subst (FunctionPasses around fits) (some_same x f e) h.0
 pass_at around fits (x ∷ fs) h (suc i) f e = pass_at around fits fs h.1 i f e
 
+-- ---- what is around a body, under a test of patterns that convert by such mappings
+
+module _ (text : List Def) (cycle : List ℕ → Option ℕ) (known : DefinitionsKnown (tabled_of text) text (setting_in (tabled_of text) text))
+    (typed : RegistersTyped (tabled_of text) text) (around : Around) (types : around.types ≡ (Insides.parts text cycle known typed).types)
+    (functions : around.functions ≡ (Insides.parts text cycle known typed).functions) where
+  pub each_own : (name : List ℕ) → MaybeIn (Insides.parts text cycle known typed) (own_in (tabled_of text) text name)
+  each_own = all_in (tabled_of text) cycle text (all_lets (tabled_of text) text) known typed
+
+  unfoldable pub fits_by : (converts : ℕ → Bool) (tests : Pattern → Bool) (variables : List Variable) (answer : Option Shape) (names : Tables.Setting)
+      → AreKnown (answering answer (setting_in (tabled_of text) text variables)) names
+      → PatternsFitBy converts tests (answering answer (setting_in (tabled_of text) text variables)) names
+      → PatternsFitBy converts tests (plainly (answering answer (setting_in (tabled_of text) text variables))) (in_measure names)
+      → ((place : Place) → tests (unit_pattern place) ≡ true)
+      → Fits around (own_variables 0 (number_parameters variables)) tests (answering answer (setting_in (tabled_of text) text variables)) names
+  fits_by converts tests variables answer names are patterns measures unit = record {
+    types = sym types;
+    known = are;
+    values = λ name.
+        value_fits around (Insides.parts text cycle known typed) types functions (all_lets (tabled_of text) text)
+        ((setting_in (tabled_of text) text variables).value name)
+        (Insides.values text cycle known typed (all_lets (tabled_of text) text) variables name);
+    added = λ operator.
+        all_fit around (Insides.parts text cycle known typed) types functions ((setting_in (tabled_of text) text variables).added operator)
+        (operator_in (Insides.parts text cycle known typed) (own_in (tabled_of text) text) each_own text operator);
+    sizes = λ typ n u e. sizes_own variables (within_variables (tabled_of text) variables) refl typ n e;
+    truths = λ typ c u e. truths_own variables (within_variables (tabled_of text) variables) refl typ c e;
+    converts = converts;
+    patterns = patterns;
+    measures = measures;
+    unit = unit;
+  }
+
+-- clauses that pass
+each_passes_it : (around : Around) (numbers : List Index) (fits : Pattern → Bool) (cs : List Core) → EachPasses around numbers fits cs
+    → list_all (λ b. b) (map (passes around numbers fits) cs) ≡ true
+each_passes_it around numbers fits [] h = refl
+each_passes_it around numbers fits (c ∷ cs) h =
+    two (passes around numbers fits c) (list_all (λ b. b) (map (passes around numbers fits) cs)) h.0 (each_passes_it around numbers fits cs h.1)
+
+pub clauses_are : (around : Around) (numbers : List Index) (fits : Pattern → Bool) (body : Core) → ClausesPass around numbers fits body
+    → BodyPasses around numbers fits body
+clauses_are around numbers fits body h = record {
+  arms = h.arms;
+  kind = h.kind;
+  stand = h.stand;
+  bodies = each_passes_it around numbers fits (out-Core body).parts h.bodies;
+}
+
+-- ---- the functions of a text
+
 module _ (text : List Def) (cycle : List ℕ → Option ℕ) (known : DefinitionsKnown (tabled_of text) text (setting_in (tabled_of text) text))
     (typed : RegistersTyped (tabled_of text) text) (clear : NothingFails text) (is_written : IsWritten text) (tuples : TuplesHaveParts text)
     (fits : List Index → Pattern → Bool) (patterns : TextPatterns text fits) (around : Around)
@@ -121,28 +173,14 @@ module _ (text : List Def) (cycle : List ℕ → Option ℕ) (known : Definition
   under_signature : (name : List ℕ) (s : Signature) → signature_in text name ≡ Some s → (names_at 0 name).types ≡ within_variables tabled s.variables
   under_signature name s e = ap (within_variables tabled) (sym (variables_are (types_of text).named text name s e))
 
-  each_own : (name : List ℕ) → MaybeIn core (own_in (tabled_of text) text name)
-  each_own = all_in (tabled_of text) cycle text (all_lets (tabled_of text) text) known typed
-
   -- ---- what is around a body or a measure
 
   pub body_fits : (variables : List Variable) (answer : Option Shape) (names : Tables.Setting) → AreKnown (answering answer (within variables)) names
       → PatternsPass (fits (own variables)) (answering answer (within variables)) names
       → Fits around (own variables) (fits (own variables)) (answering answer (within variables)) names
-  body_fits variables answer names are pass = record {
-    types = sym types;
-    known = are;
-    values = λ name.
-        value_fits around core types functions (all_lets (tabled_of text) text) ((within variables).value name)
-        (Insides.values text cycle known typed (all_lets (tabled_of text) text) variables name);
-    added = λ operator.
-        all_fit around core types functions ((within variables).added operator) (operator_in core (own_in (tabled_of text) text) each_own text operator);
-    sizes = λ typ n u e. sizes_own variables (within_variables tabled variables) refl typ n e;
-    truths = λ typ c u e. truths_own variables (within_variables tabled variables) refl typ c e;
-    patterns = pass.0;
-    measures = pass.1;
-    unit = λ place. patterns.unit (own variables) place;
-  }
+  body_fits variables answer names are pass =
+      fits_by text cycle known typed around types functions any_mapping (fits (own variables)) variables answer names are
+      (λ p subject u written any e. pass.0 p subject u written e) (λ p subject u written any e. pass.1 p subject u written e) (patterns.unit (own variables))
 
   plain_fits : (variables : List Variable) (names : Tables.Setting) → AreKnown (plainly (within variables)) names
       → PatternsPass (fits (own variables)) (plainly (within variables)) names
@@ -156,32 +194,18 @@ module _ (text : List Def) (cycle : List ℕ → Option ℕ) (known : Definition
     added = λ operator. refl;
     sizes = λ typ n u e. sizes_own variables (within_variables tabled variables) refl typ n e;
     truths = λ typ c u e. truths_own variables (within_variables tabled variables) refl typ c e;
-    patterns = pass.0;
-    measures = pass.1;
+    converts = any_mapping;
+    patterns = λ p subject u written any e. pass.0 p subject u written e;
+    measures = λ p subject u written any e. pass.1 p subject u written e;
     unit = λ place. patterns.unit (own variables) place;
   }
 
   -- ---- one function
 
-  each_passes_it : (variables : List Variable) (cs : List Core) → EachPasses around (own variables) (fits (own variables)) cs
-      → list_all (λ b. b) (map (passes around (own variables) (fits (own variables))) cs) ≡ true
-  each_passes_it variables [] h = refl
-  each_passes_it variables (c ∷ cs) h =
-      two (passes around (own variables) (fits (own variables)) c) (list_all (λ b. b) (map (passes around (own variables) (fits (own variables))) cs)) h.0
-      (each_passes_it variables cs h.1)
-
-  pub clauses_are : (variables : List Variable) (body : Core) → ClausesPass around (own variables) (fits (own variables)) body
-      → BodyPasses around (own variables) (fits (own variables)) body
-  clauses_are variables body h = record {
-    arms = h.arms;
-    kind = h.kind;
-    stand = h.stand;
-    bodies = each_passes_it variables (out-Core body).parts h.bodies;
-  }
-
   body_passes : (name : List ℕ) (s : Signature) → signature_in text name ≡ Some s → (at : ℕ) (place : Place) (cs : List FunctionClause)
       → all_of (map clause_written cs) ≡ true → clauses_failures (names_at at name) cs ≡ [] → function_faults within (Some s) cs ≡ []
       → BodyPasses around (own s.variables) (fits (own s.variables)) (numbered (clauses_core place (signed_clauses (within s.variables) s cs)) 0).it
+  unfolding body_fits fits_by
   body_passes name s signed at place cs q u f =
       let are : AreKnown (answering (Some (shape s.to)) (within s.variables)) (names_at at name) =
       known_here text clear is_written tuples s.variables (Some (shape s.to)) (names_at at name) refl (under_signature name s signed)
@@ -189,22 +213,24 @@ module _ (text : List Def) (cycle : List ℕ → Option ℕ) (known : Definition
         type_variables s.variables,
         subst (λ x. below (type_variables s.variables) x ≡ true) (some_same (shape s.to) a h) (signature_whole text name s signed).gives,
       )) in
-      clauses_are s.variables (numbered (clauses_core place (signed_clauses (within s.variables) s cs)) 0).it
+      clauses_are around (own s.variables) (fits (own s.variables)) (numbered (clauses_core place (signed_clauses (within s.variables) s cs)) 0).it
       (body_clauses around (own s.variables) (fits (own s.variables)) (within s.variables) (param_shapes s.from) (shape s.to) (names_at at name)
-      (body_fits s.variables (Some (shape s.to)) (names_at at name) are (patterns.bodies name s signed at)) place cs 0 q
+      (body_fits s.variables (Some (shape s.to)) (names_at at name) are (patterns.bodies name s signed at)) (any_convert (names_at at name)) place cs 0 q
       (each_named (names_at at name) cs u) f)
 
   measure_passes : (name : List ℕ) (s : Signature) → signature_in text name ≡ Some s → (x : Measure) (at n : ℕ)
       → MeasureNamed (plain_at text at name) x → (all_of (map pattern_written x.parameters) && written x.value) ≡ true
       → measure_faults within (Some s) x.place x.parameters x.value ≡ []
       → BodyPasses around (own s.variables) (fits (own s.variables)) (numbered (measure_tree (within s.variables) (param_shapes s.from) x) n).it
+  unfolding plain_fits
   measure_passes name s signed x at n it q f =
       let k = and_parts (all_of (map pattern_written x.parameters)) (written x.value) q in
       let are : AreKnown (plainly (within s.variables)) (plain_at text at name) =
       known_plainly text clear is_written tuples s.variables (plain_at text at name) refl (under_signature name s signed) in
-      clauses_are s.variables (numbered (measure_tree (within s.variables) (param_shapes s.from) x) n).it
+      clauses_are around (own s.variables) (fits (own s.variables)) (numbered (measure_tree (within s.variables) (param_shapes s.from) x) n).it
       (measure_clauses around (own s.variables) (fits (own s.variables)) (within s.variables) (param_shapes s.from) (plain_at text at name)
-      (plain_fits s.variables (plain_at text at name) are (patterns.measures name s signed at)) x n k.0 k.1 it.parameters it.value f)
+      (plain_fits s.variables (plain_at text at name) are (patterns.measures name s signed at)) (any_convert (plain_at text at name))
+      x n k.0 k.1 it.parameters it.value f)
 
   -- ---- what the text says of its measure
 

@@ -73,9 +73,10 @@ module _ (around : Around) (fits : Pattern → Bool) where
         let faults = both_empty _ l.faults e in
         let found = both_empty a.faults _ faults.0 in
         let core : passes around [] fits a.core ≡ true =
-        found_passes around [] fits value limits.1 its.value.names [] its.value.named setting its.value.fit [] (wanted_by setting p) found.0 in
+        found_passes around [] fits value limits.1 its.value.names [] its.value.named setting its.value.fit its.value.converts []
+        (wanted_by setting p) found.0 in
         two _ _ (numbered_passes (cast a.core (part value).place) (cast_passes around [] fits a.core (part value).place core))
-        (two (fits l.pattern) true (its.value.fit.patterns p a.shape its.named limits.0 faults.1) refl)
+        (two (fits l.pattern) true (its.value.fit.patterns p a.shape its.named limits.0 its.converts faults.1) refl)
 
     def_passes : (lets : List Local) (d : Def) → OpeningFits around fits tabled text lets d → definition_written d ≡ true
         → lets_faults tabled own text lets (d ∷ []) ≡ [] → EachPasses (let_openings tabled own text lets d)
@@ -105,7 +106,7 @@ module _ (around : Around) (fits : Pattern → Bool) where
         let found = initial_found all want value in
         more_pass (register_opening all r place typ value) []
         (two (passes around [] fits (numbered found.core 0).it) true (numbered_passes found.core
-        (found_passes around [] fits value within its.names [] its.named (plainly all) its.fit [] want e)) refl) refl
+        (found_passes around [] fits value within its.names [] its.named (plainly all) its.fit its.converts [] want e)) refl) refl
 
     initial_passes : (lets : List Local) (r : ℕ) (d : Def) → OpeningFits around fits tabled text lets d → definition_written d ≡ true
         → state_faults all d ≡ [] → EachPasses (initial_openings all r d)

@@ -25,6 +25,9 @@ use Rattle.known_texts.proofs.Registers.{registers_typed}
 use Rattle.known_texts.proofs.Tuples.{TuplesHaveParts}
 use Rattle.known_texts.proofs.Types.{types_known}
 use Rattle.text_progress.proofs.TextInsides as Insides
+use Rattle.sail_cycles.specs.declared.expressions.Which.TheVariants.{Patterns}
+use Rattle.sail_cycles.specs.Callees.{expression_callees, pattern_callees}
+use Rattle.standing_models.proofs.Converting.{any_convert, any_mapping}
 use Rattle.standing_texts.specs.Openings.{OpeningFits, OpeningPatterns, OpeningsFitFrom, OpeningsPass, ValueFits}
 use Rattle.standing_texts.proofs.FoundOpenings.{found_openings}
 use Rattle.standing_texts.proofs.NamesFit.{value_fits}
@@ -56,10 +59,12 @@ module _ (text : List Def) (cycle : List ℕ → Option ℕ) (known : Definition
           added = λ operator. refl;
           sizes = λ typ n u e. sizes_own [] (within_variables (tabled_of text) []) refl typ n e;
           truths = λ typ c u e. truths_own [] (within_variables (tabled_of text) []) refl typ c e;
-          patterns = pass.0;
-          measures = pass.1;
+          converts = any_mapping;
+          patterns = λ p subject u written any e. pass.0 p subject u written e;
+          measures = λ p subject u written any e. pass.1 p subject u written e;
           unit = patterns.unit;
         };
+        converts = any_convert h.names (expression_callees Patterns h.names.known e);
       }
 
   opening_fit : (lets : List Local) (d : Def) → OpeningKnown tabled text lets d → OpeningFits around fits tabled text lets d
@@ -67,6 +72,7 @@ module _ (text : List Def) (cycle : List ℕ → Option ℕ) (known : Definition
   opening_fit lets (D.Let place p value) h = record {
     value = value_fit lets value h.value;
     named = (both_empty (uses_failures h.value.names p) (clashes (binds h.value.names.known p)) h.named).0;
+    converts = any_convert h.value.names (pattern_callees h.value.names.known p);
   }
   opening_fit lets (D.Register place name typ (Some value)) h = value_fit (all_lets (tabled_of text) text) value h
   opening_fit lets (D.Register place name typ None) h = tt

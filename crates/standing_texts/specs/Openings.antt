@@ -24,7 +24,9 @@ use Rattle.shapes.specs.Failures.{all_lets, lets_with, own_in, refusal}
 use Rattle.shapes.specs.Resolved.{resolved}
 use Rattle.shapes.specs.Tabled.{tabled_of}
 use Rattle.known_texts.specs.Written.{IsWritten}
-use Rattle.standing_models.specs.Tests.{Fits, arm_tested, passes, unit_pattern}
+use Rattle.standing_models.specs.Tests.{Converts, Fits, arm_tested, passes, unit_pattern}
+use Rattle.sail_cycles.specs.declared.expressions.Which.TheVariants.{Patterns}
+use Rattle.sail_cycles.specs.Callees.{expression_callees, pattern_callees}
 use Rattle.standing_texts.specs.Bodies.{PatternsPass}
 use Rattle.text_progress.specs.Laws.{core_of}
 
@@ -35,10 +37,12 @@ module _ (around : Around) (fits : Pattern → Bool) where
     pub names : Tables.Setting
     pub named : expression_failures e names [] ≡ []
     pub fit : Fits around [] fits (plainly setting) names
+    pub converts : Converts fit.converts names (expression_callees Patterns names.known e)
 
   pub record LetFits (setting : Setting) (p : Pat) (e : Exp) : Type 0 where
     pub value : ValueFits setting e
     pub named : uses_failures value.names p ≡ []
+    pub converts : Converts value.fit.converts value.names (pattern_callees value.names.known p)
 
   abbrev pub OpeningFits : Tabled → List Def → List Local → Def → Type 0
   OpeningFits tabled text lets (D.Let place p value) = LetFits (setting_of tabled (own_in tabled text) text lets []) p value

@@ -60,7 +60,7 @@ opening_decides o h t lets now =
 numbered_decides : (place : Place) (kind : OpeningKind) (c : Core) → decides c ≡ true → Decides (opening place kind c)
 numbered_decides place kind c h = opening_decides (opening place kind c) (decides_numbered c 0 ∙ h)
 
-pub cast_decides : (c : Core) (place : Place) → decides c ≡ true → decides (cast c place) ≡ true
+cast_decides : (c : Core) (place : Place) → decides c ≡ true → decides (cast c place) ≡ true
 cast_decides c place h =
     ap (λ (e : Ends). e.alone)
     (fold-roll-Core Ends (λ x. ends_kind x.kind x.parts) (record { place = place; number = 0; kind = K.Cast None; parts = c ∷ [] }))

@@ -215,7 +215,7 @@ plain_given_at text clear kept is_written variables names w scope =
 
 -- ---- manners of the parts of a text
 
-pub openings_plain : (text : List Def) → all_of (map definition_manner text) ≡ true → OpeningsPlain text
+openings_plain : (text : List Def) → all_of (map definition_manner text) ≡ true → OpeningsPlain text
 openings_plain [] h = tt
 openings_plain (d ∷ text) h =
     let k = and_parts (definition_manner d) (all_of (map definition_manner text)) h in
