@@ -11,9 +11,10 @@ use Rattle.bidir_check.specs.Certification.{Certification}
 abbrev pub function_count : CoreModel → ℕ
 function_count core = length core.functions + length core.directions / 2
 
-abbrev pub accepted_text : Certification → List ℕ
-accepted_text c =
-    codes "accepted " ++ number_text (function_count c.core) ++ codes " functions " ++ number_text (length c.obligations) ++ codes " obligations\n"
+-- how many functions and mappings, and how many obligations
+abbrev pub counts_text : Certification → List ℕ
+counts_text c =
+    codes "accepted " ++ number_text (function_count c.core) ++ codes " functions " ++ number_text (length c.obligations) ++ codes " obligations"
 
 -- each obligation with its certificate
 abbrev pub certificates_text : Certification → List ℕ

@@ -1,7 +1,7 @@
 //! A model whose obligations hold.
 ghost use Rattle.std.specs.Prelude.{◌≡◌, ◌++◌, OnOk};
 ghost use Rattle.bidir_check.specs.Certification.{AreCertified};
-ghost use Rattle.bidir_check.specs.Printed.{accepted_text, certificates_text};
+ghost use Rattle.bidir_check.specs.Printed.{certificates_text, counts_text};
 
 use farkas::Cert;
 use obligations::{Obligation, push_certificates};
@@ -91,9 +91,9 @@ impl Certified {
         self.certificates.as_slice()
     }
 
-    /// Puts how many functions and obligations there are. The one error is want of memory.
+    /// Puts how many functions and obligations there are, a line without its end. The one error is want of memory.
     pub fn push_counts(&self, out: &mut Vec<u8>) -> Result<(), AllocError>
-        ensures { OnOk result (out.new.items ≡ out.old.items ++ accepted_text self.now) }
+        ensures { OnOk result (out.new.items ≡ out.old.items ++ counts_text self.now) }
     {
         let functions = self.core.functions.len() as i128
             + (self.core.directions.len() / 2) as i128;
@@ -101,7 +101,7 @@ impl Certified {
         push_integer(out, functions)?;
         out.extend_from_slice(b" functions ")?;
         push_integer(out, self.obligations.len() as i128)?;
-        out.extend_from_slice(b" obligations\n")
+        out.extend_from_slice(b" obligations")
     }
 
     /// Puts each obligation with its certificate. The one error is want of memory.

@@ -35,7 +35,7 @@ fn certificates_and_counts_are_printed(rt: HostRuntime) -> Result<(), Fail> {
             certified.push_counts(&mut line)?;
             assert_eq!(rt;
                 line.as_slice(),
-                b"accepted 0 functions 2 obligations\n".as_slice()
+                b"accepted 0 functions 2 obligations".as_slice()
             );
         }
         Err(_) => assert!(rt; false),

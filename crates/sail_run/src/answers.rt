@@ -1,8 +1,8 @@
 use crate::shipped_models::{RV32_BEGIN, RV32_END, RV32A, RV32I, RV32M, TOY16};
 use crate::shipped_rv64::{RV64_BEGIN, RV64A, RV64I, RV64M};
 use crate::{
-    checks_rows, choices_rows, facts_rows, long_texts, members_rows, patterns_rows, shapes_rows,
-    tables_rows, tutorial_rows, words_rows,
+    checks_rows, choices_rows, facts_rows, instances_rows, long_texts, members_rows, patterns_rows,
+    shapes_rows, tables_rows, tutorial_rows, words_rows,
 };
 use sail_outside::{MemShelf, MemSink};
 use sail_top::run_words;
@@ -341,7 +341,7 @@ fn checked(alloc: Global, texts: &[&str]) -> Result<Vec<u8>, Fail> {
 #[test]
 fn the_shipped_machine_of_16_bits_is_accepted(rt: HostRuntime) -> Result<(), Fail> {
     let written = checked(rt.alloc(), &[TOY16])?;
-    let wanted = "0 accepted 4 functions 53 obligations\n";
+    let wanted = "0 accepted 4 functions 53 obligations 3 instances\n";
     assert!(rt; written.as_slice() == wanted.as_bytes());
     Ok(())
 }
@@ -349,7 +349,7 @@ fn the_shipped_machine_of_16_bits_is_accepted(rt: HostRuntime) -> Result<(), Fai
 #[test]
 fn the_shipped_rv32i_is_accepted(rt: HostRuntime) -> Result<(), Fail> {
     let written = checked(rt.alloc(), &[RV32_BEGIN, RV32I, RV32_END])?;
-    let wanted = "0 accepted 10 functions 688 obligations\n";
+    let wanted = "0 accepted 10 functions 688 obligations 9 instances\n";
     assert!(rt; written.as_slice() == wanted.as_bytes());
     Ok(())
 }
@@ -358,7 +358,7 @@ fn the_shipped_rv32i_is_accepted(rt: HostRuntime) -> Result<(), Fail> {
 fn the_shipped_rv32ima_is_accepted(rt: HostRuntime) -> Result<(), Fail> {
     let texts = [RV32_BEGIN, RV32I, RV32M, RV32A, RV32_END];
     let written = checked(rt.alloc(), &texts)?;
-    let wanted = "0 accepted 13 functions 1014 obligations\n";
+    let wanted = "0 accepted 13 functions 1014 obligations 12 instances\n";
     assert!(rt; written.as_slice() == wanted.as_bytes());
     Ok(())
 }
@@ -369,8 +369,22 @@ fn the_shipped_rv64ima_is_accepted(rt: HostRuntime) -> Result<(), Fail> {
         RV64_BEGIN, RV32I, RV64I, RV32M, RV64M, RV32A, RV64A, RV32_END,
     ];
     let written = checked(rt.alloc(), &texts)?;
-    let wanted = "0 accepted 16 functions 1490 obligations\n";
+    let wanted = "0 accepted 16 functions 1490 obligations 15 instances\n";
     assert!(rt; written.as_slice() == wanted.as_bytes());
+    Ok(())
+}
+
+#[test]
+fn instances_are_answered(rt: HostRuntime) -> Result<(), Fail> {
+    let tables = [
+        instances_rows::SIZES,
+        instances_rows::SPLITS,
+        instances_rows::FOUND,
+    ];
+    for table in tables {
+        let wrong = first_wrong(rt.alloc(), table, 4096)?;
+        assert!(rt; wrong.is_none(), "{wrong:?}");
+    }
     Ok(())
 }
 

@@ -47,7 +47,7 @@ function f(i) = match i { 3 : range(0, 3) => true, _ => false }
 % check M // a mapping is read twice: forwards, then backwards
 mapping m : range(0, 3) <-> range(0, 3) = { i <-> i }
 # true
-# 0 accepted 3 functions 2 obligations
+# 0 accepted 3 functions 2 obligations 2 instances
 % check M
 mapping m : range(0, 3) <-> range(0, 7) = { i <-> i }
 # true
@@ -74,10 +74,10 @@ function g() -> unit = ()
 overload h = {f}
 mapping m : bits(1) <-> bool = { 0b0 <-> true, 0b1 <-> false }
 # true
-# 0 accepted 5 functions 6 obligations
+# 0 accepted 5 functions 6 obligations 2 instances
 % check M
 # true
-# 0 accepted 2 functions 0 obligations
+# 0 accepted 2 functions 0 obligations 2 instances
 ";
 
 /// What is wanted of a form, and where that is owed.
@@ -91,14 +91,14 @@ function f(n) = { if n > 3 then return n; n }
 val f : range(0, 9) -> range(0, 3)
 function f(n) = { if n > 3 then return 3; n }
 # true
-# 0 accepted 3 functions 2 obligations
+# 0 accepted 3 functions 2 obligations 2 instances
 % check M
 register R : range(0, 3) = 3
 val f : range(0, 3) -> unit
 termination_measure f(n) = n
 function f(n) = ()
 # true
-# 0 accepted 3 functions 2 obligations
+# 0 accepted 3 functions 2 obligations 2 instances
 % check M
 struct s = { a : range(0, 3), b : bits(4) }
 # { let x = struct s { a = 4, b = 0x1 }; true }
@@ -131,12 +131,12 @@ function g(n) = true
 val g : forall 'n, 0 <= 'n & 'n <= 3. int('n) -> bool
 function g(n) = true
 # g(3)
-# 0 accepted 3 functions 1 obligations
+# 0 accepted 3 functions 1 obligations 3 instances
 % check M // a call all of whose parameters give numbers, without a constraint, owes nothing
 val dup : forall 'n. bits('n) -> bits('n)
 function dup(x) = x
 # { let y = dup(0x1); true }
-# 0 accepted 3 functions 1 obligations
+# 0 accepted 3 functions 1 obligations 3 instances
 % check M // `f(a) = e` is the call `f(a, e)`
 val f : (range(0, 3), bits(8)) -> unit
 function f(i, v) = ()
@@ -146,7 +146,7 @@ function f(i, v) = ()
 val f : range(0, 9) -> range(0, 9)
 function f(n) = if n < 5 then n + 5 else n - 5
 # true
-# 0 accepted 3 functions 4 obligations
+# 0 accepted 3 functions 4 obligations 2 instances
 % check M
 val f : range(0, 9) -> range(0, 9)
 function f(n) = if n < 5 then n + 5 else n + 5
@@ -156,17 +156,17 @@ function f(n) = if n < 5 then n + 5 else n + 5
 val f : range(0, 9) -> range(0, 3)
 function f(n) = { assert(n <= 3); n }
 # true
-# 0 accepted 3 functions 1 obligations
+# 0 accepted 3 functions 1 obligations 2 instances
 % check M // it doesn't go into calls, operators or indexes: those have their own
 val f : range(0, 9) -> range(0, 3)
 function f(n) = if n <= 3 then n else emod_int(n, 4)
 # true
-# 0 accepted 3 functions 3 obligations
+# 0 accepted 3 functions 3 obligations 2 instances
 % check M // `let x : T = e` owes once, and x keeps what e has; where e has branches, they owe, and x has T
 val f : range(0, 3) -> range(0, 3)
 function f(n) = { let x : range(0, 9) = n; x }
 # true
-# 0 accepted 3 functions 2 obligations
+# 0 accepted 3 functions 2 obligations 2 instances
 % check M
 val f : range(0, 3) -> range(0, 3)
 function f(n) = { let x : range(0, 9) = if n < 2 then n else 1; x }
@@ -176,30 +176,30 @@ function f(n) = { let x : range(0, 9) = if n < 2 then n else 1; x }
 val f : range(0, 3) -> (range(0, 3), range(0, 9))
 function f(n) = (n, n)
 # true
-# 0 accepted 3 functions 1 obligations
+# 0 accepted 3 functions 1 obligations 2 instances
 % check M
 val f : range(0, 3) -> (range(0, 3), range(0, 9))
 function f(n) = (n, if n < 2 then n + 2 else n)
 # true
-# 0 accepted 3 functions 4 obligations
+# 0 accepted 3 functions 4 obligations 2 instances
 % check M // a literal owes at each item and as a whole
 register V : vector(2, bits(8))
 # { V = [0x01, 0x02]; true }
-# 0 accepted 2 functions 3 obligations
+# 0 accepted 2 functions 3 obligations 2 instances
 % check M // with a `val`, types at parameters and before a body are owed; without one they are the types
 val f : range(0, 3) -> range(0, 9)
 function f(n : range(0, 5)) -> range(0, 7) = n
 # true
-# 0 accepted 3 functions 3 obligations
+# 0 accepted 3 functions 3 obligations 2 instances
 % check M
 val f : range(0, 3) -> range(0, 5)
 function f(n) -> range(0, 9) = { assert(n <= 2); n }
 # true
-# 0 accepted 3 functions 2 obligations
+# 0 accepted 3 functions 2 obligations 2 instances
 % check M
 function f(n : range(0, 3)) -> range(0, 9) = n
 # true
-# 0 accepted 3 functions 1 obligations
+# 0 accepted 3 functions 1 obligations 2 instances
 % check M // an assignment owes at its target, one that ends with an index at its `[`, an earlier index for itself
 register R : range(0, 3)
 # { R = 4; true }
@@ -211,7 +211,7 @@ register V : vector(2, bits(8))
 % check M
 register V : vector(2, bits(8))
 # { V[1][3] = bitone; true }
-# 0 accepted 2 functions 2 obligations
+# 0 accepted 2 functions 2 obligations 2 instances
 % check M
 register V : vector(2, bits(8))
 # { V[2][8] = bitone; true }
@@ -225,7 +225,7 @@ register B : bits(8)
 register A : bits(8)
 register B : bits(8)
 # { (A, B[7]) = (0x12, bitone); true }
-# 0 accepted 2 functions 2 obligations
+# 0 accepted 2 functions 2 obligations 2 instances
 % check M // without a wanted type other branches owe the widths of the first, and items those of the first item
 register T : bool
 # { let x = if T then 0x1 else 0x12; true }
@@ -235,26 +235,26 @@ register T : bool
 # 1 M20 1:4:35
 % check M
 # { let v = [0x1, 0x2]; true }
-# 0 accepted 2 functions 2 obligations
+# 0 accepted 2 functions 2 obligations 2 instances
 % check M // a `var` without a type is as wide as can be, and owes nothing at first
 # { var x = 3; x = 400; true }
-# 0 accepted 2 functions 1 obligations
+# 0 accepted 2 functions 1 obligations 2 instances
 % check M // a struct fits field by field, a union by its arguments alone
 struct s = { a : range(0, 3), b : bits(4) }
 register P : s
 # { P = P; true }
-# 0 accepted 2 functions 1 obligations
+# 0 accepted 2 functions 1 obligations 2 instances
 % check M
 union u = { C : range(0, 3) }
 val f : u -> u
 function f(x) = x
 # true
-# 0 accepted 3 functions 0 obligations
+# 0 accepted 3 functions 0 obligations 2 instances
 % check M // items that lists may have fit, if there are any
 val f : list(range(0, 3)) -> list(range(0, 9))
 function f(l) = l
 # true
-# 0 accepted 3 functions 1 obligations
+# 0 accepted 3 functions 1 obligations 2 instances
 % check M
 val f : list(range(0, 9)) -> list(range(0, 3))
 function f(l) = l
@@ -267,21 +267,21 @@ pub const FORMS: &str = "
 % check M // conditions of constants count
 register PC : bits(8)
 # { PC = PC + 0x01; true }
-# 0 accepted 2 functions 2 obligations
+# 0 accepted 2 functions 2 obligations 2 instances
 % check M // the step of a `foreach`
 # { foreach (i from 0 to 3) { () }; true }
-# 0 accepted 2 functions 1 obligations
+# 0 accepted 2 functions 1 obligations 2 instances
 % check M // a part of a concatenation, besides the whole
 # { match 0x1 { 0b0 @ (x : bits(3)) => (), _ => () }; true }
-# 0 accepted 2 functions 3 obligations
+# 0 accepted 2 functions 3 obligations 2 instances
 % check M // a condition owes nothing
 # { assert(1 < 2); true }
-# 0 accepted 2 functions 0 obligations
+# 0 accepted 2 functions 0 obligations 2 instances
 % check M // an operand that never ends normally
 val f : range(0, 3) -> range(0, 3)
 function f(n) = { let b = 0x12[return n]; n }
 # true
-# 0 accepted 3 functions 2 obligations
+# 0 accepted 3 functions 2 obligations 2 instances
 % certs M // certificates: nothing for a model that owes nothing, a line for what has no cases
 # true
 # 0 % certs M

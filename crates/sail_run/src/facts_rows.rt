@@ -7,7 +7,7 @@ pub const FACTS: &str = r#"
 val f : range(0, 9) -> bit
 function f(i) = if i < 8 then 0x12[i] else 0x34[i - 8]
 # true
-# 0 accepted 3 functions 3 obligations
+# 0 accepted 3 functions 3 obligations 2 instances
 % check M
 val f : range(0, 9) -> bit
 function f(i) = if i < 8 then 0x12[i] else 0x34[i - 9]
@@ -17,12 +17,12 @@ function f(i) = if i < 8 then 0x12[i] else 0x34[i - 9]
 val f : range(0, 9) -> bool
 function f(i) = i < 8 & 0x12[i] == bitone
 # true
-# 0 accepted 3 functions 1 obligations
+# 0 accepted 3 functions 1 obligations 2 instances
 % check M
 val f : range(0, 9) -> bool
 function f(i) = i >= 8 | 0x12[i] == bitone
 # true
-# 0 accepted 3 functions 1 obligations
+# 0 accepted 3 functions 1 obligations 2 instances
 % check M
 val f : range(0, 9) -> bool
 function f(i) = { let b = i < 8 & true; 0x12[i] == bitone }
@@ -32,7 +32,7 @@ function f(i) = { let b = i < 8 & true; 0x12[i] == bitone }
 val f : range(0, 9) -> bit
 function f(i) = { assert(i < 8, "i"); 0x12[i] }
 # true
-# 0 accepted 3 functions 1 obligations
+# 0 accepted 3 functions 1 obligations 2 instances
 % check M
 val f : range(0, 9) -> bit
 function f(i) = { { assert(i < 8); () }; 0x12[i] }
@@ -42,12 +42,12 @@ function f(i) = { { assert(i < 8); () }; 0x12[i] }
 val f : range(0, 9) -> bit
 function f(i) = { if i >= 8 then return bitzero; 0x12[i] }
 # true
-# 0 accepted 3 functions 1 obligations
+# 0 accepted 3 functions 1 obligations 2 instances
 % check M
 val f : range(0, 9) -> bit
 function f(i) = { if i < 8 then () else { exit(); }; 0x12[i] }
 # true
-# 0 accepted 3 functions 1 obligations
+# 0 accepted 3 functions 1 obligations 2 instances
 % check M // a `match` may always end normally
 val f : range(0, 9) -> bit
 function f(i) = { if i >= 8 then match () { () => return bitzero }; 0x12[i] }
@@ -103,7 +103,7 @@ function f(c) = {
   match (match c { true => a, _ => b }) { x :: _ => zero_extend(16, x), _ => 0x0000 }
 }
 # true
-# 0 accepted 3 functions 9 obligations
+# 0 accepted 3 functions 9 obligations 2 instances
 % check M // a number that is given under a binder is owed by later places
 val f : forall 'n, 0 <= 'n & 'n < 8. ({'m, 0 <= 'm. (int('m), int('n))}, int('n)) -> bit
 function f(p, n) = 0x12[n]
@@ -113,7 +113,7 @@ function f(p, n) = 0x12[n]
 val f : forall 'n, 0 <= 'n & 'n < 8. ({'m, 0 <= 'm. (int('m), int('n))}, int('n)) -> bit
 function f(p, n) = 0x12[n]
 # f((1, 2), 2) == bitone
-# 0 accepted 3 functions 2 obligations
+# 0 accepted 3 functions 2 obligations 3 instances
 % check M // a Type variable takes its type from a place that leaves no hole in it
 val f : forall ('a : Type). (list('a), 'a) -> 'a
 function f(l, x) = x
@@ -123,7 +123,7 @@ function f(l, x) = x
 val f : forall ('a : Type). (list('a), 'a) -> 'a
 function f(l, x) = x
 # f([||], 300) == 300
-# 0 accepted 3 functions 1 obligations
+# 0 accepted 3 functions 1 obligations 3 instances
 % check M
 union two('a : Type) = { Two : (list('a), 'a) }
 # match Two([||], 300) { Two(l, x) => 0x12[x] == bitone }
@@ -137,7 +137,7 @@ function f(x, y) = y
 val f : forall ('a : Type). (list('a), 'a) -> 'a
 function f(l, x) = x
 # { let l : list(bit) = f([||], [||]); true }
-# 0 accepted 3 functions 0 obligations
+# 0 accepted 3 functions 0 obligations 3 instances
 % check M // what names a variable that items bind is no one type of them
 struct s('n) = { x : int('n) }
 val two : forall ('a : Type). list((bit, 'a)) -> ('a, 'a)
@@ -152,12 +152,12 @@ function f(l) = ()
 val g : list({'n, 0 <= 'n & 'n < 8. int('n)}) -> unit
 function g(l) = f(l)
 # true
-# 0 accepted 4 functions 1 obligations
+# 0 accepted 4 functions 1 obligations 2 instances
 % check M // a guard, in its case; an integer literal in a case's pattern
 val f : range(0, 9) -> bit
 function f(i) = match i { n if n < 8 => 0x12[n], _ => bitzero }
 # true
-# 0 accepted 3 functions 1 obligations
+# 0 accepted 3 functions 1 obligations 2 instances
 % check M
 val f : range(0, 9) -> bit
 function f(i) = match i { n if n < 8 => bitone, n => 0x12[n] }
@@ -167,7 +167,7 @@ function f(i) = match i { n if n < 8 => bitone, n => 0x12[n] }
 val f : range(0, 9) -> bit
 function f(i) = match (i, i) { (3, _) => 0x12[i], _ => bitzero }
 # true
-# 0 accepted 3 functions 1 obligations
+# 0 accepted 3 functions 1 obligations 2 instances
 % check M // but no literal in a function's clause
 val f : range(0, 9) -> range(0, 3)
 function f(3 as i) = i
@@ -175,10 +175,10 @@ function f(3 as i) = i
 # 1 M20 1:2:22 i = 4
 % check M // the bounds of a `foreach`, up and down
 # { foreach (i from 0 to 7) { let b = 0x12[i]; () }; true }
-# 0 accepted 2 functions 2 obligations
+# 0 accepted 2 functions 2 obligations 2 instances
 % check M
 # { foreach (i from 7 to 0 in dec) { let b = 0x12[i]; () }; true }
-# 0 accepted 2 functions 2 obligations
+# 0 accepted 2 functions 2 obligations 2 instances
 % check M
 # { foreach (i from 0 to 8) { let b = 0x12[i]; () }; true }
 # 1 M20 1:4:59 i = 8
@@ -189,7 +189,7 @@ register I : range(0, 9)
 % check M
 register I : range(0, 9)
 # { let i = I; if i < 8 then { let b = 0x12[i]; () }; true }
-# 0 accepted 2 functions 1 obligations
+# 0 accepted 2 functions 1 obligations 2 instances
 % check M // a register or `var` is read anew at each place
 register I : range(0, 9)
 # { if I < 8 then { let b = 0x12[I]; () }; true }
@@ -218,7 +218,7 @@ overload acc = { get, set }
 val f : range(-1, 3) -> unit
 function f(n) = acc(n)[7] = xs[0]
 # true
-# 0 accepted 5 functions 4 obligations
+# 0 accepted 5 functions 4 obligations 2 instances
 % check M // what reads a base is owed of its arguments by itself, though the types of what writes are wanted of them
 register v : vector(4, bits(8))
 val get : range(0, 3) -> bits(8)
@@ -235,7 +235,7 @@ register I : range(0, 9)
 val g : unit -> range(0, 7)
 function g() = 7
 # { let i = I; if g() == i & true then { let b = 0x12[i]; () }; true }
-# 0 accepted 3 functions 2 obligations
+# 0 accepted 3 functions 2 obligations 3 instances
 % check M
 register I : range(0, 9)
 val g : unit -> range(0, 7)
@@ -247,17 +247,17 @@ union u = { C : range(0, 7), D : unit }
 val f : u -> bit
 function f(x) = match x { C(i) => 0x12[i], D() => bitzero }
 # true
-# 0 accepted 3 functions 1 obligations
+# 0 accepted 3 functions 1 obligations 2 instances
 % check M
 struct s = { a : range(0, 7) }
 val f : s -> bit
 function f(x) = 0x12[x.a]
 # true
-# 0 accepted 3 functions 1 obligations
+# 0 accepted 3 functions 1 obligations 2 instances
 % check M
 register V : vector(2, range(0, 7))
 # { let b = 0x12[V[1]]; true }
-# 0 accepted 2 functions 2 obligations
+# 0 accepted 2 functions 2 obligations 2 instances
 % check M
 union exception = { E : range(0, 9) }
 val f : unit -> range(0, 3)
@@ -273,12 +273,12 @@ function f(x) = x[0]
 val f : forall 'n, 'n >= 1. bits('n) -> bit
 function f(x) = x[0]
 # true
-# 0 accepted 3 functions 1 obligations
+# 0 accepted 3 functions 1 obligations 2 instances
 % check M // a slice lies inside, and has as many bits
 val f : (bits(8), range(0, 4)) -> bits(4)
 function f(x, i) = x[i + 3 .. i]
 # true
-# 0 accepted 3 functions 3 obligations
+# 0 accepted 3 functions 3 obligations 2 instances
 % check M
 val f : (bits(8), range(0, 5)) -> bits(4)
 function f(x, i) = x[i + 3 .. i]
@@ -290,7 +290,7 @@ function g(n) = n < 8
 val f : range(0, 9) -> bit
 function f(i) = if g(i) then 0x12[i] else bitzero
 # true
-# 0 accepted 4 functions 2 obligations
+# 0 accepted 4 functions 2 obligations 2 instances
 % check M // of the facts those that share a variable with what is owed: a conjunction is one fact, and two asserts are two
 val f : (range(0, 9), range(0, 9)) -> range(0, 3)
 function f(a, b) = { assert(a <= 5 & b <= 5); a }
@@ -305,7 +305,7 @@ function f(a, b) = { assert(a <= 5); assert(b <= 5); a }
 val f : bits(200) -> range(0, 3)
 function f(x) = 4
 # true
-# 0 accepted 3 functions 1 obligations
+# 0 accepted 3 functions 1 obligations 2 instances
 % check M // a power of two shares no variable with its exponent
 val f : forall 'n, 0 <= 'n & 'n <= 3. (int('n), bits('n)) -> range(0, 7)
 function f(n, x) = unsigned(x)
@@ -330,7 +330,7 @@ function two(n) = [| (struct s { x = n }, struct s { x = n }) |]
 val g : bool -> bool
 function g(c) = { let l = if c then two(k()) else [| (struct s { x = 0 }, struct s { x = 1 }) |]; match l { (a, b) :: _ => b.x <= a.x, _ => false } }
 # true
-# 0 accepted 5 functions 8 obligations
+# 0 accepted 5 functions 8 obligations 2 instances
 "#;
 
 /// Variables as they are told, and numbers at their limits.
@@ -379,7 +379,7 @@ let n = 5
 val f : unit -> range(0, 5)
 function f() = n
 # true
-# 0 accepted 3 functions 1 obligations
+# 0 accepted 3 functions 1 obligations 2 instances
 % check M
 let n = if true then 5 else 4
 val f : unit -> range(0, 5)
@@ -391,7 +391,7 @@ let n : range(0, 5) = if true then 5 else 4
 val f : unit -> range(0, 5)
 function f() = n
 # true
-# 0 accepted 3 functions 3 obligations
+# 0 accepted 3 functions 3 obligations 2 instances
 % check M // and the width of that type is any width elsewhere, unless it is constant
 let z = zeros((if 1 == 1 then 4 else 8) : range(4, 8))
 val g : forall 'n, 'n == 100. int('n) -> bit
@@ -407,7 +407,7 @@ function f(n, x) = ()
 val f : forall 'n, 0 <= 'n & 'n <= 8. (int('n), bits(2 ^ 'n)) -> unit
 function f(n, x) = ()
 # true
-# 0 accepted 3 functions 1 obligations
+# 0 accepted 3 functions 1 obligations 2 instances
 % check M
 val f : forall 'n. int('n) -> unit
 function f(n) = { let x = sizeof('n + 1); () }
@@ -422,7 +422,7 @@ function f(x) = 0b1
 val f : (range(0, 255), range(0, 255)) -> range(0, 510)
 function f(a, b) = a + b
 # true
-# 0 accepted 3 functions 2 obligations
+# 0 accepted 3 functions 2 obligations 2 instances
 % check M
 val f : int -> int
 function f(n) = n - 1
@@ -432,7 +432,7 @@ function f(n) = n - 1
 val f : int -> int
 function f(n) = { assert(n >= 0); n - 1 }
 # true
-# 0 accepted 3 functions 2 obligations
+# 0 accepted 3 functions 2 obligations 2 instances
 % check M
 val f : (int, range(0, 3)) -> int
 function f(a, b) = a - b
@@ -447,7 +447,7 @@ function f(a, b) = a * b
 val f : range(0, 9) -> range(-9, 0)
 function f(n) = -n
 # true
-# 0 accepted 3 functions 1 obligations
+# 0 accepted 3 functions 1 obligations 2 instances
 % check M
 val f : (int, range(0, 9)) -> int
 function f(a, b) = ediv_int(a, b)
@@ -457,13 +457,13 @@ function f(a, b) = ediv_int(a, b)
 val f : (int, range(1, 9)) -> int
 function f(a, b) = ediv_int(a, b)
 # true
-# 0 accepted 3 functions 2 obligations
+# 0 accepted 3 functions 2 obligations 2 instances
 % check M
 # { let x : int = 85070591730234615865843651857942052864; true }
 # 1 M21 1:4:25 number
 % check M
 # { let x : int = 85070591730234615865843651857942052862; true }
-# 0 accepted 2 functions 1 obligations
+# 0 accepted 2 functions 1 obligations 2 instances
 % check M // more than 64 cases
 val f : forall 'n, 'n in {0, 1, 2, 3, 4, 5, 6, 7, 8, 9, 10, 11, 12, 13, 14, 15, 16, 17, 18, 19, 20, 21, 22, 23, 24, 25, 26, 27, 28, 29, 30, 31, 32}. int('n) -> range(0, 32)
 function f(n) = n

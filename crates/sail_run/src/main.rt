@@ -10,6 +10,8 @@ mod choices_rows;
 #[cfg(test)]
 mod facts_rows;
 #[cfg(test)]
+mod instances_rows;
+#[cfg(test)]
 mod long_texts;
 #[cfg(test)]
 mod members_rows;

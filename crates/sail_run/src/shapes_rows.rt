@@ -251,7 +251,7 @@ union exception = { E : int }
 # 1 M05 1:1:1
 %
 # { let x = if true then None() else Some(0x1); true }
-# 1 M05 1:1:1
+# 1 M25 1:4:29 #1
 %
 # { let x = if true then [| |] else [| 1 |]; let y : list(bool) = x; true }
 # 1 M14 1:4:83 wanted list(bool) found list(int)

@@ -14,7 +14,7 @@ function reset(h, e) = ()
 val step : unit -> bool
 function step() = true
 #
-# 0 accepted 2 functions 0 obligations
+# 0 accepted 2 functions 0 obligations 2 instances
 % check M
 register PC : bits(64)
 register R : list(bits(16))
@@ -47,7 +47,7 @@ function reset(h, e) = { PC = e }
 val step : unit -> bool
 function step() = true
 #
-# 0 accepted 2 functions 1 obligations
+# 0 accepted 2 functions 1 obligations 2 instances
 % check M
 register PC : bits(64)
 register R : vector(16, bits(16))
@@ -77,7 +77,7 @@ function step() = {
   true
 }
 #
-# 0 accepted 2 functions 3 obligations
+# 0 accepted 2 functions 3 obligations 2 instances
 % check M
 register PC : bits(64)
 register R : vector(16, bits(16))
@@ -160,7 +160,7 @@ function step() = {
   true
 }
 #
-# 0 accepted 2 functions 8 obligations
+# 0 accepted 2 functions 8 obligations 2 instances
 % check M
 val target : (int, bits(8)) -> int
 function target(pc, b) = pc + 2 * signed(b)
@@ -186,7 +186,7 @@ function reset(h, e) = { PC = e }
 val step : unit -> bool
 function step() = { PC = to_bits(64, target(unsigned(PC), 0xff)); true }
 #
-# 0 accepted 3 functions 9 obligations
+# 0 accepted 3 functions 9 obligations 3 instances
 % check M
 register R : vector(16, bits(16))
 
@@ -212,7 +212,7 @@ function step() = {
   true
 }
 #
-# 0 accepted 2 functions 7 obligations
+# 0 accepted 2 functions 7 obligations 2 instances
 % check M
 register PC : bits(64)
 register R : vector(16, bits(16))
@@ -272,7 +272,7 @@ function step() = match mem_read(2, PC) {
   }
 }
 #
-# 0 accepted 2 functions 47 obligations
+# 0 accepted 2 functions 47 obligations 2 instances
 % check M
 register PC : bits(64)
 register R : vector(16, bits(16))
@@ -338,7 +338,7 @@ function reset(h, e) = { PC = e }
 val step : unit -> bool
 function step() = execute(SET(0x1, 0x05))
 #
-# 0 accepted 3 functions 7 obligations
+# 0 accepted 3 functions 7 obligations 3 instances
 % check M
 union ast = {
   HALT : bits(12),
@@ -415,7 +415,7 @@ function reset(h, e) = { PC = e }
 val step : unit -> bool
 function step() = execute(encdec(mem_read(2, PC)))
 #
-# 0 accepted 4 functions 53 obligations
+# 0 accepted 4 functions 53 obligations 3 instances
 % certs M
 register R : vector(16, bits(16))
 

@@ -364,7 +364,7 @@ register PC : bits(0)
 % run --elf Q M
 register PC : bits(129)
 # { true }
-# 1 M05 1:1:1
+# 1 M26 1:1:20 129
 % run --elf Q M
 register PC : bits(8) = 0x00
 # { PC = PC + 0x01; true }

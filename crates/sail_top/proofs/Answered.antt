@@ -22,9 +22,11 @@ use Rattle.scattered.specs.declared.error.ScatterError.{ScatterError}
 use Rattle.model_tokens.specs.Files.{AreLexed}
 use Rattle.model_tokens.proofs.OneAnswer.{answered}
 use Rattle.sail_top.proofs.TableLemmas.{failure_of, has_failure}
-use Rattle.sail_top.specs.Models.{AreAccepted, joined, end_of_all, unlexed, unparsed, ungathered, untabled, unshaped, unclosed}
-use Rattle.sail_top.specs.Checked.{checked}
-use Rattle.sail_top.specs.Refusals.{token_refusal, parse_refusal, gather_refusal, table_refusal, check_refusal}
+use Rattle.sail_top.specs.Models.{AreAccepted, joined, end_of_all, unlexed, unparsed, ungathered, untabled, unshaped, unclosed, unsized}
+use Rattle.monomorph.specs.declared.error.MonoError.{MonoError}
+use Rattle.monomorph.specs.declared.found.Instance.{Instance}
+use Rattle.sail_top.specs.Checked.{checked, instances_of}
+use Rattle.sail_top.specs.Refusals.{token_refusal, parse_refusal, gather_refusal, table_refusal, check_refusal, size_refusal}
 use Rattle.sail_top.specs.Shaped.{why_unshaped, shape_refusal_in}
 use Rattle.sail_top.specs.laws.OneAnswer.{AreDecided}
 use Rattle.sail_top.specs.Answer.{Judges, RunsFiles, AnswersEnd, AnswersLine, IsAnswer}
@@ -35,14 +37,14 @@ use Rattle.sail_top.specs.declared.models.Accepted.{Accepted}
 use Rattle.sail_top.specs.declared.status.Answer.{Answer}
 
 module _ (decided : AreDecided) (answer_of : Accepted → Answer) where
-  check_judged : (texts : List (List ℕ)) (tokens : List (List Token)) (definitions : List Def) (found : Result Certification CheckError)
-      → AreLexed 1 0 texts tokens → IsModel (joined texts tokens) definitions → why_ungathered definitions ≡ None
-      → IsAccepted (gathered definitions) (end_of_all texts) → why_unshaped (gathered definitions) ≡ None
-      → checked (gathered definitions) ≡ found → (a : Answer) × Judges answer_of texts a
-  check_judged texts tokens definitions (Err e) lexed parsed none tabled shaped is =
-      (model_refused (check_refusal e), inl (check_refusal e, unclosed tokens definitions e lexed parsed none tabled shaped is, refl))
-  check_judged texts tokens definitions (Ok certified) lexed parsed none tabled shaped is =
-      let made : Accepted = record { certified = certified; model = model_of (gathered definitions) } in
+  instances_judged : (texts : List (List ℕ)) (tokens : List (List Token)) (definitions : List Def) (certified : Certification)
+      (found : Result (List Instance) MonoError) → AreLexed 1 0 texts tokens → IsModel (joined texts tokens) definitions
+      → why_ungathered definitions ≡ None → IsAccepted (gathered definitions) (end_of_all texts) → why_unshaped (gathered definitions) ≡ None
+      → checked (gathered definitions) ≡ Ok certified → instances_of (gathered definitions) ≡ found → (a : Answer) × Judges answer_of texts a
+  instances_judged texts tokens definitions certified (Err e) lexed parsed none tabled shaped closed is =
+      (model_refused (size_refusal e), inl (size_refusal e, unsized tokens definitions certified e lexed parsed none tabled shaped closed is, refl))
+  instances_judged texts tokens definitions certified (Ok list) lexed parsed none tabled shaped closed is =
+      let made : Accepted = record { certified = certified; instances = list; model = model_of (gathered definitions) } in
       let are : AreAccepted texts made = record {
         tokens = tokens;
         lexed = lexed;
@@ -51,10 +53,20 @@ module _ (decided : AreDecided) (answer_of : Accepted → Answer) where
         gathers = none;
         tables = tabled;
         shapes = shaped;
-        closed = is;
+        closed = closed;
+        listed = is;
         runs = refl;
       } in
       (answer_of made, inr (made, are, refl))
+
+  check_judged : (texts : List (List ℕ)) (tokens : List (List Token)) (definitions : List Def) (found : Result Certification CheckError)
+      → AreLexed 1 0 texts tokens → IsModel (joined texts tokens) definitions → why_ungathered definitions ≡ None
+      → IsAccepted (gathered definitions) (end_of_all texts) → why_unshaped (gathered definitions) ≡ None
+      → checked (gathered definitions) ≡ found → (a : Answer) × Judges answer_of texts a
+  check_judged texts tokens definitions (Err e) lexed parsed none tabled shaped is =
+      (model_refused (check_refusal e), inl (check_refusal e, unclosed tokens definitions e lexed parsed none tabled shaped is, refl))
+  check_judged texts tokens definitions (Ok certified) lexed parsed none tabled shaped is =
+      instances_judged texts tokens definitions certified (instances_of (gathered definitions)) lexed parsed none tabled shaped is refl
 
   shape_judged : (texts : List (List ℕ)) (tokens : List (List Token)) (definitions : List Def)
       (why : Option ShapeError) → AreLexed 1 0 texts tokens → IsModel (joined texts tokens) definitions → why_ungathered definitions ≡ None

@@ -1,6 +1,6 @@
 -- What is checked of a text doesn't depend on how its cycles of calls are numbered.
 use Rattle.std.proofs.Common.{◌≡◌, ℕ, zero, suc, ◌<◌, List, [], ◌∷◌, ◌++◌, length, map, take, drop, get_or, slice_set, refl, sym, ap, ◌∙◌, inl, inr, arith}
-use Rattle.std.specs.Prelude.{Option, Some, None, Ok, Err}
+use Rattle.std.specs.Prelude.{Option, Some, None, Result, Ok, Err}
 use Rattle.sail_syntax.specs.declared.definitions.Def.{Def}
 use Rattle.sail_syntax.specs.declared.definitions.Def.TheVariants as D
 use Rattle.sail_syntax.specs.declared.definitions.FunctionClause.{FunctionClause}
@@ -19,10 +19,17 @@ use Rattle.shapes.specs.Tabled.{tabled_of}
 use Rattle.bidir_check.specs.declared.error.CheckError.{CheckError}
 use Rattle.bidir_check.specs.declared.error.CheckError.TheVariants as check
 use Rattle.bidir_check.specs.Certification.{Certification}
-use Rattle.bidir_check.specs.Checking.{IsMet}
-use Rattle.sail_top.specs.Checked.{no_cycle, core_of, checked_core, checked}
+use Rattle.bidir_check.specs.Checking.{IsMet, certified_by, checked as certificates_of}
+use Rattle.constraint_gen.specs.Obligations.{obligations}
+use Rattle.farkas.specs.declared.certificate.Cert.{Cert}
+use Rattle.monomorph.specs.declared.error.MonoError.{MonoError}
+use Rattle.monomorph.specs.declared.error.MonoError.TheVariants as mono
+use Rattle.monomorph.specs.declared.found.Instance.{Instance}
+use Rattle.monomorph.specs.Instances.{instances, IsMet as IsListed}
+use Rattle.obligations.specs.declared.obligation.Obligation.{Obligation}
+use Rattle.sail_top.specs.Checked.{no_cycle, core_of, checked_core, checked, instances_of}
 use Rattle.sail_top.specs.parts.Cycles.{without_cycle, without_cycles}
-use Rattle.sail_top.specs.parts.Told.{IsOfChecks, IsCoreOf}
+use Rattle.sail_top.specs.parts.Told.{IsOfChecks, IsOfSizes, IsCoreOf}
 
 -- the functions up to one more are changed
 pub set-mapped : (f : Function → Function) (functions : List Function) (i : ℕ) (function new : Function) → i < length functions
@@ -73,3 +80,28 @@ module _ (text : List Def) (core : CoreModel) (is : IsCoreOf text core) where
   unclosed_is check.OutOfMemory (inr wanting) told = absurd told
   unclosed_is (check.Open place names point) (inr wanting) told = cc wanting
   unclosed_is (check.Limit place names limit) (inr wanting) told = cc wanting
+
+-- ---- the instances of a core with certificates are those of the text
+
+certified_core : (core : CoreModel) (os : List Obligation) (r : Result (List Cert) CheckError) (made : Certification)
+    → certified_by core os r ≡ Ok made → made.core ≡ core
+certified_core core os (Ok certs) made is =
+    let same : record { core = core; obligations = os; certificates = certs } ≡ made = cc is in
+    sym (ap (λ (c : Certification). c.core) same)
+certified_core core os (Err error) made is = cc is
+
+module _ (text : List Def) (made : Certification) (is : checked text ≡ Ok made) where
+  instances_are : instances made.core ≡ instances_of text
+  instances_are =
+      ap instances (certified_core (core_of text) (obligations (core_of text)) (certificates_of (obligations (core_of text))) made is)
+
+  pub listed_is : (list : List Instance) → IsListed (Ok list) (instances made.core) → instances_of text ≡ Ok list
+  listed_is list (inl met) = sym (met ∙ instances_are)
+  listed_is list (inr wanting) = cc wanting
+
+  pub unlisted_is : (e : MonoError) → IsListed (Err e) (instances made.core) → IsOfSizes e → instances_of text ≡ Err e
+  unlisted_is e (inl met) told = sym (met ∙ instances_are)
+  unlisted_is mono.OutOfMemory (inr wanting) told = absurd told
+  unlisted_is (mono.SizeOpen place name) (inr wanting) told = cc wanting
+  unlisted_is (mono.WidthLimit place size) (inr wanting) told = cc wanting
+  unlisted_is (mono.InstanceLimit place count) (inr wanting) told = cc wanting

@@ -1,5 +1,5 @@
 -- What lexing, parsing, gathering, the tables, the shapes and the obligations say of texts.
-use Rattle.std.proofs.Common.{◌≡◌, ℕ, ◌+◌, ◌≤◌, List, [], ◌∷◌, ◌++◌, length, map, sym, ap, ◌∙◌, subst, arith}
+use Rattle.std.proofs.Common.{◌≡◌, ℕ, ◌+◌, ◌≤◌, List, [], ◌∷◌, ◌++◌, length, map, sym, ap, ◌∙◌, subst, inl, inr, arith}
 use Rattle.std.specs.Prelude.{Option, Some, None, Result, Ok, Err, IfOk, IfErr}
 use Rattle.std.specs.List.{All}
 use Rattle.std.proofs.lemmas.List.Elements.{All-cons, All-nil}
@@ -8,6 +8,9 @@ use Rattle.sail_base.specs.declared.refusal.Refusal.{Refusal}
 use Rattle.bidir_check.specs.Certification.{Certification}
 use Rattle.bidir_check.specs.Checking.{IsMet}
 use Rattle.bidir_check.specs.declared.error.CheckError.{CheckError}
+use Rattle.monomorph.specs.declared.error.MonoError.{MonoError}
+use Rattle.monomorph.specs.declared.found.Instance.{Instance}
+use Rattle.monomorph.specs.Instances.{instances, IsMet as IsListed}
 use Rattle.sail_core.specs.declared.model.CoreModel.{CoreModel}
 use Rattle.sail_fragment.specs.Fragment.{model_of}
 use Rattle.sail_grammar.specs.Joined.{with_texts, HasText, HaveTexts, end_from, joined as joined_files}
@@ -37,21 +40,21 @@ use Rattle.sail_tables.specs.Refused.{IsFirstFailure, IsAccepted, IsRefusal as I
 use Rattle.shape_rules.specs.declared.error.ShapeError.{ShapeError}
 use Rattle.shape_rules.specs.declared.error.ShapeError.TheVariants as shape
 use Rattle.shapes.specs.Tabled.{IsRefused as IsRefusalOfShapes}
-use Rattle.sail_top.specs.Checked.{checked_core, checked}
-use Rattle.sail_top.specs.Models.{joined, last_end, end_of_all, AreAccepted, IsRefusal, unlexed, unparsed, ungathered, untabled, unshaped, unclosed}
-use Rattle.sail_top.specs.Refusals.{token_refusal, parse_refusal, gather_refusal, table_refusal, check_refusal}
+use Rattle.sail_top.specs.Checked.{checked_core, checked, instances_of}
+use Rattle.sail_top.specs.Models.{joined, last_end, end_of_all, AreAccepted, IsRefusal, unlexed, unparsed, ungathered, untabled, unshaped, unclosed, unsized}
+use Rattle.sail_top.specs.Refusals.{token_refusal, parse_refusal, gather_refusal, table_refusal, check_refusal, size_refusal}
 use Rattle.sail_top.specs.Shaped.{why_unshaped, shape_refusal_in}
 use Rattle.sail_top.specs.parts.Cycles.{without_cycles}
-use Rattle.sail_top.specs.parts.Told.{IsOfText, IsOfTokens, IsOfDefinitions, IsOfTables, IsOfShapes, IsOfChecks, Tells}
+use Rattle.sail_top.specs.parts.Told.{IsOfText, IsOfTokens, IsOfDefinitions, IsOfTables, IsOfShapes, IsOfChecks, IsOfSizes, Tells}
 use Rattle.sail_top.specs.parts.Told.{ParsesAs, GathersAs, TabledAs, ShapedAs, ClosedAs, IsCoreOf}
-use Rattle.sail_top.specs.parts.Told.{TabledRefused, tabled_unshaped, tabled_unclosed, WholeRefused, whole_untabled, whole_tabled}
+use Rattle.sail_top.specs.parts.Told.{TabledRefused, tabled_unshaped, tabled_unclosed, tabled_unsized, WholeRefused, whole_untabled, whole_tabled}
 use Rattle.sail_top.specs.parts.Told.{DefinitionsRefused, definitions_ungathered, definitions_gathered}
 use Rattle.sail_top.specs.parts.Told.{TokensRefused, tokens_unparsed, tokens_parsed, TellsOfTokens, TellsOfDefinitions, TellsOfWhole, TellsOfTabled}
-use Rattle.sail_top.specs.parts.Told.{TellsOfShaped}
+use Rattle.sail_top.specs.parts.Told.{TellsOfShaped, TellsOfClosed}
 use Rattle.sail_top.specs.declared.models.Accepted.{Accepted}
 use Rattle.sail_top.specs.declared.models.ModelError.{ModelError}
 use Rattle.sail_top.specs.declared.models.ModelError.TheVariants as model
-use Rattle.sail_top.proofs.CheckLemmas.{closed_is, unclosed_is}
+use Rattle.sail_top.proofs.CheckLemmas.{closed_is, unclosed_is, listed_is, unlisted_is}
 use Rattle.sail_top.proofs.OneRefusal.{one_refused}
 use Rattle.sail_top.proofs.TableLemmas.{failure_of, failure_is}
 
@@ -120,15 +123,32 @@ pub unshaped_is : (text : List Def) (e : ShapeError) (refusal : Refusal)
     → IsRefusalOfShapes text e → IsOfShapes e → refusal ≡ shape_refusal_in text e → TabledRefused text refusal
 unshaped_is text e refusal is told same = subst (TabledRefused text) (sym same) (tabled_unshaped e (refused_shapes text e is told))
 
--- an accepted text has these certificates, and an error of the check is its refusal
-pub accepted_is : (text : List Def) (core : CoreModel) (made : Accepted) → IsMet (Ok made.certified) (checked_core (without_cycles core))
-    → made.model ≡ model_of text → IsCoreOf text core → ClosedAs text made
-accepted_is text core made met model is = (closed_is text core is made.certified met, model)
+-- an accepted text has these certificates and instances, and an error of the check, or of the list, is its refusal
+pub accepted_is : (text : List Def) (made : Accepted) → IsListed (Ok made.instances) (instances made.certified.core) → made.model ≡ model_of text
+    → checked text ≡ Ok made.certified → ClosedAs text made
+accepted_is text made met model closed = (closed, (listed_is text made.certified closed made.instances met, model))
+
+pub unsized_tells : (text : List Def) (made : Certification) (e : MonoError) (refusal : Refusal)
+    → IsListed (Err e) (instances made.core) → IsOfSizes e → refusal ≡ size_refusal e → checked text ≡ Ok made
+    → TellsOfClosed text (model.Refused refusal)
+unsized_tells text made e refusal met told same closed = (e, unlisted_is text made closed e met told, same)
+
+module _ (text : List Def) (core : CoreModel) (is : IsCoreOf text core) (made : Certification)
+    (met : IsMet (Ok made) (checked_core (without_cycles core))) where
+  pub closed_accepted : (r : Result Accepted ModelError) → (checked text ≡ Ok made → IfOk r (ClosedAs text)) → IfOk r (ClosedAs text)
+  closed_accepted r h = h (closed_is text core is made met)
+
+  pub closed_refused : (r : Result Accepted ModelError) → (checked text ≡ Ok made → IfErr r (TellsOfClosed text)) → IfErr r (TellsOfShaped text)
+  closed_refused (Ok a) h = h (closed_is text core is made met)
+  closed_refused (Err (model.Refused refusal)) h =
+      let closed = closed_is text core is made met in
+      inr (made, closed, h closed)
+  closed_refused (Err model.OutOfMemory) h = tt
 
 pub unclosed_tells : (text : List Def) (core : CoreModel) (e : CheckError) (refusal : Refusal)
     → IsMet {A = Certification} (Err e) (checked_core (without_cycles core)) → IsOfChecks e → refusal ≡ check_refusal e
     → IsCoreOf text core → TellsOfShaped text (model.Refused refusal)
-unclosed_tells text core e refusal met told same is = (e, unclosed_is text core is e met told, same)
+unclosed_tells text core e refusal met told same is = inl (e, unclosed_is text core is e met told, same)
 
 -- ---- the tokens of files
 
@@ -188,7 +208,8 @@ module _ (texts : List (List ℕ)) (found files : List Tokens) (same : files ≡
     tables = subst (λ p. IsAccepted (gathered is.0) p) end is.2.1.0;
     shapes = is.2.1.1.0;
     closed = is.2.1.1.1.0;
-    runs = is.2.1.1.1.1;
+    listed = is.2.1.1.1.1.0;
+    runs = is.2.1.1.1.1.1;
   }
   texts_accepted (Err e) is = is
 
@@ -199,6 +220,8 @@ module _ (texts : List (List ℕ)) (found files : List Tokens) (same : files ≡
       unshaped (map tokens_of found) definitions e lexed h none tabled why
   refusal_of_tabled definitions refusal h none tabled (tabled_unclosed e shaped why) =
       unclosed (map tokens_of found) definitions e lexed h none tabled shaped why
+  refusal_of_tabled definitions refusal h none tabled (tabled_unsized made e shaped closed why) =
+      unsized (map tokens_of found) definitions made e lexed h none tabled shaped closed why
 
   refusal_of_whole : {refusal : Refusal} (definitions : List Def) → IsModel (joined texts (map tokens_of found)) definitions
       → why_ungathered definitions ≡ None → WholeRefused (gathered definitions) (end_of_all texts) refusal → IsRefusal texts refusal
@@ -269,24 +292,34 @@ module _ (text read : List Def) (same : read ≡ text) (shaped : why_unshaped te
   shaped_accepted (Ok made) closed = (shaped, subst (λ t. ClosedAs t made) same (closed of_read))
   shaped_accepted (Err e) closed = closed of_read
 
+  shaped_by : (refusal : Refusal) → TellsOfShaped read (model.Refused refusal) → TabledRefused text refusal
+  shaped_by refusal (inl why) =
+      subst (TabledRefused text) (sym why.2) (tabled_unclosed why.0 shaped (subst (λ t. checked t ≡ Err why.0) same why.1))
+  shaped_by refusal (inr why) =
+      subst (TabledRefused text) (sym why.2.2) (tabled_unsized why.0 why.2.0 shaped (subst (λ t. checked t ≡ Ok why.0) same why.1)
+      (subst (λ t. instances_of t ≡ Err why.2.0) same why.2.1))
+
   pub shaped_refused : (r : Result Accepted ModelError) → (IsCoreOf read core → IfErr r (TellsOfShaped read)) → IfErr r (TellsOfTabled text)
   shaped_refused (Ok made) tells = tells of_read
-  shaped_refused (Err (model.Refused refusal)) tells =
-      let why = tells of_read in
-      subst (TabledRefused text) (sym why.2) (tabled_unclosed why.0 shaped (subst (λ t. checked t ≡ Err why.0) same why.1))
+  shaped_refused (Err (model.Refused refusal)) tells = shaped_by refusal (tells of_read)
   shaped_refused (Err model.OutOfMemory) tells = tt
 
 -- ---- the phases behind the grammar, as one function
 
--- by the check
-abbrev closing_refusal : Result Certification CheckError → Option Refusal
-closing_refusal (Ok made) = None
-closing_refusal (Err e) = Some (check_refusal e)
+-- by the list of instances
+abbrev instances_refusal : Result (List Instance) MonoError → Option Refusal
+instances_refusal (Ok list) = None
+instances_refusal (Err e) = Some (size_refusal e)
+
+-- by the check, then by the list
+abbrev closing_refusal : Result Certification CheckError → Result (List Instance) MonoError → Option Refusal
+closing_refusal (Ok made) listed = instances_refusal listed
+closing_refusal (Err e) listed = Some (check_refusal e)
 
 -- of this text
-abbrev tabled_refusal : List Def → Option ShapeError → Result Certification CheckError → Option Refusal
-tabled_refusal text (Some e) found = Some (shape_refusal_in text e)
-tabled_refusal text None found = closing_refusal found
+abbrev tabled_refusal : List Def → Option ShapeError → Result Certification CheckError → Result (List Instance) MonoError → Option Refusal
+tabled_refusal text (Some e) found listed = Some (shape_refusal_in text e)
+tabled_refusal text None found listed = closing_refusal found listed
 
 abbrev whole_refusal : Option TableError → Option Refusal → Option Refusal
 whole_refusal (Some e) next = Some (table_refusal e)
@@ -297,7 +330,7 @@ refusal_unless (Some e) next = Some (gather_refusal e)
 refusal_unless None next = next
 
 abbrev text_refusal : List Def → Option Refusal
-text_refusal text = tabled_refusal text (why_unshaped text) (checked text)
+text_refusal text = tabled_refusal text (why_unshaped text) (checked text) (instances_of text)
 
 -- how definitions that end here are refused by the first of these phases that refuses them
 abbrev definitions_refusal : Place → List Def → Option Refusal
@@ -324,16 +357,21 @@ phase texts (untabled tokens definitions e lexed parsed none first) =
 phase texts (unshaped tokens definitions e lexed parsed none tabled why) =
     let failure = failure_is (gathered definitions) (end_of_all texts) None tabled in
     by_definitions tokens definitions lexed parsed
-    (λ i. refusal_unless (none i) (whole_refusal (failure i) (tabled_refusal (gathered definitions) (why i) (checked (gathered definitions)))))
+    (λ i. refusal_unless (none i) (whole_refusal (failure i) (tabled_refusal (gathered definitions) (why i) (checked (gathered definitions))
+    (instances_of (gathered definitions)))))
 phase texts (unclosed tokens definitions e lexed parsed none tabled shaped why) =
     let failure = failure_is (gathered definitions) (end_of_all texts) None tabled in
     by_definitions tokens definitions lexed parsed
-    (λ i. refusal_unless (none i) (whole_refusal (failure i) (tabled_refusal (gathered definitions) (shaped i) (why i))))
+    (λ i. refusal_unless (none i) (whole_refusal (failure i) (tabled_refusal (gathered definitions) (shaped i) (why i) (instances_of (gathered definitions)))))
+phase texts (unsized tokens definitions made e lexed parsed none tabled shaped closed why) =
+    let failure = failure_is (gathered definitions) (end_of_all texts) None tabled in
+    by_definitions tokens definitions lexed parsed
+    (λ i. refusal_unless (none i) (whole_refusal (failure i) (tabled_refusal (gathered definitions) (shaped i) (closed i) (why i))))
 
 accepted_unrefused : (texts : List (List ℕ)) (m : Accepted) (p : AreAccepted texts m) → definitions_refusal (end_of_all texts) p.definitions ≡ None
 accepted_unrefused texts m p =
     let failure = failure_is (gathered p.definitions) (end_of_all texts) None p.tables in
-    λ i. refusal_unless (p.gathers i) (whole_refusal (failure i) (tabled_refusal (gathered p.definitions) (p.shapes i) (p.closed i)))
+    λ i. refusal_unless (p.gathers i) (whole_refusal (failure i) (tabled_refusal (gathered p.definitions) (p.shapes i) (p.closed i) (p.listed i)))
 
 -- ---- texts are one model, or refused in one way
 
@@ -352,9 +390,9 @@ parsed_apart texts tokens others a end e p q m r =
 accepted_apart : (end : Place) (a b : List Def) (refusal : Refusal) → a ≡ b → definitions_refusal end a ≡ None → definitions_refusal end b ≡ Some refusal → ⊥
 accepted_apart end a b refusal same none some = let both : None ≡ Some refusal = sym none ∙ (ap (definitions_refusal end) same ∙ some) in cc
 
--- accepted texts of the same certificates and the same model
-one_accepted : (a b : Accepted) → a.certified ≡ b.certified → a.model ≡ b.model → a ≡ b
-one_accepted a b certified model = λ i. record { certified = certified i; model = model i }
+-- accepted texts of the same certificates, the same instances and the same model
+one_accepted : (a b : Accepted) → a.certified ≡ b.certified → a.instances ≡ b.instances → a.model ≡ b.model → a ≡ b
+one_accepted a b certified listed model = λ i. record { certified = certified i; instances = listed i; model = model i }
 
 pub one_accepted_of : (texts : List (List ℕ)) (a b : Accepted) → AreAccepted texts a → AreAccepted texts b → a ≡ b
 one_accepted_of texts a b p q =
@@ -362,15 +400,17 @@ one_accepted_of texts a b p q =
     same_definitions texts p.tokens q.tokens p.definitions q.definitions p.lexed q.lexed p.parsed q.parsed in
     let both : Ok a.certified ≡ Ok b.certified = sym p.closed ∙ (ap (λ d. checked (gathered d)) definitions ∙ q.closed) in
     let certified : a.certified ≡ b.certified = cc in
-    one_accepted a b certified (p.runs ∙ (ap (λ d. model_of (gathered d)) definitions ∙ sym q.runs))
+    let lists : Ok a.instances ≡ Ok b.instances = sym p.listed ∙ (ap (λ d. instances_of (gathered d)) definitions ∙ q.listed) in
+    let listed : a.instances ≡ b.instances = cc lists in
+    one_accepted a b certified listed (p.runs ∙ (ap (λ d. model_of (gathered d)) definitions ∙ sym q.runs))
 
 apart : (texts : List (List ℕ)) (m : Accepted) (refusal : Refusal) → AreAccepted texts m → Refused texts refusal → ⊥
 apart texts m refusal p (by_tokens e h) = never_both texts 1 0 p.tokens e p.lexed h
 apart texts m refusal p (by_grammar tokens e lexed h) =
     parsed_apart texts p.tokens tokens p.definitions (end_of_all texts) e p.lexed lexed p.parsed h
 apart texts m refusal p (by_definitions tokens definitions lexed parsed some) =
-    accepted_apart (end_of_all texts) p.definitions definitions refusal (same_definitions texts p.tokens tokens p.definitions definitions p.lexed lexed p.parsed parsed)
-    (accepted_unrefused texts m p) some
+    accepted_apart (end_of_all texts) p.definitions definitions refusal (same_definitions texts p.tokens tokens p.definitions definitions p.lexed lexed
+    p.parsed parsed) (accepted_unrefused texts m p) some
 
 pub accepted_not_refused : (texts : List (List ℕ)) (m : Accepted) (refusal : Refusal) → AreAccepted texts m → IsRefusal texts refusal → ⊥
 accepted_not_refused texts m refusal p h = apart texts m refusal p (phase texts h)

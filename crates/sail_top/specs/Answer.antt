@@ -1,6 +1,7 @@
 -- What the program answers to its words, over the files that are held.
-use Rattle.std.specs.Prelude.{◌≡◌, ℕ, List, [], ◌∷◌, ◌++◌, ◌⊎◌, Option, Some, None}
-use Rattle.bidir_check.specs.Printed.{accepted_text, certificates_text}
+use Rattle.std.specs.Prelude.{◌≡◌, ℕ, List, [], ◌∷◌, ◌++◌, ◌⊎◌, codes, length, Option, Some, None}
+use Rattle.bidir_check.specs.Printed.{certificates_text, counts_text}
+use Rattle.model_state.specs.Report.{number_text}
 use Rattle.sail_base.specs.declared.refusal.Refusal.{Refusal}
 use Rattle.sail_base.specs.declared.elf_refusal.ElfRefusal.{ElfRefusal}
 use Rattle.sail_outside.specs.Files.{Files}
@@ -62,9 +63,13 @@ run_answer command file made = answer_if command made.model file
 abbrev pub told : List ℕ → Answer
 told bytes = record { status = status.Done; bytes = bytes }
 
+-- how many functions and mappings a model has, how many obligations, and how many instances
+abbrev pub accepted_text : Accepted → List ℕ
+accepted_text made = counts_text made.certified ++ codes " " ++ number_text (length made.instances) ++ codes " instances\n"
+
 -- the answer of `check` for an accepted model: its counts
 abbrev pub check_answer : Accepted → Answer
-check_answer made = told (accepted_text made.certified)
+check_answer made = told (accepted_text made)
 
 -- the answer of `certs` for an accepted model: its obligations with their certificates
 abbrev pub certs_answer : Accepted → Answer

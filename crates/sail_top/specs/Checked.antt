@@ -1,4 +1,4 @@
--- What is checked of gathered definitions whose shapes are right: their obligations.
+-- What is checked of gathered definitions whose shapes are right: their obligations, and then their sizes.
 use Rattle.std.specs.Prelude.{ℕ, List, Option, None, Result}
 use Rattle.sail_syntax.specs.declared.definitions.Def.{Def}
 use Rattle.sail_core.specs.declared.model.CoreModel.{CoreModel}
@@ -8,6 +8,9 @@ use Rattle.constraint_gen.specs.Obligations.{obligations}
 use Rattle.bidir_check.specs.declared.error.CheckError.{CheckError}
 use Rattle.bidir_check.specs.Certification.{Certification}
 use Rattle.bidir_check.specs.Checking.{certified}
+use Rattle.monomorph.specs.declared.error.MonoError.{MonoError}
+use Rattle.monomorph.specs.declared.found.Instance.{Instance}
+use Rattle.monomorph.specs.Instances.{instances}
 
 -- no function is told to be in a cycle of calls: a text doesn't say how its cycles are numbered, and no obligation depends on them
 abbrev pub no_cycle : List ℕ → Option ℕ
@@ -24,3 +27,7 @@ checked_core core = certified core (obligations core)
 -- that of a text
 abbrev pub checked : List Def → Result Certification CheckError
 checked text = checked_core (core_of text)
+
+-- the instances of a text, or the first size that is refused
+abbrev pub instances_of : List Def → Result (List Instance) MonoError
+instances_of text = instances (core_of text)

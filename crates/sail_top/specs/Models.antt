@@ -1,6 +1,8 @@
 -- What the models' texts are: an accepted model, or a refusal by the first phase that refuses them.
 use Rattle.std.specs.Prelude.{◌≡◌, ℕ, ◌+◌, List, [], ◌∷◌, ◌++◌, Some, None, Ok, Err}
 use Rattle.bidir_check.specs.declared.error.CheckError.{CheckError}
+use Rattle.bidir_check.specs.Certification.{Certification}
+use Rattle.monomorph.specs.declared.error.MonoError.{MonoError}
 use Rattle.sail_base.specs.declared.place.Place.{Place}
 use Rattle.sail_base.specs.declared.refusal.Refusal.{Refusal}
 use Rattle.sail_fragment.specs.Fragment.{model_of}
@@ -20,8 +22,8 @@ use Rattle.scattered.specs.declared.error.ScatterError.{ScatterError}
 use Rattle.model_tokens.specs.Files.{AreLexed, AreRefused}
 use Rattle.sail_tables.specs.Refused.{IsFirstFailure, IsAccepted}
 use Rattle.shape_rules.specs.declared.error.ShapeError.{ShapeError}
-use Rattle.sail_top.specs.Checked.{checked}
-use Rattle.sail_top.specs.Refusals.{token_refusal, parse_refusal, gather_refusal, table_refusal, check_refusal}
+use Rattle.sail_top.specs.Checked.{checked, instances_of}
+use Rattle.sail_top.specs.Refusals.{token_refusal, parse_refusal, gather_refusal, table_refusal, check_refusal, size_refusal}
 use Rattle.sail_top.specs.Shaped.{why_unshaped, shape_refusal_in}
 use Rattle.sail_top.specs.declared.models.Accepted.{Accepted}
 
@@ -40,7 +42,7 @@ abbrev pub end_of_all : List (List ℕ) → Place
 end_of_all texts = last_end nowhere 1 texts
 
 -- the texts have tokens, these are the definitions of a model, they can be gathered, gathered they have tables and shapes, each of their
--- obligations is closed, with these certificates, and they are this model that runs today, if any
+-- obligations is closed, with these certificates, no size is refused, for these instances, and they are this model that runs today, if any
 pub record AreAccepted (texts : List (List ℕ)) (made : Accepted) : Type 0 where
   pub tokens : List (List Token)
   pub lexed : AreLexed 1 0 texts tokens
@@ -50,11 +52,13 @@ pub record AreAccepted (texts : List (List ℕ)) (made : Accepted) : Type 0 wher
   pub tables : IsAccepted (gathered definitions) (end_of_all texts)
   pub shapes : why_unshaped (gathered definitions) ≡ None
   pub closed : checked (gathered definitions) ≡ Ok made.certified
+  pub listed : instances_of (gathered definitions) ≡ Ok made.instances
   pub runs : made.model ≡ model_of (gathered definitions)
 
 -- the texts are refused: a text has no tokens; or all have, and these are no model; or they are one, and its definitions
 -- can't be gathered; or they can, and gathered they have no tables, for this first failure; or they have, and their shapes fail, and
--- this is the first failure; or none does, and this is their first obligation that isn't closed
+-- this is the first failure; or none does, and this is their first obligation that isn't closed; or all are, and this is the first size
+-- that is refused
 pub data IsRefusal (texts : List (List ℕ)) : Refusal → Type 0 where
   unlexed : (e : LexError) → AreRefused 1 0 texts e → IsRefusal texts (token_refusal e)
   unparsed : (tokens : List (List Token)) (e : ParseError) → AreLexed 1 0 texts tokens →
@@ -72,3 +76,7 @@ pub data IsRefusal (texts : List (List ℕ)) : Refusal → Type 0 where
       IsModel (joined texts tokens) definitions → why_ungathered definitions ≡ None →
       IsAccepted (gathered definitions) (end_of_all texts) → why_unshaped (gathered definitions) ≡ None →
       checked (gathered definitions) ≡ Err e → IsRefusal texts (check_refusal e)
+  unsized : (tokens : List (List Token)) (definitions : List Def) (made : Certification) (e : MonoError) → AreLexed 1 0 texts tokens →
+      IsModel (joined texts tokens) definitions → why_ungathered definitions ≡ None →
+      IsAccepted (gathered definitions) (end_of_all texts) → why_unshaped (gathered definitions) ≡ None →
+      checked (gathered definitions) ≡ Ok made → instances_of (gathered definitions) ≡ Err e → IsRefusal texts (size_refusal e)

@@ -1,9 +1,11 @@
 -- The refusals of a model, by the phase that refuses it.
-use Rattle.std.specs.Prelude.{ℕ, List, [], ◌∷◌, ◌++◌, codes, Option, Some, None}
-use Rattle.std.specs.Fmt.{decimal}
+use Rattle.std.specs.Prelude.{ℕ, pos, List, [], ◌∷◌, ◌++◌, codes, Option, Some, None}
+use Rattle.std.specs.Fmt.{decimal, signed_decimal}
 use Rattle.hex.specs.Hex.{encode_lower}
 use Rattle.bidir_check.specs.declared.error.CheckError.{CheckError}
 use Rattle.bidir_check.specs.declared.error.CheckError.TheVariants as check
+use Rattle.monomorph.specs.declared.error.MonoError.{MonoError}
+use Rattle.monomorph.specs.declared.error.MonoError.TheVariants as mono
 use Rattle.obligations.specs.Texts.{point_text, limit_text}
 use Rattle.sail_base.specs.declared.kind.Kind.{Kind}
 use Rattle.sail_base.specs.declared.kind.Kind.TheVariants as kind
@@ -105,3 +107,11 @@ abbrev pub check_refusal : CheckError → Refusal
 check_refusal (check.Open place names point) = refusal 20 place (point_text names point)
 check_refusal (check.Limit place names limit) = refusal 21 place (limit_text names limit)
 check_refusal check.OutOfMemory = outside
+
+-- the refusal of a model of which a size isn't constant, by its first free variable, or passes its limit, by the size, or which has too many
+-- instances, by their count; want of memory refuses no model
+abbrev pub size_refusal : MonoError → Refusal
+size_refusal (mono.SizeOpen place name) = refusal 25 place name
+size_refusal (mono.WidthLimit place size) = refusal 26 place (signed_decimal size)
+size_refusal (mono.InstanceLimit place count) = refusal 27 place (signed_decimal (pos count))
+size_refusal mono.OutOfMemory = outside

@@ -1,4 +1,4 @@
-ghost use Rattle.std.specs.Prelude.{◌≡◌, ◌<◌, ◌≤◌, Err, IfOk, IfSome, List, None, Some, length, true};
+ghost use Rattle.std.specs.Prelude.{◌≡◌, ◌<◌, ◌≤◌, ◌++◌, Err, IfOk, IfSome, List, None, OnOk, Some, length, true};
 ghost use Rattle.sail_outside.specs.Faults.{Rose};
 ghost use Rattle.elf_load.specs.Placed.{Fits};
 ghost use Rattle.sail_fragment.specs.Fragment.{is_well_formed};
@@ -22,6 +22,7 @@ use mem_store::{Flat, Memory};
 use sail_base::{ElfRefusal, Items, Refusal};
 use sail_fragment::Model;
 use sail_outside::{ReadError, Shelf};
+use sail_types::push_integer;
 use sail_words::{Command, Run};
 use std::alloc::{AllocError, Global};
 
@@ -179,8 +180,18 @@ fn tell_counts(alloc: Global, made: Accepted) -> Result<Answer, AllocError>
     ensures { IfOk result (λ answer. answer ≡ spec.check_answer made) }
 {
     let mut bytes = Vec::new(alloc);
-    made.certified.push_counts(&mut bytes)?;
+    push_counts(&mut bytes, &made)?;
     Ok(told(bytes))
+}
+
+/// Puts how many functions, obligations and instances an accepted model has. The one error is want of memory.
+fn push_counts(out: &mut Vec<u8>, made: &Accepted) -> Result<(), AllocError>
+    ensures { OnOk result (out.new.items ≡ out.old.items ++ spec.accepted_text made.now) }
+{
+    made.certified.push_counts(out)?;
+    out.extend_from_slice(b" ")?;
+    push_integer(out, made.instances.len() as i128)?;
+    out.extend_from_slice(b" instances\n")
 }
 
 /// The answer of `certs` for an accepted model.
@@ -215,6 +226,7 @@ fn run_accepted(
 {
     let Accepted {
         certified: _,
+        instances: _,
         model,
     } = made;
     match model {

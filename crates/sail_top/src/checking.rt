@@ -1,16 +1,20 @@
-//! The obligations of a model, and its refusal where one isn't closed.
+//! The obligations of a model, and its refusal where one isn't closed, or where a size is refused.
 ghost use Rattle.std.specs.Prelude.{◌≡◌, IfOk, map};
+ghost use Rattle.std.specs.Fmt.{signed_decimal};
 ghost use Rattle.bidir_check.specs.Checking.{IsMet};
 ghost use Rattle.sail_top.specs.Checked.{checked_core};
 ghost use Rattle.sail_top.specs.Refusals as spec;
 ghost use Rattle.sail_top.specs.parts.Cycles as cycles;
-ghost use Rattle.sail_top.specs.parts.Told.{IsOfChecks};
+ghost use Rattle.sail_top.specs.parts.Told.{IsOfChecks, IsOfSizes};
 
+use crate::refusals::named;
 use crate::shape_refusals::text_of;
 use bidir_check::{Certified, CheckError, check};
 use constraint_gen::obligations;
-use sail_base::{Items, Refusal};
+use monomorph::MonoError;
+use sail_base::{Items, Place, Refusal};
 use sail_core::{CoreModel, Function};
+use sail_types::push_integer;
 use std::alloc::{AllocError, Global};
 
 /// Forgets of a function which cycle of calls it is in.
@@ -88,5 +92,37 @@ pub fn check_refusal(alloc: Global, error: &CheckError) -> Result<Refusal, Alloc
             detail,
         }),
         CheckError::OutOfMemory => Err(AllocError),
+    }
+}
+
+/// The refusal of this number that tells an integer. It fails where memory is wanting.
+fn told_integer(
+    alloc: Global,
+    number: u8,
+    place: Place,
+    integer: i128,
+) -> Result<Refusal, AllocError>
+    ensures { IfOk result (λ refusal. refusal ≡ spec.refusal number place (signed_decimal integer)) }
+{
+    let mut bytes = Vec::new(alloc);
+    push_integer(&mut bytes, integer)?;
+    let detail = text_of(alloc, bytes.as_slice())?;
+    Ok(Refusal {
+        number,
+        place,
+        detail,
+    })
+}
+
+/// The refusal of a model of which a size is refused. The one error is want of memory, that of the list of instances too.
+pub fn size_refusal(alloc: Global, error: &MonoError) -> Result<Refusal, AllocError>
+    ensures refused { IfOk result (λ refusal. refusal ≡ spec.size_refusal error.now) }
+    ensures told { IfOk result (λ _. IsOfSizes error.now) }
+{
+    match error {
+        MonoError::SizeOpen(place, name) => named(25, *place, name),
+        MonoError::WidthLimit(place, size) => told_integer(alloc, 26, *place, *size),
+        MonoError::InstanceLimit(place, count) => told_integer(alloc, 27, *place, *count as i128),
+        MonoError::OutOfMemory => Err(AllocError),
     }
 }

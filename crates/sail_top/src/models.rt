@@ -1,5 +1,5 @@
 //! From the models' texts to an accepted model.
-ghost use Rattle.std.specs.Prelude.{◌≡◌, ◌≤◌, IfErr, IfOk, IfSome, List, length, true};
+ghost use Rattle.std.specs.Prelude.{◌≡◌, ◌≤◌, IfErr, IfOk, IfSome, List, Ok, length, true};
 ghost use Rattle.std.specs.List.{All};
 ghost use Rattle.model_tokens.specs.Files.{IsShort};
 ghost use Rattle.sail_fragment.specs.Fragment.{is_well_formed, model_of};
@@ -8,15 +8,17 @@ ghost use Rattle.sail_grammar.specs.Leaves.{nowhere};
 ghost use Rattle.sail_base.specs.declared.place.Place.{Place as APlace};
 ghost use Rattle.sail_syntax.specs.declared.definitions.Def.{Def as ADef};
 ghost use Rattle.sail_tables.specs.Tabled.{AreTables};
+ghost use Rattle.sail_top.specs.Checked.{checked};
 ghost use Rattle.sail_top.specs.Models.{AreAccepted};
 ghost use Rattle.sail_top.specs.parts.Told.{ClosedAs, GathersAs, IsCoreOf, ParsesAs, ShapedAs, TabledAs, Tells};
-ghost use Rattle.sail_top.specs.parts.Told.{TellsOfDefinitions, TellsOfShaped, TellsOfTabled, TellsOfTokens, TellsOfWhole};
+ghost use Rattle.sail_top.specs.parts.Told.{TellsOfClosed, TellsOfDefinitions, TellsOfShaped, TellsOfTabled, TellsOfTokens, TellsOfWhole};
 
-use crate::checking::{check_core, check_refusal};
+use crate::checking::{check_core, check_refusal, size_refusal};
 use crate::refusals::{gather_refusal, parse_refusal, table_refusal, token_refusal};
 use crate::shape_refusals::shape_refusal;
 use bidir_check::Certified;
 use model_tokens::lex_files;
+use monomorph::{Instance, instances};
 use sail_base::{Items, Place, Refusal};
 use sail_core::CoreModel;
 use sail_fragment::{Model, read_model};
@@ -33,6 +35,8 @@ use std::alloc::{AllocError, Global};
 pub struct Accepted {
     /// Their core with its obligations, and a certificate for each.
     pub certified: Certified,
+    /// Their instances, in order of finding.
+    pub instances: Items<Instance>,
     /// The model, where they are one that runs today.
     pub model: Option<Model>,
 }
@@ -151,10 +155,30 @@ fn check_definitions(
     ensures refused { IsCoreOf definitions.now core → IfErr result (TellsOfShaped definitions.now) }
 {
     match check_core(alloc, core) {
-        Ok(certified) => {
-            let model = read_model(alloc, definitions)?;
-            Ok(Accepted { certified, model })
-        }
+        Ok(certified) => size_definitions(alloc, definitions, certified),
         Err(error) => Err(ModelError::Refused(check_refusal(alloc, &error)?)),
+    }
+}
+
+/// What definitions are whose obligations are closed so, once no size is refused.
+fn size_definitions(
+    alloc: Global,
+    definitions: &[Def],
+    certified: Certified,
+) -> Result<Accepted, ModelError>
+    ensures accepted { checked definitions.now ≡ Ok certified → IfOk result (ClosedAs definitions.now) }
+    ensures well_formed { IfOk result (λ made. IfSome made.model (λ model. is_well_formed model ≡ true)) }
+    ensures refused { checked definitions.now ≡ Ok certified → IfErr result (TellsOfClosed definitions.now) }
+{
+    match instances(alloc, certified.core()) {
+        Ok(instances) => {
+            let model = read_model(alloc, definitions)?;
+            Ok(Accepted {
+                certified,
+                instances,
+                model,
+            })
+        }
+        Err(error) => Err(ModelError::Refused(size_refusal(alloc, &error)?)),
     }
 }

@@ -1,7 +1,10 @@
 -- Errors that say something of the models' texts.
-use Rattle.std.specs.Prelude.{◌≡◌, ℕ, List, Option, Some, None, Ok, Err}
+use Rattle.std.specs.Prelude.{◌≡◌, ◌⊎◌, ℕ, List, Option, Some, None, Ok, Err}
 use Rattle.bidir_check.specs.declared.error.CheckError.{CheckError}
 use Rattle.bidir_check.specs.declared.error.CheckError.TheVariants as check
+use Rattle.bidir_check.specs.Certification.{Certification}
+use Rattle.monomorph.specs.declared.error.MonoError.{MonoError}
+use Rattle.monomorph.specs.declared.error.MonoError.TheVariants as mono
 use Rattle.sail_base.specs.declared.place.Place.{Place}
 use Rattle.sail_base.specs.declared.refusal.Refusal.{Refusal}
 use Rattle.sail_fragment.specs.Fragment.{model_of}
@@ -25,8 +28,8 @@ use Rattle.shape_rules.specs.declared.error.ShapeError.TheVariants as shape
 use Rattle.sail_top.specs.Models.{IsRefusal}
 use Rattle.shapes.specs.Resolved.{resolved}
 use Rattle.shapes.specs.Tabled.{tabled_of}
-use Rattle.sail_top.specs.Checked.{checked}
-use Rattle.sail_top.specs.Refusals.{parse_refusal, gather_refusal, table_refusal, check_refusal}
+use Rattle.sail_top.specs.Checked.{checked, instances_of}
+use Rattle.sail_top.specs.Refusals.{parse_refusal, gather_refusal, table_refusal, check_refusal, size_refusal}
 use Rattle.sail_top.specs.Shaped.{why_unshaped, shape_refusal_in}
 use Rattle.sail_top.specs.declared.models.Accepted.{Accepted}
 use Rattle.sail_top.specs.declared.models.ModelError.{ModelError}
@@ -57,6 +60,10 @@ abbrev pub IsOfChecks : CheckError → Type 0
 IsOfChecks check.OutOfMemory = ⊥
 IsOfChecks e = Unit {0}
 
+abbrev pub IsOfSizes : MonoError → Type 0
+IsOfSizes mono.OutOfMemory = ⊥
+IsOfSizes e = Unit {0}
+
 -- an error tells how the texts are refused; want of memory says nothing of them
 abbrev pub Tells : List (List ℕ) → ModelError → Type 0
 Tells texts (model.Refused refusal) = IsRefusal texts refusal
@@ -66,9 +73,13 @@ Tells texts model.OutOfMemory = Unit {0}
 abbrev pub IsCoreOf : List Def → CoreModel → Type 0
 IsCoreOf whole core = (cycle : List ℕ → Option ℕ) × (core ≡ resolved (tabled_of whole) cycle whole)
 
--- the obligations of definitions that have shapes are closed with these certificates, and they are this model that runs, if any
+-- definitions whose obligations are closed have these instances, and they are this model that runs, if any
+abbrev pub SizedAs : List Def → Accepted → Type 0
+SizedAs whole made = (instances_of whole ≡ Ok made.instances) × (made.model ≡ model_of whole)
+
+-- the obligations of definitions that have shapes are closed with these certificates, and they are accepted so
 abbrev pub ClosedAs : List Def → Accepted → Type 0
-ClosedAs whole made = (checked whole ≡ Ok made.certified) × (made.model ≡ model_of whole)
+ClosedAs whole made = (checked whole ≡ Ok made.certified) × SizedAs whole made
 
 -- definitions that have tables have shapes, and they are accepted so
 abbrev pub ShapedAs : List Def → Accepted → Type 0
@@ -86,10 +97,12 @@ GathersAs definitions end made = (why_ungathered definitions ≡ None) × Tabled
 abbrev pub ParsesAs : List Sign → Place → Accepted → Type 0
 ParsesAs signs end made = (definitions : List Def) × IsModel signs definitions × GathersAs definitions end made
 
--- definitions that have tables are refused so: their shapes fail, or an obligation isn't closed
+-- definitions that have tables are refused so: their shapes fail, or an obligation isn't closed, or a size is refused
 pub data TabledRefused (whole : List Def) : Refusal → Type 0 where
   tabled_unshaped : (e : ShapeError) → why_unshaped whole ≡ Some e → TabledRefused whole (shape_refusal_in whole e)
   tabled_unclosed : (e : CheckError) → why_unshaped whole ≡ None → checked whole ≡ Err e → TabledRefused whole (check_refusal e)
+  tabled_unsized : (made : Certification) (e : MonoError) → why_unshaped whole ≡ None → checked whole ≡ Ok made → instances_of whole ≡ Err e →
+      TabledRefused whole (size_refusal e)
 
 -- gathered definitions, which end here, are refused so: they have no tables, or they have and are refused
 pub data WholeRefused (whole : List Def) (end : Place) : Refusal → Type 0 where
@@ -128,7 +141,18 @@ abbrev pub TellsOfTabled : List Def → ModelError → Type 0
 TellsOfTabled whole (model.Refused refusal) = TabledRefused whole refusal
 TellsOfTabled whole model.OutOfMemory = Unit {0}
 
+-- definitions whose obligations are closed are refused so
+abbrev pub SizeRefused : List Def → Refusal → Type 0
+SizeRefused whole refusal = (e : MonoError) × (instances_of whole ≡ Err e) × (refusal ≡ size_refusal e)
+
+-- an error tells how definitions whose obligations are closed are refused
+abbrev pub TellsOfClosed : List Def → ModelError → Type 0
+TellsOfClosed whole (model.Refused refusal) = SizeRefused whole refusal
+TellsOfClosed whole model.OutOfMemory = Unit {0}
+
 -- an error tells how definitions that have shapes are refused
 abbrev pub TellsOfShaped : List Def → ModelError → Type 0
-TellsOfShaped whole (model.Refused refusal) = (e : CheckError) × (checked whole ≡ Err e) × (refusal ≡ check_refusal e)
+TellsOfShaped whole (model.Refused refusal) =
+    ((e : CheckError) × (checked whole ≡ Err e) × (refusal ≡ check_refusal e))
+    ⊎ ((made : Certification) × (checked whole ≡ Ok made) × SizeRefused whole refusal)
 TellsOfShaped whole model.OutOfMemory = Unit {0}

@@ -1,10 +1,15 @@
-use Rattle.sail_top.proofs.ModelLemmas.{accepted_is, unclosed_tells}
+use Rattle.sail_top.proofs.ModelLemmas.{closed_accepted, closed_refused, unclosed_tells}
 use Rattle.sail_top.proofs.models.check_definitions.Goals as goal
 
-pub returns-in_ok-model-in-Ok-clause-accepted : goal.returns-in_ok-model-in-Ok-clause-accepted
-returns-in_ok-model-in-Ok-clause-accepted c =
-    accepted_is c.args.definitions.now c.args.core (record { certified = c.in-Ok.certified; model = c.in_ok-model-in-Ok.model })
-    c.in-Ok.ensures c.in_ok-model-in-Ok.ensures.model
+pub returns-in-Ok-clause-accepted : goal.returns-in-Ok-clause-accepted
+returns-in-Ok-clause-accepted c = λ is.
+    closed_accepted c.args.definitions.now c.args.core is c.in-Ok.certified c.in-Ok.ensures c.size_definitions.result
+    c.size_definitions.ensures.accepted
+
+pub returns-in-Ok-clause-refused : goal.returns-in-Ok-clause-refused
+returns-in-Ok-clause-refused c = λ is.
+    closed_refused c.args.definitions.now c.args.core is c.in-Ok.certified c.in-Ok.ensures c.size_definitions.result
+    c.size_definitions.ensures.refused
 
 pub returns-in_ok-check_refusal-in-Err-clause-refused : goal.returns-in_ok-check_refusal-in-Err-clause-refused
 returns-in_ok-check_refusal-in-Err-clause-refused c =
