@@ -34,9 +34,7 @@ use Rattle.safe_models.specs.TextLaws.{FittingTextsStand}
 use Rattle.sail_top.specs.laws.Holding.{AcceptedHold}
 use Rattle.accepted_models.specs.Models.{AcceptedModelsMeanText}
 use Rattle.safe_models.specs.Safe.{AcceptedCoresRunSafely, AcceptedModelsRunSafely, Cycles, IsOfText, TextsRunSafely, meant_of}
-use Rattle.safe_models.specs.Noting.{always}
 use Rattle.safe_models.proofs.Found.{found_throughout}
-use Rattle.safe_models.proofs.Noting.{all_note, still_covers}
 
 -- ---- registers
 
@@ -91,10 +89,10 @@ cores_safe mean nothing written sign stand models texts_safe texts made accepted
     let found : IsFoundThroughout m past covered count =
     found_throughout text cycles (sign text (end_of_all texts) accepted.tables as_written)
     clear.step clear.reset past covered count few in
-    let stands : StandsThroughout m past covered (always k) rank count =
-    λ hart low. stand text (end_of_all texts) cycles accepted.tables accepted.shapes as_written past hart covered (always k) rank (all_note k) in
+    let stands : StandsThroughout m past covered k rank count =
+    λ hart low. stand text (end_of_all texts) cycles accepted.tables accepted.shapes as_written past hart covered k rank in
     texts_safe (meant_of text cycles) m past count (of_text text cycles) (mean texts made accepted cycles) entry schedule state ok
-    ((models m past covered (always k) rank count some held found (still_covers m past covered k rank count covers) stands).1 entry schedule there state ok)
+    ((models m past covered k rank count some held found covers stands).1 entry schedule there state ok)
 
 pub accepted_safe : AcceptedHold → AcceptedCoresRunSafely → AcceptedModelsRunSafely
 accepted_safe hold cores texts made accepted =

@@ -7,11 +7,9 @@ use Rattle.sail_core.specs.declared.patterns.Arm.{Arm}
 use Rattle.sail_core.specs.declared.tree.Core.{Core, out-Core}
 use Rattle.sail_core.specs.declared.tree.Kind.{Kind}
 use Rattle.sail_core.specs.declared.tree.Kind.TheVariants as K
-use Rattle.checked_meaning.specs.Checked.{Cases}
 use Rattle.checked_meaning.specs.Items.{Item}
 use Rattle.value_laws.proofs.Basics.{no}
 use Rattle.soundness_steps.specs.Works.{Scene}
-use Rattle.soundness_calls.specs.Premises.{NotedAlone, NotesAlways}
 use Rattle.soundness_forms.specs.Standing.{Standing, is_body, is_bound, standing}
 use Rattle.soundness_binding.specs.Patterned.{arms_stand}
 use Rattle.sail_soundness.specs.Whole.{core_fits}
@@ -39,20 +37,15 @@ bodies q w (c ∷ cs) h =
 
 -- ---- clauses of a function
 
-noted_alone : (cases : Cases) → NotesAlways cases → (arms : List Arm) → NotedAlone cases arms
-noted_alone cases always [] = always
-noted_alone cases always (arm ∷ arms) = tt
-
-of_kind : (q : Scene) (w : World Item) (declared : Bool) (core : Core) → NotesAlways q.cases → (kind : Kind) → (out-Core core).kind ≡ kind
+of_kind : (q : Scene) (w : World Item) (declared : Bool) (core : Core) → (kind : Kind) → (out-Core core).kind ≡ kind
     → arms_fit q.set.around q.numbers declared kind ≡ true → BodiesStand q w (out-Core core).parts → Clauses q w declared core
-of_kind q w declared core always (K.Clauses arms) is stand stands =
-    record { arms = arms; kind = is; bodies = stands; patterns = stand; noted = noted_alone q.cases always arms }
-of_kind q w declared core always kind is stand stands = no stand
+of_kind q w declared core (K.Clauses arms) is stand stands = record { arms = arms; kind = is; bodies = stands; patterns = stand }
+of_kind q w declared core kind is stand stands = no stand
 
 pub clauses : ClausesStand
-clauses q w declared core always h =
+clauses q w declared core h =
     let k = and_parts (arms_fit q.set.around q.numbers declared (out-Core core).kind) (bodies_fit q.set.around q.numbers (out-Core core).parts) h in
-    of_kind q w declared core always (out-Core core).kind refl k.0 (bodies q w (out-Core core).parts k.1)
+    of_kind q w declared core (out-Core core).kind refl k.0 (bodies q w (out-Core core).parts k.1)
 
 -- ---- directions of a mapping
 

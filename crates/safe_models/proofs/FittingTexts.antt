@@ -46,7 +46,7 @@ pure_stands m past hart covered names model =
 -- ---- put together
 
 pub fitting : FittingTextsStand
-fitting text end cycle accepted kept written past hart covered k rank notes =
+fitting text end cycle accepted kept written past hart covered k rank =
     let m : CoreModel = core_of text cycle in
     let set : Setting = setting_in m past hart covered in
     let nowhere : ModelStands set nobody = models_stand text end cycle accepted kept written set refl nobody in
@@ -55,12 +55,12 @@ fitting text end cycle accepted kept written past hart covered k rank notes =
       tables = λ x is. models_stand text end cycle accepted kept written set refl x;
       nowhere = nowhere;
     } in
-    let stands = tested m past hart covered k rank notes (accepted_fit text end cycle accepted kept written) known in
+    let stands = tested m past hart covered k rank (accepted_fit text end cycle accepted kept written) known in
     let once : openings_once m.openings ≡ true =
     all_once text (openings_known text (nothing_fails text end accepted) written (tuples_have_parts text written)) cycle in
     record {
       openings = openings_right m past covered (checks_of m k) (λ names. pure_stands m past hart covered names nowhere)
-          (openings_pass text end cycle accepted kept written []) once;
+          (openings_pass text end cycle accepted kept written) once;
       functions = stands.0;
       directions = stands.1;
     }

@@ -1,5 +1,4 @@
 pub mod Cores
-pub mod Noting
 pub mod Models
 pub mod Within
 pub mod FoundNames
@@ -21,6 +20,10 @@ pub mod Found
 pub mod Accepted
 pub mod Fresh
 pub mod Texts
-pub mod Notes
 pub mod Apart
+pub mod GivenKinds
+pub mod PatternWays
+pub mod PlainWays
+pub mod WaysFall
 pub mod Covered
+pub mod Listed

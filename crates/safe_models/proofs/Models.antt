@@ -15,11 +15,10 @@ use Rattle.soundness_calls.specs.Laws.{scene_of}
 use Rattle.soundness_calls.specs.Directions.{Side, is_ahead, is_back, scene_across}
 use Rattle.safe_models.specs.CoreTests.{clauses_fit, direction_fits}
 use Rattle.safe_models.proofs.Cores.{clauses, ways}
-use Rattle.whole_runs.specs.Covers.{side_at}
+use Rattle.met_notes.specs.Covers.{side_at}
 use Rattle.whole_runs.specs.Never.{DirectionStands, FunctionStands, setting_in}
 use Rattle.safe_models.specs.ModelLaws.{ModelKnown, TestedModelsStand}
 use Rattle.safe_models.specs.ModelTests.{function_fits, measure_fits, model_fits}
-use Rattle.safe_models.specs.Noting.{AllNote}
 
 -- ---- one of many
 
@@ -47,7 +46,7 @@ other_at (a ∷ b ∷ ds) (suc (suc d)) n side e k =
 
 -- ---- all of a model
 
-module _ (m : CoreModel) (past : Positive) (hart : ℕ) (covered : Coverage) (k : Checks) (rank : ℕ → ℕ) (notes : AllNote k) (fits : model_fits m ≡ true)
+module _ (m : CoreModel) (past : Positive) (hart : ℕ) (covered : Coverage) (k : Checks) (rank : ℕ → ℕ) (fits : model_fits m ≡ true)
     (known : ModelKnown (setting_in m past hart covered)) where
   abbrev set : Setting
   set = setting_in m past hart covered
@@ -61,10 +60,9 @@ module _ (m : CoreModel) (past : Positive) (hart : ℕ) (covered : Coverage) (k 
       (each (function_fits (around_of m)) m.functions x.function f both.0 there) in
       record {
         model = known.tables x is;
-        body = λ h nu w.
-            clauses (scene_of set x f h (k.function x.function x.instance.place nu)) w f.is_declared f.body (notes x.function x.instance.place nu) its.0;
+        body = λ h nu w. clauses (scene_of set x f h (k.function x.function x.instance.place nu)) w f.is_declared f.body its.0;
         measure = λ h nu w core has.
-            clauses (scene_of set x f h (k.function x.function x.instance.place nu)) w true core (notes x.function x.instance.place nu)
+            clauses (scene_of set x f h (k.function x.function x.instance.place nu)) w true core
             (subst (λ o. measure_fits (around_of m) (own_of f) o ≡ true) has its.1);
       }
 
@@ -86,5 +84,5 @@ module _ (m : CoreModel) (past : Positive) (hart : ℕ) (covered : Coverage) (k 
       of_side d back.0 n side there back.1
 
 pub tested : TestedModelsStand
-tested m past hart covered k rank notes fits known =
-    (function m past hart covered k rank notes fits known, direction m past hart covered k rank notes fits known)
+tested m past hart covered k rank fits known =
+    (function m past hart covered k rank fits known, direction m past hart covered k rank fits known)

@@ -25,7 +25,7 @@ use Rattle.safe_models.proofs.FoundNames.{names_apart}
 module _ (m : CoreModel) (past : Positive) (covered : Coverage) (k : Checks)
     (model : (names : List TopLevel) → ModelStands (pure_setting m past covered [] names) nobody) where
   one : (names : List TopLevel) (cases : Cases) (vs : List Value) (o : Opening) (kind : OpeningKind)
-      → opening_fits m [] names o kind ≡ true → opening_once kind ≡ true
+      → opening_fits m names o kind ≡ true → opening_once kind ≡ true
       → KindIsRight (record { model = m; past = past; covered = covered; names = names; values = vs }) cases o kind
   one names cases vs o (O.Let arm) h once =
       let both = and_parts (value_fits (pure_around m [] names) [] o.value) (arm_stands m.types [] arm) h in
@@ -37,12 +37,12 @@ module _ (m : CoreModel) (past : Positive) (covered : Coverage) (k : Checks)
   one names cases vs o (O.Register r) h once =
       values (pure_scene (pure_setting m past covered [] names) cases) (opening_world vs) o.value h (model names)
 
-  all : (i : ℕ) (names : List TopLevel) (os : List Opening) → openings_fit m [] names os ≡ true → openings_once os ≡ true
+  all : (i : ℕ) (names : List TopLevel) (os : List Opening) → openings_fit m names os ≡ true → openings_once os ≡ true
       → OpeningsAreRight m past covered k i names os
   all i names [] h once = tt
   all i names (o ∷ os) h once =
       let more : List TopLevel = names ++ names_of (around_with m names) o o.kind in
-      let both = and_parts (opening_fits m [] names o o.kind) (openings_fit m [] more os) h in
+      let both = and_parts (opening_fits m names o o.kind) (openings_fit m more os) h in
       let apart = and_parts (opening_once o.kind) (openings_once os) once in (
         λ vs are. one names (k.opening i) vs o o.kind both.0 apart.0,
         all (suc i) more os both.1 apart.1,

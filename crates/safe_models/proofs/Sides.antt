@@ -12,7 +12,7 @@ use Rattle.shape_rules.specs.Written.{joined}
 use Rattle.shape_models.specs.Models.{Tabled}
 use Rattle.shape_clauses.specs.Mappings.{directions_if, directions_of}
 use Rattle.soundness_calls.specs.Directions.{Side, is_ahead, is_back}
-use Rattle.whole_runs.specs.Covers.{side_at}
+use Rattle.met_notes.specs.Covers.{side_at}
 
 abbrev InPairs : List Direction → Type 0
 InPairs [] = Unit {0}

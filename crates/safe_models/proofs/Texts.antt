@@ -1,5 +1,5 @@
 -- What belongs to a register's type fits its shape, so that the core means what its text does.
-use Rattle.std.proofs.Common.{◌≡◌, ◌∙◌, sym, subst, ap, ℕ, zero, suc, true, false, List, [], ◌∷◌, Some, slice_get}
+use Rattle.std.proofs.Common.{◌≡◌, ◌∙◌, sym, subst, ap, ℕ, zero, suc, true, List, [], ◌∷◌, Some, slice_get}
 use Rattle.sail_types.specs.Belongs.{no_readings, reading}
 use Rattle.sail_types.specs.Numbers.{Positive}
 use Rattle.sail_types.specs.Shapes.{at, fits, shape}
@@ -54,7 +54,8 @@ module _ (text : Text) (m : CoreModel) (past : Positive) (count : ℕ) (same : I
   registers_fit : (state : RunState) → IsFit m past count state → RegistersFit text.types (register_shapes text.registers) state
   registers_fit state ok hart r v s e k =
       subst (λ types. fits types v s ≡ true) (sym same.types)
-      (harts_fit (pure_setting m past nothing_covered m.registers []) state.harts ok.registers hart r v s e (ap (λ ss. slice_get ss r) (sym same.registers) ∙ k))
+      (harts_fit (pure_setting m past nothing_covered m.registers []) state.harts ok.registers hart r v s e
+      (ap (λ ss. slice_get ss r) (sym same.registers) ∙ k))
 
   parts_alike : AreAlike (core_parts plain m) (text_parts text) (IsFit m past count)
   parts_alike = record {

@@ -1,6 +1,5 @@
 -- Openings of an accepted text: they pass the test of openings.
 use Rattle.std.specs.Prelude.{◌≡◌, ℕ, true, List, [], Option, None}
-use Rattle.model_state.specs.declared.state.Register.{Register}
 use Rattle.sail_base.specs.declared.place.Place.{Place}
 use Rattle.sail_syntax.specs.declared.definitions.Def.{Def}
 use Rattle.sail_tables.specs.Refused.{IsAccepted}
@@ -10,8 +9,7 @@ use Rattle.known_texts.specs.Written.{IsWritten}
 use Rattle.text_progress.specs.Laws.{core_of}
 use Rattle.safe_models.specs.OpeningTests.{openings_fit}
 
--- over whatever registers
 abbrev pub AcceptedOpeningsFit : Type 0
 AcceptedOpeningsFit =
     (text : List Def) (end : Place) (cycle : List ℕ → Option ℕ) → IsAccepted text end → refusal (tabled_of text) text ≡ None → IsWritten text
-    → (registers : List Register) → openings_fit (core_of text cycle) registers [] (core_of text cycle).openings ≡ true
+    → openings_fit (core_of text cycle) [] (core_of text cycle).openings ≡ true

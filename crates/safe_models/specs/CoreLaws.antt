@@ -5,7 +5,6 @@ use Rattle.sail_core.specs.declared.model.Direction.{Direction}
 use Rattle.sail_core.specs.declared.tree.Core.{Core}
 use Rattle.checked_meaning.specs.Items.{Item}
 use Rattle.soundness_steps.specs.Works.{Scene}
-use Rattle.soundness_calls.specs.Premises.{NotesAlways}
 use Rattle.soundness_binding.specs.Patterned.{arms_stand}
 use Rattle.sail_soundness.specs.Whole.{ModelStands}
 use Rattle.whole_runs.specs.Initials.{ValueStands}
@@ -15,7 +14,7 @@ use Rattle.safe_models.specs.CoreTests.{clauses_fit, direction_fits, value_fits}
 
 -- clauses of a function
 abbrev pub ClausesStand : Type 0
-ClausesStand = (q : Scene) (w : World Item) (declared : Bool) (core : Core) → NotesAlways q.cases → clauses_fit q.set.around q.numbers declared core ≡ true
+ClausesStand = (q : Scene) (w : World Item) (declared : Bool) (core : Core) → clauses_fit q.set.around q.numbers declared core ≡ true
     → Clauses q w declared core
 
 -- both directions of a mapping, and the patterns of each

@@ -1,6 +1,5 @@
 pub mod CoreTests
 pub mod CoreLaws
-pub mod Noting
 pub mod ModelTests
 pub mod ModelLaws
 pub mod Names
@@ -10,4 +9,6 @@ pub mod Accepted
 pub mod AcceptedOpenings
 pub mod TextLaws
 pub mod Safe
+pub mod Ways
 pub mod Tested
+pub mod Listed

@@ -8,10 +8,9 @@ use Rattle.checked_meaning.specs.Checked.{Checks}
 use Rattle.soundness_steps.specs.Works.{Coverage, Setting, Work, nobody}
 use Rattle.soundness_calls.specs.Directions.{Side}
 use Rattle.sail_soundness.specs.Whole.{ModelStands}
-use Rattle.whole_runs.specs.Covers.{side_at}
+use Rattle.met_notes.specs.Covers.{side_at}
 use Rattle.whole_runs.specs.Never.{DirectionStands, FunctionStands, setting_in}
 use Rattle.safe_models.specs.ModelTests.{model_fits}
-use Rattle.safe_models.specs.Noting.{AllNote}
 
 -- what is known besides of the tables of a model at work
 pub record ModelKnown (set : Setting) : Type 0 where
@@ -19,8 +18,9 @@ pub record ModelKnown (set : Setting) : Type 0 where
   pub nowhere : ModelStands set nobody
 
 abbrev pub TestedModelsStand : Type 0
-TestedModelsStand = (m : CoreModel) (past : Positive) (hart : ℕ) (covered : Coverage) (k : Checks) (rank : ℕ → ℕ) → AllNote k → model_fits m ≡ true
+TestedModelsStand = (m : CoreModel) (past : Positive) (hart : ℕ) (covered : Coverage) (k : Checks) (rank : ℕ → ℕ) → model_fits m ≡ true
     → ModelKnown (setting_in m past hart covered)
-    → ((x : Work) (f : Function) → covered.function x ≡ true → slice_get m.functions x.function ≡ Some f → FunctionStands (setting_in m past hart covered) k x f)
+    → ((x : Work) (f : Function) → covered.function x ≡ true → slice_get m.functions x.function ≡ Some f
+    → FunctionStands (setting_in m past hart covered) k x f)
     × ((d : ℕ) (n : Direction) (side : Side) → slice_get m.directions d ≡ Some n → side_at m.directions d ≡ Some side
     → DirectionStands (setting_in m past hart covered) rank k d n side)

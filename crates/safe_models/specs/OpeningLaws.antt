@@ -12,5 +12,5 @@ use Rattle.safe_models.specs.OpeningTests.{openings_fit, openings_once}
 
 abbrev pub TestedOpeningsStand : Type 0
 TestedOpeningsStand = (m : CoreModel) (past : Positive) (covered : Coverage) (k : Checks)
-    → ((names : List TopLevel) → ModelStands (pure_setting m past covered [] names) nobody) → openings_fit m [] [] m.openings ≡ true
+    → ((names : List TopLevel) → ModelStands (pure_setting m past covered [] names) nobody) → openings_fit m [] m.openings ≡ true
     → openings_once m.openings ≡ true → OpeningsAreRight m past covered k 0 [] m.openings

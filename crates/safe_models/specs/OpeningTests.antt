@@ -1,7 +1,6 @@
 -- The test of a model's openings, each behind the names of lets before it.
 use Rattle.std.specs.List.{list_all}
 use Rattle.std.specs.Prelude.{◌&&◌, Bool, true, List, [], ◌∷◌, ◌++◌}
-use Rattle.model_state.specs.declared.state.Register.{Register}
 use Rattle.sail_core.specs.declared.model.CoreModel.{CoreModel}
 use Rattle.sail_core.specs.declared.model.Opening.{Opening}
 use Rattle.sail_core.specs.declared.model.OpeningKind.{OpeningKind}
@@ -13,11 +12,11 @@ use Rattle.whole_runs.specs.Initials.{pure_around}
 use Rattle.safe_models.specs.CoreTests.{value_fits}
 use Rattle.safe_models.specs.Names.{binds_once}
 
-module _ (m : CoreModel) (registers : List Register) where
+module _ (m : CoreModel) where
   -- a value stands, and a let's pattern does
   abbrev pub opening_fits : List TopLevel → Opening → OpeningKind → Bool
-  opening_fits names o (O.Let arm) = value_fits (pure_around m registers names) [] o.value && arm_stands m.types [] arm
-  opening_fits names o (O.Register r) = value_fits (pure_around m registers names) [] o.value
+  opening_fits names o (O.Let arm) = value_fits (pure_around m [] names) [] o.value && arm_stands m.types [] arm
+  opening_fits names o (O.Register r) = value_fits (pure_around m [] names) [] o.value
 
   abbrev pub openings_fit : List TopLevel → List Opening → Bool
   openings_fit names [] = true

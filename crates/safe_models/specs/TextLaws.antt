@@ -11,10 +11,9 @@ use Rattle.text_progress.specs.Laws.{core_of}
 use Rattle.checked_meaning.specs.Checked.{Checks}
 use Rattle.soundness_steps.specs.Works.{Coverage}
 use Rattle.whole_runs.specs.Never.{Stands, setting_in}
-use Rattle.safe_models.specs.Noting.{AllNote}
 
 abbrev pub FittingTextsStand : Type 0
 FittingTextsStand =
     (text : List Def) (end : Place) (cycle : List ℕ → Option ℕ) → IsAccepted text end → refusal (tabled_of text) text ≡ None → IsWritten text
     → (past : Positive) (hart : ℕ) (covered : Coverage) (k : Checks) (rank : ℕ → ℕ)
-    → AllNote k → Stands (setting_in (core_of text cycle) past hart covered) (core_of text cycle) k rank
+    → Stands (setting_in (core_of text cycle) past hart covered) (core_of text cycle) k rank

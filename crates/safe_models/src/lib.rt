@@ -16,5 +16,8 @@ pub use opening_laws::tested_openings_stand;
 pub use safe_laws::{
     accepted_cores_run_safely, accepted_models_run_safely, fresh_states_belong, texts_run_safely,
 };
-pub use tested_laws::{tested_lists_cover, tested_models_run_safely};
+pub use tested_laws::{
+    accepted_texts_run_safely, found_lists_cover, listed_models_run_safely, tested_lists_cover,
+    tested_models_run_safely, ways_of_texts_fall,
+};
 pub use text_laws::fitting_texts_stand;
