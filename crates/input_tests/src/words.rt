@@ -24,11 +24,11 @@ fn told_run(alloc: Global, run: &Run) -> Result<String, AllocError> {
         "{} {}{} {} {:?} {} {}",
         run.elf.as_str(),
         models,
-        run.steps,
-        run.harts,
-        run.order.as_slice(),
-        run.ram_base,
-        run.ram_size
+        run.setup.steps,
+        run.setup.harts,
+        run.setup.order.as_slice(),
+        run.setup.ram_base,
+        run.setup.ram_size
     )
 }
 
@@ -38,6 +38,7 @@ fn told(alloc: Global, command: &Command) -> Result<String, AllocError> {
         Command::Run(run) => told_run(alloc, run),
         Command::Check(models) => told_models(alloc, "check", models.as_slice()),
         Command::Certs(models) => told_models(alloc, "certs", models.as_slice()),
+        Command::Synth(numbers) => { format!(in alloc; "synth {} {}", numbers.seed, numbers.size) }
     }
 }
 
@@ -106,8 +107,16 @@ const CHECKS: [(&str, &str); 3] = [
     ("check -- -M", "check -M"),
 ];
 
+/// Words that ask for a model and a program made of a seed, and what they ask for.
+const SYNTHS: [(&str, &str); 4] = [
+    ("synth 1 3", "synth 1 3"),
+    ("synth 0065535 04000", "synth 65535 4000"),
+    ("synth 0 1", "synth 0 1"),
+    ("synth -- 5 4000", "synth 5 4000"),
+];
+
 /// Words that ask for nothing.
-const REFUSED: [&str; 27] = [
+const REFUSED: [&str; 38] = [
     "",
     "run",
     "help",
@@ -135,6 +144,17 @@ const REFUSED: [&str; 27] = [
     "run --elf=Q --ram-size=67108865 M",
     "run --elf=Q --ram-base=18446744073708503041 M",
     "run --elf=Q --ram-base=18446744073709551616 M",
+    "synth",
+    "synth 1",
+    "synth 1 3 M",
+    "synth 65536 1",
+    "synth 0 0",
+    "synth 0 4001",
+    "synth -1 3",
+    "synth 1 +3",
+    "synth 0x1 3",
+    "synth 1 3 --steps 5",
+    "synth 340282366920938463463374607431768211456 1",
 ];
 
 #[test]
@@ -154,6 +174,19 @@ fn words_ask_for_runs(rt: HostRuntime) -> Result<(), Fail> {
 fn words_ask_for_checks(rt: HostRuntime) -> Result<(), Fail> {
     let alloc = rt.alloc();
     for (text, want) in &CHECKS {
+        let words = words(alloc, text)?;
+        assert!(rt;
+            answer(alloc, words.as_slice())?.as_str() == *want,
+            "{text}"
+        );
+    }
+    Ok(())
+}
+
+#[test]
+fn words_ask_for_what_is_made_of_a_seed(rt: HostRuntime) -> Result<(), Fail> {
+    let alloc = rt.alloc();
+    for (text, want) in &SYNTHS {
         let words = words(alloc, text)?;
         assert!(rt;
             answer(alloc, words.as_slice())?.as_str() == *want,

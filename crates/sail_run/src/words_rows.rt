@@ -213,6 +213,26 @@ register PC : bits(8)
 register PC : bits(8)
 # { PC = PC + 0x01; true }
 # 2 sail-run: usage
+% synth 1
+register PC : bits(8)
+# { PC = PC + 0x01; true }
+# 2 sail-run: usage
+% synth 65536 1
+register PC : bits(8)
+# { PC = PC + 0x01; true }
+# 2 sail-run: usage
+% synth 0 0
+register PC : bits(8)
+# { PC = PC + 0x01; true }
+# 2 sail-run: usage
+% synth 0 4001
+register PC : bits(8)
+# { PC = PC + 0x01; true }
+# 2 sail-run: usage
+% synth 1 3 M
+register PC : bits(8)
+# { PC = PC + 0x01; true }
+# 2 sail-run: usage
 % run --elf NONE M // files that aren't there; the first decides, before any model
 register PC : bits(8)
 #
@@ -356,6 +376,10 @@ register PC : bits(8)
 % run --elf Q N M // and then what runs today
 register PC : bits(8)
 #
+# 1 M05 1:1:1
+% synth 1 3 // made of a seed
+register PC : bits(8)
+# { PC = PC + 0x01; true }
 # 1 M05 1:1:1
 % run --elf Q M
 register PC : bits(0)

@@ -19,7 +19,7 @@ answered_end (Some files) command end left answer ends is = subst (λ e. Answers
 pub left_end : (held : Option Files) (command : Command) (end : ReadEnd) (left : Option (List ℕ))
     → Ends held (wanted_by command) end left → Leaves (Some command) held left
 left_end None command end left ends = tt
-left_end (Some files) command end left ends = subst (λ e. IsLeft (contents_at files (wanted_by command)) e left) (sym ends.0) ends.1
+left_end (Some files) command end left ends = λ some. subst (λ e. IsLeft (contents_at files (wanted_by command)) e left) (sym ends.0) ends.1
 
 -- the answer where a file could not be read
 pub answered_unread : (held : Option Files) (command : Command) (number : ℕ) (name : List ℕ) (error : ReadError) (left : Option (List ℕ))

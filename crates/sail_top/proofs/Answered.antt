@@ -7,6 +7,7 @@ use Rattle.sail_words.specs.Line.{line_of}
 use Rattle.sail_words.specs.declared.command.Command.{Command}
 use Rattle.sail_words.specs.declared.command.Command.TheVariants as C
 use Rattle.sail_words.specs.declared.run.Run.{Run}
+use Rattle.sail_words.specs.declared.synth.Synth.{Synth}
 use Rattle.sail_fragment.specs.Fragment.{model_of}
 use Rattle.bidir_check.specs.declared.error.CheckError.{CheckError}
 use Rattle.bidir_check.specs.Certification.{Certification}
@@ -30,7 +31,8 @@ use Rattle.sail_top.specs.Refusals.{token_refusal, parse_refusal, gather_refusal
 use Rattle.sail_top.specs.Shaped.{why_unshaped, shape_refusal_in}
 use Rattle.sail_top.specs.laws.OneAnswer.{AreDecided}
 use Rattle.sail_top.specs.Answer.{Judges, RunsFiles, AnswersEnd, AnswersLine, IsAnswer}
-use Rattle.sail_top.specs.Answer.{run_answer, check_answer, certs_answer, model_refused, usage, no_file, too_long}
+use Rattle.sail_top.specs.Answer.{run_answer, check_answer, certs_answer, synth_answer, model_refused, usage, no_file, too_long}
+use Rattle.sail_top.specs.Seeded.{seeded_texts}
 use Rattle.sail_top.specs.Reading.{Wanted, wanted_model, wanted_elf, wanted_by, Contents, contents_at}
 use Rattle.sail_top.specs.Reading.{ReadEnd, whole, absent, long, behind, reading}
 use Rattle.sail_top.specs.declared.models.Accepted.{Accepted}
@@ -158,11 +160,17 @@ module _ (decided : AreDecided) where
   certs_answered models (long number name limit) = (too_long number name limit, refl)
   certs_answered models (whole files) = judged decided certs_answer files
 
+  synth_answered : (synth : Synth) (end : ReadEnd) → (a : Answer) × AnswersEnd (C.Synth synth) end a
+  synth_answered synth (absent number name) = (no_file number name, refl)
+  synth_answered synth (long number name limit) = (too_long number name limit, refl)
+  synth_answered synth (whole files) = judged decided (synth_answer synth) (seeded_texts synth)
+
   command_answered : (command : Command) (contents : Contents) → (a : Answer) × AnswersEnd command (reading 0 (wanted_by command) contents) a
   command_answered (C.Run command) contents =
       run_answered command (reading 0 (wanted_by (C.Run command)) contents) (filled_wanted command.models command.elf contents)
   command_answered (C.Check models) contents = check_answered models (reading 0 (wanted_by (C.Check models)) contents)
   command_answered (C.Certs models) contents = certs_answered models (reading 0 (wanted_by (C.Certs models)) contents)
+  command_answered (C.Synth synth) contents = synth_answered synth (reading 0 (wanted_by (C.Synth synth)) contents)
 
   line_answered : (l : Option Command) (files : Files) → (a : Answer) × AnswersLine l (Some files) a
   line_answered None files = (usage, refl)

@@ -1,10 +1,10 @@
 -- A command whose files were read whole: what is answered, and what is left.
-use Rattle.std.proofs.Common.{ℕ, List, Option, Some, None, sym, subst}
+use Rattle.std.proofs.Common.{◌≡◌, ℕ, List, [], length, Option, Some, None, sym, subst, ap, arith}
 use Rattle.sail_outside.specs.Files.{Files}
 use Rattle.sail_words.specs.declared.command.Command.{Command}
 use Rattle.sail_top.specs.Answer.{AnswersCommand, AnswersEnd, AnswersFiles}
 use Rattle.sail_top.specs.Ending.{Leaves}
-use Rattle.sail_top.specs.Reading.{IsLeft, ReadEnd, contents_at, wanted_by, whole}
+use Rattle.sail_top.specs.Reading.{IsLeft, ReadEnd, Wanted, contents_at, reading, wanted_by, whole}
 use Rattle.sail_top.specs.declared.status.Answer.{Answer}
 use Rattle.sail_top.specs.parts.Unread.{Ends}
 
@@ -18,5 +18,17 @@ command_answered None command files left answer ends answers =
 pub command_left : (held : Option Files) (command : Command) (files : List (List ℕ)) (left : Option (List ℕ))
     → Ends held (wanted_by command) (whole files) left → Leaves (Some command) held left
 command_left (Some held) command files left ends =
-    subst (λ (e : ReadEnd). IsLeft (contents_at held (wanted_by command)) e left) (sym ends.0) ends.1
+    λ some. subst (λ (e : ReadEnd). IsLeft (contents_at held (wanted_by command)) e left) (sym ends.0) ends.1
 command_left None command files left ends = tt
+
+-- a command that wants no file
+pub unread_answered : (held : Option Files) (command : Command) (answer : Answer) → wanted_by command ≡ [] → AnswersFiles command [] answer
+    → AnswersCommand command held answer
+unread_answered (Some held) command answer none answers =
+    subst (λ (wanted : List Wanted). AnswersEnd command (reading 0 wanted (contents_at held wanted)) answer) (sym none) answers
+unread_answered None command answer none answers =
+    ([], subst (λ (wanted : List Wanted). AnswersEnd command (reading 0 wanted []) answer) (sym none) answers)
+
+pub unread_left : (held : Option Files) (command : Command) (left : Option (List ℕ)) → wanted_by command ≡ [] → Leaves (Some command) held left
+unread_left (Some held) command left none = λ some. let empty : length (wanted_by command) ≡ 0 = ap length none in absurd (omega arith)
+unread_left None command left none = tt

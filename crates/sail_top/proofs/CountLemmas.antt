@@ -14,15 +14,11 @@ pub run_count : (run : Run) → length (wanted_by (C.Run run)) ≡ length run.mo
 run_count run =
     length-append (map wanted_model run.models) (wanted_elf run.elf ∷ []) ∙ ap (λ n. n + 1) (length-map run.models wanted_model)
 
-pub some_files : (command : Command) → IsAllowed command → 0 < length (wanted_by command)
-some_files (C.Run run) allowed = omega (arith, run_count run)
-some_files (C.Check models) allowed = omega (arith, allowed.0, length-map models wanted_model)
-some_files (C.Certs models) allowed = omega (arith, allowed.0, length-map models wanted_model)
-
 pub few_files : (command : Command) → IsAllowed command → length (wanted_by command) ≤ 65
-few_files (C.Run run) allowed = omega (arith, run_count run, allowed.models.1)
+few_files (C.Run run) allowed = omega (arith, run_count run, allowed.0.1)
 few_files (C.Check models) allowed = omega (arith, allowed.1, length-map models wanted_model)
 few_files (C.Certs models) allowed = omega (arith, allowed.1, length-map models wanted_model)
+few_files (C.Synth synth) allowed = omega arith
 
 -- so many are wanted
 pub count_of : (command : Command) (wanted : List declared.Wanted) → map as_wanted wanted ≡ wanted_by command → length wanted ≡ length (wanted_by command)

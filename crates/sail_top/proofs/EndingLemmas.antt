@@ -6,7 +6,9 @@ use Rattle.sail_outside.specs.Bytes.{Sent}
 use Rattle.sail_base.specs.declared.elf_refusal.ElfRefusal.{ElfRefusal}
 use Rattle.sail_top.proofs.ModelLemmas.{one_accepted_of, one_refusal_of, accepted_not_refused}
 use Rattle.sail_top.specs.Answer.{Judges, RunsFiles, AnswersFiles, AnswersEnd, AnswersCommand, AnswersLine, IsAnswer}
-use Rattle.sail_top.specs.Answer.{run_answer, check_answer, certs_answer, answer_if, image_unless, run_unless, model_refused}
+use Rattle.sail_top.specs.Answer.{run_answer, check_answer, certs_answer, synth_answer, accepted_text}
+use Rattle.sail_top.specs.Answer.{answer_if, image_unless, run_unless, model_refused}
+use Rattle.sail_top.specs.Seeded.{seeded_texts, seeded_image, seeded_setup, seeded_front}
 use Rattle.elf_load.specs.Placed.{place_refusal}
 use Rattle.elf_load.specs.Reading.{elf_refusal, image_of}
 use Rattle.elf_load.specs.declared.image.Image.{Image}
@@ -14,6 +16,7 @@ use Rattle.sail_words.specs.Line.{line_of}
 use Rattle.sail_words.specs.declared.command.Command.{Command}
 use Rattle.sail_words.specs.declared.command.Command.TheVariants as C
 use Rattle.sail_words.specs.declared.run.Run.{Run}
+use Rattle.sail_words.specs.declared.run.Setup.{Setup}
 use Rattle.sail_top.specs.Ending.{IsPlain, Answered, AnsweredPart, Completes}
 use Rattle.sail_top.specs.Reading.{ReadEnd, whole, absent, long, contents_at, wanted_by, reading}
 use Rattle.sail_top.specs.parts.Finished.{Finished, all, fault, wanting}
@@ -23,19 +26,19 @@ use Rattle.sail_top.specs.declared.status.Answer.{Answer}
 use Rattle.sail_top.specs.declared.status.Status.{Status}
 use Rattle.sail_top.specs.declared.status.Status.TheVariants as status
 
-plain_run : (command : Run) (model : Model) (image : Image) (refused : Option ElfRefusal)
-    → IsPlain (run_unless command model image refused).status
-plain_run command model image None = tt
-plain_run command model image (Some refusal) = tt
+plain_run : (front : List ℕ) (setup : Setup) (model : Model) (image : Image) (refused : Option ElfRefusal)
+    → IsPlain (run_unless front setup model image refused).status
+plain_run front setup model image None = tt
+plain_run front setup model image (Some refusal) = tt
 
-plain_image : (command : Run) (model : Model) (image : Image) (refused : Option ElfRefusal)
-    → IsPlain (image_unless command model image refused).status
-plain_image command model image None = plain_run command model image (place_refusal image command.ram_base command.ram_size)
-plain_image command model image (Some refusal) = tt
+plain_image : (front : List ℕ) (setup : Setup) (model : Model) (image : Image) (refused : Option ElfRefusal)
+    → IsPlain (image_unless front setup model image refused).status
+plain_image front setup model image None = plain_run front setup model image (place_refusal image setup.ram_base setup.ram_size)
+plain_image front setup model image (Some refusal) = tt
 
-plain_if : (command : Run) (model : Option Model) (file : List ℕ) → IsPlain (answer_if command model file).status
-plain_if command None file = tt
-plain_if command (Some model) file = plain_image command model (image_of file) (elf_refusal file None)
+plain_if : (front : List ℕ) (setup : Setup) (model : Option Model) (file : List ℕ) → IsPlain (answer_if front setup model file).status
+plain_if front setup None file = tt
+plain_if front setup (Some model) file = plain_image front setup model (image_of file) (elf_refusal file None)
 
 plain_judged : (answer_of : Accepted → Answer) → ((made : Accepted) → IsPlain (answer_of made).status) → (texts : List (List ℕ)) (answer : Answer)
     → Judges answer_of texts answer → IsPlain answer.status
@@ -44,9 +47,13 @@ plain_judged answer_of plain texts answer (inr read) = subst (λ a. IsPlain a.st
 
 plain_files : (command : Command) (files : List (List ℕ)) (answer : Answer) → AnswersFiles command files answer → IsPlain answer.status
 plain_files (C.Run command) files answer is =
-    plain_judged (run_answer command is.1) (λ made. plain_if command made.model is.1) is.0 answer is.3
+    plain_judged (run_answer command is.1) (λ made. plain_if [] command.setup made.model is.1) is.0 answer is.3
 plain_files (C.Check models) files answer is = plain_judged check_answer (λ made. tt) files answer is
 plain_files (C.Certs models) files answer is = plain_judged certs_answer (λ made. tt) files answer is
+plain_files (C.Synth synth) files answer is =
+    plain_judged (synth_answer synth)
+    (λ made. plain_if (seeded_front synth (accepted_text made)) (seeded_setup synth.size) made.model (seeded_image synth))
+    (seeded_texts synth) answer is
 
 plain_end : (command : Command) (end : ReadEnd) (answer : Answer) → AnswersEnd command end answer → IsPlain answer.status
 plain_end command (absent number name) answer is = subst (λ a. IsPlain a.status) (sym is) tt
@@ -96,6 +103,7 @@ one_of_files : (command : Command) (files : List (List ℕ)) (a b : Answer) → 
 one_of_files (C.Run command) files a b p q = one_of_run command files a b p q
 one_of_files (C.Check models) files a b p q = one_judged check_answer files a b p q
 one_of_files (C.Certs models) files a b p q = one_judged certs_answer files a b p q
+one_of_files (C.Synth synth) files a b p q = one_judged (synth_answer synth) (seeded_texts synth) a b p q
 
 one_end : (command : Command) (end : ReadEnd) (a b : Answer) → AnswersEnd command end a → AnswersEnd command end b → a ≡ b
 one_end command (absent number name) a b p q = p ∙ sym q

@@ -12,6 +12,7 @@ pub mod OneRefusal
 pub mod Reaching
 pub mod ReadingLemmas
 pub mod RunLemmas
+pub mod SeededLemmas
 pub mod ShortLemmas
 pub mod TableLemmas
 pub mod VariableLemmas

@@ -10,31 +10,31 @@ use Rattle.model_state.specs.RunState.{RunState, fresh}
 use Rattle.model_state.specs.declared.cause.Cause.{Cause}
 use Rattle.sail_fragment.specs.Meaning.{meaning, no_types}
 use Rattle.sail_fragment.specs.declared.model.Model.{Model}
-use Rattle.sail_words.specs.declared.run.Run.{Run}
+use Rattle.sail_words.specs.declared.run.Setup.{Setup}
 use Rattle.sail_top.specs.Run.{beginning, ram, end_from, end_of, run_text}
 
 -- the report of a run's end is what the run writes
-pub text_is : (command : Run) (model : Model) (entry base : ℕ) (bytes kept : List ℕ) (m : Meaning) (before after : RunState) (why : Cause) (steps : ℕ)
-    → m ≡ meaning model → before ≡ fresh no_types m.registers command.harts base bytes → base ≡ command.ram_base → kept ≡ bytes
-    → why ≡ (end_from command m entry before).cause
-    → steps ≡ (end_from command m entry before).steps
-    → after ≡ (end_from command m entry before).state
-    → report_text after kept why steps ≡ run_text command model entry bytes
-text_is command model entry base bytes kept m before after why steps model_is before_is base_is kept_is why_is steps_is after_is =
-    let begins : before ≡ beginning command model bytes = before_is ∙ (λ i. fresh no_types (model_is i).registers command.harts (base_is i) bytes) in
-    let ends : end_from command m entry before ≡ end_of command model entry bytes = λ i. end_from command (model_is i) entry (begins i) in
+pub text_is : (setup : Setup) (model : Model) (entry base : ℕ) (bytes kept : List ℕ) (m : Meaning) (before after : RunState) (why : Cause) (steps : ℕ)
+    → m ≡ meaning model → before ≡ fresh no_types m.registers setup.harts base bytes → base ≡ setup.ram_base → kept ≡ bytes
+    → why ≡ (end_from setup m entry before).cause
+    → steps ≡ (end_from setup m entry before).steps
+    → after ≡ (end_from setup m entry before).state
+    → report_text after kept why steps ≡ run_text setup model entry bytes
+text_is setup model entry base bytes kept m before after why steps model_is before_is base_is kept_is why_is steps_is after_is =
+    let begins : before ≡ beginning setup model bytes = before_is ∙ (λ i. fresh no_types (model_is i).registers setup.harts (base_is i) bytes) in
+    let ends : end_from setup m entry before ≡ end_of setup model entry bytes = λ i. end_from setup (model_is i) entry (begins i) in
     λ i. report_text ((after_is ∙ ap (λ (end : RunEnd). end.state) ends) i) (kept_is i) ((why_is ∙ ap (λ (end : RunEnd). end.cause) ends) i)
     ((steps_is ∙ ap (λ (end : RunEnd). end.steps) ends) i)
 
 -- why an image can't be placed over zeros
-pub refused_over : (command : Run) (image : Image) (base : ℕ) (bytes : List ℕ) (refused : Option ElfRefusal)
-    → base ≡ command.ram_base → bytes ≡ replicate command.ram_size 0 → place_refusal image base (length bytes) ≡ refused
-    → place_refusal image command.ram_base command.ram_size ≡ refused
-refused_over command image base bytes refused base_is bytes_are is =
-    let size : length bytes ≡ command.ram_size = ap length bytes_are ∙ length-replicate command.ram_size 0 in
+pub refused_over : (setup : Setup) (image : Image) (base : ℕ) (bytes : List ℕ) (refused : Option ElfRefusal)
+    → base ≡ setup.ram_base → bytes ≡ replicate setup.ram_size 0 → place_refusal image base (length bytes) ≡ refused
+    → place_refusal image setup.ram_base setup.ram_size ≡ refused
+refused_over setup image base bytes refused base_is bytes_are is =
+    let size : length bytes ≡ setup.ram_size = ap length bytes_are ∙ length-replicate setup.ram_size 0 in
     (λ i. place_refusal image (sym base_is i) (sym size i)) ∙ is
 
 -- RAM with the image
-pub ram_is : (command : Run) (image : Image) (base : ℕ) (bytes now : List ℕ)
-    → base ≡ command.ram_base → bytes ≡ replicate command.ram_size 0 → now ≡ placed image base bytes → now ≡ ram command image
-ram_is command image base bytes now base_is bytes_are is = is ∙ (λ i. placed image (base_is i) (bytes_are i))
+pub ram_is : (setup : Setup) (image : Image) (base : ℕ) (bytes now : List ℕ)
+    → base ≡ setup.ram_base → bytes ≡ replicate setup.ram_size 0 → now ≡ placed image base bytes → now ≡ ram setup image
+ram_is setup image base bytes now base_is bytes_are is = is ∙ (λ i. placed image (base_is i) (bytes_are i))

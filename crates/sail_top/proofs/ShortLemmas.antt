@@ -92,6 +92,14 @@ short_over : (command : Command) (contents : Contents) (files : List (List ℕ))
 short_over (C.Run run) contents files is = read_short run.models run.elf 0 contents files is
 short_over (C.Check models) contents files is = models_short models 0 contents files is
 short_over (C.Certs models) contents files is = models_short models 0 contents files is
+short_over (C.Synth synth) contents files is = tt
+
+-- no files
+pub none_short : (command : Command) → AreShortFor command []
+none_short (C.Run run) = tt
+none_short (C.Check models) = All-nil IsShort
+none_short (C.Certs models) = All-nil IsShort
+none_short (C.Synth synth) = tt
 
 -- the files of a command that were read whole
 pub files_short : (held : Option Files) (command : Command) (files : List (List ℕ)) (left : Option (List ℕ))

@@ -1,5 +1,5 @@
 -- What the clauses of the top call say of its status, of the bytes written and of the files.
-use Rattle.std.specs.Prelude.{◌≡◌, ℕ, List, Option, Some, None}
+use Rattle.std.specs.Prelude.{◌≡◌, ℕ, ◌<◌, List, [], length, Option, Some, None}
 use Rattle.sail_outside.specs.Files.{Files}
 use Rattle.sail_outside.specs.Bytes.{Sent, SentPart}
 use Rattle.sail_top.specs.Answer.{IsAnswer}
@@ -33,10 +33,15 @@ Completes answer status.WriteFault given now = SentPart given answer.bytes now
 Completes answer status.ReadFault given now = now ≡ given
 Completes answer ended given now = (ended ≡ answer.status) × Sent given answer.bytes now
 
--- what is left of the files of a command, where they are told and were read
+-- the words want no file: they are no command, or one that has none
+abbrev pub WantsNone : Option Command → Type 0
+WantsNone None = Unit {0}
+WantsNone (Some command) = wanted_by command ≡ []
+
+-- what is left of the files of a command, where they are told and one at least was to be read
 abbrev pub Leaves : Option Command → Option Files → Option (List ℕ) → Type 0
 Leaves None held left = Unit {0}
 Leaves (Some command) None left = Unit {0}
 Leaves (Some command) (Some files) left =
     let wanted = wanted_by command in
-    IsLeft (contents_at files wanted) (reading 0 wanted (contents_at files wanted)) left
+    0 < length wanted → IsLeft (contents_at files wanted) (reading 0 wanted (contents_at files wanted)) left

@@ -8,6 +8,7 @@ pub mod Models
 pub mod Reading
 pub mod Refusals
 pub mod Run
+pub mod Seeded
 pub mod Shaped
 pub mod Variables
 -- what follows from it

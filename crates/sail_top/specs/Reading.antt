@@ -16,11 +16,13 @@ wanted_model name = record { name = name; limit = 4194304 }
 abbrev pub wanted_elf : List ℕ → Wanted
 wanted_elf name = record { name = name; limit = 67108864 }
 
--- the files of a command in the order of reading: the models in the order of the words, then the program, which `run` alone has
+-- the files of a command in the order of reading: the models in the order of the words, then the program, which `run` alone has; none for
+-- `synth`
 abbrev pub wanted_by : Command → List Wanted
 wanted_by (C.Run run) = map wanted_model run.models ++ wanted_elf run.elf ∷ []
 wanted_by (C.Check models) = map wanted_model models
 wanted_by (C.Certs models) = map wanted_model models
+wanted_by (C.Synth synth) = []
 
 -- what is held at each file of a list: its bytes, or nothing
 abbrev pub Contents : Type 0

@@ -9,15 +9,15 @@ use Rattle.model_state.specs.RunState.{RunState, Access, fresh}
 use Rattle.model_state.specs.declared.cause.Cause.{Cause}
 use Rattle.sail_fragment.specs.Meaning.{meaning, no_types}
 use Rattle.sail_fragment.specs.declared.model.Model.{Model}
-use Rattle.sail_words.specs.declared.run.Run.{Run}
+use Rattle.sail_words.specs.declared.run.Setup.{Setup}
 
 -- RAM, zeros at first, once the image is placed
-abbrev pub ram : Run → Image → List ℕ
-ram command image = placed image command.ram_base (replicate command.ram_size 0)
+abbrev pub ram : Setup → Image → List ℕ
+ram setup image = placed image setup.ram_base (replicate setup.ram_size 0)
 
 -- the state at the beginning, over RAM of these bytes
-abbrev pub beginning : Run → Model → List ℕ → RunState
-beginning command model bytes = fresh no_types (meaning model).registers command.harts command.ram_base bytes
+abbrev pub beginning : Setup → Model → List ℕ → RunState
+beginning setup model bytes = fresh no_types (meaning model).registers setup.harts setup.ram_base bytes
 
 -- these accesses were made before
 abbrev pub behind : List Access → RunEnd → RunEnd
@@ -33,18 +33,18 @@ abbrev pub started_run : Meaning → ℕ → List ℕ → RunState → RunEnd
 started_run model entry events state =
     let first = start model entry state in then_events first.stop first.state first.accesses (run model events)
 
--- how the run of a command ends from a state
-abbrev pub end_from : Run → Meaning → ℕ → RunState → RunEnd
-end_from command model entry state = started_run model entry (schedule command.order command.steps) state
+-- how a run ends from a state
+abbrev pub end_from : Setup → Meaning → ℕ → RunState → RunEnd
+end_from setup model entry state = started_run model entry (schedule setup.order setup.steps) state
 
 -- and from the beginning, over RAM of these bytes
-abbrev pub end_of : Run → Model → ℕ → List ℕ → RunEnd
-end_of command model entry bytes = end_from command (meaning model) entry (beginning command model bytes)
+abbrev pub end_of : Setup → Model → ℕ → List ℕ → RunEnd
+end_of setup model entry bytes = end_from setup (meaning model) entry (beginning setup model bytes)
 
 -- the report of an ending, over RAM of these bytes
 abbrev pub report_of : List ℕ → RunEnd → List ℕ
 report_of bytes end = report_text end.state bytes end.cause end.steps
 
 -- what a run writes
-abbrev pub run_text : Run → Model → ℕ → List ℕ → List ℕ
-run_text command model entry bytes = report_of bytes (end_of command model entry bytes)
+abbrev pub run_text : Setup → Model → ℕ → List ℕ → List ℕ
+run_text setup model entry bytes = report_of bytes (end_of setup model entry bytes)

@@ -1,28 +1,23 @@
-ghost use Rattle.std.specs.Prelude.{◌≡◌, ◌<◌, ◌≤◌, ◌++◌, Err, IfOk, IfSome, List, None, OnOk, Some, length, true};
+ghost use Rattle.std.specs.Prelude.{◌≡◌, ◌<◌, ◌≤◌, [], Err, IfOk, Some, length, map};
 ghost use Rattle.sail_outside.specs.Faults.{Rose};
-ghost use Rattle.elf_load.specs.Placed.{Fits};
-ghost use Rattle.sail_fragment.specs.Fragment.{is_well_formed};
 ghost use Rattle.std.specs.List.{All};
 ghost use Rattle.model_tokens.specs.Files.{IsShort};
 ghost use Rattle.sail_words.specs.Line.{IsAllowed, IsWithinLimits};
+ghost use Rattle.sail_top.specs.parts.Borrowed.{as_wanted};
 ghost use Rattle.sail_top.specs.parts.Short.{AreShortButLast, AreShortFor};
 ghost use Rattle.sail_top.specs.Answer as spec;
 ghost use Rattle.sail_top.specs.Ending.{Leaves};
 ghost use Rattle.sail_top.specs.Reading.{wanted_by};
 ghost use Rattle.sail_top.specs.parts.Unread.{AnswersUnread};
 
-use crate::lines::{elf_line, named_line, refusal_line};
-use crate::models::{Accepted, ModelError, read_models};
-use crate::reading::{Unread, read_files, wanted_by};
-use crate::refusals::outside;
-use crate::run::run_text;
+use crate::accepted::{refuse_model, run_accepted, tell_certificates, tell_counts};
+use crate::lines::named_line;
+use crate::models::{ModelError, read_models};
+use crate::reading::{Unread, Wanted, read_files, wanted_by};
+use crate::seeded::judge_synth;
 use crate::status::{Answer, Status};
-use elf_load::{ElfError, Image, place, read_elf};
-use mem_store::{Flat, Memory};
-use sail_base::{ElfRefusal, Items, Refusal};
-use sail_fragment::Model;
+use sail_base::Items;
 use sail_outside::{ReadError, Shelf};
-use sail_types::push_integer;
 use sail_words::{Command, Run};
 use std::alloc::{AllocError, Global};
 
@@ -57,9 +52,40 @@ pub fn answer_command<S: Shelf>(
     ensures answer { IfOk result (spec.AnswersCommand command.now (S.holds shelf.old)) }
     ensures left { IfOk result (λ _. Leaves (Some command.now) (S.holds shelf.old) (S.left shelf.new)) }
     ensures fault { result ≡ Err Unanswered.Fault → Rose (S.faults shelf.old) (S.faults shelf.new) }
+    ensures untouched { wanted_by command.now ≡ [] → shelf.new ≡ shelf.old }
 {
     let wanted = wanted_by(alloc, command)?;
-    match read_files(alloc, shelf, wanted.as_slice()) {
+    if wanted.is_empty() {
+        let answer = answer_at_once(alloc, command)?;
+        return Ok(answer);
+    }
+    answer_read(alloc, command, wanted.as_slice(), shelf)
+}
+
+/// The answer to a command that wants no file.
+fn answer_at_once(alloc: Global, command: &Command) -> Result<Answer, AllocError>
+    requires allowed { IsAllowed command.now }
+    requires none { wanted_by command.now ≡ [] }
+    ensures { IfOk result (spec.AnswersFiles command.now []) }
+{
+    answer_files(alloc, command, Items::new(alloc))
+}
+
+/// The answer to a command that wants these files, one at least.
+fn answer_read<S: Shelf>(
+    alloc: Global,
+    command: &Command,
+    wanted: &[Wanted<'_>],
+    shelf: &mut S,
+) -> Result<Answer, Unanswered>
+    requires allowed { IsAllowed command.now }
+    requires wanted { map as_wanted wanted.now ≡ wanted_by command.now }
+    requires some { 0 < length wanted.now }
+    ensures answer { IfOk result (spec.AnswersCommand command.now (S.holds shelf.old)) }
+    ensures left { IfOk result (λ _. Leaves (Some command.now) (S.holds shelf.old) (S.left shelf.new)) }
+    ensures fault { result ≡ Err Unanswered.Fault → Rose (S.faults shelf.old) (S.faults shelf.new) }
+{
+    match read_files(alloc, shelf, wanted) {
         Ok(files) => {
             let answer = answer_files(alloc, command, files)?;
             Ok(answer)
@@ -109,6 +135,7 @@ fn answer_files(
         Command::Run(run) => answer_run(alloc, run, files),
         Command::Check(_) => judge_counts(alloc, files.as_slice()),
         Command::Certs(_) => judge_certificates(alloc, files.as_slice()),
+        Command::Synth(synth) => judge_synth(alloc, synth),
     }
 }
 
@@ -118,7 +145,7 @@ fn answer_run(
     command: &Run,
     mut files: Items<Items<u8>>,
 ) -> Result<Answer, AllocError>
-    requires limits { IsWithinLimits command.now }
+    requires limits { IsWithinLimits command.now.setup }
     requires some { 0 < length files }
     requires few { length files ≤ 65 }
     requires short { AreShortButLast files }
@@ -137,13 +164,13 @@ fn judge(
     texts: &[Items<u8>],
     file: &[u8],
 ) -> Result<Answer, AllocError>
-    requires limits { IsWithinLimits command.now }
+    requires limits { IsWithinLimits command.now.setup }
     requires few { length texts.now ≤ 64 }
     requires short { All IsShort texts.now }
     ensures { IfOk result (spec.Judges (spec.run_answer command.now file.now) texts.now) }
 {
     match read_models(alloc, texts) {
-        Ok(made) => run_accepted(alloc, command, made, file),
+        Ok(made) => run_accepted(alloc, b"", &command.setup, made, file),
         Err(ModelError::Refused(refusal)) => refuse_model(alloc, refusal),
         Err(ModelError::OutOfMemory) => Err(AllocError),
     }
@@ -173,138 +200,4 @@ fn judge_certificates(alloc: Global, texts: &[Items<u8>]) -> Result<Answer, Allo
         Err(ModelError::Refused(refusal)) => refuse_model(alloc, refusal),
         Err(ModelError::OutOfMemory) => Err(AllocError),
     }
-}
-
-/// The answer of `check` for an accepted model.
-fn tell_counts(alloc: Global, made: Accepted) -> Result<Answer, AllocError>
-    ensures { IfOk result (λ answer. answer ≡ spec.check_answer made) }
-{
-    let mut bytes = Vec::new(alloc);
-    push_counts(&mut bytes, &made)?;
-    Ok(told(bytes))
-}
-
-/// Puts how many functions, obligations and instances an accepted model has. The one error is want of memory.
-fn push_counts(out: &mut Vec<u8>, made: &Accepted) -> Result<(), AllocError>
-    ensures { OnOk result (out.new.items ≡ out.old.items ++ spec.accepted_text made.now) }
-{
-    made.certified.push_counts(out)?;
-    out.extend_from_slice(b" ")?;
-    push_integer(out, made.instances.len() as i128)?;
-    out.extend_from_slice(b" instances\n")
-}
-
-/// The answer of `certs` for an accepted model.
-fn tell_certificates(alloc: Global, made: Accepted) -> Result<Answer, AllocError>
-    ensures { IfOk result (λ answer. answer ≡ spec.certs_answer made) }
-{
-    let mut bytes = Vec::new(alloc);
-    made.certified.push_certificates(&mut bytes)?;
-    Ok(told(bytes))
-}
-
-/// The answer that is a text.
-fn told(bytes: Vec<u8>) -> Answer
-    ensures { result ≡ spec.told bytes.items }
-{
-    Answer {
-        status: Status::Done,
-        bytes: Items::from_vec(bytes),
-    }
-}
-
-/// The answer of `run` for an accepted model and a program's file. A model that doesn't run today is refused.
-fn run_accepted(
-    alloc: Global,
-    command: &Run,
-    made: Accepted,
-    file: &[u8],
-) -> Result<Answer, AllocError>
-    requires limits { IsWithinLimits command.now }
-    requires well_formed { IfSome made.model (λ model. is_well_formed model ≡ true) }
-    ensures { IfOk result (λ answer. answer ≡ spec.run_answer command.now file.now made) }
-{
-    let Accepted {
-        certified: _,
-        instances: _,
-        model,
-    } = made;
-    match model {
-        Some(model) => judge_file(alloc, command, model, file),
-        None => refuse_model(alloc, outside(alloc)?),
-    }
-}
-
-/// The answer for a model and a program's file.
-fn judge_file(alloc: Global, command: &Run, model: Model, file: &[u8]) -> Result<Answer, AllocError>
-    requires limits { IsWithinLimits command.now }
-    requires well_formed { is_well_formed model ≡ true }
-    ensures { IfOk result (λ answer. answer ≡ spec.answer_for command.now model file.now) }
-{
-    match read_elf(alloc, file, None) {
-        Ok(image) => judge_image(alloc, command, model, &image),
-        Err(ElfError::Refused(refusal)) => refuse_image(alloc, refusal),
-        Err(ElfError::OutOfMemory) => Err(AllocError),
-    }
-}
-
-/// The answer for a model and an image.
-fn judge_image(
-    alloc: Global,
-    command: &Run,
-    model: Model,
-    image: &Image,
-) -> Result<Answer, AllocError>
-    requires limits { IsWithinLimits command.now }
-    requires well_formed { is_well_formed model ≡ true }
-    requires fits { Fits image.now }
-    ensures { IfOk result (λ answer. answer ≡ spec.image_answer command.now model image.now) }
-{
-    let mut memory = Flat::new(alloc, command.ram_base, command.ram_size)?;
-    match place(image, &mut memory) {
-        Ok(()) => run_model(alloc, command, model, image.entry, memory),
-        Err(refusal) => refuse_image(alloc, refusal),
-    }
-}
-
-/// The answer where the models are refused.
-fn refuse_model(alloc: Global, refusal: Refusal) -> Result<Answer, AllocError>
-    ensures { IfOk result (λ answer. answer ≡ spec.model_refused refusal) }
-{
-    let bytes = Items::from_vec(refusal_line(alloc, &refusal)?);
-    Ok(Answer {
-        status: Status::ModelRefused(refusal),
-        bytes,
-    })
-}
-
-/// The answer where the program's file is refused.
-fn refuse_image(alloc: Global, refusal: ElfRefusal) -> Result<Answer, AllocError>
-    ensures { IfOk result (λ answer. answer ≡ spec.image_refused refusal) }
-{
-    let bytes = Items::from_vec(elf_line(alloc, refusal)?);
-    Ok(Answer {
-        status: Status::ElfRefused(refusal),
-        bytes,
-    })
-}
-
-/// The answer of a run over a memory in which the image is placed.
-fn run_model(
-    alloc: Global,
-    command: &Run,
-    model: Model,
-    entry: u64,
-    memory: Flat,
-) -> Result<Answer, AllocError>
-    requires limits { IsWithinLimits command.now }
-    requires well_formed { is_well_formed model ≡ true }
-    requires base { ⟦<Flat as Memory>⟧.base memory ≡ command.now.ram_base }
-    ensures { IfOk result (λ answer. answer ≡ spec.done command.now model entry (⟦<Flat as Memory>⟧.bytes memory)) }
-{
-    let text = run_text(alloc, command, model, entry, memory)?;
-    Ok(Answer {
-        status: Status::Done,
-        bytes: Items::from_vec(text),
-    })
 }

@@ -61,7 +61,7 @@ fn wanted_by_run(alloc: Global, run: &Run) -> Result<Vec<Wanted<'_>>, AllocError
     Ok(files)
 }
 
-/// The files of a command in the order of reading: the models in the order of the words, then the program of `run`.
+/// The files of a command in the order of reading: the models in the order of the words, then the program of `run`; none for `synth`.
 pub fn wanted_by(alloc: Global, command: &Command) -> Result<Vec<Wanted<'_>>, AllocError>
     ensures { IfOk result (λ files. map as_wanted files.items ≡ spec.wanted_by command.now) }
 {
@@ -69,6 +69,7 @@ pub fn wanted_by(alloc: Global, command: &Command) -> Result<Vec<Wanted<'_>>, Al
         Command::Run(run) => wanted_by_run(alloc, run),
         Command::Check(models) => wanted_models(alloc, models.as_slice()),
         Command::Certs(models) => wanted_models(alloc, models.as_slice()),
+        Command::Synth(_) => Ok(Vec::new(alloc)),
     }
 }
 

@@ -9,7 +9,7 @@ use harts::{Ending, run_order, start};
 use mem_store::Memory;
 use model_state::{Start, State, Stepper, report};
 use sail_fragment::{Machine, Model, no_types};
-use sail_words::Run;
+use sail_words::Setup;
 use std::alloc::{AllocError, Global};
 
 /// What a run of a model writes: the console's bytes and the report.
@@ -17,50 +17,44 @@ use std::alloc::{AllocError, Global};
 /// The one error is want of memory.
 pub fn run_text<M: Memory + Drop>(
     alloc: Global,
-    command: &Run,
+    setup: &Setup,
     model: Model,
     entry: u64,
     memory: M,
 ) -> Result<Vec<u8>, AllocError>
-    requires limits { IsWithinLimits command.now }
+    requires limits { IsWithinLimits setup.now }
     requires well_formed { is_well_formed model ≡ true }
-    requires base { M.base memory ≡ command.now.ram_base }
-    ensures { IfOk result (λ text. text.items ≡ spec.run_text command.now model entry (M.bytes memory)) }
+    requires base { M.base memory ≡ setup.now.ram_base }
+    ensures { IfOk result (λ text. text.items ≡ spec.run_text setup.now model entry (M.bytes memory)) }
 {
     let mut machine = Machine::new(alloc, model)?;
     let registers = machine.registers(alloc)?;
     let placed = Start::of(alloc, &memory)?;
-    let mut state = State::new(alloc, no_types(alloc), registers, command.harts, memory)?;
-    let ending = run_from(alloc, command, &mut machine, &mut state, entry)?;
+    let mut state = State::new(alloc, no_types(alloc), registers, setup.harts, memory)?;
+    let ending = run_from(alloc, setup, &mut machine, &mut state, entry)?;
     report(alloc, &state, &placed, &ending.cause, ending.steps)
 }
 
-/// Starts the harts of a model at an entry, and runs the events of a command unless the start stopped.
+/// Starts the harts of a model at an entry, and runs its events unless the start stopped.
 ///
 /// The one error is want of memory.
 fn run_from<P: Stepper, M: Memory>(
     alloc: Global,
-    command: &Run,
+    setup: &Setup,
     stepper: &mut P,
     state: &mut State<M>,
     entry: u64,
 ) -> Result<Ending, AllocError>
-    requires limits { IsWithinLimits command.now }
+    requires limits { IsWithinLimits setup.now }
     requires registers { state.old.registers ≡ (P.meaning stepper.old).registers }
-    requires harts { length state.old.harts ≡ command.now.harts }
-    ensures cause { IfOk result (λ ending. ending.cause ≡ (spec.end_from command.now (P.meaning stepper.old) entry state.old).cause) }
-    ensures steps { IfOk result (λ ending. ending.steps ≡ (spec.end_from command.now (P.meaning stepper.old) entry state.old).steps) }
-    ensures state { OnOk result (state.new ≡ (spec.end_from command.now (P.meaning stepper.old) entry state.old).state) }
+    requires harts { length state.old.harts ≡ setup.now.harts }
+    ensures cause { IfOk result (λ ending. ending.cause ≡ (spec.end_from setup.now (P.meaning stepper.old) entry state.old).cause) }
+    ensures steps { IfOk result (λ ending. ending.steps ≡ (spec.end_from setup.now (P.meaning stepper.old) entry state.old).steps) }
+    ensures state { OnOk result (state.new ≡ (spec.end_from setup.now (P.meaning stepper.old) entry state.old).state) }
     ensures keeps { OnOk result (Keeps state.old state.new) }
 {
     match start(alloc, stepper, state, entry)? {
         Some(cause) => Ok(Ending { cause, steps: 0 }),
-        None => run_order(
-            alloc,
-            stepper,
-            state,
-            command.order.as_slice(),
-            command.steps,
-        ),
+        None => run_order(alloc, stepper, state, setup.order.as_slice(), setup.steps),
     }
 }

@@ -1,4 +1,4 @@
-ghost use Rattle.std.specs.Prelude.{◌≡◌, Some, None, IfOk, Err, map};
+ghost use Rattle.std.specs.Prelude.{◌≡◌, Some, IfOk, Err, map};
 ghost use Rattle.std.specs.String.{string_bytes};
 ghost use Rattle.sail_outside.specs.Files.{Files};
 ghost use Rattle.sail_outside.specs.Faults.{Rose};
@@ -6,7 +6,7 @@ ghost use Rattle.sail_top.specs.declared.status.Answer.{Answer};
 ghost use Rattle.sail_top.specs.Answer as spec;
 ghost use Rattle.sail_top.specs.Answer.{IsAnswer};
 ghost use Rattle.sail_words.specs.Line.{line_of};
-ghost use Rattle.sail_top.specs.Ending.{IsPlain, Answered, AnsweredPart, Completes, Leaves};
+ghost use Rattle.sail_top.specs.Ending.{IsPlain, Answered, AnsweredPart, Completes, Leaves, WantsNone};
 ghost use Rattle.sail_top.specs.parts.Finished.{Finished};
 
 use crate::answer::{Unanswered, answer_command};
@@ -19,7 +19,7 @@ use std::alloc::{AllocError, Global};
 /// Does what the program does: answers its words, with its files on a shelf and its output to a sink.
 ///
 /// The words are those behind the program's name. The commands are `check MODEL..`, `certs MODEL..` and `run --elf FILE [--steps N]
-/// [--harts N] [--order DIGITS] [--ram-base N] [--ram-size N] MODEL..`, its options in any order; every other list of words is
+/// [--harts N] [--order DIGITS] [--ram-base N] [--ram-size N] MODEL..`, its options in any order, and `synth SEED SIZE`; every other list of words is
 /// `Usage`. The statuses and when they come stand at [`Status`]; each but `ReadFault`, `WriteFault` and
 /// `OutOfMemory` is answered only where all that it has to say was written.
 pub fn run_words<S: Shelf, K: Sink>(
@@ -39,9 +39,9 @@ pub fn run_words<S: Shelf, K: Sink>(
     ensures write_fault { result ≡ Status.WriteFault → Rose (K.faults out.old) (K.faults out.new) }
     ensures front_written { result ≡ Status.WriteFault → AnsweredPart (map string_bytes words.now) (S.holds files.old) (K.given out.old) (K.given out.new) }
 
-    // How far the files were read: not at all where the words are no command.
+    // How far the files were read: not at all where the words want none.
     ensures left { IsPlain result → Leaves (line_of (map string_bytes words.now)) (S.holds files.old) (S.left files.new) }
-    ensures untouched { line_of (map string_bytes words.now) ≡ None → files.new ≡ files.old }
+    ensures untouched { WantsNone (line_of (map string_bytes words.now)) → files.new ≡ files.old }
 {
     match answer_words(alloc, words, files) {
         Ok(answer) => finish(answer, out),
@@ -59,7 +59,7 @@ fn answer_words<S: Shelf>(
     ensures answer { IfOk result (IsAnswer (map string_bytes words.now) (S.holds files.old)) }
     ensures left { IfOk result (λ _. Leaves (line_of (map string_bytes words.now)) (S.holds files.old) (S.left files.new)) }
     ensures fault { result ≡ Err Unanswered.Fault → Rose (S.faults files.old) (S.faults files.new) }
-    ensures untouched { line_of (map string_bytes words.now) ≡ None → files.new ≡ files.old }
+    ensures untouched { WantsNone (line_of (map string_bytes words.now)) → files.new ≡ files.old }
 {
     match line(alloc, words) {
         Ok(command) => answer_command(alloc, &command, files),

@@ -13,10 +13,12 @@ use borrow.Author.Tests.{leb-true, ltb-true}
 use Rattle.clap.specs.Words.{Row, first_of, all_of}
 use Rattle.sail_words.specs.declared.numbers.Numbers.{Numbers}
 use Rattle.sail_words.specs.declared.run.Run.{Run}
+use Rattle.sail_words.specs.declared.synth.Synth.{Synth}
 use Rattle.sail_words.specs.Numbers.{is_numeral, number_in, names_hart, order_in, all_harts}
 use Rattle.sail_words.specs.declared.command.Command.{Command}
 use Rattle.sail_words.specs.declared.command.Command.TheVariants as C
-use Rattle.sail_words.specs.Line.{number_of, numbers_of, order_of, run_of, few_models, models_of, command_of, IsWithinLimits, IsAllowed}
+use Rattle.sail_words.specs.Line.{number_of, given_number, numbers_of, order_of, run_of, few_models, models_of, synth_of, command_of}
+use Rattle.sail_words.specs.Line.{IsWithinLimits, AreFew, IsSized, IsAllowed}
 
 -- what there is was made of something that is there
 some_of : {A B : Type 0} (o : Option A) (f : A → Option B) (b : B)
@@ -101,7 +103,7 @@ order_of-within harts order rows low high = go (first_of (codes "order") rows)
         let some : 0 < length word = omega (arith, eqb-false (length word) 0 (not-true (length word == 0) u.0)) in
         subst P t.1 (omega (arith, length-map word (λ byte. byte - 48)), named-harts harts word u.1)
 
-run_of-within : (rows : List Row) (run : Run) → run_of rows ≡ Some run → IsWithinLimits run
+run_of-within : (rows : List Row) (run : Run) → run_of rows ≡ Some run → AreFew run.models × IsWithinLimits run.setup
 run_of-within rows run e =
     let f = some_of (first_of (codes "elf") rows) _ run e in
     let m = some_of (all_of (codes "model") rows) _ run f.2 in
@@ -112,51 +114,76 @@ run_of-within rows run e =
     let made : Run = record {
       elf = f.0;
       models = m.0;
-      steps = n.0.steps;
-      harts = n.0.harts;
-      order = o.0;
-      ram_base = n.0.ram_base;
-      ram_size = n.0.ram_size;
+      setup = record {
+        steps = n.0.steps;
+        harts = n.0.harts;
+        order = o.0;
+        ram_base = n.0.ram_base;
+        ram_size = n.0.ram_size;
+      };
     } in
     let few = nat_le (length made.models) 64 in
-    let space = nat_le (made.ram_base + made.ram_size) (2 ^ 64) in
+    let space = nat_le (made.setup.ram_base + made.setup.ram_size) (2 ^ 64) in
     let t = then_some (nat_le 1 (length made.models) && (few && space)) made run o.2 in
     let u = and_parts (nat_le 1 (length made.models)) (few && space) t.0 in
     let v = and_parts few space u.1 in
-    subst IsWithinLimits t.1 (record {
-      models = (leb-true 1 (length made.models) u.0, leb-true (length made.models) 64 v.0);
-      harts = numbers.0;
-      order = order;
-      size = numbers.1;
-      space = leb-true (made.ram_base + made.ram_size) (2 ^ 64) v.1;
-    })
+    let P : Run → Type 0 = λ r. AreFew r.models × IsWithinLimits r.setup in
+    subst P t.1 (
+      (leb-true 1 (length made.models) u.0, leb-true (length made.models) 64 v.0),
+      record {
+        harts = numbers.0;
+        order = order;
+        size = numbers.1;
+        space = leb-true (made.setup.ram_base + made.setup.ram_size) (2 ^ 64) v.1;
+      },
+    )
 
 -- what was mapped was there
 mapped : {A B : Type 0} (f : A → B) (o : Option A) (b : B) → option_map f o ≡ Some b → (a : A) × (o ≡ Some a) × (f a ≡ b)
 mapped f None b e = cc
 mapped f (Some a) b e = (a, refl, cc)
 
-models_of-within : (rows : List Row) (models : List (List ℕ)) → models_of rows ≡ Some models → (1 ≤ length models) × (length models ≤ 64)
+models_of-within : (rows : List Row) (models : List (List ℕ)) → models_of rows ≡ Some models → AreFew models
 models_of-within rows models e =
     let m = some_of (all_of (codes "model") rows) few_models models e in
     let t = then_some (nat_le 1 (length m.0) && nat_le (length m.0) 64) m.0 models m.2 in
     let u = and_parts (nat_le 1 (length m.0)) (nat_le (length m.0) 64) t.0 in
-    subst (λ (ms : List (List ℕ)). (1 ≤ length ms) × (length ms ≤ 64)) t.1 (leb-true 1 (length m.0) u.0, leb-true (length m.0) 64 u.1)
+    subst AreFew t.1 (leb-true 1 (length m.0) u.0, leb-true (length m.0) 64 u.1)
 
-command_by : (rows : List Row) (command : Command) (run check certs : Bool) →
+given_number-within : (name : List ℕ) (least most n : ℕ) (rows : List Row) → given_number name least most rows ≡ Some n
+    → (least ≤ n) × (n ≤ most)
+given_number-within name least most n rows e =
+    let w = some_of (first_of name rows) (number_in least most) n e in number_in-within least most n w.0 w.2
+
+synth_of-within : (rows : List Row) (synth : Synth) → synth_of rows ≡ Some synth → IsSized synth
+synth_of-within rows synth e =
+    let s = some_of (given_number (codes "seed") 0 65535 rows) _ synth e in
+    let z = some_of (given_number (codes "size") 1 4000 rows) _ synth s.2 in
+    let made : Synth = record { seed = s.0; size = z.0 } in
+    let same : made ≡ synth = cc in
+    subst IsSized same (record {
+      seed = (given_number-within (codes "seed") 0 65535 s.0 rows s.1).1;
+      size = given_number-within (codes "size") 1 4000 z.0 rows z.1;
+    })
+
+command_by : (rows : List Row) (command : Command) (run check certs synth : Bool) →
     (if run then option_map C.Run (run_of rows) else if check then option_map C.Check (models_of rows)
-    else if certs then option_map C.Certs (models_of rows) else None) ≡ Some command → IsAllowed command
-command_by rows command true check certs e =
+    else if certs then option_map C.Certs (models_of rows) else if synth then option_map C.Synth (synth_of rows) else None) ≡ Some command
+    → IsAllowed command
+command_by rows command true check certs synth e =
     let m = mapped C.Run (run_of rows) command e in subst IsAllowed m.2 (run_of-within rows m.0 m.1)
-command_by rows command false true certs e =
+command_by rows command false true certs synth e =
     let m = mapped C.Check (models_of rows) command e in subst IsAllowed m.2 (models_of-within rows m.0 m.1)
-command_by rows command false false true e =
+command_by rows command false false true synth e =
     let m = mapped C.Certs (models_of rows) command e in subst IsAllowed m.2 (models_of-within rows m.0 m.1)
-command_by rows command false false false e = cc
+command_by rows command false false false true e =
+    let m = mapped C.Synth (synth_of rows) command e in subst IsAllowed m.2 (synth_of-within rows m.0 m.1)
+command_by rows command false false false false e = cc
 
 -- what is read of the values keeps to the limits
 pub IfOk-allowed : {E : Type 0} (name : List ℕ) (rows : List Row) (r : Result Command E) → IfOk r (λ command. command_of name rows ≡ Some command)
     → IfOk r IsAllowed
 IfOk-allowed name rows (Ok command) e =
-    command_by rows command (bytes_eq name (codes "run")) (bytes_eq name (codes "check")) (bytes_eq name (codes "certs")) e
+    command_by rows command (bytes_eq name (codes "run")) (bytes_eq name (codes "check")) (bytes_eq name (codes "certs"))
+    (bytes_eq name (codes "synth")) e
 IfOk-allowed name rows (Err e) u = tt

@@ -8,6 +8,8 @@ use Rattle.sail_words.specs.declared.command.Command.{Command}
 use Rattle.sail_words.specs.declared.command.Command.TheVariants as C
 use Rattle.sail_words.specs.declared.numbers.Numbers.{Numbers}
 use Rattle.sail_words.specs.declared.run.Run.{Run}
+use Rattle.sail_words.specs.declared.run.Setup.{Setup}
+use Rattle.sail_words.specs.declared.synth.Synth.{Synth}
 use Rattle.sail_words.specs.Numbers.{number_in, order_in, all_harts}
 use Rattle.sail_words.specs.Program.{program}
 
@@ -18,6 +20,10 @@ abbrev ◌>>=◌ : {A B : Type 0} → Option A → (A → Option B) → Option B
 -- the number of an option, or the default where it isn't given
 abbrev pub number_of : List ℕ → ℕ → ℕ → ℕ → List Row → Option ℕ
 number_of name default least most rows = option_map_or (number_in least most) (first_of name rows) (Some default)
+
+-- the number of an argument, where it is given
+abbrev pub given_number : List ℕ → ℕ → ℕ → List Row → Option ℕ
+given_number name least most rows = option_and_then (number_in least most) (first_of name rows)
 
 -- the order of the harts, or from 0 on where none is given
 abbrev pub order_of : ℕ → List Row → Option (List ℕ)
@@ -35,7 +41,7 @@ numbers_of rows = do
 -- a run with 1 to 64 models and a RAM that doesn't pass the address space
 abbrev pub within_limits : Run → Option Run
 within_limits run =
-    if nat_le 1 (length run.models) && (nat_le (length run.models) 64 && nat_le (run.ram_base + run.ram_size) (2 ^ 64))
+    if nat_le 1 (length run.models) && (nat_le (length run.models) 64 && nat_le (run.setup.ram_base + run.setup.ram_size) (2 ^ 64))
     then Some run
     else None
 
@@ -49,11 +55,13 @@ run_of rows = do
   within_limits (record {
     elf = elf;
     models = models;
-    steps = numbers.steps;
-    harts = numbers.harts;
-    order = order;
-    ram_base = numbers.ram_base;
-    ram_size = numbers.ram_size;
+    setup = record {
+      steps = numbers.steps;
+      harts = numbers.harts;
+      order = order;
+      ram_base = numbers.ram_base;
+      ram_size = numbers.ram_size;
+    };
   })
 
 -- 1 to 64 models
@@ -64,27 +72,44 @@ few_models models = if nat_le 1 (length models) && nat_le (length models) 64 the
 abbrev pub models_of : List Row → Option (List (List ℕ))
 models_of rows = option_and_then few_models (all_of (codes "model") rows)
 
+-- what `synth` asks for
+abbrev pub synth_of : List Row → Option Synth
+synth_of rows = do
+  seed ← given_number (codes "seed") 0 65535 rows
+  size ← given_number (codes "size") 1 4000 rows
+  Some (record { seed = seed; size = size })
+
 -- what a subcommand asks for
 abbrev pub command_of : List ℕ → List Row → Option Command
 command_of name rows =
     if bytes_eq name (codes "run") then option_map C.Run (run_of rows)
     else if bytes_eq name (codes "check") then option_map C.Check (models_of rows)
     else if bytes_eq name (codes "certs") then option_map C.Certs (models_of rows)
+    else if bytes_eq name (codes "synth") then option_map C.Synth (synth_of rows)
     else None
 
--- what every run that words ask for keeps to
-pub record IsWithinLimits (run : Run) : Type 0 where
-  pub models : (1 ≤ length run.models) × (length run.models ≤ 64)
-  pub harts : (1 ≤ run.harts) × (run.harts ≤ 8)
-  pub order : (0 < length run.order) × All (λ hart. hart < run.harts) run.order
-  pub size : (1 ≤ run.ram_size) × (run.ram_size ≤ 67108864)
-  pub space : run.ram_base + run.ram_size ≤ 2 ^ 64
+-- how every program is run that words ask for
+pub record IsWithinLimits (setup : Setup) : Type 0 where
+  pub harts : (1 ≤ setup.harts) × (setup.harts ≤ 8)
+  pub order : (0 < length setup.order) × All (λ hart. hart < setup.harts) setup.order
+  pub size : (1 ≤ setup.ram_size) × (setup.ram_size ≤ 67108864)
+  pub space : setup.ram_base + setup.ram_size ≤ 2 ^ 64
+
+-- 1 to 64 models
+abbrev pub AreFew : List (List ℕ) → Type 0
+AreFew models = (1 ≤ length models) × (length models ≤ 64)
+
+-- the numbers of `synth`
+pub record IsSized (synth : Synth) : Type 0 where
+  pub seed : synth.seed ≤ 65535
+  pub size : (1 ≤ synth.size) × (synth.size ≤ 4000)
 
 -- what every command that words ask for keeps to
 abbrev pub IsAllowed : Command → Type 0
-IsAllowed (C.Run run) = IsWithinLimits run
-IsAllowed (C.Check models) = (1 ≤ length models) × (length models ≤ 64)
-IsAllowed (C.Certs models) = (1 ≤ length models) × (length models ≤ 64)
+IsAllowed (C.Run run) = AreFew run.models × IsWithinLimits run.setup
+IsAllowed (C.Check models) = AreFew models
+IsAllowed (C.Certs models) = AreFew models
+IsAllowed (C.Synth synth) = IsSized synth
 
 -- the words without the program's name: none where clap finds a fault, or a number or an order is none
 abbrev pub line_of : List (List ℕ) → Option Command

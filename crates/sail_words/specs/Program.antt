@@ -1,4 +1,5 @@
--- The command line as `clap` is told of it: the subcommand `run` with its options and its models, and `check` and `certs` with their models.
+-- The command line as `clap` is told of it: the subcommand `run` with its options and its models, `check` and `certs` with their models,
+-- and `synth` with its numbers.
 use Rattle.std.specs.Prelude.{true, Some, List, ℕ, codes}
 use Rattle.clap.specs.Lexer.{usize_max}
 use Rattle.clap.specs.Words.{App, Rule, new_app, new_rule, with_rule, with_subcommand}
@@ -18,6 +19,10 @@ models = record (new_rule (codes "model")) {
   range = Some (record { start_inclusive = 1; end_inclusive = usize_max });
 }
 
+-- one word that belongs to no option
+abbrev pub operand : List ℕ → Rule
+operand name = record (new_rule name) { required = true }
+
 -- the options that take a number
 abbrev pub with_numbers : App → App
 with_numbers command =
@@ -33,6 +38,10 @@ run_command = with_numbers (with_rule (with_rule (with_rule (new_app (codes "run
 abbrev pub models_command : List ℕ → App
 models_command name = with_rule (new_app name) models
 
+-- `synth SEED SIZE`
+abbrev pub synth_command : App
+synth_command = with_rule (with_rule (new_app (codes "synth")) (operand (codes "seed"))) (operand (codes "size"))
+
 -- the words without the program's name: a subcommand, and no help, no version
 abbrev pub bare : App
 bare = record (new_app (codes "sail-run")) {
@@ -45,7 +54,11 @@ bare = record (new_app (codes "sail-run")) {
   };
 }
 
-abbrev pub program : App
-program =
+-- with the subcommands that take files
+abbrev pub with_files : App
+with_files =
     with_subcommand (with_subcommand (with_subcommand bare run_command.top)
     (models_command (codes "check")).top) (models_command (codes "certs")).top
+
+abbrev pub program : App
+program = with_subcommand with_files synth_command.top

@@ -1,4 +1,5 @@
 use crate::run::Run;
+use crate::synth::Synth;
 use sail_base::{Items, Text};
 
 /// What a command line asks for.
@@ -10,6 +11,8 @@ pub enum Command {
     Check(Items<Text>),
     /// The obligations of models with their certificates, by the names of their files, likewise.
     Certs(Items<Text>),
+    /// A run of a program under a model, both made of a seed.
+    Synth(Synth),
 }
 
 impl Drop for Command {
@@ -18,6 +21,7 @@ impl Drop for Command {
             Command::Run(_) => {}
             Command::Check(_) => {}
             Command::Certs(_) => {}
+            Command::Synth(_) => {}
         }
     }
 }

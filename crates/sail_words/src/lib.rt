@@ -10,8 +10,10 @@ mod order;
 mod program;
 mod reading;
 mod run;
+mod synth;
 mod values;
 
 pub use command::Command;
 pub use reading::{LineError, line};
-pub use run::Run;
+pub use run::{Run, Setup};
+pub use synth::Synth;

@@ -67,6 +67,17 @@ fn number_of(
     }
 }
 
+/// The number of an argument, where it is given.
+pub fn given_number(values: &ArgMatches<'_>, name: &str, least: u64, most: u64) -> Option<u64>
+    ensures value { result ≡ spec.given_number name.now least most (rows_of (found_of values.now)) }
+    ensures within { IfSome result (λ number. (least ≤ number) × (number ≤ most)) }
+{
+    match value_of(values, name) {
+        Some(word) => number_in(least, most, word),
+        None => None,
+    }
+}
+
 /// The numbers of the options of `run`, each its default where it isn't given.
 pub fn numbers_of(values: &ArgMatches<'_>) -> Option<Numbers>
     ensures value { result ≡ spec.numbers_of (rows_of (found_of values.now)) }

@@ -31,6 +31,14 @@ fn models<'a>(alloc: Global) -> Arg<'a>
     Arg::new(alloc, "model").required(true).num_args(1..)
 }
 
+/// One word that belongs to no option.
+fn operand<'a>(alloc: Global, name: &'a str) -> Arg<'a>
+    ensures rule { rule_of result ≡ spec.operand name.entry.now }
+    ensures local { result.global ≡ false }
+{
+    Arg::new(alloc, name).required(true)
+}
+
 /// The command with one more argument, which isn't global.
 fn with_argument<'a>(command: Command<'a>, argument: Arg<'a>) -> Result<Command<'a>, AllocError>
     requires { argument.global ≡ false }
@@ -84,6 +92,15 @@ fn models_command<'a>(alloc: Global, name: &'a str) -> Result<Command<'a>, Alloc
     with_argument(Command::new(alloc, name), models(alloc))
 }
 
+/// The subcommand `synth`.
+fn synth_command<'a>(alloc: Global) -> Result<Command<'a>, AllocError>
+    ensures app { IfOk result (λ made. app_of made ≡ spec.synth_command) }
+    ensures local { IfOk result (λ made. (fields_of made).has_globals ≡ false) }
+{
+    let command = with_argument(Command::new(alloc, "synth"), operand(alloc, "seed"))?;
+    with_argument(command, operand(alloc, "size"))
+}
+
 /// The words without the program's name: no help and no version.
 fn bare<'a>(alloc: Global) -> Command<'a>
     ensures app { app_of result ≡ spec.bare }
@@ -97,12 +114,21 @@ fn bare<'a>(alloc: Global) -> Command<'a>
         .subcommand_required(true)
 }
 
-/// The whole command line.
-pub fn program<'a>(alloc: Global) -> Result<Command<'a>, AllocError>
-    ensures app { IfOk result (λ made. app_of made ≡ spec.program) }
+/// The command line with the subcommands that take files.
+fn with_files<'a>(alloc: Global) -> Result<Command<'a>, AllocError>
+    ensures app { IfOk result (λ made. app_of made ≡ spec.with_files) }
     ensures local { IfOk result (λ made. (fields_of made).has_globals ≡ false) }
 {
     let command = with_command(bare(alloc), run_command(alloc)?)?;
     let command = with_command(command, models_command(alloc, "check")?)?;
     with_command(command, models_command(alloc, "certs")?)
+}
+
+/// The whole command line.
+pub fn program<'a>(alloc: Global) -> Result<Command<'a>, AllocError>
+    ensures app { IfOk result (λ made. app_of made ≡ spec.program) }
+    ensures local { IfOk result (λ made. (fields_of made).has_globals ≡ false) }
+{
+    let command = with_files(alloc)?;
+    with_command(command, synth_command(alloc)?)
 }

@@ -1,13 +1,14 @@
 ghost use Rattle.std.specs.Prelude.{◌≡◌, ◌+◌, ◌^◌, nat_le, IfOk, IsErrOf, None, Some, map};
 ghost use Rattle.std.specs.String.{string_bytes};
 ghost use Rattle.clap.specs.Words.{rows_of, found_of};
-ghost use Rattle.sail_words.specs.Line.{line_of, command_of, models_of, run_of, IsAllowed};
+ghost use Rattle.sail_words.specs.Line.{line_of, command_of, models_of, run_of, synth_of, IsAllowed};
 
 use crate::command::Command;
-use crate::numbers::numbers_of;
+use crate::numbers::{given_number, numbers_of};
 use crate::order::order_of;
 use crate::program::program;
-use crate::run::Run;
+use crate::run::{Run, Setup};
+use crate::synth::Synth;
 use crate::values::{value_of, values_of};
 use clap::ArgMatches;
 use clap::error::ErrorKind;
@@ -74,6 +75,12 @@ fn read_command(alloc: Global, name: &str, values: &ArgMatches<'_>) -> Result<Co
         let models = read_models(alloc, values)?;
         return Ok(Command::Certs(models));
     }
+    if name == "synth" {
+        let Some(synth) = read_synth(values) else {
+            return Err(LineError::Usage);
+        };
+        return Ok(Command::Synth(synth));
+    }
     Err(LineError::Usage)
 }
 
@@ -90,6 +97,18 @@ fn read_models(alloc: Global, values: &ArgMatches<'_>) -> Result<Items<Text>, Li
     }
     let models = texts(alloc, models)?;
     Ok(models)
+}
+
+/// What `synth` asks for, by the values that clap found.
+fn read_synth(values: &ArgMatches<'_>) -> Option<Synth>
+    ensures { result ≡ synth_of (rows_of (found_of values.now)) }
+{
+    let seed = given_number(values, "seed", 0, 65535)?;
+    let size = given_number(values, "size", 1, 4000)?;
+    Some(Synth {
+        seed: seed as u32,
+        size: size as u32,
+    })
 }
 
 /// What `run` asks for, by the values that clap found.
@@ -120,11 +139,13 @@ fn read_run(alloc: Global, values: &ArgMatches<'_>) -> Result<Run, LineError>
     let run = Run {
         elf,
         models,
-        steps: numbers.steps,
-        harts: numbers.harts,
-        order,
-        ram_base: numbers.ram_base,
-        ram_size: numbers.ram_size,
+        setup: Setup {
+            steps: numbers.steps,
+            harts: numbers.harts,
+            order,
+            ram_base: numbers.ram_base,
+            ram_size: numbers.ram_size,
+        },
     };
     Ok(run)
 }

@@ -7,6 +7,13 @@ pub struct Run {
     pub elf: Text,
     /// The names of the models' files, 1 to 64, in their order.
     pub models: Items<Text>,
+    /// How the program is run.
+    pub setup: Setup,
+}
+
+/// How a program is run.
+#[derive(Debug)]
+pub struct Setup {
     /// How many events are run at most.
     pub steps: u32,
     /// How many harts there are, 1 to 8.
@@ -24,6 +31,14 @@ impl Drop for Run {
         let Run {
             elf: _,
             models: _,
+            setup: _,
+        } = self;
+    }
+}
+
+impl Drop for Setup {
+    fn drop(self) {
+        let Setup {
             steps: _,
             harts: _,
             order: _,

@@ -16,3 +16,4 @@ abbrev pub AreShortFor : Command → List (List ℕ) → Type 0
 AreShortFor (C.Run run) files = AreShortButLast files
 AreShortFor (C.Check models) files = All IsShort files
 AreShortFor (C.Certs models) files = All IsShort files
+AreShortFor (C.Synth synth) files = Unit {0}

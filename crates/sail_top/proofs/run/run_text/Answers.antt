@@ -10,11 +10,11 @@ at_ok (Err e) P Q gives holds = holds
 
 pub returns : goal.returns
 returns g c =
-    let command = c.args.command.now in
+    let setup = c.args.setup.now in
     let base = g.M.Memory.base c.args.memory in
     let bytes = g.M.Memory.bytes c.args.memory in
     let ends = c.in_ok-ending.ensures in
-    at_ok c.report.result _ _ (λ text is. is ∙ text_is command c.args.model c.args.entry base bytes c.in_ok-placed.placed.bytes _ c.in_ok-state.state
+    at_ok c.report.result _ _ (λ text is. is ∙ text_is setup c.args.model c.args.entry base bytes c.in_ok-placed.placed.bytes _ c.in_ok-state.state
     c.run_from.new.state c.in_ok-ending.ending.cause c.in_ok-ending.ending.steps c.in_ok-machine.ensures
-    (c.in_ok-state.ensures ∙ (λ i. fresh (c.no_types.ensures i) (c.in_ok-registers.ensures i) command.harts base bytes)) c.requires.base
+    (c.in_ok-state.ensures ∙ (λ i. fresh (c.no_types.ensures i) (c.in_ok-registers.ensures i) setup.harts base bytes)) c.requires.base
     c.in_ok-placed.ensures.bytes ends.cause ends.steps ends.state) c.report.ensures

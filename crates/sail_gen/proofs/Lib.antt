@@ -1,0 +1,3 @@
+-- lemmas of the proofs
+pub mod Drawn
+pub mod Lengths
