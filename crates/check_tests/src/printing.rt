@@ -24,21 +24,23 @@ step 3: 2 * 1 + 1 * 1 / 1
 ";
 
 #[test]
-fn certificates_and_counts_are_printed(rt: HostRuntime) -> Result<(), Fail> {
+fn certificates_are_printed(rt: HostRuntime) -> Result<(), Fail> {
     let alloc = rt.alloc();
-    match check(alloc, no_model(alloc), two_owed(alloc)?) {
-        Ok(certified) => {
-            let mut text = Vec::new(alloc);
-            certified.push_certificates(&mut text)?;
-            assert_eq!(rt; text.as_slice(), CERTIFICATES.as_bytes());
-            let mut line = Vec::new(alloc);
-            certified.push_counts(&mut line)?;
-            assert_eq!(rt;
-                line.as_slice(),
-                b"accepted 0 functions 2 obligations".as_slice()
-            );
-        }
-        Err(_) => assert!(rt; false),
+    let mut text = Vec::new(alloc);
+    if let Ok(certified) = check(alloc, no_model(alloc), two_owed(alloc)?) {
+        certified.push_certificates(&mut text)?;
     }
+    assert!(rt; text.as_slice() == CERTIFICATES.as_bytes());
+    Ok(())
+}
+
+#[test]
+fn counts_are_printed(rt: HostRuntime) -> Result<(), Fail> {
+    let alloc = rt.alloc();
+    let mut line = Vec::new(alloc);
+    if let Ok(certified) = check(alloc, no_model(alloc), two_owed(alloc)?) {
+        certified.push_counts(&mut line)?;
+    }
+    assert!(rt; line.as_slice() == b"accepted 0 functions 2 obligations".as_slice());
     Ok(())
 }

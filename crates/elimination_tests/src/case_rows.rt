@@ -108,7 +108,7 @@ fn cases_have_the_answers_of_the_definition_by_hand(rt: HostRuntime) -> Result<(
     for (cases, numbers) in CASES {
         let cases = cases_of(alloc, cases)?;
         let answer = eliminate_cases(alloc, cases.as_slice(), 2);
-        assert_eq!(rt; numbers_of(alloc, &answer)?.as_slice(), numbers);
+        assert!(rt; numbers_of(alloc, &answer)?.as_slice() == numbers);
         if let Ok(Verdict::Closed(certificate)) = &answer {
             assert!(rt; check_cases(alloc, cases.as_slice(), certificate)?);
         }
@@ -127,10 +127,8 @@ fn one_row_more_than_the_limit_is_too_many(rt: HostRuntime) -> Result<(), Fail> 
         let mut cases = Items::new(alloc);
         cases.push(case)?;
         let answer = eliminate_cases(alloc, cases.as_slice(), 2);
-        assert_eq!(rt;
-            answer.err() == Some(FarkasError::RowLimit { variable: 0 }),
-            limit
-        );
+        let is_past = answer.err() == Some(FarkasError::RowLimit { variable: 0 });
+        assert!(rt; is_past == limit);
     }
     Ok(())
 }

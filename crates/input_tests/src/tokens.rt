@@ -224,22 +224,35 @@ fn between(alloc: Global, first: u8, n: usize, last: u8) -> Result<Vec<u8>, Allo
     Ok(text)
 }
 
+/// The first byte, how many stand between, the last, and whether the text isn't refused as a literal.
+const LENGTHS: [(u8, usize, u8, bool); 6] = [
+    (b'a', 253, b'a', true),
+    (b'a', 254, b'a', false),
+    (b'\'', 0, b'_', true),
+    (b'"', 4096, b'"', true),
+    (b'"', 4097, b'"', false),
+    (b'"', 4097, b'\n', false),
+];
+
+/// Whether a text of this length is refused, or not, as its row says.
+fn is_limited(alloc: Global, row: &(u8, usize, u8, bool)) -> Result<bool, AllocError> {
+    let (first, n, last, good) = *row;
+    let text = between(alloc, first, n, last)?;
+    let found = shown(alloc, &text, 0)?;
+    Ok((found.as_str() != "BadLiteral 1:1 0") == good)
+}
+
 #[test]
 fn limits_are_exact(rt: HostRuntime) -> Result<(), Fail> {
-    let alloc = rt.alloc();
-    let cases = [
-        (b'a', 253, b'a', true),
-        (b'a', 254, b'a', false),
-        (b'\'', 0, b'_', true),
-        (b'"', 4096, b'"', true),
-        (b'"', 4097, b'"', false),
-        (b'"', 4097, b'\n', false),
-    ];
-    for (first, n, last, good) in cases {
-        let text = between(alloc, first, n, last)?;
-        let found = shown(alloc, &text, 0)?;
-        assert!(rt; (found.as_str() != "BadLiteral 1:1 0") == good);
+    for (at, row) in LENGTHS.iter().enumerate() {
+        assert!(rt; is_limited(rt.alloc(), row)?, "row {at}");
     }
+    Ok(())
+}
+
+#[test]
+fn binary_literals_have_128_digits(rt: HostRuntime) -> Result<(), Fail> {
+    let alloc = rt.alloc();
     let mut bits = between(alloc, b'0', 128, b' ')?;
     assert!(rt; bits.len() == 130);
     bits[1] = b'b';
@@ -271,24 +284,31 @@ fn counted(alloc: Global, source: &[u8], n: usize, before: u32) -> Option<usize>
     }
 }
 
+/// A byte, how often it stands, the byte behind, the tokens before, and the answer.
+const SOURCES: [(u8, usize, u8, u32, &str); 4] = [
+    (b' ', 4_194_303, b' ', 0, ""),
+    (b' ', 4_194_303, b'x', 1_000_000, "TokenLimit 1:4194304 0"),
+    (b' ', 4_194_303, b'!', 1_000_000, "BadByte 1:4194304 33"),
+    (b'"', 2_000_001, b'"', 0, "TokenLimit 1:2000001 0"),
+];
+
 #[test]
 fn sources_at_the_limits_of_bytes_and_tokens(rt: HostRuntime) -> Result<(), Fail> {
-    let alloc = rt.alloc();
-    let cases = [
-        (b' ', 4_194_303, b' ', 0, ""),
-        (b' ', 4_194_303, b'x', 1_000_000, "TokenLimit 1:4194304 0"),
-        (b' ', 4_194_303, b'!', 1_000_000, "BadByte 1:4194304 33"),
-        (b'"', 2_000_001, b'"', 0, "TokenLimit 1:2000001 0"),
-    ];
-    for (byte, n, last, before, answer) in cases {
-        let source = filled(alloc, byte, n, last)?;
-        let found = shown(alloc, &source, before)?;
-        assert!(rt; found.as_str() == answer);
+    for (byte, n, last, before, answer) in &SOURCES {
+        let source = filled(rt.alloc(), *byte, *n, *last)?;
+        let found = shown(rt.alloc(), &source, *before)?;
+        assert!(rt; found.as_str() == *answer);
     }
+    Ok(())
+}
+
+#[test]
+fn tokens_before_count(rt: HostRuntime) -> Result<(), Fail> {
+    let alloc = rt.alloc();
     let source = filled(alloc, b'"', 1_999_999, b'"')?;
-    assert!(rt; counted(alloc, &source, 2_000_000, 0) == Some(1_000_000));
-    assert!(rt; counted(alloc, &source, 2_000_000, 1) == None);
-    assert!(rt; counted(alloc, &source, 0, 1_000_000) == Some(0));
+    let one = counted(alloc, &source, 2_000_000, 0) == Some(1_000_000);
+    let more = counted(alloc, &source, 2_000_000, 1) == None;
+    assert!(rt; one && more && counted(alloc, &source, 0, 1_000_000) == Some(0));
     Ok(())
 }
 
@@ -315,16 +335,30 @@ fn a_source_ends_one_past_its_last_byte(rt: HostRuntime) -> Result<(), Fail> {
 }
 
 #[test]
-fn values_by_the_tables(rt: HostRuntime) -> Result<(), Fail> {
+fn decimals_have_values(rt: HostRuntime) {
     let separated = decimal_value(b"1_0_") == Some(10);
     let largest = decimal_value(b"85070591730234615865843651857942052864") == Some(1 << 126);
     let larger = decimal_value(b"85070591730234615865843651857942052865") == None;
     assert!(rt; separated && largest && larger);
-    let word = literal_word(b"0xF_f1").ok_or("no word")?;
-    assert!(rt; word.width() == 12 && word.bits() == 0xff1);
-    let word = literal_word(b"0b0_01").ok_or("no word")?;
-    assert!(rt; word.width() == 3 && word.bits() == 1);
-    assert!(rt; literal_word(b"0x000000000000000000000000000000000").is_none());
+}
+
+/// A literal of a word, its width and its number; none where it is none.
+const WORDS: [(&[u8], Option<(u8, u128)>); 3] = [
+    (b"0xF_f1", Some((12, 0xff1))),
+    (b"0b0_01", Some((3, 1))),
+    (b"0x000000000000000000000000000000000", None),
+];
+
+#[test]
+fn literals_have_words(rt: HostRuntime) {
+    for (literal, wanted) in &WORDS {
+        let word = literal_word(literal).map(|word| (word.width(), word.bits()));
+        assert!(rt; word == *wanted);
+    }
+}
+
+#[test]
+fn strings_have_bytes(rt: HostRuntime) -> Result<(), Fail> {
     let bytes = string_value(rt.alloc(), b"\"a\\n\\t\\\\\\\"\"")?;
     assert!(rt; bytes.as_slice() == b"a\n\t\\\"".as_slice());
     Ok(())

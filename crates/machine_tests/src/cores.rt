@@ -121,10 +121,22 @@ fn fragments_of_cores(rt: HostRuntime) -> Result<(), Fail> {
     assert!(rt; fragments(&plain) == (true, true, false));
     let converts = matching(alloc, nested(alloc, Some(Form::Maps(0)))?)?;
     assert!(rt; fragments(&converts) == (true, false, false));
+    Ok(())
+}
+
+#[test]
+fn fragments_of_blocks(rt: HostRuntime) -> Result<(), Fail> {
+    let alloc = rt.alloc();
     let sees = block(alloc, nested(alloc, Some(Form::Sees(0)))?)?;
     assert!(rt; fragments(&sees) == (false, true, false));
     let steps = block(alloc, flat(alloc)?)?;
     assert!(rt; fragments(&steps) == (false, true, true));
+    Ok(())
+}
+
+#[test]
+fn fragments_of_calls_and_targets(rt: HostRuntime) -> Result<(), Fail> {
+    let alloc = rt.alloc();
     let enters = call(alloc, Callee::Converts(0))?;
     assert!(rt; fragments(&enters) == (true, false, false));
     let applies = assignment(alloc, Callee::Applies(0))?;

@@ -7,6 +7,7 @@ use crate::{
 use sail_outside::{MemShelf, MemSink};
 use sail_top::run_words;
 use std::alloc::{AllocError, Global};
+use std::process::Abort;
 use std::test::Fail;
 
 // What stands between the registers of a model and the body of its step.
@@ -155,159 +156,130 @@ fn first_wrong_model(alloc: Global, table: &str) -> Result<Option<&str>, Fail> {
     Ok(None)
 }
 
-#[test]
-fn words_are_answered(rt: HostRuntime) -> Result<(), Fail> {
-    let wrong = first_wrong(rt.alloc(), words_rows::WORDS, 7)?;
+/// Each row of a table is answered as it is to be; else the first that isn't is named.
+fn rows_answered(rt: &impl Abort, alloc: Global, table: &str, piece: usize) -> Result<(), Fail> {
+    let wrong = first_wrong(alloc, table, piece)?;
     assert!(rt; wrong.is_none(), "{wrong:?}");
     Ok(())
+}
+
+/// The same for models without words.
+fn models_answered(rt: &impl Abort, alloc: Global, table: &str) -> Result<(), Fail> {
+    let wrong = first_wrong_model(alloc, table)?;
+    assert!(rt; wrong.is_none(), "{wrong:?}");
+    Ok(())
+}
+
+#[test]
+fn words_are_answered(rt: HostRuntime) -> Result<(), Fail> {
+    rows_answered(&rt, rt.alloc(), words_rows::WORDS, 7)
 }
 
 #[test]
 fn taken_names_are_answered(rt: HostRuntime) -> Result<(), Fail> {
-    let wrong = first_wrong_model(rt.alloc(), tables_rows::NAMES)?;
-    assert!(rt; wrong.is_none(), "{wrong:?}");
-    Ok(())
+    models_answered(&rt, rt.alloc(), tables_rows::NAMES)
 }
 
 #[test]
 fn definitions_and_cycles_are_answered(rt: HostRuntime) -> Result<(), Fail> {
-    let wrong = first_wrong_model(rt.alloc(), tables_rows::BODIES)?;
-    assert!(rt; wrong.is_none(), "{wrong:?}");
-    Ok(())
+    models_answered(&rt, rt.alloc(), tables_rows::BODIES)
 }
 
 #[test]
 fn types_and_kinds_are_answered(rt: HostRuntime) -> Result<(), Fail> {
-    let wrong = first_wrong_model(rt.alloc(), tables_rows::TYPES)?;
-    assert!(rt; wrong.is_none(), "{wrong:?}");
-    Ok(())
+    models_answered(&rt, rt.alloc(), tables_rows::TYPES)
 }
 
 #[test]
 fn names_in_use_are_answered(rt: HostRuntime) -> Result<(), Fail> {
-    let wrong = first_wrong_model(rt.alloc(), tables_rows::USES)?;
-    assert!(rt; wrong.is_none(), "{wrong:?}");
-    Ok(())
+    models_answered(&rt, rt.alloc(), tables_rows::USES)
 }
 
 #[test]
 fn parts_and_entry_points_are_answered(rt: HostRuntime) -> Result<(), Fail> {
-    let wrong = first_wrong_model(rt.alloc(), tables_rows::TEXTS)?;
-    assert!(rt; wrong.is_none(), "{wrong:?}");
-    Ok(())
+    models_answered(&rt, rt.alloc(), tables_rows::TEXTS)
 }
 
 #[test]
 fn wanted_shapes_are_answered(rt: HostRuntime) -> Result<(), Fail> {
-    let wrong = first_wrong_model(rt.alloc(), shapes_rows::WANTED)?;
-    assert!(rt; wrong.is_none(), "{wrong:?}");
-    Ok(())
+    models_answered(&rt, rt.alloc(), shapes_rows::WANTED)
 }
 
 #[test]
 fn wanted_shapes_of_parts_are_answered(rt: HostRuntime) -> Result<(), Fail> {
-    let wrong = first_wrong_model(rt.alloc(), shapes_rows::WANTED_OF_PARTS)?;
-    assert!(rt; wrong.is_none(), "{wrong:?}");
-    Ok(())
+    models_answered(&rt, rt.alloc(), shapes_rows::WANTED_OF_PARTS)
 }
 
 #[test]
 fn branches_and_holes_are_answered(rt: HostRuntime) -> Result<(), Fail> {
-    let wrong = first_wrong_model(rt.alloc(), shapes_rows::BRANCHES)?;
-    assert!(rt; wrong.is_none(), "{wrong:?}");
-    Ok(())
+    models_answered(&rt, rt.alloc(), shapes_rows::BRANCHES)
 }
 
 #[test]
 fn calls_are_answered(rt: HostRuntime) -> Result<(), Fail> {
-    let wrong = first_wrong_model(rt.alloc(), shapes_rows::CALLS)?;
-    assert!(rt; wrong.is_none(), "{wrong:?}");
-    Ok(())
+    models_answered(&rt, rt.alloc(), shapes_rows::CALLS)
 }
 
 #[test]
 fn clauses_are_answered(rt: HostRuntime) -> Result<(), Fail> {
-    let wrong = first_wrong_model(rt.alloc(), shapes_rows::CLAUSES)?;
-    assert!(rt; wrong.is_none(), "{wrong:?}");
-    Ok(())
+    models_answered(&rt, rt.alloc(), shapes_rows::CLAUSES)
 }
 
 #[test]
 fn overloads_are_answered(rt: HostRuntime) -> Result<(), Fail> {
-    let wrong = first_wrong_model(rt.alloc(), members_rows::OVERLOADS)?;
-    assert!(rt; wrong.is_none(), "{wrong:?}");
-    Ok(())
+    models_answered(&rt, rt.alloc(), members_rows::OVERLOADS)
 }
 
 #[test]
 fn operators_are_answered(rt: HostRuntime) -> Result<(), Fail> {
-    let wrong = first_wrong_model(rt.alloc(), members_rows::OPERATORS)?;
-    assert!(rt; wrong.is_none(), "{wrong:?}");
-    Ok(())
+    models_answered(&rt, rt.alloc(), members_rows::OPERATORS)
 }
 
 #[test]
 fn members_of_operators_are_answered(rt: HostRuntime) -> Result<(), Fail> {
-    let wrong = first_wrong_model(rt.alloc(), members_rows::MEMBERS)?;
-    assert!(rt; wrong.is_none(), "{wrong:?}");
-    Ok(())
+    models_answered(&rt, rt.alloc(), members_rows::MEMBERS)
 }
 
 #[test]
 fn parts_of_values_are_answered(rt: HostRuntime) -> Result<(), Fail> {
-    let wrong = first_wrong_model(rt.alloc(), members_rows::PARTS)?;
-    assert!(rt; wrong.is_none(), "{wrong:?}");
-    Ok(())
+    models_answered(&rt, rt.alloc(), members_rows::PARTS)
 }
 
 #[test]
 fn structs_and_printed_shapes_are_answered(rt: HostRuntime) -> Result<(), Fail> {
-    let wrong = first_wrong_model(rt.alloc(), members_rows::STRUCTS)?;
-    assert!(rt; wrong.is_none(), "{wrong:?}");
-    Ok(())
+    models_answered(&rt, rt.alloc(), members_rows::STRUCTS)
 }
 
 #[test]
 fn choices_by_shape_are_answered(rt: HostRuntime) -> Result<(), Fail> {
-    let wrong = first_wrong_model(rt.alloc(), choices_rows::CHOICES)?;
-    assert!(rt; wrong.is_none(), "{wrong:?}");
-    Ok(())
+    models_answered(&rt, rt.alloc(), choices_rows::CHOICES)
 }
 
 #[test]
 fn patterns_are_answered(rt: HostRuntime) -> Result<(), Fail> {
-    let wrong = first_wrong_model(rt.alloc(), patterns_rows::PATTERNS)?;
-    assert!(rt; wrong.is_none(), "{wrong:?}");
-    Ok(())
+    models_answered(&rt, rt.alloc(), patterns_rows::PATTERNS)
 }
 
 #[test]
 fn widths_in_patterns_are_answered(rt: HostRuntime) -> Result<(), Fail> {
-    let wrong = first_wrong_model(rt.alloc(), patterns_rows::WIDTHS)?;
-    assert!(rt; wrong.is_none(), "{wrong:?}");
-    Ok(())
+    models_answered(&rt, rt.alloc(), patterns_rows::WIDTHS)
 }
 
 #[test]
 fn mappings_are_answered(rt: HostRuntime) -> Result<(), Fail> {
-    let wrong = first_wrong_model(rt.alloc(), patterns_rows::MAPPINGS)?;
-    assert!(rt; wrong.is_none(), "{wrong:?}");
-    Ok(())
+    models_answered(&rt, rt.alloc(), patterns_rows::MAPPINGS)
 }
 
 #[test]
 fn variables_and_registers_are_answered(rt: HostRuntime) -> Result<(), Fail> {
-    let wrong = first_wrong_model(rt.alloc(), patterns_rows::VARIABLES)?;
-    assert!(rt; wrong.is_none(), "{wrong:?}");
-    Ok(())
+    models_answered(&rt, rt.alloc(), patterns_rows::VARIABLES)
 }
 
 #[test]
 fn obligations_are_answered(rt: HostRuntime) -> Result<(), Fail> {
     let tables = [checks_rows::ORDER, checks_rows::WANTED, checks_rows::FORMS];
     for table in tables {
-        let wrong = first_wrong(rt.alloc(), table, 4096)?;
-        assert!(rt; wrong.is_none(), "{wrong:?}");
+        rows_answered(&rt, rt.alloc(), table, 4096)?;
     }
     Ok(())
 }
@@ -315,17 +287,14 @@ fn obligations_are_answered(rt: HostRuntime) -> Result<(), Fail> {
 #[test]
 fn facts_are_answered(rt: HostRuntime) -> Result<(), Fail> {
     for table in [facts_rows::FACTS, facts_rows::NAMES] {
-        let wrong = first_wrong(rt.alloc(), table, 4096)?;
-        assert!(rt; wrong.is_none(), "{wrong:?}");
+        rows_answered(&rt, rt.alloc(), table, 4096)?;
     }
     Ok(())
 }
 
 #[test]
 fn models_of_the_tutorial_are_answered(rt: HostRuntime) -> Result<(), Fail> {
-    let wrong = first_wrong(rt.alloc(), tutorial_rows::TUTORIAL, 4096)?;
-    assert!(rt; wrong.is_none(), "{wrong:?}");
-    Ok(())
+    rows_answered(&rt, rt.alloc(), tutorial_rows::TUTORIAL, 4096)
 }
 
 // What `check` writes for a model of these texts, the status first.
@@ -382,8 +351,7 @@ fn instances_are_answered(rt: HostRuntime) -> Result<(), Fail> {
         instances_rows::FOUND,
     ];
     for table in tables {
-        let wrong = first_wrong(rt.alloc(), table, 4096)?;
-        assert!(rt; wrong.is_none(), "{wrong:?}");
+        rows_answered(&rt, rt.alloc(), table, 4096)?;
     }
     Ok(())
 }

@@ -166,6 +166,12 @@ fn numbers_are_read(rt: HostRuntime) -> Result<(), Fail> {
     let n = variable(alloc, 1, "'n")?;
     let twice = type_infix(alloc, at(3), TypeOperator::Star, number(1, 2), n)?;
     assert!(rt; is_read(alloc, twice, 0, 0, "2 * 'n")?);
+    Ok(())
+}
+
+#[test]
+fn powers_are_read(rt: HostRuntime) -> Result<(), Fail> {
+    let alloc = rt.alloc();
     let n = variable(alloc, 1, "'n")?;
     let more = type_infix(alloc, at(4), TypeOperator::Plus, n, number(6, 1))?;
     let raised = type_prefix(alloc, at(3), TypePrefix::Power, more)?;
@@ -178,7 +184,6 @@ fn numbers_are_read(rt: HostRuntime) -> Result<(), Fail> {
 #[test]
 fn numbers_past_the_limits_are_refused(rt: HostRuntime) -> Result<(), Fail> {
     let alloc = rt.alloc();
-    let largest = 85070591730234615865843651857942052864;
     let n = variable(alloc, 1, "'n")?;
     let product = type_infix(
         alloc,
@@ -188,6 +193,13 @@ fn numbers_past_the_limits_are_refused(rt: HostRuntime) -> Result<(), Fail> {
         variable(alloc, 6, "'m")?,
     )?;
     assert!(rt; is_read(alloc, product, 11, 4, "refused")?);
+    Ok(())
+}
+
+#[test]
+fn sums_and_powers_past_the_limits_are_refused(rt: HostRuntime) -> Result<(), Fail> {
+    let alloc = rt.alloc();
+    let largest = 85070591730234615865843651857942052864;
     let past = type_infix(
         alloc,
         at(9),
@@ -208,10 +220,22 @@ fn constraints_and_variables_are_read(rt: HostRuntime) -> Result<(), Fail> {
     let less = type_infix(alloc, at(4), TypeOperator::Less, n, number(6, 9))?;
     assert!(rt; is_read(alloc, less, 0, 0, "constraint")?);
     assert!(rt; is_read(alloc, variable(alloc, 1, "'k")?, 10, 1, "'k")?);
+    Ok(())
+}
+
+#[test]
+fn existential_types_are_read(rt: HostRuntime) -> Result<(), Fail> {
+    let alloc = rt.alloc();
     let inner = of_one(alloc, 9, "bits", variable(alloc, 14, "'k")?)?;
     let once = names(alloc, at(2), "'k")?;
     let some = exists(alloc, at(2), once, None, inner)?;
     assert!(rt; is_read(alloc, some, 0, 0, "exists")?);
+    Ok(())
+}
+
+#[test]
+fn variables_are_bound_once(rt: HostRuntime) -> Result<(), Fail> {
+    let alloc = rt.alloc();
     let inner = of_one(alloc, 9, "bits", number(14, 1))?;
     let mut twice = names(alloc, at(2), "'k")?;
     twice.push(Name::new(alloc, at(99), "'k")?)?;
@@ -227,11 +251,23 @@ fn wrong_arguments_are_refused(rt: HostRuntime) -> Result<(), Fail> {
     assert!(rt; is_read(alloc, of_one(alloc, 1, "bits", negative)?, 11, 1, "refused")?);
     let bit = named(alloc, 5, "bit", Items::new(alloc))?;
     assert!(rt; is_read(alloc, of_one(alloc, 1, "int", bit)?, 11, 5, "IntType")?);
+    Ok(())
+}
+
+#[test]
+fn wrong_counts_and_empty_ranges_are_refused(rt: HostRuntime) -> Result<(), Fail> {
+    let alloc = rt.alloc();
     let truth = TyExp::Truth(at(6), true);
     let truths = of_two(alloc, 1, "bool", truth, TyExp::Truth(at(12), false))?;
     assert!(rt; is_read(alloc, truths, 11, 1, "1 for 2")?);
     let empty = of_two(alloc, 1, "range", number(7, 3), number(10, 2))?;
     assert!(rt; is_read(alloc, empty, 11, 1, "refused")?);
+    Ok(())
+}
+
+#[test]
+fn unknown_arguments_are_refused(rt: HostRuntime) -> Result<(), Fail> {
+    let alloc = rt.alloc();
     let unknown = named(alloc, 6, "word", Items::new(alloc))?;
     assert!(rt; is_read(alloc, of_one(alloc, 1, "list", unknown)?, 10, 6, "word")?);
     Ok(())

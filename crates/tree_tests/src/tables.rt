@@ -144,7 +144,7 @@ fn tables(alloc: Global, core: &CoreModel) -> Result<Option<Vec<u8>>, AllocError
 fn nodes_of_a_function_of_any_width(rt: HostRuntime) -> Result<(), Fail> {
     let alloc = rt.alloc();
     match tables(alloc, &bits_of_any_width(alloc)?)? {
-        Some(text) => assert_eq!(rt; text.as_slice(), OF_ANY_WIDTH.as_bytes()),
+        Some(text) => assert!(rt; text.as_slice() == OF_ANY_WIDTH.as_bytes()),
         None => assert!(rt; false),
     }
     Ok(())
@@ -154,7 +154,7 @@ fn nodes_of_a_function_of_any_width(rt: HostRuntime) -> Result<(), Fail> {
 fn nodes_under_each_number_of_a_range(rt: HostRuntime) -> Result<(), Fail> {
     let alloc = rt.alloc();
     match tables(alloc, &widths_by_range(alloc)?)? {
-        Some(text) => assert_eq!(rt; text.as_slice(), BY_RANGE.as_bytes()),
+        Some(text) => assert!(rt; text.as_slice() == BY_RANGE.as_bytes()),
         None => assert!(rt; false),
     }
     Ok(())

@@ -104,13 +104,22 @@ fn named_numbers_are_applied(rt: HostRuntime) -> Result<(), Fail> {
     let alloc = rt.alloc();
     let eight = line(alloc, 8, 0, 0)?;
     assert!(rt; is_made(alloc, Normal::Number(eight), "8 * '0 + 8")?);
-    let raised = power(alloc, line(alloc, 1, 0, 0)?)?;
-    assert!(rt; is_made(alloc, Normal::Number(raised), "2 ^ ('0 + 1)")?);
-    let again = copy_normal(alloc, &Normal::Number(power(alloc, line(alloc, 1, 0, 0)?)?))?;
-    let made = applied_text(alloc, Num::constant(alloc, 200), again)?;
-    assert!(rt; made.as_slice() == "2 ^ (200)".as_bytes());
     let large = line(alloc, 1 << 126, 0, 1 << 126)?;
     assert!(rt; is_made(alloc, Normal::Number(large), "none")?);
+    Ok(())
+}
+
+#[test]
+fn named_powers_are_applied(rt: HostRuntime) -> Result<(), Fail> {
+    let alloc = rt.alloc();
+    let raised = Normal::Number(power(alloc, line(alloc, 1, 0, 0)?)?);
+    let made = applied_text(
+        alloc,
+        Num::constant(alloc, 200),
+        copy_normal(alloc, &raised)?,
+    )?;
+    assert!(rt; made.as_slice() == "2 ^ (200)".as_bytes());
+    assert!(rt; is_made(alloc, raised, "2 ^ ('0 + 1)")?);
     Ok(())
 }
 
@@ -120,6 +129,12 @@ fn named_types_are_applied(rt: HostRuntime) -> Result<(), Fail> {
     let width = Typ::Bits(line(alloc, 1, 0, -1)?);
     assert!(rt; is_made(alloc, Normal::Typ(width), "bits('0)")?);
     assert!(rt; is_made(alloc, Normal::Typ(Typ::Variable(0)), "range(0, '0)")?);
+    Ok(())
+}
+
+#[test]
+fn named_types_with_parts_are_applied(rt: HostRuntime) -> Result<(), Fail> {
+    let alloc = rt.alloc();
     let list = Typ::List(Boxed::new(alloc, Typ::Variable(0))?);
     assert!(rt; is_made(alloc, Normal::Typ(list), "list(range(0, '0))")?);
     let truth = Typ::Truth(Con::Holds(1));
@@ -150,17 +165,23 @@ fn is_void(alloc: Global, typ: Typ) -> Result<bool, AllocError> {
 }
 
 #[test]
-fn empty_ranges_and_negative_widths_are_found(rt: HostRuntime) -> Result<(), Fail> {
+fn empty_ranges_are_found(rt: HostRuntime) -> Result<(), Fail> {
     let alloc = rt.alloc();
     let one = Typ::Range(Num::constant(alloc, 2), Num::constant(alloc, 2));
     assert!(rt; !is_void(alloc, one)?);
     let unknown = Typ::Range(line(alloc, 1, 0, 0)?, Num::constant(alloc, -1));
     assert!(rt; !is_void(alloc, unknown)?);
-    assert!(rt; !is_void(alloc, Typ::Bits(Num::constant(alloc, 0)))?);
-    assert!(rt; is_void(alloc, Typ::Bits(Num::constant(alloc, -1)))?);
-    assert!(rt; !is_void(alloc, Typ::Bits(line(alloc, 1, 0, -1)?))?);
     let empty = Typ::Range(Num::constant(alloc, 3), Num::constant(alloc, 2));
     let inside = below(alloc, Typ::List(Boxed::new(alloc, empty)?))?;
     assert!(rt; is_void(alloc, inside)?);
+    Ok(())
+}
+
+#[test]
+fn negative_widths_are_found(rt: HostRuntime) -> Result<(), Fail> {
+    let alloc = rt.alloc();
+    assert!(rt; !is_void(alloc, Typ::Bits(Num::constant(alloc, 0)))?);
+    assert!(rt; is_void(alloc, Typ::Bits(Num::constant(alloc, -1)))?);
+    assert!(rt; !is_void(alloc, Typ::Bits(line(alloc, 1, 0, -1)?))?);
     Ok(())
 }

@@ -112,6 +112,13 @@ fn options_fit_their_shapes(rt: HostRuntime) -> Result<(), Fail> {
             option(alloc, Shape::Int)?
         )
     );
+    Ok(())
+}
+
+#[test]
+fn options_fit_no_other_types(rt: HostRuntime) -> Result<(), Fail> {
+    let alloc = rt.alloc();
+    let types = table(alloc, TABLE)?;
     assert!(rt; !fits(&types, some(alloc, Value::Unit)?, of(alloc, COLOR)));
     let wrapped = Value::Struct(WRAPPED, one_of(alloc, some(alloc, Value::Truth(true))?)?);
     let shape = Shape::Named(WRAPPED, one_of(alloc, Shape::Bool)?);
@@ -127,6 +134,13 @@ fn structs_and_tuples_fit_their_shapes(rt: HostRuntime) -> Result<(), Fail> {
     assert!(rt; fits(&types, pair, of(alloc, PAIR)));
     let crossed = Value::Struct(PAIR, values(alloc, &[Bit(true), Truth(true)])?);
     assert!(rt; !fits(&types, crossed, of(alloc, PAIR)));
+    Ok(())
+}
+
+#[test]
+fn short_structs_and_tuples_fit_by_their_parts(rt: HostRuntime) -> Result<(), Fail> {
+    let alloc = rt.alloc();
+    let types = table(alloc, TABLE)?;
     let short = Value::Struct(PAIR, values(alloc, &[Truth(true)])?);
     assert!(rt; !fits(&types, short, of(alloc, PAIR)));
     let two = Value::Tuple(values(alloc, &[Int(1), Unit])?);
@@ -174,11 +188,23 @@ fn types_are_the_same_but_for_names(rt: HostRuntime) -> Result<(), Fail> {
     let alloc = rt.alloc();
     assert!(rt; same(some_int(alloc, "'n")?, some_int(alloc, "'m")?));
     assert!(rt; !same(some_int(alloc, "'n")?, Typ::Int(Num::variable(alloc, 0)?)));
+    Ok(())
+}
+
+#[test]
+fn ranges_and_variables_are_the_same_by_their_numbers(rt: HostRuntime) -> Result<(), Fail> {
+    let alloc = rt.alloc();
+    assert!(rt; !same(Typ::Variable(0), Typ::Variable(1)));
     assert!(rt; same(range(alloc, 0, 1), range(alloc, 0, 1)));
     assert!(rt; !same(range(alloc, 0, 1), range(alloc, 0, 2)));
+    Ok(())
+}
+
+#[test]
+fn named_types_are_the_same_by_their_arguments(rt: HostRuntime) -> Result<(), Fail> {
+    let alloc = rt.alloc();
     assert!(rt; same(named(alloc, 3, Typ::Bit)?, named(alloc, 3, Typ::Bit)?));
     assert!(rt; !same(named(alloc, 3, Typ::Bit)?, named(alloc, 4, Typ::Bit)?));
     assert!(rt; !same(named(alloc, 3, Typ::Bit)?, named(alloc, 3, Typ::Bool)?));
-    assert!(rt; !same(Typ::Variable(0), Typ::Variable(1)));
     Ok(())
 }

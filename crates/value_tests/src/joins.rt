@@ -95,6 +95,12 @@ fn members_that_may_share_values_clash(rt: HostRuntime) -> Result<(), Fail> {
     let integers = one(alloc, list(alloc, Shape::Int)?)?;
     let truths = one(alloc, list(alloc, Shape::Bool)?)?;
     assert!(rt; clash(alloc, integers, truths)?);
+    Ok(())
+}
+
+#[test]
+fn members_that_variables_tell_apart_clash(rt: HostRuntime) -> Result<(), Fail> {
+    let alloc = rt.alloc();
     let any = one(alloc, Shape::Variable(0))?;
     assert!(rt; clash(alloc, any, one(alloc, Shape::Int)?)?);
     let same = two(alloc, Shape::Variable(0), Shape::Variable(0))?;
@@ -110,6 +116,12 @@ fn equal_members_and_others_dont_clash(rt: HostRuntime) -> Result<(), Fail> {
     assert!(rt; !clash(alloc, one(alloc, Shape::Int)?, one(alloc, Shape::Int)?)?);
     let first = one(alloc, Shape::Variable(0))?;
     assert!(rt; !clash(alloc, first, one(alloc, Shape::Variable(1))?)?);
+    Ok(())
+}
+
+#[test]
+fn members_of_other_counts_and_heads_dont_clash(rt: HostRuntime) -> Result<(), Fail> {
+    let alloc = rt.alloc();
     let single = one(alloc, Shape::Int)?;
     assert!(rt; !clash(alloc, single, two(alloc, Shape::Int, Shape::Int)?)?);
     assert!(rt; !clash(alloc, one(alloc, Shape::Int)?, one(alloc, Shape::Bits)?)?);

@@ -12,10 +12,15 @@ fn lists_grow_where_memory_is_ample(rt: HostRuntime) -> Result<(), Fail> {
 }
 
 #[test]
-fn boxes_and_texts_are_made_where_memory_is_ample(rt: HostRuntime) -> Result<(), Fail> {
-    let alloc = rt.alloc();
-    let boxed = Boxed::new(alloc, 7u8)?;
+fn boxes_are_made_where_memory_is_ample(rt: HostRuntime) -> Result<(), Fail> {
+    let boxed = Boxed::new(rt.alloc(), 7u8)?;
     assert!(rt; boxed.into_inner() == 7);
+    Ok(())
+}
+
+#[test]
+fn texts_are_made_where_memory_is_ample(rt: HostRuntime) -> Result<(), Fail> {
+    let alloc = rt.alloc();
     let text = Text::new(alloc, "PC")?;
     let copy = text.clone()?;
     assert!(rt; copy.is("PC"));
@@ -35,12 +40,20 @@ const NUMBERS: &[(i128, &str)] = &[
 ];
 
 #[test]
-fn numbers_and_bytes_are_printed(rt: HostRuntime) -> Result<(), Fail> {
-    let alloc = rt.alloc();
+fn numbers_are_printed(rt: HostRuntime) -> Result<(), Fail> {
     for (number, text) in NUMBERS {
-        assert_eq!(rt; dec_text(alloc, *number)?.as_str(), *text);
+        let made = dec_text(rt.alloc(), *number)?;
+        assert!(rt; made.as_str() == *text, "{text}");
     }
-    assert_eq!(rt; hex_text(alloc, &[0x00, 0xa5, 0xff])?.as_str(), "00a5ff");
-    assert_eq!(rt; hex_text(alloc, &[])?.as_str(), "");
+    Ok(())
+}
+
+#[test]
+fn bytes_are_printed(rt: HostRuntime) -> Result<(), Fail> {
+    let alloc = rt.alloc();
+    let three = hex_text(alloc, &[0x00, 0xa5, 0xff])?;
+    assert!(rt; three.as_str() == "00a5ff");
+    let none = hex_text(alloc, &[])?;
+    assert!(rt; none.as_str() == "");
     Ok(())
 }

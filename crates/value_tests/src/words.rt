@@ -301,80 +301,116 @@ fn of_one(operation: One, a: Word, number: u128) -> Option<Word> {
     Some(found)
 }
 
-#[test]
+/// Whether the operation of a row on its two words gives the row's last word.
 #[tactic(auto, using(sail_base::specs::laws::WordParts::word_widths))]
-fn operations(rt: HostRuntime) {
-    for row in &TWO {
-        let (operation, width, a, b, to, want) = *row;
-        assert!(rt; width <= 128 && to <= 128);
-        let found = of_two(operation, Word::low(width, a), Word::low(width, b));
-        assert!(rt;
-            found == Some(Word::low(to, want)),
-            "{width} bits: {a} and {b}"
-        );
-    }
-    for row in &ONE {
-        let (operation, width, a, number, to, want) = *row;
-        assert!(rt; width <= 128 && to <= 128);
-        let found = of_one(operation, Word::low(width, a), number);
-        assert!(rt;
-            found == Some(Word::low(to, want)),
-            "{width} bits: {a} and {number}"
-        );
-    }
+fn is_operation(row: &(Two, u8, u128, u128, u8, u128)) -> bool {
+    let (operation, width, a, b, to, want) = *row;
+    width <= 128
+        && to <= 128
+        && of_two(operation, Word::low(width, a), Word::low(width, b)) == Some(Word::low(to, want))
 }
 
 #[test]
+fn operations_of_two_words(rt: HostRuntime) {
+    for (at, row) in TWO.iter().enumerate() {
+        assert!(rt; is_operation(row), "row {at}");
+    }
+}
+
+/// Whether the operation of a row on its word and number gives the row's last word.
 #[tactic(auto, using(sail_base::specs::laws::WordParts::word_widths))]
-fn parts(rt: HostRuntime) {
-    for row in &APPENDED {
-        let (width, a, low, b, want) = *row;
-        assert!(rt; width <= 128 && low <= 128 - width);
-        let found = Word::low(width, a).append(Word::low(low, b));
-        assert!(rt;
-            found == Word::low(width + low, want),
-            "{width} and {low} bits: {a} and {b}"
-        );
+fn is_operation_by(row: &(One, u8, u128, u128, u8, u128)) -> bool {
+    let (operation, width, a, number, to, want) = *row;
+    width <= 128
+        && to <= 128
+        && of_one(operation, Word::low(width, a), number) == Some(Word::low(to, want))
+}
+
+#[test]
+fn operations_of_a_word_and_a_number(rt: HostRuntime) {
+    for (at, row) in ONE.iter().enumerate() {
+        assert!(rt; is_operation_by(row), "row {at}");
     }
-    for row in &SLICES {
-        let (width, a, high, low, want) = *row;
-        assert!(rt; width <= 128 && high < width && low <= high);
-        let word = Word::low(width, a);
-        let found = word.slice(high, low);
-        let is_cut = found == Word::low(high - low + 1, want);
-        assert!(rt;
-            is_cut && word.bit(low) == (want % 2 == 1),
-            "{width} bits: {a} to {low}"
-        );
+}
+
+/// Whether the words of a row, one behind the other, have the row's last number.
+#[tactic(auto, using(sail_base::specs::laws::WordParts::word_widths))]
+fn is_appended(row: &(u8, u128, u8, u128, u128)) -> bool {
+    let (width, a, low, b, want) = *row;
+    width <= 128
+        && low <= 128 - width
+        && Word::low(width, a).append(Word::low(low, b)) == Word::low(width + low, want)
+}
+
+#[test]
+fn words_are_appended(rt: HostRuntime) {
+    for (at, row) in APPENDED.iter().enumerate() {
+        assert!(rt; is_appended(row), "row {at}");
     }
+}
+
+/// Whether the slice of a row has the row's last number, and its lowest bit.
+#[tactic(auto, using(sail_base::specs::laws::WordParts::word_widths))]
+fn is_slice(row: &(u8, u128, u8, u8, u128)) -> bool {
+    let (width, a, high, low, want) = *row;
+    if width > 128 || high >= width || low > high {
+        return false;
+    }
+    let word = Word::low(width, a);
+    word.slice(high, low) == Word::low(high - low + 1, want) && word.bit(low) == (want % 2 == 1)
+}
+
+#[test]
+fn words_are_sliced(rt: HostRuntime) {
+    for (at, row) in SLICES.iter().enumerate() {
+        assert!(rt; is_slice(row), "row {at}");
+    }
+}
+
+/// Whether a word is read as its row says.
+fn is_read(row: &(u8, u128, u128, u8, bool, i128)) -> bool {
+    let (width, a, turned, zeros, top, number) = *row;
+    if width > 128 {
+        return false;
+    }
+    let word = Word::low(width, a);
+    word.bits() == a
+        && word.top() == top
+        && word.signed() == number
+        && word.count_leading_zeros() == zeros
+        && word.not() == Word::low(width, turned)
+        && Word::of_int(width, number) == word
 }
 
 #[test]
 fn readings(rt: HostRuntime) {
-    for row in &READ {
-        let (width, a, turned, zeros, top, number) = *row;
-        assert!(rt; width <= 128);
-        let word = Word::low(width, a);
-        let reads = word.bits() == a && word.top() == top && word.signed() == number;
-        let counts = word.count_leading_zeros() == zeros;
-        let turns = word.not() == Word::low(width, turned);
-        let returns = Word::of_int(width, number) == word;
-        assert!(rt; reads && counts && turns && returns, "{width} bits: {a}");
+    for (at, row) in READ.iter().enumerate() {
+        assert!(rt; is_read(row), "row {at}");
     }
-    for row in &LOWEST {
-        let (width, number, want) = *row;
-        assert!(rt; width <= 128);
-        assert!(rt;
-            Word::of_int(width, number) == Word::low(width, want),
-            "{number}"
-        );
+}
+
+/// Whether the lowest bits of an integer are those of its row.
+fn is_lowest(row: &(u8, i128, u128)) -> bool {
+    let (width, number, want) = *row;
+    width <= 128 && Word::of_int(width, number) == Word::low(width, want)
+}
+
+#[test]
+fn lowest_bits(rt: HostRuntime) {
+    for (at, row) in LOWEST.iter().enumerate() {
+        assert!(rt; is_lowest(row), "row {at}");
     }
+}
+
+/// Whether the sum and the greatest common divisor of two integers are those of their row.
+fn is_sum(row: &(i128, i128, Option<i128>, Option<i128>)) -> bool {
+    let (a, b, total, divisor) = *row;
+    sum(a, b) == total && gcd(a, b) == divisor
 }
 
 #[test]
 fn sums_and_divisors(rt: HostRuntime) {
-    for row in &SUMS {
-        let (a, b, total, divisor) = *row;
-        assert!(rt; sum(a, b) == total && gcd(a, b) == divisor, "{a} and {b}");
+    for (at, row) in SUMS.iter().enumerate() {
+        assert!(rt; is_sum(row), "row {at}");
     }
 }

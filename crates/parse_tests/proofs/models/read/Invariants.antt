@@ -1,6 +1,6 @@
 use Rattle.std.specs.Prelude.{All}
 use Rattle.sail_grammar.specs.Joined.{HaveTexts}
-use Rattle.sail_parse_def.proofs.tests.read.Given as goal
+use Rattle.parse_tests.proofs.models.read.Given as goal
 
 -- all files so far have texts
 abbrev pub invariant-loop-text : goal.invariant-loop-text

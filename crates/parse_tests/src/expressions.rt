@@ -1,4 +1,4 @@
-use crate::tests::{answer, read};
+use crate::models::{answer, read};
 use sail_syntax::Def;
 use std::alloc::{AllocError, Global};
 use std::test::Fail;

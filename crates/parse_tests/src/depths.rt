@@ -1,4 +1,4 @@
-use crate::tests::answer;
+use crate::models::answer;
 use std::alloc::{AllocError, Global};
 use std::test::Fail;
 

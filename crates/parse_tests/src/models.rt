@@ -1,10 +1,10 @@
 ghost use Rattle.std.specs.Prelude.{IfOk};
 ghost use Rattle.sail_grammar.specs.Joined.{HaveTexts};
 
-use crate::parse_model;
 use sail_base::Place;
 use sail_grammar::ParseError;
 use sail_lex::{Tokens, lex};
+use sail_parse_def::parse_model;
 use sail_syntax::Def;
 use std::alloc::{AllocError, Global};
 use std::test::Fail;
