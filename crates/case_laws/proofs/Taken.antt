@@ -12,6 +12,7 @@ use Rattle.split_laws.specs.Counted.{AreTaken, IsIn}
 use Rattle.split_laws.proofs.Basics.{either, in_back, in_front, or_cases}
 use Rattle.checked_meaning.specs.Checked.{Noted}
 use Rattle.sized_trees.specs.Combinations.{all_picked_eq, each_once, picked_eq, picked_where, where_so, with_one}
+use Rattle.sized_trees.specs.Laws.{asked}
 use Rattle.sized_meanings.specs.Laws.{AreNoted}
 
 abbrev of_both : ℕ → ℤ → Picked
@@ -82,3 +83,39 @@ module _ (given : ℕ → Bool) where
   are_noted noted f h (p ∷ ps) t =
       where_noted noted (given p.variable) p (picked_where given ps) (λ e. h p.variable e ∙ ap (λ (z : ℤ). Some z) (t.0))
       (are_noted noted f h ps (t.1))
+
+  where_too : (f g : Integers) (b : Bool) (p : Picked) (ps : List Picked) → (b ≡ true → f p.variable ≡ g p.variable) → f p.variable ≡ p.number
+      → AreTaken g ps → AreTaken g (where_so b p ++ ps)
+  where_too f g true p ps e h t = (sym (e refl) ∙ h, t)
+  where_too f g false p ps e h t = t
+
+  -- those of variables whose integers are the same
+  pub taken_too : (f g : Integers) → ((v : ℕ) → given v ≡ true → f v ≡ g v) → (ps : List Picked) → AreTaken f ps → AreTaken g (picked_where given ps)
+  taken_too f g e [] t = tt
+  taken_too f g e (p ∷ ps) t = where_too f g (given p.variable) p (picked_where given ps) (e p.variable) t.0 (taken_too f g e ps t.1)
+
+-- ---- several together
+
+pub both_taken : (f : Integers) (qs ps : List Picked) → AreTaken f qs → AreTaken f ps → AreTaken f (qs ++ ps)
+both_taken f [] ps s t = t
+both_taken f (q ∷ qs) ps s t = (s.0, both_taken f qs ps s.1 t)
+
+pub both_noted : (noted : Noted) (qs ps : List Picked) → AreNoted noted qs → AreNoted noted ps → AreNoted noted (qs ++ ps)
+both_noted noted [] ps s t = t
+both_noted noted (q ∷ qs) ps s t = (s.0, both_noted noted qs ps s.1 t)
+
+heads : {A : Type 0} (x y : A) (xs ys : List A) → x ∷ xs ≡ y ∷ ys → x ≡ y
+heads x y xs ys e = cc e
+
+tails : {A : Type 0} (x y : A) (xs ys : List A) → x ∷ xs ≡ y ∷ ys → xs ≡ ys
+tails x y xs ys e = cc e
+
+-- as long in front, they are told apart
+pub both_same : (qs ps us ts : List Picked) → asked qs ≡ asked us → qs ++ ps ≡ us ++ ts → (qs ≡ us) × (ps ≡ ts)
+both_same [] ps [] ts a e = (refl, e)
+both_same [] ps (u ∷ us) ts a e = let h : [] ≡ u.variable ∷ asked us = a in absurd (cc)
+both_same (q ∷ qs) ps [] ts a e = let h : q.variable ∷ asked qs ≡ [] = a in absurd (cc)
+both_same (q ∷ qs) ps (u ∷ us) ts a e =
+    let more = both_same qs ps us ts (tails q.variable u.variable (asked qs) (asked us) a) (tails q u (qs ++ ps) (us ++ ts) e) in
+    let first : q ≡ u = heads q u (qs ++ ps) (us ++ ts) e in
+    ((λ j. first j ∷ more.0 j), more.1)

@@ -42,9 +42,9 @@ one_in (Some y) x h = inl (sym (some_alike y x h))
 
 -- ---- what is there under each
 
-abbrev pub all_under : {A : Type 0} → (List Picked → Option A) → List (List Picked) → List A
+abbrev pub all_under : {K A : Type 0} → (K → Option A) → List K → List A
 all_under under [] = []
-all_under under (ps ∷ pss) = one_or_none (under ps) ++ all_under under pss
+all_under under (k ∷ ks) = one_or_none (under k) ++ all_under under ks
 
 -- what is present is one of them
 chosen : {A : Type 0} (P : A → Type 0) (b c : Bool) (x : A) (o : Option A) (y : A) → P x → (o ≡ Some y → P y)
@@ -61,49 +61,57 @@ present_is picks noted P (x ∷ xs) y e h =
     (λ k. present_is picks noted P xs y (e.1) k) h
 
 -- the one under these numbers is present
-pub record IsPresent {A : Type 0} (picks : A → List Picked) (under : List Picked → Option A) (noted : Noted) (pss : List (List Picked))
-    (ps : List Picked) : Type 0 where
+pub record IsPresent {K A : Type 0} (picks : A → List Picked) (under : K → Option A) (noted : Noted) (ks : List K) (k : K) : Type 0 where
   pub it : A
-  pub is : under ps ≡ Some it
-  pub is_there : present picks noted (all_under under pss) ≡ Some it
+  pub is : under k ≡ Some it
+  pub is_there : present picks noted (all_under under ks) ≡ Some it
 
-module _ {A : Type 0} (picks : A → List Picked) (under : List Picked → Option A) (asks : (ps : List Picked) (x : A) → under ps ≡ Some x → picks x ≡ ps) where
-  abbrev IsUnder : A → Type 0
-  IsUnder x = under (picks x) ≡ Some x
+module _ {K A : Type 0} (flat : K → List Picked) (picks : A → List Picked) (under : K → Option A)
+    (asks : (k : K) (x : A) → under k ≡ Some x → picks x ≡ flat k) where
+  -- it is there under one of these
+  pub record IsUnder (ks : List K) (x : A) : Type 0 where
+    pub key : K
+    pub is_in : IsIn key ks
+    pub is : under key ≡ Some x
 
-  one_is : (ps : List Picked) (o : Option A) → under ps ≡ o → Each IsUnder (one_or_none o)
-  one_is ps None e = tt
-  one_is ps (Some x) e = (ap under (asks ps x e) ∙ e, tt)
+  more_under : (k : K) (ks : List K) (xs : List A) → Each (IsUnder ks) xs → Each (IsUnder (k ∷ ks)) xs
+  more_under k ks [] e = tt
+  more_under k ks (x ∷ xs) e = (record { key = e.0.key; is_in = inr e.0.is_in; is = e.0.is }, more_under k ks xs e.1)
 
-  are_under : (pss : List (List Picked)) → Each IsUnder (all_under under pss)
+  one_is : (k : K) (ks : List K) (o : Option A) → under k ≡ o → Each (IsUnder (k ∷ ks)) (one_or_none o)
+  one_is k ks None e = tt
+  one_is k ks (Some x) e = (record { key = k; is_in = inl refl; is = e }, tt)
+
+  are_under : (ks : List K) → Each (IsUnder ks) (all_under under ks)
   are_under [] = tt
-  are_under (ps ∷ pss) =
-      each_append IsUnder (one_or_none (under ps)) (all_under under pss) (one_is ps (under ps) refl) (are_under pss)
+  are_under (k ∷ ks) =
+      each_append (IsUnder (k ∷ ks)) (one_or_none (under k)) (all_under under ks) (one_is k ks (under k) refl)
+      (more_under k ks (all_under under ks) (are_under ks))
 
-  there : (pss : List (List Picked)) (ps : List Picked) (x : A) → IsIn ps pss → under ps ≡ Some x → IsIn x (all_under under pss)
-  there [] ps x h e = absurd h
-  there (qs ∷ pss) ps x (inl same) e =
-      in_front x (one_or_none (under qs)) (all_under under pss) (one_in (under qs) x (ap under (sym same) ∙ e))
-  there (qs ∷ pss) ps x (inr h) e = in_back x (one_or_none (under qs)) (all_under under pss) (there pss ps x h e)
+  there : (ks : List K) (k : K) (x : A) → IsIn k ks → under k ≡ Some x → IsIn x (all_under under ks)
+  there [] k x h e = absurd h
+  there (j ∷ ks) k x (inl same) e = in_front x (one_or_none (under j)) (all_under under ks) (one_in (under j) x (ap under (sym same) ∙ e))
+  there (j ∷ ks) k x (inr h) e = in_back x (one_or_none (under j)) (all_under under ks) (there ks k x h e)
 
-  all_there : (pss : List (List Picked)) (ps : List Picked) → list_all (λ qs. is_some (under qs)) pss ≡ true → IsIn ps pss
-      → is_some (under ps) ≡ true
-  all_there [] ps h i = absurd i
-  all_there (qs ∷ pss) ps h (inl same) =
-      let both = and_parts (is_some (under qs)) (list_all (λ l. is_some (under l)) pss) h in
-      ap (λ (l : List Picked). is_some (under l)) same ∙ both.0
-  all_there (qs ∷ pss) ps h (inr i) =
-      let both = and_parts (is_some (under qs)) (list_all (λ l. is_some (under l)) pss) h in
-      all_there pss ps both.1 i
+  all_there : (ks : List K) (k : K) → list_all (λ j. is_some (under j)) ks ≡ true → IsIn k ks → is_some (under k) ≡ true
+  all_there [] k h i = absurd i
+  all_there (j ∷ ks) k h (inl same) =
+      let both = and_parts (is_some (under j)) (list_all (λ l. is_some (under l)) ks) h in
+      ap (λ (l : K). is_some (under l)) same ∙ both.0
+  all_there (j ∷ ks) k h (inr i) =
+      let both = and_parts (is_some (under j)) (list_all (λ l. is_some (under l)) ks) h in
+      all_there ks k both.1 i
 
-  pub present_under : (noted : Noted) (pss : List (List Picked)) (ps : List Picked) (vs : List ℕ) → Each (λ x. asked (picks x) ≡ vs) (all_under under pss)
-      → list_all (λ qs. is_some (under qs)) pss ≡ true → IsIn ps pss → AreNoted noted ps → IsPresent picks under noted pss ps
-  present_under noted pss ps vs alike whole i n =
-      let some = some_there (under ps) (all_there pss ps whole i) in
-      let same : picks some.0 ≡ ps = asks ps some.0 some.1 in
-      let parts = parts_of some.0 (all_under under pss) (there pss ps some.0 i some.1) in
+  pub present_under : (noted : Noted) (ks : List K) (k : K) (vs : List ℕ) → ((j : K) → IsIn j ks → flat j ≡ flat k → j ≡ k)
+      → Each (λ x. asked (picks x) ≡ vs) (all_under under ks) → list_all (λ j. is_some (under j)) ks ≡ true → IsIn k ks → AreNoted noted (flat k)
+      → IsPresent picks under noted ks k
+  present_under noted ks k vs told alike whole i n =
+      let some = some_there (under k) (all_there ks k whole i) in
+      let same : picks some.0 ≡ flat k = asks k some.0 some.1 in
+      let parts = parts_of some.0 (all_under under ks) (there ks k some.0 i some.1) in
       let at = found noted picks vs parts.front some.0 parts.back
       (subst (λ (l : List A). Each (λ x. asked (picks x) ≡ vs) l) parts.is alike) (subst (λ (l : List Picked). AreNoted noted l) (sym same) n) in
-      let whole_is : present picks noted (all_under under pss) ≡ Some at.it = ap (present picks noted) parts.is ∙ at.is_there in
-      let own : under (picks at.it) ≡ Some at.it = present_is picks noted IsUnder (all_under under pss) at.it (are_under pss) whole_is in
-      record { it = at.it; is = ap under (sym (at.same ∙ same)) ∙ own; is_there = whole_is }
+      let whole_is : present picks noted (all_under under ks) ≡ Some at.it = ap (present picks noted) parts.is ∙ at.is_there in
+      let own : IsUnder ks at.it = present_is picks noted (IsUnder ks) (all_under under ks) at.it (are_under ks) whole_is in
+      let key_is : own.key ≡ k = told own.key own.is_in (sym (asks own.key at.it own.is) ∙ at.same ∙ same) in
+      record { it = at.it; is = ap under (sym key_is) ∙ own.is; is_there = whole_is }

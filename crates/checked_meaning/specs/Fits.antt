@@ -25,13 +25,13 @@ abbrev pub all_fit : List Fits → Sized → Bool
 all_fit [] s = true
 all_fit (f ∷ fs) s = f s && all_fit fs s
 
--- the fields of a struct, under its arguments
-abbrev pub types_sized : Types → List (Option ℤ) → List Sized → Option (List Field) → List Sized
-types_sized types zs ss None = []
-types_sized types zs ss (Some fs) = map (λ t. typ_sized types ss t (map constant_of zs)) (field_types fs)
+-- the fields of a struct, under its arguments; a type that is no struct has none
+abbrev pub fields_under : Types → List (Option ℤ) → List Sized → List Field → List Sized
+fields_under types zs ss fs = map (λ t. typ_sized types ss t (map constant_of zs)) (field_types fs)
 
-abbrev pub fields_sized : Types → ℕ → List (Option ℤ) → List Sized → List Sized
-fields_sized types u zs ss = types_sized types zs ss (fields types u)
+abbrev pub fields_fit : Types → List (Option ℤ) → List Sized → List Fits → Option (List Field) → Bool
+fields_fit types zs ss vs None = false
+fields_fit types zs ss vs (Some fs) = each_fits vs (fields_under types zs ss fs)
 
 abbrev pub form_fits : Types → Value-F Fits → Sized-F Sized → Bool
 form_fits types V.Unit Z.Unit = true
@@ -44,7 +44,7 @@ form_fits types (V.Tuple fs) (Z.Tuple ss) = each_fits fs ss
 form_fits types (V.List fs) (Z.List s) = all_fit fs s
 form_fits types (V.Vector fs) (Z.Vector n s) = int_eq (pos (length fs)) n && all_fit fs s
 form_fits types (V.Member u k) (Z.Named v zs ss) = nat_eq u v && nat_lt k (length (members types u))
-form_fits types (V.Struct u fs) (Z.Named v zs ss) = nat_eq u v && each_fits fs (fields_sized types u zs ss)
+form_fits types (V.Struct u fs) (Z.Named v zs ss) = nat_eq u v && fields_fit types zs ss fs (fields types u)
 form_fits types (V.Union u c f) (Z.Named v zs ss) = nat_eq u v && f (payload_of types zs ss (payload types u c))
 form_fits types v s = false
 

@@ -45,10 +45,12 @@ use Rattle.exact_sizes.proofs.Told.{told_of as type_told_of}
 use Rattle.split_laws.specs.Counted.{IsIn}
 use Rattle.met_notes.specs.Covers.{AreRead, Covers, CoversDirection, DirectionsPaired, pair_of, side_at}
 use Rattle.covering_laws.specs.Closed.{BodiesAreRead, IsRead, MappingsAreThere, NotesAreRead}
-use Rattle.covering_laws.specs.Covered.{ModelsAreRead, all_found, bare_tells}
+use Rattle.covering_laws.specs.Covered.{ModelsAreRead, bare_tells}
+use Rattle.tabled_cores.specs.Cores.{all_found}
 use Rattle.covering_laws.specs.Covered.{body_cases, body_tested, both_fall, checks_given, core_tested, direction_tested}
 use Rattle.covering_laws.specs.Covered.{found_tested, function_covered, is_found, is_lower, mapping_tested}
-use Rattle.covering_laws.specs.Covered.{model_checks, or_nothing, pairs_fall, setting_of, taken_told, takes_tested, ways_fall}
+use Rattle.covering_laws.specs.Covered.{model_checks, pairs_fall, setting_of, taken_told, takes_tested, ways_fall}
+use Rattle.tabled_cores.specs.Cores.{or_nothing}
 use Rattle.covering_laws.proofs.Bounded.{lists_are_read}
 use Rattle.covering_laws.proofs.Found.{mapping_there}
 use Rattle.covering_laws.proofs.Grown.{first_covered, list_starts, second_covered}
@@ -242,7 +244,7 @@ module _ (core : CoreModel) (past : Positive) (hart : ℕ) (rank : ℕ → ℕ)
   pub model_is_read : function_covered c (entered_by core.step) ≡ true → function_covered c (entered_by core.reset) ≡ true
       → Covers (setting_of core past hart c) core k rank
   model_is_read step reset = record {
-    functions = λ x f covered e. function_is_read core past hart numbers kinds all_read all_pass x f covered e;
+    functions = λ x f covered own e. function_is_read core past hart numbers kinds all_read all_pass x f covered e;
     directions = direction_read;
     openings = opening_is_read;
     step = step;

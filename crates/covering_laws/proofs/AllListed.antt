@@ -121,7 +121,7 @@ module _ (core : CoreModel) (past : Positive) (hart : ℕ) (rank : ℕ → ℕ) 
 
   is_read : Covers set core k rank
   is_read = record {
-    functions = function_is_read core past hart all numbers kinds all_read;
+    functions = λ x f listed own at. function_is_read core past hart all numbers kinds all_read x f listed at;
     directions = direction_read;
     openings = opening_is_read;
     step = entered_listed core.step (subst (IsIn (bare core.step)) (sym first_two.1) (inr (inl refl)));

@@ -4,7 +4,7 @@ use Rattle.std.specs.List.{list_all}
 use Rattle.std.proofs.lemmas.Bool.{and_parts}
 use Rattle.value_indices.specs.Steps.{Note}
 use Rattle.size_splits.specs.Bodies.{Body}
-use Rattle.sized_meanings.specs.Sized.{cases_of}
+use Rattle.sized_meanings.specs.Sized.{cases_by}
 use Rattle.split_laws.specs.Counted.{IsIn}
 use Rattle.split_laws.proofs.Basics.{in_back, in_front, in_mapped}
 use Rattle.note_laws.specs.Notes.{EachNote, OfOthers}
@@ -34,10 +34,10 @@ each_of P (m ∷ ns) h n (inl e) = subst P (sym e) h.0
 each_of P (m ∷ ns) h n (inr i) = each_of P ns h.1 n i
 
 pub bodies_are_met : BodiesAreMet
-bodies_are_met set x sizing zs awaits list instances reached placed covers exact own_fit every bs h b i =
+bodies_are_met given set x sizing zs awaits list instances reached placed covers exact own_fit every bs h b i =
     let ys = all_noted bs in
     let nodes = all_nodes set.around.types sizing zs x.own list ys in
-    let p = and_parts (are_apart ys) (list_all (noted_tested set.around.types sizing zs x.own reached list nodes) ys) h in
-    each_there (OfOthers (IsMet set x reached (cases_of set.around.types instances nodes))) b.notes (λ n k.
-    note_met set x sizing zs awaits list instances reached placed covers ys p.0 exact own_fit every b n (noted_there bs b n i k)
-    (all_in (noted_tested set.around.types sizing zs x.own reached list nodes) ys (note_in b n) p.1 (noted_there bs b n i k)))
+    let p = and_parts (are_apart ys) (list_all (noted_tested set.around.types sizing zs x.own given reached list nodes) ys) h in
+    each_there (OfOthers (IsMet set x reached (cases_by given set.around.types instances nodes))) b.notes (λ n k.
+    note_met set x sizing zs awaits list instances reached placed covers given ys p.0 exact own_fit every b n (noted_there bs b n i k)
+    (all_in (noted_tested set.around.types sizing zs x.own given reached list nodes) ys (note_in b n) p.1 (noted_there bs b n i k)))

@@ -21,20 +21,19 @@ use Rattle.value_laws.proofs.Basics.{no}
 use Rattle.size_values.specs.Numbers.{argument_of, index_under, known_of, number_in, or_open}
 use Rattle.size_laws.specs.Told.{reading_told, typ_told}
 use Rattle.checked_meaning.specs.Items.{constant_of}
-use Rattle.sized_trees.specs.Trees.{constants_of}
 use Rattle.call_fits.specs.Calls.{AllBelong, given_of, givens_at, own_variables, variable_index}
 use Rattle.soundness_steps.specs.Works.{Setting, Work}
 use Rattle.soundness_steps.specs.Noted.{OpensAs, known}
 use Rattle.soundness_steps.specs.Calls.{inside}
 use Rattle.soundness_calls.specs.Premises.{AllMade, OwnSame, own_of, own_type}
 use Rattle.soundness_calls.proofs.Own.{own_closed, own_over}
-use Rattle.exact_sizes.specs.Among.{at, typ_among}
-use Rattle.exact_sizes.specs.Exact.{reading_tells}
+use Rattle.told_sizes.specs.Among.{at, typ_among}
+use Rattle.told_sizes.specs.Exact.{reading_tells}
 use Rattle.exact_sizes.specs.Laws.{More, Stands}
 use Rattle.exact_sizes.proofs.Among.{SameAt}
 use Rattle.exact_sizes.proofs.Known.{exact_value, none, number_more, variable_known}
 use Rattle.exact_sizes.proofs.Told.{told_of, typ_told_hangs}
-use Rattle.covering_laws.specs.Covered.{all_told, is_fixed, known_in, parameter_tested}
+use Rattle.covering_laws.specs.Covered.{all_told, constants_of, is_fixed, known_in, parameter_tested}
 use Rattle.covering_laws.proofs.Telling.{told_fits}
 
 -- ---- the numbers of an instance are those of the function's variables
@@ -43,7 +42,7 @@ one_given : (kind : Kind) (y z : ℤ) → agrees (Some (an_int y)) (given_of kin
 one_given K.Bool y z h = no h
 one_given kind y z h = sym ((Decides-int_eq y z).0 h)
 
-awaited_stand : (h : Integers) (k : ℕ) (zs : List (Option ℤ)) (ps : List Parameter) → all_agree (map (option_map an_int) zs) (givens_at h k ps) ≡ true
+pub awaited_stand : (h : Integers) (k : ℕ) (zs : List (Option ℤ)) (ps : List Parameter) → all_agree (map (option_map an_int) zs) (givens_at h k ps) ≡ true
     → (i : ℕ) (z : ℤ) → known_of zs i ≡ Some z → (h (k + i) ≡ z) × (i < length ps)
 awaited_stand h k [] ps a i z e = none e
 awaited_stand h k (o ∷ zs) [] a i z e = no a

@@ -37,11 +37,12 @@ use Rattle.monomorph.specs.Found.{found_eq, instance_eq, instances_in}
 use Rattle.monomorph.specs.Reading.{Inside}
 use Rattle.sized_trees.specs.Cases.{place_from}
 use Rattle.sized_trees.specs.Within.{all_within, number_within}
-use Rattle.exact_sizes.specs.Exact.{is_exact}
+use Rattle.told_sizes.specs.Exact.{is_exact}
 use Rattle.exact_sizes.proofs.Known.{number_constant_is}
 use Rattle.covering_laws.specs.Closed.{IsAmong, NoteIsRead, NotesAreRead, all_given, is_given}
 use Rattle.covering_laws.proofs.KindsGiven.{are_nums}
-use Rattle.covering_laws.specs.Tested.{form_in_limit, in_limit, numbers_pass}
+use Rattle.covering_laws.specs.Tested.{form_in_limit, in_limit}
+use Rattle.tabled_cores.specs.Notes.{numbers_pass}
 
 -- ---- a width or length that is a constant within its limit is a number for certain: none past the largest integer is on the way
 

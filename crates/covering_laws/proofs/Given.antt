@@ -49,8 +49,9 @@ use Rattle.soundness_steps.specs.Covers.{AllAgree, IsMet, SizesFit}
 use Rattle.noting_laws.specs.Noting.{IsNamed}
 use Rattle.noting_laws.proofs.Noted as Behind
 use Rattle.note_laws.specs.Notes.{EachNote, OfOthers}
-use Rattle.exact_sizes.specs.Among.{SameAmong, index_among, reading_among}
-use Rattle.exact_sizes.specs.Exact.{is_exact_index, only_if}
+use Rattle.exact_sizes.specs.Among.{SameAmong}
+use Rattle.told_sizes.specs.Among.{index_among, reading_among}
+use Rattle.told_sizes.specs.Exact.{is_exact_index, only_if}
 use Rattle.exact_sizes.specs.Laws.{More, Stands}
 use Rattle.exact_sizes.proofs.Alike as Alike
 use Rattle.exact_sizes.proofs.Among as Among
@@ -61,10 +62,12 @@ use Rattle.exact_sizes.proofs.Told.{told_hang}
 use Rattle.covering_laws.specs.Closed.{IsAmong, NoteIsRead, NotesAreRead}
 use Rattle.covering_laws.specs.Given.{bodies_given, call_given, call_passes, called_at, called_in, calls_at, cases_given, first_noted}
 use Rattle.covering_laws.specs.Given.{function_given, is_certain, is_node, is_told, made_given, made_in, made_now, makes_at, note_given, noted_given}
-use Rattle.covering_laws.specs.Given.{is_known, now, numbers_among, or_noted, tells, type_given}
+use Rattle.covering_laws.specs.Given.{is_known, now, numbers_among, or_noted}
+use Rattle.tabled_cores.specs.Notes.{tells, type_given}
 use Rattle.covering_laws.specs.Laws.{ArePlaced, AreCovered}
 use Rattle.node_counts.specs.Told.{NoteIn, all_noted, are_alike, are_apart, are_single, is_apart, note_in}
-use Rattle.covering_laws.specs.Tested.{agrees_there, all_nodes, inside, numbers_pass}
+use Rattle.covering_laws.specs.Tested.{agrees_there, all_nodes, inside}
+use Rattle.tabled_cores.specs.Notes.{numbers_pass}
 use Rattle.covering_laws.proofs.Agreeing.{given_agree}
 use Rattle.covering_laws.proofs.Bodies.{each_of, each_there, noted_there}
 use Rattle.covering_laws.proofs.Found.{given_pass, indices_in_limit, note_is_read}
@@ -120,7 +123,7 @@ module _ (set : Setting) (x : Work) (sizing : Sizing) (zs : List (Option ℤ)) (
     (covers : (p : ℕ) (s : SizedInstance) (y : Work) → slice_get instances p ≡ Some s → s.instance.function ≡ y.function
     → y.instance ≡ record { place = p; numbers = numbers_of s.instance } → all_eq y.own s.instance.types ≡ true → set.covered.function y ≡ true)
     (found : List Found) (among : (y : Instance) → IsAmong (F.Function y) found → is_some (place_in list y) ≡ true)
-    (ways : (d : ℕ) → IsAmong (F.Mapping (d / 2)) found → set.covered.direction d ≡ true) where
+    (ways : (d : ℕ) → IsAmong (F.Mapping (d / 2)) found → set.covered.direction d ≡ true) (unfit : set.covered.fitted ≡ false) where
   abbrev types : Types
   types = set.around.types
 
@@ -329,6 +332,7 @@ module _ (set : Setting) (x : Work) (sizing : Sizing) (zs : List (Option ℤ)) (
           agree = agree;
           is_covered = λ ts. covers led.0 s.0 (work_of g awaited (map (type_sized types x.own f) qs) ts) s.1 function
               (λ i. record { place = led.0; numbers = map (option_map an_int) (numbers i) }) owns;
+          own_fit = λ fitted. no (sym unfit ∙ fitted);
         }
       where
         passed : (c : Body) (n : Note) (noted : Noted) → length ss ≡ length operands
@@ -375,21 +379,21 @@ module _ (set : Setting) (x : Work) (sizing : Sizing) (zs : List (Option ℤ)) (
         let here = present b facts f noted so in
         ways d (read here.taken here.is_there)
     note_met b (given_note facts k i) named it read nums h =
-        Notes.given_met set x sizing zs awaits list instances reached placed covers ys apart b facts k i it (all_agrees b facts k i it)
+        Notes.given_met set x sizing zs awaits list instances reached placed covers true ys apart b facts k i it (all_agrees b facts k i it)
     note_met b (name_note v name) named it read nums h = tt
 
 pub bodies_are_given : (set : Setting) (x : Work) (sizing : Sizing) (zs : List (Option ℤ)) → x.instance.numbers ≡ map (option_map an_int) zs
     → (list : List Instance) (instances : List SizedInstance) → ArePlaced list instances → AreCovered set instances
     → (found : List Found) → ((y : Instance) → IsAmong (F.Function y) found → is_some (place_in list y) ≡ true)
-    → ((d : ℕ) → IsAmong (F.Mapping (d / 2)) found → set.covered.direction d ≡ true) → (bs : List Body)
+    → ((d : ℕ) → IsAmong (F.Mapping (d / 2)) found → set.covered.direction d ≡ true) → set.covered.fitted ≡ false → (bs : List Body)
     → ((b : Body) → IsIn b bs → NotesAreRead (inside set.around.types sizing zs x.own b) found b.notes)
     → ((b : Body) → IsIn b bs → EachNote (GivesNumbers sizing) b.notes) → are_apart (all_noted bs) ≡ true
     → are_single (all_noted bs) ≡ true → bodies_given set.around.types sizing zs x.own bs ≡ true → (b : Body) → IsIn b bs
     → EachNote (OfOthers (IsMet set x set.covered.direction (cases_given set.around.types sizing zs x.own list (all_noted bs)))) b.notes
-bodies_are_given set x sizing zs awaits list instances placed covers found among ways bs read gives apart single h b i =
+bodies_are_given set x sizing zs awaits list instances placed covers found among ways unfit bs read gives apart single h b i =
     let ys = all_noted bs in
     each_there (OfOthers (IsMet set x set.covered.direction (cases_given set.around.types sizing zs x.own list ys))) b.notes (λ n k.
     let known = note_is_read (inside set.around.types sizing zs x.own b) found n b.notes k (read b i) in
-    note_met set x sizing zs awaits list instances placed covers found among ways ys apart single b n known.0 (noted_there bs b n i k) known.1
+    note_met set x sizing zs awaits list instances placed covers found among ways unfit ys apart single b n known.0 (noted_there bs b n i k) known.1
     (each_of (GivesNumbers sizing) b.notes (gives b i) n k)
     (all_in (noted_given set.around.types sizing zs x.own) ys (note_in b n) h (noted_there bs b n i k)))

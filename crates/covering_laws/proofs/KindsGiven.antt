@@ -21,7 +21,7 @@ use Rattle.size_splits.specs.Bodies.{Body}
 use Rattle.size_splits.specs.Sizing.{Sizing, count_variables, flags, flags_of, in_body, in_signature, is_size, is_truth_kind, is_truth_of, sizes_from}
 use Rattle.size_splits.specs.Sizing.{sizing_again, sizing_behind, sizing_for, sizing_of, with_sizes}
 use Rattle.size_notes.specs.Bodies.{bodies_of, function_bodies}
-use Rattle.exact_sizes.specs.Exact.{only_if}
+use Rattle.told_sizes.specs.Exact.{only_if}
 use Rattle.exact_sizes.proofs.Known.{none}
 use Rattle.covering_laws.specs.Apart.{AreOfKinds, GivesKinds, is_truth_index}
 

@@ -2,6 +2,9 @@ pub mod Places
 pub mod Giving
 pub mod Agreeing
 pub mod Telling
+pub mod Opened
+pub mod SizesNamed
+pub mod CaseMet
 pub mod Notes
 pub mod Bodies
 pub mod KindsGiven
@@ -9,6 +12,7 @@ pub mod Found
 pub mod Given
 pub mod Working
 pub mod Entering
+pub mod Signed
 pub mod Joined
 pub mod Placed
 pub mod There
@@ -21,3 +25,8 @@ pub mod Across
 pub mod Plainly
 pub mod Listed
 pub mod AllListed
+pub mod TabledNodes
+pub mod TabledNotes
+pub mod TabledBare
+pub mod TabledRead
+pub mod TabledWhole

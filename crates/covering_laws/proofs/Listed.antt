@@ -132,7 +132,7 @@ module _ (core : CoreModel) (past : Positive) (hart : ℕ) (all : List Found) (n
       → AreRead set x (is_found all) (plain_cases core.types model.sizing (all_noted bs)) b.notes
   read_in x zs awaits own bs are gives apart single b i =
       subst (λ (ty : Types). AreRead set x (is_found all) (plain_cases ty model.sizing (all_noted bs)) b.notes) types_are
-      (bodies_met set refl x model.sizing zs awaits own list instances (placed_there model list) covers like all
+      (bodies_met set refl refl x model.sizing zs awaits own list instances (placed_there model list) covers like all
       (λ y k. place_there y all k) (λ d k. k) bs
       (λ c k. subst (λ (ty : Types). NotesAreRead (inside ty model.sizing zs own c) all c.notes) (sym types_are) (are c k)) gives apart single b i)
 

@@ -1,5 +1,6 @@
 -- A note that is tested is met by the cases of the nodes of its bodies.
-use Rattle.std.proofs.Common.{◌≡◌, ◌∙◌, ap, sym, refl, subst, ℕ, suc, nat_eq, ℤ, pos, ◌≤ℤ◌, int_le, Bool, true, false, ◌&&◌, ◌||◌, inl, inr}
+use Rattle.std.proofs.Common.{◌≡◌, ◌∙◌, ◌≤◌, ap, sym, refl, subst, ℕ, suc, nat_eq, ℤ, pos, ◌≤ℤ◌, int_le, Bool, true, false, ◌&&◌}
+use Rattle.std.proofs.Common.{◌||◌, inl, inr}
 use Rattle.std.proofs.Common.{List, [], ◌∷◌, ◌++◌, map, length, slice_get, Option, Some, None, if◌then◌else◌, append-nil}
 use Rattle.std.specs.Prelude.{option_map}
 use Rattle.std.specs.List.{list_all}
@@ -27,7 +28,7 @@ use Rattle.value_indices.specs.declared.notes.Fact.{Fact}
 use Rattle.value_indices.specs.declared.notes.Fact.TheVariants as Y
 use Rattle.value_indices.specs.declared.notes.Made.{Made}
 use Rattle.value_indices.specs.declared.notes.Made.TheVariants as Makes
-use Rattle.value_laws.specs.Belonging.{Integers, standing}
+use Rattle.value_laws.specs.Belonging.{Integers, standing, closed}
 use Rattle.value_laws.specs.Known.{AllTrue, given_in}
 use Rattle.value_laws.proofs.Basics.{no, two}
 use Rattle.size_values.specs.declared.constants.Constant.{Constant}
@@ -36,7 +37,6 @@ use Rattle.size_values.specs.declared.sized.Sized.{Sized}
 use Rattle.size_values.specs.Numbers.{index_under, known_of, value_of, with_picked}
 use Rattle.size_values.specs.Sized.{all_eq, integer_of, number_where, numbers_eq, reading_sized, value_sized}
 use Rattle.size_values.proofs.Same.{all_differ}
-use Rattle.size_laws.proofs.Opening.{opening_keeps_sizes}
 use Rattle.size_splits.specs.Bodies.{Body}
 use Rattle.size_splits.specs.Sizing.{Sizing, flags_of}
 use Rattle.size_splits.specs.Splits.{counted}
@@ -52,41 +52,44 @@ use Rattle.sail_core.specs.Numbers.{Instance as Awaits}
 use Rattle.sail_core.specs.declared.tree.Giver.{Giver}
 use Rattle.sail_core.specs.declared.tree.Giver.TheVariants as By
 use Rattle.checked_meaning.specs.Checked.{Cases, Noted}
+use Rattle.sized_trees.specs.declared.combinations.Choice.{Choice}
 use Rattle.sized_trees.specs.declared.trees.Case.{Case}
 use Rattle.sized_trees.specs.declared.trees.Lead.{Lead}
 use Rattle.sized_trees.specs.declared.trees.NodeSizes.{NodeSizes}
 use Rattle.sized_trees.specs.declared.trees.NodeSizes.TheVariants as Z
 use Rattle.sized_trees.specs.declared.trees.SizedInstance.{SizedInstance}
-use Rattle.sized_trees.specs.Bodies.{at_note, node_cases, node_leads}
+use Rattle.sized_trees.specs.Bodies.{at_note, made_choices, node_cases, node_leads, value_at}
 use Rattle.sized_trees.specs.Cases.{all_sized_under, case_of, case_under, case_within, cases_under, lead_found, lead_to, lead_under, lead_within, leads_under}
-use Rattle.sized_trees.specs.Cases.{made_sized, one_or_none, place_in}
-use Rattle.sized_trees.specs.Combinations.{combinations_at, is_given}
+use Rattle.sized_trees.specs.Cases.{one_or_none, place_in, sized_under}
+use Rattle.sized_trees.specs.Combinations.{combinations_at, is_given, picked_by}
 use Rattle.sized_trees.specs.Laws.{Each}
 use Rattle.sized_trees.proofs.Each.{each_append}
 use Rattle.checked_meaning.specs.Fits.{AllFit, has_sizes}
 use Rattle.sized_meanings.specs.Noting.{noted_by_all, noted_by_each}
-use Rattle.sized_meanings.specs.Present.{first_in, gives_at, gives_in, if_at, present_case, present_lead}
-use Rattle.sized_meanings.specs.Sized.{awaited_at, cases_of, led_by, led_in, made_in, makes_in, numbers_of}
+use Rattle.sized_meanings.specs.Present.{first_in, gives_at, gives_in, if_at, noted_with, present_case, present_lead}
+use Rattle.sized_meanings.specs.Sized.{awaited_at, cases_by, led_by, led_in, made_by, makes_in, numbers_of}
 use Rattle.soundness_steps.specs.Works.{Setting, Work, IsExact}
-use Rattle.soundness_steps.specs.Noted.{EachNoted, HasNumbers, IsSo, is_made, MadeAs, known, sized, type_sized, variables_given, with_given}
+use Rattle.soundness_steps.specs.Noted.{EachNoted, HasNumbers, IsSo, known, sized, type_sized, variables_given, with_given}
 use Rattle.soundness_steps.specs.Covers.{Agrees, AllAgree, AreSized, FormFits, IsMet, SizesFit, given_there}
 use Rattle.note_laws.specs.Notes.{OfOthers}
+use Rattle.noting_laws.proofs.Noted as Behind
 use Rattle.case_laws.specs.Cases as C
-use Rattle.case_laws.proofs.Present.{present_cases, present_leads}
+use Rattle.case_laws.proofs.Present.{present_leads}
 use Rattle.case_laws.proofs.Under.{present_is, some_alike}
-use Rattle.exact_sizes.specs.Exact.{is_exact_index, only_if, reading_passes, reading_settles, value_passes}
+use Rattle.told_sizes.specs.Passing.{reading_passes, value_passes}
+use Rattle.told_sizes.specs.Exact.{is_exact_index, only_if}
 use Rattle.exact_sizes.specs.Laws.{More, Stands}
 use Rattle.exact_sizes.proofs.Equal.{all_itself, numbers_same}
 use Rattle.exact_sizes.proofs.Had.{values_fit}
 use Rattle.exact_sizes.proofs.Known.{none, exact_value, number_constant_is, number_stands, value_more}
-use Rattle.exact_sizes.proofs.Settling.{types_settle}
 use Rattle.exact_sizes.proofs.Standing.{sizes_stand}
 use Rattle.node_counts.specs.Told.{NoteIn, are_alike, are_apart, is_apart}
-use Rattle.covering_laws.specs.Tested.{agrees_there, all_nodes, form_in_limit, in_limit, inside, made_passes}
-use Rattle.covering_laws.specs.Tested.{node_passes}
+use Rattle.covering_laws.specs.Tested.{agrees_there, all_nodes, form_in_limit, in_limit, inside}
 use Rattle.node_counts.specs.Told.{note_in}
-use Rattle.covering_laws.specs.Tested.{call_tested, function_tested, lead_passes, made_tested, note_tested, numbers_pass, readings_pass, size_passes}
-use Rattle.covering_laws.specs.Tested.{values_pass}
+use Rattle.covering_laws.specs.Tested.{note_tested, size_passes}
+use Rattle.tabled_cores.specs.Notes.{call_tested, function_tested, lead_passes, made_tested, numbers_pass, readings_pass}
+use Rattle.tabled_cores.specs.Notes.{values_pass}
+use Rattle.covering_laws.proofs.CaseMet.{case_met}
 use Rattle.covering_laws.proofs.Giving.{now_noted, still_noted}
 use Rattle.covering_laws.proofs.Places.{all_in, is_not, numbers_agree, place_found}
 use Rattle.covering_laws.proofs.Telling.{told_fits}
@@ -293,27 +296,27 @@ module _ (set : Setting) (x : Work) (sizing : Sizing) (zs : List (Option ℤ)) (
   only_case c true d is e h = ap (λ (y : Case). length y.takes) (sym (some_alike d c h)) ∙ e
   only_case c false d is e h = none h
 
-  one_takes : (b : Body) (is : List Indices) (made : Made) (ps : List Picked) (o : Option Case) → case_under (inside_of b) is made ps ≡ o
+  one_takes : (b : Body) (is : List Indices) (i : Indices) (k : Choice) (o : Option Case) → case_under (inside_of b) is i k ≡ o
       → Each (λ (c : Case). length c.takes ≡ length is) (one_or_none o)
-  one_takes b is made ps None e = tt
-  one_takes b is made ps (Some c) e =
-      (only_case c (case_within (inside_of b) is made ps) (case_of (inside_of b) is made ps) is (as_many (inside_of b) ps is) e, tt)
+  one_takes b is i k None e = tt
+  one_takes b is i k (Some c) e =
+      (only_case c (case_within (inside_of b) is i k) (case_of (inside_of b) is i k) is (as_many (inside_of b) k.noted is) e, tt)
 
-  cases_take : (b : Body) (is : List Indices) (made : Made) (pss : List (List Picked))
-      → Each (λ (c : Case). length c.takes ≡ length is) (cases_under (inside_of b) is made pss)
-  cases_take b is made [] = tt
-  cases_take b is made (ps ∷ pss) =
-      each_append (λ (c : Case). length c.takes ≡ length is) (one_or_none (case_under (inside_of b) is made ps)) (cases_under (inside_of b) is made pss)
-      (one_takes b is made ps (case_under (inside_of b) is made ps) refl) (cases_take b is made pss)
+  cases_take : (b : Body) (is : List Indices) (i : Indices) (ks : List Choice)
+      → Each (λ (c : Case). length c.takes ≡ length is) (cases_under (inside_of b) is i ks)
+  cases_take b is i [] = tt
+  cases_take b is i (k ∷ ks) =
+      each_append (λ (c : Case). length c.takes ≡ length is) (one_or_none (case_under (inside_of b) is i k)) (cases_under (inside_of b) is i ks)
+      (one_takes b is i k (case_under (inside_of b) is i k) refl) (cases_take b is i ks)
 
   makes_none : (v : Value) (ss : List Sized) (c : Case) (n m : ℕ) → length c.takes ≡ n → length ss ≡ m → nat_eq n m ≡ false → makes_in types ss v c ≡ None
   makes_none v ss c n m e k h =
       only_unless (all_eq c.takes ss) (has_sizes types v c.gives) c.gives (all_differ c.takes ss (λ q. equal_lengths n m h (sym e ∙ q ∙ k)))
 
-  module _ (b : Body) (facts : List Fact) (k : ℕ) (operands : List Indices) (made : Made) (f : Integers) (noted : Noted) (ss : List Sized)
-      (are : AreSized set x f operands ss) (v : Value) where
+  module _ (given : Bool) (b : Body) (facts : List Fact) (k : ℕ) (operands : List Indices) (made : Made) (f : Integers) (noted : Noted)
+      (ss : List Sized) (are : AreSized set x f operands ss) (v : Value) where
     abbrev makes : NodeSizes → Option Sized
-    makes = made_in types k ss v noted
+    makes = made_by given types k ss v noted
 
     made_passed : (y : NoteIn) → are_alike y.note (made_note facts k operands made) ≡ false → (rest : List NodeSizes)
         → first_in makes (at_note (inside_of y.body) list y.note ++ rest) ≡ first_in makes rest
@@ -322,12 +325,14 @@ module _ (set : Setting) (x : Work) (sizing : Sizing) (zs : List (Option ℤ)) (
         by : (n : Note) → are_alike n (made_note facts k operands made) ≡ false
             → first_in makes (at_note (inside_of y.body) list n ++ rest) ≡ first_in makes rest
         by (made_note more j others value) h =
-            let cases = node_cases (inside_of y.body) more others value in
-            first_none makes (Z.Makes j cases) rest
-            (passed (nat_eq k j) (nat_eq (length others) (length operands)) (present_case noted cases) (makes_in types ss v) h
+            let r = inside_of y.body in
+            let cases = node_cases r more others value in
+            let later : Noted = noted_with given (value_at r value) v noted in
+            first_none makes (Z.Makes j (value_at r value) cases) rest
+            (passed (nat_eq k j) (nat_eq (length others) (length operands)) (present_case later cases) (makes_in types ss v) h
             (λ e l c q. makes_none v ss c (length others) (length operands)
-            (present_is (λ (d : Case). d.picked) noted (λ (d : Case). length d.takes ≡ length others) cases c
-            (cases_take y.body others value (combinations_at (inside_of y.body) more)) q) (sized_as_many set x f operands ss are) l))
+            (present_is (λ (d : Case). d.picked) later (λ (d : Case). length d.takes ≡ length others) cases c
+            (cases_take y.body others (value_at r value) (made_choices r more value)) q) (sized_as_many set x f operands ss are) l))
         by (call_note more place j others (D.Function u) js qs) h =
             first_none makes (Z.Calls j (node_leads (inside_of y.body) list more others u js qs)) rest refl
         by (call_note more place j others (D.Row row) js qs) h = refl
@@ -339,28 +344,6 @@ module _ (set : Setting) (x : Work) (sizing : Sizing) (zs : List (Option ℤ)) (
         by (size_note more place value) h = refl
         by (way_note more d) h = refl
         by (name_note w name) h = refl
-
-  made_right : (b : Body) (f : Integers) (ps : List Picked) → Stands (under (inside_of b) ps) f → (made : Made) (v : Value)
-      → made_passes (inside_of b) made ps ≡ true → MadeAs types set.past x f made v (made_sized (inside_of b) ps made)
-  made_right b f ps stands (Makes.ByIndices i) v h = value_same (under (inside_of b) ps) f stands i h
-  made_right b f ps stands (Makes.ByType q) v h =
-      let of = under (inside_of b) ps in
-      let p = and_parts (reading_passes types (length x.own) of q) (reading_settles types (length x.own) of q) h in
-      record {
-        each = λ tells name facts n had. type_same of f stands q p.0
-            ∙ sym (opening_keeps_sizes types x.own (known f) q (types_settle types x.own (length x.own) f of stands q p.1) tells name facts n);
-      }
-
-  made_has : AllFit types x.types x.own → (b : Body) (f : Integers) (ps : List Picked) → Stands (under (inside_of b) ps) f → (made : Made) (v : Value)
-      → made_passes (inside_of b) made ps ≡ true → is_made types set.past x f made v ≡ true
-      → has_sizes types v (made_sized (inside_of b) ps made) ≡ true
-  made_has own_fit b f ps stands (Makes.ByIndices i) v h is =
-      let of = under (inside_of b) ps in
-      ap (has_sizes types v) (value_same of f stands i h) ∙ (values_fit types set.past f x.types x.own own_fit of stands).0 i v h is
-  made_has own_fit b f ps stands (Makes.ByType q) v h is =
-      let of = under (inside_of b) ps in
-      let p = and_parts (reading_passes types (length x.own) of q) (reading_settles types (length x.own) of q) h in
-      ap (has_sizes types v) (type_same of f stands q p.0) ∙ (values_fit types set.past f x.types x.own own_fit of stands).1 q v p.0 is
 
   -- ---- where a call leads
 
@@ -406,7 +389,8 @@ module _ (set : Setting) (x : Work) (sizing : Sizing) (zs : List (Option ℤ)) (
       where
         by : (n : Note) → are_alike n (call_note facts place k operands callee js qs) ≡ false
             → first_in calls (at_note (inside_of y.body) list n ++ rest) ≡ first_in calls rest
-        by (made_note more j others value) h = first_none calls (Z.Makes j (node_cases (inside_of y.body) more others value)) rest refl
+        by (made_note more j others value) h =
+            first_none calls (Z.Makes j (value_at (inside_of y.body) value) (node_cases (inside_of y.body) more others value)) rest refl
         by (call_note more spot j others (D.Function u) is rs) h =
             let leads = node_leads (inside_of y.body) list more others u is rs in
             first_none calls (Z.Calls j leads) rest
@@ -470,6 +454,16 @@ module _ (set : Setting) (x : Work) (sizing : Sizing) (zs : List (Option ℤ)) (
       let rest = readings_same b f ps stands qs p.1 in
       λ j. one j ∷ rest j
 
+  -- values of what is given to Type variables
+  given_fit : AllFit types x.types x.own → (b : Body) (f : Integers) (ps : List Picked) → Stands (under (inside_of b) ps) f → (qs : List Reading)
+      → readings_pass (inside_of b) ps qs ≡ true
+      → AllFit types (map (closed types (standing set.past f) x.types) qs) (map (type_sized types x.own f) qs)
+  given_fit own_fit b f ps stands [] h = tt
+  given_fit own_fit b f ps stands (q ∷ qs) h =
+      let of = under (inside_of b) ps in
+      let p = and_parts (reading_passes types (length x.own) of q) (readings_pass (inside_of b) ps qs) h in
+      (λ v is. (values_fit types set.past f x.types x.own own_fit of stands).1 q v p.0 is, given_fit own_fit b f ps stands qs p.1)
+
   -- ---- what is said of the numbers that a node gives
 
   gives_front : (xs ns : List NodeSizes) (k : Giver) (i : Indices) → IsIn i (gives_at ns k) → IsIn i (gives_at (xs ++ ns) k)
@@ -497,45 +491,44 @@ module _ (set : Setting) (x : Work) (sizing : Sizing) (zs : List (Option ℤ)) (
 
   -- ---- of bodies that are read together
 
-  module _ (ys : List NoteIn) (apart : are_apart ys ≡ true) where
+  module _ (given : Bool) (ys : List NoteIn) (apart : are_apart ys ≡ true) where
     abbrev nodes : List NodeSizes
     nodes = all_nodes types sizing zs x.own list ys
 
     abbrev cases : Cases
-    cases = cases_of types instances nodes
+    cases = cases_by given types instances nodes
 
-    made_met : IsExact set → AllFit types x.types x.own → (b : Body) (facts : List Fact) (k : ℕ) (operands : List Indices) (made : Made)
-        → IsIn (note_in b (made_note facts k operands made)) ys → made_tested (inside_of b) facts operands made ≡ true
+    pub made_met : IsExact set → AllFit types x.types x.own → (b : Body) (facts : List Fact) (k : ℕ) (operands : List Indices) (made : Made)
+        → IsIn (note_in b (made_note facts k operands made)) ys → made_tested given (inside_of b) facts operands made ≡ true
         → IsMet set x reached cases (made_note facts k operands made)
     made_met exact own_fit b facts k operands made it h f noted so ss are v is =
         let r = inside_of b in
-        let tests = and_parts (C.has_all_cases r facts operands made) (list_all (node_passes r operands made) (combinations_at r facts)) h in
+        let i = value_at r made in
         let there = so_there b f noted facts so in
-        let at = present_cases set.past f r facts noted operands made there tests.0 in
-        let own = all_in (node_passes r operands made) (combinations_at r facts) at.picked tests.1 at.is_in in
-        let p = and_parts (values_pass r at.picked operands) (made_passes r made at.picked) own in
-        let stands = stands_there b f at.picked there.known at.are in
-        let gives = made_sized r at.picked made in
-        let g = makes b facts k operands made f noted ss are v in
-        let takes : all_eq (all_sized_under r at.picked operands) ss ≡ true =
-        ap (λ l. all_eq l ss) (operands_same exact b f at.picked stands operands ss p.0 are) ∙ all_itself ss in
-        let fits : has_sizes types v gives ≡ true = made_has own_fit b f at.picked stands made v p.1 is in
-        let found : g (Z.Makes k (node_cases r facts operands made)) ≡ Some gives =
-        ap (λ (o : Option Case). and_then o (makes_in types ss v)) (if_there k (present_case noted (node_cases r facts operands made)) ∙ at.is_there)
-        ∙ only_there (all_eq (all_sized_under r at.picked operands) ss && has_sizes types v gives) gives
-        (two (all_eq (all_sized_under r at.picked operands) ss) (has_sizes types v gives) takes fits) in
+        let at = case_met given types set.past x own_fit sizing zs b.variables b.names r.split facts operands made f noted v h there is in
+        let ps = at.choice.noted in
+        let gives = sized_under r (picked_by at.choice) i in
+        let later : Noted = noted_with given i v noted in
+        let make = makes given b facts k operands made f noted ss are v in
+        let takes : all_eq (all_sized_under r ps operands) ss ≡ true =
+        ap (λ l. all_eq l ss) (operands_same exact b f ps (stands_there b f ps there.known at.before) operands ss at.operands_pass are) ∙ all_itself ss in
+        let found : make (Z.Makes k i (node_cases r facts operands made)) ≡ Some gives =
+        ap (λ (d : Option Case). and_then d (makes_in types ss v)) (if_there k (present_case later (node_cases r facts operands made)) ∙ at.is_there)
+        ∙ only_there (all_eq (all_sized_under r ps operands) ss && has_sizes types v gives) gives
+        (two (all_eq (all_sized_under r ps operands) ss) (has_sizes types v gives) takes at.fits) in
         record {
           typ = gives;
-          is_there = found_first g gives (note_in b (made_note facts k operands made))
-              (λ rest. first_some g (Z.Makes k (node_cases r facts operands made)) rest gives found)
-              (λ y q rest. made_passed b facts k operands made f noted ss are v y q rest) ys apart it;
-          is_right = λ matters. made_right b f at.picked stands made v p.1;
+          is_there = found_first make gives (note_in b (made_note facts k operands made))
+              (λ others. first_some make (Z.Makes k i (node_cases r facts operands made)) others gives found)
+              (λ y e others. made_passed given b facts k operands made f noted ss are v y e others) ys apart it;
+          is_right = λ matters. at.is_right;
         }
 
-    called_met : IsExact set → (b : Body) (facts : List Fact) (place : Place) (k : ℕ) (operands : List Indices) (g : ℕ) (js : List Index) (qs : List Reading)
+    pub called_met : IsExact set → AllFit types x.types x.own → (b : Body) (facts : List Fact) (place : Place) (k : ℕ) (operands : List Indices)
+        (g : ℕ) (js : List Index) (qs : List Reading)
         → IsIn (note_in b (call_note facts place k operands (D.Function g) js qs)) ys → function_tested (inside_of b) list facts operands g js qs ≡ true
         → IsMet set x reached cases (call_note facts place k operands (D.Function g) js qs)
-    called_met exact b facts place k operands g js qs it h f noted so ss are =
+    called_met exact own_fit b facts place k operands g js qs it h f noted so ss are =
         let r = inside_of b in
         let tests = and_parts (C.has_all_leads r list facts operands g js qs) (list_all (lead_passes r operands g js qs) (combinations_at r facts)) h in
         let there = so_there b f noted facts so in
@@ -579,18 +572,19 @@ module _ (set : Setting) (x : Work) (sizing : Sizing) (zs : List (Option ℤ)) (
           agree = agree;
           is_covered = λ ts. covers led.place s.0
               (work_of g awaited (map (type_sized types x.own f) qs) ts) s.1 function (refl {a = awaited}) owns;
+          own_fit = λ fitted. given_fit own_fit b f at.picked stands qs q.0;
         }
 
-    call_met : IsExact set → ((d : ℕ) → set.covered.direction d ≡ true)
+    call_met : IsExact set → AllFit types x.types x.own → ((d : ℕ) → set.covered.direction d ≡ true)
         → (b : Body) (facts : List Fact) (place : Place) (k : ℕ) (operands : List Indices) (callee : Callee)
         (js : List Index) (qs : List Reading) → IsIn (note_in b (call_note facts place k operands callee js qs)) ys
         → call_tested (inside_of b) list facts operands callee js qs ≡ true
         → IsMet set x reached cases (call_note facts place k operands callee js qs)
-    call_met exact every b facts place k operands (D.Function g) js qs it h = called_met exact b facts place k operands g js qs it h
-    call_met exact every b facts place k operands (D.Row row) js qs it h = tt
-    call_met exact every b facts place k operands (D.Constructor u c) js qs it h = tt
-    call_met exact every b facts place k operands (D.Converts d) js qs it h = λ f noted so. every d
-    call_met exact every b facts place k operands (D.Applies d) js qs it h = tt
+    call_met exact own_fit every b facts place k operands (D.Function g) js qs it h = called_met exact own_fit b facts place k operands g js qs it h
+    call_met exact own_fit every b facts place k operands (D.Row row) js qs it h = tt
+    call_met exact own_fit every b facts place k operands (D.Constructor u c) js qs it h = tt
+    call_met exact own_fit every b facts place k operands (D.Converts d) js qs it h = λ f noted so. every d
+    call_met exact own_fit every b facts place k operands (D.Applies d) js qs it h = tt
 
     -- ---- numbers that a value gives
 
@@ -616,11 +610,12 @@ module _ (set : Setting) (x : Work) (sizing : Sizing) (zs : List (Option ℤ)) (
     -- ---- a note
 
     pub note_met : IsExact set → AllFit types x.types x.own → ((d : ℕ) → set.covered.direction d ≡ true) → (b : Body) (n : Note) → IsIn (note_in b n) ys
-        → note_tested reached list nodes (inside_of b) n ≡ true → OfOthers (IsMet set x reached cases) n
+        → note_tested given reached list nodes (inside_of b) n ≡ true → OfOthers (IsMet set x reached cases) n
     note_met exact own_fit every b (goal_note facts place goal) it h = tt
     note_met exact own_fit every b (size_note facts place made) it h = size_met b facts made h
     note_met exact own_fit every b (made_note facts k operands made) it h = made_met exact own_fit b facts k operands made it h
-    note_met exact own_fit every b (call_note facts place k operands callee js qs) it h = call_met exact every b facts place k operands callee js qs it h
+    note_met exact own_fit every b (call_note facts place k operands callee js qs) it h =
+        call_met exact own_fit every b facts place k operands callee js qs it h
     note_met exact own_fit every b (way_note facts d) it h = λ f noted so. h
     note_met exact own_fit every b (given_note facts k i) it h = given_met b facts k i it h
     note_met exact own_fit every b (name_note v name) it h = tt

@@ -51,7 +51,8 @@ use Rattle.node_counts.specs.Told.{NoteIn, all_noted, are_alike, are_apart, are_
 use Rattle.covering_laws.specs.Closed.{IsAmong, NoteIsRead, NotesAreRead}
 use Rattle.covering_laws.specs.Given.{is_node}
 use Rattle.covering_laws.specs.Laws.{ArePlaced, AreCovered}
-use Rattle.covering_laws.specs.Tested.{all_nodes, inside, numbers_pass}
+use Rattle.covering_laws.specs.Tested.{all_nodes, inside}
+use Rattle.tabled_cores.specs.Notes.{numbers_pass}
 use Rattle.covering_laws.proofs.Agreeing.{given_agree}
 use Rattle.covering_laws.proofs.Bodies.{each_of, each_there, noted_there}
 use Rattle.covering_laws.proofs.Found.{given_pass, indices_in_limit, note_is_read}
@@ -100,7 +101,7 @@ module _ (set : Setting) (f : Integers) where
 
 -- ---- bodies that are read together
 
-module _ (set : Setting) (loose : set.covered.exact ≡ false) (x : Work) (sizing : Sizing) (zs : List (Option ℤ))
+module _ (set : Setting) (loose : set.covered.exact ≡ false) (unfit : set.covered.fitted ≡ false) (x : Work) (sizing : Sizing) (zs : List (Option ℤ))
     (awaits : x.instance.numbers ≡ map (option_map an_int) zs) (own : List Sized) (list : List Instance) (instances : List SizedInstance)
     (placed : ArePlaced list instances) (covers : AreCovered set instances)
     (like : (y : Instance) → IsIn y list → (w : Work) → y.function ≡ w.function → numbers_of y ≡ w.instance.numbers → set.covered.function w ≡ true)
@@ -193,6 +194,7 @@ module _ (set : Setting) (loose : set.covered.exact ≡ false) (x : Work) (sizin
             own = map (type_sized types x.own f) qs;
             types = ts;
           }) function numbers;
+          own_fit = λ fitted. no (sym unfit ∙ fitted);
         }
       where
         passed : (n : Note) → length ss ≡ length operands → are_alike n (call_note facts place k operands (D.Function g) js qs) ≡ false
@@ -228,7 +230,7 @@ module _ (set : Setting) (loose : set.covered.exact ≡ false) (x : Work) (sizin
     given_met : (b : Body) (facts : List Fact) (k : Giver) (i : Indices) → IsIn (note_in b (given_note facts k i)) ys
         → IsMet set x reached cases (given_note facts k i)
     given_met b facts k i it f noted so v held =
-        let more = Tables.given_met set listed sizing zs awaits list instances reached placed covers ys apart b facts k i it
+        let more = Tables.given_met set listed sizing zs awaits list instances reached placed covers true ys apart b facts k i it
         (given_agree facts k i types sizing zs own list b ys single it) f noted (so_listed f noted facts so) v held in
         record {
           more = more.more;

@@ -31,7 +31,7 @@ use Rattle.monomorph.specs.Instances.{model_of, or_none}
 use Rattle.monomorph.specs.Lasts.{Model}
 use Rattle.sized_trees.specs.declared.trees.SizedInstance.{SizedInstance}
 use Rattle.sized_trees.specs.declared.trees.SizedCore.{SizedCore}
-use Rattle.sized_trees.specs.Trees.{constants_of, sized_instance, sized_list}
+use Rattle.sized_trees.specs.Trees.{sized_instance, sized_list}
 use Rattle.checked_meaning.specs.Checked.{Cases, Checks}
 use Rattle.sized_meanings.specs.Sized.{entered, numbers_of}
 use Rattle.call_fits.specs.Calls.{AllBelong, givens_at}
@@ -43,7 +43,8 @@ use Rattle.exact_sizes.proofs.Equal.{all_same}
 use Rattle.exact_sizes.proofs.Known.{none, some_there}
 use Rattle.met_notes.specs.Covers.{AreRead, CoversFunction}
 use Rattle.covering_laws.specs.Closed.{BodiesAreRead, IsRead, NotesAreRead}
-use Rattle.covering_laws.specs.Covered.{all_found, all_told, at_work, body_cases, body_tested, entered_told}
+use Rattle.covering_laws.specs.Covered.{all_told, at_work, body_cases, body_tested, constants_of, entered_told}
+use Rattle.tabled_cores.specs.Cores.{all_found}
 use Rattle.covering_laws.specs.Covered.{found_tested, function_covered, function_tested, is_found}
 use Rattle.covering_laws.specs.Covered.{instance_cases, instance_tested, model_checks, parameter_tested, parameters_told, setting_of}
 use Rattle.covering_laws.specs.Given.{bodies_given, cases_given}
@@ -100,7 +101,7 @@ module _ (core : CoreModel) (past : Positive) (hart : ℕ) where
       subst (λ (ty : Types). AreRead (setting_of core past hart sized) x (is_found all) (cases_given ty model.sizing zs x.own list (all_noted bs)) b.notes)
       same_types
       (bodies_are_given (setting_of core past hart sized) x model.sizing zs awaits list sized.instances (placed_there model list) (covered_at sized)
-      all (λ y k. place_there y all k) (λ d k. k) bs
+      all (λ y k. place_there y all k) (λ d k. k) refl bs
       (λ c k. subst (λ (ty : Types). NotesAreRead (inside ty model.sizing zs x.own c) all c.notes) (sym same_types) (read c k))
       gives apart single
       (subst (λ (ty : Types). bodies_given ty model.sizing zs x.own bs ≡ true) (sym same_types) h) b i)

@@ -16,7 +16,7 @@ use Rattle.size_laws.proofs.Opening.{opening_keeps_sizes}
 use Rattle.size_laws.proofs.Telling.{opening_tells_sizes}
 use Rattle.soundness_steps.specs.Works.{Work}
 use Rattle.soundness_steps.specs.Noted.{known, OpensAs}
-use Rattle.exact_sizes.specs.Exact.{form_reading_tells, reading_tells}
+use Rattle.told_sizes.specs.Exact.{form_reading_tells, reading_tells}
 use Rattle.exact_sizes.specs.Laws.{Stands}
 use Rattle.exact_sizes.proofs.Settling.{types_settle}
 use Rattle.exact_sizes.proofs.Telling.{form_of_tells}

@@ -1,6 +1,6 @@
 -- Which functions at work are covered by the instances of a model, what is tested of an accepted list, and what it gives.
-use Rattle.std.specs.Prelude.{◌≡◌, ◌*◌, ◌/◌, ℕ, suc, ℤ, nat_eq, nat_lt, Bool, true, false, ◌&&◌, List, [], ◌∷◌, map, slice_get}
-use Rattle.std.specs.Prelude.{length, Option, Some, None, Ok, Err, is_some, option_map, if◌then◌else◌}
+use Rattle.std.specs.Prelude.{◌≡◌, ◌*◌, ◌/◌, ℕ, suc, ℤ, pos, nat_eq, nat_lt, Bool, true, false, ◌&&◌, List, [], ◌∷◌, map, slice_get}
+use Rattle.std.specs.Prelude.{length, Option, Some, None, Ok, is_some, option_map, if◌then◌else◌}
 use Rattle.std.specs.List.{list_all, list_any}
 use Rattle.sail_types.specs.Numbers.{Positive}
 use Rattle.sail_types.specs.Places.{Given, only}
@@ -16,6 +16,7 @@ use Rattle.sail_core.specs.declared.model.Direction.{Direction}
 use Rattle.sail_core.specs.declared.model.Function.{Function}
 use Rattle.constraint_gen.specs.Models.{around_of}
 use Rattle.size_values.specs.declared.constants.Constant.{Constant}
+use Rattle.size_values.specs.declared.constants.Constant.TheVariants as C
 use Rattle.size_values.specs.declared.sized.Sized.{Sized}
 use Rattle.size_values.specs.Numbers.{known_at, known_of, nothing_known}
 use Rattle.size_values.specs.Sized.{all_eq}
@@ -25,16 +26,16 @@ use Rattle.size_notes.specs.Bodies.{bodies_of}
 use Rattle.monomorph.specs.declared.found.Found.{Found}
 use Rattle.monomorph.specs.declared.found.Found.TheVariants as F
 use Rattle.monomorph.specs.declared.found.Instance.{Instance}
-use Rattle.monomorph.specs.Found.{Answer, found_eq}
-use Rattle.monomorph.specs.Instances.{entry, found_from, model_of, one_or_none, or_none}
+use Rattle.monomorph.specs.Found.{found_eq}
+use Rattle.monomorph.specs.Instances.{model_of, one_or_none, or_none}
 use Rattle.monomorph.specs.Lasts.{Model}
 use Rattle.checked_meaning.specs.Checked.{Cases, Checks}
 use Rattle.sized_trees.specs.declared.trees.SizedInstance.{SizedInstance}
 use Rattle.sized_trees.specs.declared.trees.SizedCore.{SizedCore}
-use Rattle.sized_trees.specs.Trees.{constants_of, sized_core}
+use Rattle.sized_trees.specs.Trees.{sized_core}
 use Rattle.sized_meanings.specs.Sized.{entered, numbers_of}
-use Rattle.exact_sizes.specs.Among.{typ_among}
-use Rattle.exact_sizes.specs.Exact.{is_exact, reading_tells}
+use Rattle.told_sizes.specs.Among.{typ_among}
+use Rattle.told_sizes.specs.Exact.{is_exact, reading_tells}
 use Rattle.note_laws.specs.Ways.{core_reached}
 use Rattle.met_notes.specs.Covers.{Covers, DirectionsPaired}
 use Rattle.soundness_steps.specs.Works.{Coverage, Setting, Work}
@@ -43,6 +44,7 @@ use Rattle.soundness_calls.specs.Premises.{own_of, own_type}
 use Rattle.covering_laws.specs.Apart.{GivesKinds, NumbersApart}
 use Rattle.covering_laws.specs.Given.{bodies_given, cases_given}
 use Rattle.node_counts.specs.Told.{all_noted}
+pub use Rattle.tabled_cores.specs.Cores.{all_found, or_nothing}
 
 -- ---- which functions at work are covered: for the numbers and types of the instance at their place; or the first of a function, as an event enters it
 
@@ -81,14 +83,6 @@ function_covered c x = is_some (at_work c.instances x)
 
 -- ---- which directions of mappings are covered: those of mappings that are found
 
-abbrev pub or_nothing : Answer → List Found
-or_nothing (Ok found) = found
-or_nothing (Err e) = []
-
--- what the functions lead to that a hart enters
-abbrev pub all_found : Model → List Found
-all_found m = or_nothing (found_from m (entry m.core.reset ∷ entry m.core.step ∷ []))
-
 abbrev pub is_found : List Found → ℕ → Bool
 is_found all d = list_any (found_eq (F.Mapping (d / 2))) all
 
@@ -97,6 +91,7 @@ covered_by core c = record {
   function = function_covered c;
   direction = is_found (all_found (model_of core (bodies_of core)));
   exact = true;
+  fitted = false;
 }
 
 -- ---- what is tested of instances: their bodies, and the sizes of parameters
@@ -194,6 +189,14 @@ body_cases m list o = cases_given m.core.types m.sizing [] [] list (all_noted (o
 abbrev pub all_told : Types → List Sized → List Constant → List Typ → List Value → List Sized
 all_told types own cs (t ∷ ts) (v ∷ vs) = typ_told types own t cs v ∷ all_told types own cs ts vs
 all_told types own cs ts vs = []
+
+-- the numbers of an instance: no size hangs on a variable that isn't a size variable
+abbrev pub constant_of : Option ℤ → Constant
+constant_of None = C.Number (pos 0)
+constant_of (Some z) = C.Number z
+
+abbrev pub constants_of : List (Option ℤ) → List Constant
+constants_of zs = map constant_of zs
 
 abbrev pub parameters_told : Types → List Value → Instance → Option Function → Option (List Sized)
 parameters_told types vs y None = None

@@ -36,9 +36,10 @@ use Rattle.sized_meanings.specs.Noting.{noted_by, noted_by_all}
 use Rattle.sized_meanings.specs.Present.{gives_at}
 use Rattle.sized_meanings.specs.Sized.{numbers_of}
 use Rattle.soundness_steps.specs.Noted.{variables_given}
-use Rattle.exact_sizes.specs.Among.{index_among, reading_among, value_among}
-use Rattle.exact_sizes.specs.Exact.{only_if, reading_tells}
+use Rattle.told_sizes.specs.Among.{index_among, reading_among, value_among}
+use Rattle.told_sizes.specs.Exact.{only_if}
 use Rattle.node_counts.specs.Told.{NoteIn, all_noted}
+use Rattle.tabled_cores.specs.Notes.{type_given}
 use Rattle.covering_laws.specs.Tested.{all_nodes, inside}
 
 -- ---- constants at a moment
@@ -105,13 +106,6 @@ module _ (types : Types) (sizing : Sizing) (zs : List (Option ℤ)) (own : List 
   }
 
 -- ---- what is tested: a value of a type tells the sizes at which it is opened, under each combination of numbers that counts
-
-abbrev pub tells : Inside → Reading → List Picked → Bool
-tells r q ps = reading_tells r.types (length r.own) (under r ps) q
-
-abbrev pub type_given : Inside → List Fact → Made → Bool
-type_given r facts (Makes.ByIndices i) = true
-type_given r facts (Makes.ByType q) = list_all (tells r q) (counted (known_of r.numbers) r.split facts [])
 
 -- of what is made, sizes name only such variables
 abbrev pub made_given : Inside → List Fact → Made → Bool

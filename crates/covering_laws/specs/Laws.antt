@@ -7,7 +7,7 @@ use Rattle.size_splits.specs.Sizing.{Sizing}
 use Rattle.monomorph.specs.declared.found.Instance.{Instance}
 use Rattle.sized_trees.specs.declared.trees.SizedInstance.{SizedInstance}
 use Rattle.checked_meaning.specs.Fits.{AllFit}
-use Rattle.sized_meanings.specs.Sized.{cases_of, numbers_of}
+use Rattle.sized_meanings.specs.Sized.{cases_by, numbers_of}
 use Rattle.split_laws.specs.Counted.{IsIn}
 use Rattle.note_laws.specs.Notes.{EachNote, OfOthers}
 use Rattle.soundness_steps.specs.Works.{Setting, Work, IsExact}
@@ -27,9 +27,9 @@ AreCovered set instances =
     → y.instance ≡ record { place = p; numbers = numbers_of s.instance } → all_eq y.own s.instance.types ≡ true → set.covered.function y ≡ true
 
 abbrev pub BodiesAreMet : Type 0
-BodiesAreMet = (set : Setting) (x : Work) (sizing : Sizing) (zs : List (Option ℤ)) → x.instance.numbers ≡ map (option_map an_int) zs
+BodiesAreMet = (given : Bool) (set : Setting) (x : Work) (sizing : Sizing) (zs : List (Option ℤ)) → x.instance.numbers ≡ map (option_map an_int) zs
     → (list : List Instance) (instances : List SizedInstance) (reached : ℕ → Bool) → ArePlaced list instances → AreCovered set instances → IsExact set
     → AllFit set.around.types x.types x.own → ((d : ℕ) → set.covered.direction d ≡ true)
-    → (bs : List Body) → bodies_tested set.around.types sizing zs x.own reached list bs ≡ true → (b : Body) → IsIn b bs
+    → (bs : List Body) → bodies_tested set.around.types sizing zs x.own given reached list bs ≡ true → (b : Body) → IsIn b bs
     → EachNote (OfOthers (IsMet set x reached
-    (cases_of set.around.types instances (all_nodes set.around.types sizing zs x.own list (all_noted bs))))) b.notes
+    (cases_by given set.around.types instances (all_nodes set.around.types sizing zs x.own list (all_noted bs))))) b.notes

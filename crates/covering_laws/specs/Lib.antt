@@ -6,3 +6,4 @@ pub mod Covered
 pub mod Closed
 pub mod Plain
 pub mod Listed
+pub mod Tables

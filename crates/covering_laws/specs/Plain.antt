@@ -86,7 +86,7 @@ abbrev pub is_listed : List Instance → Work → Bool
 is_listed list x = list_any (is_like x) list
 
 abbrev pub found_covered : List Found → Coverage
-found_covered all = record { function = is_listed (instances_in all); direction = is_found all; exact = false }
+found_covered all = record { function = is_listed (instances_in all); direction = is_found all; exact = false; fitted = false }
 
 abbrev pub found_setting : CoreModel → Positive → ℕ → List Found → Setting
 found_setting m past hart all = record { around = around_of m; past = past; hart = hart; covered = found_covered all }

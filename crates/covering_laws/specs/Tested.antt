@@ -2,11 +2,8 @@
 -- holds (Sail language manual, "Type variables").
 use Rattle.std.specs.Prelude.{ℕ, ℤ, pos, int_le, nat_eq, Bool, true, false, not, ◌&&◌, ◌||◌, List, [], ◌∷◌, ◌++◌, length, Option, Some, None}
 use Rattle.std.specs.List.{list_all, list_any}
-use Rattle.sail_types.specs.declared.numbers.Index.{Index}
 use Rattle.sail_types.specs.declared.numbers.Num.{Num}
 use Rattle.sail_types.specs.declared.table.Types.{Types}
-use Rattle.sail_core.specs.declared.tree.Callee.{Callee}
-use Rattle.sail_core.specs.declared.tree.Callee.TheVariants as D
 use Rattle.sail_core.specs.declared.tree.Giver.{Giver}
 use Rattle.value_indices.specs.Steps.{Note, size_note, made_note, call_note, way_note, given_note}
 use Rattle.value_indices.specs.declared.indices.Indices.{Indices, fold-Indices, out-Indices}
@@ -22,26 +19,18 @@ use Rattle.size_values.specs.declared.constants.Picked.{Picked}
 use Rattle.size_values.specs.declared.sized.Sized.{Sized}
 use Rattle.size_values.specs.Numbers.{known_of, value_of}
 use Rattle.size_splits.specs.Bodies.{Body}
-use Rattle.size_splits.specs.Sizing.{Sizing, flags_of}
+use Rattle.size_splits.specs.Sizing.{Sizing}
 use Rattle.size_splits.specs.Splits.{counted}
 use Rattle.monomorph.specs.declared.found.Instance.{Instance}
 use Rattle.monomorph.specs.Reading.{Inside, reading_of, under}
 use Rattle.sized_trees.specs.declared.trees.NodeSizes.{NodeSizes}
 use Rattle.sized_trees.specs.Bodies.{at_note}
-use Rattle.sized_trees.specs.Combinations.{combinations_at, is_given}
+use Rattle.sized_trees.specs.Combinations.{is_given}
 use Rattle.sized_meanings.specs.Present.{gives_at}
 use Rattle.soundness_steps.specs.Noted.{variables_given}
 use Rattle.node_counts.specs.Told.{NoteIn, all_noted, are_apart}
-use Rattle.exact_sizes.specs.Exact.{is_exact_index, only_if, reading_passes, reading_settles, reading_tells, value_passes}
-use Rattle.case_laws.specs.Cases.{has_all_cases, has_all_leads}
-
--- ---- where these numbers are taken
-
-abbrev pub values_pass : Inside → List Picked → List Indices → Bool
-values_pass r ps is = list_all (value_passes r.types (length r.own) (under r ps)) is
-
-abbrev pub readings_pass : Inside → List Picked → List Reading → Bool
-readings_pass r ps qs = list_all (reading_passes r.types (length r.own) (under r ps)) qs
+use Rattle.told_sizes.specs.Exact.{reading_tells}
+use Rattle.tabled_cores.specs.Notes.{call_tested, made_tested}
 
 -- ---- sizes: a width or length within its limit; those of a type are told where a value of it is opened
 
@@ -60,37 +49,6 @@ size_passes r (Makes.ByType q) ps = reading_tells r.types (length r.own) (under 
 
 abbrev pub size_tested : Inside → List Fact → Made → Bool
 size_tested r facts made = list_all (size_passes r made) (counted (known_of r.numbers) r.split facts [])
-
--- ---- what nodes make: there is a case, in which all sizes are constants for certain
-
-abbrev pub made_passes : Inside → Made → List Picked → Bool
-made_passes r (Makes.ByIndices i) ps = value_passes r.types (length r.own) (under r ps) i
-made_passes r (Makes.ByType q) ps = reading_passes r.types (length r.own) (under r ps) q && reading_settles r.types (length r.own) (under r ps) q
-
-abbrev pub node_passes : Inside → List Indices → Made → List Picked → Bool
-node_passes r operands made ps = values_pass r ps operands && made_passes r made ps
-
-abbrev pub made_tested : Inside → List Fact → List Indices → Made → Bool
-made_tested r facts operands made = has_all_cases r facts operands made && list_all (node_passes r operands made) (combinations_at r facts)
-
--- ---- calls of functions: each leads to an instance; what is given to size variables are numbers
-
-abbrev pub numbers_pass : (ℕ → Constant) → List Bool → List Index → Bool
-numbers_pass of [] [] = true
-numbers_pass of (b ∷ bs) (j ∷ js) = only_if b (is_exact_index of j) && numbers_pass of bs js
-numbers_pass of bs js = false
-
-abbrev pub lead_passes : Inside → List Indices → ℕ → List Index → List Reading → List Picked → Bool
-lead_passes r operands f js qs ps =
-    values_pass r ps operands && (readings_pass r ps qs && numbers_pass (under r ps) (flags_of r.sizing f) js)
-
-abbrev pub function_tested : Inside → List Instance → List Fact → List Indices → ℕ → List Index → List Reading → Bool
-function_tested r list facts operands f js qs =
-    has_all_leads r list facts operands f js qs && list_all (lead_passes r operands f js qs) (combinations_at r facts)
-
-abbrev pub call_tested : Inside → List Instance → List Fact → List Indices → Callee → List Index → List Reading → Bool
-call_tested r list facts operands (D.Function f) js qs = function_tested r list facts operands f js qs
-call_tested r list facts operands callee js qs = true
 
 -- ---- the numbers that a value gives: all that is said where it gives them gives one number to a variable that is noted by then, or that the note gives
 
@@ -164,13 +122,13 @@ given_tested nodes facts g i = list_all (agrees_there facts i) (gives_at nodes g
 
 -- ---- a note; a body goes through these directions of mappings
 
-abbrev pub note_tested : (ℕ → Bool) → List Instance → List NodeSizes → Inside → Note → Bool
-note_tested reached list nodes r (size_note facts place made) = size_tested r facts made
-note_tested reached list nodes r (made_note facts k operands made) = made_tested r facts operands made
-note_tested reached list nodes r (call_note facts place k operands callee js qs) = call_tested r list facts operands callee js qs
-note_tested reached list nodes r (way_note facts d) = reached d
-note_tested reached list nodes r (given_note facts g i) = given_tested nodes facts g i
-note_tested reached list nodes r note = true
+abbrev pub note_tested : Bool → (ℕ → Bool) → List Instance → List NodeSizes → Inside → Note → Bool
+note_tested given reached list nodes r (size_note facts place made) = size_tested r facts made
+note_tested given reached list nodes r (made_note facts k operands made) = made_tested given r facts operands made
+note_tested given reached list nodes r (call_note facts place k operands callee js qs) = call_tested r list facts operands callee js qs
+note_tested given reached list nodes r (way_note facts d) = reached d
+note_tested given reached list nodes r (given_note facts g i) = given_tested nodes facts g i
+note_tested given reached list nodes r note = true
 
 -- ---- bodies that are read together
 
@@ -182,10 +140,10 @@ module _ (types : Types) (sizing : Sizing) (zs : List (Option ℤ)) (own : List 
   all_nodes list [] = []
   all_nodes list (x ∷ xs) = at_note (inside x.body) list x.note ++ all_nodes list xs
 
-  abbrev pub noted_tested : (ℕ → Bool) → List Instance → List NodeSizes → NoteIn → Bool
-  noted_tested reached list nodes x = note_tested reached list nodes (inside x.body) x.note
+  abbrev pub noted_tested : Bool → (ℕ → Bool) → List Instance → List NodeSizes → NoteIn → Bool
+  noted_tested given reached list nodes x = note_tested given reached list nodes (inside x.body) x.note
 
   -- bodies that are read together, for these numbers and types
-  abbrev pub bodies_tested : (ℕ → Bool) → List Instance → List Body → Bool
-  bodies_tested reached list bs =
-      are_apart (all_noted bs) && list_all (noted_tested reached list (all_nodes list (all_noted bs))) (all_noted bs)
+  abbrev pub bodies_tested : Bool → (ℕ → Bool) → List Instance → List Body → Bool
+  bodies_tested given reached list bs =
+      are_apart (all_noted bs) && list_all (noted_tested given reached list (all_nodes list (all_noted bs))) (all_noted bs)

@@ -19,8 +19,9 @@ use Rattle.size_values.specs.Numbers.{argument_of, constant_under, index_under, 
 use Rattle.size_values.specs.Sized.{UnderConstants, each_sized, form_sized, hangs_on, integer_of, named_numbers, number_where, numbers_from, typ_sized}
 use Rattle.checked_meaning.specs.Items.{constant_of}
 use Rattle.size_laws.proofs.Forms.{in_type, typ_is}
-use Rattle.exact_sizes.specs.Exact.{Applied, are_exact, exact_constants, form_passes, is_exact, is_exact_index, named_passes, only_if, open_of}
-use Rattle.exact_sizes.specs.Exact.{all_pass, typ_passes, Test}
+use Rattle.told_sizes.specs.declared.applied.Applied.{Applied}
+use Rattle.told_sizes.specs.Exact.{are_exact, exact_constants, form_passes, is_exact, is_exact_index, named_passes, only_if, open_of}
+use Rattle.told_sizes.specs.Exact.{all_pass, typ_passes, Test}
 use Rattle.exact_sizes.specs.Laws.{More}
 use Rattle.exact_sizes.proofs.Known.{exact_value, none, number_constant_is, number_more}
 

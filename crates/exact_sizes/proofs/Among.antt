@@ -37,9 +37,10 @@ use Rattle.size_values.specs.Sized.{UnderConstants, each_sized, form_reading_siz
 use Rattle.size_values.specs.Sized.{number_where}
 use Rattle.size_values.specs.Sized.{numbers_from, reading_sized, typ_sized, types_or_own, value_sized}
 use Rattle.size_laws.proofs.Forms.{in_indices, in_reading, reading_is, value_is}
-use Rattle.exact_sizes.specs.Among.{SameAmong, SizesHang, Test, all_among, args_among, at, form_among, index_among, indices_among, num_among, only_among}
-use Rattle.exact_sizes.specs.Among.{reading_among, readings_among, typ_among, value_among}
-use Rattle.exact_sizes.specs.Exact.{all_of, only_if}
+use Rattle.exact_sizes.specs.Among.{SameAmong, SizesHang}
+use Rattle.told_sizes.specs.Among.{Test, all_among, args_among, at, form_among, index_among, indices_among, num_among, only_among}
+use Rattle.told_sizes.specs.Among.{reading_among, readings_among, typ_among, value_among}
+use Rattle.told_sizes.specs.Exact.{all_of, only_if}
 use Rattle.exact_sizes.proofs.Alike.{where_hangs}
 
 -- ---- numbers

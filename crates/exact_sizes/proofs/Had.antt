@@ -43,9 +43,12 @@ use Rattle.size_laws.specs.Known.{all_numbers}
 use Rattle.size_laws.proofs.Forms.{in_indices, in_reading, reading_is, value_is}
 use Rattle.meeting_laws.proofs.Forms.{bit_as, bits_as, each_of, list_as, named_as, string_as, tuple_as, unit_as, vector_as}
 use Rattle.checked_meaning.specs.Fits.{AllFit, each_fits, form_fits, has_sizes}
-use Rattle.exact_sizes.specs.Exact.{Applied, all_of, applied_at, are_exact, constants_in, exact_constants, fields_pass, indices_pass, is_exact}
-use Rattle.exact_sizes.specs.Exact.{named_passes, open_of}
-use Rattle.exact_sizes.specs.Exact.{is_one_of, or_own, reading_passes, readings_pass, typ_passes, value_passes}
+use Rattle.told_sizes.specs.declared.applied.Applied.{Applied}
+use Rattle.told_sizes.specs.Exact.{all_of, applied_at, are_exact, constants_in, exact_constants, fields_pass, is_exact}
+use Rattle.told_sizes.specs.Passing.{indices_pass}
+use Rattle.told_sizes.specs.Exact.{named_passes, open_of}
+use Rattle.told_sizes.specs.Exact.{is_one_of, or_own, typ_passes}
+use Rattle.told_sizes.specs.Passing.{reading_passes, readings_pass, value_passes}
 use Rattle.exact_sizes.specs.Laws.{More, Stands, ValuesFit}
 use Rattle.exact_sizes.proofs.Known.{exact_value, none, number_more, number_stands}
 use Rattle.exact_sizes.proofs.Alike.{exact_grows, named_same, typ_same}

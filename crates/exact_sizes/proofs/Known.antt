@@ -20,7 +20,7 @@ use Rattle.size_values.specs.declared.constants.Constant.TheVariants as C
 use Rattle.size_values.specs.Numbers.{added, atom_value, constant_under, number_in, small, sum_value, term_value, value_of, value_of_atom, value_of_term}
 use Rattle.size_values.specs.Sized.{integer_of}
 use Rattle.size_laws.proofs.Numbers.{known_constant, known_number}
-use Rattle.exact_sizes.specs.Exact.{is_exact}
+use Rattle.told_sizes.specs.Exact.{is_exact}
 use Rattle.exact_sizes.specs.Laws.{More, Stands}
 
 pub none : {A B : Type 0} {x : B} → None ≡ Some x → A

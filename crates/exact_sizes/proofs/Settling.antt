@@ -30,8 +30,8 @@ use Rattle.size_laws.specs.Known.{all_numbers}
 use Rattle.size_laws.specs.Settled.{AreAlike, IsAlike, Says, SaysArgument, SaysArguments, Settled, constants, of_reading, of_readings, of_type, of_types}
 use Rattle.size_laws.specs.Settled.{bit, bits, bool, exists, found, hole, int, list, more_readings, more_types, named, no_readings, no_types}
 use Rattle.size_laws.specs.Settled.{own_variable, parts, range, stood, string, truth, tuple, typ_of, unit, vector, widened}
-use Rattle.exact_sizes.specs.Exact.{Opened, all_of, all_pass, all_settle, are_said, exact_constants, form_settles, is_one_of, is_said, is_said_index}
-use Rattle.exact_sizes.specs.Exact.{is_same, no_test, only_if, or_own, reading_settles, readings_settle, typ_passes, typ_settles}
+use Rattle.told_sizes.specs.Exact.{Opened, all_of, all_pass, all_settle, are_said, exact_constants, form_settles, is_one_of, is_said, is_said_index}
+use Rattle.told_sizes.specs.Exact.{is_same, no_test, only_if, or_own, reading_settles, readings_settle, typ_passes, typ_settles}
 use Rattle.exact_sizes.specs.Laws.{More, Stands, TypesSettle}
 use Rattle.exact_sizes.proofs.Known.{none, number_more, substituted_same}
 use Rattle.exact_sizes.proofs.Alike.{Grows, exact_grows, grows_under, typ_same, where_hangs}

@@ -18,8 +18,10 @@ use Rattle.size_values.specs.declared.sized.Sized.TheVariants as S
 use Rattle.size_values.specs.Numbers.{constant_under, index_under}
 use Rattle.size_values.specs.Sized.{form_reading_sized, indices_sized, integer_of, named_numbers, reading_sized, typ_sized, types_or_own, value_sized}
 use Rattle.size_laws.proofs.Forms.{in_indices, in_reading, of_is, reading_is, value_is}
-use Rattle.exact_sizes.specs.Exact.{all_of, are_exact, exact_constants, fields_pass, indices_pass, is_exact, applied_at, named_passes, or_own}
-use Rattle.exact_sizes.specs.Exact.{reading_passes, readings_pass, typ_passes, value_passes}
+use Rattle.told_sizes.specs.Exact.{all_of, are_exact, exact_constants, fields_pass, is_exact, applied_at, named_passes, or_own}
+use Rattle.told_sizes.specs.Passing.{indices_pass}
+use Rattle.told_sizes.specs.Exact.{typ_passes}
+use Rattle.told_sizes.specs.Passing.{reading_passes, readings_pass, value_passes}
 use Rattle.exact_sizes.specs.Laws.{More, SizesStand}
 use Rattle.exact_sizes.proofs.Alike.{Grows, exact_grows, named_same, number_same, typ_same}
 

@@ -33,9 +33,9 @@ use Rattle.size_laws.specs.Settled.{AreAlike, Says, SaysArgument, SaysArguments,
 use Rattle.size_laws.specs.Settled.{binds, bit, bits, bool, exists, form_binds, found, int, list, more_types, named, no_types, own_variable, range, string}
 use Rattle.size_laws.specs.Settled.{tells_bound, tells_plain, truth, tuple, unit, vector}
 use Rattle.size_laws.proofs.Alone.{says_alone}
-use Rattle.exact_sizes.specs.Exact.{Opened, all_settle, are_told, exact_constants, exact_index, form_reading_tells, form_tells, front_form}
-use Rattle.exact_sizes.specs.Exact.{front_tells, is_bound, is_bound_alone, is_one_of, is_said, is_told, is_told_index, only_if, open_of, or_own}
-use Rattle.exact_sizes.specs.Exact.{reading_settles, reading_tells, typ_settles, typ_tells}
+use Rattle.told_sizes.specs.Exact.{Opened, all_settle, are_told, exact_constants, exact_index, form_reading_tells, form_tells, front_form}
+use Rattle.told_sizes.specs.Exact.{front_tells, is_bound, is_bound_alone, is_one_of, is_said, is_told, is_told_index, only_if, open_of, or_own}
+use Rattle.told_sizes.specs.Exact.{reading_settles, reading_tells, typ_settles, typ_tells}
 use Rattle.exact_sizes.specs.Laws.{More, Stands, TypesTell}
 use Rattle.exact_sizes.proofs.Known.{none}
 use Rattle.exact_sizes.proofs.Alike.{Grows, exact_grows, grows_under, where_hangs}

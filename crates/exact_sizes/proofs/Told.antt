@@ -20,9 +20,10 @@ use Rattle.size_values.specs.declared.sized.Sized.{Sized}
 use Rattle.size_values.specs.Numbers.{index_under}
 use Rattle.size_values.specs.Sized.{reading_sized, types_or_own}
 use Rattle.size_laws.specs.Told.{Told, constant_given, form_reading_told, form_told, reading_told, typ_told}
-use Rattle.exact_sizes.specs.Among.{SameAmong, Test, ToldHang, form_among, index_among, indices_among, reading_among, readings_among}
-use Rattle.exact_sizes.specs.Among.{typ_among, value_among}
-use Rattle.exact_sizes.specs.Exact.{all_of}
+use Rattle.exact_sizes.specs.Among.{SameAmong, ToldHang}
+use Rattle.told_sizes.specs.Among.{Test, form_among, index_among, indices_among, reading_among, readings_among}
+use Rattle.told_sizes.specs.Among.{typ_among, value_among}
+use Rattle.told_sizes.specs.Exact.{all_of}
 use Rattle.exact_sizes.proofs.Among.{SameAt, arguments_same, reading_hangs, same_under, typ_hangs}
 
 module _ (types : Types) (ss : List Sized) where

@@ -47,9 +47,10 @@ use Rattle.size_values.specs.Sized.{each_sized, form_sized, hangs_on, integer_of
 use Rattle.size_values.specs.Sized.{typ_sized}
 use Rattle.checked_meaning.specs.Items.{constant_of, payload_of}
 use Rattle.size_laws.proofs.Parts.{out_is}
-use Rattle.checked_meaning.specs.Fits.{Fits, all_fit, each_fits, fields_sized, fits_step, form_fits, has_sizes, types_sized}
-use Rattle.exact_sizes.specs.Exact.{Applied, Test, all_pass, applied_at, are_exact, constants_in, fields_pass, form_passes, is_applied, is_exact}
-use Rattle.exact_sizes.specs.Exact.{field_constants, is_exact_index, is_one_of, named_passes, only_if, open_of, typ_passes, was_seen}
+use Rattle.checked_meaning.specs.Fits.{Fits, all_fit, each_fits, fields_fit, fits_step, form_fits, has_sizes}
+use Rattle.told_sizes.specs.declared.applied.Applied.{Applied}
+use Rattle.told_sizes.specs.Exact.{Test, all_pass, applied_at, are_exact, constants_in, fields_pass, form_passes, is_applied, is_exact}
+use Rattle.told_sizes.specs.Exact.{field_constants, is_exact_index, is_one_of, named_passes, only_if, open_of, typ_passes, was_seen}
 use Rattle.exact_sizes.proofs.Equal.{numbers_same}
 use Rattle.exact_sizes.specs.Laws.{Stands}
 use Rattle.exact_sizes.proofs.Known.{exact_value, none, number_constant_is, number_stands}
@@ -147,7 +148,7 @@ module _ (types : Types) where
         (each_field ts q.1 vs (omega arith) k.1)
 
     struct_fields_fit : (o : Option (List Field)) → fields types u ≡ o → (vs : List Value) → total (map size vs) ≤ d
-        → fields_belong (asks types vs) nu rs o ≡ true → each_fits (map (has_sizes types) vs) (types_sized types zs ss o) ≡ true
+        → fields_belong (asks types vs) nu rs o ≡ true → fields_fit types zs ss (map (has_sizes types) vs) o ≡ true
     struct_fields_fit None e vs le h = no h
     struct_fields_fit (Some fs) e vs le h =
         each_field (field_types fs)
@@ -163,8 +164,8 @@ module _ (types : Types) where
     struct_fits i vs le h =
         let p = and_parts (nat_eq i u) (fields_belong (asks types vs) nu rs (fields types i)) h in
         let same : i ≡ u = (Decides-eqb i u).0 p.0 in
-        two (nat_eq i u) (each_fits (map (has_sizes types) vs) (fields_sized types i zs ss)) p.0
-        (ap (λ n. each_fits (map (has_sizes types) vs) (fields_sized types n zs ss)) same
+        two (nat_eq i u) (fields_fit types zs ss (map (has_sizes types) vs) (fields types i)) p.0
+        (ap (λ n. fields_fit types zs ss (map (has_sizes types) vs) (fields types n)) same
         ∙ struct_fields_fit (fields types u) refl vs le (subst (λ n. fields_belong (asks types vs) nu rs (fields types n) ≡ true) same p.1))
 
     pub union_fits : (i k : ℕ) (v : Value) → size v ≤ d → (nat_eq i u && payload_belongs (belongs types v) nu rs (payload types i k)) ≡ true

@@ -17,7 +17,8 @@ use Rattle.value_laws.specs.Belonging.{has, is_of, standing}
 use Rattle.size_laws.specs.Known.{all_numbers}
 use Rattle.size_laws.specs.Settled.{Settled, Tells, of_reading}
 use Rattle.checked_meaning.specs.Fits.{AllFit, has_sizes}
-use Rattle.exact_sizes.specs.Exact.{reading_passes, reading_settles, reading_tells, value_passes}
+use Rattle.told_sizes.specs.Exact.{reading_settles, reading_tells}
+use Rattle.told_sizes.specs.Passing.{reading_passes, value_passes}
 
 -- what is known by one is known by the other
 abbrev pub More : (ℕ → Constant) → (ℕ → Constant) → Type 0

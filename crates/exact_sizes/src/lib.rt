@@ -1,7 +1,7 @@
 //! Laws of sizes that are constants for certain: a value has the sizes of what it belongs to, and these stay what they are where more is known
 //! and where a value is opened.
 //!
-//! `specs/Exact` has the tests, `specs/Laws` the laws.
+//! `told_sizes` has the tests, `specs/Laws` and `specs/Among` have the laws.
 #![tactic(auto)]
 
 ghost use Rattle.exact_sizes.specs.Among.{SizesHang, ToldHang};

@@ -170,7 +170,7 @@ fn are_values_below(before: u32, values: &[Indices]) -> bool
 
 /// The same of a type.
 #[cycle(below)]
-pub(crate) fn is_type_below(before: u32, reading: &Reading) -> bool
+pub fn is_type_below(before: u32, reading: &Reading) -> bool
     ensures { result ≡ inside.is_type_below before reading.now }
 {
     match reading {

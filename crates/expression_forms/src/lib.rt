@@ -17,6 +17,7 @@ mod spots;
 mod truths;
 mod ways;
 
+pub use inside::is_type_below;
 pub use meeting::{first_way, like_first, met_ways, thrown};
 pub use names::{literal_indices, read_local, read_register, read_top_level, read_variable};
 pub use nodes::{cast_ended, cast_given};

@@ -216,7 +216,7 @@ in_function around f inner =
 
 -- what the clauses give comes to the type of the result: the last of a function's numbers makes it
 abbrev pub last_of : ℕ → Reading → Indices → Walk (Unit {0})
-last_of k r i = bind (node_made k (i ∷ []) (Makes.ByType r)) (λ t. numbers_noted k i)
+last_of k r i = bind (node_made k (i ∷ []) (Makes.ByIndices i)) (λ t. numbers_noted k i)
 
 abbrev pub last_made : ℕ → Reading → Walk (Unit {0})
 last_made k r = bind (opened r) (last_of k r)

@@ -8,7 +8,7 @@ ghost use Rattle.function_notes.specs.Functions as spec;
 
 use crate::clauses::walk_clauses;
 use call_arguments::Aim;
-use call_notes::{made_by_type, note_numbers};
+use call_notes::{made_by_value, note_numbers};
 use expression_steps::natural_aim;
 use model_state::Register;
 use pattern_leaves::{Around, TopLevel};
@@ -131,13 +131,7 @@ pub fn make_last(
     ensures { OnOk result (walk.seen walking.new ≡ walk.run (spec.last_made number reading.now) (walk.seen walking.old)) }
 {
     let value = open_reading(alloc, walking, reading, false, &Naming::Unnamed)?;
-    made_by_type(
-        alloc,
-        walking,
-        number,
-        std::slice::from_ref(&value),
-        reading,
-    )?;
+    made_by_value(alloc, walking, number, std::slice::from_ref(&value), &value)?;
     note_numbers(alloc, walking, number, &value)
 }
 

@@ -11,7 +11,7 @@ use Rattle.sail_types.specs.declared.numbers.Index.TheVariants as N
 use Rattle.sail_types.specs.declared.table.Types.{Types}
 use Rattle.sail_types.specs.declared.types.Typ.TheVariants as U
 use Rattle.value_indices.specs.declared.indices.Indices.{Indices, roll-Indices}
-use Rattle.value_indices.specs.declared.indices.Indices.TheFolds.{fold-roll-Indices, fold-roll-Reading, ind-Indices, map-Indices, map-Reading}
+use Rattle.value_indices.specs.declared.indices.Indices.TheFolds.{fold-roll-Indices, fold-roll-Reading, ind-Indices, ind-Reading, map-Indices, map-Reading}
 use Rattle.value_indices.specs.declared.indices.Indices.TheOpen as W
 use Rattle.value_indices.specs.declared.indices.Indices.TheOpen.{Indices-F, Reading-F}
 use Rattle.value_indices.specs.declared.indices.Reading.{Reading, roll-Reading}
@@ -112,10 +112,10 @@ module _ (types : Types) (past : Positive) (own : List Closed) (m : ℕ) (f g : 
       ∙ form_same y (sym (fold-roll-Indices Bool Bool (value_form_below m) (type_form_below m) x) ∙ h)
       ∙ sym (ap (λ (w : Meant). w.wide) (meant_is types other own (roll-Indices x) x refl))
 
-  abbrev type_below : Reading-F Indices Reading → Bool
-  type_below x = type_form_below m (map-Reading Indices Reading Bool Bool (is_value_below m) (is_type_below m) x)
+  abbrev reading_below : Reading-F Indices Reading → Bool
+  reading_below x = type_form_below m (map-Reading Indices Reading Bool Bool (is_value_below m) (is_type_below m) x)
 
-  type_same : (y : Reading-F Value Typed) → type_below (type_of y) ≡ true
+  type_same : (y : Reading-F Value Typed) → reading_below (type_of y) ≡ true
       → closed_form types one own (closing types one own (type_of y)) ≡ closed_form types other own (closing types other own (type_of y))
   type_same (W.Of t is rs) h =
       let both = and_parts (list_all (is_argument_below m) is) (list_all (λ b. b) (map (is_type_below m) (map (λ (r : Typed). r.0) rs))) h in
@@ -133,4 +133,8 @@ module _ (types : Types) (past : Positive) (own : List Closed) (m : ℕ) (f g : 
 
   pub wide_below : (i : Indices) → SameWide i
   wide_below = ind-Indices SameWide SameType (λ e y same_form. subst (λ d. SameWide (roll-Indices d)) same_form (value_step y))
+      (λ e y same_form. subst (λ d. SameType (roll-Reading d)) same_form (type_step y))
+
+  pub type_below : (r : Reading) → SameType r
+  type_below = ind-Reading SameWide SameType (λ e y same_form. subst (λ d. SameWide (roll-Indices d)) same_form (value_step y))
       (λ e y same_form. subst (λ d. SameType (roll-Reading d)) same_form (type_step y))

@@ -13,10 +13,11 @@ use Rattle.value_indices.specs.Steps.{Note}
 use Rattle.constraint_gen.specs.Models.{around_opening}
 use Rattle.size_notes.specs.Bodies.{function_read, mapping_read, measure_read, opening_read}
 use Rattle.checked_meaning.specs.Checked.{Cases, Checks}
+use Rattle.checked_meaning.specs.Fits.{AllFit}
 use Rattle.value_laws.specs.Belonging.{Integers}
 use Rattle.note_laws.specs.Notes.{EachNote, OfOthers}
 use Rattle.met_notes.specs.Met.{Pair}
-use Rattle.soundness_steps.specs.Works.{Setting, Work, nobody, IsExact}
+use Rattle.soundness_steps.specs.Works.{Setting, Work, nobody, IsExact, IsFitted}
 use Rattle.soundness_steps.specs.Noted.{OpensAs}
 use Rattle.soundness_steps.specs.Covers.{IsMet}
 use Rattle.soundness_steps.specs.Calls.{Enters, IsOf}
@@ -66,7 +67,8 @@ pub record CoversDirection (set : Setting) (rank : ℕ → ℕ) (k : Checks) (d 
 -- ---- all of a model
 
 pub record Covers (set : Setting) (m : CoreModel) (k : Checks) (rank : ℕ → ℕ) : Type 0 where
-  pub functions : (x : Work) (f : Function) → set.covered.function x ≡ true → slice_get m.functions x.function ≡ Some f → CoversFunction set k x f
+  pub functions : (x : Work) (f : Function) → set.covered.function x ≡ true → (IsFitted set → AllFit set.around.types x.types x.own)
+      → slice_get m.functions x.function ≡ Some f → CoversFunction set k x f
   pub directions : (d : ℕ) (n : Direction) (side : Side) → set.covered.direction d ≡ true → slice_get m.directions d ≡ Some n
       → side_at m.directions d ≡ Some side → CoversDirection set rank k d n side
   -- top-level lets and initial values, each behind the lets before it

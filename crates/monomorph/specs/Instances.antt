@@ -61,12 +61,15 @@ entry f = F.Function (record { function = f; numbers = []; types = [] })
 abbrev pub model_of : CoreModel → Bodies → Model
 model_of core bodies = record { core = core; bodies = bodies; sizing = sizing_of core bodies.functions }
 
+abbrev pub all_found : Model → Answer
+all_found m = found_from m (entry m.core.reset ∷ entry m.core.step ∷ [])
+
 abbrev pub listed : Answer → Result (List Instance) MonoError
 listed (Ok found) = Ok (instances_in found)
 listed (Err e) = Err e
 
 abbrev pub instances_of : Model → Result (List Instance) MonoError
-instances_of m = listed (found_from m (entry m.core.reset ∷ entry m.core.step ∷ []))
+instances_of m = listed (all_found m)
 
 -- the instances of a model, `reset` and `step` first
 abbrev pub instances : CoreModel → Result (List Instance) MonoError

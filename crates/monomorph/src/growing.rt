@@ -147,6 +147,22 @@ fn put_entry(alloc: Global, found: &mut Items<Found>, function: u32) -> Result<(
     }))
 }
 
+/// All that is found of a model that is read, or the first refusal. It fails where memory is wanting.
+pub fn all_found(
+    alloc: Global,
+    model: &Model<'_>,
+) -> Result<Result<Items<Found>, MonoError>, AllocError>
+    ensures { IfOk result (λ answer. answer ≡ spec.all_found (lasts.model_in model.now)) }
+{
+    let mut found = Items::new(alloc);
+    put_entry(alloc, &mut found, model.core.reset)?;
+    put_entry(alloc, &mut found, model.core.step)?;
+    match find_all(alloc, model, &mut found)? {
+        Some(refused) => Ok(Err(refused)),
+        None => Ok(Ok(found)),
+    }
+}
+
 /// The instances of a model that is read, or the first refusal. It fails where memory is wanting.
 pub fn listed(
     alloc: Global,

@@ -16,7 +16,7 @@ mod registers;
 
 pub use calls::instance_of;
 pub use error::MonoError;
-pub use found::{Instance, copy_instance, same_instance};
-pub use growing::{instances, listed};
+pub use found::{Found, Instance, copy_instance, same_instance};
+pub use growing::{all_found, instances, listed};
 pub use inside::Inside;
 pub use lasts::Model;

@@ -49,7 +49,7 @@ use Rattle.size_notes.specs.Behind.{arm_sizes, found_in, node_of, notes_with, si
 use Rattle.size_notes.specs.Bodies.{alone, arm_read, arms_read, beforehand, both_read, clause_inside, clause_read, clauses_read, declared_read, function_arms}
 use Rattle.size_notes.specs.Bodies.{function_read}
 use Rattle.size_notes.specs.Bodies.{kind_arms, last_inside, last_read, mapping_read, measure_read, measured_read, opening_behind, opening_read, parameter_read}
-use Rattle.size_notes.specs.Bodies.{parameters_read, pattern_place, sized_body, sizes_read, way_read}
+use Rattle.size_notes.specs.Bodies.{parameters_read, pattern_place, result_read, sized_body, sizes_read, way_read}
 use Rattle.size_notes.specs.declared.behind.Behind.{Behind}
 use Rattle.size_notes.specs.declared.written.WrittenSize.{WrittenSize}
 use Rattle.node_counts.specs.Counts.{Counted, armed, arming, giving, last_arms, making, mass, own, times, weigh}
@@ -279,21 +279,22 @@ module _ (q : Counted) where
 
     -- ---- definitions
 
-    last_in : (con : Con) (k : ℕ) (r : Reading) → In q (own q k) (last_read con k r)
-    last_in con k r =
-        alone_in [] (last_inside con k r)
-        (in_first q (constrained con) (λ t. last_made k r) (constrained_light con) (λ t.
+    last_in : (con : Con) (place : Place) (k : ℕ) (r : Reading) → In q (own q k) (last_read con place k r)
+    last_in con place k r =
+        alone_in [] (last_inside con place k r)
+        (in_first q (constrained con) (λ t. bind (result_read place r) (λ x. last_made k r)) (constrained_light con) (λ t.
+        in_first q (result_read place r) (λ x. last_made k r) ((lights q).sizes place (Makes.ByType r)) (λ x.
         in_first q (opened r) (last_of k r) (Opened.opened_kept (Light q) (lights q) r) (λ i.
         in_more q (last_of k r i) (node_own q k)
-        (in_both q (node_made k (i ∷ []) (Makes.ByType r)) (λ t. numbers_noted k i) (made_in q k (i ∷ []) (Makes.ByType r)) (λ t. noted_in q k i)))))
+        (in_both q (node_made k (i ∷ []) (Makes.ByIndices i)) (λ t. numbers_noted k i) (made_in q k (i ∷ []) (Makes.ByIndices i)) (λ t. noted_in q k i))))))
 
     pub function_in : (around : Around) (f : Function) → In q (times q (numbers f.body) + own q f.last) (function_read around f)
     function_in around f =
         in_first q (own_indices f.variables) (declared_read around f) (all_own_light f.variables) (λ is.
-        in_both q (function_arms around f is) (λ t. last_read f.constraint f.last (reading_under f.result is))
+        in_both q (function_arms around f is) (λ t. last_read f.constraint f.place f.last (reading_under f.result is))
         (clauses_in f.constraint (inside_function around f is) f.parameters (aimed Aims.Due (reading_under f.result is)) f.is_declared
         f.body)
-        (λ t. last_in f.constraint f.last (reading_under f.result is)))
+        (λ t. last_in f.constraint f.place f.last (reading_under f.result is)))
 
     pub measure_in : (around : Around) (f : Function) (measure : Core) → In q (times q (numbers measure)) (measure_read around f measure)
     measure_in around f measure =

@@ -25,7 +25,8 @@ use Rattle.value_indices.specs.declared.indices.Reading.TheVariants as R
 use Rattle.value_indices.specs.declared.notes.Fact.{Fact}
 use Rattle.value_indices.specs.declared.notes.Fact.TheVariants as Y
 use Rattle.value_indices.specs.Steps.{Conditions, Note, goal_note, size_note, made_note, call_note, way_note, given_note, name_note, Walk, Went, went}
-use Rattle.value_indices.specs.Steps.{assume, bind, fresh_named, give, goals_under, owe, scoped}
+use Rattle.value_indices.specs.declared.notes.Made.TheVariants as Makes
+use Rattle.value_indices.specs.Steps.{assume, bind, fresh_named, give, goals_under, note, owe, scoped}
 use Rattle.pattern_leaves.specs.Settings.{Around, exponents_owed, number_owed}
 use Rattle.pattern_notes.specs.Patterns.{looks}
 use Rattle.call_arguments.specs.Aims.{aimed}
@@ -223,14 +224,14 @@ module _ (P : Note → Type 0) where
 
   -- ---- what comes last, under the constraint too
 
-  last_others : (con : Con) (in_force : List Fact) (limit : (n : ℕ) → constrained con [] n ≡ went tt in_force n []) (k : ℕ) (r : Reading) (facts : List Fact)
-      (n : ℕ) → EachNote P (last_read con k r facts n).notes → EachNote (OfOthers P) (last_made k r in_force n).notes
-  unfolding bind alone
-  last_others con in_force limit k r facts n h =
+  last_others : (con : Con) (in_force : List Fact) (limit : (n : ℕ) → constrained con [] n ≡ went tt in_force n []) (place : Place) (k : ℕ) (r : Reading)
+      (facts : List Fact) (n : ℕ) → EachNote P (last_read con place k r facts n).notes → EachNote (OfOthers P) (last_made k r in_force n).notes
+  unfolding bind note alone
+  last_others con in_force limit place k r facts n h =
       let own = constrained con [] n in
-      let inside = without_sizes [] (own.notes ++ (last_made k r own.facts own.next).notes) h in
-      subst (λ o. EachNote (OfOthers P) (last_made k r o.facts o.next).notes) (limit n)
-      (others (last_made k r own.facts own.next).notes (back own.notes _ inside))
+      let last = (last_made k r own.facts own.next).notes in
+      let inside = without_sizes [] (own.notes ++ size_note own.facts place (Makes.ByType r) ∷ last) h in
+      subst (λ o. EachNote (OfOthers P) (last_made k r o.facts o.next).notes) (limit n) (others last (back own.notes _ inside).1)
 
   -- ---- functions and measures
 
@@ -291,7 +292,7 @@ module _ (P : Note → Type 0) where
         form.parts own.facts own.next in
         let force = kinds_force form.place inner f.parameters aim f.constraint in_force limit f.is_declared form.number f.numbers form.kind
         form.parts own.next in
-        let last = last_others f.constraint in_force limit f.last (reading_under f.result own.value) arms.facts arms.next (back arms.notes _ h) in
+        let last = last_others f.constraint in_force limit f.place f.last (reading_under f.result own.value) arms.facts arms.next (back arms.notes _ h) in
         join clauses.notes _
         (kinds_others form.place inner f.parameters aim f.constraint in_force limit f.is_declared form.number f.numbers form.kind
         form.parts own.facts own.next (front arms.notes _ h))

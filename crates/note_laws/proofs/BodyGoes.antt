@@ -141,11 +141,12 @@ module _ (told : Told) where
   own_indices_goes ps = each_goes told own_index own_index_goes ps
 
   last_of_goes : (k : ℕ) (r : Reading) (i : Indices) → Goes told (last_of k r i)
-  last_of_goes k r i = bind_goes told _ _ (node_made_goes told k (i ∷ []) (Makes.ByType r)) (λ t. numbers_noted_goes told k i)
+  last_of_goes k r i = bind_goes told _ _ (node_made_goes told k (i ∷ []) (Makes.ByIndices i)) (λ t. numbers_noted_goes told k i)
 
-  last_read_goes : (con : Con) (k : ℕ) (r : Reading) → Goes told (last_read con k r)
-  last_read_goes con k r =
-      alone_goes [] _ (bind_goes told _ _ (constrained_goes told con) (λ t. bind_goes told _ _ (opened_goes told r) (last_of_goes k r)))
+  last_read_goes : (con : Con) (place : Place) (k : ℕ) (r : Reading) → Goes told (last_read con place k r)
+  last_read_goes con place k r =
+      alone_goes [] _ (bind_goes told _ _ (constrained_goes told con) (λ t.
+      bind_goes told _ _ (note_goes told _ (λ facts. tt)) (λ x. bind_goes told _ _ (opened_goes told r) (last_of_goes k r))))
 
   pub function_read_goes : (around : Around) (tabled : IsTabled told around) (f : Function) → CoreGoes told f.body → Goes told (function_read around f)
   function_read_goes around tabled f h =
@@ -153,7 +154,7 @@ module _ (told : Told) where
       bind_goes told _ _
       (clauses_read_goes f.constraint (inside_function around f is) tabled f.parameters (aimed Aims.Due (reading_under f.result is))
       f.is_declared f.body h)
-      (λ t. last_read_goes f.constraint f.last (reading_under f.result is)))
+      (λ t. last_read_goes f.constraint f.place f.last (reading_under f.result is)))
 
   pub measure_read_goes : (around : Around) (tabled : IsTabled told around) (f : Function) (measure : Core) → CoreGoes told measure
       → Goes told (measure_read around f measure)

@@ -29,6 +29,7 @@ use Rattle.text_progress.specs.Laws.{core_of}
 use Rattle.sail_top.specs.Checked.{no_cycle}
 use Rattle.sail_top.specs.Models as Models
 use Rattle.sail_top.specs.Models.{end_of_all}
+use Rattle.sail_top.specs.declared.models.Accepted.{Accepted}
 use Rattle.whole_runs.specs.Safe.{IsFoundThroughout, ModelsRunSafely, StandsThroughout}
 use Rattle.safe_models.specs.TextLaws.{FittingTextsStand}
 use Rattle.sail_top.specs.laws.Holding.{AcceptedHold}
@@ -94,9 +95,12 @@ cores_safe mean nothing written sign stand models texts_safe texts made accepted
     texts_safe (meant_of text cycles) m past count (of_text text cycles) (mean texts made accepted cycles) entry schedule state ok
     ((models m past covered k rank count some held found covers stands).1 entry schedule there state ok)
 
-pub accepted_safe : AcceptedHold → AcceptedCoresRunSafely → AcceptedModelsRunSafely
-accepted_safe hold cores texts made accepted =
+pub accepted_held : AcceptedHold → (texts : List (List ℕ)) (made : Accepted) (accepted : Models.AreAccepted texts made)
+    → AllHold (obligations (core_of (gathered accepted.definitions) no_cycle))
+accepted_held hold texts made accepted =
     let m : CoreModel = core_of (gathered accepted.definitions) no_cycle in
-    cores texts made accepted no_cycle
-    (as_held (obligations m)
-    (subst Bidir.AllHold (checked_are m (obligations m) (B.checked (obligations m)) made.certified accepted.closed) (hold texts made accepted)))
+    as_held (obligations m)
+    (subst Bidir.AllHold (checked_are m (obligations m) (B.checked (obligations m)) made.certified accepted.closed) (hold texts made accepted))
+
+pub accepted_safe : AcceptedHold → AcceptedCoresRunSafely → AcceptedModelsRunSafely
+accepted_safe hold cores texts made accepted = cores texts made accepted no_cycle (accepted_held hold texts made accepted)

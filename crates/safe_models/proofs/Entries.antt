@@ -115,6 +115,7 @@ module _ (set : Setting) (f : Function) (plain : f.variables ≡ []) where
     integers = any;
     enters = record {
       is_covered = covered;
+      own_fits = λ fitted. tt;
       is_it = there;
       belong = belong;
       constraint = ap (true_in mu) free ∙ truth_is mu true;

@@ -24,7 +24,7 @@ use Rattle.safe_models.proofs.AcceptedOpenings.{accepted as openings_pass}
 use Rattle.safe_models.proofs.Models.{tested}
 use Rattle.safe_models.proofs.PureValues.{types_kept}
 use Rattle.safe_models.proofs.Openings.{tested as openings_right}
-use Rattle.found_models.proofs.Models.{models_stand}
+use Rattle.safe_models.proofs.FoundModels.{models_stand}
 use Rattle.safe_models.specs.TextLaws.{FittingTextsStand}
 
 -- ---- a model of which nothing is called or thrown stands where the whole one does

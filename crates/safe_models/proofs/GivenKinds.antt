@@ -35,9 +35,9 @@ use Rattle.text_progress.specs.Laws.{core_of}
 use Rattle.text_progress.proofs.Given.{holds_there, parameters_kinded, stand_ins, variable_there}
 use Rattle.text_progress.proofs.KindedTypes.{Kinded, all_kinded, form_kinded, inside, typ_kinded}
 use Rattle.text_progress.proofs.Told.{signed_kinded}
-use Rattle.found_models.proofs.EachFunction.{each_function}
-use Rattle.found_models.proofs.Placed.{KindAs, out_of}
-use Rattle.found_models.proofs.PlacedVariables.{Alike, alike, as_it_is, later}
+use Rattle.safe_models.proofs.EachFunction.{each_function}
+use Rattle.safe_models.proofs.Placed.{KindAs, out_of}
+use Rattle.safe_models.proofs.PlacedVariables.{Alike, alike, as_it_is, later}
 use Rattle.covering_laws.specs.Apart.{AreOfKinds, GivesKinds, is_truth_index}
 
 -- what is given is of the kind that the variable stands for

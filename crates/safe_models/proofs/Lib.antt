@@ -1,3 +1,17 @@
+pub mod Placed
+pub mod Told
+pub mod EachFunction
+pub mod PlacedVariables
+pub mod Signed
+pub mod OwnConstraints
+pub mod Narrow
+pub mod FoundTables
+pub mod Closed
+pub mod Registers
+pub mod Mappings
+pub mod Payloads
+pub mod FoundModels
+pub mod PatternNames
 pub mod Cores
 pub mod Models
 pub mod Within
@@ -27,3 +41,7 @@ pub mod PlainWays
 pub mod WaysFall
 pub mod Covered
 pub mod Listed
+pub mod Tables
+mod Coming
+mod Entering
+mod Meaning

@@ -22,8 +22,8 @@ use Rattle.shapes.specs.Tabled.{tabled_of}
 use Rattle.known_texts.specs.Written.{IsWritten}
 use Rattle.text_progress.specs.Positions.{in_let}
 use Rattle.pattern_laws.specs.Standing.{stands}
-use Rattle.found_models.specs.Patterns.{PatternNames, PatternsMeant}
-use Rattle.found_models.proofs.PatternNames.{patterns_meant}
+use Rattle.safe_models.specs.Patterns.{PatternNames, PatternsMeant}
+use Rattle.safe_models.proofs.PatternNames.{patterns_meant}
 use Rattle.standing_texts.specs.Openings.{OpeningPatterns}
 use Rattle.safe_models.proofs.PatternsPass.{all_pass, plain_known, unit_passes}
 

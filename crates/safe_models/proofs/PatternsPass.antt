@@ -43,8 +43,8 @@ use Rattle.known_texts.proofs.Tuples.{TuplesHaveParts}
 use Rattle.pattern_laws.specs.Standing.{form_stands, stands}
 use Rattle.found_patterns.specs.Meant.{WidthsStand}
 use Rattle.found_patterns.proofs.Patterns.{found_patterns_stand}
-use Rattle.found_models.specs.Patterns.{PatternNames, PatternsMeant}
-use Rattle.found_models.proofs.PatternNames.{patterns_meant}
+use Rattle.safe_models.specs.Patterns.{PatternNames, PatternsMeant}
+use Rattle.safe_models.proofs.PatternNames.{patterns_meant}
 use Rattle.standing_texts.specs.Bodies.{PatternsPass}
 use Rattle.standing_models.specs.Tests.{unit_pattern}
 use Rattle.safe_models.specs.Accepted.{PatternsOfTextsPass}

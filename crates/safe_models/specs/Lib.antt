@@ -1,3 +1,8 @@
+pub mod Places
+pub mod Constraints
+pub mod Types
+pub mod Models
+pub mod Patterns
 pub mod CoreTests
 pub mod CoreLaws
 pub mod ModelTests
@@ -12,3 +17,7 @@ pub mod Safe
 pub mod Ways
 pub mod Tested
 pub mod Listed
+pub mod Tables
+pub mod RunEvents
+pub mod RunLaws
+pub mod Laws

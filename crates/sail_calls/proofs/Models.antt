@@ -101,6 +101,6 @@ direction_holds set rank k d m s =
 pub calls_from : CallsFollow
 calls_from set k rank lets s = record {
   lets_are = s.lets_are;
-  functions = λ x f covered at. let h = s.functions x f covered at in (h.covered, function_holds set k x f h);
+  functions = λ x f covered own at. let h = s.functions x f covered own at in (h.covered, function_holds set k x f h);
   directions = λ d m covered at. direction_holds set rank k d m (s.directions d m covered at);
 }

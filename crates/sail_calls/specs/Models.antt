@@ -11,8 +11,9 @@ use Rattle.sail_core.specs.declared.tree.Kind.TheVariants as K
 use Rattle.size_values.specs.declared.sized.Sized.{Sized}
 use Rattle.checked_meaning.specs.Checked.{Checks}
 use Rattle.checked_meaning.specs.Items.{Item}
+use Rattle.checked_meaning.specs.Fits.{AllFit}
 use Rattle.value_laws.specs.Belonging.{Integers}
-use Rattle.soundness_steps.specs.Works.{Scene, Setting, Work, nobody, IsExact}
+use Rattle.soundness_steps.specs.Works.{Scene, Setting, Work, nobody, IsExact, IsFitted}
 use Rattle.soundness_steps.specs.Noted.{OpensAs}
 use Rattle.soundness_steps.specs.Covers.{AreMet}
 use Rattle.soundness_steps.specs.Calls.{IsOf}
@@ -66,7 +67,8 @@ pub record DirectionStands (set : Setting) (rank : ℕ → ℕ) (k : Checks) (d 
 
 pub record ModelStands (set : Setting) (k : Checks) (rank : ℕ → ℕ) (lets : List Value) : Type 0 where
   pub lets_are : (x : Work) → LetsAre set x set.around.lets lets
-  pub functions : (x : Work) (f : Function) → set.covered.function x ≡ true → slice_get set.around.functions x.function ≡ Some f → FunctionStands set k x f
+  pub functions : (x : Work) (f : Function) → set.covered.function x ≡ true → (IsFitted set → AllFit set.around.types x.types x.own)
+      → slice_get set.around.functions x.function ≡ Some f → FunctionStands set k x f
   pub directions : (d : ℕ) (m : Direction) → set.covered.direction d ≡ true → slice_get set.around.directions d ≡ Some m → DirectionStands set rank k d m
 
 -- all that calls ask of it

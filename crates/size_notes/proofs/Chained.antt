@@ -65,11 +65,11 @@ module _ (around : Around) (f : Function) (is : List Index) (inner : Around) (ts
 
   pub declared_end : {A E : Type 0} (r : Result A E) (t : Written) (answer : Reading) → aim ≡ aimed Aims.Due (reading_under f.result is)
       → answer ≡ reading_under f.result is → s ≡ run (clauses_read f.constraint inner ts aim f.is_declared f.body) w
-      → OnOk r (t ≡ run (last_read f.constraint f.last answer) s) → OnOk r (t ≡ run (declared_read around f is) w)
+      → OnOk r (t ≡ run (last_read f.constraint f.place f.last answer) s) → OnOk r (t ≡ run (declared_read around f is) w)
   declared_end (Ok x) t answer wanted same went h =
       h
-      ∙ ((λ j. run (last_read f.constraint f.last (same j)) (arms_are wanted went j))
-      ∙ sym (run_bind (function_arms around f is) (λ y. last_read f.constraint f.last (reading_under f.result is)) w))
+      ∙ ((λ j. run (last_read f.constraint f.place f.last (same j)) (arms_are wanted went j))
+      ∙ sym (run_bind (function_arms around f is) (λ y. last_read f.constraint f.place f.last (reading_under f.result is)) w))
   declared_end (Err e) t answer wanted same went h = tt
 
   pub measured_end : {A E : Type 0} (r : Result A E) (measure : Core) → aim ≡ Aims.Due natural_type

@@ -114,19 +114,23 @@ clauses_read con around ts aim declared core = form_read con around ts aim decla
 
 -- ---- functions and their measures
 
--- what the clauses give, under the constraint too
-abbrev pub last_inside : Con → ℕ → Reading → Walk (Unit {0})
-last_inside con k r = bind (constrained con) (λ t. last_made k r)
+-- the sizes of the type of what the clauses give
+abbrev pub result_read : Place → Reading → Walk (Unit {0})
+result_read place r = note (λ facts. size_note facts place (Makes.ByType r))
 
-abbrev pub last_read : Con → ℕ → Reading → Walk (Unit {0})
-last_read con k r = alone [] (last_inside con k r)
+-- what the clauses give, under the constraint too: its type is read before
+abbrev pub last_inside : Con → Place → ℕ → Reading → Walk (Unit {0})
+last_inside con place k r = bind (constrained con) (λ t. bind (result_read place r) (λ x. last_made k r))
+
+abbrev pub last_read : Con → Place → ℕ → Reading → Walk (Unit {0})
+last_read con place k r = alone [] (last_inside con place k r)
 
 abbrev pub function_arms : Around → Function → List Index → Walk (Unit {0})
 function_arms around f is =
     clauses_read f.constraint (inside_function around f is) f.parameters (aimed Aims.Due (reading_under f.result is)) f.is_declared f.body
 
 abbrev pub declared_read : Around → Function → List Index → Walk (Unit {0})
-declared_read around f is = bind (function_arms around f is) (λ t. last_read f.constraint f.last (reading_under f.result is))
+declared_read around f is = bind (function_arms around f is) (λ t. last_read f.constraint f.place f.last (reading_under f.result is))
 
 abbrev pub function_read : Around → Function → Walk (Unit {0})
 function_read around f = bind (own_indices f.variables) (declared_read around f)

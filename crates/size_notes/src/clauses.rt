@@ -11,11 +11,11 @@ use crate::steps::append_alone;
 use call_arguments::Aim;
 use function_notes::{Common, constrain, lesser, make_last, unwritten, walk_written};
 use pattern_leaves::Around;
-use sail_base::Items;
+use sail_base::{Items, Place};
 use sail_core::{Arm, Core, Giver, Kind};
 use sail_types::{Con, Typ};
 use std::alloc::{AllocError, Global};
-use value_indices::{Reading, Walking};
+use value_indices::{Made, Reading, Walking, copy_reading};
 
 /// A clause under the constraint of its function: the types of its parameters, then its walk. It fails where memory is wanting, and where
 /// variables are too many.
@@ -176,18 +176,34 @@ pub fn read_clauses(
     )
 }
 
-/// What the clauses of a function give, under its constraint. It fails where memory is wanting, and where variables are too many.
+/// The sizes of the type of what the clauses of a function give, at its place. It fails where memory is wanting.
+fn read_result(
+    alloc: Global,
+    walking: &mut Walking,
+    place: Place,
+    reading: &Reading,
+) -> Result<(), AllocError>
+    ensures { OnOk result (walk.seen walking.new ≡ walk.run (spec.result_read place reading.now) (walk.seen walking.old)) }
+{
+    let reading = copy_reading(alloc, reading)?;
+    walking.note_sizes(place, Made::ByType(reading))
+}
+
+/// What the clauses of a function at a place give, under its constraint: the sizes of its type are read before. It fails where memory is
+/// wanting, and where variables are too many.
 #[tactic(auto, using(value_indices::proofs::Walks::walks))]
 fn last_inside(
     alloc: Global,
     walking: &mut Walking,
     constraint: &Con,
+    place: Place,
     number: u32,
     reading: &Reading,
 ) -> Result<(), AllocError>
-    ensures { OnOk result (walk.seen walking.new ≡ walk.run (spec.last_inside constraint.now number reading.now) (walk.seen walking.old)) }
+    ensures { OnOk result (walk.seen walking.new ≡ walk.run (spec.last_inside constraint.now place number reading.now) (walk.seen walking.old)) }
 {
     constrain(alloc, walking, constraint)?;
+    read_result(alloc, walking, place, reading)?;
     make_last(alloc, walking, number, reading)
 }
 
@@ -197,15 +213,16 @@ fn last_alone(
     alloc: Global,
     next: u32,
     constraint: &Con,
+    place: Place,
     number: u32,
     reading: &Reading,
 ) -> Result<Walking, AllocError>
-    ensures { IfOk result (λ inner. walk.seen inner ≡ walk.restored (walk.run (spec.last_inside constraint.now number reading.now)
+    ensures { IfOk result (λ inner. walk.seen inner ≡ walk.restored (walk.run (spec.last_inside constraint.now place number reading.now)
         (walk.remembering (walk.begun next)))) }
 {
     let mut inner = Walking::new(alloc, next);
     inner.remember()?;
-    last_inside(alloc, &mut inner, constraint, number, reading)?;
+    last_inside(alloc, &mut inner, constraint, place, number, reading)?;
     inner.restore()?;
     Ok(inner)
 }
@@ -215,12 +232,13 @@ pub fn read_last(
     alloc: Global,
     body: &mut Walking,
     constraint: &Con,
+    place: Place,
     number: u32,
     reading: &Reading,
 ) -> Result<(), AllocError>
     requires { IsAtRest (walk.seen body.old) }
-    ensures { OnOk result (walk.seen body.new ≡ walk.run (spec.last_read constraint.now number reading.now) (walk.seen body.old)) }
+    ensures { OnOk result (walk.seen body.new ≡ walk.run (spec.last_read constraint.now place number reading.now) (walk.seen body.old)) }
 {
-    let inner = last_alone(alloc, body.next(), constraint, number, reading)?;
+    let inner = last_alone(alloc, body.next(), constraint, place, number, reading)?;
     append_alone(alloc, body, inner, &[])
 }

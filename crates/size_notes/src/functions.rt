@@ -53,7 +53,14 @@ fn read_declared(
         function.is_declared,
         &function.body,
     )?;
-    read_last(alloc, body, &function.constraint, function.last, &answer)
+    read_last(
+        alloc,
+        body,
+        &function.constraint,
+        function.place,
+        function.last,
+        &answer,
+    )
 }
 
 /// What is read of a function's measure, where its variables stand for these. It fails where memory is wanting, and where variables are

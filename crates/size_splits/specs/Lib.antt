@@ -3,3 +3,4 @@ pub mod Sizing
 pub mod Splits
 pub mod Reading
 pub mod Telling
+pub mod Alone

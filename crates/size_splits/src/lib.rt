@@ -5,6 +5,7 @@
 //! `specs/Reading` says the same of the steps of a walk as of its notes.
 #![tactic(auto)]
 
+mod alone;
 mod bodies;
 mod combinations;
 mod conditions;
@@ -17,6 +18,7 @@ mod sizing;
 mod splitting;
 mod telling;
 
+pub use alone::sizes_given;
 pub use bodies::BodySteps;
 pub use combinations::counted;
 pub use given::{flags_of, given_indices};

@@ -1,5 +1,5 @@
 -- Numbers and conditions of which some variables are known (Sail language manual, "Type variables").
-use Rattle.std.specs.Prelude.{ℕ, ℤ, pos, ◌+ℤ◌, ◌*ℤ◌, nat_eq, Bool, true, false, not, ◌&&◌, ◌||◌, List, [], ◌∷◌, Option, Some, None}
+use Rattle.std.specs.Prelude.{ℕ, ℤ, pos, ◌+ℤ◌, ◌*ℤ◌, nat_eq, nat_lt, Bool, true, false, not, ◌&&◌, ◌||◌, List, [], ◌∷◌, Option, Some, None}
 use Rattle.std.specs.Prelude.{option_map, slice_get, if◌then◌else◌}
 use Rattle.std.specs.List.{list_any}
 use Rattle.std.specs.Ordering.{int_eq}
@@ -52,6 +52,10 @@ with_picked k (p ∷ ps) = picked_over p (with_picked k ps)
 abbrev pub all_but : ℕ → Known
 all_but v w = if nat_eq v w then None else Some (pos 0)
 
+-- all variables before this one are known
+abbrev pub all_before : ℕ → Known
+all_before v w = if nat_lt w v then Some (pos 0) else None
+
 -- ---- what variables are: constants, or open
 
 abbrev pub or_open : ℕ → Option ℤ → Constant
@@ -74,6 +78,7 @@ argument_of cs i = or_zero (slice_get cs i)
 abbrev pub meant : Variables → ℕ → Constant
 meant (V.Known zs ps) = known_at (with_picked (known_of zs.now) ps.now)
 meant (V.AllBut v) = known_at (all_but v)
+meant (V.Before v) = known_at (all_before v)
 meant (V.Arguments cs) = argument_of cs.now
 
 abbrev pub is_free : Constant → Bool

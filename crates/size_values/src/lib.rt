@@ -24,7 +24,9 @@ pub use numbers::{
     value_of,
 };
 pub use sized::{Sized, copy_all_sized, copy_sized, same_all, same_numbers, same_sized};
-pub use sizes::{Size, copy_sizes, is_one_open, named_typ_sizes, typ_sizes};
-pub use sizing::{reading_sized, readings_sized, typ_sized, value_sized};
+pub use sizes::{
+    Size, bound_before, copy_sizes, fields_of, is_one_open, named_typ_sizes, typ_sizes,
+};
+pub use sizing::{hangs_on, named_numbers, reading_sized, readings_sized, typ_sized, value_sized};
 pub use values::{only_open, reading_names, reading_sizes, typ_names, value_names, value_sizes};
 pub use variables::Variables;

@@ -33,6 +33,26 @@ fn hangs_under(
     open_under(alloc, marks, fields_of(types, place), constants.as_slice())
 }
 
+/// Whether a size of the fields and payloads of the named type at a place hangs on the argument at an index, where it has so many. It fails where
+/// memory is wanting.
+pub fn hangs_on(
+    alloc: Global,
+    types: &Types,
+    place: u32,
+    count: usize,
+    index: usize,
+) -> Result<bool, AllocError>
+    ensures { IfOk result (λ hangs. hangs ≡ spec.hangs_on types.now place count index) }
+{
+    let marks = settle(
+        alloc,
+        types.definitions.as_slice(),
+        deepest(),
+        Items::new(alloc),
+    )?;
+    hangs_under(alloc, types, &marks, place, count, index)
+}
+
 /// The integer that a constant is; 0 where it isn't one.
 fn integer_of(constant: &Constant) -> i128
     ensures { result ≡ spec.integer_of constant.now }
@@ -64,8 +84,8 @@ fn number_where(hangs: bool, constant: &Constant) -> Option<i128>
     }
 }
 
-/// The numbers of the arguments of the named type at a place, where a size of its fields and payloads hangs on them.
-fn named_numbers(
+/// The numbers of the arguments of the named type at a place, where a size of its fields and payloads hangs on them. They fail where memory is wanting.
+pub fn named_numbers(
     alloc: Global,
     types: &Types,
     place: u32,

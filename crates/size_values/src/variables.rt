@@ -12,6 +12,8 @@ pub enum Variables<'a> {
     Known(&'a [Option<i128>], &'a [Picked]),
     /// Those of a walk: all are known but this one.
     AllBut(u32),
+    /// Those of a walk: all before this one are known.
+    Before(u32),
     /// Those of a type: its arguments; 0 for one past their end.
     Arguments(&'a [Constant]),
 }
@@ -47,6 +49,7 @@ impl Variables<'_> {
         match self {
             Variables::Known(numbers, picked) => known_number(numbers, picked, variable),
             Variables::AllBut(open) => if *open == variable { None } else { Some(0) },
+            Variables::Before(end) => if variable < *end { Some(0) } else { None },
             Variables::Arguments(arguments) => match arguments.get(variable as usize) {
                 Some(Constant::Number(number)) => Some(*number),
                 Some(_) => None,

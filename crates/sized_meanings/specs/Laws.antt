@@ -1,5 +1,5 @@
 -- What holds of the reading under constant sizes.
-use Rattle.std.specs.Prelude.{◌≡◌, ℕ, List, [], ◌∷◌, ◌++◌, Option, Some}
+use Rattle.std.specs.Prelude.{◌≡◌, ℕ, Bool, List, [], ◌∷◌, ◌++◌, Option, Some}
 use Rattle.model_state.specs.RunState.{RunState}
 use Rattle.sail_core.specs.declared.model.CoreModel.{CoreModel}
 use Rattle.sail_core.specs.Program.{plain}
@@ -12,14 +12,14 @@ use Rattle.sized_trees.specs.declared.trees.Lead.{Lead}
 use Rattle.sized_trees.specs.declared.trees.SizedCore.{SizedCore}
 use Rattle.sized_trees.specs.Laws.{CaseAsks, Each, LeadAsks}
 use Rattle.sized_meanings.specs.Present.{present_case, present_lead}
-use Rattle.sized_meanings.specs.Sized.{checks_of}
+use Rattle.sized_meanings.specs.Sized.{checks_by}
 
--- the start and the events of a model under constant sizes are stuck, or come to what they come to plainly
+-- the start and the events of a model under constant sizes, by whichever numbers cases are chosen, are stuck, or come to what they come to plainly
 abbrev pub SizedModelsAreAlike : Type 0
-SizedModelsAreAlike = (m : CoreModel) (c : SizedCore) (state : RunState)
-    → IsStuckOr (init_ran (checking (checks_of m c)) m state) (init_ran plain m state)
-    × ((hart entry : ℕ) → IsStuckOr (reset_ran (checking (checks_of m c)) m hart entry state) (reset_ran plain m hart entry state))
-    × ((hart : ℕ) → IsStuckOr (step_ran (checking (checks_of m c)) m hart state) (step_ran plain m hart state))
+SizedModelsAreAlike = (given : Bool) (m : CoreModel) (c : SizedCore) (state : RunState)
+    → IsStuckOr (init_ran (checking (checks_by given m c)) m state) (init_ran plain m state)
+    × ((hart entry : ℕ) → IsStuckOr (reset_ran (checking (checks_by given m c)) m hart entry state) (reset_ran plain m hart entry state))
+    × ((hart : ℕ) → IsStuckOr (step_ran (checking (checks_by given m c)) m hart state) (step_ran plain m hart state))
 
 -- ---- where the noted numbers are those of a case, one with the same numbers is present, whatever else is noted
 

@@ -2,6 +2,7 @@
 use Rattle.std.specs.Prelude.{ℕ, ℤ, nat_eq, Bool, true, false, ◌&&◌, List, [], ◌∷◌, ◌++◌, Option, Some, None, is_some, if◌then◌else◌}
 use Rattle.std.specs.Ordering.{int_eq}
 use Rattle.sail_types.specs.Places.{first}
+use Rattle.sail_types.specs.declared.values.Value.{Value}
 use Rattle.sail_core.specs.declared.tree.Giver.{Giver}
 use Rattle.sail_core.specs.Nodes.{giver_eq}
 use Rattle.value_indices.specs.declared.indices.Indices.{Indices}
@@ -11,6 +12,7 @@ use Rattle.sized_trees.specs.declared.trees.Case.{Case}
 use Rattle.sized_trees.specs.declared.trees.Lead.{Lead}
 use Rattle.sized_trees.specs.declared.trees.NodeSizes.{NodeSizes}
 use Rattle.sized_trees.specs.declared.trees.NodeSizes.TheVariants as Z
+use Rattle.sized_meanings.specs.Noting.{noted_by}
 
 -- ---- of the cases at a node: none, where a number that an earlier one asks for isn't noted
 
@@ -46,9 +48,14 @@ first_in f (n ∷ ns) = first (f n) (first_in f ns)
 abbrev pub if_at : {A : Type 0} → ℕ → ℕ → Option A → Option A
 if_at k j o = if nat_eq k j then o else None
 
-abbrev pub case_in : ℕ → Noted → NodeSizes → Option Case
-case_in k noted (Z.Makes j cases) = if_at k j (present_case noted cases)
-case_in k noted node = None
+-- the numbers by which a case is chosen: those that the value gives as well, or those alone that are noted by then
+abbrev pub noted_with : Bool → Indices → Value → Noted → Noted
+noted_with true i v noted = noted_by i v noted
+noted_with false i v noted = noted
+
+abbrev pub case_by : Bool → ℕ → Value → Noted → NodeSizes → Option Case
+case_by given k v noted (Z.Makes j i cases) = if_at k j (present_case (noted_with given i v noted) cases)
+case_by given k v noted node = None
 
 abbrev pub lead_in : ℕ → Noted → NodeSizes → Option Lead
 lead_in k noted (Z.Calls j leads) = if_at k j (present_lead noted leads)

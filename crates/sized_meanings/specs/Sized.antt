@@ -1,6 +1,6 @@
 -- The reading of the core under constant sizes: stuck wherever a value has another size than the case of its node (Sail language manual, "Type
 -- variables").
-use Rattle.std.specs.Prelude.{ℕ, nat_eq, ◌/◌, Bool, ◌&&◌, List, [], ◌∷◌, ◌++◌, map, slice_get, Option, Some, None, option_map, if◌then◌else◌}
+use Rattle.std.specs.Prelude.{ℕ, nat_eq, ◌/◌, Bool, true, false, ◌&&◌, List, [], ◌∷◌, ◌++◌, map, slice_get, Option, Some, None, option_map, if◌then◌else◌}
 use Rattle.sail_types.specs.Places.{Given, an_int, first, only}
 use Rattle.sail_types.specs.Sums.{and_then}
 use Rattle.sail_types.specs.declared.table.Types.{Types}
@@ -19,17 +19,18 @@ use Rattle.sized_trees.specs.declared.trees.NodeSizes.{NodeSizes}
 use Rattle.sized_trees.specs.declared.trees.Signature.{Signature}
 use Rattle.sized_trees.specs.declared.trees.SizedInstance.{SizedInstance}
 use Rattle.sized_trees.specs.declared.trees.SizedCore.{SizedCore}
-use Rattle.checked_meaning.specs.Fits.{all_have_sizes, has_sizes}
+use Rattle.sized_trees.specs.declared.trees.Told.{Told}
+use Rattle.checked_meaning.specs.Fits.{has_sizes}
 use Rattle.sized_meanings.specs.Noting.{noted_by_all}
-use Rattle.sized_meanings.specs.Present.{case_in, first_in, gives_at, lead_in}
+use Rattle.sized_meanings.specs.Present.{case_by, first_in, gives_at, lead_in, noted_with, present_case}
 
 -- ---- at a node: the case that is present has to take these operands and to have this value
 
 abbrev pub makes_in : Types → List Sized → Value → Case → Option Sized
 makes_in types takes v c = only (all_eq c.takes takes && has_sizes types v c.gives) c.gives
 
-abbrev pub made_in : Types → ℕ → List Sized → Value → Noted → NodeSizes → Option Sized
-made_in types k takes v noted node = and_then (case_in k noted node) (makes_in types takes v)
+abbrev pub made_by : Bool → Types → ℕ → List Sized → Value → Noted → NodeSizes → Option Sized
+made_by given types k takes v noted node = and_then (case_by given k v noted node) (makes_in types takes v)
 
 -- the instance that is called: its place, and its numbers
 abbrev pub numbers_of : Instance → List (Option Given)
@@ -44,12 +45,19 @@ led_by instances takes l = and_then (only (all_eq l.takes takes) l.instance) (aw
 abbrev pub led_in : List SizedInstance → ℕ → List Sized → Noted → NodeSizes → Option Awaits
 led_in instances k takes noted node = and_then (lead_in k noted node) (led_by instances takes)
 
-abbrev pub cases_of : Types → List SizedInstance → List NodeSizes → Cases
-cases_of types instances nodes = record {
-  makes = λ k takes v noted. first_in (made_in types k takes v noted) nodes;
+abbrev pub cases_by : Bool → Types → List SizedInstance → List NodeSizes → Cases
+cases_by given types instances nodes = record {
+  makes = λ k takes v noted. first_in (made_by given types k takes v noted) nodes;
   notes = λ k v noted. noted_by_all (gives_at nodes k) v noted;
   calls = λ k takes noted. first_in (led_in instances k takes noted) nodes;
 }
+
+-- by the numbers that a value gives as well, and by those alone that are noted by then
+abbrev pub cases_of : Types → List SizedInstance → List NodeSizes → Cases
+cases_of = cases_by true
+
+abbrev pub noted_cases_of : Types → List SizedInstance → List NodeSizes → Cases
+noted_cases_of = cases_by false
 
 -- ---- functions: the instance at a place, or where none is awaited there the first one, of this function for these numbers
 
@@ -80,8 +88,23 @@ abbrev pub signature_for : Option SizedInstance → Option Signature
 signature_for None = None
 signature_for (Some x) = x.signature
 
-abbrev pub entering : Types → List Value → Signature → Option (List Sized)
-entering types vs s = only (all_have_sizes types vs s.parameters) s.parameters
+-- the type that a value tells
+abbrev pub nothing_noted : Noted
+nothing_noted v = None
+
+abbrev pub if_told : Types → Value → Case → Option Sized
+if_told types v c = only (has_sizes types v c.gives) c.gives
+
+abbrev pub told_type : Bool → Types → Told → Value → Option Sized
+told_type given types t v = and_then (present_case (noted_with given t.value v nothing_noted) t.cases) (if_told types v)
+
+abbrev pub all_told : Bool → Types → List Told → List Value → Option (List Sized)
+all_told given types [] [] = Some []
+all_told given types (t ∷ ts) (v ∷ vs) = and_then (told_type given types t v) (λ s. option_map (λ ss. s ∷ ss) (all_told given types ts vs))
+all_told given types ts vs = None
+
+abbrev pub entering : Bool → Types → List Value → Signature → Option (List Sized)
+entering given types vs s = all_told given types s.parameters vs
 
 -- ---- directions of mappings: a mapping has two
 
@@ -98,12 +121,18 @@ taken types v (Some d) = if_sized types v (fixed_typ types d.parameter)
 
 -- ---- a model
 
-abbrev pub checks_of : CoreModel → SizedCore → Checks
-checks_of m c = record {
+abbrev pub checks_by : Bool → CoreModel → SizedCore → Checks
+checks_by given m c = record {
   types = m.types;
-  function = λ f place nu. cases_of m.types c.instances (nodes_for (entered c.instances f place nu));
-  enters = λ f place nu vs. and_then (signature_for (entered c.instances f place nu)) (entering m.types vs);
-  direction = λ d. cases_of m.types c.instances (or_none (slice_get c.mappings (d / 2)));
+  function = λ f place nu. cases_by given m.types c.instances (nodes_for (entered c.instances f place nu));
+  enters = λ f place nu vs. and_then (signature_for (entered c.instances f place nu)) (entering given m.types vs);
+  direction = λ d. cases_by given m.types c.instances (or_none (slice_get c.mappings (d / 2)));
   takes = λ d v. taken m.types v (slice_get m.directions d);
-  opening = λ i. cases_of m.types c.instances (or_none (slice_get c.openings i));
+  opening = λ i. cases_by given m.types c.instances (or_none (slice_get c.openings i));
 }
+
+abbrev pub checks_of : CoreModel → SizedCore → Checks
+checks_of = checks_by true
+
+abbrev pub noted_checks_of : CoreModel → SizedCore → Checks
+noted_checks_of = checks_by false

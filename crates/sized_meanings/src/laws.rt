@@ -3,7 +3,8 @@ ghost use Rattle.sized_meanings.specs.Laws.{PresentCasesAreFound, PresentLeadsAr
 
 use checked_meaning::models_are_alike;
 
-/// The start of a model under constant sizes, `reset` and each event are stuck, or come to what they come to plainly.
+/// The start of a model under constant sizes, `reset` and each event are stuck, or come to what they come to plainly, by whichever numbers cases
+/// are chosen.
 pub fn sized_models_are_alike()
     ensures { SizedModelsAreAlike }
 {

@@ -1,5 +1,6 @@
 -- The cases of a node ask for the numbers of the same variables, and so do its leads.
 use Rattle.std.proofs.Common.{◌≡◌, ◌∙◌, ap, refl, ℕ, Bool, true, false, List, [], ◌∷◌, ◌++◌}
+use Rattle.std.proofs.lemmas.List.{map-append}
 use Rattle.std.specs.Prelude.{ℤ, Option, Some, None, option_map, if◌then◌else◌}
 use Rattle.std.specs.List.{list_any}
 use Rattle.sail_types.specs.Places.{only}
@@ -15,15 +16,19 @@ use Rattle.value_indices.specs.Steps.{Note, goal_note, size_note, made_note, cal
 use Rattle.size_values.specs.declared.constants.Constant.{Constant}
 use Rattle.size_values.specs.declared.constants.Picked.{Picked}
 use Rattle.size_values.specs.Numbers.{Known, known_at, known_of, may_hold, with_picked}
+use Rattle.size_splits.specs.Alone.{sizes_given}
+use Rattle.size_splits.specs.Sizing.{made_facts}
 use Rattle.size_splits.specs.Splits.{combinations, counted, domain, one_where, those_that_may, with_domain, with_number, with_numbers}
 use Rattle.monomorph.specs.declared.found.Instance.{Instance}
 use Rattle.monomorph.specs.Reading.{Inside, instance_of, under}
+use Rattle.sized_trees.specs.declared.combinations.Choice.{Choice}
 use Rattle.sized_trees.specs.declared.trees.Case.{Case}
 use Rattle.sized_trees.specs.declared.trees.Lead.{Lead}
-use Rattle.sized_trees.specs.Bodies.{at_call, at_note}
+use Rattle.sized_trees.specs.Bodies.{at_call, at_note, made_choices, value_at}
 use Rattle.sized_trees.specs.Cases.{case_of, case_under, case_within, cases_under, one_or_none, place_in}
 use Rattle.sized_trees.specs.Cases.{lead_found, lead_to, lead_under, lead_within, leads_under}
-use Rattle.sized_trees.specs.Combinations.{all_picked_eq, combinations_at, each_once, is_given, picked_where, where_so, with_one}
+use Rattle.sized_trees.specs.Combinations.{all_picked_eq, bound_choices, combinations_at, each_once, is_given, is_told, noted_choices, picked_by}
+use Rattle.sized_trees.specs.Combinations.{picked_where, those_before, those_from, where_so, with_bound, with_each, with_one}
 use Rattle.sized_trees.specs.Laws.{AsksAlike, CaseAsks, Each, LeadAsks, NodesAskAlike, asked}
 use Rattle.sized_trees.proofs.Each.{each_append, each_if, model_each}
 
@@ -95,6 +100,22 @@ once_asks f vs seen (ps ∷ pss) s e =
     (each_if (Asks (kept f vs)) (list_any (all_picked_eq one) seen) seen (seen ++ one ∷ []) s
     (each_append (Asks (kept f vs)) seen (one ∷ []) s (kept_asked f ps ∙ ap (kept f) (e.0), tt))) (e.1)
 
+-- ---- numbers of what is bound in front of each
+
+abbrev ChoiceAsks : List ℕ → Choice → Type 0
+ChoiceAsks vs c = asked (picked_by c) ≡ vs
+
+module _ (ws vs : List ℕ) where
+  with_asks : (bound : List (List Picked)) (ps : List Picked) → Each (Asks ws) bound → Asks vs ps → Each (ChoiceAsks (ws ++ vs)) (with_bound bound ps)
+  with_asks [] ps e a = tt
+  with_asks (qs ∷ bound) ps e a = (map-append (λ (p : Picked). p.variable) qs ps ∙ (λ j. e.0 j ++ a j), with_asks bound ps e.1 a)
+
+  each_asks : (bound : List (List Picked)) → Each (Asks ws) bound → (pss : List (List Picked)) → Each (Asks vs) pss
+      → Each (ChoiceAsks (ws ++ vs)) (with_each bound pss)
+  each_asks bound e [] a = tt
+  each_asks bound e (ps ∷ pss) a =
+      each_append (ChoiceAsks (ws ++ vs)) (with_bound bound ps) (with_each bound pss) (with_asks bound ps e a.0) (each_asks bound e pss a.1)
+
 -- ---- at a place
 
 module _ (r : Inside) (list : List Instance) where
@@ -109,18 +130,54 @@ module _ (r : Inside) (list : List Instance) where
       (those_ask k (conditions facts) (taken (known_at k) cs r.split) (combinations (known_at k) cs r.split)
       (combinations_ask (known_at k) cs r.split))
 
+  -- where a value is made
+  abbrev pub asked_noted : List Fact → List ℕ → List ℕ
+  asked_noted facts own =
+      kept (is_told facts (those_before r.variables own)) (taken (known_at (known_of r.numbers)) (conditions (facts ++ [])) r.split)
+
+  noted_ask : (facts : List Fact) (own : List ℕ) → Each (Asks (asked_noted facts own)) (noted_choices r facts own)
+  noted_ask facts own =
+      let k = known_of r.numbers in
+      let cs = conditions (facts ++ []) in
+      once_asks (is_told facts (those_before r.variables own)) (taken (known_at k) cs r.split) [] (counted k r.split facts []) tt
+      (those_ask k (conditions facts) (taken (known_at k) cs r.split) (combinations (known_at k) cs r.split)
+      (combinations_ask (known_at k) cs r.split))
+
+  abbrev pub asked_bound : List Fact → List ℕ → List ℕ
+  asked_bound opening own = kept (is_told [] own) (taken (known_at (known_of r.numbers)) (conditions ([] ++ opening)) (those_from r.variables own))
+
+  pub bound_ask : (opening : List Fact) (own : List ℕ) → Each (Asks (asked_bound opening own)) (bound_choices r opening own)
+  bound_ask opening own =
+      let k = known_of r.numbers in
+      let cs = conditions ([] ++ opening) in
+      let vs = those_from r.variables own in
+      once_asks (is_told [] own) (taken (known_at k) cs vs) [] (counted k vs [] opening) tt
+      (those_ask k (conditions []) (taken (known_at k) cs vs) (combinations (known_at k) cs vs) (combinations_ask (known_at k) cs vs))
+
+  abbrev pub asked_made : List Fact → Made → List ℕ
+  asked_made facts made =
+      let own = sizes_given r.types (value_at r made) in
+      asked_bound (made_facts r.variables made None) own ++ asked_noted facts own
+
+  pub made_asks : (facts : List Fact) (made : Made) → Each (ChoiceAsks (asked_made facts made)) (made_choices r facts made)
+  made_asks facts made =
+      let own = sizes_given r.types (value_at r made) in
+      let opening = made_facts r.variables made None in
+      each_asks (asked_bound opening own) (asked_noted facts own) (bound_choices r opening own) (bound_ask opening own) (noted_choices r facts own)
+      (noted_ask facts own)
+
   -- ---- cases and leads
 
   only_asks : (is : Bool) (vs : List ℕ) (c : Case) → CaseAsks vs c → Each (CaseAsks vs) (one_or_none (only is c))
   only_asks true vs c e = (e, tt)
   only_asks false vs c e = tt
 
-  pub cases_ask : (operands : List Indices) (made : Made) (vs : List ℕ) (pss : List (List Picked)) → Each (Asks vs) pss
-      → Each (CaseAsks vs) (cases_under r operands made pss)
-  cases_ask operands made vs [] e = tt
-  cases_ask operands made vs (ps ∷ pss) e =
-      each_append (CaseAsks vs) (one_or_none (case_under r operands made ps)) (cases_under r operands made pss)
-      (only_asks (case_within r operands made ps) vs (case_of r operands made ps) (e.0)) (cases_ask operands made vs pss (e.1))
+  pub cases_ask : (operands : List Indices) (i : Indices) (vs : List ℕ) (cs : List Choice) → Each (ChoiceAsks vs) cs
+      → Each (CaseAsks vs) (cases_under r operands i cs)
+  cases_ask operands i vs [] e = tt
+  cases_ask operands i vs (c ∷ cs) e =
+      each_append (CaseAsks vs) (one_or_none (case_under r operands i c)) (cases_under r operands i cs)
+      (only_asks (case_within r operands i c) vs (case_of r operands i c) (e.0)) (cases_ask operands i vs cs (e.1))
 
   found_asks : (operands : List Indices) (vs : List ℕ) (ps : List Picked) (o : Option ℕ) → Asks vs ps
       → Each (LeadAsks vs) (one_or_none (option_map (lead_to r operands ps) o))
@@ -155,7 +212,7 @@ module _ (r : Inside) (list : List Instance) where
   note_asks (goal_note facts place c) = tt
   note_asks (size_note facts place made) = tt
   note_asks (made_note facts k operands made) =
-      ((asked_at facts, cases_ask operands made (asked_at facts) (combinations_at r facts) (place_asks facts)), tt)
+      ((asked_made facts made, cases_ask operands (value_at r made) (asked_made facts made) (made_choices r facts made) (made_asks facts made)), tt)
   note_asks (call_note facts place k operands callee js qs) = call_asks facts k operands callee js qs
   note_asks (way_note facts d) = tt
   note_asks (given_note facts k i) = (tt, tt)

@@ -1,5 +1,5 @@
 pub mod Same
-pub mod Told
+pub mod Telling
 pub mod Noted
 pub mod Each
 pub mod Closed

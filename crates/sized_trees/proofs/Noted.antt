@@ -13,7 +13,7 @@ use Rattle.monomorph.specs.declared.found.Instance.{Instance}
 use Rattle.monomorph.specs.Reading.{Inside}
 use Rattle.sized_trees.specs.declared.trees.NodeSizes.{NodeSizes}
 use Rattle.sized_trees.specs.Bodies.{at_notes, at_step}
-use Rattle.sized_trees.proofs.Told.{step_told, told_of}
+use Rattle.sized_trees.proofs.Telling.{step_told, told_of}
 
 module _ (r : Inside) (list : List Instance) where
   -- a step, then the notes of the others

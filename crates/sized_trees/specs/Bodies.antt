@@ -1,6 +1,6 @@
 -- A body under an instance, node by node: the cases of each, where calls lead, and which numbers a value gives (Sail language manual, "Type
 -- variables").
-use Rattle.std.specs.Prelude.{ℕ, ℤ, List, [], ◌∷◌, ◌++◌, map, Option}
+use Rattle.std.specs.Prelude.{ℕ, ℤ, List, [], ◌∷◌, ◌++◌, map, Option, None}
 use Rattle.sail_types.specs.declared.numbers.Index.{Index}
 use Rattle.sail_core.specs.declared.tree.Callee.{Callee}
 use Rattle.sail_core.specs.declared.tree.Callee.TheVariants as D
@@ -13,27 +13,41 @@ use Rattle.value_indices.specs.declared.notes.Step.{Step}
 use Rattle.value_indices.specs.declared.notes.Step.TheVariants as S
 use Rattle.value_indices.specs.Steps.{Note, made_note, call_note, given_note}
 use Rattle.size_values.specs.declared.sized.Sized.{Sized}
+use Rattle.size_splits.specs.Alone.{sizes_given}
 use Rattle.size_splits.specs.Bodies.{Body}
+use Rattle.size_splits.specs.Sizing.{made_facts, made_indices}
 use Rattle.monomorph.specs.declared.found.Instance.{Instance}
 use Rattle.monomorph.specs.Lasts.{Model}
 use Rattle.monomorph.specs.Reading.{Inside, reading_of}
+use Rattle.sized_trees.specs.declared.combinations.Choice.{Choice}
 use Rattle.sized_trees.specs.declared.trees.Case.{Case}
 use Rattle.sized_trees.specs.declared.trees.Lead.{Lead}
 use Rattle.sized_trees.specs.declared.trees.NodeSizes.{NodeSizes}
 use Rattle.sized_trees.specs.declared.trees.NodeSizes.TheVariants as Z
+use Rattle.sized_trees.specs.declared.trees.Told.{Told}
 use Rattle.sized_trees.specs.Cases.{cases_under, leads_under}
-use Rattle.sized_trees.specs.Combinations.{combinations_at}
+use Rattle.sized_trees.specs.Combinations.{choices_at, combinations_at}
 
 -- ---- what a note says of its node
 
+-- a value as it is made: what its type binds is opened from the first number on that is no variable's of the body
+abbrev pub value_at : Inside → Made → Indices
+value_at r made = made_indices r.variables made None
+
+abbrev pub made_choices : Inside → List Fact → Made → List Choice
+made_choices r facts made = choices_at r facts (made_facts r.variables made None) (sizes_given r.types (value_at r made))
+
 abbrev pub node_cases : Inside → List Fact → List Indices → Made → List Case
-node_cases r facts operands made = cases_under r operands made (combinations_at r facts)
+node_cases r facts operands made = cases_under r operands (value_at r made) (made_choices r facts made)
+
+abbrev pub told_at : Inside → List Fact → List Indices → Made → Told
+told_at r facts operands made = record { value = value_at r made; cases = node_cases r facts operands made }
 
 abbrev pub node_leads : Inside → List Instance → List Fact → List Indices → ℕ → List Index → List Reading → List Lead
 node_leads r list facts operands f js qs = leads_under r list operands f js qs (combinations_at r facts)
 
 abbrev pub made_at : Inside → List Fact → ℕ → List Indices → Made → List NodeSizes
-made_at r facts k operands made = Z.Makes k (node_cases r facts operands made) ∷ []
+made_at r facts k operands made = Z.Makes k (value_at r made) (node_cases r facts operands made) ∷ []
 
 abbrev pub function_at : Inside → List Instance → List Fact → ℕ → List Indices → ℕ → List Index → List Reading → List NodeSizes
 function_at r list facts k operands f js qs = Z.Calls k (node_leads r list facts operands f js qs) ∷ []

@@ -6,20 +6,20 @@ use Rattle.sail_types.specs.Places.{only}
 use Rattle.sail_types.specs.declared.numbers.Index.{Index}
 use Rattle.value_indices.specs.declared.indices.Indices.{Indices}
 use Rattle.value_indices.specs.declared.indices.Reading.{Reading}
-use Rattle.value_indices.specs.declared.notes.Made.{Made}
-use Rattle.value_indices.specs.declared.notes.Made.TheVariants as Makes
 use Rattle.size_values.specs.declared.constants.Constant.{Constant}
 use Rattle.size_values.specs.declared.constants.Picked.{Picked}
 use Rattle.size_values.specs.declared.sized.Sized.{Sized}
 use Rattle.size_values.specs.Numbers.{index_under}
 use Rattle.size_values.specs.Sizes.{reading_sizes, value_sizes}
-use Rattle.size_values.specs.Sized.{reading_sized, value_sized}
+use Rattle.size_values.specs.Sized.{value_sized}
 use Rattle.size_splits.specs.Sizing.{flags_of, indices_where}
 use Rattle.monomorph.specs.declared.found.Instance.{Instance}
 use Rattle.monomorph.specs.Found.{instance_eq}
 use Rattle.monomorph.specs.Reading.{Inside, instance_of, under}
+use Rattle.sized_trees.specs.declared.combinations.Choice.{Choice}
 use Rattle.sized_trees.specs.declared.trees.Case.{Case}
 use Rattle.sized_trees.specs.declared.trees.Lead.{Lead}
+use Rattle.sized_trees.specs.Combinations.{picked_by}
 use Rattle.sized_trees.specs.Within.{all_numbers, all_within}
 
 abbrev pub one_or_none : {A : Type 0} → Option A → List A
@@ -40,11 +40,6 @@ reading_within r ps q = all_within (reading_sizes r.types (under r ps) q)
 abbrev pub readings_within : Inside → List Picked → List Reading → Bool
 readings_within r ps qs = list_all (reading_within r ps) qs
 
--- what is made by a type is one that isn't opened
-abbrev pub made_within : Inside → List Picked → Made → Bool
-made_within r ps (Makes.ByIndices i) = value_within r ps i
-made_within r ps (Makes.ByType q) = reading_within r ps q
-
 -- ---- the types
 
 abbrev pub sized_under : Inside → List Picked → Indices → Sized
@@ -53,25 +48,22 @@ sized_under r ps i = value_sized r.types r.own (under r ps) i
 abbrev pub all_sized_under : Inside → List Picked → List Indices → List Sized
 all_sized_under r ps is = map (sized_under r ps) is
 
-abbrev pub made_sized : Inside → List Picked → Made → Sized
-made_sized r ps (Makes.ByIndices i) = sized_under r ps i
-made_sized r ps (Makes.ByType q) = reading_sized r.types r.own (under r ps) q
-
 -- ---- a case
 
-abbrev pub case_within : Inside → List Indices → Made → List Picked → Bool
-case_within r operands made ps = values_within r ps operands && made_within r ps made
+abbrev pub case_within : Inside → List Indices → Indices → Choice → Bool
+case_within r operands i c = values_within r c.noted operands && value_within r (picked_by c) i
 
-abbrev pub case_of : Inside → List Indices → Made → List Picked → Case
-case_of r operands made ps = record { picked = ps; takes = all_sized_under r ps operands; gives = made_sized r ps made }
+abbrev pub case_of : Inside → List Indices → Indices → Choice → Case
+case_of r operands i c =
+    record { picked = picked_by c; takes = all_sized_under r c.noted operands; gives = sized_under r (picked_by c) i }
 
 -- none, where a size isn't such a constant
-abbrev pub case_under : Inside → List Indices → Made → List Picked → Option Case
-case_under r operands made ps = only (case_within r operands made ps) (case_of r operands made ps)
+abbrev pub case_under : Inside → List Indices → Indices → Choice → Option Case
+case_under r operands i c = only (case_within r operands i c) (case_of r operands i c)
 
-abbrev pub cases_under : Inside → List Indices → Made → List (List Picked) → List Case
-cases_under r operands made [] = []
-cases_under r operands made (ps ∷ more) = one_or_none (case_under r operands made ps) ++ cases_under r operands made more
+abbrev pub cases_under : Inside → List Indices → Indices → List Choice → List Case
+cases_under r operands i [] = []
+cases_under r operands i (c ∷ more) = one_or_none (case_under r operands i c) ++ cases_under r operands i more
 
 -- ---- where a call of a function leads: the place of the instance among all
 

@@ -51,7 +51,7 @@ abbrev pub LeadAsks : List ℕ → Lead → Type 0
 LeadAsks vs l = asked l.picked ≡ vs
 
 abbrev pub AsksAlike : NodeSizes → Type 0
-AsksAlike (Z.Makes k cases) = (vs : List ℕ) × Each (CaseAsks vs) cases
+AsksAlike (Z.Makes k i cases) = (vs : List ℕ) × Each (CaseAsks vs) cases
 AsksAlike (Z.Calls k leads) = (vs : List ℕ) × Each (LeadAsks vs) leads
 AsksAlike node = Unit {0}
 

@@ -1,17 +1,14 @@
 -- A model with constant sizes: its instances, each with the types of its parameters and of its result, and what is constant at the nodes of
 -- its body (Sail language manual, "Type variables"). The trees are those of the core, whose nodes keep their numbers.
-use Rattle.std.specs.Prelude.{◌≡◌, ◌⊎◌, ℤ, pos, Bool, ◌&&◌, List, [], map, slice_get, Option, Some, None, Result, Ok, Err}
-use Rattle.std.specs.List.{list_all}
-use Rattle.sail_types.specs.Places.{only}
+use Rattle.std.specs.Prelude.{◌≡◌, ◌⊎◌, ℕ, List, [], map, slice_get, Option, option_map, Result, Ok, Err}
+use Rattle.sail_types.specs.declared.numbers.Index.{Index}
 use Rattle.sail_types.specs.declared.table.Types.{Types}
 use Rattle.sail_types.specs.declared.types.Typ.{Typ}
 use Rattle.sail_core.specs.declared.model.CoreModel.{CoreModel}
 use Rattle.sail_core.specs.declared.model.Function.{Function}
-use Rattle.size_values.specs.declared.constants.Constant.{Constant}
-use Rattle.size_values.specs.declared.constants.Constant.TheVariants as C
-use Rattle.size_values.specs.declared.sized.Sized.{Sized}
-use Rattle.size_values.specs.Sizes.{typ_sizes}
-use Rattle.size_values.specs.Sized.{typ_sized}
+use Rattle.value_indices.specs.declared.notes.Made.TheVariants as Makes
+use Rattle.value_indices.specs.Steps.{Went}
+use Rattle.function_notes.specs.Functions.{own_indices, reading_under}
 use Rattle.size_splits.specs.Bodies.{Body}
 use Rattle.size_notes.specs.Bodies.{bodies_of}
 use Rattle.monomorph.specs.declared.error.MonoError.{MonoError}
@@ -19,48 +16,38 @@ use Rattle.monomorph.specs.declared.error.MonoError.TheVariants as E
 use Rattle.monomorph.specs.declared.found.Instance.{Instance}
 use Rattle.monomorph.specs.Instances.{instances_of, model_of, or_none}
 use Rattle.monomorph.specs.Lasts.{Model}
+use Rattle.monomorph.specs.Reading.{Inside}
 use Rattle.sized_trees.specs.declared.trees.NodeSizes.{NodeSizes}
 use Rattle.sized_trees.specs.declared.trees.Signature.{Signature}
 use Rattle.sized_trees.specs.declared.trees.SizedInstance.{SizedInstance}
 use Rattle.sized_trees.specs.declared.trees.SizedCore.{SizedCore}
-use Rattle.sized_trees.specs.Bodies.{sized_bodies}
-use Rattle.sized_trees.specs.Within.{all_within}
+use Rattle.sized_trees.specs.declared.trees.Told.{Told}
+use Rattle.sized_trees.specs.Bodies.{sized_bodies, told_at}
 
--- ---- the types of parameters and result, for the numbers and types of an instance
+-- ---- the types of parameters and result, for the numbers and types of an instance: what such a type binds is counted from behind the function's own
+-- variables on
 
--- no size hangs on a variable that isn't a size variable
-abbrev pub constant_of : Option ℤ → Constant
-constant_of None = C.Number (pos 0)
-constant_of (Some z) = C.Number z
+abbrev pub own_went : Function → Went (List Index)
+own_went f = own_indices f.variables [] 0
 
-abbrev pub constants_of : List (Option ℤ) → List Constant
-constants_of zs = map constant_of zs
+-- in no body
+abbrev pub outside : Types → Instance → ℕ → Inside
+outside types x n = record { types = types; sizing = []; numbers = x.numbers; own = x.types; variables = n; names = []; split = [] }
 
-abbrev pub typ_within : Types → List Constant → Typ → Bool
-typ_within types cs t = all_within (typ_sizes types t cs [])
+abbrev pub type_told : Inside → List Index → Typ → Told
+type_told r is t = told_at r [] [] (Makes.ByType (reading_under t is))
 
-abbrev pub types_within : Types → List Constant → List Typ → Bool
-types_within types cs ts = list_all (typ_within types cs) ts
+abbrev pub types_told : Inside → List Index → List Typ → List Told
+types_told r is ts = map (type_told r is) ts
 
-abbrev pub sized_for : Types → List Sized → List Constant → Typ → Sized
-sized_for types own cs t = typ_sized types own t cs
+abbrev pub signature_of : Inside → List Index → Function → Signature
+signature_of r is f = record { parameters = types_told r is f.parameters; result = type_told r is f.result }
 
-abbrev pub all_sized_for : Types → List Sized → List Constant → List Typ → List Sized
-all_sized_for types own cs ts = map (sized_for types own cs) ts
-
-abbrev pub signature_within : Types → List Constant → Function → Bool
-signature_within types cs f = types_within types cs f.parameters && typ_within types cs f.result
-
-abbrev pub signature_of : Types → List Sized → List Constant → Function → Signature
-signature_of types own cs f = record { parameters = all_sized_for types own cs f.parameters; result = sized_for types own cs f.result }
-
--- none, where a size isn't a constant within its limit
-abbrev pub signature_under : Types → List Sized → List Constant → Function → Option Signature
-signature_under types own cs f = only (signature_within types cs f) (signature_of types own cs f)
+abbrev pub signature_under : Types → Instance → Function → Signature
+signature_under types x f = signature_of (outside types x (own_went f).next) (own_went f).value f
 
 abbrev pub signature_for : Types → Instance → Option Function → Option Signature
-signature_for types x None = None
-signature_for types x (Some f) = signature_under types x.types (constants_of x.numbers) f
+signature_for types x o = option_map (signature_under types x) o
 
 -- ---- instances, mappings, and what is worked out once
 

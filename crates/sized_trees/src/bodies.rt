@@ -7,17 +7,40 @@ ghost use Rattle.monomorph.specs.Reading.{inside_of};
 ghost use Rattle.sized_trees.specs.Bodies as spec;
 
 use crate::cases::cases_under;
-use crate::combinations::combinations_at;
+use crate::combinations::{choices_at, combinations_at};
 use crate::leads::{FunctionCall, leads_under};
-use crate::trees::NodeSizes;
+use crate::trees::{NodeSizes, Told};
 use monomorph::{Inside, Instance, Model};
 use sail_base::Items;
 use sail_core::{Callee, Giver};
 use sail_types::Index;
-use size_splits::{BodySteps, follow_telling, splits};
+use size_splits::{BodySteps, MadeValue, follow_telling, made_value, sizes_given, splits};
 use size_values::Sized;
 use std::alloc::{AllocError, Global};
 use value_indices::{Fact, Indices, Made, Reading, Step, copy_indices};
+
+/// What a value is made as, with its cases. It fails where memory is wanting.
+pub fn told_at(
+    alloc: Global,
+    inside: &Inside<'_>,
+    facts: &[Fact],
+    operands: &[Indices],
+    made: &Made,
+) -> Result<Told, AllocError>
+    ensures { IfOk result (λ told. told ≡ spec.told_at (inside_of inside.now) facts.now operands.now made.now) }
+{
+    let MadeValue {
+        indices,
+        facts: opening,
+    } = made_value(alloc, inside.variables, made, None)?;
+    let own = sizes_given(alloc, inside.types, &indices)?;
+    let choices = choices_at(alloc, inside, facts, opening.as_slice(), own.as_slice())?;
+    let cases = cases_under(alloc, inside, operands, &indices, choices.as_slice())?;
+    Ok(Told {
+        value: indices,
+        cases,
+    })
+}
 
 /// Puts the cases of a node that makes a value. It fails where memory is wanting.
 fn push_made(
@@ -31,9 +54,8 @@ fn push_made(
 ) -> Result<(), AllocError>
     ensures { OnOk result (nodes.new ≡ nodes.old ++ spec.made_at (inside_of inside.now) facts.now number operands.now made.now) }
 {
-    let combinations = combinations_at(alloc, inside, facts)?;
-    let cases = cases_under(alloc, inside, operands, made, combinations.as_slice())?;
-    nodes.push(NodeSizes::Makes(number, cases))
+    let Told { value, cases } = told_at(alloc, inside, facts, operands, made)?;
+    nodes.push(NodeSizes::Makes(number, value, cases))
 }
 
 /// Puts where a call of a function leads. It fails where memory is wanting.

@@ -3,15 +3,14 @@ ghost use Rattle.std.specs.Prelude.{◌≡◌, ◌++◌, IfOk, OnOk};
 ghost use Rattle.monomorph.specs.Reading.{inside_of};
 ghost use Rattle.sized_trees.specs.Cases as spec;
 
+use crate::combinations::{Choice, picked_by};
 use crate::trees::Case;
 use crate::within::all_within;
 use monomorph::Inside;
 use sail_base::Items;
-use size_values::{
-    Picked, Sized, Variables, reading_sized, reading_sizes, value_sized, value_sizes,
-};
+use size_values::{Picked, Sized, Variables, reading_sizes, value_sized, value_sizes};
 use std::alloc::{AllocError, Global};
-use value_indices::{Indices, Made, Reading};
+use value_indices::{Indices, Reading};
 
 /// Whether the sizes of a value are constants within their limits, where these numbers are taken. It fails where memory is wanting.
 fn value_within(
@@ -75,21 +74,6 @@ pub fn readings_within(
     Ok(true)
 }
 
-/// The same of what a node makes.
-fn made_within(
-    alloc: Global,
-    inside: &Inside<'_>,
-    picked: &[Picked],
-    made: &Made,
-) -> Result<bool, AllocError>
-    ensures { IfOk result (λ within. within ≡ spec.made_within (inside_of inside.now) picked.now made.now) }
-{
-    match made {
-        Made::ByIndices(indices) => value_within(alloc, inside, picked, indices),
-        Made::ByType(reading) => reading_within(alloc, inside, picked, reading),
-    }
-}
-
 /// The types of values, where these numbers are taken. They fail where memory is wanting.
 pub fn all_sized(
     alloc: Global,
@@ -108,24 +92,17 @@ pub fn all_sized(
     Ok(made)
 }
 
-/// The type of what a node makes, where these numbers are taken. It fails where memory is wanting.
-fn made_sized(
+/// The type of a value, where these numbers are taken. It fails where memory is wanting.
+fn sized_under(
     alloc: Global,
     inside: &Inside<'_>,
     picked: &[Picked],
-    made: &Made,
+    value: &Indices,
 ) -> Result<Sized, AllocError>
-    ensures { IfOk result (λ sized. sized ≡ spec.made_sized (inside_of inside.now) picked.now made.now) }
+    ensures { IfOk result (λ sized. sized ≡ spec.sized_under (inside_of inside.now) picked.now value.now) }
 {
     let variables = Variables::Known(inside.numbers, picked);
-    match made {
-        Made::ByIndices(indices) => {
-            value_sized(alloc, inside.types, inside.own, indices, &variables)
-        }
-        Made::ByType(reading) => {
-            reading_sized(alloc, inside.types, inside.own, reading, &variables)
-        }
-    }
+    value_sized(alloc, inside.types, inside.own, value, &variables)
 }
 
 /// Whether all sizes of a case are constants within their limits. It fails where memory is wanting.
@@ -133,13 +110,14 @@ fn case_within(
     alloc: Global,
     inside: &Inside<'_>,
     operands: &[Indices],
-    made: &Made,
-    picked: &[Picked],
+    value: &Indices,
+    choice: &Choice,
 ) -> Result<bool, AllocError>
-    ensures { IfOk result (λ within. within ≡ spec.case_within (inside_of inside.now) operands.now made.now picked.now) }
+    ensures { IfOk result (λ within. within ≡ spec.case_within (inside_of inside.now) operands.now value.now choice.now) }
 {
-    if values_within(alloc, inside, picked, operands)? {
-        made_within(alloc, inside, picked, made)
+    if values_within(alloc, inside, choice.noted.as_slice(), operands)? {
+        let picked = picked_by(alloc, choice)?;
+        value_within(alloc, inside, picked.as_slice(), value)
     } else {
         Ok(false)
     }
@@ -150,14 +128,14 @@ fn case_of(
     alloc: Global,
     inside: &Inside<'_>,
     operands: &[Indices],
-    made: &Made,
-    picked: &[Picked],
+    value: &Indices,
+    choice: &Choice,
 ) -> Result<Case, AllocError>
-    ensures { IfOk result (λ case. case ≡ spec.case_of (inside_of inside.now) operands.now made.now picked.now) }
+    ensures { IfOk result (λ case. case ≡ spec.case_of (inside_of inside.now) operands.now value.now choice.now) }
 {
-    let takes = all_sized(alloc, inside, picked, operands)?;
-    let gives = made_sized(alloc, inside, picked, made)?;
-    let picked = Items::from_slice(alloc, picked)?;
+    let takes = all_sized(alloc, inside, choice.noted.as_slice(), operands)?;
+    let picked = picked_by(alloc, choice)?;
+    let gives = sized_under(alloc, inside, picked.as_slice(), value)?;
     Ok(Case {
         picked,
         takes,
@@ -166,17 +144,17 @@ fn case_of(
 }
 
 /// Its case, if all sizes are constants within their limits. It fails where memory is wanting.
-fn case_under(
+pub fn case_under(
     alloc: Global,
     inside: &Inside<'_>,
     operands: &[Indices],
-    made: &Made,
-    picked: &[Picked],
+    value: &Indices,
+    choice: &Choice,
 ) -> Result<Option<Case>, AllocError>
-    ensures { IfOk result (λ case. case ≡ spec.case_under (inside_of inside.now) operands.now made.now picked.now) }
+    ensures { IfOk result (λ case. case ≡ spec.case_under (inside_of inside.now) operands.now value.now choice.now) }
 {
-    if case_within(alloc, inside, operands, made, picked)? {
-        Ok(Some(case_of(alloc, inside, operands, made, picked)?))
+    if case_within(alloc, inside, operands, value, choice)? {
+        Ok(Some(case_of(alloc, inside, operands, value, choice)?))
     } else {
         Ok(None)
     }
@@ -192,19 +170,19 @@ fn push_case(cases: &mut Items<Case>, case: Option<Case>) -> Result<(), AllocErr
     }
 }
 
-/// The cases of a node under these combinations. They fail where memory is wanting.
+/// The cases of a node where these numbers are taken. They fail where memory is wanting.
 pub fn cases_under(
     alloc: Global,
     inside: &Inside<'_>,
     operands: &[Indices],
-    made: &Made,
-    combinations: &[Items<Picked>],
+    value: &Indices,
+    choices: &[Choice],
 ) -> Result<Items<Case>, AllocError>
-    ensures { IfOk result (λ cases. cases ≡ spec.cases_under (inside_of inside.now) operands.now made.now combinations.now) }
+    ensures { IfOk result (λ cases. cases ≡ spec.cases_under (inside_of inside.now) operands.now value.now choices.now) }
 {
     let mut cases = Items::new(alloc);
-    for picked in combinations {
-        let case = case_under(alloc, inside, operands, made, picked.as_slice())?;
+    for choice in choices {
+        let case = case_under(alloc, inside, operands, value, choice)?;
         push_case(&mut cases, case)?;
     }
     Ok(cases)

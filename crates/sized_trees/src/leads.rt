@@ -126,7 +126,7 @@ fn lead_found(
 }
 
 /// Where it leads, if all that is given is constant. It fails where memory is wanting.
-fn lead_under(
+pub fn lead_under(
     alloc: Global,
     inside: &Inside<'_>,
     list: &[Instance],

@@ -14,6 +14,9 @@ mod signatures;
 mod trees;
 mod within;
 
+pub use cases::case_under;
+pub use combinations::{Choice, choices_at, combinations_at, is_given, picked_by};
 pub use laws::{calls_lead_to_instances, nodes_ask_alike};
+pub use leads::{FunctionCall, lead_under};
 pub use models::sized_core;
-pub use trees::{Case, Lead, NodeSizes, Signature, SizedCore, SizedInstance};
+pub use trees::{Case, Lead, NodeSizes, Signature, SizedCore, SizedInstance, Told};

@@ -5,7 +5,7 @@ ghost use Rattle.monomorph.specs.Lasts.{model_in};
 ghost use Rattle.sized_trees.specs.Trees as spec;
 
 use crate::bodies::sized_bodies;
-use crate::signatures::signature_for;
+use crate::signatures::signature_under;
 use crate::trees::{NodeSizes, Signature, SizedCore, SizedInstance};
 use monomorph::{Instance, Model, MonoError, copy_instance, listed};
 use sail_base::Items;
@@ -24,7 +24,10 @@ fn instance_signature(
 {
     match model.core.functions.get(instance.function as usize) {
         None => Ok(None),
-        Some(function) => signature_for(alloc, &model.core.types, instance, function),
+        Some(function) => {
+            let signature = signature_under(alloc, &model.core.types, instance, function)?;
+            Ok(Some(signature))
+        }
     }
 }
 

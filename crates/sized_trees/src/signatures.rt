@@ -1,144 +1,82 @@
 //! The types of parameters and results.
 ghost use Rattle.std.specs.Prelude.{◌≡◌, IfOk};
+ghost use Rattle.monomorph.specs.Reading.{inside_of};
 ghost use Rattle.sized_trees.specs.Trees as spec;
 
-use crate::trees::Signature;
-use crate::within::all_within;
-use monomorph::Instance;
+use crate::bodies::told_at;
+use crate::trees::{Signature, Told};
+use function_notes::{own_indices, reading_of};
+use monomorph::{Inside, Instance};
 use sail_base::Items;
 use sail_core::Function;
-use sail_types::{Typ, Types};
-use size_values::{Constant, Sized, typ_sized, typ_sizes};
+use sail_types::{Index, Typ, Types};
 use std::alloc::{AllocError, Global};
+use value_indices::{Made, Walking};
 
-/// A number of an instance; of what is none 0 is taken, since no size hangs on it.
-fn constant_of(number: &Option<i128>) -> Constant
-    ensures { result ≡ spec.constant_of number.now }
-{
-    match number {
-        None => Constant::Number(0),
-        Some(number) => Constant::Number(*number),
-    }
-}
-
-/// The numbers of an instance. They fail where memory is wanting.
-fn constants_of(alloc: Global, numbers: &[Option<i128>]) -> Result<Items<Constant>, AllocError>
-    ensures { IfOk result (λ made. made ≡ spec.constants_of numbers.now) }
-{
-    let mut made = Items::new(alloc);
-    for number in numbers {
-        made.push(constant_of(number))?;
-    }
-    Ok(made)
-}
-
-/// Whether the sizes of a type are constants within their limits. It fails where memory is wanting.
-fn typ_within(
+/// A type, as a value of it tells it, where its variables stand for these. It fails where memory is wanting, and where variables are too
+/// many.
+fn type_told(
     alloc: Global,
-    types: &Types,
-    constants: &[Constant],
+    inside: &Inside<'_>,
+    numbers: &[Index],
     typ: &Typ,
-) -> Result<bool, AllocError>
-    ensures { IfOk result (λ within. within ≡ spec.typ_within types.now constants.now typ.now) }
+) -> Result<Told, AllocError>
+    ensures { IfOk result (λ told. told ≡ spec.type_told (inside_of inside.now) numbers.now typ.now) }
 {
-    let sizes = typ_sizes(alloc, types, typ, constants, &[])?;
-    Ok(all_within(sizes.as_slice()))
+    let reading = reading_of(alloc, typ, numbers)?;
+    told_at(alloc, inside, &[], &[], &Made::ByType(reading))
 }
 
 /// The same of several types.
-fn types_within(
+fn types_told(
     alloc: Global,
-    types: &Types,
-    constants: &[Constant],
+    inside: &Inside<'_>,
+    numbers: &[Index],
     parts: &[Typ],
-) -> Result<bool, AllocError>
-    ensures { IfOk result (λ within. within ≡ spec.types_within types.now constants.now parts.now) }
-{
-    for typ in parts {
-        if !typ_within(alloc, types, constants, typ)? {
-            return Ok(false);
-        }
-    }
-    Ok(true)
-}
-
-/// Types, where their variables stand for these. They fail where memory is wanting.
-fn all_sized(
-    alloc: Global,
-    types: &Types,
-    own: &[Sized],
-    constants: &[Constant],
-    parts: &[Typ],
-) -> Result<Items<Sized>, AllocError>
-    ensures { IfOk result (λ made. made ≡ spec.all_sized_for types.now own.now constants.now parts.now) }
+) -> Result<Items<Told>, AllocError>
+    ensures { IfOk result (λ made. made ≡ spec.types_told (inside_of inside.now) numbers.now parts.now) }
 {
     let mut made = Items::new(alloc);
     for typ in parts {
-        made.push(typ_sized(alloc, types, own, typ, constants)?)?;
+        made.push(type_told(alloc, inside, numbers, typ)?)?;
     }
     Ok(made)
 }
 
-/// Whether the sizes of parameters and result are constants within their limits. It fails where memory is wanting.
-fn signature_within(
-    alloc: Global,
-    types: &Types,
-    constants: &[Constant],
-    function: &Function,
-) -> Result<bool, AllocError>
-    ensures { IfOk result (λ within. within ≡ spec.signature_within types.now constants.now function.now) }
-{
-    if types_within(alloc, types, constants, function.parameters.as_slice())? {
-        typ_within(alloc, types, constants, &function.result)
-    } else {
-        Ok(false)
-    }
-}
-
-/// The types of parameters and result. They fail where memory is wanting.
+/// The types of parameters and of a result. They fail where memory is wanting, and where variables are too many.
 fn signature_of(
     alloc: Global,
-    types: &Types,
-    own: &[Sized],
-    constants: &[Constant],
+    inside: &Inside<'_>,
+    numbers: &[Index],
     function: &Function,
 ) -> Result<Signature, AllocError>
-    ensures { IfOk result (λ signature. signature ≡ spec.signature_of types.now own.now constants.now function.now) }
+    ensures { IfOk result (λ signature. signature ≡ spec.signature_of (inside_of inside.now) numbers.now function.now) }
 {
-    let parameters = all_sized(alloc, types, own, constants, function.parameters.as_slice())?;
-    let result = typ_sized(alloc, types, own, &function.result, constants)?;
+    let parameters = types_told(alloc, inside, numbers, function.parameters.as_slice())?;
+    let result = type_told(alloc, inside, numbers, &function.result)?;
     Ok(Signature { parameters, result })
 }
 
-/// The types, if all their sizes are constants within their limits. They fail where memory is wanting.
-fn signature_under(
-    alloc: Global,
-    types: &Types,
-    own: &[Sized],
-    constants: &[Constant],
-    function: &Function,
-) -> Result<Option<Signature>, AllocError>
-    ensures { IfOk result (λ signature. signature ≡ spec.signature_under types.now own.now constants.now function.now) }
-{
-    if signature_within(alloc, types, constants, function)? {
-        Ok(Some(signature_of(alloc, types, own, constants, function)?))
-    } else {
-        Ok(None)
-    }
-}
-
-/// The types of an instance's parameters and of its result, if all their sizes are constants within their limits. They fail where memory is
-/// wanting.
-pub fn signature_for(
+/// The types of an instance's parameters and of its result. They fail where memory is wanting, and where variables are too many.
+#[tactic(auto, unfolding(value_indices::specs::Walking::got, value_indices::specs::Walking::run))]
+pub fn signature_under(
     alloc: Global,
     types: &Types,
     instance: &Instance,
     function: &Function,
-) -> Result<Option<Signature>, AllocError>
-    ensures { IfOk result (λ signature. signature ≡ spec.signature_under types.now instance.now.types (spec.constants_of instance.now.numbers)
-        function.now) }
+) -> Result<Signature, AllocError>
+    ensures { IfOk result (λ signature. signature ≡ spec.signature_under types.now instance.now function.now) }
 {
-    let constants = constants_of(alloc, instance.numbers.as_slice())?;
-    let own = instance.types.as_slice();
-    signature_under(alloc, types, own, constants.as_slice(), function)
+    let mut walking = Walking::new(alloc, 0);
+    let numbers = own_indices(alloc, &mut walking, function.variables.as_slice())?;
+    let inside = Inside {
+        types,
+        sizing: &[],
+        numbers: instance.numbers.as_slice(),
+        own: instance.types.as_slice(),
+        variables: walking.next(),
+        names: &[],
+        split: &[],
+    };
+    signature_of(alloc, &inside, numbers.as_slice(), function)
 }

@@ -8,7 +8,7 @@ use value_indices::Indices;
 /// What a node takes and gives where these numbers are the present ones. Every width is from 0 to 128, every length from 0 to 4,096.
 #[derive(Drop)]
 pub struct Case {
-    /// The numbers, of variables that are split and noted there.
+    /// The numbers, of variables that are split and noted there, or that the value itself gives.
     pub picked: Items<Picked>,
     /// The types of its operands.
     pub takes: Items<Sized>,
@@ -29,8 +29,9 @@ pub struct Lead {
 
 /// What is constant at a node.
 pub enum NodeSizes {
-    /// The node of this number makes a value: its cases, one for each combination that counts there. All ask for the same variables.
-    Makes(u32, Items<Case>),
+    /// The node of this number makes a value: the indices by which the value itself gives numbers, and its cases, one for each combination
+    /// that counts there. All ask for the same variables; what the value's type binds is counted from the body's last variable on.
+    Makes(u32, Indices, Items<Case>),
     /// The node of this number calls a function: where each combination that counts there leads.
     Calls(u32, Items<Lead>),
     /// A node's value, or what an arm's names hold, gives numbers to the variables that stand alone in these indices.
@@ -40,20 +41,29 @@ pub enum NodeSizes {
 impl Drop for NodeSizes {
     fn drop(self) {
         match self {
-            NodeSizes::Makes(_, _) => {}
+            NodeSizes::Makes(_, _, _) => {}
             NodeSizes::Calls(_, _) => {}
             NodeSizes::Gives(_, _) => {}
         }
     }
 }
 
+/// A type at which values come in or go out: each of them tells the size of what the type binds.
+#[derive(Drop)]
+pub struct Told {
+    /// The indices by which a value itself gives numbers.
+    pub value: Indices,
+    /// Its cases, none of which takes operands: one for each combination of numbers. None, where a size isn't a constant.
+    pub cases: Items<Case>,
+}
+
 /// The types of a function's parameters and of its result.
 #[derive(Drop)]
 pub struct Signature {
     /// The types of its parameters.
-    pub parameters: Items<Sized>,
+    pub parameters: Items<Told>,
     /// The type of its result.
-    pub result: Sized,
+    pub result: Told,
 }
 
 /// A function for the numbers and types of an instance. Its trees are those of the core, whose nodes go by their numbers.
@@ -61,7 +71,7 @@ pub struct Signature {
 pub struct SizedInstance {
     /// The instance.
     pub instance: Instance,
-    /// The types of its parameters and of its result, where all their sizes are constants.
+    /// The types of its parameters and of its result; none where the function isn't there.
     pub signature: Option<Signature>,
     /// What is constant at the nodes of its measure, where it has one, and of its body.
     pub bodies: Items<Items<NodeSizes>>,

@@ -93,7 +93,7 @@ module _ (set : Setting) (k : Checks) (rank : ℕ → ℕ) (lets : List Value) (
     deeper_sound : SoundBelow set (deeper (running set k lets) below)
     deeper_sound = record {
       call = λ active place x f vs h enters awaited agrees before s.
-          let both = model.functions x f enters.is_covered enters.is_it in
+          let both = model.functions x f enters.is_covered enters.own_fits enters.is_it in
           subst (λ o. CallEnds set false before (IsResult set x f h) (entered (running set k lets) below active place x.function (Some (awaited_at x awaited))
           vs o before))
           (sym enters.is_it)

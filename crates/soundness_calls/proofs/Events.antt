@@ -62,7 +62,7 @@ module _ (set : Setting) (m : CoreModel) (k : Checks) (rank : ℕ → ℕ) (is :
   run_right : (i : ℕ) (vs : List Value) → EventEnters set i vs
       → EndsRight set (ran_of m.types (event_of s (calls s depth) i None vs (slice_get set.around.functions i) (begun event_ticks state)))
   run_right i vs e =
-      let both = model.functions (entered_by i) e.it e.enters.is_covered e.enters.is_it in
+      let both = model.functions (entered_by i) e.it e.enters.is_covered e.enters.own_fits e.enters.is_it in
       subst (λ o. EndsRight set (ran_of m.types (event_of s (calls s depth) i None vs o (begun event_ticks state)))) (sym e.enters.is_it)
       (ran_right set m.types (begun event_ticks state) _
       (event_ends set k lets (entered_by i) e.it (model.lets_are (entered_by i)) (calls s depth) (calls_sound set k rank lets model depth).1

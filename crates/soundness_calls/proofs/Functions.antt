@@ -195,7 +195,7 @@ unfolding opened
 last_beside {q} {n} {p} {facts} k r x h =
     walks_then (last_of k r) (opens_as r x false M.Unnamed h) (λ m g fs i l is.
     binds (λ t. numbers_noted k i) (λ y. (read_as q).note (By.Node k) x.val then λ t. gives y)
-    (makes k (i ∷ []) (Makes.ByType r) (x ∷ []) x.val (is.typ, tt) (λ j a. h.belongs j (agree_on l a)))
+    (makes k (i ∷ []) (Makes.ByIndices i) (x ∷ []) x.val (is.typ, tt) (λ j a. has_there is.has j a))
     (λ m2 g2 fs2 t y l2 e.
     binds_after (gives_numbers (By.Node k) i x.val (numbers_given i) (gives_all i) (λ j a. has_there (is_on l2 is).has j a)) y e.0))
   where

@@ -10,8 +10,9 @@ use Rattle.sail_core.specs.Program.{Calls, Measures, calls, world_of}
 use Rattle.sail_core.specs.Run.{Now}
 use Rattle.checked_meaning.specs.Checked.{Checks}
 use Rattle.checked_meaning.specs.Items.{Item}
+use Rattle.checked_meaning.specs.Fits.{AllFit}
 use Rattle.value_laws.specs.Belonging.{Integers}
-use Rattle.soundness_steps.specs.Works.{Setting, Work}
+use Rattle.soundness_steps.specs.Works.{Setting, Work, IsFitted}
 use Rattle.soundness_steps.specs.States.{StateBelongs}
 use Rattle.soundness_steps.specs.Calls.{CallEnds, Enters, IsOf, IsResult, SoundCalls, awaited_at}
 use Rattle.soundness_forms.specs.Worlds.{LetsAre}
@@ -32,8 +33,8 @@ pub record SoundBelow (set : Setting) (below : Calls Item) : Type 0 where
 -- what is asked of the functions at work and of the directions that are covered, and of the values of top-level lets
 pub record CoveredModel (set : Setting) (k : Checks) (rank : ℕ → ℕ) (lets : List Value) : Type 0 where
   pub lets_are : (x : Work) → LetsAre set x set.around.lets lets
-  pub functions : (x : Work) (f : Function) → set.covered.function x ≡ true → slice_get set.around.functions x.function ≡ Some f
-      → Covered set k x f × PartsHold set k x f
+  pub functions : (x : Work) (f : Function) → set.covered.function x ≡ true → (IsFitted set → AllFit set.around.types x.types x.own)
+      → slice_get set.around.functions x.function ≡ Some f → Covered set k x f × PartsHold set k x f
   pub directions : (d : ℕ) (m : Direction) → set.covered.direction d ≡ true → slice_get set.around.directions d ≡ Some m → CoveredDirection set rank k d m
 
 -- so calls end well however deep

@@ -2,10 +2,11 @@
 use Rattle.std.proofs.Common.{◌≡◌, ℕ, Bool, true, false, ◌&&◌, List, [], ◌∷◌, map, length, slice_get, Option, Some, None, refl, sym, ap, ◌∙◌, subst}
 use Rattle.std.proofs.lemmas.Bool.Decides.{Decides-int_eq}
 use Rattle.sail_base.specs.declared.place.Place.{Place}
-use Rattle.sail_types.specs.Belongs.{reading, belongs}
+use Rattle.sail_types.specs.Belongs.{Reading as Closed, reading, belongs}
 use Rattle.sail_types.specs.Numbers.{Positive}
 use Rattle.sail_types.specs.Places.{Given, an_int, a_bool}
 use Rattle.sail_types.specs.declared.numbers.Index.{Index}
+use Rattle.sail_types.specs.declared.table.Types.{Types}
 use Rattle.sail_types.specs.declared.values.Value.{Value}
 use Rattle.sail_core.specs.Making.{World}
 use Rattle.sail_core.specs.Numbers.{Awaited, Instance, all_agree, same_given}
@@ -24,9 +25,11 @@ use Rattle.call_arguments.specs.Callees.{numbers_from, types_from}
 use Rattle.call_notes.specs.Calls.{function_called, noted_call}
 use Rattle.call_fits.specs.Calls.{givens_at}
 use Rattle.call_notes.specs.Noted.{made_opened}
+use Rattle.size_values.specs.declared.sized.Sized.{Sized}
 use Rattle.checked_meaning.specs.Items.{Item, typs, vals}
 use Rattle.checked_meaning.specs.Checked.{checked}
-use Rattle.value_laws.specs.Belonging.{Integers, standing, closed, closeds, over}
+use Rattle.checked_meaning.specs.Fits.{AllFit}
+use Rattle.value_laws.specs.Belonging.{Integers, standing, closed, closeds, over, types_or_own}
 use Rattle.value_laws.specs.Known.{Point, Agree}
 use Rattle.value_laws.proofs.Steps.{same}
 use Rattle.value_laws.proofs.Values.{closed_is}
@@ -58,6 +61,13 @@ module _ (past : Positive) (g : Integers) where
       ∙ ap (λ b. b && all_agree gs (map (given_there past g) is)) (same_itself (given_there past g i)) ∙ agree_all gs is h.1
   agree_all [] (i ∷ is) h = absurd h
   agree_all (y ∷ gs) [] h = absurd h
+
+-- types that stand behind those of the sizes change nothing
+pub with_own : (types : Types) (rs own : List Closed) (ss : List Sized) → AllFit types rs ss → AllFit types (types_or_own rs own) ss
+with_own types rs own [] h = tt
+with_own types [] own (s ∷ ss) h = absurd h
+with_own types (r ∷ rs) [] (s ∷ ss) h = h
+with_own types (r ∷ rs) (c ∷ own) (s ∷ ss) h = (h.0, with_own types rs own ss h.1)
 
 -- ---- a call ends as a piece does
 
@@ -117,6 +127,10 @@ module _ (q : Scene) (w : World Item) (place : Place) (k i : ℕ) (fn : Function
         } in
         let enters : Enters q.set x fn (vals xs) fits.integers = record {
           is_covered = lead.is_covered fits.types;
+          own_fits = λ fitted. subst (λ ts. AllFit q.set.around.types ts (map (type_sized q.set.around.types q.work.own f.integers) qs))
+              (fits.same_types f.integers (same f))
+              (with_own q.set.around.types (map (closed q.set.around.types (standing q.set.past f.integers) q.work.types) qs) q.work.types
+              (map (type_sized q.set.around.types q.work.own f.integers) qs) (lead.own_fit fitted));
           is_it = is_it;
           belong = fits.belong;
           constraint = fits.constraint;

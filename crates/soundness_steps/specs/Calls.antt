@@ -14,9 +14,10 @@ use Rattle.sail_core.specs.Numbers.{Instance, all_agree, givens_of}
 use Rattle.sail_core.specs.Run as R
 use Rattle.sail_core.specs.Run.{Now, Ended}
 use Rattle.checked_meaning.specs.Items.{Item, fixed_typ}
+use Rattle.checked_meaning.specs.Fits.{AllFit}
 use Rattle.value_laws.specs.Belonging.{Integers, standing, over}
 use Rattle.call_fits.specs.Calls.{AllBelong, givens_at, own_variables}
-use Rattle.soundness_steps.specs.Works.{Work, Setting}
+use Rattle.soundness_steps.specs.Works.{Work, Setting, IsFitted}
 use Rattle.soundness_steps.specs.States.{nothing_stands, StateBelongs, IsThrown}
 
 -- ---- how a call ends: the caller's names, and the numbers that it noted, are as before
@@ -44,6 +45,8 @@ inside set f h = assigned (standing set.past h) (own_variables 0 f.variables)
 
 pub record Enters (set : Setting) (x : Work) (f : Function) (vs : List Value) (h : Integers) : Type 0 where
   pub is_covered : set.covered.function x ≡ true
+  -- where it is taken so, values of its Type variables have the sizes of its instance
+  pub own_fits : IsFitted set → AllFit set.around.types x.types x.own
   pub is_it : slice_get set.around.functions x.function ≡ Some f
   pub belong : AllBelong set.around.types (inside set f h) x.types f.parameters vs
   pub constraint : true_in (inside set f h) f.constraint ≡ true

@@ -23,10 +23,11 @@ use Rattle.value_indices.specs.declared.notes.Made.{Made}
 use Rattle.value_indices.specs.declared.notes.Made.TheVariants as Makes
 use Rattle.value_indices.specs.Steps.{Note, goal_note, size_note, made_note, call_note, way_note, given_note, name_note, conditions}
 use Rattle.checked_meaning.specs.Checked.{Noted, Cases}
-use Rattle.value_laws.specs.Belonging.{Integers, has, is_of, standing}
+use Rattle.checked_meaning.specs.Fits.{AllFit}
+use Rattle.value_laws.specs.Belonging.{Integers, has, is_of, standing, closed}
 use Rattle.value_laws.specs.Known.{AllTrue}
 use Rattle.size_laws.specs.Told.{reading_told}
-use Rattle.soundness_steps.specs.Works.{IsExact, Work, Setting}
+use Rattle.soundness_steps.specs.Works.{IsExact, Work, Setting, IsFitted}
 use Rattle.soundness_steps.specs.Noted.{IsSo, OpensAs, variables_given, with_given, known, sized, type_sized, is_made, MadeAs}
 
 -- ---- sizes: a width is from 0 to 128, a length from 0 to 4,096, and no number past the largest integer is on the way
@@ -75,7 +76,7 @@ module _ (set : Setting) (work : Work) where
     pub is_right : IsExact set → MadeAs set.around.types set.past work f made v typ
 
   -- there is an instance, it is covered whatever its Type variables stand for, and its numbers and sized types are those of the call; one is awaited in
-  -- its place, of whose numbers none is another
+  -- its place, of whose numbers none is another; and where it is taken so, values of what the call gives to Type variables have those sizes
   pub record Leads (f : Integers) (function : ℕ) (js : List Index) (qs : List Reading) (found : Option Instance) : Type 0 where
     pub instance : Instance
     pub awaited : List (Option Given)
@@ -83,7 +84,10 @@ module _ (set : Setting) (work : Work) where
     pub awaits : AllAgree set.past f awaited js
     pub agree : AllAgree set.past f instance.numbers js
     pub is_covered : (types : List Closed)
-        → set.covered.function (record { function = function; instance = instance; own = map (type_sized set.around.types work.own f) qs; types = types }) ≡ true
+        → set.covered.function
+        (record { function = function; instance = instance; own = map (type_sized set.around.types work.own f) qs; types = types }) ≡ true
+    pub own_fit : IsFitted set → AllFit set.around.types (map (closed set.around.types (standing set.past f) work.types) qs)
+        (map (type_sized set.around.types work.own f) qs)
 
   -- more numbers are noted, and nothing else is known than before but that
   pub record Notes (f : Integers) (facts : List Fact) (vs : List ℕ) (found : Option Noted) : Type 0 where

@@ -21,11 +21,13 @@ pub record Work : Type 0 where
 abbrev pub nobody : Work
 nobody = record { function = 0; instance = record { place = 0; numbers = [] }; own = []; types = [] }
 
--- the functions at work and the directions of mappings that instances cover; and whether they cover the types that values carry, else any type will do
+-- the functions at work and the directions of mappings that instances cover; whether they cover the types that values carry, else any type will do; and
+-- whether they take it that values of a function's own Type variables have the sizes of its instance
 pub record Coverage : Type 0 where
   pub function : Work → Bool
   pub direction : ℕ → Bool
   pub exact : Bool
+  pub fitted : Bool
 
 -- what stays the same in all runs of a model by a hart: what the walk knows of the model, the integer that powers past the largest are taken for,
 -- the hart, and what is covered
@@ -38,6 +40,10 @@ pub record Setting : Type 0 where
 -- where the types that values carry are those of their indices
 abbrev pub IsExact : Setting → Type 0
 IsExact set = set.covered.exact ≡ true
+
+-- and where values of Type variables have sizes
+abbrev pub IsFitted : Setting → Type 0
+IsFitted set = set.covered.fitted ≡ true
 
 -- a name in scope: one that a pattern binds keeps its item; a `var` keeps a type, the numbers of which are those of the moment at which it was
 -- declared

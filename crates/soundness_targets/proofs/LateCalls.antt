@@ -48,7 +48,8 @@ use Rattle.expression_steps.specs.Calls.{argument_aims, nestings}
 use Rattle.expression_steps.specs.Parts.{Part}
 use Rattle.checked_meaning.specs.Checked.{checked}
 use Rattle.checked_meaning.specs.Items.{Item, item, typs, vals}
-use Rattle.value_laws.specs.Belonging.{Integers}
+use Rattle.checked_meaning.specs.Fits.{AllFit}
+use Rattle.value_laws.specs.Belonging.{Integers, closed, standing}
 use Rattle.value_laws.specs.Known.{Point}
 use Rattle.value_laws.proofs.Steps.{same}
 use Rattle.soundness_steps.specs.Calls.{CallEnds, Enters, IsOf, SoundCalls, awaited_at, call_falls, call_gives, call_stops, call_throws}
@@ -66,6 +67,7 @@ use Rattle.soundness_forms.specs.Worlds.{Surrounds}
 use Rattle.soundness_forms.proofs.Basics.{wrong_walks}
 use Rattle.soundness_forms.proofs.Nodes.{typed_on}
 use Rattle.soundness_forms.proofs.Parts.{EachIs, all_have, are_typed, none_never, other_aims}
+use Rattle.soundness_forms.proofs.Called.{with_own}
 use Rattle.soundness_values.proofs.Functions as Functions
 use Rattle.soundness_values.proofs.Mappings as Mappings
 use Rattle.soundness_values.proofs.Mappings.{nameless_of, nameless_wanted, none_beside}
@@ -185,6 +187,10 @@ module _ (q : Scene) (w : World Item) (place : Place) (k i : ℕ) (fn : Function
       } in
       let enters : Enters q.set x fn (vals xs) fits.integers = record {
         is_covered = lead.is_covered fits.types;
+        own_fits = λ fitted. subst (λ ts. AllFit q.set.around.types ts (map (type_sized q.set.around.types q.work.own f.integers) qs))
+            (fits.same_types f.integers (same f))
+            (with_own q.set.around.types (map (closed q.set.around.types (standing q.set.past f.integers) q.work.types) qs) q.work.types
+            (map (type_sized q.set.around.types q.work.own f.integers) qs) (lead.own_fit fitted));
         is_it = is_it;
         belong = fits.belong;
         constraint = fits.constraint;

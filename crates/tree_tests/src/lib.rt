@@ -1,4 +1,4 @@
-//! Tests of models with constant sizes: two models by hand, and what is constant at their nodes, written by hand too.
+//! Tests of models with constant sizes: models by hand, and what is constant at their nodes, written by hand too.
 //!
 //! They stand here and not in `sized_trees`, since a crate with tests is proved a second time with them.
 #![tactic(auto)]
@@ -9,3 +9,5 @@ mod models;
 mod printed;
 #[cfg(test)]
 mod tables;
+#[cfg(test)]
+mod whole;

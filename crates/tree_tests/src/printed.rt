@@ -2,7 +2,7 @@
 use sail_base::dec_text;
 use sail_core::Giver;
 use size_values::{Picked, Sized};
-use sized_trees::{Case, Lead, NodeSizes, Signature, SizedCore, SizedInstance};
+use sized_trees::{Case, Lead, NodeSizes, Signature, SizedCore, SizedInstance, Told};
 use std::alloc::{AllocError, Global};
 
 fn push_number(alloc: Global, out: &mut Vec<u8>, number: i128) -> Result<(), AllocError> {
@@ -85,7 +85,7 @@ fn push_giver(alloc: Global, out: &mut Vec<u8>, giver: Giver) -> Result<(), Allo
 
 fn push_node(alloc: Global, out: &mut Vec<u8>, node: &NodeSizes) -> Result<(), AllocError> {
     match node {
-        NodeSizes::Makes(number, cases) => {
+        NodeSizes::Makes(number, _, cases) => {
             push_head(alloc, out, b"makes ", *number)?;
             for case in cases.as_slice() {
                 push_case(alloc, out, case)?;
@@ -103,6 +103,33 @@ fn push_node(alloc: Global, out: &mut Vec<u8>, node: &NodeSizes) -> Result<(), A
     }
 }
 
+/// Each type that a value may tell; none, where a size isn't a constant.
+fn push_told(alloc: Global, out: &mut Vec<u8>, told: &Told) -> Result<(), AllocError> {
+    let cases = told.cases.as_slice();
+    if cases.len() == 0 {
+        return out.extend_from_slice(b"no type");
+    }
+    for at in 0..cases.len() {
+        if at > 0 {
+            out.extend_from_slice(b" or ")?;
+        }
+        push_type(alloc, out, &cases[at].gives)?;
+    }
+    Ok(())
+}
+
+/// `(bits 8, int)`
+fn push_all_told(alloc: Global, out: &mut Vec<u8>, types: &[Told]) -> Result<(), AllocError> {
+    out.extend_from_slice(b"(")?;
+    for at in 0..types.len() {
+        if at > 0 {
+            out.extend_from_slice(b", ")?;
+        }
+        push_told(alloc, out, &types[at])?;
+    }
+    out.extend_from_slice(b")")
+}
+
 fn push_signature(
     alloc: Global,
     out: &mut Vec<u8>,
@@ -111,9 +138,9 @@ fn push_signature(
     match signature {
         None => out.extend_from_slice(b"no types"),
         Some(signature) => {
-            push_types(alloc, out, signature.parameters.as_slice())?;
+            push_all_told(alloc, out, signature.parameters.as_slice())?;
             out.extend_from_slice(b" -> ")?;
-            push_type(alloc, out, &signature.result)
+            push_told(alloc, out, &signature.result)
         }
     }
 }

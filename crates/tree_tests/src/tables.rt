@@ -10,12 +10,17 @@ use std::alloc::{AllocError, Global};
 use std::test::Fail;
 
 /// A call of one argument.
-fn call(alloc: Global, number: u32, callee: Callee, argument: Core) -> Result<Core, AllocError> {
+pub fn call(
+    alloc: Global,
+    number: u32,
+    callee: Callee,
+    argument: Core,
+) -> Result<Core, AllocError> {
     Core::over(alloc, here(), number, Kind::Call(callee), argument)
 }
 
 /// `forall 'n. bits('n) -> bits('n)`, `f(x) = x`; and `step() = f(0x00)`, which has 8 bits.
-fn bits_of_any_width(alloc: Global) -> Result<CoreModel, AllocError> {
+pub fn bits_of_any_width(alloc: Global) -> Result<CoreModel, AllocError> {
     let mut variables = Items::new(alloc);
     variables.push(Parameter {
         name: Text::new(alloc, "'n")?,
@@ -33,7 +38,7 @@ fn bits_of_any_width(alloc: Global) -> Result<CoreModel, AllocError> {
 }
 
 /// `range(1, 2) -> int`, `f(x) = length(zeros(x))`, by the builtins; and `step() = f(1)`.
-fn widths_by_range(alloc: Global) -> Result<CoreModel, AllocError> {
+pub fn widths_by_range(alloc: Global) -> Result<CoreModel, AllocError> {
     let mut parameters = Items::new(alloc);
     parameters.push(Typ::Range(Num::constant(alloc, 1), Num::constant(alloc, 2)))?;
     let zeros = call(alloc, 4, Callee::Row(Row::Zeros), parameter(alloc, 5)?)?;
@@ -45,7 +50,7 @@ fn widths_by_range(alloc: Global) -> Result<CoreModel, AllocError> {
 }
 
 /// `range(0, 128)`
-fn numbers(alloc: Global) -> Typ {
+pub fn numbers(alloc: Global) -> Typ {
     Typ::Range(Num::constant(alloc, 0), Num::constant(alloc, 128))
 }
 

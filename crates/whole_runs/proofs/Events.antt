@@ -16,10 +16,11 @@ use Rattle.function_notes.specs.Functions.{mapping_walk}
 use Rattle.constraint_gen.specs.Models.{around_of, around_opening, around_with, lets_behind, names_of}
 use Rattle.size_notes.specs.Bodies.{opening_read}
 use Rattle.checked_meaning.specs.Checked.{Cases, Checks, checking}
+use Rattle.checked_meaning.specs.Fits.{AllFit}
 use Rattle.met_notes.specs.Covers.{AreRead, Covers, CoversDirection, CoversFunction, pair_of, side_at}
 use Rattle.met_notes.specs.Met.{WalksAreMet, pairs}
 use Rattle.met_notes.proofs.Whole.{notes_met}
-use Rattle.soundness_steps.specs.Works.{Coverage, Setting, Work, nobody}
+use Rattle.soundness_steps.specs.Works.{Coverage, Setting, Work, nobody, IsFitted}
 use Rattle.soundness_steps.specs.Covers.{AreMet}
 use Rattle.soundness_forms.specs.Worlds.{LetsAre}
 use Rattle.soundness_calls.specs.Calls.{CoveredModel}
@@ -115,12 +116,12 @@ module _ (m : CoreModel) (walks : WalksAreMet m (around_of m)) (past : Positive)
 
   -- ---- functions
 
-  function_stands : (x : Work) (f : Function) → set.covered.function x ≡ true → slice_get set.around.functions x.function ≡ Some f
-      → S.FunctionStands set k x f
-  function_stands x f is at =
+  function_stands : (x : Work) (f : Function) → set.covered.function x ≡ true → (IsFitted set → AllFit set.around.types x.types x.own)
+      → slice_get set.around.functions x.function ≡ Some f → S.FunctionStands set k x f
+  function_stands x f is own at =
       let there : slice_get m.functions x.function ≡ Some f =
       subst (λ fs. slice_get fs x.function ≡ Some f) (functions_kept m [] m.openings) at in
-      let c : CoversFunction set k x f = covers.functions x f is there in
+      let c : CoversFunction set k x f = covers.functions x f is own there in
       let s : FunctionStands set k x f = stands.functions x f is there in
       record {
         covered = record {

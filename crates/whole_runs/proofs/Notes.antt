@@ -48,6 +48,7 @@ module _ (set : Setting) (around : Around) (hart : ℕ) (x : Work) (reached : �
     is_there = h.is_there;
     agree = h.agree;
     is_covered = h.is_covered;
+    own_fit = h.own_fit;
   }
 
   notes : (f : Integers) (facts : List Fact) (vs : List ℕ) (found : Option Noted) → Notes set x f facts vs found → Notes other x f facts vs found

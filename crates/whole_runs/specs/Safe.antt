@@ -22,7 +22,7 @@ core_parts sizing m = record { init = init_ran sizing m; reset = reset_ran sizin
 
 -- where nothing has to be covered
 abbrev pub nothing_covered : Coverage
-nothing_covered = record { function = λ x. false; direction = λ d. false; exact = false }
+nothing_covered = record { function = λ x. false; direction = λ d. false; exact = false; fitted = false }
 
 -- there are so many harts, and each register of each belongs to its type
 pub record IsFit (m : CoreModel) (past : Positive) (count : ℕ) (state : RunState) : Type 0 where

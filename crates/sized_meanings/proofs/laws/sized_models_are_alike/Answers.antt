@@ -1,5 +1,5 @@
-use Rattle.sized_meanings.specs.Sized.{checks_of}
+use Rattle.sized_meanings.specs.Sized.{checks_by}
 use Rattle.sized_meanings.proofs.laws.sized_models_are_alike.Goals as goal
 
 pub returns : goal.returns
-returns c = λ m made state. c.models_are_alike.ensures (checks_of m made) m state
+returns c = λ given m made state. c.models_are_alike.ensures (checks_by given m made) m state

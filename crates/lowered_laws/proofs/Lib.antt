@@ -1,0 +1,50 @@
+pub mod Pieces
+pub mod Facts
+pub mod Steps
+pub mod Chosen
+pub mod Labels
+pub mod Follows
+pub mod States
+pub mod Inside
+pub mod Had
+pub mod Noted
+pub mod Ended
+pub mod Ends
+pub mod Branches
+pub mod Truths
+pub mod Names
+pub mod Binding
+pub mod Meeting
+pub mod Loops
+pub mod Repeats
+pub mod Calls
+pub mod Works
+pub mod Constructors
+pub mod Paths
+pub mod Heads
+pub mod Takes
+pub mod Cuts
+pub mod Lists
+pub mod Opening
+pub mod Alike
+pub mod Arms
+pub mod Tries
+pub mod ClauseEnds
+pub mod Gathered
+pub mod Spots
+pub mod RegisterParts
+pub mod Writes
+pub mod Nodes
+pub mod OwnForms
+pub mod OwnMore
+pub mod OwnLabels
+pub mod OwnFunctions
+pub mod Functions
+pub mod Called
+pub mod Ticks
+pub mod Modules
+pub mod TablesTelling
+mod KnownSizes
+mod KnownTruths
+mod ReadInstances
+mod ToldArguments

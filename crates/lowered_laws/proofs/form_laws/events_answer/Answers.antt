@@ -1,0 +1,9 @@
+use Rattle.lowered_laws.specs.Modules.{EventsAnswer}
+use Rattle.lowered_laws.proofs.Modules.{events_answer}
+use Rattle.lowered_laws.proofs.form_laws.events_answer.Goals as goal
+
+answer : EventsAnswer
+answer x agrees all begins events n i a vs now few = events_answer x agrees all begins events n i a vs now few
+
+pub returns : goal.returns
+returns c = record { answer = answer }

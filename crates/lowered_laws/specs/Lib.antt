@@ -1,0 +1,9 @@
+pub mod Standing
+pub mod CodeLaws
+pub mod Telling
+pub mod Simulation
+pub mod FormLaws
+pub mod Modules
+pub mod TablesTelling
+pub mod TableLaws
+pub mod KnownLaws

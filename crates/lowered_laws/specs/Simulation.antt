@@ -1,0 +1,263 @@
+-- SIMULATION: what slots hold of a moment of a run of the core under constant sizes, and when code does what a run does (Sail language manual,
+-- "Expressions").
+use Rattle.std.specs.Prelude.{◌≡◌, ℕ, ℤ, pos, ◌+◌, ◌<◌, ◌≤◌, nat_lt, Bool, true, false, List, [], ◌∷◌, length, Option, Some, slice_get, slice_index_or}
+use Rattle.sail_base.specs.declared.place.Place.{Place as TextPlace}
+use Rattle.sail_types.specs.declared.table.Types.{Types as Table}
+use Rattle.sail_types.specs.declared.types.Typ.TheVariants as T
+use Rattle.sail_types.specs.declared.values.Value.{Value}
+use Rattle.sail_types.specs.declared.values.Value.TheVariants as V
+use Rattle.jib.specs.declared.code.Instruction.{Instruction}
+use Rattle.jib.specs.declared.code.Instruction.TheVariants as I
+use Rattle.jib.specs.declared.code.Module.{Module}
+use Rattle.jib.specs.Values.{has}
+use Rattle.jib.specs.Jib.{Slots, Store, Outcome, Here, Runs, slots_of}
+use Rattle.jib.specs.Jib as J
+use Rattle.sail_core.specs.Run as R
+use Rattle.sail_core.specs.Run.{Local as Bound, Now, Ended, Run}
+use Rattle.sail_core.specs.Numbers.{Instance, known, known_truth}
+use Rattle.sail_types.specs.declared.numbers.Num.{Num}
+use Rattle.sail_types.specs.declared.numbers.Con.{Con}
+use Rattle.sail_core.specs.Values.{bits_typ, int_typ}
+use Rattle.sail_core.specs.Making.{Making, World, component, one_item, payload}
+use Rattle.size_values.specs.declared.sized.Sized.{Sized, out-Sized}
+use Rattle.size_values.specs.declared.sized.Sized.TheVariants as S
+use Rattle.sized_trees.specs.declared.trees.Lead.{Lead}
+use Rattle.sized_meanings.specs.Present.{present, present_lead}
+use Rattle.checked_meaning.specs.Checked.{Cases, Noted, checked}
+use Rattle.checked_meaning.specs.Fits.{has_sizes}
+use Rattle.checked_meaning.specs.Items.{Item, fixed_typ, part_typ, typs}
+use Rattle.lowered_pieces.specs.Places.{Naming, Place, Raised, Given, Local, Number, Temp, Kit, Names, HasSlots}
+use Rattle.lowered_laws.specs.Standing.{HasAt, Types, Told}
+use Rattle.lowered_pieces.specs.Tables.{Tables}
+use Rattle.lowered_laws.specs.Telling.{Tells}
+use Rattle.lowered_pieces.specs.Arms.{Choice, Held, Matched, choices, is_union, picked_of, places_of, word_width}
+use Rattle.lowered_pieces.specs.Forms.{Named, Depths, kit_at, Stand, Tail, Piece, Callees}
+use Rattle.lowered_pieces.specs.Lowering.{kit_of}
+
+-- ---- what may follow a piece of a run, by how it ends: where it is stuck, nothing
+
+-- all that flat code has of a moment: no names
+abbrev pub bare : Now Item → Store
+bare now = record { state = now.state; ticks = now.ticks; accesses = now.accesses }
+
+abbrev pub Then_ : {A : Type 0} → Outcome → Ended Item A → (A → Now Item → Type 0) → (Value → Now Item → Type 0) → (Now Item → Type 0) → Type 0
+Then_ r (R.Gives x t) K H N = K x t
+Then_ r (R.No t) K H N = N t
+Then_ r (R.Returns v t) K H N = r ≡ J.Gives v (bare t)
+Then_ r (R.Throws v t) K H N = H v t
+Then_ r (R.Stops cause t) K H N = r ≡ J.Stops cause (bare t)
+Then_ r R.Stuck K H N = ⊥
+
+-- ---- a function at work
+
+-- the types that have a number: those that every model has, and with a type those of its parts
+pub record Knows (table : Table) (known : Sized → Bool) : Type 0 where
+  pub unit : known (fixed_typ table T.Unit) ≡ true
+  pub truth : known (fixed_typ table T.Bool) ≡ true
+  pub integer : known (fixed_typ table int_typ) ≡ true
+  pub of_tuple : (i : ℕ) (t : Sized) → known t ≡ true → known (part_typ table (component i) t) ≡ true
+  pub of_items : (t : Sized) → known t ≡ true → known (part_typ table one_item t) ≡ true
+  -- and with the type of a word those of shorter ones
+  pub of_bits : (t : Sized) (n : ℕ) → known t ≡ true → n ≤ word_width (out-Sized t)
+      → (known (S.Bits (pos n)) ≡ true) × (fixed_typ table (bits_typ n) ≡ S.Bits (pos n))
+  pub of_union : (u c : ℕ) (t : Sized) → is_union u (out-Sized t) ≡ true → known t ≡ true → known (part_typ table (payload u c) t) ≡ true
+
+-- a function of a module at work, and how its run ends
+pub record AtWork : Type 0 where
+  pub m : Module
+  pub lets : List Value
+  pub hart : ℕ
+  pub here : Here
+  pub ending : Outcome
+  pub name : Naming
+  -- types with constant sizes, by their numbers in the module's table, which has their values
+  pub table : Table
+  pub number : Sized → ℕ
+  pub exception : ℕ
+  -- the numbers that are known of the function's variables
+  pub size : Num → Option ℤ
+  pub tables : Tables
+  pub knows : Knows table tables.known
+  pub had : (v : Value) (t : Sized) → has_sizes table v t ≡ true → tables.known t ≡ true → has m.types v (number t) ≡ true
+  pub cases : Cases
+  pub tells : Tells table tables cases
+  pub types : Types m.types (kit_of table name number exception size)
+  pub names : Names (kit_of table name number exception size) (slots_of m here.function)
+  pub slots : HasSlots (slots_of m here.function) (J.code_of m here.function)
+  -- what it was called with
+  pub arguments : List Item
+  -- calls are known to go well with fewer ticks than these
+  pub depth : ℕ
+
+abbrev pub kit : AtWork → Kit
+kit g = kit_of g.table g.name g.number g.exception g.size
+
+abbrev pub C : AtWork → List Instruction
+C g = J.code_of g.m g.here.function
+
+-- the reading of the core by these cases
+abbrev pub reading : AtWork → Making Item
+reading g = checked g.table g.cases
+
+abbrev pub Runs_ : AtWork → ℕ → Slots → Store → Type 0
+Runs_ g pc sl s = Runs g.m g.lets g.hart g.here pc sl s g.ending
+
+-- ---- what slots hold
+
+-- an argument, a local below the d-th, or a value in hand below the n-th
+abbrev pub lower : ℕ → ℕ → Place → Bool
+lower n d (Given i) = true
+lower n d (Local i) = nat_lt i d
+lower n d (Temp i) = nat_lt i n
+lower n d q = false
+
+-- each name has a place of its own: its local, if it is one, is below the names from it on
+abbrev pub Low : ℕ → List Named → Type 0
+Low n [] = Unit {0}
+Low n (y ∷ ys) = (lower n (length (y ∷ ys)) y.place ≡ true) × Low n ys
+
+-- where values in hand of an arm stand: arguments, and places below the q-th
+abbrev pub handy : ℕ → Place → Bool
+handy q (Given i) = true
+handy q (Temp i) = nat_lt i q
+handy q p = false
+
+abbrev pub Settled : ℕ → List Held → Type 0
+Settled q [] = Unit {0}
+Settled q (h ∷ hs) = (handy q h.place ≡ true) × Settled q hs
+
+-- the numbers of these variables stand just so deep
+abbrev pub Writable : Depths → List ℕ → Type 0
+Writable d [] = Unit {0}
+Writable d (x ∷ xs) = (d.of x ≡ d.here) × Writable d xs
+
+-- a value that has the sizes of a type, which has a number
+abbrev pub Sits : AtWork → Value → Sized → Type 0
+Sits g v t = (has_sizes g.table v t ≡ true) × (g.tables.known t ≡ true)
+
+-- so values that have the sizes of their types
+abbrev pub AllHad : Table → (Sized → Bool) → List Item → Type 0
+AllHad types known [] = Unit {0}
+AllHad types known (x ∷ xs) = ((has_sizes types x.val x.typ ≡ true) × (known x.typ ≡ true)) × AllHad types known xs
+
+-- an instance of a function to which a call leads
+pub record LeadsTo (tables : Tables) (f : ℕ) (x : Instance) : Type 0 where
+  pub node : ℕ
+  pub noted : Noted
+  pub lead : Lead
+  pub there : present_lead noted (tables.leads node) ≡ Some lead
+  pub place : lead.instance ≡ x.place
+  pub of : tables.of x.place ≡ f
+  pub awaits : tables.awaits x.place ≡ Some x.numbers
+
+-- the run of a function does what a call of it comes to, and leaves the caller's names and numbers
+abbrev pub AnswersFrom : Module → List Value → ℕ → Here → ℕ → List Value → Now Item → Ended Item Value → Type 0
+AnswersFrom m lets hart here f vs now (R.Gives v t) = (t.locals ≡ now.locals) × (t.opened ≡ now.opened) × (t.ticks ≤ now.ticks)
+    × J.Runs m lets hart here 0 (J.entry m f vs) (bare now) (J.Gives v (bare t))
+AnswersFrom m lets hart here f vs now (R.Throws v t) = (t.locals ≡ now.locals) × (t.opened ≡ now.opened) × (t.ticks ≤ now.ticks)
+    × J.Runs m lets hart here 0 (J.entry m f vs) (bare now) (J.Throws v (bare t))
+AnswersFrom m lets hart here f vs now (R.Stops cause t) = J.Runs m lets hart here 0 (J.entry m f vs) (bare now) (J.Stops cause (bare t))
+AnswersFrom m lets hart here f vs now (R.No t) = ⊥
+AnswersFrom m lets hart here f vs now (R.Returns v t) = ⊥
+AnswersFrom m lets hart here f vs now R.Stuck = Unit {0}
+
+module _ (g : AtWork) where
+  -- the names in scope, the newest first, each in its slot
+  abbrev pub Holds : Slots → List Named → List (Bound Item) → Type 0
+  Holds sl [] [] = Unit {0}
+  Holds sl (y ∷ ys) (l ∷ ls) = (l.name ≡ y.name) × (sl (g.name y.place (g.number l.held.typ)) ≡ l.held.val) × Holds sl ys ls
+  Holds sl ys ls = ⊥
+
+  -- arguments, in their slots
+  abbrev pub Passed : Slots → ℕ → List Item → Type 0
+  Passed sl i [] = Unit {0}
+  Passed sl i (x ∷ xs) = (sl (g.name (Given i) (g.number x.typ)) ≡ x.val) × Passed sl (i + 1) xs
+
+  -- values in hand of an arm, each in its slot
+  abbrev pub Holding : Slots → List Held → List Item → Type 0
+  Holding sl [] [] = Unit {0}
+  Holding sl (h ∷ hs) (x ∷ xs) = (h.typ ≡ x.typ) × (sl (g.name h.place (g.number h.typ)) ≡ x.val) × Sits g x.val x.typ × Holding sl hs xs
+  Holding sl hs xs = ⊥
+
+  -- of a moment, so deep: its names and the numbers that are noted; values in hand below the n-th may be those of names
+  pub record Same (d : Depths) (scope : List Named) (n : ℕ) (sl : Slots) (now : Now Item) : Type 0 where
+    pub locals : Holds sl scope now.locals
+    pub noted : Told (kit_at (kit g) d) now.opened sl
+    pub low : Low n scope
+    pub shallow : (x : ℕ) → d.of x ≤ d.here
+    pub passed : Passed sl 0 g.arguments
+
+  -- what a piece leaves: its places in hand from n on may be others, and its numbers so deep
+  pub record After (d : Depths) (scope : List Named) (n : ℕ) (sl : Slots) (now : Now Item) (sl' : Slots) (t : Now Item) : Type 0 where
+    pub same : Same d scope n sl' t
+    pub kept : (i u : ℕ) → i < n → sl' (g.name (Temp i) u) ≡ sl (g.name (Temp i) u)
+    pub given : (i u : ℕ) → sl' (g.name (Given i) u) ≡ sl (g.name (Given i) u)
+    pub numbers : (x e : ℕ) → e < d.here → sl' (g.name (Number x e) (kit g).integer) ≡ sl (g.name (Number x e) (kit g).integer)
+    pub fewer : t.ticks ≤ now.ticks
+
+  -- ---- what may follow
+
+  -- the code of a tail runs, wherever it stands, if what follows is run from pe on
+  pub record Done (tail : Tail) (s : Stand) (pe : ℕ) (sl : Slots) (now : Now Item) (x : Item) (t : Now Item) : Type 0 where
+    pub by : (sl' : Slots) (l q : ℕ) → After s.depths s.scope s.temp sl now sl' t → sl' (g.name (Temp s.temp) (g.number x.typ)) ≡ x.val
+        → Sits g x.val x.typ → HasAt (C g) q (tail.code x.typ l)
+        → ((after : Slots) (then_ : Store) → Runs_ g pe after then_ → Runs_ g (q + length (tail.code x.typ l)) after then_)
+        → Runs_ g q sl' (bare t)
+
+  pub record Catches (d : Depths) (scope : List Named) (ph n : ℕ) (sl : Slots) (now : Now Item) (v : Value) (t : Now Item) : Type 0 where
+    pub by : (sl' : Slots) → After d scope n sl now sl' t → sl' (g.name Raised g.exception) ≡ v → Runs_ g ph sl' (bare t)
+
+  pub record Fails (d : Depths) (scope : List Named) (pf n : ℕ) (sl : Slots) (now : Now Item) (t : Now Item) : Type 0 where
+    pub by : (sl' : Slots) → After d scope n sl now sl' t → Runs_ g pf sl' (bare t)
+
+  -- the labels of a stand are set
+  pub record Set (s : Stand) (ph pf : ℕ) : Type 0 where
+    pub throws : slice_get (C g) ph ≡ Some (I.Label s.on_throw)
+    pub fails : slice_get (C g) pf ≡ Some (I.Label s.on_no)
+
+  -- SIMULATION, in continuation form: wherever what may follow the run of a form runs to the end, its code does too
+  pub record Good (me : Run Item Item) (p : Piece) : Type 0 where
+    pub run : (tail : Tail) (s : Stand) (l pc pe ph pf : ℕ) (sl : Slots) (now : Now Item) → now.ticks < g.depth
+        → pe ≡ pc + length (p.ended tail s l) → HasAt (C g) pc (p.ended tail s l) → Set s ph pf → Same s.depths s.scope s.temp sl now
+        → Writable s.depths p.notes
+        → Then_ g.ending (me now) (Done tail s pe sl now) (Catches s.depths s.scope ph s.temp sl now) (Fails s.depths s.scope pf s.temp sl now)
+        → Runs_ g pc sl (bare now)
+
+  -- values that are matched, where they stand: of the choice whose numbers are those that are noted
+  pub record Matches (m : Matched) (q : ℕ) (xs : List Item) (sl : Slots) (opened : Noted) : Type 0 where
+    pub choice : Choice
+    pub there : present picked_of opened (choices m q) ≡ Some choice
+    pub settled : Settled (q + places_of m) choice.values
+    pub holding : Holding sl choice.values xs
+
+  -- so of what is matched, which stays where it is until there is a value
+  pub record GoodOn (m : Matched) (xs : List Item) (me : Run Item Item) (p : Piece) : Type 0 where
+    pub run : (tail : Tail) (s : Stand) (l pc pe ph pf : ℕ) (sl : Slots) (now : Now Item) → now.ticks < g.depth
+        → pe ≡ pc + length (p.ended tail s l) → HasAt (C g) pc (p.ended tail s l) → Set s ph pf → Same s.depths s.scope s.temp sl now
+        → Writable s.depths p.notes
+        → Matches m s.temp xs sl now.opened
+        → Then_ g.ending (me now) (Done tail s pe sl now) (Catches s.depths s.scope ph s.temp sl now)
+        (Fails s.depths s.scope pf (s.temp + places_of m) sl now)
+        → Runs_ g pc sl (bare now)
+
+  -- ---- what is around a run
+
+  -- what is around a run: its hart, the numbers and truths of its function's variables, what it was called with, and the values of names of top-level lets
+  pub record Around (callees : Callees) (w : World Item) : Type 0 where
+    pub hart : w.hart ≡ g.hart
+    pub sized : callees.size ≡ g.size
+    pub widths : (t : Num) (z : ℤ) → g.size t ≡ Some z → known w.numbers t ≡ Some z
+    pub sizes : (t : Num) (z : ℤ) → callees.size t ≡ Some z → known w.numbers t ≡ Some z
+    pub truths : (c : Con) (b : Bool) → callees.truth c ≡ Some b → known_truth w.numbers c ≡ Some b
+    pub arguments : w.arguments ≡ g.arguments
+    pub given : callees.given ≡ typs g.arguments
+    pub had : AllHad g.table g.tables.known g.arguments
+    pub lets : (i : ℕ) (v : Value) → slice_get w.lets i ≡ Some v → slice_index_or g.lets (callees.opening i) V.Unit ≡ v
+
+  abbrev pub Answers : TextPlace → ℕ → List Value → Now Item → Ended Item Value → Type 0
+  Answers place f vs now o = AnswersFrom g.m g.lets g.hart (J.called g.m g.here f place) f vs now o
+
+  -- so does each call with fewer ticks than the depth, where a call leads
+  pub record CallsOk (callees : Callees) (w : World Item) : Type 0 where
+    pub tells : (place : TextPlace) (f : ℕ) (x : Instance) (vs : List Value) (now : Now Item) → LeadsTo g.tables f x → now.ticks < g.depth
+        → Answers place (callees.function x.place) vs now (w.call place f (Some x) vs now)

@@ -1,0 +1,35 @@
+//! Laws of the code of forms: each function's contract is one, and it does nothing.
+ghost use Rattle.lowered_laws.specs.FormLaws.{FunctionsOwnLabels, NodesSimulate, NodesOwnLabels, OpeningsOwnLabels};
+ghost use Rattle.lowered_laws.specs.Modules.{CallsAnswer, EventsAnswer};
+
+/// The code of a node does what the node means under the sizes of an instance, where each call with fewer ticks goes well: its value comes to
+/// the place for it, what it throws to the handler, and a stop or a return ends the run.
+pub fn nodes_simulate()
+    ensures simulate { NodesSimulate }
+{}
+
+/// The code of a node sets labels of its own alone, each at most once, where what is done with its value does.
+pub fn nodes_own_labels()
+    ensures own { NodesOwnLabels }
+{}
+
+/// The code of a function sets each label at most once.
+pub fn functions_own_labels()
+    ensures own { FunctionsOwnLabels }
+{}
+
+/// So does the code of an initial value, and that of a name of a top-level `let`.
+pub fn openings_own_labels()
+    ensures own { OpeningsOwnLabels }
+{}
+
+/// Each call does what its function means, however many calls are inside one another: where a module has the code of whatever may be entered, and
+/// a call finds the measure that is before it.
+pub fn calls_answer()
+    ensures answer { CallsAnswer }
+{}
+
+/// Each event does what the function means that it enters, where calls do and the module has the code of whatever an event may enter.
+pub fn events_answer()
+    ensures answer { EventsAnswer }
+{}

@@ -1,0 +1,25 @@
+-- What code is made by: the cases, leads and indices that are said of each node (Sail language manual, "Type variables").
+use Rattle.std.specs.Prelude.{ℕ, nat_eq, Bool, true, ◌&&◌, List, [], ◌∷◌, Option}
+use Rattle.sail_types.specs.Places.{Given}
+use Rattle.value_indices.specs.declared.indices.Indices.{Indices}
+use Rattle.size_values.specs.declared.sized.Sized.{Sized}
+use Rattle.sized_trees.specs.declared.trees.Case.{Case}
+use Rattle.sized_trees.specs.declared.trees.Lead.{Lead}
+
+-- by the numbers of nodes: a target's stands where it is read and where it is written, so cases also go by how many operands they take; what an arm's
+-- names give also goes by how many arms or statements stand behind it
+pub record Tables : Type 0 where
+  pub cases : ℕ → ℕ → List Case
+  pub leads : ℕ → List Lead
+  pub gives : ℕ → List Indices
+  pub named : ℕ → ℕ → List Indices
+  -- the types that have a number
+  pub known : Sized → Bool
+  -- of the instance at a place: its function, and its numbers; no numbers where there is no instance
+  pub of : ℕ → ℕ
+  pub awaits : ℕ → Option (List (Option Given))
+
+-- whether leads all lead to instances of one function
+abbrev pub leads_to : (ℕ → ℕ) → ℕ → List Lead → Bool
+leads_to of f [] = true
+leads_to of f (x ∷ xs) = nat_eq (of x.instance) f && leads_to of f xs

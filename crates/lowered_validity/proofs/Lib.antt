@@ -1,0 +1,13 @@
+pub mod Flow
+pub mod Alike
+pub mod Fitting
+pub mod Labels
+pub mod Cases
+pub mod Notes
+pub mod Makers
+pub mod Forms
+pub mod Loops
+pub mod Arms
+pub mod Working
+pub mod Nodes
+pub mod Whole

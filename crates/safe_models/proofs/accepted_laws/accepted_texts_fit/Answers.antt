@@ -1,5 +1,0 @@
-use Rattle.safe_models.proofs.AcceptedFit.{accepted}
-use Rattle.safe_models.proofs.accepted_laws.accepted_texts_fit.Goals as goal
-
-pub returns : goal.returns
-returns c = accepted

@@ -1,5 +1,0 @@
-use Rattle.safe_models.proofs.Cores.{values}
-use Rattle.safe_models.proofs.core_laws.values_stand.Goals as goal
-
-pub returns : goal.returns
-returns c = values

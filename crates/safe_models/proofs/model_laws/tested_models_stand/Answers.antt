@@ -1,5 +1,0 @@
-use Rattle.safe_models.proofs.Models.{tested}
-use Rattle.safe_models.proofs.model_laws.tested_models_stand.Goals as goal
-
-pub returns : goal.returns
-returns c = tested

@@ -1,5 +1,0 @@
-use Rattle.safe_models.proofs.Openings.{tested}
-use Rattle.safe_models.proofs.opening_laws.tested_openings_stand.Goals as goal
-
-pub returns : goal.returns
-returns c = tested

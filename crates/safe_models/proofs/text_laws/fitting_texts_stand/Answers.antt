@@ -1,5 +1,0 @@
-use Rattle.safe_models.proofs.FittingTexts.{fitting}
-use Rattle.safe_models.proofs.text_laws.fitting_texts_stand.Goals as goal
-
-pub returns : goal.returns
-returns c = fitting

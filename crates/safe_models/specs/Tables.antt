@@ -1,0 +1,41 @@
+-- Runs of an accepted text in which values carry the types that its tables tell are never stuck, where its tables are whole (Sail language manual, "Type
+-- variables").
+use Rattle.std.specs.Prelude.{◌≡◌, ◌<◌, ◌≤◌, ℕ, Bool, true, List, Ok}
+use Rattle.sail_types.specs.Numbers.{Positive}
+use Rattle.scattered.specs.Gathered.{gathered}
+use Rattle.sail_core.specs.declared.model.CoreModel.{CoreModel}
+use Rattle.checked_meaning.specs.Checked.{checking}
+use Rattle.sized_trees.specs.declared.trees.SizedCore.{SizedCore}
+use Rattle.sized_trees.specs.Trees.{sized_core}
+use Rattle.sized_meanings.specs.Sized.{checks_by}
+use Rattle.tabled_cores.specs.Cores.{core_tabled}
+use Rattle.met_notes.specs.Covers.{DirectionsPaired}
+use Rattle.covering_laws.specs.Apart.{NumbersApart}
+use Rattle.covering_laws.specs.Covered.{ways_fall}
+use Rattle.covering_laws.specs.Tables.{covered_by_tables}
+use Rattle.text_progress.specs.Laws.{core_of}
+use Rattle.sail_top.specs.Checked.{no_cycle}
+use Rattle.sail_top.specs.Models.{AreAccepted}
+use Rattle.sail_top.specs.declared.models.Accepted.{Accepted}
+use Rattle.whole_runs.specs.Never.{AllEnd}
+use Rattle.whole_runs.specs.Runs.{PartsGo}
+use Rattle.whole_runs.specs.Safe.{CoversThroughout, IsFit, core_parts}
+
+-- the list of instances of a core is found, and its tables are whole, where cases may go by numbers that their values give, or may not
+pub record IsWhole (given : Bool) (m : CoreModel) (c : SizedCore) : Type 0 where
+  pub found : sized_core m ≡ Ok c
+  pub whole : core_tabled given m ≡ true
+
+-- such tables cover the core, where the numbers of its nodes differ, its directions stand in pairs, and ranks of its mappings fall
+abbrev pub WholeTablesCover : Type 0
+WholeTablesCover = (given : Bool) (m : CoreModel) (rank : ℕ → ℕ) (c : SizedCore) → NumbersApart m → DirectionsPaired m → IsWhole given m c
+    → ways_fall m rank ≡ true → (past : Positive) (count : ℕ) → CoversThroughout m past (covered_by_tables m c) (checks_by given m c) rank count
+
+-- so no part of a run is stuck, where openings end
+abbrev pub TabledTextsGo : Type 0
+TabledTextsGo = (given : Bool) (texts : List (List ℕ)) (made : Accepted) (accepted : AreAccepted texts made) (c : SizedCore)
+    → IsWhole given (core_of (gathered accepted.definitions) no_cycle) c → (past : Positive) (count : ℕ) → 0 < count → count ≤ 8
+    → AllEnd (core_of (gathered accepted.definitions) no_cycle) (checks_by given (core_of (gathered accepted.definitions) no_cycle) c)
+    → PartsGo
+    (core_parts (checking (checks_by given (core_of (gathered accepted.definitions) no_cycle) c)) (core_of (gathered accepted.definitions) no_cycle)) count
+    (IsFit (core_of (gathered accepted.definitions) no_cycle) past count)

@@ -1,0 +1,4 @@
+pub mod Notes
+pub mod Signed
+pub mod Bodies
+pub mod Cores

@@ -1,0 +1,4 @@
+pub mod Counts
+pub mod Only
+pub mod Depths
+pub mod Free

@@ -1,0 +1,11 @@
+use Rattle.std.proofs.Common.{◌≡◌, drop, length}
+use Rattle.size_values.specs.Numbers.{meant}
+use Rattle.told_sizes.specs.Exact.{are_told}
+use Rattle.told_sizes.proofs.arguments.are_told.Given as goal
+
+abbrev pub invariant-loop-argument : goal.invariant-loop-argument
+invariant-loop-argument l = record {
+  here : l.index ≡ l.argument-index;
+  rest : are_told l.types (meant l.variables) l.place (length l.arguments) l.index l.indices l.constants (drop l.argument-index l.arguments)
+      ≡ are_told l.types (meant l.variables) l.place (length l.arguments) 0 l.indices l.constants l.arguments;
+}
