@@ -15,7 +15,7 @@ use Rattle.sail_types.specs.declared.numbers.Term.{Term}
 use Rattle.sail_types.specs.declared.types.Typ.{Typ, Typ-F}
 use Rattle.sail_types.specs.declared.types.Typ.TheFolds.{para-Typ}
 use Rattle.sail_types.specs.declared.types.Typ.TheOpen as T
-use Rattle.sail_core.specs.declared.model.Function.{Function}
+use Rattle.value_indices.specs.Function.{Function}
 use Rattle.value_indices.specs.Steps.{Conditions}
 use Rattle.value_indices.specs.declared.indices.Indices.{Indices, out-Indices}
 use Rattle.value_indices.specs.declared.indices.Indices.TheOpen as W

@@ -13,11 +13,10 @@ use crate::counts::{least_of_three, least_of_two};
 use crate::holes::types_without_holes;
 use crate::places::{number_placed, place_within, truth_placed};
 use sail_base::Items;
-use sail_core::Function;
 use sail_types::{Con, Index, Num, Typ, Types, read_con};
 use std::alloc::{AllocError, Global};
 use value_fits::{Fitted, Wanted, fits, item_fits};
-use value_indices::{Indices, Reading};
+use value_indices::{Function, Indices, Reading};
 
 /// What has to be true for a vector to be of a parameter's type: its length, unless that gives the number of a variable, and its items.
 fn vector_placed(

@@ -24,5 +24,7 @@ pub use callees::{
 pub use closed::{is_closed, is_numberless};
 pub use counts::least_of_three;
 pub use holes::{has_hole, types_without_holes, value_has_hole, without_holes};
+pub use places::number_variable;
 pub use through::{Seen, item_type, part_types, see, type_arguments, under};
 pub use typed::types_from;
+pub use wide_types::{is_below, is_con_below, parameters_of, widened};

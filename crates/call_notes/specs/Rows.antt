@@ -26,7 +26,7 @@ use Rattle.value_indices.specs.declared.indices.Indices.TheVariants as I
 use Rattle.value_indices.specs.declared.indices.Naming.TheVariants as M
 use Rattle.value_indices.specs.declared.indices.Reading.{Reading}
 use Rattle.value_indices.specs.declared.indices.Reading.TheVariants as R
-use Rattle.wide_types.specs.Widening.{is_below, is_con_below, widened}
+use Rattle.call_arguments.specs.Widening.{is_below, is_con_below, widened}
 use Rattle.call_notes.specs.Ends.{any_never, never_value, sized, wrong_value}
 use Rattle.call_notes.specs.Taken.{takes}
 use Rattle.call_notes.specs.declared.numbers.Numbers.{Numbers}

@@ -2,13 +2,13 @@
 ghost use Rattle.std.specs.Prelude.{◌≡◌, map, IfOk};
 ghost use Rattle.call_notes.specs.Rows as rows;
 
+use call_arguments::{is_below, is_con_below};
 use row_types::Product;
 use sail_base::Items;
 use sail_types::{Con, Index, Num, copy_con, copy_num, multiply, read_con, read_number};
 use std::alloc::{AllocError, Global};
 use type_arguments::copy_indices;
 use value_indices::Indices;
-use wide_types::{is_below, is_con_below};
 
 /// What the variables of a row stand for: the numbers of the arguments, that of the result, and the product.
 #[derive(Drop)]

@@ -6,6 +6,7 @@ ghost use Rattle.call_notes.specs.Rows as rows;
 use crate::ends::{any_never, note_value, wrong_value};
 use crate::numbers::{Numbers, numbers_under, owed_by, three_indices};
 use crate::taken::takes;
+use call_arguments::widened;
 use row_types::{Outcome, Product, RowType, row_type};
 use sail_base::{Boxed, Place};
 use sail_types::{Con, Index, Num, Row, Shape, Types, copy_num};
@@ -14,7 +15,6 @@ use value_indices::{
     Indices, Naming, Reading, Walking, any_truth, bits_of, bound_above, bound_below, copy_reading,
     number_or_fresh, truth_or_fresh, vector_of,
 };
-use wide_types::widened;
 
 /// The widened type of the second argument; a hole where there is none. It fails where memory is wanting.
 fn second_of(alloc: Global, arguments: &[Indices]) -> Result<Reading, AllocError>

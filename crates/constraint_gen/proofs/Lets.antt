@@ -20,11 +20,11 @@ use Rattle.pattern_leaves.specs.Settings.{Around, Scope}
 use Rattle.pattern_leaves.specs.declared.names.Bound.{Bound}
 use Rattle.pattern_leaves.specs.declared.names.TopLevel.{TopLevel}
 use Rattle.pattern_leaves.proofs.Walked.{then_got, then_run}
-use Rattle.pattern_notes.specs.Patterns.{arm_written}
+use Rattle.function_notes.specs.Patterns.{arm_written}
 use Rattle.call_arguments.specs.declared.aims.Aim.{Aim}
-use Rattle.expression_steps.specs.Expressions.{part}
-use Rattle.expression_steps.specs.Parts.{Part}
-use Rattle.expression_steps.specs.Statements.{bind_names, is_written, let_names as bound_by_let, written_aim}
+use Rattle.function_notes.specs.Expressions.{part}
+use Rattle.function_notes.specs.Parts.{Part}
+use Rattle.function_notes.specs.Statements.{bind_names, is_written, let_names as bound_by_let, written_aim}
 use Rattle.constraint_gen.specs.declared.top_levels.TopLevels.{TopLevels}
 use Rattle.constraint_gen.specs.Defined.{AreNames, counts_behind, opening_at}
 use Rattle.constraint_gen.specs.Models.{apart, let_walk, let_names, top_level, initial_aim, initial_walk, initial_of, opening_walk, names_of}

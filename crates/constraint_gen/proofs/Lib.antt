@@ -9,3 +9,4 @@ pub mod Halves
 pub mod LetsBefore
 pub mod Placing
 pub mod Lets
+pub use Rattle.function_notes.proofs.Lists

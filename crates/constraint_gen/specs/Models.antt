@@ -30,9 +30,9 @@ use Rattle.pattern_leaves.specs.declared.names.TopLevel.TheVariants as L
 use Rattle.call_arguments.specs.declared.aims.Aim.{Aim}
 use Rattle.call_arguments.specs.declared.aims.Aim.TheVariants as Aims
 use Rattle.call_arguments.specs.Aims.{aimed}
-use Rattle.expression_steps.specs.Parts.{Part}
-use Rattle.expression_steps.specs.Statements.{let_names as bound_by_let}
-use Rattle.expression_steps.specs.Expressions.{part}
+use Rattle.function_notes.specs.Parts.{Part}
+use Rattle.function_notes.specs.Statements.{let_names as bound_by_let}
+use Rattle.function_notes.specs.Expressions.{part}
 use Rattle.function_notes.specs.Functions.{function_walk, measure_walk, mapping_walk}
 
 -- ---- top-level lets and initial values: they are plain (Sail language manual, "Let bindings", "Registers")

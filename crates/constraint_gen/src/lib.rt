@@ -11,6 +11,10 @@ mod openings;
 mod order;
 mod top_levels;
 
+pub use function_notes::{
+    Common, bare_arm, constrain, inside, lesser, make_last, naming_of, natural_aim, own_indices,
+    reading_of, unwritten, walk_written,
+};
 pub use models::{notes, obligations};
 pub use naming::names_of;
 pub use openings::walk_opening;

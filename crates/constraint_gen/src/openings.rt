@@ -3,18 +3,17 @@ ghost use Rattle.std.specs.Prelude.{◌≡◌, ◌&&◌, IfOk, OnOk, slice_get};
 ghost use Rattle.std.specs.Option.{option_copied};
 ghost use Rattle.value_indices.specs.Walking as walk;
 ghost use Rattle.pattern_leaves.specs.Settings.{Around as Settings, around_of};
-ghost use Rattle.expression_steps.specs.Expressions.{part};
-ghost use Rattle.expression_steps.specs.Parts.{Part};
-ghost use Rattle.expression_steps.specs.Statements.{is_written};
+ghost use Rattle.function_notes.specs.Expressions.{part};
+ghost use Rattle.function_notes.specs.Parts.{Part};
+ghost use Rattle.function_notes.specs.Statements.{is_written};
 ghost use Rattle.constraint_gen.specs.Models as models;
 
 use call_arguments::Aim;
-use expression_forms::Scope;
-use expression_notes::walk_expression;
-use expression_steps::{is_nested, written_aim};
+use function_notes::{
+    Matching, Scope, arm_written, is_nested, match_one, walk_expression, written_aim,
+};
 use model_state::Register;
 use pattern_leaves::{Around, Bound};
-use pattern_notes::{Matching, arm_written, match_one};
 use sail_base::{Items, Place};
 use sail_core::{Arm, Core, Opening, OpeningKind, Written};
 use std::alloc::{AllocError, Global};

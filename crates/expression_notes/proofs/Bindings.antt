@@ -7,7 +7,7 @@ use Rattle.value_indices.specs.Steps.{Walk, bind, give}
 use Rattle.value_indices.specs.Walking.{Written, got, run}
 use Rattle.value_indices.specs.declared.indices.Indices.{Indices}
 use Rattle.value_indices.proofs.Walks.{got_bind, got_give, run_bind, run_give}
-use Rattle.pattern_notes.specs.Patterns.{arm_written}
+use Rattle.expression_steps.specs.Patterns.{arm_written}
 use Rattle.pattern_leaves.specs.Settings.{Around, Scope, exponents_owed, written_in}
 use Rattle.pattern_leaves.specs.declared.names.Bound.{Bound}
 use Rattle.pattern_leaves.proofs.Walked.{then_got, then_run}

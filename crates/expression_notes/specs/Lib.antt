@@ -1,2 +1,9 @@
 pub mod Claims
 pub mod Chains
+pub use Rattle.expression_steps.specs.Expressions
+pub use Rattle.expression_steps.specs.Parts
+pub use Rattle.expression_steps.specs.Statements
+pub use Rattle.expression_forms.specs.Nodes
+pub use Rattle.expression_forms.specs.Scopes
+pub use Rattle.expression_steps.specs.Patterns
+pub use Rattle.expression_steps.specs.Matching

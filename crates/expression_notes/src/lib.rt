@@ -18,4 +18,8 @@ mod targets;
 mod truths;
 mod values;
 
+pub use expression_forms::{Scope, cast_given};
+pub use expression_steps::{
+    Matching, arm_written, is_nested, match_arm, match_one, naming_of, natural_aim, written_aim,
+};
 pub use expressions::walk_expression;

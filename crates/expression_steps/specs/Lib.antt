@@ -7,3 +7,5 @@ pub mod Expressions
 pub mod Coded
 pub mod Making
 pub mod Filling
+pub use Rattle.pattern_notes.specs.Patterns
+pub use Rattle.pattern_notes.specs.declared.matching.Matching

@@ -39,6 +39,7 @@ pub use joining::{joined, under_or_not};
 pub use knowing::{goes_inward, is_made, is_nested, makes_value, never_ends, place_of};
 pub use late::{Ahead, Late, has_no_way, late_count, late_found, read_ahead};
 pub use making::{made_aims, made_count, made_end};
+pub use pattern_notes::{Matching, arm_written, match_arm, match_one, naming_of};
 pub use reached::{indexes_of, left_after, reach, value_of, way_reached};
 pub use slices::{behind, first_parts, left_at};
 pub use structs::{no_struct, with_aims};

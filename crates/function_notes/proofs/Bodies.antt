@@ -10,9 +10,9 @@ use Rattle.pattern_leaves.specs.Settings.{Around, Scope}
 use Rattle.call_arguments.specs.declared.aims.Aim.{Aim}
 use Rattle.call_arguments.specs.declared.aims.Aim.TheVariants as Aims
 use Rattle.call_notes.specs.Noted.{node_given}
-use Rattle.expression_forms.specs.Nodes.{cast_ended, cast_given}
-use Rattle.expression_steps.specs.Parts.{Part}
-use Rattle.expression_steps.specs.Expressions.{part}
+use Rattle.expression_notes.specs.Nodes.{cast_ended, cast_given}
+use Rattle.expression_notes.specs.Parts.{Part}
+use Rattle.expression_notes.specs.Expressions.{part}
 use Rattle.function_notes.specs.Functions.{bare_part, behind_part, behind_type, body_part, comes_to_result, only, result_part}
 
 -- ---- what comes to what is wanted, by its node

@@ -14,7 +14,7 @@ use Rattle.pattern_leaves.specs.Settings.{Around}
 use Rattle.call_arguments.specs.Aims.{aimed}
 use Rattle.call_arguments.specs.declared.aims.Aim.{Aim}
 use Rattle.call_arguments.specs.declared.aims.Aim.TheVariants as Aims
-use Rattle.expression_steps.specs.Statements.{natural_type}
+use Rattle.expression_notes.specs.Statements.{natural_type}
 use Rattle.function_notes.specs.Functions.{own_indices, constrained, inside_function, reading_under, clauses_of}
 use Rattle.function_notes.specs.Functions.{body_walk, function_clauses, function_walk, last_made, measure_walk, measured_walk}
 

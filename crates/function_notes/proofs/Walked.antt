@@ -17,7 +17,7 @@ use Rattle.value_indices.specs.Steps.{Walk, bind, give, wrong}
 use Rattle.value_indices.specs.Walking.{Written, got, run}
 use Rattle.value_indices.proofs.Walks.{got_bind, run_bind, got_give, run_give}
 use Rattle.pattern_leaves.specs.Settings.{Around}
-use Rattle.pattern_notes.specs.Patterns.{Look}
+use Rattle.expression_notes.specs.Patterns.{Look}
 use Rattle.call_arguments.specs.declared.aims.Aim.{Aim}
 use Rattle.function_notes.proofs.Lists.{rest_at, none_left}
 use Rattle.function_notes.specs.Functions.{parameter_opened, parameters_opened, other_looks, due_at, written_walk, clauses_walk, direction_walk, both_walk}

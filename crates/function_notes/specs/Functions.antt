@@ -34,17 +34,17 @@ use Rattle.value_indices.specs.Steps.{Walk, bind, give, assume, fresh_named, sco
 use Rattle.value_indices.specs.Opening.{opened, opening}
 use Rattle.pattern_leaves.specs.Settings.{Around, exponents_owed}
 use Rattle.pattern_leaves.specs.declared.names.Bound.{Bound}
-use Rattle.pattern_notes.specs.Patterns.{Look, looks, arm_match}
-use Rattle.pattern_notes.specs.declared.matching.Matching.{Matching}
+use Rattle.expression_notes.specs.Patterns.{Look, looks, arm_match}
+use Rattle.expression_notes.specs.Matching.{Matching}
 use Rattle.call_arguments.specs.declared.aims.Aim.{Aim}
 use Rattle.call_arguments.specs.declared.aims.Aim.TheVariants as Aims
 use Rattle.call_arguments.specs.Aims.{aimed}
 use Rattle.call_arguments.specs.Placing.{is_trivial_form}
 use Rattle.call_notes.specs.Noted.{names_given, node_given, node_made, numbers_noted}
-use Rattle.expression_forms.specs.Nodes.{cast_ended}
-use Rattle.expression_steps.specs.Parts.{Part}
-use Rattle.expression_steps.specs.Statements.{natural_type}
-use Rattle.expression_steps.specs.Expressions.{core_part, part}
+use Rattle.expression_notes.specs.Nodes.{cast_ended}
+use Rattle.expression_notes.specs.Parts.{Part}
+use Rattle.expression_notes.specs.Statements.{natural_type}
+use Rattle.expression_notes.specs.Expressions.{core_part, part}
 
 -- ---- type variables: the first variables of a definition, with their names
 

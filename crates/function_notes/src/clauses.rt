@@ -1,20 +1,18 @@
 //! Clauses of functions, measures and mappings.
 ghost use Rattle.std.specs.Prelude.{◌≡◌, ◌==◌, ◌&&◌, IfOk, OnOk, map, min, if◌then◌else◌};
 ghost use Rattle.pattern_leaves.specs.Settings.{around_of};
-ghost use Rattle.expression_forms.specs.Scopes.{scope_of};
-ghost use Rattle.pattern_notes.specs.Patterns.{look, nested};
+ghost use Rattle.expression_notes.specs.Scopes.{scope_of};
+ghost use Rattle.expression_notes.specs.Patterns.{look, nested};
 ghost use Rattle.value_indices.specs.Steps.{give, wrong};
 ghost use Rattle.value_indices.specs.Walking as walk;
-ghost use Rattle.expression_steps.specs.Parts as parts;
+ghost use Rattle.expression_notes.specs.Parts as parts;
 ghost use Rattle.function_notes.specs.Functions as spec;
 
 use crate::bare::{bare_arm, behind_result, behind_type};
 use call_arguments::Aim;
 use call_notes::names_given;
-use expression_forms::{Scope, cast_given};
-use expression_notes::walk_expression;
+use expression_notes::{Matching, Scope, cast_given, match_arm, naming_of, walk_expression};
 use pattern_leaves::{Around, Bound, owe_exponents};
-use pattern_notes::{Matching, match_arm, naming_of};
 use sail_base::{Items, Place};
 use sail_core::{Arm, Core, Giver, Kind, Pattern, WrittenNumber};
 use sail_types::{Index, Typ};

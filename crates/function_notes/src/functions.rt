@@ -9,7 +9,7 @@ ghost use Rattle.function_notes.specs.Functions as spec;
 use crate::clauses::walk_clauses;
 use call_arguments::Aim;
 use call_notes::{made_by_value, note_numbers};
-use expression_steps::natural_aim;
+use expression_notes::natural_aim;
 use model_state::Register;
 use pattern_leaves::{Around, TopLevel};
 use sail_base::{Items, Kind};

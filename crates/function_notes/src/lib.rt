@@ -10,6 +10,10 @@ mod mappings;
 
 pub use bare::{bare_arm, unwritten};
 pub use clauses::{Common, lesser, walk_written};
+pub use expression_notes::{
+    Matching, Scope, arm_written, is_nested, match_one, naming_of, natural_aim, walk_expression,
+    written_aim,
+};
 pub use functions::{
     constrain, inside, make_last, own_indices, reading_of, walk_function, walk_measure,
 };

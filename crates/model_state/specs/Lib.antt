@@ -6,3 +6,6 @@ pub mod RunState
 pub mod StateRows
 -- what the contracts of private functions say
 pub mod parts
+pub use Rattle.mem_store.specs.Bytes
+pub use Rattle.mem_store.specs.laws.Words
+pub use Rattle.mem_store.specs.laws.Overwritten

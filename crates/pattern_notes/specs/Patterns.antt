@@ -30,7 +30,7 @@ use Rattle.value_indices.specs.declared.notes.Made.TheVariants as Makes
 use Rattle.value_indices.specs.Steps.{Walk, bind, give, facts_here, note, size_note, way_note, owe_under, each}
 use Rattle.value_indices.specs.Opening.{equal, opened_for}
 use Rattle.value_fits.specs.Fitting.{fits, owe_fit_under}
-use Rattle.wide_types.specs.Widening.{parameters_of}
+use Rattle.call_arguments.specs.Widening.{parameters_of}
 use Rattle.pattern_leaves.specs.declared.names.Bound.{Bound}
 use Rattle.pattern_leaves.specs.Settings.{Around, bound, written_in, exponents_owed}
 use Rattle.pattern_leaves.specs.Literals.{no_names, wrong_pattern, literal_met}

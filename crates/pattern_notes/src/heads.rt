@@ -12,14 +12,13 @@ use crate::matching::Matching;
 use crate::several::{
     match_cons, match_constructor, match_cut, match_items, match_never, match_parts, match_vector,
 };
-use call_arguments::type_parameters;
+use call_arguments::{parameters_of, type_parameters};
 use pattern_leaves::{Around, Bound, meet_literal, wrong_pattern};
 use sail_base::{Items, Place};
 use sail_core::{Head, Pattern};
 use sail_types::{Index, Num};
 use std::alloc::{AllocError, Global};
 use value_indices::{Indices, Reading, Walking};
-use wide_types::parameters_of;
 
 /// A head over these parts; of a value that doesn't exist names are of none. The one error is want of memory.
 #[cycle(matched)]

@@ -5,9 +5,9 @@ use Rattle.std.proofs.lemmas.Bool.Decides.{nat_tests}
 use Rattle.std.proofs.lemmas.List.{length-map}
 use Rattle.sail_types.specs.declared.rows.Row.{Row}
 use Rattle.sail_types.specs.declared.values.Value.{Value}
-use Rattle.mem_store.specs.Bytes.{IsMapped, is_mapped, word_bytes}
-use Rattle.mem_store.specs.laws.Overwritten.{length-overwritten}
-use Rattle.mem_store.specs.laws.Words.{length-word_bytes}
+use Rattle.model_state.specs.Bytes.{IsMapped, is_mapped, word_bytes}
+use Rattle.model_state.specs.Overwritten.{length-overwritten}
+use Rattle.model_state.specs.Words.{length-word_bytes}
 use Rattle.model_state.specs.declared.cause.Ended.{Ended as EndOfRow}
 use Rattle.model_state.specs.declared.cause.Ended.TheVariants as E
 use Rattle.model_state.specs.declared.cause.Cause.TheVariants.{BadAddress, ConsoleFull}
@@ -19,7 +19,7 @@ use Rattle.model_state.specs.StateRows.{Call, reading, reserving, writing, writi
 use Rattle.model_state.specs.StateRows.{may_write, call_of, call_ran, state_row}
 use Rattle.model_state.specs.Folds.{Keeps}
 use Rattle.row_types.specs.Calls.{has_state}
-use Rattle.builtins.specs.RowValues.{row}
+use Rattle.row_types.specs.RowValues.{row}
 use Rattle.sail_core.specs.Run.{Local, Now, needs, ended_as, after_row, row_run, changed_in, ◌then◌}
 use Rattle.sail_core.specs.Making.{World, plainly}
 use Rattle.sail_core.specs.Targets.{read_register, write_register, set_locals, set_variable}

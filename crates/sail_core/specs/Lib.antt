@@ -12,3 +12,4 @@ pub mod Fragments
 pub mod Laws
 pub mod Steady
 pub mod Sentences
+pub use Rattle.row_types.specs.Formulas

@@ -10,7 +10,7 @@ use Rattle.model_state.specs.declared.cause.Ended.TheVariants as E
 use Rattle.model_state.specs.RunState.{RunState, Access, Ran}
 use Rattle.model_state.specs.StateRows.{state_row}
 use Rattle.row_types.specs.Calls.{has_state}
-use Rattle.builtins.specs.RowValues.{row}
+use Rattle.row_types.specs.RowValues.{row}
 
 -- X is what stands for a value while a function is at work. In the meaning of a model it is the value itself; in other readings
 -- of the same text it is a value with more beside it.

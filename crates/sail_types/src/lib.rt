@@ -26,6 +26,7 @@ pub use constraints::{
 pub use members::{Member, row_members, rows_members};
 pub use numbers::{Atom, Comparison, Con, Index, Num, Term};
 pub use rows::{ALL, Row, operator_rows, prefix_rows, row_name, row_named};
+pub use sail_base::{Boxed, Items};
 pub use shapes::Shape;
 pub use shaping::{
     copy_shape, copy_shapes, may_share, parts_may_share, same_shape, same_shapes, shape_of,

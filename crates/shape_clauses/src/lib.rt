@@ -13,3 +13,4 @@ pub use clauses::{Clause, Clauses, cast_made, read_clause};
 pub use directions::nested;
 pub use laws::directions_differ;
 pub use mappings::read_mappings;
+pub use shape_expressions::{elaborate, place_of};

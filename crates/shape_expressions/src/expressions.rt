@@ -11,12 +11,10 @@ use shape_calls::{Made, constant_found, name_found};
 use shape_forms::{size, truth};
 use shape_rules::{Around, First, Locals};
 use shape_statements::{
-    block, block_alone, foreach, if_alone, if_else, let_in, looped, match_cases, try_cases, var_in,
+    Walker, assert, block, block_alone, call_named, foreach, if_alone, if_else, infix, leave,
+    let_in, listed, looped, match_cases, struct_found, try_cases, typed, var_in, with_found,
 };
 use shape_targets::{assign, part_found, update_found};
-use shape_values::{
-    Walker, assert, call_named, infix, leave, listed, struct_found, typed, with_found,
-};
 use shape_walks::Head;
 use std::alloc::{AllocError, Global};
 

@@ -11,7 +11,7 @@ use sail_syntax::{Exp, TyExp};
 use sail_types::Shape;
 use shape_calls::Made;
 use shape_rules::{Around, First, Locals};
-use shape_values::finish_typed;
+use shape_statements::finish_typed;
 use shape_walks::place_of;
 use std::alloc::{AllocError, Global};
 use written_types::shape_in;

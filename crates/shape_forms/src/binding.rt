@@ -14,8 +14,8 @@ use sail_core::{Arm, Counting, Pattern, Written};
 use sail_syntax::{Direction, Name, Pat, TyExp};
 use sail_types::Shape;
 use shape_calls::has_never;
-use shape_patterns::look;
 use shape_rules::{Around, First, Local, Locals, ShapeError};
+use shape_walks::look;
 use std::alloc::{AllocError, Global};
 use written_types::{note_written, shape_in, written};
 

@@ -20,9 +20,8 @@ use sail_core::{Form, Head, Pattern};
 use sail_syntax::{Brackets, Joined, Name, Pat, TyExp};
 use sail_types::Shape;
 use shape_rules::{Around, First, Local};
-use shape_widths::{Given, cut};
+use shape_widths::{Given, cut, note_written, shape_in, written};
 use std::alloc::{AllocError, Global};
-use written_types::{note_written, shape_in, written};
 
 /// Patterns in brackets. The one error is want of memory.
 #[cycle(look)]

@@ -16,5 +16,6 @@ pub use callees::takes_unit;
 pub use groups::look_each;
 pub use looking::{look, look_one};
 pub use parameters::look_parameters;
+pub use shape_widths::{Matched, backwards_of, forwards_of, overlap_at, which_side};
 pub use shapes::{note_shape, see_as};
 pub use typed::{has_typ, wanted_by, written_shape, written_typ};

@@ -22,9 +22,8 @@ use sail_core::{Callee, Form, Head, Pattern};
 use sail_syntax::{Name, Pat};
 use sail_types::Shape;
 use shape_rules::{Around, Candidate, Doing, First, Local, Mapping, Meant, ShapeError};
-use shape_widths::{Given, direction_at, given_at, note_side, which_side};
+use shape_widths::{Given, direction_at, given_at, note_side, which_side, written};
 use std::alloc::{AllocError, Global};
-use written_types::written;
 
 /// What a pattern looks at, where it is matched with values of a shape (`Never`, where none is known); puts what it binds behind other
 /// names, in the order in which it is bound, and notes its failures. Of bare identifiers some widths may be known.

@@ -7,8 +7,8 @@ ghost use Rattle.shape_rules.specs.Patterns.{piece, has_typ as has_typ_of, wante
 use sail_syntax::{Pat, TyExp};
 use sail_types::Shape;
 use shape_rules::Around;
+use shape_widths::shape_in;
 use std::alloc::{AllocError, Global};
-use written_types::shape_in;
 
 /// The type that is written at a pattern, through `as`.
 #[cycle(written_typ)]

@@ -21,3 +21,4 @@ pub use error::{Mismatch, ShapeError};
 pub use first::First;
 pub use locals::{Local, Locals};
 pub use meanings::Meanings;
+pub use sail_core::{Callee, Literal};

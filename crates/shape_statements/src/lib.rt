@@ -9,4 +9,7 @@ mod statements;
 
 pub use branches::{if_alone, if_else, match_cases, try_cases};
 pub use loops::{foreach, looped};
+pub use shape_values::{
+    Walker, assert, call_named, finish_typed, infix, leave, listed, struct_found, typed, with_found,
+};
 pub use statements::{block, block_alone, let_in, var_in};

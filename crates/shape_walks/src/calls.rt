@@ -5,7 +5,7 @@ ghost use Rattle.shape_rules.specs.Around.{setting_of};
 ghost use Rattle.shape_rules.specs.Expressions.{part};
 ghost use Rattle.shape_rules.specs.Findings.{first_failure};
 ghost use Rattle.shape_rules.specs.Values as spec;
-ghost use Rattle.shape_widths.specs.Known.{which as which_of};
+ghost use Rattle.shape_patterns.specs.Known.{which as which_of};
 ghost use Rattle.shape_calls.specs.Made.{made_of};
 ghost use Rattle.shape_calls.specs.Apart.{note_of};
 ghost use Rattle.shape_walks.specs.Calls.{one_taken, direction_made, mapping_made, first_is_truth, is_truths, turned, truths_of, infix_made, place_or};
@@ -22,8 +22,8 @@ use shape_calls::{
     Made, has_never, is_truth, logical_kind, note_apart, operator_text, over, refused, settled,
     unknown,
 };
+use shape_patterns::{Matched, backwards_of, forwards_of, overlap_at, which_side};
 use shape_rules::{Around, First, Mapping, ShapeError};
-use shape_widths::{Matched, backwards_of, forwards_of, overlap_at, which_side};
 use std::alloc::{AllocError, Global};
 
 /// A call of a direction of a mapping: which one hangs on a part that failed, where its value is unsure. The one error is want of memory.

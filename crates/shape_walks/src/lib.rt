@@ -13,4 +13,5 @@ mod walks;
 pub use calls::{finish_infix, mapping_taken, turn, value_place};
 pub use heads::{Head, count_of, known_shapes};
 pub use places::{last_place, place_of, suffix_place, target_place_of};
+pub use shape_patterns::look;
 pub use walks::{Plan, Walk, take_noted};

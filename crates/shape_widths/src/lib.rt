@@ -16,3 +16,4 @@ pub use mappings::{
     Matched, backwards_of, direction_at, forwards_of, given_at, note_side, overlap_at, which_side,
 };
 pub use widths::{Given, cut, width_of};
+pub use written_types::{note_written, shape_in, written};

@@ -2,9 +2,9 @@
 ghost use Rattle.std.specs.Prelude.{◌≡◌, IfOk};
 ghost use Rattle.shape_rules.specs.Patterns.{literal_shape as literal_shape_of, core_literal as core_literal_of, literal_width as literal_width_of};
 
-use sail_core::Literal as CoreLiteral;
 use sail_syntax::Literal;
 use sail_types::{Num, Shape};
+use shape_rules::Literal as CoreLiteral;
 use std::alloc::{AllocError, Global};
 
 /// The shape of a literal.

@@ -12,10 +12,9 @@ ghost use Rattle.shape_widths.specs.Parts.{further, width_fault, is_behind as is
 use crate::literals::literal_width;
 use crate::mappings::{Matched, which_side};
 use sail_base::{Items, Place, Text};
-use sail_core::Callee;
 use sail_syntax::{Joined, Name, Pat};
 use sail_types::{Num, Shape, Typ, copy_num};
-use shape_rules::{Around, Doing, First, Mapping, Meant, ShapeError};
+use shape_rules::{Around, Callee, Doing, First, Mapping, Meant, ShapeError};
 use std::alloc::{AllocError, Global};
 use written_types::typ_in;
 

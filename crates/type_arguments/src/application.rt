@@ -6,8 +6,7 @@ ghost use Rattle.type_arguments.specs.Applied.{applied_types as applied_types_of
 use crate::copies::copy_typ;
 use crate::moved::{moved_index, moved_types};
 use crate::normal::Normal;
-use sail_base::{Boxed, Items};
-use sail_types::{Index, Num, Typ, read_con, read_indices, read_number};
+use sail_types::{Boxed, Index, Items, Num, Typ, read_con, read_indices, read_number};
 use std::alloc::{AllocError, Global};
 
 /// The arguments inside an existential type: the variable that it binds, and then each of them read one

@@ -2,8 +2,7 @@
 ghost use Rattle.std.specs.Prelude.{◌≡◌, IfOk};
 
 use crate::normal::Normal;
-use sail_base::{Boxed, Items};
-use sail_types::{Index, Typ, copy_con, copy_index, copy_num};
+use sail_types::{Boxed, Index, Items, Typ, copy_con, copy_index, copy_num};
 use std::alloc::{AllocError, Global};
 
 /// The same type once more. It fails where memory is wanting.

@@ -5,8 +5,7 @@ ghost use Rattle.type_arguments.specs.Moved.{next as next_of, moved as moved_of,
 ghost use Rattle.type_arguments.specs.Moved.{moved_term as moved_term_of, moved_con as moved_con_of, moved_index as moved_index_of};
 ghost use Rattle.type_arguments.specs.Moved.{moved_indices as moved_indices_of, moved_typ as moved_typ_of, moved_types as moved_types_of};
 
-use sail_base::{Boxed, Items};
-use sail_types::{Atom, Con, Index, Num, Term, Typ};
+use sail_types::{Atom, Boxed, Con, Index, Items, Num, Term, Typ};
 use std::alloc::{AllocError, Global};
 
 /// The number behind a variable's; none past the largest.

@@ -12,7 +12,7 @@ use Rattle.sail_types.specs.declared.numbers.Num.{Num}
 use Rattle.sail_types.specs.declared.types.Typ.{Typ, Typ-F}
 use Rattle.sail_types.specs.declared.types.Typ.TheFolds.{para-Typ}
 use Rattle.sail_types.specs.declared.types.Typ.TheOpen as T
-use Rattle.row_types.specs.Formulas.{least, most}
+use Rattle.sail_core.specs.Formulas.{least, most}
 use Rattle.value_indices.specs.declared.indices.Indices.{Indices}
 use Rattle.value_indices.specs.declared.indices.Indices.TheVariants as I
 use Rattle.value_indices.specs.declared.indices.Indices.TheOpen as W

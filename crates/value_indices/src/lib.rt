@@ -24,4 +24,5 @@ pub use opening::{
     number_or_fresh, read_each_or_fresh, read_or_fresh, truth_or_fresh, vector_of, zero_num,
 };
 pub use readings::{open_reading, opened, opened_for, opened_type};
+pub use sail_core::Function;
 pub use walking::Walking;

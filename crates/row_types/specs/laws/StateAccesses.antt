@@ -8,8 +8,8 @@ use Rattle.std.proofs.lemmas.Bool.{and_parts, and_from, le-leb, leb-true, eq-eqb
 use Rattle.sail_types.specs.Numbers.{Assignment, true_in}
 use Rattle.sail_types.specs.Sums.{constant}
 use Rattle.sail_types.proofs.Substituted.{number_constant}
-use Rattle.mem_store.specs.Bytes.{span}
-use Rattle.mem_store.specs.laws.Words.{length-word_of}
+use Rattle.model_state.specs.Bytes.{span}
+use Rattle.model_state.specs.Words.{length-word_of}
 use Rattle.model_state.specs.RunState.{RunState}
 use Rattle.model_state.specs.StateRows.{is_there, word_at, is_place, is_placed}
 use Rattle.row_types.specs.Formulas.{first, second, third, at_most, equal}

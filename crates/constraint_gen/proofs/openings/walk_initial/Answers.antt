@@ -1,6 +1,6 @@
 use Rattle.value_indices.specs.Walking.{seen}
 use Rattle.pattern_leaves.specs.Settings.{around_of}
-use Rattle.expression_steps.specs.Expressions.{part}
+use Rattle.function_notes.specs.Expressions.{part}
 use Rattle.constraint_gen.proofs.Lets.{initial_walked}
 use Rattle.constraint_gen.proofs.openings.walk_initial.Goals as goal
 

@@ -1,9 +1,9 @@
 use Rattle.std.proofs.Common.{ap, ◌∙◌, ◌&&◌}
 use Rattle.value_indices.specs.Walking.{seen}
 use Rattle.pattern_leaves.specs.Settings.{around_of}
-use Rattle.expression_steps.specs.Expressions.{part}
-use Rattle.expression_steps.specs.Parts as parts
-use Rattle.expression_steps.specs.Statements.{is_written, written_aim}
+use Rattle.function_notes.specs.Expressions.{part}
+use Rattle.function_notes.specs.Parts as parts
+use Rattle.function_notes.specs.Statements.{is_written, written_aim}
 use Rattle.constraint_gen.proofs.Lets.{let_value, let_walked}
 use Rattle.constraint_gen.proofs.openings.walk_let.Goals as goal
 

@@ -1,6 +1,6 @@
 use Rattle.value_indices.specs.Walking.{seen}
 use Rattle.pattern_leaves.specs.Settings.{around_of}
-use Rattle.expression_steps.specs.Expressions.{part}
+use Rattle.function_notes.specs.Expressions.{part}
 use Rattle.constraint_gen.proofs.Lets.{let_opened, register_opened}
 use Rattle.constraint_gen.proofs.openings.walk_opening.Goals as goal
 

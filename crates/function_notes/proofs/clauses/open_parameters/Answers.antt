@@ -1,6 +1,6 @@
 use Rattle.std.proofs.Common.{map}
 use Rattle.value_indices.specs.Walking.{seen}
-use Rattle.pattern_notes.specs.Patterns.{look}
+use Rattle.expression_notes.specs.Patterns.{look}
 use Rattle.function_notes.proofs.Walked.{parameter_value, parameter_walked, parameters_value_end, parameters_walked_end}
 use Rattle.function_notes.proofs.clauses.open_parameters.Goals as goal
 

@@ -1,6 +1,6 @@
 use Rattle.std.proofs.Common.{◌≡◌, ◌++◌, drop, map}
 use Rattle.value_indices.specs.Walking.{got, run, seen}
-use Rattle.pattern_notes.specs.Patterns.{look}
+use Rattle.expression_notes.specs.Patterns.{look}
 use Rattle.function_notes.specs.Functions.{parameters_opened}
 use Rattle.function_notes.proofs.clauses.open_parameters.Given as goal
 

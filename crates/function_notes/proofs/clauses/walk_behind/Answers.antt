@@ -2,10 +2,10 @@ use Rattle.std.proofs.Common.{sym}
 use Rattle.value_indices.specs.Walking.{seen}
 use Rattle.pattern_leaves.specs.Settings.{around_of}
 use Rattle.call_arguments.specs.declared.aims.Aim.TheVariants as Aims
-use Rattle.expression_forms.specs.Scopes.{scope_of}
+use Rattle.expression_notes.specs.Scopes.{scope_of}
 use Rattle.sail_core.specs.declared.tree.Core.{out-Core}
-use Rattle.expression_steps.specs.Parts.{Part}
-use Rattle.expression_steps.specs.Expressions.{part}
+use Rattle.expression_notes.specs.Parts.{Part}
+use Rattle.expression_notes.specs.Expressions.{part}
 use Rattle.function_notes.specs.Functions.{bare_part}
 use Rattle.function_notes.proofs.Bodies.{behind_walk, cast_value, cast_walked}
 use Rattle.function_notes.proofs.clauses.walk_behind.Goals as goal

@@ -2,8 +2,8 @@ use Rattle.std.proofs.Common.{◌++◌, ap, sym, ◌∙◌, append-nil}
 use Rattle.sail_core.specs.declared.tree.Core.{out-Core}
 use Rattle.value_indices.specs.Walking.{seen}
 use Rattle.pattern_leaves.specs.Settings.{Scope, around_of}
-use Rattle.expression_forms.specs.Scopes.{scope_of}
-use Rattle.expression_steps.specs.Parts.{Part}
+use Rattle.expression_notes.specs.Scopes.{scope_of}
+use Rattle.expression_notes.specs.Parts.{Part}
 use Rattle.function_notes.specs.Functions.{bare_part, body_part}
 use Rattle.function_notes.proofs.Bodies.{body_walk, cast_value, cast_walked}
 use Rattle.function_notes.proofs.clauses.walk_body.Goals as goal

@@ -3,9 +3,9 @@ use Rattle.sail_core.specs.declared.patterns.Pattern.{Pattern}
 use Rattle.value_indices.specs.Walking.{got, run, seen}
 use Rattle.pattern_leaves.proofs.Walked.{then_got, then_run}
 use Rattle.pattern_leaves.specs.Settings.{around_of, exponents_owed}
-use Rattle.pattern_notes.specs.Patterns.{look, looks, arm_match}
+use Rattle.expression_notes.specs.Patterns.{look, looks, arm_match}
 use Rattle.call_notes.specs.Noted.{names_given}
-use Rattle.expression_steps.specs.Parts.{Part}
+use Rattle.expression_notes.specs.Parts.{Part}
 use Rattle.function_notes.specs.Functions.{parameters_opened, in_clause, body_part, clause_names}
 use Rattle.function_notes.proofs.Chained.{chained_run, chained_got}
 use Rattle.function_notes.proofs.clauses.walk_clause.Goals as goal
