@@ -45,7 +45,7 @@ enum Change {
     Nothing,
     /// Bits of 129.
     Wide,
-    /// A list of a type that stands behind it.
+    /// A vector of a type that stands behind it.
     Forward,
     /// An enum without a member.
     Empty,
@@ -88,7 +88,7 @@ const TYPES: &[Type] = &[
 
 const WIDE: &[Type] = &[Type::Bits(129)];
 
-const FORWARD: &[Type] = &[Type::List(10)];
+const FORWARD: &[Type] = &[Type::Vector(2, 10)];
 
 const EMPTY: &[Type] = &[Type::Enum(1, 0)];
 

@@ -29,11 +29,11 @@ use Rattle.jib.specs.Operands.{each, all_given, is_there, all_there, operation_t
 abbrev pub before : ℕ → ℕ → ℕ → Bool
 before n k t = nat_lt t n
 
--- widths are at most 128 and lengths at most 4,096, an enum has a member and a union a constructor, and the types inside one stand before it
+-- widths are at most 128 and lengths at most 4,096, an enum has a member and a union a constructor, and the types inside one stand before it; but a list's
+-- item may stand anywhere, so that a union may have lists of itself
 abbrev pub typ_right : ℕ → ValueType → Bool
 typ_right n (T.Bits w) = nat_le w 128
 typ_right n (T.Enum i k) = nat_lt 0 k
-typ_right n (T.List t) = nat_lt t n
 typ_right n (T.Vector k t) = nat_le k 4096 && nat_lt t n
 typ_right n (T.Tuple ts) = each (before n) 0 ts
 typ_right n (T.Struct i ts) = each (before n) 0 ts

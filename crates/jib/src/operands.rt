@@ -183,7 +183,8 @@ fn built(program: &Module, function: &Function, sources: &[Source], target: Opti
     }
 }
 
-fn alike(program: &Module, first: Option<u32>, second: Option<u32>) -> bool
+/// Whether two types, by their numbers, are of one sort.
+pub fn alike(program: &Module, first: Option<u32>, second: Option<u32>) -> bool
     ensures { result ≡ are_alike program.now first second }
 {
     has_sort(program, first, sort_at(program, second))

@@ -114,7 +114,8 @@ fn literal_is(typ: &ValueType, literal: &Literal) -> bool
     }
 }
 
-fn literal(program: &Module, number: u32, literal: &Literal) -> Option<u32>
+/// The type that stands with a constant, by its number, where the constant belongs to it; none where it doesn't.
+pub fn literal(program: &Module, number: u32, literal: &Literal) -> Option<u32>
     ensures { result ≡ literal_typ program.now number literal.now }
 {
     match program.types.as_slice().get(number as usize) {

@@ -36,7 +36,6 @@ fn typ_is_right(number: usize, typ: &ValueType) -> bool
     match typ {
         ValueType::Bits(width) => *width <= 128,
         ValueType::Enum(_, members) => 0 < *members,
-        ValueType::List(item) => (*item as usize) < number,
         ValueType::Vector(length, item) => *length <= 4096 && (*item as usize) < number,
         ValueType::Tuple(parts) => all_before(number, parts.as_slice()),
         ValueType::Struct(_, fields) => all_before(number, fields.as_slice()),
@@ -47,8 +46,9 @@ fn typ_is_right(number: usize, typ: &ValueType) -> bool
     }
 }
 
+/// Whether all types of a table are: their widths, their lengths, and the types inside them.
 #[tactic(auto, using(crate::proofs::EachLaws::eaches))]
-fn types_are_right(types: &[ValueType]) -> bool
+pub fn are_typs(types: &[ValueType]) -> bool
     ensures { result ≡ each typ_right 0 types.now }
 {
     for (number, typ) in types.iter().enumerate() {
@@ -182,7 +182,7 @@ pub fn validate(program: Module) -> Option<Checked>
     ensures same { MatchOption result (valid program ≡ false) (λ checked. checked.program ≡ program) }
     ensures kept { IfSome result (λ checked. IsTrue (valid checked.program)) }
 {
-    if types_are_right(program.types.as_slice())
+    if are_typs(program.types.as_slice())
         && has_typ(&program, 0, program.exception)
         && has_typs(&program, program.registers.as_slice())
         && functions_are_right(&program)

@@ -96,7 +96,7 @@ pure_of : (m : Module) (f : Function) (n pc : ℕ) (i : Instruction) → instruc
     → is_pure_instruction m i ≡ true
 pure_of m f n pc i h e = implied f.is_pure (is_pure_instruction m i) (right_of _ (keeps_pure m f i) h) e
 
-pure_found : (m : Module) (f : Function) (n pc : ℕ) → function_right m n f ≡ true → f.is_pure ≡ true → (o : Option Instruction) → slice_get f.code pc ≡ o
+pub pure_found : (m : Module) (f : Function) (n pc : ℕ) → function_right m n f ≡ true → f.is_pure ≡ true → (o : Option Instruction) → slice_get f.code pc ≡ o
     → is_pure_instruction m (or_stop o) ≡ true
 pure_found m f n pc r p None e = refl
 pure_found m f n pc r p (Some i) e = pure_of m f n pc i (each_of (instruction_right m f n) f.code pc i (code_right_of m n f r) e) p

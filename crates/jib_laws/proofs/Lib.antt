@@ -3,3 +3,4 @@ mod StateLaws
 mod BelongLaws
 mod OtherLaws
 mod OpeningLaws
+pub mod AlikeLaws

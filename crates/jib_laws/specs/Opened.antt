@@ -46,6 +46,21 @@ abbrev pub PureEndsHold : Type 0
 PureEndsHold = (m : Module) → valid m ≡ true → (lets : List Value) (hart n : ℕ) (f : Function) (vs : List Value) (s : Store) (r : Outcome)
     → slice_get m.functions n ≡ Some f → PureBegins m lets f vs → jib_run m lets hart n vs s r → PureEndHolds m f r
 
+-- a store and an end over another state
+abbrev pub over : RunState → Store → Store
+over state s = record s { state = state }
+
+abbrev pub outcome_over : RunState → Outcome → Outcome
+outcome_over state (Gives v t) = Gives v (over state t)
+outcome_over state (Throws v t) = Throws v (over state t)
+outcome_over state (Stops cause t) = Stops cause (over state t)
+
+-- a run of a pure function does the same over every state
+abbrev pub PureRunsAlike : Type 0
+PureRunsAlike = (m : Module) → valid m ≡ true → (lets : List Value) (hart n : ℕ) (f : Function) (vs : List Value) (s : Store) (r : Outcome)
+    → slice_get m.functions n ≡ Some f → f.is_pure ≡ true → jib_run m lets hart n vs s r
+    → (state : RunState) → jib_run m lets hart n vs (over state s) (outcome_over state r)
+
 -- ---- openings
 
 -- the openings of a module that are worked out, over whatever state, are of their types, as many as there are

@@ -5,7 +5,7 @@
 #![tactic(auto)]
 
 ghost use Rattle.jib_laws.specs.Belongs.{PlacesHold, EndsHold, OthersStay};
-ghost use Rattle.jib_laws.specs.Opened.{PurePlacesHold, PureEndsHold, OpeningsHold, InitialHolds};
+ghost use Rattle.jib_laws.specs.Opened.{PurePlacesHold, PureEndsHold, PureRunsAlike, OpeningsHold, InitialHolds};
 
 use jib::constants_belong;
 
@@ -31,3 +31,8 @@ pub fn openings_belong()
 {
     constants_belong();
 }
+
+/// A run of a pure function of a valid module does the same whatever state it begins with, and leaves that state as it is.
+pub fn pure_runs_alike()
+    ensures alike { PureRunsAlike }
+{}
