@@ -22,17 +22,17 @@ use Rattle.value_laws.proofs.Basics.{no}
 use Rattle.split_laws.specs.Counted.{AreTaken, IsIn}
 use Rattle.split_laws.proofs.Basics.{either, in_back, in_front, in_mapped, none, or_cases}
 use Rattle.split_laws.proofs.Combinations.{present_counted}
-use Rattle.monomorph.specs.declared.found.Instance.{Instance}
+use Rattle.sized_nodes.specs.declared.trees.Instance.{Instance}
 use Rattle.monomorph.specs.Reading.{Inside, instance_of, under}
 use Rattle.checked_meaning.specs.Checked.{Noted}
 use Rattle.sized_trees.specs.declared.combinations.Choice.{Choice}
-use Rattle.sized_trees.specs.declared.trees.Case.{Case}
-use Rattle.sized_trees.specs.declared.trees.Lead.{Lead}
+use Rattle.sized_nodes.specs.declared.trees.Case.{Case}
+use Rattle.sized_nodes.specs.declared.trees.Lead.{Lead}
 use Rattle.sized_trees.specs.Bodies.{made_choices, value_at}
 use Rattle.sized_trees.specs.Cases.{case_of, case_under, case_within, cases_under, lead_to, lead_under, lead_within, leads_under, one_or_none, place_in}
 use Rattle.sized_trees.specs.Combinations.{bound_choices, choice, combinations_at, is_given, is_told, noted_choices, picked_by, picked_where}
 use Rattle.sized_trees.specs.Combinations.{those_before, those_from, where_so, with_bound, with_each}
-use Rattle.sized_trees.specs.Laws.{CaseAsks, Each, LeadAsks, asked}
+use Rattle.sized_nodes.specs.Asked.{CaseAsks, Each, LeadAsks, asked}
 use Rattle.sized_trees.proofs.Asked.{Asks, asked_at, asked_bound, asked_made, bound_ask, cases_ask, leads_ask, made_asks, place_asks}
 use Rattle.sized_meanings.specs.Laws.{AreNoted}
 use Rattle.sized_meanings.specs.Present.{present_case, present_lead}

@@ -12,7 +12,7 @@ use Rattle.split_laws.specs.Counted.{AreTaken, IsIn}
 use Rattle.split_laws.proofs.Basics.{either, in_back, in_front, or_cases}
 use Rattle.checked_meaning.specs.Checked.{Noted}
 use Rattle.sized_trees.specs.Combinations.{all_picked_eq, each_once, picked_eq, picked_where, where_so, with_one}
-use Rattle.sized_trees.specs.Laws.{asked}
+use Rattle.sized_nodes.specs.Asked.{asked}
 use Rattle.sized_meanings.specs.Laws.{AreNoted}
 
 abbrev of_both : ℕ → ℤ → Picked

@@ -8,7 +8,7 @@ use Rattle.value_laws.proofs.Basics.{no}
 use Rattle.split_laws.specs.Counted.{IsIn}
 use Rattle.split_laws.proofs.Basics.{in_back, in_front, none}
 use Rattle.sized_trees.specs.Cases.{one_or_none}
-use Rattle.sized_trees.specs.Laws.{Each, asked}
+use Rattle.sized_nodes.specs.Asked.{Each, asked}
 use Rattle.sized_trees.proofs.Each.{each_append}
 use Rattle.checked_meaning.specs.Checked.{Noted}
 use Rattle.sized_meanings.specs.Laws.{AreNoted}

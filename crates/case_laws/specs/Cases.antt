@@ -1,6 +1,6 @@
 -- Where each combination that counts at a node has a case, the case of the present numbers is present (Sail language manual, "Type variables").
-use Rattle.std.specs.Prelude.{◌≡◌, ◌<◌, ℕ, nat_eq, Bool, true, List, None, Some, is_some}
-use Rattle.std.specs.List.{list_all, list_any}
+use Rattle.std.specs.Prelude.{◌≡◌, ◌<◌, ℕ, nat_eq, true, List, None, Some}
+use Rattle.std.specs.List.{list_any}
 use Rattle.sail_types.specs.Numbers.{Positive}
 use Rattle.sail_types.specs.declared.numbers.Index.{Index}
 use Rattle.value_indices.specs.declared.indices.Indices.{Indices}
@@ -15,14 +15,15 @@ use Rattle.size_splits.specs.Sizing.{made_facts}
 use Rattle.value_laws.specs.Belonging.{Integers, standing}
 use Rattle.value_laws.specs.Known.{AllTrue}
 use Rattle.split_laws.specs.Counted.{Agrees, AreTaken, IsIn}
-use Rattle.monomorph.specs.declared.found.Instance.{Instance}
+use Rattle.sized_nodes.specs.declared.trees.Instance.{Instance}
 use Rattle.monomorph.specs.Reading.{Inside}
 use Rattle.checked_meaning.specs.Checked.{Noted}
 use Rattle.sized_trees.specs.declared.combinations.Choice.{Choice}
-use Rattle.sized_trees.specs.declared.trees.Lead.{Lead}
+use Rattle.sized_nodes.specs.declared.trees.Lead.{Lead}
 use Rattle.sized_trees.specs.Bodies.{made_choices, node_cases, node_leads, value_at}
-use Rattle.sized_trees.specs.Cases.{case_of, case_under, lead_under}
+use Rattle.sized_trees.specs.Cases.{case_of, lead_under}
 use Rattle.sized_trees.specs.Combinations.{combinations_at, is_given, picked_by}
+pub use Rattle.sized_trees.specs.Whole.{has_all_cases, has_all_leads}
 use Rattle.sized_meanings.specs.Laws.{AreNoted}
 use Rattle.sized_meanings.specs.Present.{present_case, present_lead}
 
@@ -34,12 +35,6 @@ pub record IsSo (past : Positive) (f : Integers) (r : Inside) (facts : List Fact
   pub given : (v : ℕ) → is_given facts v ≡ true → noted v ≡ Some (f v)
 
 -- ---- cases
-
-abbrev pub has_case : Inside → List Indices → Made → Choice → Bool
-has_case r operands made c = is_some (case_under r operands (value_at r made) c)
-
-abbrev pub has_all_cases : Inside → List Fact → List Indices → Made → Bool
-has_all_cases r facts operands made = list_all (has_case r operands made) (made_choices r facts made)
 
 -- a value is made whose type is opened under integers that are the same before the body's last variable: what the opening says is true, and the numbers
 -- that the value gives are noted
@@ -71,12 +66,6 @@ PresentChoices = (r : Inside) (facts : List Fact) (operands : List Indices) (mad
     → present_case noted (node_cases r facts operands made) ≡ Some (case_of r operands (value_at r made) c)
 
 -- ---- where a call leads
-
-abbrev pub has_lead : Inside → List Instance → List Indices → ℕ → List Index → List Reading → List Picked → Bool
-has_lead r list operands g js qs ps = is_some (lead_under r list operands g js qs ps)
-
-abbrev pub has_all_leads : Inside → List Instance → List Fact → List Indices → ℕ → List Index → List Reading → Bool
-has_all_leads r list facts operands g js qs = list_all (has_lead r list operands g js qs) (combinations_at r facts)
 
 pub record HasPresentLead (r : Inside) (list : List Instance) (facts : List Fact) (operands : List Indices) (g : ℕ) (js : List Index)
     (qs : List Reading) (noted : Noted) (f : Integers) : Type 0 where

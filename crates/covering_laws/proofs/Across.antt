@@ -22,12 +22,12 @@ use Rattle.size_splits.specs.Bodies.{Body}
 use Rattle.size_notes.specs.Bodies.{bodies_of, body_of, mapping_read, opening_bodies, opening_body, opening_read}
 use Rattle.monomorph.specs.declared.found.Found.{Found}
 use Rattle.monomorph.specs.declared.found.Found.TheVariants as F
-use Rattle.monomorph.specs.declared.found.Instance.{Instance}
+use Rattle.sized_nodes.specs.declared.trees.Instance.{Instance}
 use Rattle.monomorph.specs.Found.{Answer, instances_in}
 use Rattle.monomorph.specs.Instances.{entry, found_from, instances_of, listed, model_of, one_or_none}
 use Rattle.monomorph.specs.Lasts.{Model}
 use Rattle.monomorph.specs.Reading.{reading_of}
-use Rattle.sized_trees.specs.declared.trees.SizedCore.{SizedCore}
+use Rattle.sized_nodes.specs.declared.trees.SizedCore.{SizedCore}
 use Rattle.sized_trees.specs.Trees.{sized_list}
 use Rattle.checked_meaning.specs.Checked.{Cases, Checks}
 use Rattle.note_laws.specs.Notes.{EachNote, OfOthers}

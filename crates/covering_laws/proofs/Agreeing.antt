@@ -25,8 +25,8 @@ use Rattle.size_values.specs.declared.sized.Sized.{Sized}
 use Rattle.size_splits.specs.Bodies.{Body}
 use Rattle.size_splits.specs.Sizing.{Sizing}
 use Rattle.split_laws.specs.Counted.{IsIn}
-use Rattle.monomorph.specs.declared.found.Instance.{Instance}
-use Rattle.sized_trees.specs.declared.trees.NodeSizes.{NodeSizes}
+use Rattle.sized_nodes.specs.declared.trees.Instance.{Instance}
+use Rattle.sized_nodes.specs.declared.trees.NodeSizes.{NodeSizes}
 use Rattle.sized_trees.specs.Bodies.{at_note}
 use Rattle.sized_meanings.specs.Present.{gives_at}
 use Rattle.node_counts.specs.Counts.{form_may_give, may_give}

@@ -16,7 +16,7 @@ use Rattle.size_notes.specs.Bodies.{bodies_of, body_of, mapping_read, opening_bo
 use Rattle.split_laws.specs.Counted.{IsIn}
 use Rattle.monomorph.specs.declared.found.Found.{Found}
 use Rattle.monomorph.specs.declared.found.Found.TheVariants as F
-use Rattle.monomorph.specs.declared.found.Instance.{Instance}
+use Rattle.sized_nodes.specs.declared.trees.Instance.{Instance}
 use Rattle.monomorph.specs.Found.{instances_in}
 use Rattle.monomorph.specs.Instances.{entry, found_from, model_of, one_or_none}
 use Rattle.monomorph.specs.Lasts.{Model}

@@ -32,7 +32,7 @@ use Rattle.split_laws.specs.Counted.{IsIn}
 use Rattle.split_laws.proofs.Domains.{le_true}
 use Rattle.monomorph.specs.declared.found.Found.{Found}
 use Rattle.monomorph.specs.declared.found.Found.TheVariants as F
-use Rattle.monomorph.specs.declared.found.Instance.{Instance}
+use Rattle.sized_nodes.specs.declared.trees.Instance.{Instance}
 use Rattle.monomorph.specs.Found.{found_eq, instance_eq, instances_in}
 use Rattle.monomorph.specs.Reading.{Inside}
 use Rattle.sized_trees.specs.Cases.{place_from}

@@ -33,10 +33,10 @@ use Rattle.split_laws.specs.Counted.{IsCounted, IsIn}
 use Rattle.split_laws.proofs.Basics.{either, or_cases}
 use Rattle.monomorph.specs.declared.found.Found.{Found}
 use Rattle.monomorph.specs.declared.found.Found.TheVariants as F
-use Rattle.monomorph.specs.declared.found.Instance.{Instance}
+use Rattle.sized_nodes.specs.declared.trees.Instance.{Instance}
 use Rattle.monomorph.specs.Reading.{Inside, given, instance_of, under}
 use Rattle.checked_meaning.specs.Checked.{Cases, Noted}
-use Rattle.sized_trees.specs.declared.trees.SizedInstance.{SizedInstance}
+use Rattle.sized_nodes.specs.declared.trees.SizedInstance.{SizedInstance}
 use Rattle.sized_trees.specs.Cases.{place_in}
 use Rattle.sized_trees.specs.Combinations.{is_given}
 use Rattle.sized_trees.specs.Within.{is_number}

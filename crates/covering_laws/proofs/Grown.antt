@@ -20,12 +20,12 @@ use Rattle.size_values.specs.Sized.{all_eq}
 use Rattle.size_splits.specs.Bodies.{Body}
 use Rattle.monomorph.specs.declared.found.Found.{Found}
 use Rattle.monomorph.specs.declared.found.Found.TheVariants as F
-use Rattle.monomorph.specs.declared.found.Instance.{Instance}
+use Rattle.sized_nodes.specs.declared.trees.Instance.{Instance}
 use Rattle.monomorph.specs.Found.{Answer, add_mapping, found_eq, instances_in, most_instances, outcome, over}
 use Rattle.monomorph.specs.Instances.{entry, found_from, grow, instances_of, listed, read_found}
 use Rattle.monomorph.specs.Lasts.{Model, last_from}
 use Rattle.monomorph.specs.Reading.{Inside, read_call, read_notes, read_sizes}
-use Rattle.sized_trees.specs.declared.trees.SizedInstance.{SizedInstance}
+use Rattle.sized_nodes.specs.declared.trees.SizedInstance.{SizedInstance}
 use Rattle.sized_trees.specs.Trees.{sized_instance, sized_instances, sized_list}
 use Rattle.soundness_calls.specs.Events.{entered_by}
 use Rattle.covering_laws.proofs.Readings as Readings

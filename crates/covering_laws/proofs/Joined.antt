@@ -6,10 +6,10 @@ use Rattle.sail_core.specs.declared.model.CoreModel.{CoreModel}
 use Rattle.size_notes.specs.Bodies.{bodies_of}
 use Rattle.split_laws.specs.Counted.{IsIn}
 use Rattle.monomorph.specs.declared.error.MonoError.{MonoError}
-use Rattle.monomorph.specs.declared.found.Instance.{Instance}
+use Rattle.sized_nodes.specs.declared.trees.Instance.{Instance}
 use Rattle.monomorph.specs.Instances.{instances_of, model_of}
 use Rattle.monomorph.specs.Lasts.{Model}
-use Rattle.sized_trees.specs.declared.trees.SizedCore.{SizedCore}
+use Rattle.sized_nodes.specs.declared.trees.SizedCore.{SizedCore}
 use Rattle.sized_trees.specs.Trees.{sized_core, sized_instance, sized_instances, sized_list, sized_of}
 use Rattle.covering_laws.specs.Laws.{ArePlaced}
 use Rattle.covering_laws.specs.Covered.{instance_of}

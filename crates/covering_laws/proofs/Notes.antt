@@ -45,7 +45,7 @@ use Rattle.split_laws.specs.Counted as S
 use Rattle.split_laws.proofs.Basics.{either, in_back, in_front, or_cases}
 use Rattle.split_laws.proofs.Domains.{le_true}
 use Rattle.split_laws.proofs.Combinations.{at_agrees, picked_agrees, present_counted}
-use Rattle.monomorph.specs.declared.found.Instance.{Instance}
+use Rattle.sized_nodes.specs.declared.trees.Instance.{Instance}
 use Rattle.monomorph.specs.Reading.{Inside, given, instance_of, under}
 use Rattle.sail_core.specs.Nodes.{giver_eq}
 use Rattle.sail_core.specs.Numbers.{Instance as Awaits}
@@ -53,16 +53,16 @@ use Rattle.sail_core.specs.declared.tree.Giver.{Giver}
 use Rattle.sail_core.specs.declared.tree.Giver.TheVariants as By
 use Rattle.checked_meaning.specs.Checked.{Cases, Noted}
 use Rattle.sized_trees.specs.declared.combinations.Choice.{Choice}
-use Rattle.sized_trees.specs.declared.trees.Case.{Case}
-use Rattle.sized_trees.specs.declared.trees.Lead.{Lead}
-use Rattle.sized_trees.specs.declared.trees.NodeSizes.{NodeSizes}
-use Rattle.sized_trees.specs.declared.trees.NodeSizes.TheVariants as Z
-use Rattle.sized_trees.specs.declared.trees.SizedInstance.{SizedInstance}
+use Rattle.sized_nodes.specs.declared.trees.Case.{Case}
+use Rattle.sized_nodes.specs.declared.trees.Lead.{Lead}
+use Rattle.sized_nodes.specs.declared.trees.NodeSizes.{NodeSizes}
+use Rattle.sized_nodes.specs.declared.trees.NodeSizes.TheVariants as Z
+use Rattle.sized_nodes.specs.declared.trees.SizedInstance.{SizedInstance}
 use Rattle.sized_trees.specs.Bodies.{at_note, made_choices, node_cases, node_leads, value_at}
 use Rattle.sized_trees.specs.Cases.{all_sized_under, case_of, case_under, case_within, cases_under, lead_found, lead_to, lead_under, lead_within, leads_under}
 use Rattle.sized_trees.specs.Cases.{one_or_none, place_in, sized_under}
 use Rattle.sized_trees.specs.Combinations.{combinations_at, is_given, picked_by}
-use Rattle.sized_trees.specs.Laws.{Each}
+use Rattle.sized_nodes.specs.Asked.{Each}
 use Rattle.sized_trees.proofs.Each.{each_append}
 use Rattle.checked_meaning.specs.Fits.{AllFit, has_sizes}
 use Rattle.sized_meanings.specs.Noting.{noted_by_all, noted_by_each}

@@ -10,7 +10,7 @@ use Rattle.value_laws.specs.Belonging.{Integers}
 use Rattle.value_laws.proofs.Basics.{no}
 use Rattle.split_laws.specs.Counted.{Agrees, IsIn}
 use Rattle.exact_sizes.proofs.Known.{none}
-use Rattle.monomorph.specs.declared.found.Instance.{Instance}
+use Rattle.sized_nodes.specs.declared.trees.Instance.{Instance}
 use Rattle.monomorph.specs.Found.{instance_eq}
 use Rattle.sized_trees.specs.Cases.{place_from, place_in}
 use Rattle.soundness_steps.specs.Noted.{HasNumbers}

@@ -30,13 +30,13 @@ use Rattle.size_splits.specs.Sizing.{Sizing, flags_of}
 use Rattle.split_laws.specs.Counted.{IsCounted, IsIn}
 use Rattle.monomorph.specs.declared.found.Found.{Found}
 use Rattle.monomorph.specs.declared.found.Found.TheVariants as F
-use Rattle.monomorph.specs.declared.found.Instance.{Instance}
+use Rattle.sized_nodes.specs.declared.trees.Instance.{Instance}
 use Rattle.monomorph.specs.Reading.{Inside, instance_of, under}
 use Rattle.checked_meaning.specs.Checked.{Cases, Noted}
 use Rattle.sized_trees.specs.Bodies.{at_note}
 use Rattle.sized_trees.specs.Cases.{place_in}
-use Rattle.sized_trees.specs.declared.trees.NodeSizes.{NodeSizes}
-use Rattle.sized_trees.specs.declared.trees.SizedInstance.{SizedInstance}
+use Rattle.sized_nodes.specs.declared.trees.NodeSizes.{NodeSizes}
+use Rattle.sized_nodes.specs.declared.trees.SizedInstance.{SizedInstance}
 use Rattle.sized_meanings.specs.Noting.{noted_by_all}
 use Rattle.sized_meanings.specs.Present.{gives_at}
 use Rattle.sized_meanings.specs.Sized.{numbers_of}

@@ -25,12 +25,12 @@ use Rattle.split_laws.specs.Counted.{IsIn}
 use Rattle.split_laws.proofs.Basics.{in_back, in_front}
 use Rattle.monomorph.specs.declared.found.Found.{Found}
 use Rattle.monomorph.specs.declared.found.Found.TheVariants as F
-use Rattle.monomorph.specs.declared.found.Instance.{Instance}
+use Rattle.sized_nodes.specs.declared.trees.Instance.{Instance}
 use Rattle.monomorph.specs.Found.{instances_in}
 use Rattle.monomorph.specs.Instances.{model_of, or_none}
 use Rattle.monomorph.specs.Lasts.{Model}
-use Rattle.sized_trees.specs.declared.trees.SizedInstance.{SizedInstance}
-use Rattle.sized_trees.specs.declared.trees.SizedCore.{SizedCore}
+use Rattle.sized_nodes.specs.declared.trees.SizedInstance.{SizedInstance}
+use Rattle.sized_nodes.specs.declared.trees.SizedCore.{SizedCore}
 use Rattle.sized_trees.specs.Trees.{sized_instance, sized_list}
 use Rattle.checked_meaning.specs.Checked.{Cases, Checks}
 use Rattle.sized_meanings.specs.Sized.{entered, numbers_of}

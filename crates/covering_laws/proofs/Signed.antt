@@ -20,10 +20,10 @@ use Rattle.value_laws.proofs.Basics.{no}
 use Rattle.size_values.specs.declared.sized.Sized.{Sized}
 use Rattle.size_values.specs.Numbers.{known_of}
 use Rattle.split_laws.specs.Counted.{Agrees}
-use Rattle.monomorph.specs.declared.found.Instance.{Instance}
+use Rattle.sized_nodes.specs.declared.trees.Instance.{Instance}
 use Rattle.monomorph.specs.Reading.{Inside}
 use Rattle.checked_meaning.specs.Fits.{AllFit, has_sizes}
-use Rattle.sized_trees.specs.declared.trees.Case.{Case}
+use Rattle.sized_nodes.specs.declared.trees.Case.{Case}
 use Rattle.sized_trees.specs.Bodies.{value_at}
 use Rattle.sized_trees.specs.Cases.{sized_under}
 use Rattle.sized_trees.specs.Combinations.{picked_by}

@@ -3,9 +3,9 @@ use Rattle.std.proofs.Common.{◌≡◌, ◌∙◌, ap, refl, sym, ℤ, Option, 
 use Rattle.value_indices.specs.Steps.{Note}
 use Rattle.size_values.specs.declared.sized.Sized.{Sized}
 use Rattle.size_splits.specs.Bodies.{Body}
-use Rattle.monomorph.specs.declared.found.Instance.{Instance}
+use Rattle.sized_nodes.specs.declared.trees.Instance.{Instance}
 use Rattle.monomorph.specs.Lasts.{Model}
-use Rattle.sized_trees.specs.declared.trees.NodeSizes.{NodeSizes}
+use Rattle.sized_nodes.specs.declared.trees.NodeSizes.{NodeSizes}
 use Rattle.sized_trees.specs.Bodies.{at_note, at_notes, sized_body}
 use Rattle.sized_meanings.specs.Sized.{joined_nodes}
 use Rattle.node_counts.specs.Told.{all_noted, note_in}

@@ -20,11 +20,11 @@ use Rattle.size_splits.specs.Sizing.{Sizing}
 use Rattle.split_laws.specs.Counted.{IsCounted, IsIn}
 use Rattle.monomorph.specs.declared.found.Found.{Found}
 use Rattle.monomorph.specs.declared.found.Found.TheVariants as F
-use Rattle.monomorph.specs.declared.found.Instance.{Instance}
+use Rattle.sized_nodes.specs.declared.trees.Instance.{Instance}
 use Rattle.monomorph.specs.Reading.{Inside, under}
 use Rattle.checked_meaning.specs.Checked.{Cases, Noted}
 use Rattle.checked_meaning.specs.Fits.{AllFit}
-use Rattle.sized_trees.specs.declared.trees.SizedInstance.{SizedInstance}
+use Rattle.sized_nodes.specs.declared.trees.SizedInstance.{SizedInstance}
 use Rattle.sized_meanings.specs.Sized.{cases_by}
 use Rattle.soundness_steps.specs.Works.{IsExact, Setting, Work}
 use Rattle.soundness_steps.specs.Noted.{IsSo}

@@ -13,8 +13,8 @@ use Rattle.value_laws.proofs.Basics.{no, two}
 use Rattle.size_values.specs.Sized.{all_eq}
 use Rattle.split_laws.specs.Counted.{IsIn}
 use Rattle.exact_sizes.proofs.Known.{none}
-use Rattle.sized_trees.specs.declared.trees.SizedInstance.{SizedInstance}
-use Rattle.sized_trees.specs.declared.trees.SizedCore.{SizedCore}
+use Rattle.sized_nodes.specs.declared.trees.SizedInstance.{SizedInstance}
+use Rattle.sized_nodes.specs.declared.trees.SizedCore.{SizedCore}
 use Rattle.sized_meanings.specs.Sized.{entered, first_for, if_for, is_for, numbers_of}
 use Rattle.soundness_steps.specs.Works.{Work}
 use Rattle.covering_laws.specs.Covered.{at_first, at_place, at_work, first_of, function_covered, if_at, is_at, same_numbers, same_option}

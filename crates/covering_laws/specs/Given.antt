@@ -26,7 +26,7 @@ use Rattle.size_laws.specs.Told.{reading_told}
 use Rattle.size_splits.specs.Bodies.{Body}
 use Rattle.size_splits.specs.Sizing.{Sizing, flags_of}
 use Rattle.size_splits.specs.Splits.{counted}
-use Rattle.monomorph.specs.declared.found.Instance.{Instance}
+use Rattle.sized_nodes.specs.declared.trees.Instance.{Instance}
 use Rattle.monomorph.specs.Reading.{Inside, instance_of, under}
 use Rattle.checked_meaning.specs.Checked.{Cases, Noted}
 use Rattle.sized_trees.specs.Cases.{place_in}

@@ -4,8 +4,8 @@ use Rattle.sail_types.specs.Places.{an_int}
 use Rattle.size_values.specs.Sized.{all_eq}
 use Rattle.size_splits.specs.Bodies.{Body}
 use Rattle.size_splits.specs.Sizing.{Sizing}
-use Rattle.monomorph.specs.declared.found.Instance.{Instance}
-use Rattle.sized_trees.specs.declared.trees.SizedInstance.{SizedInstance}
+use Rattle.sized_nodes.specs.declared.trees.Instance.{Instance}
+use Rattle.sized_nodes.specs.declared.trees.SizedInstance.{SizedInstance}
 use Rattle.checked_meaning.specs.Fits.{AllFit}
 use Rattle.sized_meanings.specs.Sized.{cases_by, numbers_of}
 use Rattle.split_laws.specs.Counted.{IsIn}

@@ -17,12 +17,12 @@ use Rattle.size_values.specs.declared.sized.Sized.TheVariants as S
 use Rattle.size_splits.specs.Bodies.{Body}
 use Rattle.size_splits.specs.Sizing.{Sizing}
 use Rattle.monomorph.specs.declared.found.Found.{Found}
-use Rattle.monomorph.specs.declared.found.Instance.{Instance}
+use Rattle.sized_nodes.specs.declared.trees.Instance.{Instance}
 use Rattle.monomorph.specs.Found.{instances_in}
 use Rattle.monomorph.specs.Instances.{one_or_none, or_none}
 use Rattle.monomorph.specs.Lasts.{Model}
 use Rattle.checked_meaning.specs.Checked.{Cases, Checks}
-use Rattle.sized_trees.specs.declared.trees.NodeSizes.{NodeSizes}
+use Rattle.sized_nodes.specs.declared.trees.NodeSizes.{NodeSizes}
 use Rattle.sized_meanings.specs.Noting.{noted_by_all}
 use Rattle.sized_meanings.specs.Present.{gives_at}
 use Rattle.sized_meanings.specs.Sized.{numbers_of}

@@ -5,7 +5,7 @@ use Rattle.sail_core.specs.declared.model.CoreModel.{CoreModel}
 use Rattle.constraint_gen.specs.Models.{around_of}
 use Rattle.size_notes.specs.Bodies.{bodies_of}
 use Rattle.monomorph.specs.Instances.{model_of}
-use Rattle.sized_trees.specs.declared.trees.SizedCore.{SizedCore}
+use Rattle.sized_nodes.specs.declared.trees.SizedCore.{SizedCore}
 use Rattle.sized_trees.specs.Trees.{sized_core}
 use Rattle.sized_meanings.specs.Sized.{checks_by}
 use Rattle.soundness_steps.specs.Works.{Coverage, Setting}

@@ -21,9 +21,9 @@ use Rattle.size_values.specs.Numbers.{known_of, value_of}
 use Rattle.size_splits.specs.Bodies.{Body}
 use Rattle.size_splits.specs.Sizing.{Sizing}
 use Rattle.size_splits.specs.Splits.{counted}
-use Rattle.monomorph.specs.declared.found.Instance.{Instance}
+use Rattle.sized_nodes.specs.declared.trees.Instance.{Instance}
 use Rattle.monomorph.specs.Reading.{Inside, reading_of, under}
-use Rattle.sized_trees.specs.declared.trees.NodeSizes.{NodeSizes}
+use Rattle.sized_nodes.specs.declared.trees.NodeSizes.{NodeSizes}
 use Rattle.sized_trees.specs.Bodies.{at_note}
 use Rattle.sized_trees.specs.Combinations.{is_given}
 use Rattle.sized_meanings.specs.Present.{gives_at}

@@ -17,8 +17,8 @@ use Rattle.sail_core.specs.Targets as M
 use Rattle.checked_meaning.specs.Checked.{Noted}
 use Rattle.sized_meanings.specs.Present.{is_noted, is_present, present_lead}
 use Rattle.checked_meaning.specs.Items.{Item, vals, typs}
-use Rattle.sized_trees.specs.declared.trees.Case.{Case}
-use Rattle.sized_trees.specs.declared.trees.Lead.{Lead}
+use Rattle.sized_nodes.specs.declared.trees.Case.{Case}
+use Rattle.sized_nodes.specs.declared.trees.Lead.{Lead}
 use Rattle.lowered_pieces.specs.Places.{Raised, Temp}
 use Rattle.lowered_pieces.specs.Chains.{by_case, many}
 use Rattle.lowered_pieces.specs.Moves.{sources}

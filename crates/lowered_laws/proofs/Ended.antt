@@ -13,7 +13,7 @@ use Rattle.sail_core.specs.Run.{Now, Run, gives, throws, ◌then◌}
 use Rattle.sail_core.specs.Making.{made}
 use Rattle.checked_meaning.specs.Checked.{Noted}
 use Rattle.checked_meaning.specs.Items.{Item, item, typs}
-use Rattle.sized_trees.specs.declared.trees.Case.{Case}
+use Rattle.sized_nodes.specs.declared.trees.Case.{Case}
 use Rattle.sized_meanings.specs.Present.{present_case}
 use Rattle.lowered_pieces.specs.Places.{Raised, Temp, from, to}
 use Rattle.lowered_laws.specs.Standing.{HasAt, Tested}

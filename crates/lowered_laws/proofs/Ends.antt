@@ -20,7 +20,7 @@ use Rattle.size_values.specs.declared.constants.Picked.{Picked}
 use Rattle.size_values.specs.declared.sized.Sized.{Sized}
 use Rattle.checked_meaning.specs.Checked.{Noted, noting}
 use Rattle.checked_meaning.specs.Items.{Item, item, typs}
-use Rattle.sized_trees.specs.declared.trees.Case.{Case}
+use Rattle.sized_nodes.specs.declared.trees.Case.{Case}
 use Rattle.sized_meanings.specs.Noting.{Noting, each_noted, form_noted, noted_by, noted_by_each, noted_for, reading_noted, value_noted}
 use Rattle.sized_meanings.specs.Present.{is_noted, is_present, is_same, present, present_case}
 use Rattle.lowered_pieces.specs.Forms.{End, all_notes, cases_apart, cases_ends, ends_of, form_notes, has_ends, is_in, joined, notes_of, one_end, one_or_none}

@@ -18,8 +18,8 @@ use Rattle.size_values.specs.declared.sized.Sized.{Sized}
 use Rattle.checked_meaning.specs.Checked.{Cases, Noted, checked, noting}
 use Rattle.checked_meaning.specs.Fits.{has_sizes}
 use Rattle.checked_meaning.specs.Items.{Item, item, typs}
-use Rattle.sized_trees.specs.declared.trees.Case.{Case}
-use Rattle.sized_trees.specs.declared.trees.Lead.{Lead}
+use Rattle.sized_nodes.specs.declared.trees.Case.{Case}
+use Rattle.sized_nodes.specs.declared.trees.Lead.{Lead}
 use Rattle.sized_meanings.specs.Present.{present_case, present_lead}
 use Rattle.lowered_laws.proofs.Chosen.{some_is}
 use Rattle.lowered_pieces.specs.Tables.{Tables}

@@ -22,7 +22,7 @@ use Rattle.sail_core.specs.Run.{Now, Run, after_row, ended_as, goes_on, in_turn,
 use Rattle.sail_core.specs.Making.{World, made}
 use Rattle.sail_core.specs.Targets.{called}
 use Rattle.checked_meaning.specs.Items.{Item, item, vals}
-use Rattle.sized_trees.specs.declared.trees.Case.{Case}
+use Rattle.sized_nodes.specs.declared.trees.Case.{Case}
 use Rattle.sized_meanings.specs.Present.{present_case}
 use Rattle.lowered_pieces.specs.Places.{Temp, to}
 use Rattle.lowered_laws.specs.Standing.{HasAt}

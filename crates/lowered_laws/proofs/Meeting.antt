@@ -6,7 +6,7 @@ use Rattle.sail_core.specs.Run.{Run}
 use Rattle.sail_core.specs.Making.{made, nothing}
 use Rattle.sail_core.specs.Meaning.{met_at}
 use Rattle.checked_meaning.specs.Items.{Item}
-use Rattle.sized_trees.specs.declared.trees.Case.{Case}
+use Rattle.sized_nodes.specs.declared.trees.Case.{Case}
 use Rattle.lowered_pieces.specs.Places.{Temp}
 use Rattle.lowered_pieces.specs.Chains.{many}
 use Rattle.lowered_laws.proofs.Pieces.{has_front, has_back}

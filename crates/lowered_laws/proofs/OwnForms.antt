@@ -21,8 +21,8 @@ use Rattle.jib.specs.declared.code.Operation.{Operation}
 use Rattle.jib.specs.declared.code.Operation.TheVariants as O
 use Rattle.jib.specs.declared.code.Instruction.{Instruction}
 use Rattle.jib.specs.declared.code.Instruction.TheVariants as I
-use Rattle.sized_trees.specs.declared.trees.Case.{Case}
-use Rattle.sized_trees.specs.declared.trees.Lead.{Lead}
+use Rattle.sized_nodes.specs.declared.trees.Case.{Case}
+use Rattle.sized_nodes.specs.declared.trees.Lead.{Lead}
 use Rattle.lowered_pieces.specs.Places.{Temp, Kit, from, to}
 use Rattle.lowered_pieces.specs.Chains.{by_case, many}
 use Rattle.lowered_laws.specs.CodeLaws.{Own, inside, sets}

@@ -31,7 +31,7 @@ use Rattle.sail_core.specs.declared.tree.Statement.TheVariants as S
 use Rattle.sail_core.specs.declared.tree.Kind.{Kind}
 use Rattle.sail_core.specs.declared.tree.Kind.TheVariants as K
 use Rattle.sail_core.specs.declared.tree.Core.{Core, Core-F, roll-Core, fold-roll-Core, map-Core, ind-Core}
-use Rattle.sized_trees.specs.declared.trees.Case.{Case}
+use Rattle.sized_nodes.specs.declared.trees.Case.{Case}
 use Rattle.sail_types.specs.declared.types.Typ.TheVariants as T
 use Rattle.sail_core.specs.Values.{int_typ, literal_typ}
 use Rattle.lowered_pieces.specs.Places.{Raised, Temp, Kit, from, to}

@@ -6,7 +6,7 @@ use Rattle.sail_types.specs.declared.table.Types.{Types}
 use Rattle.sail_core.specs.declared.tree.Counting.{Counting}
 use Rattle.value_indices.specs.declared.indices.Indices.{Indices}
 use Rattle.size_values.specs.declared.sized.Sized.{Sized, out-Sized}
-use Rattle.sized_trees.specs.declared.trees.Case.{Case}
+use Rattle.sized_nodes.specs.declared.trees.Case.{Case}
 use Rattle.jib.specs.declared.code.Source.{Source}
 use Rattle.jib.specs.declared.code.Operation.TheVariants as O
 use Rattle.jib.specs.declared.code.Instruction.{Instruction}

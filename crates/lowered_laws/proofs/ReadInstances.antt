@@ -7,8 +7,8 @@ use Rattle.sail_types.specs.Sums.{and_then}
 use Rattle.sail_core.specs.Numbers.{Givens, all_agree}
 use Rattle.sail_core.specs.declared.model.CoreModel.{CoreModel}
 use Rattle.value_laws.proofs.Basics.{two}
-use Rattle.sized_trees.specs.declared.trees.SizedCore.{SizedCore}
-use Rattle.sized_trees.specs.declared.trees.SizedInstance.{SizedInstance}
+use Rattle.sized_nodes.specs.declared.trees.SizedCore.{SizedCore}
+use Rattle.sized_nodes.specs.declared.trees.SizedInstance.{SizedInstance}
 use Rattle.sized_meanings.specs.Sized.{cases_by, entered, entering, first_for, if_for, is_for, nodes_for, numbers_of, signature_for}
 use Rattle.lowered_laws.specs.KnownLaws.{InstancesRead}
 

@@ -29,7 +29,7 @@ use Rattle.sail_core.specs.Targets.{Spot, Spotted, Spotting, also, assigned, par
 use Rattle.sail_core.specs.Targets.{write_register}
 use Rattle.checked_meaning.specs.Checked.{Noted}
 use Rattle.checked_meaning.specs.Items.{Item, vals}
-use Rattle.sized_trees.specs.declared.trees.Case.{Case}
+use Rattle.sized_nodes.specs.declared.trees.Case.{Case}
 use Rattle.sized_meanings.specs.Noting.{noted_by_each}
 use Rattle.sized_meanings.specs.Present.{present_case}
 use Rattle.lowered_pieces.specs.Chains.{by_case, many as many_}

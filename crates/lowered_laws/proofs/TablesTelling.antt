@@ -15,11 +15,11 @@ use Rattle.size_values.specs.Sized.{all_eq}
 use Rattle.exact_sizes.proofs.Equal.{all_same}
 use Rattle.checked_meaning.specs.Checked.{Noted}
 use Rattle.checked_meaning.specs.Fits.{has_sizes}
-use Rattle.sized_trees.specs.declared.trees.Case.{Case}
-use Rattle.sized_trees.specs.declared.trees.Lead.{Lead}
-use Rattle.sized_trees.specs.declared.trees.NodeSizes.{NodeSizes}
-use Rattle.sized_trees.specs.declared.trees.NodeSizes.TheVariants as Z
-use Rattle.sized_trees.specs.declared.trees.SizedInstance.{SizedInstance}
+use Rattle.sized_nodes.specs.declared.trees.Case.{Case}
+use Rattle.sized_nodes.specs.declared.trees.Lead.{Lead}
+use Rattle.sized_nodes.specs.declared.trees.NodeSizes.{NodeSizes}
+use Rattle.sized_nodes.specs.declared.trees.NodeSizes.TheVariants as Z
+use Rattle.sized_nodes.specs.declared.trees.SizedInstance.{SizedInstance}
 use Rattle.value_indices.specs.declared.indices.Indices.{Indices}
 use Rattle.sized_meanings.specs.Noting.{noted_by, noted_by_each}
 use Rattle.sized_meanings.specs.Present.{present_case, present_lead, is_noted, is_present, first_in, if_at, lead_in, gives_at}

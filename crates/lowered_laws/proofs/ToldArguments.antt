@@ -13,8 +13,8 @@ use Rattle.value_laws.proofs.Basics.{no}
 use Rattle.split_laws.proofs.Basics.{none}
 use Rattle.checked_meaning.specs.Fits.{has_sizes}
 use Rattle.checked_meaning.specs.Items.{Item, item, items_of, typs, vals}
-use Rattle.sized_trees.specs.declared.trees.Case.{Case}
-use Rattle.sized_trees.specs.declared.trees.Told.{Told}
+use Rattle.sized_nodes.specs.declared.trees.Case.{Case}
+use Rattle.sized_nodes.specs.declared.trees.Told.{Told}
 use Rattle.sized_meanings.specs.Present.{present_case}
 use Rattle.sized_meanings.specs.Sized.{all_told, if_told, nothing_noted, told_type}
 use Rattle.lowered_pieces.specs.Nodes.{all_plain, is_empty, only_type, plain_cases, plain_told, told_as}

@@ -34,7 +34,7 @@ use Rattle.sail_core.specs.Making.{World, made}
 use Rattle.sail_core.specs.Meaning.{built as built_of}
 use Rattle.sail_core.specs.Targets as M
 use Rattle.checked_meaning.specs.Items.{Item, vals, typs}
-use Rattle.sized_trees.specs.declared.trees.Case.{Case}
+use Rattle.sized_nodes.specs.declared.trees.Case.{Case}
 use Rattle.lowered_pieces.specs.Places.{Temp, to}
 use Rattle.lowered_pieces.specs.Moves.{sources}
 use Rattle.lowered_laws.specs.Standing.{HasAt, Tested}

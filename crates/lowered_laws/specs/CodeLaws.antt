@@ -7,8 +7,8 @@ use Rattle.jib.specs.declared.code.Module.{Module}
 use Rattle.jib.specs.Jib.{Slots, Store, Outcome, Here, Runs, code_of, slots_of}
 use Rattle.size_values.specs.declared.constants.Picked.{Picked}
 use Rattle.checked_meaning.specs.Checked.{Noted}
-use Rattle.sized_trees.specs.declared.trees.Case.{Case}
-use Rattle.sized_trees.specs.declared.trees.Lead.{Lead}
+use Rattle.sized_nodes.specs.declared.trees.Case.{Case}
+use Rattle.sized_nodes.specs.declared.trees.Lead.{Lead}
 use Rattle.sized_meanings.specs.Present.{present}
 use Rattle.lowered_pieces.specs.Places.{Kit, Names, HasSlots}
 use Rattle.lowered_laws.specs.Standing.{HasAt, Types, Tested, Told}

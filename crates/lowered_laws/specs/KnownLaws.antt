@@ -12,9 +12,9 @@ use Rattle.size_values.specs.Numbers.{known_at, known_of, truth_of, value_of}
 use Rattle.size_values.specs.declared.sized.Sized.{Sized}
 use Rattle.checked_meaning.specs.Fits.{has_sizes}
 use Rattle.checked_meaning.specs.Items.{Item, items_of, typs, vals}
-use Rattle.sized_trees.specs.declared.trees.SizedCore.{SizedCore}
-use Rattle.sized_trees.specs.declared.trees.SizedInstance.{SizedInstance}
-use Rattle.sized_trees.specs.declared.trees.Told.{Told}
+use Rattle.sized_nodes.specs.declared.trees.SizedCore.{SizedCore}
+use Rattle.sized_nodes.specs.declared.trees.SizedInstance.{SizedInstance}
+use Rattle.sized_nodes.specs.declared.trees.Told.{Told}
 use Rattle.sized_meanings.specs.Sized.{all_told, cases_by, checks_by, entering, joined_nodes, numbers_of}
 use Rattle.lowered_pieces.specs.Nodes.{all_plain, told_as}
 

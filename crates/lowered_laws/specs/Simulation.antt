@@ -21,7 +21,7 @@ use Rattle.sail_core.specs.Values.{bits_typ, int_typ}
 use Rattle.sail_core.specs.Making.{Making, World, component, one_item, payload}
 use Rattle.size_values.specs.declared.sized.Sized.{Sized, out-Sized}
 use Rattle.size_values.specs.declared.sized.Sized.TheVariants as S
-use Rattle.sized_trees.specs.declared.trees.Lead.{Lead}
+use Rattle.sized_nodes.specs.declared.trees.Lead.{Lead}
 use Rattle.sized_meanings.specs.Present.{present, present_lead}
 use Rattle.checked_meaning.specs.Checked.{Cases, Noted, checked}
 use Rattle.checked_meaning.specs.Fits.{has_sizes}

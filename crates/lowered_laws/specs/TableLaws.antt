@@ -1,8 +1,8 @@
 -- How the meaning under constant sizes goes by the tables that code is made with.
 use Rattle.std.specs.Prelude.{◌≡◌, Bool, true, List}
 use Rattle.sail_types.specs.declared.table.Types.{Types}
-use Rattle.sized_trees.specs.declared.trees.NodeSizes.{NodeSizes}
-use Rattle.sized_trees.specs.declared.trees.SizedInstance.{SizedInstance}
+use Rattle.sized_nodes.specs.declared.trees.NodeSizes.{NodeSizes}
+use Rattle.sized_nodes.specs.declared.trees.SizedInstance.{SizedInstance}
 use Rattle.sized_meanings.specs.Sized.{cases_of, noted_cases_of}
 use Rattle.lowered_laws.specs.Telling.{Tells}
 use Rattle.size_values.specs.declared.sized.Sized.{Sized}

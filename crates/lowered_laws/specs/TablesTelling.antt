@@ -1,10 +1,10 @@
 -- What is asked of the tables of a body: the types of all that nodes make have numbers, and of one node and count of operands nothing else is said.
 use Rattle.std.specs.Prelude.{◌≡◌, ℕ, nat_eq, Bool, true, ◌&&◌, List, [], ◌∷◌}
 use Rattle.size_values.specs.declared.sized.Sized.{Sized}
-use Rattle.sized_trees.specs.declared.trees.Case.{Case}
-use Rattle.sized_trees.specs.declared.trees.Lead.{Lead}
-use Rattle.sized_trees.specs.declared.trees.NodeSizes.{NodeSizes}
-use Rattle.sized_trees.specs.declared.trees.NodeSizes.TheVariants as Z
+use Rattle.sized_nodes.specs.declared.trees.Case.{Case}
+use Rattle.sized_nodes.specs.declared.trees.Lead.{Lead}
+use Rattle.sized_nodes.specs.declared.trees.NodeSizes.{NodeSizes}
+use Rattle.sized_nodes.specs.declared.trees.NodeSizes.TheVariants as Z
 use Rattle.lowered_pieces.specs.Nodes.{takes_many}
 
 -- the types of all values that nodes make have numbers

@@ -8,8 +8,8 @@ use Rattle.sail_core.specs.Numbers.{Instance}
 use Rattle.size_values.specs.declared.sized.Sized.{Sized}
 use Rattle.checked_meaning.specs.Checked.{Cases, Noted}
 use Rattle.checked_meaning.specs.Fits.{has_sizes}
-use Rattle.sized_trees.specs.declared.trees.Case.{Case}
-use Rattle.sized_trees.specs.declared.trees.Lead.{Lead}
+use Rattle.sized_nodes.specs.declared.trees.Case.{Case}
+use Rattle.sized_nodes.specs.declared.trees.Lead.{Lead}
 use Rattle.sized_meanings.specs.Noting.{noted_by_each}
 use Rattle.sized_meanings.specs.Present.{present_case, present_lead}
 use Rattle.lowered_pieces.specs.Tables.{Tables}

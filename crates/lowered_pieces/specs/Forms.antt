@@ -25,8 +25,8 @@ use Rattle.jib.specs.declared.code.Instruction.{Instruction}
 use Rattle.jib.specs.declared.code.Instruction.TheVariants as I
 use Rattle.sail_types.specs.declared.table.Types.{Types}
 use Rattle.checked_meaning.specs.Items.{payload_typ}
-use Rattle.sized_trees.specs.declared.trees.Case.{Case}
-use Rattle.sized_trees.specs.declared.trees.Lead.{Lead}
+use Rattle.sized_nodes.specs.declared.trees.Case.{Case}
+use Rattle.sized_nodes.specs.declared.trees.Lead.{Lead}
 use Rattle.lowered_pieces.specs.Places.{Place, Raised, Local, Number, Temp, Kit, from, to}
 use Rattle.sail_types.specs.declared.numbers.Num.{Num}
 use Rattle.sail_types.specs.declared.numbers.Con.{Con}

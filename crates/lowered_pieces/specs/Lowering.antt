@@ -28,7 +28,7 @@ use Rattle.lowered_pieces.specs.Places.{Naming, Kit}
 use Rattle.lowered_pieces.specs.Tables.{Tables, leads_to}
 use Rattle.lowered_pieces.specs.Arms.{arm_lowered, arms_lowered, constant_of, match_piece, let_piece, clauses_piece, try_piece}
 use Rattle.sail_types.specs.declared.rows.Row.{Row}
-use Rattle.sized_trees.specs.declared.trees.Case.{Case}
+use Rattle.sized_nodes.specs.declared.trees.Case.{Case}
 use Rattle.lowered_pieces.specs.Paths.{path_piece}
 use Rattle.lowered_pieces.specs.Gathered.{state_piece, all_one, is_one}
 use Rattle.lowered_pieces.specs.Writes.{target_spot, assign_piece, spot_lowered}

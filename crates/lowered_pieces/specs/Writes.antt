@@ -22,7 +22,7 @@ use Rattle.jib.specs.declared.code.Operation.TheVariants as O
 use Rattle.jib.specs.declared.code.Instruction.{Instruction}
 use Rattle.jib.specs.declared.code.Instruction.TheVariants as I
 use Rattle.jib.specs.declared.code.Target.TheVariants as J
-use Rattle.sized_trees.specs.declared.trees.Case.{Case}
+use Rattle.sized_nodes.specs.declared.trees.Case.{Case}
 use Rattle.lowered_pieces.specs.Places.{Kit, Temp, from, to}
 use Rattle.lowered_pieces.specs.Tables.{Tables, leads_to}
 use Rattle.lowered_pieces.specs.Chains.{by_case, many}

@@ -64,7 +64,7 @@ use Rattle.sail_core.specs.declared.patterns.Head.{Head}
 use Rattle.sail_core.specs.declared.patterns.Step.{Step}
 use Rattle.sail_types.specs.declared.table.Types.{Types}
 use Rattle.size_values.specs.declared.sized.Sized.{Sized, out-Sized}
-use Rattle.sized_trees.specs.declared.trees.Case.{Case}
+use Rattle.sized_nodes.specs.declared.trees.Case.{Case}
 use Rattle.value_indices.specs.declared.indices.Indices.{Indices, out-Indices}
 use Rattle.value_indices.specs.declared.indices.Indices.TheOpen.{Indices-F}
 use Rattle.value_indices.specs.declared.indices.Reading.{Reading}

@@ -37,7 +37,7 @@ use Rattle.lowered_validity.specs.Typing.{are_of, cases_right, comes, gives_in, 
 use Rattle.model_state.specs.declared.cause.Cause.{Cause}
 use Rattle.sail_types.specs.declared.table.Types.{Types}
 use Rattle.size_values.specs.declared.sized.Sized.{Sized}
-use Rattle.sized_trees.specs.declared.trees.Case.{Case}
+use Rattle.sized_nodes.specs.declared.trees.Case.{Case}
 use Rattle.value_indices.specs.declared.indices.Indices.{Indices}
 
 module _ (types : Types) (ss : List Sized) (callees : Callees) (m : Module) (f : Function) (n : ℕ) (name : Naming) (g : Signs)

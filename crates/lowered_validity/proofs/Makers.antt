@@ -38,7 +38,7 @@ use Rattle.lowered_validity.specs.Typing.{cases_right, comes, first_number, give
 use Rattle.lowered_validity.specs.Typing.{is_work, numbers, one_operand, operands, picks_small, shell, takes_fields, with_slots, works}
 use Rattle.sail_types.specs.declared.table.Types.{Types}
 use Rattle.size_values.specs.declared.sized.Sized.{Sized}
-use Rattle.sized_trees.specs.declared.trees.Case.{Case}
+use Rattle.sized_nodes.specs.declared.trees.Case.{Case}
 use Rattle.value_indices.specs.declared.indices.Indices.{Indices}
 
 module _ (types : Types) (ss : List Sized) (callees : Callees) (m : Module) (f : Function) (n : ℕ) (name : Naming) (g : Signs)

@@ -44,7 +44,7 @@ use Rattle.lowered_validity.specs.Typing.{Typing, are_of, arm_right, cases_right
 use Rattle.sail_core.specs.declared.patterns.Arm.{Arm}
 use Rattle.sail_types.specs.declared.table.Types.{Types}
 use Rattle.size_values.specs.declared.sized.Sized.{Sized}
-use Rattle.sized_trees.specs.declared.trees.Case.{Case}
+use Rattle.sized_nodes.specs.declared.trees.Case.{Case}
 use Rattle.value_indices.specs.declared.indices.Indices.{Indices}
 
 no_way : {A : Type 0} → false ≡ true → A

@@ -60,8 +60,8 @@ use Rattle.sail_core.specs.declared.targets.Way.{Way}
 use Rattle.sail_types.specs.declared.rows.Row.{Row}
 use Rattle.sail_types.specs.declared.table.Types.{Types}
 use Rattle.size_values.specs.declared.sized.Sized.{Sized}
-use Rattle.sized_trees.specs.declared.trees.Case.{Case}
-use Rattle.sized_trees.specs.declared.trees.Lead.{Lead}
+use Rattle.sized_nodes.specs.declared.trees.Case.{Case}
+use Rattle.sized_nodes.specs.declared.trees.Lead.{Lead}
 use Rattle.value_indices.specs.declared.indices.Indices.{Indices}
 
 module _ (types : Types) (ss : List Sized) (callees : Callees) (m : Module) (f : Function) (n : ℕ) (name : Naming) (g : Signs)

@@ -29,8 +29,8 @@ use Rattle.row_types.specs.Calls.{has_state}
 use Rattle.size_values.specs.declared.constants.Picked.{Picked}
 use Rattle.size_values.specs.declared.sized.Sized.{Sized, out-Sized}
 use Rattle.size_values.specs.declared.sized.Sized.TheVariants as Z
-use Rattle.sized_trees.specs.declared.trees.Case.{Case}
-use Rattle.sized_trees.specs.declared.trees.Lead.{Lead}
+use Rattle.sized_nodes.specs.declared.trees.Case.{Case}
+use Rattle.sized_nodes.specs.declared.trees.Lead.{Lead}
 use Rattle.checked_meaning.specs.Items.{fixed_typ, part_typ}
 use Rattle.jib.specs.declared.code.Literal.{Literal}
 use Rattle.jib.specs.declared.code.Literal.TheVariants as L

@@ -2,7 +2,7 @@
 use Rattle.std.proofs.Common.{◌≡◌, ◌∙◌, ap, sym, refl, ℕ, ◌+◌, ◌<◌, List, [], ◌∷◌, ◌++◌, drop, length, get_or, min, arith, length-drop}
 use Rattle.std.proofs.Common.{append_assoc, append-nil}
 use Rattle.std.specs.Prelude.{ℤ, Bool, Option}
-use Rattle.function_notes.proofs.Lists.{rest_at}
+use Rattle.size_notes.proofs.Lists.{rest_at}
 use Rattle.size_values.specs.declared.constants.Constant.{Constant}
 use Rattle.size_values.specs.Sized.{number_where}
 use Rattle.monomorph.specs.Reading.{given}

@@ -9,7 +9,7 @@ use Rattle.size_splits.specs.declared.bodies.BodySteps.{BodySteps}
 use Rattle.sail_core.specs.declared.model.Opening.{Opening}
 use Rattle.sail_core.specs.declared.model.RegisterText.{RegisterText}
 use Rattle.model_state.specs.declared.state.Register.{Register}
-use Rattle.function_notes.proofs.Lists.{rest_at}
+use Rattle.size_notes.proofs.Lists.{rest_at}
 use Rattle.size_splits.specs.Bodies.{Body, body_read}
 use Rattle.monomorph.specs.declared.error.MonoError.{MonoError}
 use Rattle.monomorph.specs.declared.found.Found.{Found}

@@ -14,7 +14,7 @@ use Rattle.value_indices.specs.declared.notes.Step.TheVariants as S
 use Rattle.value_indices.specs.Steps.{Note}
 use Rattle.value_indices.specs.Walking.{Written, begun, step_read, steps_read}
 use Rattle.value_indices.proofs.Written.{steps_behind}
-use Rattle.function_notes.proofs.Lists.{rest_at, none_left}
+use Rattle.size_notes.proofs.Lists.{rest_at, none_left}
 use Rattle.size_values.specs.declared.constants.Constant.{Constant}
 use Rattle.size_values.specs.declared.constants.Picked.{Picked}
 use Rattle.size_values.specs.Numbers.{known_of}

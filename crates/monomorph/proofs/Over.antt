@@ -1,7 +1,7 @@
 -- One after another, up to the first refusal, and instances that are counted.
 use Rattle.std.proofs.Common.{◌≡◌, ◌∙◌, ap, sym, ℕ, ◌+◌, ◌<◌, ◌≤◌, List, drop, length, get_or, map, arith, length-append}
 use Rattle.std.specs.Prelude.{Option, Some, None, Err}
-use Rattle.function_notes.proofs.Lists.{rest_at, none_left}
+use Rattle.size_notes.proofs.Lists.{rest_at, none_left}
 use Rattle.monomorph.specs.declared.error.MonoError.{MonoError}
 use Rattle.monomorph.specs.declared.found.Found.{Found}
 use Rattle.monomorph.specs.Found.{Answer, and_then, instance_in, instances_in, outcome, over}

@@ -9,7 +9,7 @@ use Rattle.monomorph.specs.declared.error.MonoError.{MonoError}
 use Rattle.monomorph.specs.declared.error.MonoError.TheVariants as E
 use Rattle.monomorph.specs.declared.found.Found.{Found}
 use Rattle.monomorph.specs.declared.found.Found.TheVariants as F
-use Rattle.monomorph.specs.declared.found.Instance.{Instance}
+use Rattle.sized_nodes.specs.declared.trees.Instance.{Instance}
 use Rattle.monomorph.specs.Found.{Answer, and_then, instances_in, most_instances}
 use Rattle.monomorph.specs.Lasts.{Model, read_bodies, read_lasts}
 

@@ -11,7 +11,7 @@ use Rattle.sail_core.specs.declared.model.CoreModel.{CoreModel}
 use Rattle.sail_core.specs.declared.model.Opening.{Opening}
 use Rattle.sail_core.specs.declared.model.RegisterText.{RegisterText}
 use Rattle.value_indices.specs.declared.indices.Reading.TheVariants as R
-use Rattle.constraint_gen.specs.Models.{is_before}
+use Rattle.size_notes.specs.Models.{is_before}
 use Rattle.size_values.specs.declared.constants.Constant.{Constant}
 use Rattle.size_values.specs.declared.constants.Constant.TheVariants as C
 use Rattle.size_values.specs.declared.sized.Sized.{Sized}

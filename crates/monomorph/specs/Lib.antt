@@ -4,3 +4,5 @@ pub mod Reading
 pub mod Steps
 pub mod Lasts
 pub mod Instances
+pub use Rattle.size_notes.specs.Bodies
+pub use Rattle.size_notes.specs.Functions

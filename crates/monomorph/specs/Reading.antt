@@ -22,7 +22,7 @@ use Rattle.size_splits.specs.Sizing.{Sizing, first_named, flags_of, given_indice
 use Rattle.size_splits.specs.Splits.{counted, splits}
 use Rattle.monomorph.specs.declared.error.MonoError.{MonoError}
 use Rattle.monomorph.specs.declared.found.Found.{Found}
-use Rattle.monomorph.specs.declared.found.Instance.{Instance}
+use Rattle.sized_nodes.specs.declared.trees.Instance.{Instance}
 use Rattle.monomorph.specs.declared.inside.Inside as code
 use Rattle.monomorph.specs.Found.{Answer, add, add_mapping, over, unless, and_then}
 use Rattle.monomorph.specs.Refusals.{constants_refused, sizes_refused}

@@ -14,8 +14,9 @@ use crate::inside::Inside;
 use crate::refusals::sizes_refused;
 use sail_base::{Items, Place};
 use sail_types::Types;
-use size_splits::{BodySteps, counted, follow_telling, made_value, named_in, splits};
+use size_splits::{BodySteps, follow_telling, made_value, named_in};
 use size_values::{Picked, Sized, Variables, value_sizes};
+use split_combinations::{counted, splits};
 use std::alloc::{AllocError, Global};
 use value_indices::{Fact, Indices, Made, Step};
 

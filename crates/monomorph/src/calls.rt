@@ -7,7 +7,7 @@ ghost use Rattle.monomorph.specs.Found.{outcome};
 ghost use Rattle.monomorph.specs.Reading as spec;
 
 use crate::error::MonoError;
-use crate::found::{Found, Instance, add, add_mapping};
+use crate::found::{Found, add, add_mapping};
 use crate::inside::Inside;
 use crate::refusals::{constants_refused, sizes_refused};
 use sail_base::{Items, Place};
@@ -17,6 +17,7 @@ use size_splits::{flags_of, given_indices};
 use size_values::{
     Constant, Picked, Size, Variables, indices_under, reading_sizes, readings_sized,
 };
+use sized_nodes::Instance;
 use std::alloc::{AllocError, Global};
 use value_indices::{Indices, Reading};
 

@@ -7,18 +7,8 @@ ghost use Rattle.monomorph.specs.declared.found.Found.TheVariants as F;
 use crate::error::MonoError;
 use sail_base::{Items, Place};
 use size_values::{Sized, copy_all_sized, same_all, same_numbers};
+use sized_nodes::Instance;
 use std::alloc::{AllocError, Global};
-
-/// A function, for the numbers of its size variables, and for its Type variables.
-#[derive(Drop)]
-pub struct Instance {
-    /// The function, by its place in the model.
-    pub function: u32,
-    /// For each of its Int and Bool variables its number, where it is a size variable.
-    pub numbers: Items<Option<i128>>,
-    /// What its Type variables stand for.
-    pub types: Items<Sized>,
-}
 
 /// What is found, and read.
 pub enum Found {

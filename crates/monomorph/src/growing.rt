@@ -6,12 +6,13 @@ ghost use Rattle.monomorph.specs.Lasts as lasts;
 
 use crate::bodies::read_body;
 use crate::error::MonoError;
-use crate::found::{Found, Instance, copy_found, instances_in};
+use crate::found::{Found, copy_found, instances_in};
 use crate::lasts::{Model, read_bodies, read_lasts};
 use sail_base::Items;
 use sail_core::CoreModel;
 use size_notes::bodies;
 use size_splits::sizing_of;
+use sized_nodes::Instance;
 use std::alloc::{AllocError, Global};
 
 /// Reads a function for numbers and types. It fails where memory is wanting.

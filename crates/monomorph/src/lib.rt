@@ -16,7 +16,9 @@ mod registers;
 
 pub use calls::instance_of;
 pub use error::MonoError;
-pub use found::{Found, Instance, copy_instance, same_instance};
+pub use found::{Found, copy_instance, same_instance};
 pub use growing::{all_found, instances, listed};
 pub use inside::Inside;
 pub use lasts::Model;
+pub use size_notes::{own_indices, reading_of};
+pub use split_combinations::counted;

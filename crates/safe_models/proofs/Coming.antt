@@ -24,8 +24,8 @@ use Rattle.sail_core.specs.declared.model.Function.{Function}
 use Rattle.value_laws.proofs.Basics.{two}
 use Rattle.checked_meaning.specs.Checked.{checked, checking}
 use Rattle.checked_meaning.specs.Items.{Item, items_of}
-use Rattle.sized_trees.specs.declared.trees.SizedCore.{SizedCore}
-use Rattle.sized_trees.specs.declared.trees.SizedInstance.{SizedInstance}
+use Rattle.sized_nodes.specs.declared.trees.SizedCore.{SizedCore}
+use Rattle.sized_nodes.specs.declared.trees.SizedInstance.{SizedInstance}
 use Rattle.sized_meanings.specs.Sized.{entered, entering, first_for, if_for, is_for, noted_cases_of, noted_checks_of, nodes_for, numbers_of, signature_for}
 use Rattle.case_laws.proofs.Under.{some_alike}
 use Rattle.split_laws.proofs.Basics.{none}

@@ -19,8 +19,8 @@ use Rattle.monomorph.specs.Instances.{model_of}
 use Rattle.monomorph.specs.Lasts.{Model}
 use Rattle.monomorph.specs.declared.found.Instance.{Instance}
 use Rattle.sized_trees.specs.Trees.{sized_core, sized_instance, sized_instances, sized_list}
-use Rattle.sized_trees.specs.declared.trees.SizedCore.{SizedCore}
-use Rattle.sized_trees.specs.declared.trees.SizedInstance.{SizedInstance}
+use Rattle.sized_nodes.specs.declared.trees.SizedCore.{SizedCore}
+use Rattle.sized_nodes.specs.declared.trees.SizedInstance.{SizedInstance}
 use Rattle.sized_meanings.specs.Sized.{entered, first_for}
 use Rattle.covering_laws.proofs.Grown.{list_starts}
 use Rattle.covering_laws.proofs.Joined.{accepted as accepted_list}

@@ -4,8 +4,8 @@ use Rattle.sail_core.specs.Start.{setting_of}
 use Rattle.sail_core.specs.declared.model.CoreModel.{CoreModel}
 use Rattle.sail_core.specs.declared.model.Function.{Function}
 use Rattle.checked_meaning.specs.Checked.{checking}
-use Rattle.sized_trees.specs.declared.trees.SizedCore.{SizedCore}
-use Rattle.sized_trees.specs.declared.trees.SizedInstance.{SizedInstance}
+use Rattle.sized_nodes.specs.declared.trees.SizedCore.{SizedCore}
+use Rattle.sized_nodes.specs.declared.trees.SizedInstance.{SizedInstance}
 use Rattle.sized_meanings.specs.Sized.{entered, noted_checks_of, numbers_of}
 use Rattle.lowered_laws.specs.Modules.{Agrees, AllLowered, AllTick, EventsLowered, Made}
 

@@ -11,7 +11,7 @@ use Rattle.sail_core.specs.Start.{event_run, event_ticks, ran_of, reset_ran, ste
 use Rattle.sail_core.specs.declared.model.CoreModel.{CoreModel}
 use Rattle.checked_meaning.specs.Checked.{checking}
 use Rattle.sized_trees.specs.Trees.{sized_core}
-use Rattle.sized_trees.specs.declared.trees.SizedCore.{SizedCore}
+use Rattle.sized_nodes.specs.declared.trees.SizedCore.{SizedCore}
 use Rattle.sized_meanings.specs.Sized.{noted_checks_of}
 use Rattle.text_progress.specs.Laws.{core_of}
 use Rattle.sail_top.specs.Checked.{no_cycle}

@@ -5,7 +5,7 @@ use Rattle.sail_types.specs.Numbers.{Positive}
 use Rattle.scattered.specs.Gathered.{gathered}
 use Rattle.sail_core.specs.declared.model.CoreModel.{CoreModel}
 use Rattle.checked_meaning.specs.Checked.{checking}
-use Rattle.sized_trees.specs.declared.trees.SizedCore.{SizedCore}
+use Rattle.sized_nodes.specs.declared.trees.SizedCore.{SizedCore}
 use Rattle.sized_trees.specs.Trees.{sized_core}
 use Rattle.sized_meanings.specs.Sized.{checks_by}
 use Rattle.tabled_cores.specs.Cores.{core_tabled}

@@ -3,7 +3,7 @@ use Rattle.std.specs.Prelude.{◌≡◌, ◌<◌, ◌≤◌, ℕ, true, List, Ok
 use Rattle.sail_types.specs.Numbers.{Positive}
 use Rattle.scattered.specs.Gathered.{gathered}
 use Rattle.sail_core.specs.declared.model.CoreModel.{CoreModel}
-use Rattle.sized_trees.specs.declared.trees.SizedCore.{SizedCore}
+use Rattle.sized_nodes.specs.declared.trees.SizedCore.{SizedCore}
 use Rattle.sized_trees.specs.Trees.{sized_core}
 use Rattle.met_notes.specs.Covers.{DirectionsPaired}
 use Rattle.covering_laws.specs.Apart.{GivesKinds, NumbersApart}

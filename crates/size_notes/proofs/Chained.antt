@@ -18,11 +18,11 @@ use Rattle.pattern_leaves.specs.Settings.{Around}
 use Rattle.call_arguments.specs.Aims.{aimed}
 use Rattle.call_arguments.specs.declared.aims.Aim.{Aim}
 use Rattle.call_arguments.specs.declared.aims.Aim.TheVariants as Aims
-use Rattle.expression_steps.specs.Statements.{natural_type}
+use Rattle.constraint_gen.specs.Statements.{natural_type}
 use Rattle.constraint_gen.specs.Models.{behind_opening, lets_behind}
 use Rattle.constraint_gen.proofs.LetsBefore.{next_opening}
-use Rattle.function_notes.proofs.Lists.{rest_at, none_left}
-use Rattle.function_notes.specs.Functions.{inside_function, own_indices, reading_under}
+use Rattle.constraint_gen.proofs.Lists.{rest_at, none_left}
+use Rattle.constraint_gen.specs.Functions.{inside_function, own_indices, reading_under}
 use Rattle.size_splits.specs.declared.bodies.BodySteps.{BodySteps}
 use Rattle.size_splits.specs.Bodies.{Body, body_read}
 use Rattle.size_notes.specs.declared.behind.Behind.{Behind}

@@ -18,8 +18,8 @@ use Rattle.value_indices.specs.Walking.{Written, begun, run, seen, remembering, 
 use Rattle.value_indices.proofs.Walks.{run_bind, run_give}
 use Rattle.pattern_leaves.specs.Settings.{Around}
 use Rattle.call_arguments.specs.declared.aims.Aim.{Aim}
-use Rattle.function_notes.proofs.Lists.{rest_at}
-use Rattle.function_notes.specs.Functions.{own_indices}
+use Rattle.constraint_gen.proofs.Lists.{rest_at}
+use Rattle.constraint_gen.specs.Functions.{own_indices}
 use Rattle.constraint_gen.specs.Obligations.{names_of}
 use Rattle.size_notes.specs.declared.behind.Behind.{Behind}
 use Rattle.size_notes.specs.declared.written.WrittenSize.{WrittenSize}

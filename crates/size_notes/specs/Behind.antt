@@ -16,7 +16,7 @@ use Rattle.sail_core.specs.declared.written.Written.{Written}
 use Rattle.value_indices.specs.declared.notes.Fact.{Fact}
 use Rattle.value_indices.specs.declared.notes.Made.TheVariants as Makes
 use Rattle.value_indices.specs.Steps.{Note, size_note, made_note}
-use Rattle.pattern_notes.specs.Patterns.{nested}
+use Rattle.constraint_gen.specs.Patterns.{nested}
 use Rattle.size_notes.specs.declared.written.WrittenSize.{WrittenSize}
 use Rattle.size_notes.specs.declared.behind.Behind.{Behind}
 use Rattle.size_notes.specs.Written.{written_sizes}

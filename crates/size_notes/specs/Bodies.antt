@@ -26,14 +26,14 @@ use Rattle.value_indices.specs.declared.notes.Made.TheVariants as Makes
 use Rattle.value_indices.specs.Steps.{Walk, went, bind, give, note, size_note}
 use Rattle.value_indices.specs.Opening.{opening}
 use Rattle.pattern_leaves.specs.Settings.{Around}
-use Rattle.pattern_notes.specs.Patterns.{look, nested}
+use Rattle.constraint_gen.specs.Patterns.{look, nested}
 use Rattle.call_arguments.specs.Aims.{aimed}
 use Rattle.call_arguments.specs.declared.aims.Aim.{Aim}
 use Rattle.call_arguments.specs.declared.aims.Aim.TheVariants as Aims
-use Rattle.expression_steps.specs.Expressions.{part}
-use Rattle.expression_steps.specs.Statements.{natural_type}
-use Rattle.function_notes.specs.Functions.{arm_of, constrained, direction_giver, inside_function, last_made, own_indices, reading_under, unwritten}
-use Rattle.function_notes.specs.Functions.{written_walk}
+use Rattle.constraint_gen.specs.Expressions.{part}
+use Rattle.constraint_gen.specs.Statements.{natural_type}
+use Rattle.constraint_gen.specs.Functions.{arm_of, constrained, direction_giver, inside_function, last_made, own_indices, reading_under, unwritten}
+use Rattle.constraint_gen.specs.Functions.{written_walk}
 use Rattle.constraint_gen.specs.Models.{around_of, around_with, behind_opening, opening_walk}
 use Rattle.constraint_gen.specs.Obligations.{names_of}
 use Rattle.size_splits.specs.Bodies.{Body, body_read}

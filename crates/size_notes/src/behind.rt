@@ -1,7 +1,7 @@
 //! The sizes of types that are written in a body, each behind the node at which it is read.
 ghost use Rattle.std.specs.Prelude.{◌≡◌, ◌++◌, IfOk, OnOk, map};
 ghost use Rattle.linear.specs.Choices.{joined};
-ghost use Rattle.pattern_notes.specs.Patterns.{nested};
+ghost use Rattle.constraint_gen.specs.Patterns.{nested};
 ghost use Rattle.sail_core.specs.declared.tree.Core.{Core as Tree};
 ghost use Rattle.size_notes.specs.Behind as spec;
 

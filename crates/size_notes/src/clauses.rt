@@ -9,7 +9,7 @@ use crate::behind::push_core;
 use crate::parameters::read_beforehand;
 use crate::steps::append_alone;
 use call_arguments::Aim;
-use function_notes::{Common, constrain, lesser, make_last, unwritten, walk_written};
+use constraint_gen::{Common, constrain, lesser, make_last, unwritten, walk_written};
 use pattern_leaves::Around;
 use sail_base::{Items, Place};
 use sail_core::{Arm, Core, Giver, Kind};

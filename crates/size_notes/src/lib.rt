@@ -15,5 +15,6 @@ mod regions;
 mod steps;
 mod written;
 
+pub use constraint_gen::{own_indices, reading_of};
 pub use models::{ModelBodies, bodies};
 pub use written::size_places;

@@ -9,7 +9,7 @@ ghost use Rattle.size_notes.specs.Reading.{IsAtRest};
 use crate::clauses::{arms_of, read_clause};
 use crate::steps::ended_body;
 use call_arguments::Aim;
-use function_notes::{Common, lesser};
+use constraint_gen::{Common, lesser};
 use pattern_leaves::Around;
 use sail_base::{Items, Place};
 use sail_core::{Arm, Core, Direction, Giver};

@@ -2,7 +2,7 @@
 ghost use Rattle.std.specs.Prelude.{◌≡◌, ◌++◌, [], IfOk, OnOk, map};
 ghost use Rattle.value_indices.specs.Walking as walk;
 ghost use Rattle.pattern_leaves.specs.Settings.{around_of};
-ghost use Rattle.expression_steps.specs.Expressions.{part};
+ghost use Rattle.constraint_gen.specs.Expressions.{part};
 ghost use Rattle.constraint_gen.specs.Defined.{AreNames};
 ghost use Rattle.constraint_gen.specs.Models as models;
 ghost use Rattle.size_splits.specs.Bodies.{body_read};

@@ -2,14 +2,13 @@
 ghost use Rattle.std.specs.Prelude.{◌≡◌, IfOk, OnOk, min};
 ghost use Rattle.value_indices.specs.Walking as walk;
 ghost use Rattle.pattern_leaves.specs.Settings.{around_of};
-ghost use Rattle.function_notes.specs.Functions.{arm_of};
+ghost use Rattle.constraint_gen.specs.Functions.{arm_of};
 ghost use Rattle.size_notes.specs.Bodies as spec;
 
 use crate::behind::{patterns_of, push_arm};
 use crate::written::WrittenSize;
-use function_notes::{bare_arm, lesser, reading_of};
+use constraint_gen::{bare_arm, lesser, naming_of, reading_of};
 use pattern_leaves::Around;
-use pattern_notes::naming_of;
 use sail_base::Items;
 use sail_core::{Arm, Pattern};
 use sail_types::{Index, Typ};

@@ -32,7 +32,7 @@ fn push_conditions<'a>(facts: &'a [Fact], made: &mut Vec<&'a Con>) -> Result<(),
 
 /// The conditions among facts of two lists, one behind the other. It fails where memory is wanting.
 #[tactic(auto, using(crate::proofs::Facts::conditions_append))]
-pub(crate) fn conditions_of<'a>(
+pub fn conditions_of<'a>(
     alloc: Global,
     facts: &'a [Fact],
     more: &'a [Fact],

@@ -217,7 +217,7 @@ fn domain_at(
 
 /// The numbers that a variable takes by the first of these conditions that names it; none where no condition does, and where it is neither
 /// a set nor a constant range of at most 64. It fails where memory is wanting.
-pub(crate) fn domain(
+pub fn domain(
     alloc: Global,
     variables: &Variables<'_>,
     variable: u32,

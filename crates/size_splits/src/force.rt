@@ -40,7 +40,7 @@ fn unclaim(facts: &mut Vec<Fact>, marks: &mut Items<usize>)
 }
 
 /// What is in force behind this step, too, which is kept. It fails where memory is wanting.
-pub(crate) fn follow(
+pub fn follow(
     alloc: Global,
     step: &Step,
     facts: &mut Vec<Fact>,

@@ -179,7 +179,7 @@ fn is_open_call(
 
 /// Whether something isn't constant that has to be at a step that makes this, where the variables are these. It fails where memory is
 /// wanting.
-pub(crate) fn is_open_value(
+pub fn is_open_value(
     alloc: Global,
     types: &Types,
     sizing: &[Items<bool>],
@@ -210,7 +210,7 @@ pub(crate) fn is_open_value(
 }
 
 /// Whether a variable is in what has to be constant at a step that makes this. It fails where memory is wanting.
-pub(crate) fn value_names(
+pub fn value_names(
     alloc: Global,
     types: &Types,
     sizing: &[Items<bool>],

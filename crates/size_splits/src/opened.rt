@@ -129,7 +129,7 @@ pub fn made_value(
 
 /// What a step makes whose sizes are noted; of any other what has no sizes. It fails where memory is wanting, and where variables are too
 /// many.
-pub(crate) fn step_value(
+pub fn step_value(
     alloc: Global,
     variables: u32,
     step: &Step,

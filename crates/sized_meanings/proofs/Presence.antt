@@ -4,7 +4,7 @@ use Rattle.std.proofs.lemmas.Bool.Decides.{Decides-int_eq}
 use Rattle.std.specs.Prelude.{ℕ, ℤ, Bool, true, false, ◌&&◌, List, [], ◌∷◌, ◌++◌, Option, Some, None, is_some, if◌then◌else◌}
 use Rattle.size_values.specs.declared.constants.Picked.{Picked}
 use Rattle.checked_meaning.specs.Checked.{Noted}
-use Rattle.sized_trees.specs.Laws.{Each, asked}
+use Rattle.sized_nodes.specs.Asked.{Each, asked}
 use Rattle.sized_meanings.specs.Present.{is_noted, is_present, is_same, present}
 use Rattle.sized_meanings.specs.Laws.{AreNoted, Found}
 

@@ -7,10 +7,10 @@ use Rattle.sail_core.specs.Start.{init_ran, reset_ran, step_ran}
 use Rattle.size_values.specs.declared.constants.Picked.{Picked}
 use Rattle.checked_meaning.specs.Checked.{Noted, checking}
 use Rattle.checked_meaning.specs.Laws.{IsStuckOr}
-use Rattle.sized_trees.specs.declared.trees.Case.{Case}
-use Rattle.sized_trees.specs.declared.trees.Lead.{Lead}
-use Rattle.sized_trees.specs.declared.trees.SizedCore.{SizedCore}
-use Rattle.sized_trees.specs.Laws.{CaseAsks, Each, LeadAsks}
+use Rattle.sized_nodes.specs.declared.trees.Case.{Case}
+use Rattle.sized_nodes.specs.declared.trees.Lead.{Lead}
+use Rattle.sized_nodes.specs.declared.trees.SizedCore.{SizedCore}
+use Rattle.sized_nodes.specs.Asked.{CaseAsks, Each, LeadAsks}
 use Rattle.sized_meanings.specs.Present.{present_case, present_lead}
 use Rattle.sized_meanings.specs.Sized.{checks_by}
 

@@ -2,3 +2,8 @@ pub mod Noting
 pub mod Present
 pub mod Sized
 pub mod Laws
+pub use Rattle.sized_nodes.specs.declared.trees.Case
+pub use Rattle.sized_nodes.specs.declared.trees.Lead
+pub use Rattle.sized_nodes.specs.declared.trees.NodeSizes
+pub use Rattle.sized_nodes.specs.declared.trees.SizedInstance
+pub use Rattle.sized_nodes.specs.declared.trees.Told

@@ -8,10 +8,10 @@ use Rattle.sail_core.specs.Nodes.{giver_eq}
 use Rattle.value_indices.specs.declared.indices.Indices.{Indices}
 use Rattle.size_values.specs.declared.constants.Picked.{Picked}
 use Rattle.checked_meaning.specs.Checked.{Noted}
-use Rattle.sized_trees.specs.declared.trees.Case.{Case}
-use Rattle.sized_trees.specs.declared.trees.Lead.{Lead}
-use Rattle.sized_trees.specs.declared.trees.NodeSizes.{NodeSizes}
-use Rattle.sized_trees.specs.declared.trees.NodeSizes.TheVariants as Z
+use Rattle.sized_nodes.specs.declared.trees.Case.{Case}
+use Rattle.sized_nodes.specs.declared.trees.Lead.{Lead}
+use Rattle.sized_nodes.specs.declared.trees.NodeSizes.{NodeSizes}
+use Rattle.sized_nodes.specs.declared.trees.NodeSizes.TheVariants as Z
 use Rattle.sized_meanings.specs.Noting.{noted_by}
 
 -- ---- of the cases at a node: none, where a number that an earlier one asks for isn't noted

@@ -10,16 +10,16 @@ use Rattle.sail_core.specs.declared.model.CoreModel.{CoreModel}
 use Rattle.sail_core.specs.declared.model.Direction.{Direction}
 use Rattle.size_values.specs.declared.sized.Sized.{Sized}
 use Rattle.size_values.specs.Sized.{all_eq}
-use Rattle.monomorph.specs.declared.found.Instance.{Instance}
+use Rattle.sized_nodes.specs.declared.trees.Instance.{Instance}
 use Rattle.checked_meaning.specs.Checked.{Cases, Checks, Noted}
 use Rattle.checked_meaning.specs.Items.{fixed_typ}
-use Rattle.sized_trees.specs.declared.trees.Case.{Case}
-use Rattle.sized_trees.specs.declared.trees.Lead.{Lead}
-use Rattle.sized_trees.specs.declared.trees.NodeSizes.{NodeSizes}
-use Rattle.sized_trees.specs.declared.trees.Signature.{Signature}
-use Rattle.sized_trees.specs.declared.trees.SizedInstance.{SizedInstance}
-use Rattle.sized_trees.specs.declared.trees.SizedCore.{SizedCore}
-use Rattle.sized_trees.specs.declared.trees.Told.{Told}
+use Rattle.sized_nodes.specs.declared.trees.Case.{Case}
+use Rattle.sized_nodes.specs.declared.trees.Lead.{Lead}
+use Rattle.sized_nodes.specs.declared.trees.NodeSizes.{NodeSizes}
+use Rattle.sized_nodes.specs.declared.trees.Signature.{Signature}
+use Rattle.sized_nodes.specs.declared.trees.SizedInstance.{SizedInstance}
+use Rattle.sized_nodes.specs.declared.trees.SizedCore.{SizedCore}
+use Rattle.sized_nodes.specs.declared.trees.Told.{Told}
 use Rattle.checked_meaning.specs.Fits.{has_sizes}
 use Rattle.sized_meanings.specs.Noting.{noted_by_all}
 use Rattle.sized_meanings.specs.Present.{case_by, first_in, gives_at, lead_in, noted_with, present_case}

@@ -19,17 +19,18 @@ use Rattle.size_values.specs.Numbers.{Known, known_at, known_of, may_hold, with_
 use Rattle.size_splits.specs.Alone.{sizes_given}
 use Rattle.size_splits.specs.Sizing.{made_facts}
 use Rattle.size_splits.specs.Splits.{combinations, counted, domain, one_where, those_that_may, with_domain, with_number, with_numbers}
-use Rattle.monomorph.specs.declared.found.Instance.{Instance}
+use Rattle.sized_nodes.specs.declared.trees.Instance.{Instance}
 use Rattle.monomorph.specs.Reading.{Inside, instance_of, under}
 use Rattle.sized_trees.specs.declared.combinations.Choice.{Choice}
-use Rattle.sized_trees.specs.declared.trees.Case.{Case}
-use Rattle.sized_trees.specs.declared.trees.Lead.{Lead}
+use Rattle.sized_nodes.specs.declared.trees.Case.{Case}
+use Rattle.sized_nodes.specs.declared.trees.Lead.{Lead}
 use Rattle.sized_trees.specs.Bodies.{at_call, at_note, made_choices, value_at}
 use Rattle.sized_trees.specs.Cases.{case_of, case_under, case_within, cases_under, one_or_none, place_in}
 use Rattle.sized_trees.specs.Cases.{lead_found, lead_to, lead_under, lead_within, leads_under}
 use Rattle.sized_trees.specs.Combinations.{all_picked_eq, bound_choices, combinations_at, each_once, is_given, is_told, noted_choices, picked_by}
 use Rattle.sized_trees.specs.Combinations.{picked_where, those_before, those_from, where_so, with_bound, with_each, with_one}
-use Rattle.sized_trees.specs.Laws.{AsksAlike, CaseAsks, Each, LeadAsks, NodesAskAlike, asked}
+use Rattle.sized_nodes.specs.Asked.{CaseAsks, Each, LeadAsks, asked}
+use Rattle.sized_trees.specs.Laws.{AsksAlike, NodesAskAlike}
 use Rattle.sized_trees.proofs.Each.{each_append, each_if, model_each}
 
 -- ---- combinations

@@ -9,16 +9,17 @@ use Rattle.value_indices.specs.declared.indices.Reading.{Reading}
 use Rattle.value_indices.specs.declared.notes.Fact.{Fact}
 use Rattle.value_indices.specs.Steps.{Note, goal_note, size_note, made_note, call_note, way_note, given_note, name_note}
 use Rattle.size_values.specs.declared.constants.Picked.{Picked}
-use Rattle.monomorph.specs.declared.found.Instance.{Instance}
+use Rattle.sized_nodes.specs.declared.trees.Instance.{Instance}
 use Rattle.monomorph.specs.Found.{instance_eq}
 use Rattle.monomorph.specs.Reading.{Inside, instance_of, under}
-use Rattle.sized_trees.specs.declared.trees.Lead.{Lead}
-use Rattle.sized_trees.specs.declared.trees.NodeSizes.{NodeSizes}
+use Rattle.sized_nodes.specs.declared.trees.Lead.{Lead}
+use Rattle.sized_nodes.specs.declared.trees.NodeSizes.{NodeSizes}
 use Rattle.sized_trees.specs.Bodies.{at_call, at_note}
 use Rattle.sized_trees.specs.Cases.{lead_found, lead_to, lead_under, lead_within, leads_under, one_or_none, place_from, place_in}
 use Rattle.sized_trees.specs.Combinations.{combinations_at}
 use Rattle.sized_trees.specs.Trees.{sized_instance, sized_list}
-use Rattle.sized_trees.specs.Laws.{CallsLeadToInstances, Each, EachNode, IsThere, LeadsAreThere}
+use Rattle.sized_nodes.specs.Asked.{Each}
+use Rattle.sized_trees.specs.Laws.{CallsLeadToInstances, EachNode, IsThere, LeadsAreThere}
 use Rattle.sized_trees.proofs.Each.{each_append, model_each}
 
 -- ---- as many instances as there are in the list

@@ -5,17 +5,18 @@ use Rattle.sail_core.specs.declared.model.CoreModel.{CoreModel}
 use Rattle.value_indices.specs.Steps.{Note}
 use Rattle.size_values.specs.declared.sized.Sized.{Sized}
 use Rattle.size_splits.specs.Bodies.{Body}
-use Rattle.size_notes.specs.Bodies.{bodies_of}
+use Rattle.monomorph.specs.Bodies.{bodies_of}
 use Rattle.monomorph.specs.declared.error.MonoError.{MonoError}
-use Rattle.monomorph.specs.declared.found.Instance.{Instance}
+use Rattle.sized_nodes.specs.declared.trees.Instance.{Instance}
 use Rattle.monomorph.specs.Instances.{instances_of, model_of, or_none}
 use Rattle.monomorph.specs.Lasts.{Model}
 use Rattle.monomorph.specs.Reading.{Inside, reading_of}
-use Rattle.sized_trees.specs.declared.trees.NodeSizes.{NodeSizes}
-use Rattle.sized_trees.specs.declared.trees.SizedCore.{SizedCore}
+use Rattle.sized_nodes.specs.declared.trees.NodeSizes.{NodeSizes}
+use Rattle.sized_nodes.specs.declared.trees.SizedCore.{SizedCore}
 use Rattle.sized_trees.specs.Bodies.{at_note, at_notes, sized_bodies, sized_body}
 use Rattle.sized_trees.specs.Trees.{sized_core, sized_instance, sized_instances, sized_list, sized_of}
-use Rattle.sized_trees.specs.Laws.{Each, EachInBodies, EachInInstance, EachNode}
+use Rattle.sized_nodes.specs.Asked.{Each}
+use Rattle.sized_trees.specs.Laws.{EachInBodies, EachInInstance, EachNode}
 
 -- ---- lists
 

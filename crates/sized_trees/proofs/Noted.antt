@@ -9,9 +9,9 @@ use Rattle.value_indices.specs.Walking.{Written, begun, step_read, steps_read}
 use Rattle.size_splits.specs.Reading.{notes_behind}
 use Rattle.size_splits.proofs.Lists.{none_left, read_more, rest_at}
 use Rattle.size_splits.proofs.Notes.{note_by, notes_next}
-use Rattle.monomorph.specs.declared.found.Instance.{Instance}
+use Rattle.sized_nodes.specs.declared.trees.Instance.{Instance}
 use Rattle.monomorph.specs.Reading.{Inside}
-use Rattle.sized_trees.specs.declared.trees.NodeSizes.{NodeSizes}
+use Rattle.sized_nodes.specs.declared.trees.NodeSizes.{NodeSizes}
 use Rattle.sized_trees.specs.Bodies.{at_notes, at_step}
 use Rattle.sized_trees.proofs.Telling.{step_told, told_of}
 

@@ -19,10 +19,10 @@ use Rattle.size_splits.specs.Sizing.{made_facts}
 use Rattle.size_splits.specs.Splits.{counted}
 use Rattle.size_splits.specs.Telling.{telling}
 use Rattle.size_splits.proofs.Unsaid.{counted_told}
-use Rattle.monomorph.specs.declared.found.Instance.{Instance}
+use Rattle.sized_nodes.specs.declared.trees.Instance.{Instance}
 use Rattle.monomorph.specs.Reading.{Inside}
 use Rattle.sized_trees.specs.declared.combinations.Choice.{Choice}
-use Rattle.sized_trees.specs.declared.trees.NodeSizes.TheVariants as Z
+use Rattle.sized_nodes.specs.declared.trees.NodeSizes.TheVariants as Z
 use Rattle.sized_trees.specs.Bodies.{at_call, at_step, made_choices, value_at}
 use Rattle.sized_trees.specs.Cases.{cases_under, leads_under}
 use Rattle.sized_trees.specs.Combinations.{bound_choices, combinations_at, each_once, is_given, is_told, noted_choices, picked_where, those_before}

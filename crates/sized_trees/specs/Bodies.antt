@@ -16,15 +16,15 @@ use Rattle.size_values.specs.declared.sized.Sized.{Sized}
 use Rattle.size_splits.specs.Alone.{sizes_given}
 use Rattle.size_splits.specs.Bodies.{Body}
 use Rattle.size_splits.specs.Sizing.{made_facts, made_indices}
-use Rattle.monomorph.specs.declared.found.Instance.{Instance}
+use Rattle.sized_nodes.specs.declared.trees.Instance.{Instance}
 use Rattle.monomorph.specs.Lasts.{Model}
 use Rattle.monomorph.specs.Reading.{Inside, reading_of}
 use Rattle.sized_trees.specs.declared.combinations.Choice.{Choice}
-use Rattle.sized_trees.specs.declared.trees.Case.{Case}
-use Rattle.sized_trees.specs.declared.trees.Lead.{Lead}
-use Rattle.sized_trees.specs.declared.trees.NodeSizes.{NodeSizes}
-use Rattle.sized_trees.specs.declared.trees.NodeSizes.TheVariants as Z
-use Rattle.sized_trees.specs.declared.trees.Told.{Told}
+use Rattle.sized_nodes.specs.declared.trees.Case.{Case}
+use Rattle.sized_nodes.specs.declared.trees.Lead.{Lead}
+use Rattle.sized_nodes.specs.declared.trees.NodeSizes.{NodeSizes}
+use Rattle.sized_nodes.specs.declared.trees.NodeSizes.TheVariants as Z
+use Rattle.sized_nodes.specs.declared.trees.Told.{Told}
 use Rattle.sized_trees.specs.Cases.{cases_under, leads_under}
 use Rattle.sized_trees.specs.Combinations.{choices_at, combinations_at}
 

@@ -13,12 +13,12 @@ use Rattle.size_values.specs.Numbers.{index_under}
 use Rattle.size_values.specs.Sizes.{reading_sizes, value_sizes}
 use Rattle.size_values.specs.Sized.{value_sized}
 use Rattle.size_splits.specs.Sizing.{flags_of, indices_where}
-use Rattle.monomorph.specs.declared.found.Instance.{Instance}
+use Rattle.sized_nodes.specs.declared.trees.Instance.{Instance}
 use Rattle.monomorph.specs.Found.{instance_eq}
 use Rattle.monomorph.specs.Reading.{Inside, instance_of, under}
 use Rattle.sized_trees.specs.declared.combinations.Choice.{Choice}
-use Rattle.sized_trees.specs.declared.trees.Case.{Case}
-use Rattle.sized_trees.specs.declared.trees.Lead.{Lead}
+use Rattle.sized_nodes.specs.declared.trees.Case.{Case}
+use Rattle.sized_nodes.specs.declared.trees.Lead.{Lead}
 use Rattle.sized_trees.specs.Combinations.{picked_by}
 use Rattle.sized_trees.specs.Within.{all_numbers, all_within}
 

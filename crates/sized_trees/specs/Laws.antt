@@ -1,20 +1,15 @@
 -- What holds of a model with constant sizes.
-use Rattle.std.specs.Prelude.{◌≡◌, ◌<◌, ℕ, List, [], ◌∷◌, length, map, Ok}
+use Rattle.std.specs.Prelude.{◌≡◌, ◌<◌, ℕ, List, length, Ok}
 use Rattle.sail_core.specs.declared.model.CoreModel.{CoreModel}
-use Rattle.size_values.specs.declared.constants.Picked.{Picked}
-use Rattle.sized_trees.specs.declared.trees.Case.{Case}
-use Rattle.sized_trees.specs.declared.trees.Lead.{Lead}
-use Rattle.sized_trees.specs.declared.trees.NodeSizes.{NodeSizes}
-use Rattle.sized_trees.specs.declared.trees.NodeSizes.TheVariants as Z
-use Rattle.sized_trees.specs.declared.trees.SizedInstance.{SizedInstance}
-use Rattle.sized_trees.specs.declared.trees.SizedCore.{SizedCore}
+use Rattle.sized_nodes.specs.Asked.{CaseAsks, Each, LeadAsks}
+use Rattle.sized_nodes.specs.declared.trees.Lead.{Lead}
+use Rattle.sized_nodes.specs.declared.trees.NodeSizes.{NodeSizes}
+use Rattle.sized_nodes.specs.declared.trees.NodeSizes.TheVariants as Z
+use Rattle.sized_nodes.specs.declared.trees.SizedInstance.{SizedInstance}
+use Rattle.sized_nodes.specs.declared.trees.SizedCore.{SizedCore}
 use Rattle.sized_trees.specs.Trees.{sized_core}
 
 -- ---- of each node
-
-abbrev pub Each : {A : Type 0} → (A → Type 0) → List A → Type 0
-Each P [] = Unit {0}
-Each P (x ∷ xs) = P x × Each P xs
 
 abbrev pub EachInBodies : (NodeSizes → Type 0) → List (List NodeSizes) → Type 0
 EachInBodies P bodies = Each (Each P) bodies
@@ -40,15 +35,6 @@ abbrev pub CallsLeadToInstances : Type 0
 CallsLeadToInstances = (core : CoreModel) (made : SizedCore) → sized_core core ≡ Ok made → EachNode (LeadsAreThere (length made.instances)) made
 
 -- ---- the cases of a node ask for the numbers of the same variables, and so do its leads
-
-abbrev pub asked : List Picked → List ℕ
-asked ps = map (λ p. p.variable) ps
-
-abbrev pub CaseAsks : List ℕ → Case → Type 0
-CaseAsks vs c = asked c.picked ≡ vs
-
-abbrev pub LeadAsks : List ℕ → Lead → Type 0
-LeadAsks vs l = asked l.picked ≡ vs
 
 abbrev pub AsksAlike : NodeSizes → Type 0
 AsksAlike (Z.Makes k i cases) = (vs : List ℕ) × Each (CaseAsks vs) cases

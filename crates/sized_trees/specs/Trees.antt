@@ -8,20 +8,20 @@ use Rattle.sail_core.specs.declared.model.CoreModel.{CoreModel}
 use Rattle.sail_core.specs.declared.model.Function.{Function}
 use Rattle.value_indices.specs.declared.notes.Made.TheVariants as Makes
 use Rattle.value_indices.specs.Steps.{Went}
-use Rattle.function_notes.specs.Functions.{own_indices, reading_under}
+use Rattle.monomorph.specs.Functions.{own_indices, reading_under}
 use Rattle.size_splits.specs.Bodies.{Body}
-use Rattle.size_notes.specs.Bodies.{bodies_of}
+use Rattle.monomorph.specs.Bodies.{bodies_of}
 use Rattle.monomorph.specs.declared.error.MonoError.{MonoError}
 use Rattle.monomorph.specs.declared.error.MonoError.TheVariants as E
-use Rattle.monomorph.specs.declared.found.Instance.{Instance}
+use Rattle.sized_nodes.specs.declared.trees.Instance.{Instance}
 use Rattle.monomorph.specs.Instances.{instances_of, model_of, or_none}
 use Rattle.monomorph.specs.Lasts.{Model}
 use Rattle.monomorph.specs.Reading.{Inside}
-use Rattle.sized_trees.specs.declared.trees.NodeSizes.{NodeSizes}
-use Rattle.sized_trees.specs.declared.trees.Signature.{Signature}
-use Rattle.sized_trees.specs.declared.trees.SizedInstance.{SizedInstance}
-use Rattle.sized_trees.specs.declared.trees.SizedCore.{SizedCore}
-use Rattle.sized_trees.specs.declared.trees.Told.{Told}
+use Rattle.sized_nodes.specs.declared.trees.NodeSizes.{NodeSizes}
+use Rattle.sized_nodes.specs.declared.trees.Signature.{Signature}
+use Rattle.sized_nodes.specs.declared.trees.SizedInstance.{SizedInstance}
+use Rattle.sized_nodes.specs.declared.trees.SizedCore.{SizedCore}
+use Rattle.sized_nodes.specs.declared.trees.Told.{Told}
 use Rattle.sized_trees.specs.Bodies.{sized_bodies, told_at}
 
 -- ---- the types of parameters and result, for the numbers and types of an instance: what such a type binds is counted from behind the function's own

@@ -4,11 +4,11 @@ ghost use Rattle.monomorph.specs.Reading.{inside_of};
 ghost use Rattle.sized_trees.specs.Cases as spec;
 
 use crate::combinations::{Choice, picked_by};
-use crate::trees::Case;
 use crate::within::all_within;
 use monomorph::Inside;
 use sail_base::Items;
 use size_values::{Picked, Sized, Variables, reading_sizes, value_sized, value_sizes};
+use sized_nodes::Case;
 use std::alloc::{AllocError, Global};
 use value_indices::{Indices, Reading};
 

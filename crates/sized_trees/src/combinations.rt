@@ -4,9 +4,8 @@ ghost use Rattle.std.specs.List.{list_any};
 ghost use Rattle.monomorph.specs.Reading.{inside_of};
 ghost use Rattle.sized_trees.specs.Combinations as spec;
 
-use monomorph::Inside;
+use monomorph::{Inside, counted};
 use sail_base::Items;
-use size_splits::counted;
 use size_values::Picked;
 use std::alloc::{AllocError, Global};
 use value_indices::Fact;

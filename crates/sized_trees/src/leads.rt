@@ -5,14 +5,14 @@ ghost use Rattle.sized_trees.specs.Cases as spec;
 ghost use Rattle.sized_trees.specs.Within as sizes;
 
 use crate::cases::{all_sized, readings_within, values_within};
-use crate::trees::Lead;
 use crate::within::all_numbers;
-use monomorph::{Inside, Instance, instance_of, same_instance};
+use monomorph::{Inside, instance_of, same_instance};
 use sail_base::Items;
 use sail_core::Callee;
 use sail_types::Index;
 use size_splits::given_indices;
 use size_values::{Picked, Variables, indices_under};
+use sized_nodes::{Instance, Lead};
 use std::alloc::{AllocError, Global};
 use value_indices::{Indices, Reading};
 

@@ -4,19 +4,13 @@
 //! apart, `specs/Cases` a node's cases and where a call leads, `specs/Bodies` a body, node by node, `specs/Trees` the model.
 #![tactic(auto)]
 
-mod bodies;
 mod cases;
 mod combinations;
 mod laws;
 mod leads;
-mod models;
-mod signatures;
-mod trees;
 mod within;
 
-pub use cases::case_under;
+pub use cases::{case_under, cases_under};
 pub use combinations::{Choice, choices_at, combinations_at, is_given, picked_by};
 pub use laws::{calls_lead_to_instances, nodes_ask_alike};
-pub use leads::{FunctionCall, lead_under};
-pub use models::sized_core;
-pub use trees::{Case, Lead, NodeSizes, Signature, SizedCore, SizedInstance, Told};
+pub use leads::{FunctionCall, lead_under, leads_under};

@@ -21,7 +21,7 @@ use Rattle.size_splits.specs.Reading.{notes_behind}
 use Rattle.size_splits.proofs.Lists.{none_left, read_more, rest_at}
 use Rattle.size_splits.proofs.Notes.{note_by, notes_next}
 use Rattle.size_splits.proofs.Unsaid.{counted_told}
-use Rattle.monomorph.specs.declared.found.Instance.{Instance}
+use Rattle.sized_nodes.specs.declared.trees.Instance.{Instance}
 use Rattle.monomorph.specs.Reading.{Inside}
 use Rattle.sized_trees.specs.declared.combinations.Choice.{Choice}
 use Rattle.sized_trees.specs.Bodies.{made_choices}

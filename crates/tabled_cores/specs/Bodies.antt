@@ -9,7 +9,7 @@ use Rattle.value_indices.specs.declared.notes.Step.TheVariants as S
 use Rattle.size_values.specs.declared.sized.Sized.{Sized}
 use Rattle.size_splits.specs.Bodies.{Body}
 use Rattle.size_splits.specs.Sizing.{Sizing}
-use Rattle.monomorph.specs.declared.found.Instance.{Instance}
+use Rattle.sized_nodes.specs.declared.trees.Instance.{Instance}
 use Rattle.monomorph.specs.Reading.{Inside, reading_of}
 use Rattle.tabled_cores.specs.Notes.{call_tested, made_tested, note_tabled, type_given}
 

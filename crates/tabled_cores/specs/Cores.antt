@@ -8,10 +8,10 @@ use Rattle.sail_core.specs.declared.model.Direction.{Direction}
 use Rattle.function_notes.specs.Functions.{reading_under}
 use Rattle.size_values.specs.Numbers.{known_at, known_of, with_picked}
 use Rattle.size_splits.specs.Bodies.{Body}
-use Rattle.size_notes.specs.Bodies.{bodies_of}
+use Rattle.monomorph.specs.Bodies.{bodies_of}
 use Rattle.monomorph.specs.declared.found.Found.{Found}
 use Rattle.monomorph.specs.declared.found.Found.TheVariants as F
-use Rattle.monomorph.specs.declared.found.Instance.{Instance}
+use Rattle.sized_nodes.specs.declared.trees.Instance.{Instance}
 use Rattle.monomorph.specs.Found.{Answer, instances_in}
 use Rattle.monomorph.specs.Instances as instances
 use Rattle.monomorph.specs.Instances.{model_of, or_none}

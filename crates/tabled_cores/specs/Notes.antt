@@ -1,7 +1,7 @@
 -- What is tested of notes of bodies as they are read for an instance, so that its tables are whole: under each combination of numbers that counts there
 -- each node has a case, and each call a lead, in which all sizes are constants for certain; and a value of a type tells the sizes at which it is opened
 -- (Sail language manual, "Type variables").
-use Rattle.std.specs.Prelude.{ℕ, nat_lt, Bool, true, false, not, ◌&&◌, ◌||◌, List, [], ◌∷◌, length, is_some}
+use Rattle.std.specs.Prelude.{ℕ, nat_lt, Bool, true, false, not, ◌&&◌, ◌||◌, List, [], ◌∷◌, length}
 use Rattle.std.specs.List.{list_all}
 use Rattle.sail_types.specs.declared.numbers.Index.{Index}
 use Rattle.sail_core.specs.declared.tree.Callee.{Callee}
@@ -19,12 +19,12 @@ use Rattle.size_values.specs.declared.constants.Picked.{Picked}
 use Rattle.size_values.specs.Numbers.{all_before, known_at, known_of}
 use Rattle.size_splits.specs.Sizing.{flags_of}
 use Rattle.size_splits.specs.Splits.{counted}
-use Rattle.monomorph.specs.declared.found.Instance.{Instance}
+use Rattle.sized_nodes.specs.declared.trees.Instance.{Instance}
 use Rattle.monomorph.specs.Reading.{Inside, under}
 use Rattle.sized_trees.specs.declared.combinations.Choice.{Choice}
 use Rattle.sized_trees.specs.Bodies.{made_choices, value_at}
-use Rattle.sized_trees.specs.Cases.{case_under, lead_under}
 use Rattle.sized_trees.specs.Combinations.{combinations_at, is_given, picked_by}
+pub use Rattle.sized_trees.specs.Whole.{has_all_cases, has_all_leads, has_case, has_case_of, has_lead}
 use Rattle.told_sizes.specs.Among.{has_in, reading_among}
 use Rattle.told_sizes.specs.Exact.{is_exact_index, only_if, reading_tells}
 use Rattle.told_sizes.specs.Passing.{reading_passes, value_passes}
@@ -49,15 +49,6 @@ type_given r facts (Makes.ByIndices i) = true
 type_given r facts (Makes.ByType q) = list_all (tells r q) (counted (known_of r.numbers) r.split facts [])
 
 -- ---- what nodes make: there is a case, in which all sizes are constants for certain
-
-abbrev pub has_case_of : Inside → List Indices → Indices → Choice → Bool
-has_case_of r operands i c = is_some (case_under r operands i c)
-
-abbrev pub has_case : Inside → List Indices → Made → Choice → Bool
-has_case r operands made c = has_case_of r operands (value_at r made) c
-
-abbrev pub has_all_cases : Inside → List Fact → List Indices → Made → Bool
-has_all_cases r facts operands made = list_all (has_case r operands made) (made_choices r facts made)
 
 -- what is made by a type names variables of the body alone, and its values tell its sizes
 abbrev pub is_own : Inside → ℕ → Bool
@@ -119,12 +110,6 @@ abbrev pub numbers_pass : (ℕ → Constant) → List Bool → List Index → Bo
 numbers_pass of [] [] = true
 numbers_pass of (b ∷ bs) (j ∷ js) = only_if b (is_exact_index of j) && numbers_pass of bs js
 numbers_pass of bs js = false
-
-abbrev pub has_lead : Inside → List Instance → List Indices → ℕ → List Index → List Reading → List Picked → Bool
-has_lead r list operands g js qs ps = is_some (lead_under r list operands g js qs ps)
-
-abbrev pub has_all_leads : Inside → List Instance → List Fact → List Indices → ℕ → List Index → List Reading → Bool
-has_all_leads r list facts operands g js qs = list_all (has_lead r list operands g js qs) (combinations_at r facts)
 
 abbrev pub lead_passes : Inside → List Indices → ℕ → List Index → List Reading → List Picked → Bool
 lead_passes r operands f js qs ps =

@@ -7,7 +7,7 @@ use Rattle.sail_types.specs.declared.types.Typ.{Typ}
 use Rattle.sail_core.specs.declared.model.Function.{Function}
 use Rattle.value_indices.specs.declared.notes.Made.TheVariants as Makes
 use Rattle.function_notes.specs.Functions.{reading_under}
-use Rattle.monomorph.specs.declared.found.Instance.{Instance}
+use Rattle.sized_nodes.specs.declared.trees.Instance.{Instance}
 use Rattle.monomorph.specs.Reading.{Inside}
 use Rattle.sized_trees.specs.Trees.{outside, own_went}
 use Rattle.tabled_cores.specs.Notes.{made_tested}

@@ -7,12 +7,13 @@ ghost use Rattle.tabled_cores.specs.Notes as spec;
 
 use crate::sizes::{readings_pass, values_pass};
 use crate::small::{both, only_if};
-use monomorph::{Inside, Instance};
+use monomorph::Inside;
 use sail_base::Items;
 use sail_core::Callee;
 use sail_types::Index;
 use size_splits::flags_of;
 use size_values::{Picked, Variables};
+use sized_nodes::Instance;
 use sized_trees::{FunctionCall, combinations_at, lead_under};
 use std::alloc::{AllocError, Global};
 use told_sizes::is_exact_index;

@@ -4,12 +4,14 @@
 //! core.
 #![tactic(auto)]
 
-mod bodies;
 mod calls;
-mod cores;
 mod made;
 mod signed;
 mod sizes;
 mod small;
 
-pub use cores::core_tabled;
+pub use calls::call_tested;
+pub use made::made_tested;
+pub use signed::parameters_signed;
+pub use sizes::type_given;
+pub use small::both;

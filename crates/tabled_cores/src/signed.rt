@@ -6,9 +6,10 @@ ghost use Rattle.tabled_cores.specs.Signed as spec;
 
 use crate::made::made_tested;
 use function_notes::{own_indices, reading_of};
-use monomorph::{Inside, Instance};
+use monomorph::Inside;
 use sail_core::Function;
 use sail_types::{Index, Typ, Types};
+use sized_nodes::Instance;
 use std::alloc::{AllocError, Global};
 use value_indices::{Made, Walking};
 

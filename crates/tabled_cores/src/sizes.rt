@@ -7,10 +7,10 @@ ghost use Rattle.tabled_cores.specs.Notes as spec;
 
 use monomorph::Inside;
 use sail_base::Items;
-use size_splits::counted;
 use size_values::{Picked, Variables};
+use split_combinations::counted;
 use std::alloc::{AllocError, Global};
-use told_sizes::{reading_passes, reading_tells, value_passes};
+use told_types::{reading_passes, reading_tells, value_passes};
 use value_indices::{Fact, Indices, Made, Reading};
 
 /// Whether all sizes of a value are constants for certain. It fails where memory is wanting.

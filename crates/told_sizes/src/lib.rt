@@ -8,14 +8,10 @@ mod among;
 mod applied;
 mod arguments;
 mod numbers;
-mod passing;
-mod readings;
-mod settling;
 mod small;
-mod telling;
-mod values;
 
 pub use among::{index_among, reading_among, typ_among, value_among};
-pub use numbers::{is_exact, is_exact_index};
-pub use readings::{of_tells, reading_settles, reading_tells};
-pub use values::{reading_passes, value_passes};
+pub use applied::{Applied, applied_at, was_seen, with_first};
+pub use arguments::{are_exact, are_said, are_told};
+pub use numbers::{exact_constants, is_exact, is_exact_index, is_said, is_told, open_constants};
+pub use small::{both, is_one_of};

@@ -2,7 +2,7 @@
 use sail_base::dec_text;
 use sail_core::Giver;
 use size_values::{Picked, Sized};
-use sized_trees::{Case, Lead, NodeSizes, Signature, SizedCore, SizedInstance, Told};
+use sized_nodes::{Case, Lead, NodeSizes, Signature, SizedCore, SizedInstance, Told};
 use std::alloc::{AllocError, Global};
 
 fn push_number(alloc: Global, out: &mut Vec<u8>, number: i128) -> Result<(), AllocError> {

@@ -5,7 +5,7 @@ use monomorph::MonoError;
 use sail_base::{Items, Kind as Sort, Text, Word};
 use sail_core::{Callee, Core, CoreModel, Kind, Literal};
 use sail_types::{Num, Parameter, Row, Typ};
-use sized_trees::sized_core;
+use sized_models::sized_core;
 use std::alloc::{AllocError, Global};
 use std::test::Fail;
 

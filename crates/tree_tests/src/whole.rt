@@ -4,10 +4,11 @@ use crate::tables::{bits_of_any_width, call, numbers, widths_by_range};
 use sail_base::{Boxed, Items, Text, Word};
 use sail_core::{Callee, Core, CoreModel, Kind, Literal};
 use sail_types::{Con, Num, Row, Typ};
-use sized_trees::{SizedCore, sized_core};
+use sized_models::sized_core;
+use sized_nodes::SizedCore;
 use std::alloc::{AllocError, Global};
 use std::test::Fail;
-use tabled_cores::core_tabled;
+use tabled_models::core_tabled;
 
 /// `{'n, 'n in {8, 16}. bits('n)}`
 fn bits_of_some_widths(alloc: Global) -> Result<Typ, AllocError> {

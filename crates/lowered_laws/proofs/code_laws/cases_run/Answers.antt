@@ -1,6 +1,6 @@
 use Rattle.size_values.specs.declared.constants.Picked.{Picked}
-use Rattle.sized_trees.specs.declared.trees.Case.{Case}
-use Rattle.sized_trees.specs.declared.trees.Lead.{Lead}
+use Rattle.sized_nodes.specs.declared.trees.Case.{Case}
+use Rattle.sized_nodes.specs.declared.trees.Lead.{Lead}
 use Rattle.std.specs.Prelude.{List}
 use Rattle.lowered_laws.specs.CodeLaws.{PresentRuns}
 use Rattle.lowered_laws.proofs.Chosen.{by_case_good}

@@ -1,5 +1,5 @@
 use Rattle.std.proofs.Common.{[], get_or}
-use Rattle.function_notes.proofs.Lists.{got_again}
+use Rattle.size_notes.proofs.Lists.{got_again}
 use Rattle.monomorph.specs.Reading.{read_way}
 use Rattle.monomorph.proofs.Over.{is_fine, is_refused, over_next, over_refused, over_end}
 use Rattle.monomorph.proofs.bodies.read_each_way.Goals as goal

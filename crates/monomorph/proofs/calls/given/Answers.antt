@@ -1,5 +1,5 @@
 use Rattle.std.proofs.Common.{◌≡◌, ◌<◌, length, arith}
-use Rattle.function_notes.proofs.Lists.{got_again}
+use Rattle.size_notes.proofs.Lists.{got_again}
 use Rattle.monomorph.proofs.Given.{given_next, given_end}
 use Rattle.monomorph.proofs.calls.given.Goals as goal
 

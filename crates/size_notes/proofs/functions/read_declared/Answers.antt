@@ -3,7 +3,7 @@ use Rattle.value_indices.specs.Walking.{seen}
 use Rattle.pattern_leaves.specs.Settings.{around_of}
 use Rattle.call_arguments.specs.Aims.{aimed}
 use Rattle.call_arguments.specs.declared.aims.Aim.TheVariants as Aims
-use Rattle.function_notes.specs.Functions.{inside_function, reading_under}
+use Rattle.constraint_gen.specs.Functions.{inside_function, reading_under}
 use Rattle.size_notes.proofs.Chained.{arms_end, declared_end}
 use Rattle.size_notes.proofs.functions.read_declared.Goals as goal
 

@@ -1,7 +1,7 @@
 use Rattle.std.proofs.Common.{◌≡◌, ap, sym, subst, ◌∙◌}
 use Rattle.value_indices.specs.Walking.{Written, got, run, seen}
 use Rattle.pattern_leaves.specs.Settings.{around_of}
-use Rattle.function_notes.specs.Functions.{own_indices}
+use Rattle.constraint_gen.specs.Functions.{own_indices}
 use Rattle.size_notes.specs.Bodies.{declared_read, function_read}
 use Rattle.size_notes.specs.Reading.{IsAtRest}
 use Rattle.size_notes.proofs.Chained.{own_then, read_end}

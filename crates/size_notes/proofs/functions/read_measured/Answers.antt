@@ -1,7 +1,7 @@
 use Rattle.std.proofs.Common.{◌≡◌, Some, ◌∙◌}
 use Rattle.value_indices.specs.Walking.{seen}
 use Rattle.pattern_leaves.specs.Settings.{around_of}
-use Rattle.function_notes.specs.Functions.{inside_function}
+use Rattle.constraint_gen.specs.Functions.{inside_function}
 use Rattle.size_notes.proofs.Chained.{measured_end}
 use Rattle.size_notes.proofs.functions.read_measured.Goals as goal
 

@@ -9,7 +9,7 @@ use Rattle.pattern_leaves.specs.Settings.{Around, around_of}
 use Rattle.call_arguments.specs.Aims.{aimed}
 use Rattle.call_arguments.specs.declared.aims.Aim.TheVariants as Aims
 use Rattle.sail_base.specs.declared.place.Place.{Place}
-use Rattle.function_notes.specs.Functions.{direction_giver}
+use Rattle.constraint_gen.specs.Functions.{direction_giver}
 use Rattle.size_notes.specs.Behind.{found_in, node_of}
 use Rattle.size_notes.specs.Bodies.{clause_inside, way_read}
 use Rattle.size_notes.specs.Reading.{IsAtRest}

@@ -1,7 +1,7 @@
 use Rattle.std.proofs.Common.{sym, subst, ◌∙◌}
 use Rattle.value_indices.specs.Walking.{Written, seen}
 use Rattle.pattern_leaves.specs.Settings.{around_of}
-use Rattle.expression_steps.specs.Expressions.{part}
+use Rattle.constraint_gen.specs.Expressions.{part}
 use Rattle.constraint_gen.specs.Models.{opening_walk}
 use Rattle.size_notes.specs.Bodies.{opening_behind, opening_read}
 use Rattle.size_notes.specs.Reading.{IsAtRest}

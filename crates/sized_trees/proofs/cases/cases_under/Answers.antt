@@ -2,7 +2,7 @@ use Rattle.std.proofs.Common.{◌∙◌, ap, refl, ◌++◌}
 use Rattle.std.specs.Prelude.{Option}
 use Rattle.monomorph.specs.Reading.{inside_of}
 use Rattle.sized_trees.specs.declared.combinations.Choice.{Choice}
-use Rattle.sized_trees.specs.declared.trees.Case.{Case}
+use Rattle.sized_nodes.specs.declared.trees.Case.{Case}
 use Rattle.sized_trees.specs.Cases.{case_under, cases_under, one_or_none}
 use Rattle.sized_trees.proofs.Noted.{rest_next}
 use Rattle.sized_trees.proofs.cases.cases_under.Goals as goal

@@ -2,7 +2,7 @@ use Rattle.std.proofs.Common.{◌∙◌, ap, refl, List, ◌++◌}
 use Rattle.std.specs.Prelude.{Option}
 use Rattle.size_values.specs.declared.constants.Picked.{Picked}
 use Rattle.monomorph.specs.Reading.{inside_of}
-use Rattle.sized_trees.specs.declared.trees.Lead.{Lead}
+use Rattle.sized_nodes.specs.declared.trees.Lead.{Lead}
 use Rattle.sized_trees.specs.Cases.{lead_under, leads_under, one_or_none}
 use Rattle.sized_trees.proofs.Noted.{rest_next}
 use Rattle.sized_trees.proofs.leads.leads_under.Goals as goal

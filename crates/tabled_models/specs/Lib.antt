@@ -1,0 +1,1 @@
+pub use Rattle.tabled_cores.specs.Cores
