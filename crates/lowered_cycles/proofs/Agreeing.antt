@@ -7,10 +7,9 @@ use Rattle.sail_base.specs.declared.place.Place.{Place as TextPlace}
 use Rattle.sail_core.specs.Numbers.{Instance}
 use Rattle.sail_core.specs.Program.{Measures, nearest}
 use Rattle.sail_core.specs.declared.model.Function.{Function}
-use Rattle.sail_core.specs.declared.tree.Core.{Core}
 use Rattle.jib.specs.Jib.{Here, cycle_of, inherited}
 use Rattle.jib.specs.Jib as J
-use Rattle.lowered_laws.specs.Modules.{Active, Leads, Made, alone, further, sunk}
+use Rattle.lowered_laws.specs.Modules.{Active, Leads, Made, alone, crossing, further, sunk}
 use Rattle.lowered_cycles.specs.Laws.{CyclesStand}
 
 same_some : (c d : ℕ) → Some c ≡ Some d → c ≡ d
@@ -39,11 +38,11 @@ module _ (x : Made) (c : CyclesStand x) where
     there : slice_get x.s.functions i ≡ Some function
     cycle : function.cycle ≡ Some k
 
-  -- where no measure is active; or what a function that calls entered finds of its own cycle, and that none of a lower one is active
+  -- where no measure is active; or what a function or a direction that calls entered finds of its own cycle, and that none of a lower one is active
   record Inside (active : Measures) (h : Here) (p : ℕ) : Type 0 where
-    here : h.function ≡ x.function p
-    own : (k i : ℕ) → In k i → c.number i ≡ cycle_of x.m (x.function p) → h.measure ≡ option_map pos (nearest k active)
-    lower : (k i : ℕ) → In k i → c.number i < cycle_of x.m (x.function p) → nearest k active ≡ None
+    here : cycle_of x.m h.function ≡ c.at_ p
+    own : (k i : ℕ) → In k i → c.number i ≡ c.at_ p → h.measure ≡ option_map pos (nearest k active)
+    lower : (k i : ℕ) → In k i → c.number i < c.at_ p → nearest k active ≡ None
 
   abbrev Found : Measures → Here → ℕ → Type 0
   Found active h p = ((active ≡ []) × (h.measure ≡ None)) ⊎ Inside active h p
@@ -52,39 +51,28 @@ module _ (x : Made) (c : CyclesStand x) where
   inherits true o e = e
   inherits false o e = refl
 
-  -- a call of a function of a cycle with this number finds the measure of its cycle
-  finds : (active : Measures) (h : Here) (p i k j : ℕ) (a : Instance) (f : Function) (place : TextPlace) → Found active h p → Leads x p a i f → In k j
-      → c.number j ≡ cycle_of x.m (x.function a.place) → (J.called x.m h (x.function a.place) place).measure ≡ option_map pos (nearest k active)
-  finds active h p i k j a f place (inl e) leads cyc same =
-      inherits (nat_eq (cycle_of x.m (x.function a.place)) (cycle_of x.m h.function)) h.measure e.1
-      ∙ sym (ap (λ ms. option_map pos (nearest k ms)) e.0)
-  finds active h p i k j a f place (inr s) leads cyc same =
-      by (at_or_below (cycle_of x.m (x.function a.place)) (cycle_of x.m (x.function p)) (c.falls p i a f leads))
+  -- what is entered, of a cycle with this number or of a lower one, finds the measure of its cycle
+  finds : (active : Measures) (h : Here) (p q to k j : ℕ) (place : TextPlace) → Found active h p → cycle_of x.m q ≡ to → to ≤ c.at_ p → In k j
+      → c.number j ≡ to → (J.called x.m h q place).measure ≡ option_map pos (nearest k active)
+  finds active h p q to k j place (inl e) is le cyc same =
+      inherits (nat_eq (cycle_of x.m q) (cycle_of x.m h.function)) h.measure e.1 ∙ sym (ap (λ ms. option_map pos (nearest k ms)) e.0)
+  finds active h p q to k j place (inr s) is le cyc same = by (at_or_below to (c.at_ p) le)
     where
-      to : ℕ
-      to = cycle_of x.m (x.function a.place)
-
-      ours : cycle_of x.m h.function ≡ cycle_of x.m (x.function p)
-      ours = ap (cycle_of x.m) s.here
-
-      by : (cycle_of x.m (x.function a.place) ≡ cycle_of x.m (x.function p)) ⊎ (cycle_of x.m (x.function a.place) < cycle_of x.m (x.function p))
-          → inherited (nat_eq (cycle_of x.m (x.function a.place)) (cycle_of x.m h.function)) h.measure ≡ option_map pos (nearest k active)
+      by : (to ≡ c.at_ p) ⊎ (to < c.at_ p) → inherited (nat_eq (cycle_of x.m q) (cycle_of x.m h.function)) h.measure ≡ option_map pos (nearest k active)
       by (inl e) =
-          ap (λ b. inherited b h.measure) (eq-eqb (cycle_of x.m (x.function a.place)) (cycle_of x.m h.function) (e ∙ sym ours))
-          ∙ s.own k j cyc (same ∙ e)
+          ap (λ b. inherited b h.measure) (eq-eqb (cycle_of x.m q) (cycle_of x.m h.function) (is ∙ e ∙ sym s.here)) ∙ s.own k j cyc (same ∙ e)
       by (inr l) =
-          ap (λ n. inherited (nat_eq (cycle_of x.m (x.function a.place)) n) h.measure) ours
-          ∙ ap (λ b. inherited b h.measure) (not_same (cycle_of x.m (x.function a.place)) (cycle_of x.m (x.function p)) l)
-          ∙ sym (ap (option_map pos) (s.lower k j cyc (subst (λ n. n < cycle_of x.m (x.function p)) (sym same) l)))
+          ap (λ n. inherited (nat_eq n (cycle_of x.m h.function)) h.measure) is ∙ ap (λ n. inherited (nat_eq to n) h.measure) s.here
+          ∙ ap (λ b. inherited b h.measure) (not_same to (c.at_ p) l)
+          ∙ sym (ap (option_map pos) (s.lower k j cyc (subst (λ n. n < c.at_ p) (sym same) l)))
         where
           not_same : (m n : ℕ) → m < n → nat_eq m n ≡ false
           not_same m n h = grind (arith, nat_tests)
 
-  -- behind a call none of a lower cycle is active
-  falls_on : (active : Measures) (h : Here) (p i k j : ℕ) (a : Instance) (f : Function) → Found active h p → Leads x p a i f → In k j
-      → c.number j < cycle_of x.m (x.function a.place) → nearest k active ≡ None
-  falls_on active h p i k j a f (inl e) leads cyc l = ap (nearest k) e.0
-  falls_on active h p i k j a f (inr s) leads cyc l = s.lower k j cyc (omega (arith, l, c.falls p i a f leads))
+  -- behind it none of a lower cycle is active
+  falls_on : (active : Measures) (h : Here) (p to k j : ℕ) → Found active h p → to ≤ c.at_ p → In k j → c.number j < to → nearest k active ≡ None
+  falls_on active h p to k j (inl e) le cyc l = ap (nearest k) e.0
+  falls_on active h p to k j (inr s) le cyc l = s.lower k j cyc (omega (arith, l, le))
 
   -- another cycle
   others : (k d n : ℕ) (active : Measures) → (d ≡ k → ⊥) → nearest k ((d, n) ∷ active) ≡ nearest k active
@@ -98,18 +86,32 @@ module _ (x : Made) (c : CyclesStand x) where
   found (alone e) = inl (refl, e)
   found (further {active = active} {h = h} {p = p} {i = i} {a = a} {f = f} {place = place} before leads) =
       let s : Found active h p = found before in
+      let is : cycle_of x.m (x.function a.place) ≡ c.at_ a.place = c.is_at p i a f leads in
+      let le : c.at_ a.place ≤ c.at_ p = c.falls p i a f leads in
       inr (record {
-        here = refl;
-        own = λ k j cyc same. finds active h p i k j a f place s leads cyc same;
-        lower = λ k j cyc l. falls_on active h p i k j a f s leads cyc l;
+        here = is;
+        own = λ k j cyc same. finds active h p (x.function a.place) (c.at_ a.place) k j place s is le cyc same;
+        lower = λ k j cyc l. falls_on active h p (c.at_ a.place) k j s le cyc l;
+      })
+  found (crossing {active = active} {h = h} {p = p} {d = d} {place = place} before there) =
+      let s : Found active h p = found before in
+      let is : cycle_of x.m (x.direction d).function ≡ c.at_ (x.way d) = c.is_way p d there in
+      let le : c.at_ (x.way d) ≤ c.at_ p = c.falls_way p d there in
+      inr (record {
+        here = is;
+        own = λ k j cyc same. finds active h p (x.direction d).function (c.at_ (x.way d)) k j place s is le cyc same;
+        lower = λ k j cyc l. falls_on active h p (c.at_ (x.way d)) k j s le cyc l;
       })
   found (sunk {active = active} {h = h} {p = p} {i = i} {cycle = d} {n = n} {a = a} {f = f} {place = place} before leads in_cycle has_measure) =
       let s : Found active h p = found before in
+      let is : cycle_of x.m (x.function a.place) ≡ c.at_ a.place = c.is_at p i a f leads in
+      let le : c.at_ a.place ≤ c.at_ p = c.falls p i a f leads in
+      let number_is : c.at_ a.place ≡ c.number i = sym is ∙ c.is_number p i a f leads in
       inr (record {
-        here = refl;
-        own = λ k j cyc same. own_of k j cyc (same ∙ c.is_number p i a f leads);
-        lower = λ k j cyc l. others k d n active (differs k j cyc (subst (λ z. c.number j < z) (c.is_number p i a f leads) l))
-            ∙ falls_on active h p i k j a f s leads cyc l;
+        here = is;
+        own = λ k j cyc same. own_of k j cyc (same ∙ number_is);
+        lower = λ k j cyc l. others k d n active (differs k j cyc (subst (λ z. c.number j < z) number_is l))
+            ∙ falls_on active h p (c.at_ a.place) k j s le cyc l;
       })
     where
       own_of : (k j : ℕ) → In k j → c.number j ≡ c.number i → Some (pos n) ≡ option_map pos (nearest k ((d, n) ∷ active))
@@ -124,4 +126,5 @@ module _ (x : Made) (c : CyclesStand x) where
   pub agrees : (active : Measures) (h : Here) (p i : ℕ) (a : Instance) (f : Function) (place : TextPlace) (k : ℕ) → Active x active h p → Leads x p a i f
       → f.cycle ≡ Some k → (J.called x.m h (x.function a.place) place).measure ≡ option_map pos (nearest k active)
   agrees active h p i a f place k act leads in_cycle =
-      finds active h p i k i a f place (found act) leads (record { function = f; there = leads.found; cycle = in_cycle }) (sym (c.is_number p i a f leads))
+      finds active h p (x.function a.place) (c.at_ a.place) k i place (found act) (c.is_at p i a f leads) (c.falls p i a f leads)
+      (record { function = f; there = leads.found; cycle = in_cycle }) (sym (c.is_number p i a f leads) ∙ c.is_at p i a f leads)

@@ -38,8 +38,9 @@ use Rattle.lowered_pieces.specs.Arms.{choice_labels, places_of, arm_noted, at_ha
 use Rattle.lowered_pieces.specs.Arms.{step_taken, step_hand, steps_code, steps_hand, begun, moved, arm_hand}
 use Rattle.lowered_pieces.specs.Arms.{arm_piece, arm_stand, choice_code, clauses_piece, else_piece, failing, fall_piece, first_piece, hand_of}
 use Rattle.lowered_pieces.specs.Arms.{let_piece, looks_code, match_piece, on_piece, stop_here, step_lowered, steps_lowered, arm_lowered, arms_lowered}
-use Rattle.lowered_laws.specs.Simulation.{bare, Then_, AtWork, kit, C, reading, Runs_, Low, handy, Settled, Holding, Writable, Holds, Passed, AllHad, Sits}
-use Rattle.lowered_laws.specs.Simulation.{Same, After, Done, Catches, Fails, Set, Good, GoodOn, Matches}
+use Rattle.lowered_laws.specs.Simulation.{bare, Followed, AtWork, kit, own_code, reading, RunsOn, Low}
+use Rattle.lowered_laws.specs.Simulation.{handy, Settled, Holding, Writable, Holds, Passed, AllHad, Sits}
+use Rattle.lowered_laws.specs.Simulation.{Same, After, Done, Catches, Fails, LabelsStand, Good, GoodOn, Matches}
 use Rattle.lowered_laws.proofs.Follows.{no, onward, open_or, open_then}
 use Rattle.value_indices.specs.declared.indices.Indices.{Indices}
 use Rattle.lowered_laws.proofs.Noted.{Left, handy_lasting, lasting_less, lower_lasts, names_good}
@@ -79,8 +80,8 @@ low_both q (y ∷ ys) zs h k = (handy_lower q (length ((y ∷ ys) ++ zs)) y.plac
 
 -- so many names go out of scope, but nothing of what flat code has changes
 open_within : {A : Type 0} (n : ℕ) (r : Outcome) (o : Ended Item A) (K : A → Now Item → Type 0) (H : Value → Now Item → Type 0) (N : Now Item → Type 0)
-    → Then_ r (leaving (λ after. record after { locals = drop n after.locals }) o) K H N
-    → Then_ r o (λ x t. K x (record t { locals = drop n t.locals })) (λ v t. H v (record t { locals = drop n t.locals }))
+    → Followed r (leaving (λ after. record after { locals = drop n after.locals }) o) K H N
+    → Followed r o (λ x t. K x (record t { locals = drop n t.locals })) (λ v t. H v (record t { locals = drop n t.locals }))
     (λ t. N (record t { locals = drop n t.locals }))
 open_within n r (R.Gives x t) K H N z = z
 open_within n r (R.No t) K H N z = z
@@ -91,8 +92,8 @@ open_within n r R.Stuck K H N z = z
 
 -- where a piece without what was opened in it says No, all is opened as before
 open_resets : {A : Type 0} (opened : ℕ → Option ℤ) (r : Outcome) (o : Ended Item A) (K : A → Now Item → Type 0) (H : Value → Now Item → Type 0)
-    (N : Now Item → Type 0) → Then_ r (leaving (λ after. record after { opened = opened }) o) K H N
-    → Then_ r (leaving (λ after. record after { opened = opened }) o) K H (λ t. N t × (t.opened ≡ opened))
+    (N : Now Item → Type 0) → Followed r (leaving (λ after. record after { opened = opened }) o) K H N
+    → Followed r (leaving (λ after. record after { opened = opened }) o) K H (λ t. N t × (t.opened ≡ opened))
 open_resets opened r (R.Gives x t) K H N z = z
 open_resets opened r (R.No t) K H N z = (z, refl)
 open_resets opened r (R.Returns v t) K H N z = z
@@ -149,19 +150,20 @@ module _ (g : AtWork) where
   -- ---- a step
 
   step_run : (st : Step) (w : World Item) → Fit w (step_lowered g.size st) → (hd : Hand) (hr : P.Hand Item) (pc pf fail : ℕ) (sl : Slots) (t : Now Item)
-      (K : P.Hand Item → Now Item → Type 0) (H : Value → Now Item → Type 0) (N : Now Item → Type 0) → HandIs hd hr sl → HasAt (C g) pc (code_in st hd fail)
-      → slice_get (C g) pf ≡ Some (I.Label fail) → Then_ g.ending (step_meaning (reading g) w st hr t) K H N
+      (K : P.Hand Item → Now Item → Type 0) (H : Value → Now Item → Type 0) (N : Now Item → Type 0) → HandIs hd hr sl
+      → HasAt (own_code g) pc (code_in st hd fail)
+      → slice_get (own_code g) pf ≡ Some (I.Label fail) → Followed g.ending (step_meaning (reading g) w st hr t) K H N
       → ((hr2 : P.Hand Item) (sl2 : Slots) → Tested (kit g) hd.free sl sl2 → HandIs (step_of st hd fail) hr2 sl2 → hd.free ≤ (step_of st hd fail).free
-      → K hr2 t → Runs_ g (pc + length (code_in st hd fail)) sl2 (bare t))
-      → ((sl2 : Slots) → Tested (kit g) hd.free sl sl2 → N t → Runs_ g pf sl2 (bare t))
-      → Runs_ g pc sl (bare t)
+      → K hr2 t → RunsOn g (pc + length (code_in st hd fail)) sl2 (bare t))
+      → ((sl2 : Slots) → Tested (kit g) hd.free sl sl2 → N t → RunsOn g pf sl2 (bare t))
+      → RunsOn g pc sl (bare t)
   step_run (S.Opens i head k) w lowered hd hr pc pf fail sl t K H N hi at_ hl th next failed = by (slice_get hr.values i) refl th
     where
       h : Held
       h = at_hand g.table (kit g) hd.values i
 
       by : (o : Option Item) → slice_get hr.values i ≡ o
-          → Then_ g.ending (goes_on (needs o t) (λ x. parts_of (reading g) w head k x then λ xs. gives (with_values hr xs))) K H N → Runs_ g pc sl (bare t)
+          → Followed g.ending (goes_on (needs o t) (λ x. parts_of (reading g) w head k x then λ xs. gives (with_values hr xs))) K H N → RunsOn g pc sl (bare t)
       by None e z = absurd z
       by (Some x) e z =
           head_runs g w.numbers lowered.1 head k hd.free fail h lowered.0 x pc pf sl t (λ xs u. K (with_values hr xs) u) H N
@@ -194,8 +196,8 @@ module _ (g : AtWork) where
       kept (k ∷ hs) [] z = absurd z
       kept (k ∷ hs) (x ∷ xs) z = (z.0, z.1, z.2, kept hs xs z.3)
 
-      by : (o : Option Item) → slice_get hr.values i ≡ o → Then_ g.ending (goes_on (needs o t) (λ x. gives (with_name hr name x))) K H N
-          → Runs_ g pc sl (bare t)
+      by : (o : Option Item) → slice_get hr.values i ≡ o → Followed g.ending (goes_on (needs o t) (λ x. gives (with_name hr name x))) K H N
+          → RunsOn g pc sl (bare t)
       by None e z = absurd z
       by (Some x) e z =
           let held = held_is g hd.free sl hd.values hr.values i x hi.settled hi.holding e in
@@ -214,14 +216,15 @@ module _ (g : AtWork) where
 
   -- ---- the steps of an arm
 
-  steps_run : (ss : List Step) (w : World Item) → Fit w (steps_lowered g.size ss) → (hd : Hand) (hr : P.Hand Item) (pc pf fail : ℕ) (sl : Slots) (t : Now Item)
+  pub steps_run : (ss : List Step) (w : World Item) → Fit w (steps_lowered g.size ss)
+      → (hd : Hand) (hr : P.Hand Item) (pc pf fail : ℕ) (sl : Slots) (t : Now Item)
       (K : P.Hand Item → Now Item → Type 0) (H : Value → Now Item → Type 0) (N : Now Item → Type 0) → HandIs hd hr sl
-      → HasAt (C g) pc (steps_code g.table (kit g) ss hd fail) → slice_get (C g) pf ≡ Some (I.Label fail)
-      → Then_ g.ending (steps_meaning (reading g) w ss hr t) K H N
+      → HasAt (own_code g) pc (steps_code g.table (kit g) ss hd fail) → slice_get (own_code g) pf ≡ Some (I.Label fail)
+      → Followed g.ending (steps_meaning (reading g) w ss hr t) K H N
       → ((hr2 : P.Hand Item) (sl2 : Slots) → Tested (kit g) hd.free sl sl2 → HandIs (steps_hand g.table (kit g) ss hd fail) hr2 sl2
-      → hd.free ≤ (steps_hand g.table (kit g) ss hd fail).free → K hr2 t → Runs_ g (pc + length (steps_code g.table (kit g) ss hd fail)) sl2 (bare t))
-      → ((sl2 : Slots) → Tested (kit g) hd.free sl sl2 → N t → Runs_ g pf sl2 (bare t))
-      → Runs_ g pc sl (bare t)
+      → hd.free ≤ (steps_hand g.table (kit g) ss hd fail).free → K hr2 t → RunsOn g (pc + length (steps_code g.table (kit g) ss hd fail)) sl2 (bare t))
+      → ((sl2 : Slots) → Tested (kit g) hd.free sl sl2 → N t → RunsOn g pf sl2 (bare t))
+      → RunsOn g pc sl (bare t)
   steps_run [] w lowered hd hr pc pf fail sl t K H N hi at_ hl th next failed =
       moves g.m g.lets g.hart g.here g.ending (pc + 0) pc sl (bare t) (omega arith) (next hr sl (tested_here (kit g) hd.free sl) hi (omega arith) th)
   steps_run (s ∷ ss) w lowered hd hr pc pf fail sl t K H N hi at_ hl th next failed =
@@ -230,13 +233,13 @@ module _ (g : AtWork) where
       let c1 : List Instruction = code_in s hd fail in
       let c2 : List Instruction = steps_code g.table (kit g) ss hd2 fail in
       let p1 : ℕ = pc + length c1 in
-      step_run s w (both.0, lowered.1) hd hr pc pf fail sl t (λ hr2 u. Then_ g.ending (steps_meaning (reading g) w ss hr2 u) K H N) H N hi
-      (has_front (C g) pc c1 c2 at_) hl
+      step_run s w (both.0, lowered.1) hd hr pc pf fail sl t (λ hr2 u. Followed g.ending (steps_meaning (reading g) w ss hr2 u) K H N) H N hi
+      (has_front (own_code g) pc c1 c2 at_) hl
       (open_then g.ending (step_meaning (reading g) w s hr t) (steps_meaning (reading g) w ss) K H N th)
       (λ hr2 sl2 td hi2 le z.
       let far : (sl3 : Slots) → Tested (kit g) hd2.free sl2 sl3 → Tested (kit g) hd.free sl sl3 =
       λ sl3 td3. tested_both (kit g) hd.free sl sl2 sl3 td (tested_less (kit g) hd.free hd2.free sl2 sl3 le td3) in
-      steps_run ss w (both.1, lowered.1) hd2 hr2 p1 pf fail sl2 t K H N hi2 (has_back (C g) pc c1 c2 p1 refl at_) hl z
+      steps_run ss w (both.1, lowered.1) hd2 hr2 p1 pf fail sl2 t K H N hi2 (has_back (own_code g) pc c1 c2 p1 refl at_) hl z
       (λ hr3 sl3 td3 hi3 le3 z3.
       moves g.m g.lets g.hart g.here g.ending (pc + length (c1 ++ c2)) (p1 + length c2) sl3 (bare t) (omega (arith, length-append c1 c2))
       (next hr3 sl3 (far sl3 td3) hi3 (omega (arith, le, le3)) z3))
@@ -262,10 +265,10 @@ module _ (g : AtWork) where
   -- ---- a value comes to the place for it
 
   pub brought : (tail : Tail) (s : Stand) (m pe l q : ℕ) (sl sl1 : Slots) (now t : Now Item) (x : Item) → After g s.depths s.scope s.temp sl now sl1 t
-      → sl1 (g.name (Temp m) (g.number x.typ)) ≡ x.val → Sits g x.val x.typ → HasAt (C g) q ((moved g.table (kit g) m s tail).code x.typ l)
-      → ((after : Slots) (then_ : Store) → Runs_ g pe after then_
-      → Runs_ g (q + length ((moved g.table (kit g) m s tail).code x.typ l)) after then_)
-      → Done g tail s pe sl now x t → Runs_ g q sl1 (bare t)
+      → sl1 (g.name (Temp m) (g.number x.typ)) ≡ x.val → Sits g x.val x.typ → HasAt (own_code g) q ((moved g.table (kit g) m s tail).code x.typ l)
+      → ((after : Slots) (then_ : Store) → RunsOn g pe after then_
+      → RunsOn g (q + length ((moved g.table (kit g) m s tail).code x.typ l)) after then_)
+      → Done g tail s pe sl now x t → RunsOn g q sl1 (bare t)
   brought tail s m pe l q sl sl1 now t x k e had at_ out done = by (nat_eq m s.temp) refl at_ out
     where
       n : ℕ
@@ -280,9 +283,9 @@ module _ (g : AtWork) where
       i : Instruction
       i = I.Copy (to (kit g) (Temp n) u) (from (kit g) (Temp m) u)
 
-      by : (b : Bool) → nat_eq m n ≡ b → HasAt (C g) q ((if b then [] else i ∷ []) ++ c)
-          → ((after : Slots) (then_ : Store) → Runs_ g pe after then_ → Runs_ g (q + length ((if b then [] else i ∷ []) ++ c)) after then_)
-          → Runs_ g q sl1 (bare t)
+      by : (b : Bool) → nat_eq m n ≡ b → HasAt (own_code g) q ((if b then [] else i ∷ []) ++ c)
+          → ((after : Slots) (then_ : Store) → RunsOn g pe after then_ → RunsOn g (q + length ((if b then [] else i ∷ []) ++ c)) after then_)
+          → RunsOn g q sl1 (bare t)
       by true same hp out = done.by sl1 l q k (subst (λ j. sl1 (g.name (Temp j) u) ≡ x.val) (eqb-true m n same) e) had hp out
       by false same hp out =
           let is : Is g (Temp n) u = g.slots q (g.name (Temp n) u) i hp.0 refl in
@@ -349,7 +352,7 @@ module _ (g : AtWork) where
   -- the values are as many as the arm's
   counted_by : (b : Bool) (X : Type 0) (run : Run Item (List (Bound Item))) (now : Now Item) (next : List (Bound Item) → Run Item Item)
       (K : Item → Now Item → Type 0) (H : Value → Now Item → Type 0) (N : Now Item → Type 0)
-      → Then_ g.ending (goes_on ((if b then run else stuck) now) next) K H N → (Then_ g.ending (goes_on (run now) next) K H N → X) → X
+      → Followed g.ending (goes_on ((if b then run else stuck) now) next) K H N → (Followed g.ending (goes_on (run now) next) K H N → X) → X
   counted_by true X run now next K H N z f = f z
   counted_by false X run now next K H N z f = absurd z
 
@@ -381,21 +384,21 @@ module _ (g : AtWork) where
         let H = Catches g s.depths s.scope ph s.temp sl now in
         let N = Fails g s.depths s.scope pf q sl now in
         let next : List (Bound Item) → Run Item Item = λ found. names_noted (reading g) (Gives.Arm k j) xs found then λ t. within found mb in
-        let K1 : List (Bound Item) → Now Item → Type 0 = λ found t. Then_ g.ending (next found t) D H N in
+        let K1 : List (Bound Item) → Now Item → Type 0 = λ found t. Followed g.ending (next found t) D H N in
         let o1 : Ended Item (P.Hand Item) = steps_meaning (reading g) w ss hr0 now in
-        counted_by (nat_eq (length xs) n) (Runs_ g pc sl (bare now)) (steps_meaning (reading g) w ss hr0 then found_in) now next D H N th
+        counted_by (nat_eq (length xs) n) (RunsOn g pc sl (bare now)) (steps_meaning (reading g) w ss hr0 then found_in) now next D H N th
         (λ z.
-        case_good g picked_of s.depths q 0 look now.opened (bare now) mt.choice cs l pc p1 sl mt.there same.noted refl (has_front (C g) pc c1 c2 at_)
+        case_good g picked_of s.depths q 0 look now.opened (bare now) mt.choice cs l pc p1 sl mt.there same.noted refl (has_front (own_code g) pc c1 c2 at_)
         (λ l1 pc1 sl1 td0 hp out.
         let pn : ℕ = pc1 + length d1 in
         let hold1 : Holding g sl1 vs xs = holding_tested g q sl sl1 vs xs td0 mt.settled mt.holding in
         steps_run ss w lowered hd1 hr0 pc1 pf s.on_no sl1 now (λ hr t. K1 hr.found t) H N
-        (record { settled = mt.settled; holding = hold1; named = tt; found = tt; kept = tt; held = tt }) (has_front (C g) pc1 d1 d2 hp) set.fails
+        (record { settled = mt.settled; holding = hold1; named = tt; found = tt; kept = tt; held = tt }) (has_front (own_code g) pc1 d1 d2 hp) set.fails
         (open_then g.ending o1 found_in K1 H N (open_then g.ending (goes_on o1 found_in) next D H N z))
         (λ hr sl2 td1 hi le z1.
         let td : Tested (kit g) q sl sl2 = tested_both (kit g) q sl sl1 sl2 td0 td1 in
         names_good g s.depths k j (vs ++ hd.named) (xs ++ map held_by hr.found) hd.free pn sl2 now (within hr.found mb) D H N
-        (writable_front s.depths (all_notes is) b.notes wr) (has_back (C g) pc1 d1 d2 pn refl hp)
+        (writable_front s.depths (all_notes is) b.notes wr) (has_back (own_code g) pc1 d1 d2 pn refl hp)
         (settled_both hd.free vs hd.named (settled_more q hd.free vs le mt.settled) hi.kept)
         (holding_both g sl2 vs hd.named xs (map held_by hr.found) (holding_tested g q sl1 sl2 vs xs td1 mt.settled hold1) hi.held)
         (same_tested g s.depths s.scope s.temp sl sl2 now (tested_less (kit g) s.temp q sl sl2 up td) same).noted z1
@@ -408,7 +411,7 @@ module _ (g : AtWork) where
         λ n2 lo hi2 sl4 t k4. arm_left s q hd hd0 hr sl sl2 sl3 now more same td hi up le left told alike n2 lo hi2 sl4 t k4 in
         moves g.m g.lets g.hart g.here g.ending (pc1 + length (d1 ++ d2)) (pn + length d2) sl3 (bare now) (omega (arith, length-append d1 d2))
         (out sl3 (bare now)
-        (gb.run inner r lb p1 pe ph pf sl3 now1 tk (omega (arith, end, length-append c1 c2)) (has_back (C g) pc c1 c2 p1 refl at_)
+        (gb.run inner r lb p1 pe ph pf sl3 now1 tk (omega (arith, end, length-append c1 c2)) (has_back (own_code g) pc c1 c2 p1 refl at_)
         (record { throws = set.throws; fails = set.fails }) (arm_same s q hd hd0 hr sl sl2 sl3 now more same td hi up le left told alike)
         (writable_back s.depths (all_notes is) b.notes wr)
         (onward g.ending (mb now1) (λ x t. D x (gone t)) (λ v t. H v (gone t)) (λ t. N (gone t)) (Done g inner r pe sl3 now1)
@@ -456,11 +459,11 @@ module _ (g : AtWork) where
   -- what follows a No
   abbrev pub Follows : Matched → List Item → Run Item Item → Piece → (Now Item → Now Item → Type 0) → Type 0
   Follows m xs me p R = (tail : Tail) (s : Stand) (l pc pe ph pf : ℕ) (sl sl1 : Slots) (now t : Now Item) → now.ticks < g.depth
-      → pe ≡ pc + length (p.ended tail s l) → HasAt (C g) pc (p.ended tail s l) → Set g s ph pf → Same g s.depths s.scope s.temp sl now
+      → pe ≡ pc + length (p.ended tail s l) → HasAt (own_code g) pc (p.ended tail s l) → LabelsStand g s ph pf → Same g s.depths s.scope s.temp sl now
       → After g s.depths s.scope (s.temp + places_of m) sl now sl1 t → Writable s.depths p.notes → Matches g m s.temp xs sl1 now.opened → R now t
-      → Then_ g.ending (me ((reading g).back now t)) (Done g tail s pe sl now) (Catches g s.depths s.scope ph s.temp sl now)
+      → Followed g.ending (me ((reading g).back now t)) (Done g tail s pe sl now) (Catches g s.depths s.scope ph s.temp sl now)
       (Fails g s.depths s.scope pf (s.temp + places_of m) sl now)
-      → Runs_ g pc sl1 (bare t)
+      → RunsOn g pc sl1 (bare t)
 
   on_follows : (m : Matched) (xs : List Item) (me : Run Item Item) (p : Piece) → GoodOn g m xs me p → Follows m xs me p (λ now t. t.opened ≡ now.opened)
   on_follows m xs me p good tail s l pc pe ph pf sl sl1 now t tk end at_ set same k wr mt eo th =
@@ -482,8 +485,8 @@ module _ (g : AtWork) where
 
   pub else_on : (m : Matched) (xs : List Item) (ma : Run Item Item) (a : Piece) (mb : Run Item Item) (b : Piece) (R : Now Item → Now Item → Type 0)
       → GoodOn g m xs ma a
-      → ((now : Now Item) (K : Item → Now Item → Type 0) (H : Value → Now Item → Type 0) (N : Now Item → Type 0) → Then_ g.ending (ma now) K H N
-      → Then_ g.ending (ma now) K H (λ t. N t × R now t))
+      → ((now : Now Item) (K : Item → Now Item → Type 0) (H : Value → Now Item → Type 0) (N : Now Item → Type 0) → Followed g.ending (ma now) K H N
+      → Followed g.ending (ma now) K H (λ t. N t × R now t))
       → Follows m xs mb b R → GoodOn g m xs (or_then (reading g) ma mb) (else_piece g.table (kit g) a b)
   else_on m xs ma a mb b R ga resets fb = record {
     run = λ tail s l pc pe ph pf sl now tk end at_ set same wr mt th.
@@ -497,16 +500,16 @@ module _ (g : AtWork) where
         let t2 : List Instruction = I.Goto (l + 1) ∷ I.Label l ∷ (c2 ++ t3) in
         let p1 : ℕ = pc + length c1 in
         let p2 : ℕ = p1 + 1 + 1 + length c2 in
-        let h1 : HasAt (C g) p1 t2 = has_back (C g) pc c1 t2 p1 refl at_ in
-        let h2 : HasAt (C g) p2 t3 = has_back (C g) (p1 + 1 + 1) c2 t3 p2 refl h1.1.1 in
+        let h1 : HasAt (own_code g) p1 t2 = has_back (own_code g) pc c1 t2 p1 refl at_ in
+        let h2 : HasAt (own_code g) p2 t3 = has_back (own_code g) (p1 + 1 + 1) c2 t3 p2 refl h1.1.1 in
         let ends : p2 + 1 ≡ pe = omega (arith, end, length-append c1 t2, length-append c2 t3) in
         let D = Done g tail s pe sl now in
         let H = Catches g s.depths s.scope ph n sl now in
         let N = Fails g s.depths s.scope pf q sl now in
-        let F : Now Item → Type 0 = λ t. Then_ g.ending (mb ((reading g).back now t)) D H N in
-        let finish : (sl2 : Slots) (s2 : Store) → Runs_ g pe sl2 s2 → Runs_ g p2 sl2 s2 =
+        let F : Now Item → Type 0 = λ t. Followed g.ending (mb ((reading g).back now t)) D H N in
+        let finish : (sl2 : Slots) (s2 : Store) → RunsOn g pe sl2 s2 → RunsOn g p2 sl2 s2 =
         λ sl2 s2 z. past g.m g.lets g.hart g.here g.ending p2 (l + 1) sl2 s2 h2.0 (moves g.m g.lets g.hart g.here g.ending pe (p2 + 1) sl2 s2 (sym ends) z) in
-        ga.run tail r (l + 2) pc p1 ph (p1 + 1) sl now tk refl (has_front (C g) pc c1 t2 at_)
+        ga.run tail r (l + 2) pc p1 ph (p1 + 1) sl now tk refl (has_front (own_code g) pc c1 t2 at_)
         (record { throws = set.throws; fails = h1.1.0 }) same (writable_front s.depths a.notes b.notes wr) mt
         (onward g.ending (ma now) D H (λ t. F t × R now t) (Done g tail r p1 sl now) (Catches g s.depths s.scope ph n sl now)
         (Fails g s.depths s.scope (p1 + 1) q sl now)
@@ -521,7 +524,7 @@ module _ (g : AtWork) where
         (λ t z. record {
           by = λ sl2 k2.
               past g.m g.lets g.hart g.here g.ending (p1 + 1) l sl2 (bare t) h1.1.0
-              (fb tail s lb (p1 + 1 + 1) p2 ph pf sl sl2 now t tk refl (has_front (C g) (p1 + 1 + 1) c2 t3 h1.1.1) set same k2
+              (fb tail s lb (p1 + 1 + 1) p2 ph pf sl sl2 now t tk refl (has_front (own_code g) (p1 + 1 + 1) c2 t3 h1.1.1) set same k2
               (writable_back s.depths a.notes b.notes wr) (matches_after s.depths s.scope m n xs sl sl2 now t now.opened k2 mt) z.1
               (onward g.ending (mb ((reading g).back now t)) D H N (Done g tail s p2 sl now) H N z.0 (done_at g tail s pe p2 sl now finish) (λ v u y. y)
               (λ u y. y)));
@@ -604,14 +607,14 @@ module _ (g : AtWork) where
         let D = Done g tail s pe sl now in
         let H = Catches g s.depths s.scope ph n sl now in
         let N = Fails g s.depths s.scope pf n sl now in
-        let K1 : Item → Now Item → Type 0 = λ x t. Then_ g.ending (mk x t) D H N in
-        held_good g ma a ga s l pc p1 ph pf sl now tk refl (has_front (C g) pc c1 c2 at_) set same (writable_front s.depths a.notes b.notes wr)
+        let K1 : Item → Now Item → Type 0 = λ x t. Followed g.ending (mk x t) D H N in
+        held_good g ma a ga s l pc p1 ph pf sl now tk refl (has_front (own_code g) pc c1 c2 at_) set same (writable_front s.depths a.notes b.notes wr)
         (onward g.ending (ma now) (λ x t. K1 x t × EndsIn a.ends x t.opened) H N (Lands g s.depths s.scope p1 n sl now) H N
         (then_gives g.ending (ma now) (λ x t. EndsIn a.ends x t.opened) K1 H N (right said now) (open_then g.ending (ma now) mk D H N th))
         (λ x t z. record {
           by = λ sl1 k1 e1 had1.
               (gb x).run tail s lb p1 pe ph pf sl1 t (omega (arith, k1.fewer, tk)) (omega (arith, end, length-append c1 c2))
-              (has_back (C g) pc c1 c2 p1 refl at_)
+              (has_back (own_code g) pc c1 c2 p1 refl at_)
               set k1.same (writable_back s.depths a.notes b.notes wr) (matches_here n a.ends x sl1 t.opened z.1 e1 had1)
               (onward g.ending (mk x t) D H N (Done g tail s pe sl1 t) (Catches g s.depths s.scope ph n sl1 t) (Fails g s.depths s.scope pf (n + 1) sl1 t) z.0
               (λ y u d. done_on g tail s pe pe sl sl1 now t k1 (λ sl2 s2 w. w) y u d)

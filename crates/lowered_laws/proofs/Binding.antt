@@ -13,14 +13,14 @@ use Rattle.lowered_laws.proofs.Pieces.{has_front, has_back}
 use Rattle.lowered_laws.proofs.Facts.{put_other}
 use Rattle.lowered_laws.proofs.Steps.{go}
 use Rattle.lowered_pieces.specs.Forms.{Named, Tail, Piece, count_of, bound, bind_tail, bind_piece}
-use Rattle.lowered_laws.specs.Simulation.{bare, Then_, AtWork, kit, C, After, Done, Catches, Fails, Set, Good}
+use Rattle.lowered_laws.specs.Simulation.{bare, Followed, AtWork, kit, own_code, After, Done, Catches, Fails, LabelsStand, Good}
 use Rattle.lowered_laws.proofs.Follows.{open_then, onward}
 use Rattle.lowered_laws.proofs.States.{writable_front, writable_back, Is, after_bound, after_dropped}
 
 -- a name goes out of scope, but nothing of what flat code has changes
-open_dropping : {A : Type 0} (r : Outcome) (o : Ended Item A) (K : A → Now Item → Type 0) (H : Value → Now Item → Type 0) (N : Now Item → Type 0)
-    → Then_ r (leaving (λ after. record after { locals = drop 1 after.locals }) o) K H N
-    → Then_ r o (λ x t. K x (record t { locals = drop 1 t.locals })) (λ v t. H v (record t { locals = drop 1 t.locals }))
+pub open_dropping : {A : Type 0} (r : Outcome) (o : Ended Item A) (K : A → Now Item → Type 0) (H : Value → Now Item → Type 0) (N : Now Item → Type 0)
+    → Followed r (leaving (λ after. record after { locals = drop 1 after.locals }) o) K H N
+    → Followed r o (λ x t. K x (record t { locals = drop 1 t.locals })) (λ v t. H v (record t { locals = drop 1 t.locals }))
     (λ t. N (record t { locals = drop 1 t.locals }))
 open_dropping r (R.Gives x t) K H N z = z
 open_dropping r (R.No t) K H N z = z
@@ -49,9 +49,9 @@ module _ (g : AtWork) where
         let H = Catches g s.depths s.scope ph n sl now in
         let N = Fails g s.depths s.scope pf n sl now in
         let kont : Item → Run Item Item = λ x. within (local name x ∷ []) mb in
-        let set2 : Set g (bound name s) ph pf = record { throws = set.throws; fails = set.fails } in
-        ga.run (bind_tail (kit g) s) s l pc p1 ph pf sl now tk refl (has_front (C g) pc c1 c2 at_) set same (writable_front s.depths a.notes b.notes wr)
-        (onward g.ending (ma now) (λ x t. Then_ g.ending (kont x t) D H N) H N (Done g (bind_tail (kit g) s) s p1 sl now) H N
+        let set2 : LabelsStand g (bound name s) ph pf = record { throws = set.throws; fails = set.fails } in
+        ga.run (bind_tail (kit g) s) s l pc p1 ph pf sl now tk refl (has_front (own_code g) pc c1 c2 at_) set same (writable_front s.depths a.notes b.notes wr)
+        (onward g.ending (ma now) (λ x t. Followed g.ending (kont x t) D H N) H N (Done g (bind_tail (kit g) s) s p1 sl now) H N
         (open_then g.ending (ma now) kont D H N th)
         (λ x t th1. record {
           by = λ sl1 l1 q k1 e1 had1 hp out.
@@ -67,7 +67,7 @@ module _ (g : AtWork) where
               go g.m g.lets g.hart g.here g.ending q sl1 sl2 (bare t) (bare t) i hp.0 (ap (λ w. Go (put sl1 (g.name (Local d) u) w) (bare t)) e1)
               (out sl2 (bare t)
               (gb.run inner (bound name s) lb p1 pe ph pf sl2 t2 (omega (arith, k1.fewer, tk)) (omega (arith, end, length-append c1 c2))
-              (has_back (C g) pc c1 c2 p1 refl at_) set2 (after_bound g s.depths s.scope n name x sl sl1 now t is k1)
+              (has_back (own_code g) pc c1 c2 p1 refl at_) set2 (after_bound g s.depths s.scope n name x sl sl1 now t is k1)
               (writable_back s.depths a.notes b.notes wr)
               (onward g.ending (mb t2) (λ z v. D z (less v)) (λ w v. H w (less v)) (λ v. N (less v))
               (Done g inner (bound name s) pe sl2 t2) (Catches g s.depths (y ∷ s.scope) ph n sl2 t2) (Fails g s.depths (y ∷ s.scope) pf n sl2 t2)

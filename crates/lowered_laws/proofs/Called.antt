@@ -25,7 +25,7 @@ use Rattle.lowered_laws.proofs.Steps.{go, over, past}
 use Rattle.lowered_pieces.specs.Forms.{Piece, code_of, count_of, kit_at, no_tail, return_piece}
 use Rattle.lowered_pieces.specs.Functions.{body_depths, body_stand, measure_stand, ends_code, called_code, event_code, answer_code, measure_code}
 use Rattle.lowered_pieces.specs.Functions.{no_measure_code}
-use Rattle.lowered_laws.specs.Simulation.{bare, Then_, AtWork, kit, C, reading, Runs_, Holds, Passed, Same, After, Catches, Fails, Set, Good}
+use Rattle.lowered_laws.specs.Simulation.{bare, Followed, AtWork, kit, own_code, reading, RunsOn, Holds, Passed, Same, After, Catches, Fails, LabelsStand, Good}
 use Rattle.lowered_laws.proofs.Follows.{onward, open_or, open_then, natural_is}
 use Rattle.lowered_laws.proofs.Had.{integer_typed}
 use Rattle.lowered_laws.proofs.States.{Lands, held_good}
@@ -34,8 +34,8 @@ use Rattle.lowered_laws.proofs.Functions.{all_here, answer_run, with_result, ans
 
 -- how a function's run ends where its body ends so: nothing of what flat code has changes
 open_framed : (r : Outcome) (change : Now Item → Now Item) → ((t : Now Item) → bare (change t) ≡ bare t) → (o : Ended Item Value)
-    → Then_ r (returned (leaving change o)) (λ v t. r ≡ J.Gives v (bare t)) (λ v t. r ≡ J.Throws v (bare t)) (λ t. ⊥)
-    → Then_ r o (λ v t. r ≡ J.Gives v (bare t)) (λ v t. r ≡ J.Throws v (bare t)) (λ t. ⊥)
+    → Followed r (returned (leaving change o)) (λ v t. r ≡ J.Gives v (bare t)) (λ v t. r ≡ J.Throws v (bare t)) (λ t. ⊥)
+    → Followed r o (λ v t. r ≡ J.Gives v (bare t)) (λ v t. r ≡ J.Throws v (bare t)) (λ t. ⊥)
 open_framed r change same (R.Gives v t) z = z ∙ ap (J.Gives v) (same t)
 open_framed r change same (R.No t) z = z
 open_framed r change same (R.Returns v t) z = z ∙ ap (J.Gives v) (same t)
@@ -56,8 +56,8 @@ module _ (g : AtWork) where
   none_told : (sl : Slots) → Told (kit_at (kit g) body_depths) nothing_noted sl
   none_told sl x z e = cc
 
-  begins : (sl : Slots) (now : Now Item) → Passed g sl 0 g.arguments → Same g body_depths [] 0 sl (begin now nothing_noted)
-  begins sl now passed = record { locals = tt; noted = none_told sl; low = tt; shallow = λ x. omega arith; passed = passed }
+  pub begins_so : (sl : Slots) (now : Now Item) → Passed g sl 0 g.arguments → Same g body_depths [] 0 sl (begin now nothing_noted)
+  begins_so sl now passed = record { locals = tt; noted = none_told sl; low = tt; shallow = λ x. omega arith; passed = passed }
 
   -- ---- the measure
 
@@ -76,11 +76,11 @@ module _ (g : AtWork) where
   sunk n = record g.here { measure = Some (pos n) }
 
   below_good : (cycle n pc : ℕ) (active : Measures) (last : Option ℕ) (t : Now Item) (sl : Slots) (a : Source) (K : Measures → Now Item → Type 0)
-      (H : Value → Now Item → Type 0) (N : Now Item → Type 0) → slice_get (C g) pc ≡ Some (I.Measure a)
+      (H : Value → Now Item → Type 0) (N : Now Item → Type 0) → slice_get (own_code g) pc ≡ Some (I.Measure a)
       → J.read g.m g.lets g.hart a sl (bare t) ≡ V.Integer (pos n) → g.here.measure ≡ as_measure last
-      → Then_ g.ending (below g.here.place cycle active last n t) K H N
+      → Followed g.ending (below g.here.place cycle active last n t) K H N
       → (K ((cycle, n) ∷ active) t → J.Runs g.m g.lets g.hart (sunk n) (pc + 1) sl (bare t) g.ending)
-      → Runs_ g pc sl (bare t)
+      → RunsOn g pc sl (bare t)
   below_good cycle n pc active last t sl a K H N at_ e agree th next = by last agree th
     where
       acts : (o : Option ℤ) → g.here.measure ≡ o → J.acts g.m g.lets g.hart g.here pc sl (bare t) ≡ J.measured (pos n) o g.here.place (bare t)
@@ -89,14 +89,14 @@ module _ (g : AtWork) where
           ∙ ap (λ m. J.measured (pos n) m g.here.place (bare t)) f
 
       less : (b : ℕ) (o : Bool) → nat_lt n b ≡ o → g.here.measure ≡ Some (pos b)
-          → Then_ g.ending ((if o then gives ((cycle, n) ∷ active) else stops (Measure g.here.place)) t) K H N → Runs_ g pc sl (bare t)
+          → Followed g.ending ((if o then gives ((cycle, n) ∷ active) else stops (Measure g.here.place)) t) K H N → RunsOn g pc sl (bare t)
       less b true q f z = runs_sink (acts (Some (pos b)) f ∙ ap (λ c. J.sink c (pos n) g.here.place (bare t)) q) (next z)
       less b false q f z =
           over g.m g.lets g.hart g.here g.ending pc sl (bare t) (I.Measure a) at_
           (measured_act n t sl a e ∙ ap (λ m. J.measured (pos n) m g.here.place (bare t)) f ∙ ap (λ c. J.sink c (pos n) g.here.place (bare t)) q
           ∙ ap Over (sym z))
 
-      by : (o : Option ℕ) → g.here.measure ≡ as_measure o → Then_ g.ending (below g.here.place cycle active o n t) K H N → Runs_ g pc sl (bare t)
+      by : (o : Option ℕ) → g.here.measure ≡ as_measure o → Followed g.ending (below g.here.place cycle active o n t) K H N → RunsOn g pc sl (bare t)
       by None f z = runs_sink (acts None f) (next z)
       by (Some b) f z = less b (nat_lt n b) refl f z
 
@@ -106,16 +106,16 @@ module _ (g : AtWork) where
 
   pub measure_good : (cycle : ℕ) (active : Measures) (last : Option ℕ) (me : Run Item Item) (p : Piece) → Good g me p → (pc ph pf : ℕ) (sl : Slots)
       (now : Now Item) (rest : Measures → Run Item Value) → now.ticks < g.depth
-      → HasAt (C g) pc (code_of p measure_stand 3 ++ I.Measure (from (kit g) (Temp 0) (kit g).integer) ∷ [])
-      → HasAt (C g) ph (I.Label 0 ∷ I.Throw (from (kit g) Raised g.exception) ∷ []) → HasAt (C g) pf (I.Label 2 ∷ I.NoMeasure ∷ [])
+      → HasAt (own_code g) pc (code_of p measure_stand 3 ++ I.Measure (from (kit g) (Temp 0) (kit g).integer) ∷ [])
+      → HasAt (own_code g) ph (I.Label 0 ∷ I.Throw (from (kit g) Raised g.exception) ∷ []) → HasAt (own_code g) pf (I.Label 2 ∷ I.NoMeasure ∷ [])
       → g.here.measure ≡ as_measure last → Same g body_depths [] 0 sl now
-      → Then_ g.ending (goes_on (measure_run cycle active last me now) rest) (λ v t. g.ending ≡ J.Gives v (bare t)) (λ v t. g.ending ≡ J.Throws v (bare t))
+      → Followed g.ending (goes_on (measure_run cycle active last me now) rest) (λ v t. g.ending ≡ J.Gives v (bare t)) (λ v t. g.ending ≡ J.Throws v (bare t))
       (λ t. ⊥)
       → ((n : ℕ) (t : Now Item) (sl1 : Slots) → After g body_depths [] 0 sl now sl1 t
-      → Then_ g.ending (rest ((cycle, n) ∷ active) t) (λ v t. g.ending ≡ J.Gives v (bare t)) (λ v t. g.ending ≡ J.Throws v (bare t)) (λ t. ⊥)
+      → Followed g.ending (rest ((cycle, n) ∷ active) t) (λ v t. g.ending ≡ J.Gives v (bare t)) (λ v t. g.ending ≡ J.Throws v (bare t)) (λ t. ⊥)
       → J.Runs g.m g.lets g.hart (sunk n) (pc + length (code_of p measure_stand 3 ++ I.Measure (from (kit g) (Temp 0) (kit g).integer) ∷ [])) sl1 (bare t)
       g.ending)
-      → Runs_ g pc sl (bare now)
+      → RunsOn g pc sl (bare now)
   measure_good cycle active last me p good pc ph pf sl now rest tk at_ throws_ fails_ agree same th next =
       let K : Value → Now Item → Type 0 = λ v t. g.ending ≡ J.Gives v (bare t) in
       let H : Value → Now Item → Type 0 = λ v t. g.ending ≡ J.Throws v (bare t) in
@@ -124,22 +124,22 @@ module _ (g : AtWork) where
       let c1 : List Instruction = code_of p measure_stand 3 in
       let c2 : List Instruction = I.Measure a ∷ [] in
       let p1 : ℕ = pc + length c1 in
-      let h1 : HasAt (C g) p1 c2 = has_back (C g) pc c1 c2 p1 refl at_ in
-      let K1 : Measures → Now Item → Type 0 = λ m t. Then_ g.ending (rest m t) K H N in
+      let h1 : HasAt (own_code g) p1 c2 = has_back (own_code g) pc c1 c2 p1 refl at_ in
+      let K1 : Measures → Now Item → Type 0 = λ m t. Followed g.ending (rest m t) K H N in
       let kont : Item → Run Item Measures = λ x. natural (reading g) x then below g.here.place cycle active last in
       let first : Run Item Item = me or_else stops (MatchFailure g.here.place) in
-      let K2 : Item → Now Item → Type 0 = λ x t. Then_ g.ending (kont x t) K1 H N in
-      let set : Set g measure_stand ph pf = record { throws = throws_.0; fails = fails_.0 } in
+      let K2 : Item → Now Item → Type 0 = λ x t. Followed g.ending (kont x t) K1 H N in
+      let set : LabelsStand g measure_stand ph pf = record { throws = throws_.0; fails = fails_.0 } in
       let D = Lands g body_depths [] p1 0 sl now in
       let H1 = Catches g body_depths [] ph 0 sl now in
       let N1 = Fails g body_depths [] pf 0 sl now in
-      held_good g me p good measure_stand 3 pc p1 ph pf sl now tk refl (has_front (C g) pc c1 c2 at_) set same (all_here p.notes)
+      held_good g me p good measure_stand 3 pc p1 ph pf sl now tk refl (has_front (own_code g) pc c1 c2 at_) set same (all_here p.notes)
       (onward g.ending (me now) K2 H (λ t. g.ending ≡ J.Stops (MatchFailure g.here.place) (bare t)) D H1 N1
       (open_or g.ending (me now) (stops (MatchFailure g.here.place)) K2 H N
       (open_then g.ending (first now) kont K1 H N (open_then g.ending (measure_run cycle active last me now) rest K H N th)))
       (λ x t z. record {
         by = λ sl1 k1 e1 had1.
-            natural_is g.table g.cases g.ending x t (λ n u. Then_ g.ending (below g.here.place cycle active last n u) K1 H N) H N
+            natural_is g.table g.cases g.ending x t (λ n u. Followed g.ending (below g.here.place cycle active last n u) K1 H N) H N
             (open_then g.ending (natural (reading g) x t) (below g.here.place cycle active last) K1 H N z)
             (λ n is z1.
             below_good cycle n p1 active last t sl1 a K1 H N h1.0
@@ -165,13 +165,13 @@ module _ (g : AtWork) where
   -- ---- the tick
 
   pub tick_good : (piece : Run Item Value) (pc : ℕ) (sl : Slots) (now : Now Item) (K : Value → Now Item → Type 0) (H : Value → Now Item → Type 0)
-      (N : Now Item → Type 0) → HasAt (C g) pc (I.Tick ∷ []) → Then_ g.ending ((tick then λ t. piece) now) K H N
-      → ((left : ℕ) → now.ticks ≡ suc left → Then_ g.ending (piece (record now { ticks = left })) K H N
-      → Runs_ g (pc + 1) sl (bare (record now { ticks = left })))
-      → Runs_ g pc sl (bare now)
+      (N : Now Item → Type 0) → HasAt (own_code g) pc (I.Tick ∷ []) → Followed g.ending ((tick then λ t. piece) now) K H N
+      → ((left : ℕ) → now.ticks ≡ suc left → Followed g.ending (piece (record now { ticks = left })) K H N
+      → RunsOn g (pc + 1) sl (bare (record now { ticks = left })))
+      → RunsOn g pc sl (bare now)
   tick_good piece pc sl now K H N at_ th next = by now.ticks refl th
     where
-      by : (n : ℕ) → now.ticks ≡ n → Then_ g.ending (goes_on (R.tick_at n now) (λ t. piece)) K H N → Runs_ g pc sl (bare now)
+      by : (n : ℕ) → now.ticks ≡ n → Followed g.ending (goes_on (R.tick_at n now) (λ t. piece)) K H N → RunsOn g pc sl (bare now)
       by zero e z =
           over g.m g.lets g.hart g.here g.ending pc sl (bare now) I.Tick at_.0 (ap (λ n. J.tick n sl (bare now)) e ∙ ap Over (sym z))
       by (suc left) e z =
@@ -188,8 +188,8 @@ module _ (g : AtWork) where
 
   -- what it comes to, where its ticks are fewer than those for which calls are known to go well
   pub called_good : (last : ℕ) (place : TextPlace) (me : Run Item Item) (body : Piece) → Good g me body → (sl : Slots) (now : Now Item)
-      → now.ticks < suc g.depth → Passed g sl 0 g.arguments → HasAt (C g) 0 (called_code (kit g) place None (with_result g last body))
-      → Then_ g.ending ((tick then λ t. framed (answer_run g place last me)) now) ValueEnds ThrowEnds (λ t. ⊥) → Runs_ g 0 sl (bare now)
+      → now.ticks < suc g.depth → Passed g sl 0 g.arguments → HasAt (own_code g) 0 (called_code (kit g) place None (with_result g last body))
+      → Followed g.ending ((tick then λ t. framed (answer_run g place last me)) now) ValueEnds ThrowEnds (λ t. ⊥) → RunsOn g 0 sl (bare now)
   called_good last place me body good sl now tk passed at_ th =
       let B : Run Item Value = answer_run g place last me in
       tick_good (framed B) 0 sl now ValueEnds ThrowEnds (λ t. ⊥) (at_.0, tt) th
@@ -197,16 +197,16 @@ module _ (g : AtWork) where
       let now1 : Now Item = record now { ticks = left } in
       let few : left < g.depth = omega (arith, e, tk) in
       answer_good g place last me body good 3 1 sl (begin now1 nothing_noted) few
-      (has_front (C g) 1 (answer_code (kit g) place (with_result g last body) 3) [] at_.1) (begins sl now1 passed)
+      (has_front (own_code g) 1 (answer_code (kit g) place (with_result g last body) 3) [] at_.1) (begins_so sl now1 passed)
       (open_framed g.ending (λ after. record after { locals = now.locals; opened = now.opened }) (λ t. refl) (B (begin now1 nothing_noted)) z))
 
   -- a function that an event enters: no tick, no measure
   pub event_good : (last : ℕ) (place : TextPlace) (me : Run Item Item) (body : Piece) → Good g me body → (sl : Slots) (now : Now Item)
-      → now.ticks < g.depth → Passed g sl 0 g.arguments → HasAt (C g) 0 (event_code (kit g) place (with_result g last body))
-      → Then_ g.ending (framed (answer_run g place last me) now) ValueEnds ThrowEnds (λ t. ⊥) → Runs_ g 0 sl (bare now)
+      → now.ticks < g.depth → Passed g sl 0 g.arguments → HasAt (own_code g) 0 (event_code (kit g) place (with_result g last body))
+      → Followed g.ending (framed (answer_run g place last me) now) ValueEnds ThrowEnds (λ t. ⊥) → RunsOn g 0 sl (bare now)
   event_good last place me body good sl now few passed at_ th =
       let B : Run Item Value = answer_run g place last me in
-      answer_good g place last me body good 3 0 sl (begin now nothing_noted) few at_ (begins sl now passed)
+      answer_good g place last me body good 3 0 sl (begin now nothing_noted) few at_ (begins_so sl now passed)
       (open_framed g.ending (λ after. record after { locals = now.locals; opened = now.opened }) (λ t. refl) (B (begin now nothing_noted)) th)
 
   -- ---- a function with a measure
@@ -218,10 +218,10 @@ module _ (g : AtWork) where
   pub measured_good : (last cycle : ℕ) (place : TextPlace) (active : Measures) (before : Option ℕ) (mm : Run Item Item) (mp : Piece)
       (me : Measures → Run Item Item) (body : Piece) → Good g mm mp → ((n : ℕ) → Good (behind n) (me ((cycle, n) ∷ active)) body)
       → g.here.measure ≡ as_measure before → (sl : Slots) (now : Now Item) → now.ticks < suc g.depth → Passed g sl 0 g.arguments
-      → HasAt (C g) 0 (called_code (kit g) place (Some mp) (with_result g last body))
-      → Then_ g.ending ((tick then λ t. framed (measure_run cycle active before mm then λ m. answer_run g place last (me m))) now) ValueEnds ThrowEnds
+      → HasAt (own_code g) 0 (called_code (kit g) place (Some mp) (with_result g last body))
+      → Followed g.ending ((tick then λ t. framed (measure_run cycle active before mm then λ m. answer_run g place last (me m))) now) ValueEnds ThrowEnds
       (λ t. ⊥)
-      → Runs_ g 0 sl (bare now)
+      → RunsOn g 0 sl (bare now)
   measured_good last cycle place active before mm mp me body gm gb agree sl now tk passed at_ th =
       let q : Piece = with_result g last body in
       let l : ℕ = 3 + count_of mp in
@@ -232,17 +232,17 @@ module _ (g : AtWork) where
       let p2 : ℕ = 1 + length c2 in
       let p3 : ℕ = p2 + length c3 in
       let pr : ℕ = p2 + length cr in
-      let h2 : HasAt (C g) p2 (c3 ++ c4) = has_back (C g) 1 c2 (c3 ++ c4) p2 refl at_.1 in
-      let h3 : HasAt (C g) p2 c3 = has_front (C g) p2 c3 c4 h2 in
-      let he : HasAt (C g) pr (ends_code (kit g) place) = has_back (C g) p2 cr (ends_code (kit g) place) pr refl h3 in
+      let h2 : HasAt (own_code g) p2 (c3 ++ c4) = has_back (own_code g) 1 c2 (c3 ++ c4) p2 refl at_.1 in
+      let h3 : HasAt (own_code g) p2 c3 = has_front (own_code g) p2 c3 c4 h2 in
+      let he : HasAt (own_code g) pr (ends_code (kit g) place) = has_back (own_code g) p2 cr (ends_code (kit g) place) pr refl h3 in
       let rest : Measures → Run Item Value = λ m. answer_run g place last (me m) in
       let B : Run Item Value = measure_run cycle active before mm then rest in
       tick_good (framed B) 0 sl now ValueEnds ThrowEnds (λ t. ⊥) (at_.0, tt) th
       (λ left e z.
       let now1 : Now Item = record now { ticks = left } in
       let few : left < g.depth = omega (arith, e, tk) in
-      measure_good cycle active before mm mp gm 1 (pr + 1 + 1) p3 sl (begin now1 nothing_noted) rest few (has_front (C g) 1 c2 (c3 ++ c4) at_.1) he.1.1
-      (has_back (C g) p2 c3 c4 p3 refl h2) agree (begins sl now1 passed)
+      measure_good cycle active before mm mp gm 1 (pr + 1 + 1) p3 sl (begin now1 nothing_noted) rest few (has_front (own_code g) 1 c2 (c3 ++ c4) at_.1) he.1.1
+      (has_back (own_code g) p2 c3 c4 p3 refl h2) agree (begins_so sl now1 passed)
       (open_framed g.ending (λ after. record after { locals = now.locals; opened = now.opened }) (λ t. refl) (B (begin now1 nothing_noted)) z)
       (λ n t sl2 k z2.
       answer_good (behind n) place last (me ((cycle, n) ∷ active)) body (gb n) l p2 sl2 t (omega (arith, few, k.fewer)) h3 (same_behind n sl2 t k.same) z2))

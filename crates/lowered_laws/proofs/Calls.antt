@@ -31,7 +31,8 @@ use Rattle.lowered_pieces.specs.Forms.{kit_at, all_notes, notes_in, Stand, Tail,
 use Rattle.lowered_pieces.specs.Forms.{made_code, all_code, all_labels}
 use Rattle.lowered_pieces.specs.Forms.{answer_make, lead_arm}
 use Rattle.lowered_pieces.specs.Forms.{call_piece}
-use Rattle.lowered_laws.specs.Simulation.{Writable, bare, Then_, AtWork, kit, C, reading, Runs_, Same, After, Done, Catches, Fails, Set, Good}
+use Rattle.lowered_laws.specs.Simulation.{Writable, bare, Followed, AtWork, kit, own_code, reading}
+use Rattle.lowered_laws.specs.Simulation.{RunsOn, Same, After, Done, Catches, Fails, LabelsStand, Good}
 use Rattle.lowered_laws.specs.Simulation.{Answers}
 use Rattle.lowered_laws.specs.Simulation.{AllHad, CallsOk}
 use Rattle.lowered_laws.proofs.Follows.{open_then, onward, led_is}
@@ -87,13 +88,13 @@ module _ (g : AtWork) where
 
   pub all_had_good : (ms : List (Run Item Item)) (ps : List Piece) → GoodAll ms ps → (s : Stand) (l pc pe ph pf : ℕ) (sl : Slots) (now : Now Item)
       (K : List Item → Now Item → Type 0) → now.ticks < g.depth → pe ≡ pc + length (all_code (kit g) g.number ps s l)
-      → HasAt (C g) pc (all_code (kit g) g.number ps s l) → Set g s ph pf → Same g s.depths s.scope s.temp sl now
+      → HasAt (own_code g) pc (all_code (kit g) g.number ps s l) → LabelsStand g s ph pf → Same g s.depths s.scope s.temp sl now
       → Writable s.depths (notes_in (kit g) g.number ps)
-      → Then_ g.ending (in_turn ms now) K (Catches g s.depths s.scope ph s.temp sl now) (Fails g s.depths s.scope pf s.temp sl now)
+      → Followed g.ending (in_turn ms now) K (Catches g s.depths s.scope ph s.temp sl now) (Fails g s.depths s.scope pf s.temp sl now)
       → ((xs : List Item) (t : Now Item) (sl1 : Slots) → After g s.depths s.scope s.temp sl now sl1 t → length xs ≡ length ps → InHand sl1 s.temp xs
       → AllHad g.table g.tables.known xs → K xs t
-      → Runs_ g pe sl1 (bare t))
-      → Runs_ g pc sl (bare now)
+      → RunsOn g pe sl1 (bare t))
+      → RunsOn g pc sl (bare now)
   all_had_good [] [] good s l pc pe ph pf sl now K tk end at_ set same wr th fin =
       moves g.m g.lets g.hart g.here g.ending pe pc sl (bare now) (omega (arith, end))
       (fin [] now sl (after_here g s.depths s.scope s.temp sl now same) refl tt tt th)
@@ -108,13 +109,13 @@ module _ (g : AtWork) where
       let N = Fails g s.depths s.scope pf n sl now in
       let rest : Item → Run Item (List Item) = λ x. in_turn ms then λ xs. gives (x ∷ xs) in
       let ns : List ℕ = notes_in (kit g) g.number ps in
-      held_good g m p good.0 s l pc p1 ph pf sl now tk refl (has_front (C g) pc c1 c2 at_) set same (writable_front s.depths p.notes ns wr)
-      (onward g.ending (m now) (λ x t. Then_ g.ending (rest x t) K H N) H N (Lands g s.depths s.scope p1 n sl now) H N
+      held_good g m p good.0 s l pc p1 ph pf sl now tk refl (has_front (own_code g) pc c1 c2 at_) set same (writable_front s.depths p.notes ns wr)
+      (onward g.ending (m now) (λ x t. Followed g.ending (rest x t) K H N) H N (Lands g s.depths s.scope p1 n sl now) H N
       (open_then g.ending (m now) rest K H N th)
       (λ x t th1. record {
         by = λ sl1 k1 e1 had1.
             all_had_good ms ps good.1 (higher s) (l + count_of p) p1 pe ph pf sl1 t (λ xs u. K (x ∷ xs) u) (omega (arith, k1.fewer, tk))
-            (omega (arith, end, length-append c1 c2)) (has_back (C g) pc c1 c2 p1 refl at_) (record { throws = set.throws; fails = set.fails })
+            (omega (arith, end, length-append c1 c2)) (has_back (own_code g) pc c1 c2 p1 refl at_) (record { throws = set.throws; fails = set.fails })
             (same_higher g s.depths s.scope n sl1 t k1.same) (writable_back s.depths p.notes ns wr)
             (via g s.depths s.scope ph pf n (n + 1) sl sl1 now t (in_turn ms t) (λ xs u. K (x ∷ xs) u) (λ xs u. K (x ∷ xs) u) (omega arith) k1
             (open_then g.ending (in_turn ms t) (λ xs. gives (x ∷ xs)) K H N th1) (λ xs u q. q))
@@ -127,12 +128,12 @@ module _ (g : AtWork) where
   -- so where nothing is asked of their types
   pub all_good : (ms : List (Run Item Item)) (ps : List Piece) → GoodAll ms ps → (s : Stand) (l pc pe ph pf : ℕ) (sl : Slots) (now : Now Item)
       (K : List Item → Now Item → Type 0) → now.ticks < g.depth → pe ≡ pc + length (all_code (kit g) g.number ps s l)
-      → HasAt (C g) pc (all_code (kit g) g.number ps s l) → Set g s ph pf → Same g s.depths s.scope s.temp sl now
+      → HasAt (own_code g) pc (all_code (kit g) g.number ps s l) → LabelsStand g s ph pf → Same g s.depths s.scope s.temp sl now
       → Writable s.depths (notes_in (kit g) g.number ps)
-      → Then_ g.ending (in_turn ms now) K (Catches g s.depths s.scope ph s.temp sl now) (Fails g s.depths s.scope pf s.temp sl now)
+      → Followed g.ending (in_turn ms now) K (Catches g s.depths s.scope ph s.temp sl now) (Fails g s.depths s.scope pf s.temp sl now)
       → ((xs : List Item) (t : Now Item) (sl1 : Slots) → After g s.depths s.scope s.temp sl now sl1 t → length xs ≡ length ps → InHand sl1 s.temp xs → K xs t
-      → Runs_ g pe sl1 (bare t))
-      → Runs_ g pc sl (bare now)
+      → RunsOn g pe sl1 (bare t))
+      → RunsOn g pc sl (bare now)
   all_good ms ps good s l pc pe ph pf sl now K tk end at_ set same wr th fin =
       all_had_good ms ps good s l pc pe ph pf sl now K tk end at_ set same wr th (λ xs t sl1 k len std hads q. fin xs t sl1 k len std q)
 
@@ -155,16 +156,17 @@ module _ (g : AtWork) where
     results tail s a l = made_code (kit g) g.number 1 (answer_make (kit g) g.number (answer a)) cases_ gives_ tail s l
 
     -- by how the call ends
-    ended : (tail : Tail) (s : Stand) (l' pc' pe ph pf : ℕ) (sl sl2 : Slots) (now t : Now Item) (a : Lead) (xs : List Item) → length xs ≡ q → Set g s ph pf
+    ended : (tail : Tail) (s : Stand) (l' pc' pe ph pf : ℕ) (sl sl2 : Slots) (now t : Now Item) (a : Lead) (xs : List Item) → length xs ≡ q
+        → LabelsStand g s ph pf
         → Writable s.depths (all_notes gives_)
-        → After g s.depths s.scope s.temp sl now sl2 t → HasAt (C g) pc' (arm tail s a l')
+        → After g s.depths s.scope s.temp sl now sl2 t → HasAt (own_code g) pc' (arm tail s a l')
         → acts g.m g.lets g.hart g.here pc' sl2 (bare t) ≡ Enter (g.name (Temp s.temp) (answer a)) (callees.function a.instance)
         (vals xs) s.on_throw place
-        → ((sl3 : Slots) (s3 : Store) → Runs_ g pe sl3 s3 → Runs_ g (pc' + 1 + length (results tail s a l')) sl3 s3)
+        → ((sl3 : Slots) (s3 : Store) → RunsOn g pe sl3 s3 → RunsOn g (pc' + 1 + length (results tail s a l')) sl3 s3)
         → (o : Ended Item Value) → Answers g place (callees.function a.instance) (vals xs) t o
-        → Then_ g.ending (goes_on o (λ v. made (reading g) k xs v)) (Done g tail s pe sl now) (Catches g s.depths s.scope ph s.temp sl now)
+        → Followed g.ending (goes_on o (λ v. made (reading g) k xs v)) (Done g tail s pe sl now) (Catches g s.depths s.scope ph s.temp sl now)
         (Fails g s.depths s.scope pf s.temp sl now)
-        → Runs_ g pc' sl2 (bare t)
+        → RunsOn g pc' sl2 (bare t)
     ended tail s l' pc' pe ph pf sl sl2 now t a xs len set wr k2 hp enters out (R.Gives v u) told th =
         let n : ℕ = s.temp in
         let y : ℕ = answer a in
@@ -187,7 +189,7 @@ module _ (g : AtWork) where
         let is : Is g Raised g.exception = subst (λ i. i < length (slots_of g.m g.here.function)) (sym zero_) g.names.first in
         let sl3 : Slots = put sl2 (g.name Raised g.exception) v in
         runs_caught enters told.3 set.throws
-        (subst (λ i. Runs_ g ph (put sl2 i v) (bare u)) zero_
+        (subst (λ i. RunsOn g ph (put sl2 i v) (bare u)) zero_
         (th.by sl3 (after_raised g s.depths s.scope s.temp sl sl2 now u v is (after_time g s.depths s.scope s.temp sl sl2 now t u told.0 told.1 told.2 k2))
         (put_same sl2 (g.name Raised g.exception) v)))
     ended tail s l' pc' pe ph pf sl sl2 now t a xs len set wr k2 hp enters out (R.Stops cause u) told th =
@@ -221,13 +223,13 @@ module _ (g : AtWork) where
           let N = Fails g s.depths s.scope pf n sl now in
           let ns : List ℕ = notes_in (kit g) g.number ps in
           let gs : List ℕ = all_notes (g.tables.gives k) in
-          all_good ms ps good s l pc p1 ph pf sl now (λ xs t. Then_ g.ending (calling xs t) K H N) tk refl
-          (has_front (C g) pc c1 c2 at_) set same (writable_front s.depths ns gs wr) (open_then g.ending (in_turn ms now) calling K H N th)
+          all_good ms ps good s l pc p1 ph pf sl now (λ xs t. Followed g.ending (calling xs t) K H N) tk refl
+          (has_front (own_code g) pc c1 c2 at_) set same (writable_front s.depths ns gs wr) (open_then g.ending (in_turn ms now) calling K H N th)
           (λ xs t sl1 k1 len std th1.
           led_is g.table g.cases g.tables g.tells g.ending k xs t (λ awaited. w.call place f awaited (vals xs) then λ v. made (reading g) k xs v) K H N th1
           (λ a x there taken goes awaits th2.
           case_good g picked_by s.depths (n + q) lm each t.opened (bare t) a ls lc p1 pe sl1 there
-          k1.same.noted (omega (arith, end, length-append c1 c2)) (has_back (C g) pc c1 c2 p1 refl at_)
+          k1.same.noted (omega (arith, end, length-append c1 c2)) (has_back (own_code g) pc c1 c2 p1 refl at_)
           (λ l' pc' sl2 td hp out.
           let y : ℕ = g.number (callees.answer a.instance) in
           let r2 : List Instruction = made_code (kit g) g.number 1 (answer_make (kit g) g.number y) cs (g.tables.gives k) tail s l' in

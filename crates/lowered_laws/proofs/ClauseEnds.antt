@@ -81,7 +81,7 @@ module _ (g : AtWork) (w : World Item) (k : ℕ) (xs : List Item) where
           gives_so (m now) (λ x u. EndsIn (y ∷ []) x u.opened) (Of t) (right refl now) (λ x u h. sym (some_is y.typ t f) ∙ one_typ y x u.opened h)
       by (p ∷ ps) f now = none_is t f
 
-  ended_typed : (t : Sized) (es : List End) (m : Run Item Item) → ends_with t (fixed_end es) ≡ true → EndsRight es m → TypedBy t m
+  pub ended_typed : (t : Sized) (es : List End) (m : Run Item Item) → ends_with t (fixed_end es) ≡ true → EndsRight es m → TypedBy t m
   ended_typed t es m h right = by (fixed_end es) refl h
     where
       by : (o : Option Sized) → fixed_end es ≡ o → ends_with t o ≡ true → TypedBy t m

@@ -32,11 +32,11 @@ use Rattle.lowered_pieces.specs.Moves.{sources}
 use Rattle.lowered_laws.specs.Standing.{HasAt, Tested}
 use Rattle.lowered_laws.proofs.Facts.{put_same, tested_both, tested_put}
 use Rattle.lowered_laws.proofs.Steps.{go, moves, computed}
-use Rattle.lowered_pieces.specs.Forms.{Piece, numbers_of, construct_code, construct_make, made_of_piece, unit_source}
-use Rattle.lowered_laws.specs.Simulation.{bare, AtWork, kit, C, reading, Runs_, Good, Sits}
+use Rattle.lowered_pieces.specs.Forms.{Piece, numbers_of, construct_code, construct_make, made_of_piece, unit_source, live_code}
+use Rattle.lowered_laws.specs.Simulation.{bare, AtWork, kit, own_code, reading, RunsOn, Good, Sits}
 use Rattle.lowered_laws.proofs.Follows.{no}
 use Rattle.lowered_laws.proofs.States.{Is}
-use Rattle.lowered_laws.proofs.Had.{fits_as_form, in_types}
+use Rattle.lowered_laws.proofs.Had.{fits_as_form, in_types, all_live, live_is}
 use Rattle.lowered_laws.proofs.Calls.{InHand, read_in_hand, GoodAll}
 use Rattle.lowered_laws.proofs.Works.{some_same, has_as, built_tuple, Makes, made_of_good}
 
@@ -69,11 +69,11 @@ module _ (g : AtWork) where
   union_had u c p s h = form_union u c p (out-Sized s) (sym (fits_as_form g (V.Union u c p) (E.Union u c p) s (V.rolls-Union u c p)) ∙ h)
 
   -- the constructor over a source that reads its payload
-  constructs : (u c n p : ℕ) (a : Source) (v : Value) (s : Sized) (sl : Slots) (t : Now Item) → reads g.m g.lets g.hart (a ∷ []) sl (bare t) ≡ v ∷ []
+  pub constructs : (u c n p : ℕ) (a : Source) (v : Value) (s : Sized) (sl : Slots) (t : Now Item) → reads g.m g.lets g.hart (a ∷ []) sl (bare t) ≡ v ∷ []
       → Sits g (V.Union u c v) s
-      → HasAt (C g) p (I.Apply (to (kit g) (Temp n) (g.number s)) (O.Construct c) (a ∷ []) ∷ [])
-      → ((sl2 : Slots) → Tested (kit g) n sl sl2 → sl2 (g.name (Temp n) (g.number s)) ≡ V.Union u c v → Runs_ g (p + 1) sl2 (bare t))
-      → Runs_ g p sl (bare t)
+      → HasAt (own_code g) p (I.Apply (to (kit g) (Temp n) (g.number s)) (O.Construct c) (a ∷ []) ∷ [])
+      → ((sl2 : Slots) → Tested (kit g) n sl sl2 → sl2 (g.name (Temp n) (g.number s)) ≡ V.Union u c v → RunsOn g (p + 1) sl2 (bare t))
+      → RunsOn g p sl (bare t)
   constructs u c n p a v s sl t r had hp next =
       let y : ℕ = g.number s in
       let w : Value = V.Union u c v in
@@ -90,10 +90,10 @@ module _ (g : AtWork) where
 
   code_constructs : (u c : ℕ) (xs : List Item) (n p : ℕ) (s : Sized) (sl : Slots) (t : Now Item)
       → Sits g (V.Union u c (payload_of (vals xs))) s → InHand g sl n xs
-      → HasAt (C g) p (construct_code (kit g) g.number g.table u c n (typs xs) s)
+      → HasAt (own_code g) p (construct_code (kit g) g.number g.table u c n (typs xs) s)
       → ((sl2 : Slots) → Tested (kit g) n sl sl2 → sl2 (g.name (Temp n) (g.number s)) ≡ V.Union u c (payload_of (vals xs))
-      → Runs_ g (p + length (construct_code (kit g) g.number g.table u c n (typs xs) s)) sl2 (bare t))
-      → Runs_ g p sl (bare t)
+      → RunsOn g (p + length (construct_code (kit g) g.number g.table u c n (typs xs) s)) sl2 (bare t))
+      → RunsOn g p sl (bare t)
   code_constructs u c [] n p s sl t had hand hp next = constructs u c n p (unit_source (kit g)) V.Unit s sl t refl had hp next
   code_constructs u c (x ∷ []) n p s sl t had hand hp next =
       constructs u c n p (from (kit g) (Temp n) (g.number x.typ)) x.val s sl t (λ j. hand.0 j ∷ []) had hp next
@@ -118,13 +118,15 @@ module _ (g : AtWork) where
       moves g.m g.lets g.hart g.here g.ending (p + 2) (p + 1 + 1) sl2 (bare t) (omega arith) (next sl2 (tested_both (kit g) n sl sl1 sl2 td td2) e2)))
 
   constructor_makes : (u c : ℕ) → Makes g (construct_make (kit g) g.number g.table u c) (λ vs. Some (V.Union u c (payload_of vs)))
-  constructor_makes u c xs v s a p sl t e taken had hp hand next =
+  constructor_makes u c xs v s a p sl t e taken had hp hand hads next =
       let w : Value = V.Union u c (payload_of (vals xs)) in
       let is : w ≡ v = some_same w v e in
       let code : List Sized → List Instruction = λ ts. construct_code (kit g) g.number g.table u c s.temp ts a.gives in
+      let code_is : live_code a.takes (code a.takes) ≡ code (typs xs) =
+      live_is a.takes (typs xs) (code a.takes) taken (all_live g xs hads) ∙ ap code taken in
       code_constructs u c xs s.temp p a.gives sl t (ap (λ x. has_sizes g.table x a.gives) is ∙ had.0, had.1) hand
-      (subst (λ ts. HasAt (C g) p (code ts)) taken hp)
-      (λ sl2 td e2. subst (λ ts. Runs_ g (p + length (code ts)) sl2 (bare t)) taken (next sl2 td (e2 ∙ is)))
+      (subst (λ q. HasAt (own_code g) p q) code_is hp)
+      (λ sl2 td e2. subst (λ q. RunsOn g (p + length q) sl2 (bare t)) code_is (next sl2 td (e2 ∙ is)))
 
   pub constructor_good : (w : World Item) (place : TextPlace) (k u c : ℕ) (ms : List (Run Item Item)) (ps : List Piece) → GoodAll g ms ps
       → Good g (in_turn ms then M.called (reading g) w place k (F.Constructor u c))

@@ -33,7 +33,7 @@ use Rattle.std.specs.Prelude.{slice_get}
 use Rattle.lowered_laws.specs.Standing.{HasAt, Tested}
 use Rattle.lowered_pieces.specs.Arms.{Held, Taken, Taking, cut_take, cut_takes, cut_widths, head_taken, part_width, takes_held, width_or}
 use Rattle.lowered_pieces.specs.Arms.{width_lowered, widths_lowered, word_takes, word_width}
-use Rattle.lowered_laws.specs.Simulation.{bare, Then_, AtWork, kit, C, reading, Runs_, Settled, Holding, Sits}
+use Rattle.lowered_laws.specs.Simulation.{bare, Followed, AtWork, kit, own_code, reading, RunsOn, Settled, Holding, Sits}
 use Rattle.lowered_laws.proofs.Follows.{no}
 use Rattle.lowered_laws.proofs.Had.{fits_as_form}
 use Rattle.lowered_laws.proofs.Heads.{HeldIs}
@@ -71,12 +71,13 @@ module _ (g : AtWork) where
   -- a head does what it means, where these are the numbers of the variables
   abbrev pub HeadAt : Givens → Taken → ℕ → ℕ → Held → Head → ℕ → Type 1
   HeadAt nu tk q fail h head k = (x : Item) (pc pf : ℕ) (sl : Slots) (t : Now Item) (K : List Item → Now Item → Type 0)
-      (H : Value → Now Item → Type 0) (N : Now Item → Type 0) → HeldIs g q sl h x → HasAt (C g) pc tk.code → slice_get (C g) pf ≡ Some (I.Label fail)
-      → Then_ g.ending (as_run (looked (reading g) nu head k x) t) K H N
+      (H : Value → Now Item → Type 0) (N : Now Item → Type 0) → HeldIs g q sl h x → HasAt (own_code g) pc tk.code
+      → slice_get (own_code g) pf ≡ Some (I.Label fail)
+      → Followed g.ending (as_run (looked (reading g) nu head k x) t) K H N
       → ((xs : List Item) (sl2 : Slots) → Tested (kit g) q sl sl2 → Holding g sl2 tk.parts xs → Settled tk.free tk.parts → q ≤ tk.free → K xs t
-      → Runs_ g (pc + length tk.code) sl2 (bare t))
-      → ((sl2 : Slots) → Tested (kit g) q sl sl2 → N t → Runs_ g pf sl2 (bare t))
-      → Runs_ g pc sl (bare t)
+      → RunsOn g (pc + length tk.code) sl2 (bare t))
+      → ((sl2 : Slots) → Tested (kit g) q sl sl2 → N t → RunsOn g pf sl2 (bare t))
+      → RunsOn g pc sl (bare t)
 
   -- ---- widths
 
@@ -194,8 +195,8 @@ module _ (g : AtWork) where
       takes : List Taking
       takes = word_takes g.table (kit g) h ws
 
-      by : (o : Value-F Value) → out-Value x.val ≡ o → Then_ g.ending (as_run (so_many k (opened (reading g) nu (H.Cut ws) k x o)) t) K Hx N
-          → Runs_ g pc sl (bare t)
+      by : (o : Value-F Value) → out-Value x.val ≡ o → Followed g.ending (as_run (so_many k (opened (reading g) nu (H.Cut ws) k x o)) t) K Hx N
+          → RunsOn g pc sl (bare t)
       by (E.Bits bs) e z =
           let fits = sym (fits_as_form g x.val (E.Bits bs) x.typ (ap roll-Value (sym e) ∙ roll-out-Value x.val)) ∙ held.had.0 in
           let many : word_width (out-Sized h.typ) ≡ length bs =
@@ -203,7 +204,7 @@ module _ (g : AtWork) where
           let here_ : word_width (out-Sized x.typ) ≡ length bs = word_is bs (out-Sized x.typ) fits in
           let ws_ : List (Option ℕ) = map (part_width g.size) ws in
           let ns : List ℕ = cut_widths (length bs) ws_ in
-          let z1 = subst (λ o. Then_ g.ending (as_run (so_many k (parts_or_wrong (and_then o (cut_by (reading g) bs)))) t) K Hx N)
+          let z1 = subst (λ o. Followed g.ending (as_run (so_many k (parts_or_wrong (and_then o (cut_by (reading g) bs)))) t) K Hx N)
           (widths_are nu widths ws lowered) z in
           let whole : cut (reading g) ns bs ≡ cut (reading g) ns (take (length bs) bs) = ap (cut (reading g) ns)
           (sym (take_all (length bs) bs (omega arith))) in
@@ -216,7 +217,7 @@ module _ (g : AtWork) where
               ≡ cut (reading g) (cut_widths (length bs) (map (part_width g.size) ws)) (take (length bs) bs)
               → takes ≡ cut_takes g.table (kit g) h (length bs) (cut_widths (length bs) (map (part_width g.size) ws))
               → ((n : ℕ) → n ≤ length bs → (g.tables.known (S.Bits (pos n)) ≡ true) × (fixed_typ g.table (bits_typ n) ≡ S.Bits (pos n)))
-              → Then_ g.ending (as_run (so_many k (parts_or_wrong o)) t) K Hx N → Runs_ g pc sl (bare t)
+              → Followed g.ending (as_run (so_many k (parts_or_wrong o)) t) K Hx N → RunsOn g pc sl (bare t)
           found None f whole so knows y = absurd y
           found (Some xs) f whole so knows y = counted (nat_eq (length xs) k) refl y
             where
@@ -225,7 +226,7 @@ module _ (g : AtWork) where
                   subst (λ ks. Takes g h x.val t ks xs) (sym so)
                   (parts_taken h x.val t bs e knows (cut_widths (length bs) (map (part_width g.size) ws)) (length bs) (omega arith) xs (sym whole ∙ f))
 
-              counted : (b : Bool) → nat_eq (length xs) k ≡ b → Then_ g.ending (as_run (if b then Parts xs else Wrong) t) K Hx N → Runs_ g pc sl (bare t)
+              counted : (b : Bool) → nat_eq (length xs) k ≡ b → Followed g.ending (as_run (if b then Parts xs else Wrong) t) K Hx N → RunsOn g pc sl (bare t)
               counted false c y = absurd y
               counted true c y =
                   let len : length takes ≡ k = takes_count takes xs h x.val t all ∙ eqb-true (length xs) k c in

@@ -28,7 +28,7 @@ use Rattle.lowered_pieces.specs.Forms.{Piece, picked_apart}
 use Rattle.lowered_pieces.specs.Gathered.{all_one, is_one, only_end}
 use Rattle.jib.specs.Jib.{Outcome}
 use Rattle.lowered_laws.proofs.Chosen.{some_is}
-use Rattle.lowered_laws.specs.Simulation.{Then_, AtWork, reading}
+use Rattle.lowered_laws.specs.Simulation.{Followed, AtWork, reading}
 use Rattle.lowered_laws.proofs.Follows.{no}
 
 -- ---- what a value doesn't give stays as it was noted
@@ -227,7 +227,7 @@ gives_so R.Stuck Q P h k = tt
 
 -- with what may follow
 pub then_gives : {A : Type 0} (r : Outcome) (o : Ended Item A) (P K : A → Now Item → Type 0) (H : Value → Now Item → Type 0) (N : Now Item → Type 0)
-    → Gives_ o P → Then_ r o K H N → Then_ r o (λ x t. K x t × P x t) H N
+    → Gives_ o P → Followed r o K H N → Followed r o (λ x t. K x t × P x t) H N
 then_gives r (R.Gives x t) P K H N h z = (z, h)
 then_gives r (R.No t) P K H N h z = z
 then_gives r (R.Returns v t) P K H N h z = z

@@ -25,10 +25,10 @@ use Rattle.lowered_laws.proofs.Chosen.{some_is}
 use Rattle.lowered_pieces.specs.Tables.{Tables}
 use Rattle.lowered_laws.specs.Telling.{Tells}
 use Rattle.sized_meanings.specs.Noting.{noted_by_each}
-use Rattle.lowered_laws.specs.Simulation.{Then_}
+use Rattle.lowered_laws.specs.Simulation.{Followed}
 
 pub open_then : {A B : Type 0} (r : Outcome) (o : Ended Item A) (k : A → Run Item B) (K : B → Now Item → Type 0) (H : Value → Now Item → Type 0)
-    (N : Now Item → Type 0) → Then_ r (goes_on o k) K H N → Then_ r o (λ x t. Then_ r (k x t) K H N) H N
+    (N : Now Item → Type 0) → Followed r (goes_on o k) K H N → Followed r o (λ x t. Followed r (k x t) K H N) H N
 open_then r (R.Gives x t) k K H N z = z
 open_then r (R.No t) k K H N z = z
 open_then r (R.Returns v t) k K H N z = z
@@ -37,9 +37,9 @@ open_then r (R.Stops cause t) k K H N z = z
 open_then r R.Stuck k K H N z = z
 
 pub onward : {A : Type 0} (r : Outcome) (o : Ended Item A) (K : A → Now Item → Type 0) (H : Value → Now Item → Type 0) (N : Now Item → Type 0)
-    (K' : A → Now Item → Type 0) (H' : Value → Now Item → Type 0) (N' : Now Item → Type 0) → Then_ r o K H N
+    (K' : A → Now Item → Type 0) (H' : Value → Now Item → Type 0) (N' : Now Item → Type 0) → Followed r o K H N
     → ((x : A) (t : Now Item) → K x t → K' x t) → ((v : Value) (t : Now Item) → H v t → H' v t) → ((t : Now Item) → N t → N' t)
-    → Then_ r o K' H' N'
+    → Followed r o K' H' N'
 onward r (R.Gives x t) K H N K' H' N' z f g h = f x t z
 onward r (R.No t) K H N K' H' N' z f g h = h t z
 onward r (R.Returns v t) K H N K' H' N' z f g h = z
@@ -70,8 +70,8 @@ as_integer v z e = sym (roll-out-Value v) ∙ ap roll-Value (integer_of (out-Val
 
 -- what a piece leaves is changed, but nothing of what flat code has
 pub open_leaving : {A : Type 0} (r : Outcome) (o : Ended Item A) (opened : Noted) (K : A → Now Item → Type 0) (H : Value → Now Item → Type 0)
-    (N : Now Item → Type 0) → Then_ r (leaving (λ after. record after { opened = opened }) o) K H N
-    → Then_ r o (λ x t. K x (record t { opened = opened })) (λ v t. H v (record t { opened = opened })) (λ t. N (record t { opened = opened }))
+    (N : Now Item → Type 0) → Followed r (leaving (λ after. record after { opened = opened }) o) K H N
+    → Followed r o (λ x t. K x (record t { opened = opened })) (λ v t. H v (record t { opened = opened })) (λ t. N (record t { opened = opened }))
 open_leaving r (R.Gives x t) opened K H N z = z
 open_leaving r (R.No t) opened K H N z = z
 open_leaving r (R.Returns v t) opened K H N z = z
@@ -80,7 +80,7 @@ open_leaving r (R.Stops cause t) opened K H N z = z
 open_leaving r R.Stuck opened K H N z = z
 
 pub close_then : {A B : Type 0} (r : Outcome) (o : Ended Item A) (k : A → Run Item B) (K : B → Now Item → Type 0) (H : Value → Now Item → Type 0)
-    (N : Now Item → Type 0) → Then_ r o (λ x t. Then_ r (k x t) K H N) H N → Then_ r (goes_on o k) K H N
+    (N : Now Item → Type 0) → Followed r o (λ x t. Followed r (k x t) K H N) H N → Followed r (goes_on o k) K H N
 close_then r (R.Gives x t) k K H N z = z
 close_then r (R.No t) k K H N z = z
 close_then r (R.Returns v t) k K H N z = z
@@ -89,7 +89,7 @@ close_then r (R.Stops cause t) k K H N z = z
 close_then r R.Stuck k K H N z = z
 
 pub open_or : {A : Type 0} (r : Outcome) (o : Ended Item A) (k : Run Item A) (K : A → Now Item → Type 0) (H : Value → Now Item → Type 0)
-    (N : Now Item → Type 0) → Then_ r (or_so o k) K H N → Then_ r o K H (λ t. Then_ r (k t) K H N)
+    (N : Now Item → Type 0) → Followed r (or_so o k) K H N → Followed r o K H (λ t. Followed r (k t) K H N)
 open_or r (R.Gives x t) k K H N z = z
 open_or r (R.No t) k K H N z = z
 open_or r (R.Returns v t) k K H N z = z
@@ -98,8 +98,8 @@ open_or r (R.Stops cause t) k K H N z = z
 open_or r R.Stuck k K H N z = z
 
 pub close_leaving : {A : Type 0} (r : Outcome) (o : Ended Item A) (opened : Noted) (K : A → Now Item → Type 0) (H : Value → Now Item → Type 0)
-    (N : Now Item → Type 0) → Then_ r o (λ x t. K x (record t { opened = opened })) (λ v t. H v (record t { opened = opened }))
-    (λ t. N (record t { opened = opened })) → Then_ r (leaving (λ after. record after { opened = opened }) o) K H N
+    (N : Now Item → Type 0) → Followed r o (λ x t. K x (record t { opened = opened })) (λ v t. H v (record t { opened = opened }))
+    (λ t. N (record t { opened = opened })) → Followed r (leaving (λ after. record after { opened = opened }) o) K H N
 close_leaving r (R.Gives x t) opened K H N z = z
 close_leaving r (R.No t) opened K H N z = z
 close_leaving r (R.Returns v t) opened K H N z = z
@@ -111,35 +111,35 @@ close_leaving r R.Stuck opened K H N z = z
 
 module _ (types : Types) (cases : Cases) where
   pub truth_is : {X : Type 0} (r : Outcome) (x : Item) (now : Now Item) (K : Bool → Now Item → Type 0) (H : Value → Now Item → Type 0)
-      (N : Now Item → Type 0) → Then_ r (truth (checked types cases) x now) K H N → ((b : Bool) → x.val ≡ V.Truth b → K b now → X) → X
+      (N : Now Item → Type 0) → Followed r (truth (checked types cases) x now) K H N → ((b : Bool) → x.val ≡ V.Truth b → K b now → X) → X
   truth_is {X} r x now K H N z f = by (truth_in x.val) refl z
     where
-      by : (o : Option Bool) → truth_in x.val ≡ o → Then_ r (needs o now) K H N → X
+      by : (o : Option Bool) → truth_in x.val ≡ o → Followed r (needs o now) K H N → X
       by None e z = absurd z
       by (Some b) e z = f b (as_truth x.val b e) z
 
   pub integer_is : {X : Type 0} (r : Outcome) (x : Item) (now : Now Item) (K : ℤ → Now Item → Type 0) (H : Value → Now Item → Type 0)
-      (N : Now Item → Type 0) → Then_ r (integer (checked types cases) x now) K H N → ((i : ℤ) → x.val ≡ V.Integer i → K i now → X) → X
+      (N : Now Item → Type 0) → Followed r (integer (checked types cases) x now) K H N → ((i : ℤ) → x.val ≡ V.Integer i → K i now → X) → X
   integer_is {X} r x now K H N z f = by (integer_in x.val) refl z
     where
-      by : (o : Option ℤ) → integer_in x.val ≡ o → Then_ r (needs o now) K H N → X
+      by : (o : Option ℤ) → integer_in x.val ≡ o → Followed r (needs o now) K H N → X
       by None e z = absurd z
       by (Some i) e z = f i (as_integer x.val i e) z
 
   pub natural_is : {X : Type 0} (r : Outcome) (x : Item) (now : Now Item) (K : ℕ → Now Item → Type 0) (H : Value → Now Item → Type 0)
-      (N : Now Item → Type 0) → Then_ r (natural (checked types cases) x now) K H N → ((n : ℕ) → x.val ≡ V.Integer (pos n) → K n now → X) → X
+      (N : Now Item → Type 0) → Followed r (natural (checked types cases) x now) K H N → ((n : ℕ) → x.val ≡ V.Integer (pos n) → K n now → X) → X
   natural_is {X} r x now K H N z f =
-      integer_is r x now (λ i t. Then_ r (needs (natural_of i) t) K H N) H N
+      integer_is r x now (λ i t. Followed r (needs (natural_of i) t) K H N) H N
       (open_then r (integer (checked types cases) x now) (λ i. needs (natural_of i)) K H N z) by
     where
-      by : (i : ℤ) → x.val ≡ V.Integer i → Then_ r (needs (natural_of i) now) K H N → X
+      by : (i : ℤ) → x.val ≡ V.Integer i → Followed r (needs (natural_of i) now) K H N → X
       by (pos n) e z = f n e z
       by (negsuc n) e z = absurd z
 
   -- what a node makes: its case, and then the numbers that are noted
   module _ (tables : Tables) (tells : Tells types tables cases) where
     pub made_is : {X : Type 0} (r : Outcome) (k : ℕ) (xs : List Item) (v : Value) (now : Now Item) (K : Item → Now Item → Type 0)
-        (H : Value → Now Item → Type 0) (N : Now Item → Type 0) → Then_ r (made (checked types cases) k xs v now) K H N
+        (H : Value → Now Item → Type 0) (N : Now Item → Type 0) → Followed r (made (checked types cases) k xs v now) K H N
         → ((a : Case) (more : Noted) → present_case now.opened (tables.cases k (length xs)) ≡ Some a → a.takes ≡ typs xs
         → (has_sizes types v a.gives ≡ true) × (tables.known a.gives ≡ true) → more ≡ noted_by_each (tables.gives k) v now.opened
         → K (item a.gives v) (record now { opened = more }) → X)
@@ -147,7 +147,7 @@ module _ (types : Types) (cases : Cases) where
     made_is {X} r k xs v now K H N z f = at_case (cases.makes k (typs xs) v now.opened) refl z
       where
         at_notes : (s : Sized) (o : Option Noted) → cases.makes k (typs xs) v now.opened ≡ Some s → cases.notes (Gives.Node k) v now.opened ≡ o
-            → Then_ r (goes_on (noting o now) (λ t. gives (item s v))) K H N → X
+            → Followed r (goes_on (noting o now) (λ t. gives (item s v))) K H N → X
         at_notes s None e q z = absurd z
         at_notes s (Some more) e q z =
             let c = tells.makes k (typs xs) v now.opened s e in
@@ -157,7 +157,7 @@ module _ (types : Types) (cases : Cases) where
             (subst (λ u. K (item u v) (record now { opened = more })) (sym c.is_given) z)
 
         at_case : (o : Option Sized) → cases.makes k (typs xs) v now.opened ≡ o
-            → Then_ r (goes_on (goes_on (needs o now) (λ s. gives (item s v)))
+            → Followed r (goes_on (goes_on (needs o now) (λ s. gives (item s v)))
             (λ x. (λ now2. noting (cases.notes (Gives.Node k) v now2.opened) now2) then λ t. gives x)) K H N
             → X
         at_case None e z = absurd z
@@ -166,14 +166,14 @@ module _ (types : Types) (cases : Cases) where
     -- where a call leads
     pub led_is : {B X : Type 0} (r : Outcome) (k : ℕ) (xs : List Item) (now : Now Item) (next : Awaited → Run Item B) (K : B → Now Item → Type 0)
         (H : Value → Now Item → Type 0) (N : Now Item → Type 0)
-        → Then_ r (((checked types cases).calls k xs then next) now) K H N
+        → Followed r (((checked types cases).calls k xs then next) now) K H N
         → ((a : Lead) (x : Instance) → present_lead now.opened (tables.leads k) ≡ Some a → a.takes ≡ typs xs → a.instance ≡ x.place
         → tables.awaits x.place ≡ Some x.numbers
-        → Then_ r (next (Some x) now) K H N → X) → X
+        → Followed r (next (Some x) now) K H N → X) → X
     led_is {B} {X} r k xs now next K H N z f = by (cases.calls k (typs xs) now.opened) refl z
       where
         by : (o : Option Instance) → cases.calls k (typs xs) now.opened ≡ o
-            → Then_ r (goes_on (goes_on (needs o now) (λ x. gives (Some x))) next) K H N → X
+            → Followed r (goes_on (goes_on (needs o now) (λ x. gives (Some x))) next) K H N → X
         by None e z = absurd z
         by (Some x) e z =
             let c = tells.calls k (typs xs) now.opened x e in

@@ -16,7 +16,7 @@ use Rattle.lowered_laws.proofs.Pieces.{has_front, has_back}
 use Rattle.lowered_laws.proofs.Steps.{over, past}
 use Rattle.lowered_pieces.specs.Forms.{Piece, no_tail, cast_piece, return_piece}
 use Rattle.lowered_pieces.specs.Functions.{body_depths, body_stand, ends_code, answer_code}
-use Rattle.lowered_laws.specs.Simulation.{Writable, bare, Then_, AtWork, kit, C, reading, Runs_, Same, Done, Catches, Fails, Set, Good}
+use Rattle.lowered_laws.specs.Simulation.{Writable, bare, Followed, AtWork, kit, own_code, reading, RunsOn, Same, Done, Catches, Fails, LabelsStand, Good}
 use Rattle.lowered_laws.proofs.Follows.{close_then, open_or, open_then, onward}
 use Rattle.lowered_laws.proofs.Ended.{cast_good}
 use Rattle.lowered_laws.proofs.Branches.{return_good}
@@ -36,17 +36,17 @@ module _ (g : AtWork) where
 
   -- the code ends as its ground says, where that is what the body comes to
   pub answer_good : (place : TextPlace) (last : ℕ) (me : Run Item Item) (p : Piece) → Good g me p → (l pc : ℕ) (sl : Slots) (now : Now Item)
-      → now.ticks < g.depth → HasAt (C g) pc (answer_code (kit g) place (with_result last p) l) → Same g body_depths [] 0 sl now
-      → Then_ g.ending (answer_run place last me now) (λ v t. g.ending ≡ J.Gives v (bare t)) (λ v t. g.ending ≡ J.Throws v (bare t)) (λ t. ⊥)
-      → Runs_ g pc sl (bare now)
+      → now.ticks < g.depth → HasAt (own_code g) pc (answer_code (kit g) place (with_result last p) l) → Same g body_depths [] 0 sl now
+      → Followed g.ending (answer_run place last me now) (λ v t. g.ending ≡ J.Gives v (bare t)) (λ v t. g.ending ≡ J.Throws v (bare t)) (λ t. ⊥)
+      → RunsOn g pc sl (bare now)
   answer_good place last me p good l pc sl now tk at_ same th =
       let q : Piece = with_result last p in
       let c1 : List Instruction = (return_piece (kit g) q).ended no_tail body_stand l in
       let c2 : List Instruction = ends_code (kit g) place in
       let pf : ℕ = pc + length c1 in
       let ph : ℕ = pf + 1 + 1 in
-      let h1 : HasAt (C g) pf c2 = has_back (C g) pc c1 c2 pf refl at_ in
-      let set : Set g body_stand ph pf = record { throws = h1.1.1.0; fails = h1.0 } in
+      let h1 : HasAt (own_code g) pf c2 = has_back (own_code g) pc c1 c2 pf refl at_ in
+      let set : LabelsStand g body_stand ph pf = record { throws = h1.1.1.0; fails = h1.0 } in
       let K0 : Value → Now Item → Type 0 = λ v t. g.ending ≡ J.Gives v (bare t) in
       let H0 : Value → Now Item → Type 0 = λ v t. g.ending ≡ J.Throws v (bare t) in
       let N0 : Now Item → Type 0 = λ t. ⊥ in
@@ -57,7 +57,7 @@ module _ (g : AtWork) where
       let kont : Item → Run Item Value = λ x. ending_of x then λ y. gives y.val in
       let whole : Run Item Item = me then ending_of in
       let out : Item → Run Item Item = λ y. returns y.val in
-      let K2 : Item → Now Item → Type 0 = λ y u. Then_ g.ending (out y u) D H N in
+      let K2 : Item → Now Item → Type 0 = λ y u. Followed g.ending (out y u) D H N in
       let thrown : (v : Value) (t : Now Item) → H0 v t → H v t = λ v t e. record {
         by = λ sl1 k1 is.
             past g.m g.lets g.hart g.here g.ending ph 0 sl1 (bare t) h1.1.1.0
@@ -69,15 +69,15 @@ module _ (g : AtWork) where
             past g.m g.lets g.hart g.here g.ending pf 1 sl1 (bare t) h1.0
             (over g.m g.lets g.hart g.here g.ending (pf + 1) sl1 (bare t) (I.Stop (MatchFailure place)) h1.1.0 (ap Over (sym e)));
       } in
-      let valued : (x : Item) (t : Now Item) → Then_ g.ending (kont x t) K0 H0 N0 → Then_ g.ending (ending_of x t) K2 H N = λ x t th1.
+      let valued : (x : Item) (t : Now Item) → Followed g.ending (kont x t) K0 H0 N0 → Followed g.ending (ending_of x t) K2 H N = λ x t th1.
       onward g.ending (ending_of x t) (λ y u. K0 y.val u) H0 N0 K2 H N (open_then g.ending (ending_of x t) (λ y. gives y.val) K0 H0 N0 th1) (λ y u e. e)
       thrown (λ u e. absurd e) in
-      (return_good g whole q (cast_good g me p good last)).run no_tail body_stand l pc pf ph pf sl now tk refl (has_front (C g) pc c1 c2 at_) set same
+      (return_good g whole q (cast_good g me p good last)).run no_tail body_stand l pc pf ph pf sl now tk refl (has_front (own_code g) pc c1 c2 at_) set same
       (all_here q.notes)
       (close_then g.ending (whole now) out D H N
       (close_then g.ending (me now) ending_of K2 H N
-      (onward g.ending (me now) (λ x t. Then_ g.ending (kont x t) K0 H0 N0) H0 (λ t. g.ending ≡ J.Stops (MatchFailure place) (bare t))
-      (λ x t. Then_ g.ending (ending_of x t) K2 H N) H N
-      (open_or g.ending (me now) (stops (MatchFailure place)) (λ x t. Then_ g.ending (kont x t) K0 H0 N0) H0 N0
+      (onward g.ending (me now) (λ x t. Followed g.ending (kont x t) K0 H0 N0) H0 (λ t. g.ending ≡ J.Stops (MatchFailure place) (bare t))
+      (λ x t. Followed g.ending (ending_of x t) K2 H N) H N
+      (open_or g.ending (me now) (stops (MatchFailure place)) (λ x t. Followed g.ending (kont x t) K0 H0 N0) H0 N0
       (open_then g.ending ((me or_else stops (MatchFailure place)) now) kont K0 H0 N0 th))
       valued thrown failed)))

@@ -31,7 +31,7 @@ use Rattle.lowered_laws.proofs.Facts.{fits_already, put_same}
 use Rattle.lowered_laws.proofs.Steps.{go, moves, over}
 use Rattle.lowered_pieces.specs.Forms.{Stand, Tail, Piece, all_code, all_labels, all_notes, kit_at, note_code, notes_in, one_end}
 use Rattle.lowered_pieces.specs.Gathered.{all_one, is_one, only_end, operand_at, operands_at, row_code, state_piece}
-use Rattle.lowered_laws.specs.Simulation.{bare, Then_, AtWork, kit, C, reading, Runs_, Writable, After, Done, Catches, Fails, Good, Sits}
+use Rattle.lowered_laws.specs.Simulation.{bare, Followed, AtWork, kit, own_code, reading, RunsOn, Writable, After, Done, Catches, Fails, Good, Sits}
 use Rattle.lowered_laws.proofs.Follows.{made_is, no, open_then}
 use Rattle.lowered_laws.proofs.States.{Is, after_put, after_time, writable_front, writable_back}
 use Rattle.lowered_laws.proofs.Ended.{arm_good}
@@ -55,14 +55,14 @@ module _ (g : AtWork) where
   after_ran now ran = record now { state = ran.state; accesses = now.accesses ++ ran.accesses }
 
   ran_by : (o : Option Ran) (now : Now Item) (nexts : Value → Run Item Item) (K : Item → Now Item → Type 0) (H : Value → Now Item → Type 0)
-      (M : Now Item → Type 0) (X : Type 0) → Then_ g.ending (goes_on (after_row o now) nexts) K H M
-      → ((ran : Ran) → o ≡ Some ran → Then_ g.ending (goes_on (ended_as ran.ended (after_ran now ran)) nexts) K H M → X) → X
+      (M : Now Item → Type 0) (X : Type 0) → Followed g.ending (goes_on (after_row o now) nexts) K H M
+      → ((ran : Ran) → o ≡ Some ran → Followed g.ending (goes_on (ended_as ran.ended (after_ran now ran)) nexts) K H M → X) → X
   ran_by None now nexts K H M X z f = absurd z
   ran_by (Some ran) now nexts K H M X z f = f ran refl z
 
   ended_by : (o : RowEnded) (now : Now Item) (nexts : Value → Run Item Item) (K : Item → Now Item → Type 0) (H : Value → Now Item → Type 0)
-      (M : Now Item → Type 0) (X : Type 0) → Then_ g.ending (goes_on (ended_as o now) nexts) K H M
-      → ((v : Value) → o ≡ N.Value v → Then_ g.ending (nexts v now) K H M → X)
+      (M : Now Item → Type 0) (X : Type 0) → Followed g.ending (goes_on (ended_as o now) nexts) K H M
+      → ((v : Value) → o ≡ N.Value v → Followed g.ending (nexts v now) K H M → X)
       → ((cause : Cause) → o ≡ N.Stop cause → g.ending ≡ J.Stops cause (bare now) → X) → X
   ended_by (N.Value v) now nexts K H M X z f h = f v refl z
   ended_by (N.Stop cause) now nexts K H M X z f h = h cause refl z
@@ -75,8 +75,8 @@ module _ (g : AtWork) where
     row_good : (c : Case) (ps : List Piece) (xs : List Item) (tail : Tail) (s : Stand) (l pc pe : ℕ) (sl sl1 : Slots) (now t : Now Item)
         (H : Value → Now Item → Type 0) (M : Now Item → Type 0) → g.tables.cases k (length xs) ≡ c ∷ [] → Typed ps xs
         → Writable s.depths (all_notes (g.tables.gives k)) → pe ≡ pc + length (row_code (kit g) row c (g.tables.gives k) ps tail s l)
-        → HasAt (C g) pc (row_code (kit g) row c (g.tables.gives k) ps tail s l) → After g s.depths s.scope s.temp sl now sl1 t → InHand g sl1 s.temp xs
-        → Then_ g.ending (calling xs t) (Done g tail s pe sl now) H M → Runs_ g pc sl1 (bare t)
+        → HasAt (own_code g) pc (row_code (kit g) row c (g.tables.gives k) ps tail s l) → After g s.depths s.scope s.temp sl now sl1 t → InHand g sl1 s.temp xs
+        → Followed g.ending (calling xs t) (Done g tail s pe sl now) H M → RunsOn g pc sl1 (bare t)
     row_good c ps xs tail s l pc pe sl sl1 now t H M only typed wr end at_ k1 std th =
         let n : ℕ = s.temp in
         let y : ℕ = g.number c.gives in
@@ -86,8 +86,8 @@ module _ (g : AtWork) where
         let is : Is g (Temp n) y = g.slots pc (g.name (Temp n) y) i at_.0 refl in
         let D = Done g tail s pe sl now in
         let nexts : Value → Run Item Item = λ v. made (reading g) k xs v in
-        ran_by (state_row row w.hart t.state (vals xs)) t nexts D H M (Runs_ g pc sl1 (bare t))
-        (subst (λ b. Then_ g.ending (goes_on (if b then after_row (state_row row w.hart t.state (vals xs)) t else needs (row_value row (vals xs)) t) nexts)
+        ran_by (state_row row w.hart t.state (vals xs)) t nexts D H M (RunsOn g pc sl1 (bare t))
+        (subst (λ b. Followed g.ending (goes_on (if b then after_row (state_row row w.hart t.state (vals xs)) t else needs (row_value row (vals xs)) t) nexts)
         D H M)
         state th)
         (λ ran e z.
@@ -98,7 +98,7 @@ module _ (g : AtWork) where
         ∙ ap (λ vs. apply g.m g.lets g.hart (to (kit g) (Temp n) y) y (O.Builtin row) vs sl1 (bare t)) (operands_read n ps xs sl1 (bare t) typed std)
         ∙ ap (λ o. J.finish g.m g.lets g.hart (to (kit g) (Temp n) y) y (or_plain t.state o (row_value row (vals xs))) sl1 (bare t))
         (ap (λ h. state_row row h t.state (vals xs)) (sym hart) ∙ e) in
-        ended_by ran.ended (after_ran t ran) nexts D H M (Runs_ g pc sl1 (bare t)) z
+        ended_by ran.ended (after_ran t ran) nexts D H M (RunsOn g pc sl1 (bare t)) z
         (λ v ev z1.
         made_is g.table g.cases g.tables g.tells g.ending k xs v (after_ran t ran) D H M z1
         (λ a more there taken had by done.
@@ -136,14 +136,14 @@ module _ (g : AtWork) where
           let D = Done g tail s pe sl now in
           let H = Catches g s.depths s.scope ph n sl now in
           let M = Fails g s.depths s.scope pf n sl now in
-          let K1 : List Item → Now Item → Type 0 = λ xs t. Then_ g.ending (calling xs t) D H M in
-          all_good g ms ps all s l pc p1 ph pf sl now (λ xs t. K1 xs t × Typed ps xs) tk refl (has_front (C g) pc c1 c2 at_) set same
+          let K1 : List Item → Now Item → Type 0 = λ xs t. Followed g.ending (calling xs t) D H M in
+          all_good g ms ps all s l pc p1 ph pf sl now (λ xs t. K1 xs t × Typed ps xs) tk refl (has_front (own_code g) pc c1 c2 at_) set same
           (writable_front s.depths ns (all_notes gs) wr)
           (then_gives g.ending (in_turn ms now) (λ xs t. Typed ps xs) K1 H M (turn_typed ms ps right single now)
           (open_then g.ending (in_turn ms now) calling D H M th))
           (λ xs t sl1 k1 len std z.
           row_good c ps xs tail s lc p1 pe sl sl1 now t H M (ap (g.tables.cases k) len ∙ are) z.1 (writable_back s.depths ns (all_notes gs) wr)
-          (omega (arith, end, length-append c1 c2)) (has_back (C g) pc c1 c2 p1 refl at_) k1 std z.0);
+          (omega (arith, end, length-append c1 c2)) (has_back (own_code g) pc c1 c2 p1 refl at_) k1 std z.0);
     }
 
     pub state_good : (ms : List (Run Item Item)) (ps : List Piece) → is_one (g.tables.cases k (length ps)) ≡ true → all_one ps ≡ true → GoodAll g ms ps

@@ -1,5 +1,7 @@
 -- Values and the sizes that they have.
-use Rattle.std.proofs.Common.{◌≡◌, ◌∙◌, ℤ, Bool, true, [], refl, sym, ap}
+use Rattle.std.proofs.Common.{◌≡◌, ◌∙◌, ℤ, Bool, true, false, List, [], ◌∷◌, refl, sym, ap, subst, if◌then◌else◌}
+use Rattle.std.specs.Prelude.{◌||◌}
+use Rattle.sail_types.specs.Limits.{is_small}
 use Rattle.sail_types.specs.Sums.{constant}
 use Rattle.row_types.specs.Formulas.{least, most}
 use Rattle.sail_core.specs.Values.{int_typ}
@@ -17,10 +19,16 @@ use Rattle.size_values.specs.declared.sized.Sized.TheVariants as S
 use Rattle.size_values.specs.declared.sized.Sized.TheViews.{out-roll-Sized, roll-out-Sized}
 use Rattle.size_values.specs.Sized.{UnderConstants, form_sized, typ_sized}
 use Rattle.checked_meaning.specs.Fits.{Fits, fits_step, form_fits, has_sizes}
-use Rattle.checked_meaning.specs.Items.{fixed_typ}
+use Rattle.checked_meaning.specs.Items.{Item, fixed_typ, typs}
+use Rattle.jib.specs.declared.code.Instruction.{Instruction}
 use Rattle.jib.specs.Values.{has}
-use Rattle.lowered_laws.specs.Simulation.{AtWork, Sits}
+use Rattle.lowered_pieces.specs.Forms.{dead, is_never, live_code, never_form}
+use Rattle.lowered_laws.specs.Simulation.{AllHad, AtWork, Sits}
 use Rattle.lowered_laws.proofs.Follows.{no}
+
+-- the code over operands that exist
+pub live_is : (ts us : List Sized) (code : List Instruction) → ts ≡ us → dead us ≡ false → live_code ts code ≡ code
+live_is ts us code is lives = ap (λ b. if b then [] else code) (ap dead is ∙ lives)
 
 module _ (g : AtWork) where
   abbrev pub fits_in : Value-F Value → Value-F Fits
@@ -65,6 +73,26 @@ module _ (g : AtWork) where
   pub truth_sits : (b : Bool) → Sits g (V.Truth b) (fixed_typ g.table Y.Bool)
   truth_sits b = (truth_had b, g.knows.truth)
 
+  -- ---- what doesn't exist has no values, and nothing is made of operands of which one has its type
+
+  no_value : (x : Value-F Fits) → form_fits g.table x Z.Never ≡ true → ⊥
+  no_value E.Unit h = no h
+  no_value x h = no h
+
+  lives_form : (x : Value-F Fits) (z : Sized-F Sized) → form_fits g.table x z ≡ true → never_form z ≡ false
+  lives_form x Z.Never h = absurd (no_value x h)
+  lives_form x z h = refl
+
+  lives : (v : Value) (t : Sized) → Sits g v t → is_never t ≡ false
+  lives v t h = lives_form (fits_in (out-Value v)) (out-Sized t) (sym (fits_form v t) ∙ h.0)
+
+  pub all_live : (xs : List Item) → AllHad g.table g.tables.known xs → dead (typs xs) ≡ false
+  all_live [] h = refl
+  all_live (x ∷ xs) h = ap (λ b. b || dead (typs xs)) (lives x.val x.typ h.0) ∙ all_live xs h.1
+
+  pub one_lives : (x : Item) → Sits g x.val x.typ → dead (x.typ ∷ []) ≡ false
+  one_lives x h = all_live (x ∷ []) (h, tt)
+
   -- ---- a truth has one type alone, and so has an integer
 
   is_truth : (z : Sized-F Sized) (b : Bool) → form_fits g.table (E.Truth b) z ≡ true → z ≡ Z.Bool
@@ -89,3 +117,16 @@ module _ (g : AtWork) where
   integer_typed v i s e had =
       let fits : form_fits g.table (E.Integer i) (out-Sized s) ≡ true = sym (fits_as_form v (E.Integer i) s (V.rolls-Integer i ∙ sym e)) ∙ had.0 in
       sym (roll-out-Sized s) ∙ ap roll-Sized (is_int (out-Sized s) i fits) ∙ S.rolls-Int ∙ sym integer_typ
+
+  pub integer_sits : (i : ℤ) → is_small i ≡ true → Sits g (V.Integer i) (fixed_typ g.table int_typ)
+  integer_sits i small = (
+    fits_as_form (V.Integer i) (E.Integer i) (fixed_typ g.table int_typ) (V.rolls-Integer i)
+        ∙ ap (λ s. form_fits g.table (E.Integer i) (out-Sized s)) integer_typ
+        ∙ ap (form_fits g.table (E.Integer i)) (ap out-Sized (sym S.rolls-Int) ∙ out-roll-Sized Z.Int) ∙ small,
+    g.knows.integer,
+  )
+
+  pub integer_small : (v : Value) (i : ℤ) (s : Sized) → v ≡ V.Integer i → Sits g v s → is_small i ≡ true
+  integer_small v i s e had =
+      let fits : form_fits g.table (E.Integer i) (out-Sized s) ≡ true = sym (fits_as_form v (E.Integer i) s (V.rolls-Integer i ∙ sym e)) ∙ had.0 in
+      subst (λ z. form_fits g.table (E.Integer i) z ≡ true) (is_int (out-Sized s) i fits) fits

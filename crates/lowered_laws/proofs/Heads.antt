@@ -40,7 +40,7 @@ use Rattle.lowered_laws.proofs.Facts.{put_same, tested_here, tested_both, tested
 use Rattle.lowered_laws.proofs.Steps.{go, jump, moves, computed, test_step}
 use Rattle.lowered_pieces.specs.Arms.{Held, Taken, constant_of, is_union, held_at, fields_code, fields_held, payload_step, one_taken, many_taken}
 use Rattle.lowered_pieces.specs.Arms.{payload_taken, head_taken, at_hand, skipped}
-use Rattle.lowered_laws.specs.Simulation.{bare, Then_, AtWork, kit, C, reading, Runs_, lower, handy, Settled, Holding, Sits}
+use Rattle.lowered_laws.specs.Simulation.{bare, Followed, AtWork, kit, own_code, reading, RunsOn, lower, handy, Settled, Holding, Sits}
 use Rattle.lowered_laws.proofs.Follows.{no}
 use Rattle.lowered_laws.proofs.States.{Is}
 use Rattle.lowered_laws.proofs.Had.{fits_as_form, in_types}
@@ -179,19 +179,19 @@ module _ (g : AtWork) where
 
   abbrev pub HeadRuns : Head → ℕ → Type 1
   HeadRuns head k = (h : Held) (x : Item) (q pc pf fail : ℕ) (sl : Slots) (t : Now Item) (nu : Givens) (K : List Item → Now Item → Type 0)
-      (H : Value → Now Item → Type 0) (N : Now Item → Type 0) → HeldIs q sl h x → HasAt (C g) pc (head_taken g.table (kit g) h head k q fail).code
-      → slice_get (C g) pf ≡ Some (I.Label fail) → Then_ g.ending (as_run (looked (reading g) nu head k x) t) K H N
+      (H : Value → Now Item → Type 0) (N : Now Item → Type 0) → HeldIs q sl h x → HasAt (own_code g) pc (head_taken g.table (kit g) h head k q fail).code
+      → slice_get (own_code g) pf ≡ Some (I.Label fail) → Followed g.ending (as_run (looked (reading g) nu head k x) t) K H N
       → ((xs : List Item) (sl2 : Slots) → Tested (kit g) q sl sl2 → Holding g sl2 (head_taken g.table (kit g) h head k q fail).parts xs
       → Settled (head_taken g.table (kit g) h head k q fail).free (head_taken g.table (kit g) h head k q fail).parts
       → q ≤ (head_taken g.table (kit g) h head k q fail).free → K xs t
-      → Runs_ g (pc + length (head_taken g.table (kit g) h head k q fail).code) sl2 (bare t))
-      → ((sl2 : Slots) → Tested (kit g) q sl sl2 → N t → Runs_ g pf sl2 (bare t))
-      → Runs_ g pc sl (bare t)
+      → RunsOn g (pc + length (head_taken g.table (kit g) h head k q fail).code) sl2 (bare t))
+      → ((sl2 : Slots) → Tested (kit g) q sl sl2 → N t → RunsOn g pf sl2 (bare t))
+      → RunsOn g pc sl (bare t)
 
   -- a literal
   pub is_runs : (l : CoreLiteral) (k : ℕ) → HeadRuns (H.Is l) k
   is_runs l k h x q pc pf fail sl t nu K Hx N held at_ hl th next failed =
-      by (same_two (literal_form l) (out-Value x.val)) refl (subst (λ o. Then_ g.ending (as_run (so_many k o) t) K Hx N) (literal_is l (out-Value x.val)) th)
+      by (same_two (literal_form l) (out-Value x.val)) refl (subst (λ o. Followed g.ending (as_run (so_many k o) t) K Hx N) (literal_is l (out-Value x.val)) th)
     where
       lit : Value
       lit = literal_value (constant_of l)
@@ -204,12 +204,12 @@ module _ (g : AtWork) where
       values_are b e =
           ap (λ o. option_map (λ c. V.Truth (not c)) (same_two o (out-Value x.val))) (literal_out l) ∙ ap (option_map (λ c. V.Truth (not c))) e
 
-      none_left : (b : Bool) → Then_ g.ending (as_run {X = Item} (if b then Parts [] else Wrong) t) K Hx N → K [] t
+      none_left : (b : Bool) → Followed g.ending (as_run {X = Item} (if b then Parts [] else Wrong) t) K Hx N → K [] t
       none_left true z = z
       none_left false z = absurd z
 
-      decided : (b : Bool) → Then_ g.ending (as_run (so_many k (tested b)) t) K Hx N → (sl2 : Slots) → Tested (kit g) q sl sl2
-          → (not b ≡ false → Runs_ g (pc + 1 + 1) sl2 (bare t)) × (not b ≡ true → Runs_ g pf sl2 (bare t))
+      decided : (b : Bool) → Followed g.ending (as_run (so_many k (tested b)) t) K Hx N → (sl2 : Slots) → Tested (kit g) q sl sl2
+          → (not b ≡ false → RunsOn g (pc + 1 + 1) sl2 (bare t)) × (not b ≡ true → RunsOn g pf sl2 (bare t))
       decided true z sl2 td = (
         λ e. moves g.m g.lets g.hart g.here g.ending (pc + 2) (pc + 1 + 1) sl2 (bare t) (omega arith)
             (next [] sl2 td tt tt (omega arith) (none_left (nat_eq 0 k) z)),
@@ -217,8 +217,8 @@ module _ (g : AtWork) where
       )
       decided false z sl2 td = (λ e. no (sym e), λ e. failed sl2 td z)
 
-      by : (o : Option Bool) → same_two (literal_form l) (out-Value x.val) ≡ o → Then_ g.ending (as_run (so_many k (seen_by o)) t) K Hx N
-          → Runs_ g pc sl (bare t)
+      by : (o : Option Bool) → same_two (literal_form l) (out-Value x.val) ≡ o → Followed g.ending (as_run (so_many k (seen_by o)) t) K Hx N
+          → RunsOn g pc sl (bare t)
       by None e z = absurd z
       by (Some b) e z =
           let w : Value = V.Truth (not b) in
@@ -240,11 +240,11 @@ module _ (g : AtWork) where
   fields_run : (vs all : List Value) (h : Held) (x : Item) (j q pc : ℕ) (sl : Slots) (t : Now Item) → HeldIs q sl h x → out-Value x.val ≡ E.Tuple all
       → ((i : ℕ) (v : Value) → slice_get vs i ≡ Some v → (k : ℕ) → k ≡ i + j
       → (slice_get all k ≡ Some v) × Sits g v (part_typ g.table (component k) x.typ))
-      → HasAt (C g) pc (fields_code g.table (kit g) h j q (length vs))
+      → HasAt (own_code g) pc (fields_code g.table (kit g) h j q (length vs))
       → ((sl2 : Slots) → Tested (kit g) q sl sl2 → Holding g sl2 (fields_held g.table (kit g) h j q (length vs)) (components (reading g) x j vs)
       → Settled (q + length vs) (fields_held g.table (kit g) h j q (length vs))
-      → Runs_ g (pc + length (fields_code g.table (kit g) h j q (length vs))) sl2 (bare t))
-      → Runs_ g pc sl (bare t)
+      → RunsOn g (pc + length (fields_code g.table (kit g) h j q (length vs))) sl2 (bare t))
+      → RunsOn g pc sl (bare t)
   fields_run [] all h x j q pc sl t held out at at_ next =
       moves g.m g.lets g.hart g.here g.ending (pc + 0) pc sl (bare t) (omega arith) (next sl (tested_here (kit g) q sl) tt tt)
   fields_run (v ∷ vs) all h x j q pc sl t held out at at_ next =
@@ -306,16 +306,16 @@ module _ (g : AtWork) where
   -- all parts of a tuple, of which there are to be so many
   all_fields : (all : List Value) (h : Held) (x : Item) (k q pc : ℕ) (sl : Slots) (t : Now Item) (K : List Item → Now Item → Type 0)
       (H : Value → Now Item → Type 0) (N : Now Item → Type 0) → HeldIs q sl h x → out-Value x.val ≡ E.Tuple all
-      → HasAt (C g) pc (fields_code g.table (kit g) h 0 q k) → Then_ g.ending (as_run (so_many k (Parts (components (reading g) x 0 all))) t) K H N
+      → HasAt (own_code g) pc (fields_code g.table (kit g) h 0 q k) → Followed g.ending (as_run (so_many k (Parts (components (reading g) x 0 all))) t) K H N
       → ((xs : List Item) (sl2 : Slots) → Tested (kit g) q sl sl2 → Holding g sl2 (fields_held g.table (kit g) h 0 q k) xs
-      → Settled (q + k) (fields_held g.table (kit g) h 0 q k) → K xs t → Runs_ g (pc + length (fields_code g.table (kit g) h 0 q k)) sl2 (bare t))
-      → Runs_ g pc sl (bare t)
+      → Settled (q + k) (fields_held g.table (kit g) h 0 q k) → K xs t → RunsOn g (pc + length (fields_code g.table (kit g) h 0 q k)) sl2 (bare t))
+      → RunsOn g pc sl (bare t)
   all_fields all h x k q pc sl t K Hx N held out at_ th next = by (nat_eq (length xs) k) refl th
     where
       xs : List Item
       xs = components (reading g) x 0 all
 
-      by : (b : Bool) → nat_eq (length xs) k ≡ b → Then_ g.ending (as_run (if b then Parts xs else Wrong) t) K Hx N → Runs_ g pc sl (bare t)
+      by : (b : Bool) → nat_eq (length xs) k ≡ b → Followed g.ending (as_run (if b then Parts xs else Wrong) t) K Hx N → RunsOn g pc sl (bare t)
       by false e z = absurd z
       by true e z =
           let len : k ≡ length all = sym (eqb-true (length xs) k e) ∙ components_length x 0 all in
@@ -324,17 +324,17 @@ module _ (g : AtWork) where
           let ij : i ≡ j = omega (arith, same) in
           let g1 : slice_get all j ≡ Some v = subst (λ a. slice_get all a ≡ Some v) ij f in
           (g1, parts_had x.val x.typ all out held.had j v g1))
-          (subst (λ a. HasAt (C g) pc (fields_code g.table (kit g) h 0 q a)) len at_)
+          (subst (λ a. HasAt (own_code g) pc (fields_code g.table (kit g) h 0 q a)) len at_)
           (λ sl2 td hold settled.
-          subst (λ a. Runs_ g (pc + length (fields_code g.table (kit g) h 0 q a)) sl2 (bare t)) len
+          subst (λ a. RunsOn g (pc + length (fields_code g.table (kit g) h 0 q a)) sl2 (bare t)) len
           (next xs sl2 td (subst (λ a. Holding g sl2 (fields_held g.table (kit g) h 0 q a) xs) (sym len) hold)
           (subst (λ a. Settled (q + a) (fields_held g.table (kit g) h 0 q a)) (sym len) settled) z))
 
   pub tuple_runs : (k : ℕ) → HeadRuns H.Tuple k
   tuple_runs k h x q pc pf fail sl t nu K Hx N held at_ hl th next failed = by (out-Value x.val) refl th
     where
-      by : (o : Value-F Value) → out-Value x.val ≡ o → Then_ g.ending (as_run (so_many k (opened (reading g) nu H.Tuple k x o)) t) K Hx N
-          → Runs_ g pc sl (bare t)
+      by : (o : Value-F Value) → out-Value x.val ≡ o → Followed g.ending (as_run (so_many k (opened (reading g) nu H.Tuple k x o)) t) K Hx N
+          → RunsOn g pc sl (bare t)
       by (E.Tuple all) e z =
           all_fields all h x k q pc sl t K Hx N held e at_ z (λ xs sl2 td hold settled kx. next xs sl2 td hold settled (omega arith) kx)
       by o e z = absurd z
@@ -367,20 +367,21 @@ module _ (g : AtWork) where
 
   abbrev pub HeadBy : Taken → ℕ → ℕ → Held → Head → ℕ → Type 1
   HeadBy tk q fail h head k = (x : Item) (pc pf : ℕ) (sl : Slots) (t : Now Item) (nu : Givens) (K : List Item → Now Item → Type 0)
-      (H : Value → Now Item → Type 0) (N : Now Item → Type 0) → HeldIs q sl h x → HasAt (C g) pc tk.code → slice_get (C g) pf ≡ Some (I.Label fail)
-      → Then_ g.ending (as_run (looked (reading g) nu head k x) t) K H N
+      (H : Value → Now Item → Type 0) (N : Now Item → Type 0) → HeldIs q sl h x → HasAt (own_code g) pc tk.code
+      → slice_get (own_code g) pf ≡ Some (I.Label fail)
+      → Followed g.ending (as_run (looked (reading g) nu head k x) t) K H N
       → ((xs : List Item) (sl2 : Slots) → Tested (kit g) q sl sl2 → Holding g sl2 tk.parts xs → Settled tk.free tk.parts → q ≤ tk.free → K xs t
-      → Runs_ g (pc + length tk.code) sl2 (bare t))
-      → ((sl2 : Slots) → Tested (kit g) q sl sl2 → N t → Runs_ g pf sl2 (bare t))
-      → Runs_ g pc sl (bare t)
+      → RunsOn g (pc + length tk.code) sl2 (bare t))
+      → ((sl2 : Slots) → Tested (kit g) q sl sl2 → N t → RunsOn g pf sl2 (bare t))
+      → RunsOn g pc sl (bare t)
 
   -- a value of another union isn't one of the constructor
   other_union : (u c k q fail : ℕ) (h : Held) (tk : Taken) → is_union u (out-Sized h.typ) ≡ false
       → HeadBy (skipped fail tk) q fail h (H.Constructor u c) k
   other_union u c k q fail h tk other x pc pf sl t nu K Hx N held at_ hl th next failed = by (out-Value x.val) refl th
     where
-      by : (o : Value-F Value) → out-Value x.val ≡ o → Then_ g.ending (as_run (so_many k (opened (reading g) nu (H.Constructor u c) k x o)) t) K Hx N
-          → Runs_ g pc sl (bare t)
+      by : (o : Value-F Value) → out-Value x.val ≡ o → Followed g.ending (as_run (so_many k (opened (reading g) nu (H.Constructor u c) k x o)) t) K Hx N
+          → RunsOn g pc sl (bare t)
       by (E.Union i j v) e z =
           let fits = sym (fits_as_form g x.val (E.Union i j v) x.typ (ap roll-Value (sym e) ∙ roll-out-Value x.val)) ∙ held.had.0 in
           let ne : nat_eq i u ≡ false =
@@ -388,17 +389,17 @@ module _ (g : AtWork) where
           let parts : Option (List Item) = payload_parts (reading g) k (item (part_typ g.table (payload u c) x.typ) v) in
           jump g.m g.lets g.hart g.here g.ending pc pf fail sl (bare t) (I.Goto fail) at_.0 refl hl
           (failed sl (tested_here (kit g) q sl)
-          (subst (λ b. Then_ g.ending (as_run (so_many k (constructed (b && nat_eq j c) parts)) t) K Hx N) ne z))
+          (subst (λ b. Followed g.ending (as_run (so_many k (constructed (b && nat_eq j c) parts)) t) K Hx N) ne z))
       by o e z = absurd z
 
   -- the payload is taken out where the constructor is this one, and what follows takes its parts
   payload_out : (u c k q fail : ℕ) (h : Held) (tk : Taken) (rest : List Instruction) → is_union u (out-Sized h.typ) ≡ true
       → tk.code ≡ payload_step g.table (kit g) h u c q fail ∷ rest
       → ((x : Item) (v : Value) (pc : ℕ) (sl : Slots) (t : Now Item) (K : List Item → Now Item → Type 0) (H : Value → Now Item → Type 0) (N : Now Item → Type 0)
-      → HeldIs (q + 1) sl (held_at q (part_typ g.table (payload u c) h.typ)) (item (part_typ g.table (payload u c) x.typ) v) → HasAt (C g) pc rest
-      → Then_ g.ending (as_run (so_many k (parts_or_wrong (payload_parts (reading g) k (item (part_typ g.table (payload u c) x.typ) v)))) t) K H N
+      → HeldIs (q + 1) sl (held_at q (part_typ g.table (payload u c) h.typ)) (item (part_typ g.table (payload u c) x.typ) v) → HasAt (own_code g) pc rest
+      → Followed g.ending (as_run (so_many k (parts_or_wrong (payload_parts (reading g) k (item (part_typ g.table (payload u c) x.typ) v)))) t) K H N
       → ((xs : List Item) (sl2 : Slots) → Tested (kit g) (q + 1) sl sl2 → Holding g sl2 tk.parts xs → Settled tk.free tk.parts → q ≤ tk.free → K xs t
-      → Runs_ g (pc + length rest) sl2 (bare t)) → Runs_ g pc sl (bare t))
+      → RunsOn g (pc + length rest) sl2 (bare t)) → RunsOn g pc sl (bare t))
       → HeadBy tk q fail h (H.Constructor u c) k
   payload_out u c k q fail h tk rest union codes follow x pc pf sl t nu K Hx N held at_ hl th next failed = by (out-Value x.val) refl th
     where
@@ -411,8 +412,8 @@ module _ (g : AtWork) where
       i1 : Instruction
       i1 = payload_step g.table (kit g) h u c q fail
 
-      hp : HasAt (C g) pc (i1 ∷ rest)
-      hp = subst (λ d. HasAt (C g) pc d) codes at_
+      hp : HasAt (own_code g) pc (i1 ∷ rest)
+      hp = subst (λ d. HasAt (own_code g) pc d) codes at_
 
       len : length tk.code ≡ suc (length rest)
       len = ap length codes
@@ -423,24 +424,24 @@ module _ (g : AtWork) where
           ap (λ w. take_out (g.name (Temp q) (g.number s)) fail (J.payload c (out-Value w)) sl (bare t)) held.stands
           ∙ ap (λ o. take_out (g.name (Temp q) (g.number s)) fail (J.payload c o) sl (bare t)) e
 
-      by : (o : Value-F Value) → out-Value x.val ≡ o → Then_ g.ending (as_run (so_many k (opened (reading g) nu (H.Constructor u c) k x o)) t) K Hx N
-          → Runs_ g pc sl (bare t)
+      by : (o : Value-F Value) → out-Value x.val ≡ o → Followed g.ending (as_run (so_many k (opened (reading g) nu (H.Constructor u c) k x o)) t) K Hx N
+          → RunsOn g pc sl (bare t)
       by (E.Union i j v) e z =
           let fits = sym (fits_as_form g x.val (E.Union i j v) x.typ (ap roll-Value (sym e) ∙ roll-out-Value x.val)) ∙ held.had.0 in
           let iu : i ≡ u =
           union_same (out-Sized x.typ) i u j (has_sizes g.table v) fits (ap (λ a. is_union u (out-Sized a)) (sym held.same) ∙ union) in
           let parts : Option (List Item) = payload_parts (reading g) k (item sx v) in
           decide (nat_eq j c) refl
-          (subst (λ b. Then_ g.ending (as_run (so_many k (constructed (b && nat_eq j c) parts)) t) K Hx N) (eq-eqb i u iu) z) fits iu
+          (subst (λ b. Followed g.ending (as_run (so_many k (constructed (b && nat_eq j c) parts)) t) K Hx N) (eq-eqb i u iu) z) fits iu
         where
           decide : (b : Bool) → nat_eq j c ≡ b
-              → Then_ g.ending (as_run (so_many k (constructed (true && nat_eq j c) (payload_parts (reading g) k (item sx v)))) t) K Hx N
-              → form_fits g.table (E.Union i j (has_sizes g.table v)) (out-Sized x.typ) ≡ true → i ≡ u → Runs_ g pc sl (bare t)
+              → Followed g.ending (as_run (so_many k (constructed (true && nat_eq j c) (payload_parts (reading g) k (item sx v)))) t) K Hx N
+              → form_fits g.table (E.Union i j (has_sizes g.table v)) (out-Sized x.typ) ≡ true → i ≡ u → RunsOn g pc sl (bare t)
           decide false p y fits iu =
               jump g.m g.lets g.hart g.here g.ending pc pf fail sl (bare t) i1 hp.0
               (acts_as i j v e ∙ ap (λ b. take_out (g.name (Temp q) (g.number s)) fail (cond b (Some v) None) sl (bare t)) p) hl
               (failed sl (tested_here (kit g) q sl)
-              (subst (λ b. Then_ g.ending (as_run (so_many k (constructed (true && b) (payload_parts (reading g) k (item sx v)))) t) K Hx N) p y))
+              (subst (λ b. Followed g.ending (as_run (so_many k (constructed (true && b) (payload_parts (reading g) k (item sx v)))) t) K Hx N) p y))
           decide true p y fits iu =
               let jc : j ≡ c = eqb-true j c p in
               let same_typ : s ≡ sx = ap (part_typ g.table (payload u c)) held.same in
@@ -461,7 +462,7 @@ module _ (g : AtWork) where
                 had = (had, g.knows.of_union u c x.typ (ap (λ a. is_union u (out-Sized a)) (sym held.same) ∙ union) held.had.1);
                 there = handy_here q;
               }) hp.1
-              (subst (λ b. Then_ g.ending (as_run (so_many k (constructed (true && b) (payload_parts (reading g) k (item sx v)))) t) K Hx N) p y)
+              (subst (λ b. Followed g.ending (as_run (so_many k (constructed (true && b) (payload_parts (reading g) k (item sx v)))) t) K Hx N) p y)
               (λ xs sl2 td2 hold settled le kx.
               moves g.m g.lets g.hart g.here g.ending (pc + length tk.code) (pc + 1 + length rest) sl2 (bare t) (omega (arith, len))
               (next xs sl2 (tested_both (kit g) q sl sl1 sl2 td (tested_less (kit g) q (q + 1) sl1 sl2 (omega arith) td2)) hold settled le kx)))
@@ -473,10 +474,10 @@ module _ (g : AtWork) where
       payload_out u c k q fail h (one_taken g.table (kit g) h u c q fail) [] union refl
       (λ x v pc sl t K Hx N held at_ th next.
       let p : Item = item (part_typ g.table (payload u c) x.typ) v in
-      let th1 = subst (λ o. Then_ g.ending (as_run (so_many k (parts_or_wrong o)) t) K Hx N) (one_part k p one) th in
+      let th1 = subst (λ o. Followed g.ending (as_run (so_many k (parts_or_wrong o)) t) K Hx N) (one_part k p one) th in
       moves g.m g.lets g.hart g.here g.ending (pc + 0) pc sl (bare t) (omega arith)
       (next (p ∷ []) sl (tested_here (kit g) (q + 1) sl) (held.same, held.stands, held.had, tt) (handy_here q, tt) (omega arith)
-      (subst (λ b. Then_ g.ending (as_run {X = Item} (if b then Parts (p ∷ []) else Wrong) t) K Hx N) (ones k one) th1)))
+      (subst (λ b. Followed g.ending (as_run {X = Item} (if b then Parts (p ∷ []) else Wrong) t) K Hx N) (ones k one) th1)))
     where
       ones : (k : ℕ) → nat_eq k 1 ≡ true → nat_eq 1 k ≡ true
       ones k e = grind (arith, nat_tests)
@@ -489,17 +490,17 @@ module _ (g : AtWork) where
       (λ x v pc sl t K Hx N held at_ th next.
       let p : Item = item (part_typ g.table (payload u c) x.typ) v in
       let hp : Held = held_at q (part_typ g.table (payload u c) h.typ) in
-      let th1 = subst (λ o. Then_ g.ending (as_run (so_many k (parts_or_wrong o)) t) K Hx N) (many_parts k p many) th in
+      let th1 = subst (λ o. Followed g.ending (as_run (so_many k (parts_or_wrong o)) t) K Hx N) (many_parts k p many) th in
       by hp p (out-Value v) refl pc sl t K Hx N held at_ th1 next)
     where
       by : (hp : Held) (p : Item) (o : Value-F Value) → out-Value p.val ≡ o → (pc : ℕ) (sl : Slots) (t : Now Item) (K : List Item → Now Item → Type 0)
           (Hx : Value → Now Item → Type 0) (N : Now Item → Type 0) → HeldIs (q + 1) sl hp p
-          → HasAt (C g) pc (fields_code g.table (kit g) hp 0 (q + 1) k)
-          → Then_ g.ending (as_run (so_many k (parts_or_wrong (option_map (components (reading g) p 0) (form_parts o)))) t) K Hx N
+          → HasAt (own_code g) pc (fields_code g.table (kit g) hp 0 (q + 1) k)
+          → Followed g.ending (as_run (so_many k (parts_or_wrong (option_map (components (reading g) p 0) (form_parts o)))) t) K Hx N
           → ((xs : List Item) (sl2 : Slots) → Tested (kit g) (q + 1) sl sl2 → Holding g sl2 (fields_held g.table (kit g) hp 0 (q + 1) k) xs
           → Settled (q + 1 + k) (fields_held g.table (kit g) hp 0 (q + 1) k) → q ≤ q + 1 + k → K xs t
-          → Runs_ g (pc + length (fields_code g.table (kit g) hp 0 (q + 1) k)) sl2 (bare t))
-          → Runs_ g pc sl (bare t)
+          → RunsOn g (pc + length (fields_code g.table (kit g) hp 0 (q + 1) k)) sl2 (bare t))
+          → RunsOn g pc sl (bare t)
       by hp p (E.Tuple all) e pc sl t K Hx N held at_ th next =
           all_fields all hp p k (q + 1) pc sl t K Hx N held e at_ th (λ xs sl2 td hold settled kx. next xs sl2 td hold settled (omega arith) kx)
       by hp p o e pc sl t K Hx N held at_ th next = absurd th

@@ -18,7 +18,8 @@ use Rattle.checked_meaning.specs.Checked.{Noted}
 use Rattle.checked_meaning.specs.Items.{Item}
 use Rattle.lowered_pieces.specs.Forms.{Named, Depths, kit_at, Stand, Piece, is_in, deeper, inner, enter_code, inside_piece}
 use Rattle.lowered_pieces.specs.Arms.{Held, Matched, arguments, places_of}
-use Rattle.lowered_laws.specs.Simulation.{bare, AtWork, kit, C, reading, Runs_, Low, lower, handy, Settled, Holding, Writable, Same, After, Done, Catches}
+use Rattle.lowered_laws.specs.Simulation.{bare, AtWork, kit, own_code, reading, RunsOn, Low, lower}
+use Rattle.lowered_laws.specs.Simulation.{handy, Settled, Holding, Writable, Same, After, Done, Catches}
 use Rattle.lowered_laws.specs.Simulation.{Fails, Good, GoodOn, Matches}
 use Rattle.lowered_laws.proofs.Follows.{no, onward, open_leaving}
 use Rattle.lowered_laws.proofs.States.{Is, holds_by, lower_more, passed_by}
@@ -93,8 +94,8 @@ module _ (g : AtWork) where
   first_left d x xs sl sl1 sl2 other more y true false ea eb h = no (sym h)
   first_left d x xs sl sl1 sl2 other more y a true ea eb h = no (sym h)
 
-  enters : (d : Depths) → ((x : ℕ) → d.of x ≤ d.here) → (xs : List ℕ) (pc : ℕ) (sl : Slots) (s : Store) → HasAt (C g) pc (enter_code (kit g) d xs)
-      → ((sl2 : Slots) → Entered d xs sl sl2 → Runs_ g (pc + length (enter_code (kit g) d xs)) sl2 s) → Runs_ g pc sl s
+  enters : (d : Depths) → ((x : ℕ) → d.of x ≤ d.here) → (xs : List ℕ) (pc : ℕ) (sl : Slots) (s : Store) → HasAt (own_code g) pc (enter_code (kit g) d xs)
+      → ((sl2 : Slots) → Entered d xs sl sl2 → RunsOn g (pc + length (enter_code (kit g) d xs)) sl2 s) → RunsOn g pc sl s
   enters d shallow [] pc sl s at_ next =
       moves g.m g.lets g.hart g.here g.ending (pc + 0) pc sl s (omega arith)
       (next sl (record { copied = λ x h. no h; left = λ x h. refl; others = λ q t h. refl }))
@@ -211,9 +212,9 @@ module _ (g : AtWork) where
         let H = Catches g d s.scope ph n sl now in
         let N = Fails g d s.scope pf q sl now in
         let back : Now Item → Now Item = λ t. record t { opened = now.opened } in
-        enters d same.shallow xs pc sl (bare now) (has_front (C g) pc c1 c2 at_)
+        enters d same.shallow xs pc sl (bare now) (has_front (own_code g) pc c1 c2 at_)
         (λ sl1 entered.
-        good.run tail r l p1 pe ph pf sl1 now tk (omega (arith, end, length-append c1 c2)) (has_back (C g) pc c1 c2 p1 refl at_)
+        good.run tail r l p1 pe ph pf sl1 now tk (omega (arith, end, length-append c1 c2)) (has_back (own_code g) pc c1 c2 p1 refl at_)
         (record { throws = set.throws; fails = set.fails }) (same_deeper d xs s.scope n sl sl1 now entered same) (all_deeper xs xs d (λ x h. h))
         (matches_deeper d xs m n vs sl sl1 now.opened entered mt)
         (onward g.ending (me now) (λ x t. D x (back t)) (λ v t. H v (back t)) (λ t. N (back t)) (Done g tail r pe sl1 now)

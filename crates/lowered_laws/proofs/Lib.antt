@@ -30,10 +30,15 @@ pub mod Alike
 pub mod Arms
 pub mod Tries
 pub mod ClauseEnds
+pub mod Applied
+pub mod WithFields
 pub mod Gathered
 pub mod Spots
+pub mod FieldWays
 pub mod RegisterParts
 pub mod Writes
+pub mod Spans
+pub mod Counts
 pub mod Nodes
 pub mod OwnForms
 pub mod OwnMore
@@ -42,9 +47,16 @@ pub mod OwnFunctions
 pub mod Functions
 pub mod Called
 pub mod Ticks
+pub mod Turned
+pub mod Crossings
+pub mod Quiet
+pub mod QuietTargets
+pub mod QuietKinds
+pub mod QuietWorlds
 pub mod Modules
+pub mod Valued
 pub mod TablesTelling
-mod KnownSizes
-mod KnownTruths
-mod ReadInstances
-mod ToldArguments
+pub mod KnownSizes
+pub mod KnownTruths
+pub mod ReadInstances
+pub mod ToldArguments

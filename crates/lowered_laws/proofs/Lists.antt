@@ -32,7 +32,7 @@ use Rattle.lowered_laws.specs.Standing.{HasAt, Tested}
 use Rattle.lowered_laws.proofs.Facts.{here_not, put_same, tested_both, tested_less, tested_put, two_not}
 use Rattle.lowered_laws.proofs.Pieces.{has_back, has_front}
 use Rattle.lowered_laws.proofs.Steps.{computed, go, moves, test_step}
-use Rattle.lowered_laws.specs.Simulation.{bare, Then_, AtWork, kit, C, reading, Runs_, Settled, Holding, Sits}
+use Rattle.lowered_laws.specs.Simulation.{bare, Followed, AtWork, kit, own_code, reading, RunsOn, Settled, Holding, Sits}
 use Rattle.lowered_laws.proofs.Follows.{no}
 use Rattle.lowered_laws.proofs.States.{Is}
 use Rattle.lowered_laws.proofs.Had.{fits_as_form, in_types, truth_sits}
@@ -84,8 +84,8 @@ module _ (g : AtWork) where
   -- ---- whether a list is empty, as a truth in hand
 
   empty_runs : (h : Held) (x : Item) (vs : List Value) (q pc : ℕ) (sl : Slots) (t : Now Item) (b : Bool) → HeldIs g q sl h x → out-Value x.val ≡ E.List vs
-      → slice_get (C g) pc ≡ Some (empty_step g.table (kit g) h q) → P.is_empty (E.List vs) ≡ Some (V.Truth b)
-      → ((sl1 : Slots) → Tested (kit g) q sl sl1 → sl1 (g.name (Temp q) truth) ≡ V.Truth b → Runs_ g (pc + 1) sl1 (bare t)) → Runs_ g pc sl (bare t)
+      → slice_get (own_code g) pc ≡ Some (empty_step g.table (kit g) h q) → P.is_empty (E.List vs) ≡ Some (V.Truth b)
+      → ((sl1 : Slots) → Tested (kit g) q sl sl1 → sl1 (g.name (Temp q) truth) ≡ V.Truth b → RunsOn g (pc + 1) sl1 (bare t)) → RunsOn g pc sl (bare t)
   empty_runs h x vs q pc sl t b held e at_ so next =
       let i : Instruction = empty_step g.table (kit g) h q in
       let is : Is g (Temp q) truth = g.slots pc (g.name (Temp q) truth) i at_ refl in
@@ -102,12 +102,12 @@ module _ (g : AtWork) where
   -- ---- an item, and what is left
 
   first_runs : (h : Held) (x : Item) (vs : List Value) (q pc pf fail : ℕ) (sl : Slots) (t : Now Item) → HeldIs g q sl h x → out-Value x.val ≡ E.List vs
-      → HasAt (C g) pc (first_code g.table (kit g) h q fail) → slice_get (C g) pf ≡ Some (I.Label fail)
-      → (vs ≡ [] → (sl2 : Slots) → Tested (kit g) q sl sl2 → Runs_ g pf sl2 (bare t))
+      → HasAt (own_code g) pc (first_code g.table (kit g) h q fail) → slice_get (own_code g) pf ≡ Some (I.Label fail)
+      → (vs ≡ [] → (sl2 : Slots) → Tested (kit g) q sl sl2 → RunsOn g pf sl2 (bare t))
       → ((v : Value) (ws : List Value) → vs ≡ v ∷ ws → (sl2 : Slots) → Tested (kit g) q sl sl2
       → HeldIs g (q + 2) sl2 (part_at g.table (kit g) one_item h q) (item_of x v) → HeldIs g (q + 2) sl2 (rest_at g.table (kit g) h q) (rest_of x ws)
-      → Runs_ g (pc + 4) sl2 (bare t))
-      → Runs_ g pc sl (bare t)
+      → RunsOn g (pc + 4) sl2 (bare t))
+      → RunsOn g pc sl (bare t)
   first_runs h x [] q pc pf fail sl t held e at_ hl none some =
       empty_runs h x [] q pc sl t true held e at_.0 refl
       (λ sl1 td so.
@@ -129,7 +129,7 @@ module _ (g : AtWork) where
       rest_had =
           (fits_as_form g (V.List ws) (E.List ws) x.typ (V.rolls-List ws) ∙ rest_fits v ws (out-Sized x.typ) fits, held.had.1)
 
-      taken : (sl1 : Slots) → Tested (kit g) q sl sl1 → Runs_ g (pc + 1 + 1) sl1 (bare t)
+      taken : (sl1 : Slots) → Tested (kit g) q sl sl1 → RunsOn g (pc + 1 + 1) sl1 (bare t)
       taken sl1 td =
           let p3 : ℕ = pc + 1 + 1 in
           let held1 : HeldIs g q sl1 h x = held_tested g q sl sl1 h x td held in
@@ -180,18 +180,18 @@ module _ (g : AtWork) where
   pub cons_runs : (k q fail : ℕ) (h : Held) → HeadBy g (head_taken g.table (kit g) h H.Cons k q fail) q fail h H.Cons k
   cons_runs k q fail h x pc pf sl t nu K Hx N held at_ hl th next failed = by (out-Value x.val) refl th
     where
-      by : (o : Value-F Value) → out-Value x.val ≡ o → Then_ g.ending (as_run (so_many k (opened (reading g) nu H.Cons k x o)) t) K Hx N
-          → Runs_ g pc sl (bare t)
+      by : (o : Value-F Value) → out-Value x.val ≡ o → Followed g.ending (as_run (so_many k (opened (reading g) nu H.Cons k x o)) t) K Hx N
+          → RunsOn g pc sl (bare t)
       by (E.List vs) e z =
           first_runs h x vs q pc pf fail sl t held e at_ hl
-          (λ f sl2 td. failed sl2 td (subst (λ us. Then_ g.ending (as_run (so_many k (split (reading g) x us)) t) K Hx N) f z))
+          (λ f sl2 td. failed sl2 td (subst (λ us. Followed g.ending (as_run (so_many k (split (reading g) x us)) t) K Hx N) f z))
           (λ v ws f sl2 td a b.
-          two v ws sl2 td a b (nat_eq 2 k) (subst (λ us. Then_ g.ending (as_run (so_many k (split (reading g) x us)) t) K Hx N) f z))
+          two v ws sl2 td a b (nat_eq 2 k) (subst (λ us. Followed g.ending (as_run (so_many k (split (reading g) x us)) t) K Hx N) f z))
         where
           two : (v : Value) (ws : List Value) (sl2 : Slots) → Tested (kit g) q sl sl2
               → HeldIs g (q + 2) sl2 (part_at g.table (kit g) one_item h q) (item_of x v) → HeldIs g (q + 2) sl2 (rest_at g.table (kit g) h q) (rest_of x ws)
-              → (b : Bool) → Then_ g.ending (as_run (if b then Parts (item_of x v ∷ rest_of x ws ∷ []) else Wrong) t) K Hx N
-              → Runs_ g (pc + 4) sl2 (bare t)
+              → (b : Bool) → Followed g.ending (as_run (if b then Parts (item_of x v ∷ rest_of x ws ∷ []) else Wrong) t) K Hx N
+              → RunsOn g (pc + 4) sl2 (bare t)
           two v ws sl2 td a b false y = absurd y
           two v ws sl2 td a b true y =
               next (item_of x v ∷ rest_of x ws ∷ []) sl2 td (a.same, a.stands, a.had, (b.same, b.stands, b.had, tt)) (a.there, (b.there, tt)) (omega arith) y
@@ -200,20 +200,20 @@ module _ (g : AtWork) where
   -- ---- just so many items
 
   list_all : (k : ℕ) (vs : List Value) (h : Held) (x : Item) (q pc pf fail : ℕ) (sl : Slots) (t : Now Item) → HeldIs g q sl h x
-      → out-Value x.val ≡ E.List vs → HasAt (C g) pc (list_code g.table (kit g) h k q fail) → slice_get (C g) pf ≡ Some (I.Label fail)
-      → (nat_eq (length vs) k ≡ false → (sl2 : Slots) → Tested (kit g) q sl sl2 → Runs_ g pf sl2 (bare t))
+      → out-Value x.val ≡ E.List vs → HasAt (own_code g) pc (list_code g.table (kit g) h k q fail) → slice_get (own_code g) pf ≡ Some (I.Label fail)
+      → (nat_eq (length vs) k ≡ false → (sl2 : Slots) → Tested (kit g) q sl sl2 → RunsOn g pf sl2 (bare t))
       → (nat_eq (length vs) k ≡ true → (sl2 : Slots) → Tested (kit g) q sl sl2
       → Holding g sl2 (list_held g.table (kit g) h k q) (items (reading g) x vs) → Settled (q + 2 * k + 1) (list_held g.table (kit g) h k q)
-      → Runs_ g (pc + length (list_code g.table (kit g) h k q fail)) sl2 (bare t))
-      → Runs_ g pc sl (bare t)
+      → RunsOn g (pc + length (list_code g.table (kit g) h k q fail)) sl2 (bare t))
+      → RunsOn g pc sl (bare t)
   list_all zero vs h x q pc pf fail sl t held e at_ hl bad good = by vs e (λ f. bad f) good
     where
       src : List Source
       src = from (kit g) (Temp q) truth ∷ []
 
       negates : (b : Bool) (sl1 : Slots) → sl1 (g.name (Temp q) truth) ≡ V.Truth b → Tested (kit g) q sl sl1
-          → ((sl2 : Slots) → Tested (kit g) q sl sl2 → sl2 (g.name (Temp q) truth) ≡ V.Truth (not b) → Runs_ g (pc + 1 + 1) sl2 (bare t))
-          → Runs_ g (pc + 1) sl1 (bare t)
+          → ((sl2 : Slots) → Tested (kit g) q sl sl2 → sl2 (g.name (Temp q) truth) ≡ V.Truth (not b) → RunsOn g (pc + 1 + 1) sl2 (bare t))
+          → RunsOn g (pc + 1) sl1 (bare t)
       negates b sl1 so td rest =
           let i : Instruction = I.Apply (to (kit g) (Temp q) truth) (O.Builtin B.NotBool) src in
           let is : Is g (Temp q) truth = g.slots (pc + 1) (g.name (Temp q) truth) i at_.1.0 refl in
@@ -227,10 +227,10 @@ module _ (g : AtWork) where
           (rest sl2 (tested_both (kit g) q sl sl1 sl2 td
           (tested_put (kit g) (slots_of g.m g.here.function) g.names q q truth sl1 w (omega arith) is)) (put_same sl1 (g.name (Temp q) truth) w))
 
-      by : (us : List Value) → out-Value x.val ≡ E.List us → (nat_eq (length us) 0 ≡ false → (sl2 : Slots) → Tested (kit g) q sl sl2 → Runs_ g pf sl2 (bare t))
+      by : (us : List Value) → out-Value x.val ≡ E.List us → (nat_eq (length us) 0 ≡ false → (sl2 : Slots) → Tested (kit g) q sl sl2 → RunsOn g pf sl2 (bare t))
           → (nat_eq (length us) 0 ≡ true → (sl2 : Slots) → Tested (kit g) q sl sl2 → Holding g sl2 [] (items (reading g) x us) → Unit {0}
-          → Runs_ g (pc + 3) sl2 (bare t))
-          → Runs_ g pc sl (bare t)
+          → RunsOn g (pc + 3) sl2 (bare t))
+          → RunsOn g pc sl (bare t)
       by [] f bad good =
           empty_runs h x [] q pc sl t true held f at_.0 refl
           (λ sl1 td so.
@@ -249,13 +249,13 @@ module _ (g : AtWork) where
       let c1 = first_code g.table (kit g) h q fail in
       let r : Held = rest_at g.table (kit g) h q in
       let c2 = list_code g.table (kit g) r k (q + 2) fail in
-      first_runs h x vs q pc pf fail sl t held e (has_front (C g) pc c1 c2 at_) hl
+      first_runs h x vs q pc pf fail sl t held e (has_front (own_code g) pc c1 c2 at_) hl
       (λ f sl2 td. bad (subst (λ us. nat_eq (length us) (suc k) ≡ false) (sym f) (zero_not k)) sl2 td)
       (λ v ws f sl2 td a b.
       let same : nat_eq (length vs) (suc k) ≡ nat_eq (length ws) k = ap (λ us. nat_eq (length us) (suc k)) f ∙ suc_eq (length ws) k in
       let far : (sl3 : Slots) → Tested (kit g) (q + 2) sl2 sl3 → Tested (kit g) q sl sl3 =
       λ sl3 td3. tested_both (kit g) q sl sl2 sl3 td (tested_less (kit g) q (q + 2) sl2 sl3 (omega arith) td3) in
-      list_all k ws r (rest_of x ws) (q + 2) (pc + 4) pf fail sl2 t b (list_out ws) (has_back (C g) pc c1 c2 (pc + 4) refl at_) hl
+      list_all k ws r (rest_of x ws) (q + 2) (pc + 4) pf fail sl2 t b (list_out ws) (has_back (own_code g) pc c1 c2 (pc + 4) refl at_) hl
       (λ c sl3 td3. bad (same ∙ c) sl3 (far sl3 td3))
       (λ c sl3 td3 hold settled.
       moves g.m g.lets g.hart g.here g.ending (pc + length (c1 ++ c2)) (pc + 4 + length c2) sl3 (bare t) (omega (arith, length-append c1 c2))
@@ -269,19 +269,19 @@ module _ (g : AtWork) where
   pub list_runs : (k q fail : ℕ) (h : Held) → HeadBy g (head_taken g.table (kit g) h H.List k q fail) q fail h H.List k
   list_runs k q fail h x pc pf sl t nu K Hx N held at_ hl th next failed = by (out-Value x.val) refl th
     where
-      by : (o : Value-F Value) → out-Value x.val ≡ o → Then_ g.ending (as_run (so_many k (opened (reading g) nu H.List k x o)) t) K Hx N
-          → Runs_ g pc sl (bare t)
+      by : (o : Value-F Value) → out-Value x.val ≡ o → Followed g.ending (as_run (so_many k (opened (reading g) nu H.List k x o)) t) K Hx N
+          → RunsOn g pc sl (bare t)
       by (E.List vs) e z =
           list_all k vs h x q pc pf fail sl t held e at_ hl
-          (λ c sl2 td. failed sl2 td (subst (λ b. Then_ g.ending (as_run (so_many k (parts_if b (items (reading g) x vs))) t) K Hx N) c z))
+          (λ c sl2 td. failed sl2 td (subst (λ b. Followed g.ending (as_run (so_many k (parts_if b (items (reading g) x vs))) t) K Hx N) c z))
           (λ c sl2 td hold settled.
           counted sl2 td hold settled (nat_eq (length (items (reading g) x vs)) k)
-          (subst (λ b. Then_ g.ending (as_run (so_many k (parts_if b (items (reading g) x vs))) t) K Hx N) c z))
+          (subst (λ b. Followed g.ending (as_run (so_many k (parts_if b (items (reading g) x vs))) t) K Hx N) c z))
         where
           counted : (sl2 : Slots) → Tested (kit g) q sl sl2 → Holding g sl2 (list_held g.table (kit g) h k q) (items (reading g) x vs)
               → Settled (q + 2 * k + 1) (list_held g.table (kit g) h k q) → (b : Bool)
-              → Then_ g.ending (as_run (if b then Parts (items (reading g) x vs) else Wrong) t) K Hx N
-              → Runs_ g (pc + length (list_code g.table (kit g) h k q fail)) sl2 (bare t)
+              → Followed g.ending (as_run (if b then Parts (items (reading g) x vs) else Wrong) t) K Hx N
+              → RunsOn g (pc + length (list_code g.table (kit g) h k q fail)) sl2 (bare t)
           counted sl2 td hold settled false y = absurd y
           counted sl2 td hold settled true y = next (items (reading g) x vs) sl2 td hold settled (omega arith) y
       by o e z = absurd z

@@ -30,7 +30,7 @@ use Rattle.lowered_laws.proofs.Facts.{tested_less, tested_both, tested_put, put_
 use Rattle.lowered_laws.proofs.Steps.{go, jump, over, moves, past, test_step, computed}
 use Rattle.lowered_pieces.specs.Forms.{Depths, inside_piece, Stand, Tail, Piece, code_of, count_of, higher, jump_where, fallen_code, no_measure_yet}
 use Rattle.lowered_pieces.specs.Forms.{unit_piece, while_piece}
-use Rattle.lowered_laws.specs.Simulation.{bare, Then_, AtWork, kit, C, reading, Runs_, After, Done, Catches, Fails, Set, Good, Sits}
+use Rattle.lowered_laws.specs.Simulation.{bare, Followed, AtWork, kit, own_code, reading, RunsOn, After, Done, Catches, Fails, LabelsStand, Good, Sits}
 use Rattle.lowered_laws.proofs.Follows.{open_then, open_leaving, close_leaving, onward, truth_is, natural_is}
 use Rattle.lowered_laws.proofs.States.{Is, after_here, after_tested, after_both, after_time, after_put, catch_on, fail_on, Lands, held_good}
 use Rattle.lowered_laws.proofs.States.{same_higher}
@@ -64,25 +64,25 @@ module _ (g : AtWork) where
   back_at now t = record t { opened = now.opened }
 
   module _ (place : TextPlace) (n l : ℕ) (now : Now Item) (a : ℕ) (K : ℕ → Now Item → Type 0) (H : Value → Now Item → Type 0) (N : Now Item → Type 0) where
-    may_go : (last : Option ℕ) → Then_ g.ending (fallen place last a now) K H N → int_lt (pos a) (last_of last) ≡ true → K a now
+    may_go : (last : Option ℕ) → Followed g.ending (fallen place last a now) K H N → int_lt (pos a) (last_of last) ≡ true → K a now
     may_go None th e = th
-    may_go (Some j) th e = subst (λ b. Then_ g.ending ((if b then gives a else stops (Measure place)) now) K H N) (sym (lt_pos a j) ∙ e) th
+    may_go (Some j) th e = subst (λ b. Followed g.ending ((if b then gives a else stops (Measure place)) now) K H N) (sym (lt_pos a j) ∙ e) th
 
-    is_first : (last : Option ℕ) → Then_ g.ending (fallen place last a now) K H N → int_lt (last_of last) (pos 0) ≡ true → K a now
+    is_first : (last : Option ℕ) → Followed g.ending (fallen place last a now) K H N → int_lt (last_of last) (pos 0) ≡ true → K a now
     is_first None th e = th
     is_first (Some j) th e = not_both (int_lt (pos j) (pos 0)) e (not_below j)
 
-    must_stop : (last : Option ℕ) → Then_ g.ending (fallen place last a now) K H N → int_lt (pos a) (last_of last) ≡ false
+    must_stop : (last : Option ℕ) → Followed g.ending (fallen place last a now) K H N → int_lt (pos a) (last_of last) ≡ false
         → int_lt (last_of last) (pos 0) ≡ false → g.ending ≡ J.Stops (Measure place) (bare now)
     must_stop None th e f = not_both (int_lt (negsuc 0) (pos 0)) neg_below f
-    must_stop (Some j) th e f = subst (λ b. Then_ g.ending ((if b then gives a else stops (Measure place)) now) K H N) (sym (lt_pos a j) ∙ e) th
+    must_stop (Some j) th e f = subst (λ b. Followed g.ending ((if b then gives a else stops (Measure place)) now) K H N) (sym (lt_pos a j) ∙ e) th
 
-    pub fallen_good : (pc : ℕ) (sl : Slots) (last : Option ℕ) → HasAt (C g) pc (fallen_code (kit g) place n l)
+    pub fallen_good : (pc : ℕ) (sl : Slots) (last : Option ℕ) → HasAt (own_code g) pc (fallen_code (kit g) place n l)
         → sl (g.name (Temp (n + 1)) Int) ≡ V.Integer (pos a) → sl (g.name (Temp n) Int) ≡ V.Integer (last_of last)
-        → Then_ g.ending (fallen place last a now) K H N
+        → Followed g.ending (fallen place last a now) K H N
         → ((sl2 : Slots) → Tested (kit g) n sl sl2 → sl2 (g.name (Temp n) Int) ≡ V.Integer (pos a) → K a now
-        → Runs_ g (pc + 1 + 1 + 1 + 1 + 1 + 1 + 1) sl2 (bare now))
-        → Runs_ g pc sl (bare now)
+        → RunsOn g (pc + 1 + 1 + 1 + 1 + 1 + 1 + 1) sl2 (bare now))
+        → RunsOn g pc sl (bare now)
     fallen_good pc sl last at_ h1 h0 th next =
         let names = slots_of g.m g.here.function in
         let t : ℕ = g.name (Temp (n + 2)) Bit in
@@ -101,7 +101,7 @@ module _ (g : AtWork) where
         let sl2 : Slots = put sl1 t (V.Truth b2) in
         let td1 : Tested (kit g) (n + 2) sl sl1 = tested_put (kit g) names g.names (n + 2) (n + 2) Bit sl (V.Truth b1) (omega arith) is in
         let td2 : Tested (kit g) (n + 2) sl1 sl2 = tested_put (kit g) names g.names (n + 2) (n + 2) Bit sl1 (V.Truth b2) (omega arith) is in
-        let fin : (sl' : Slots) → Tested (kit g) (n + 2) sl sl' → K a now → Runs_ g pl sl' (bare now) = λ sl' td k.
+        let fin : (sl' : Slots) → Tested (kit g) (n + 2) sl sl' → K a now → RunsOn g pl sl' (bare now) = λ sl' td k.
         let v1 : sl' (g.name (Temp (n + 1)) Int) ≡ V.Integer (pos a) = td.others (Temp (n + 1)) Int (next_not n) ∙ h1 in
         let sl3 : Slots = put sl' (g.name (Temp n) Int) (V.Integer (pos a)) in
         past g.m g.lets g.hart g.here g.ending pl l sl' (bare now) hl.0
@@ -128,7 +128,7 @@ module _ (g : AtWork) where
 
   -- ---- pieces of a turn: each begins with what was noted before the loop
 
-  module _ (s : Stand) (ph pf : ℕ) (sl : Slots) (now : Now Item) (tk : now.ticks < g.depth) (set : Set g s ph pf) where
+  module _ (s : Stand) (ph pf : ℕ) (sl : Slots) (now : Now Item) (tk : now.ticks < g.depth) (set : LabelsStand g s ph pf) where
     abbrev pub Caught : Value → Now Item → Type 0
     Caught v t = Catches g s.depths s.scope ph s.temp sl now v (back_at now t)
 
@@ -140,11 +140,11 @@ module _ (g : AtWork) where
     Turning sl1 t = After g s.depths s.scope s.temp sl now sl1 (back_at now t)
 
     pub piece_runs : (me : Run Item Item) (p : Piece) → Good g me p → (K : Item → Now Item → Type 0) (l q q1 : ℕ) (sl1 : Slots) (t : Now Item)
-        → q1 ≡ q + length (code_of (inside_piece (kit g) p) (higher s) l) → HasAt (C g) q (code_of (inside_piece (kit g) p) (higher s) l) → Turning sl1 t
-        → Then_ g.ending (me (back_at now t)) K Caught Failed
+        → q1 ≡ q + length (code_of (inside_piece (kit g) p) (higher s) l) → HasAt (own_code g) q (code_of (inside_piece (kit g) p) (higher s) l) → Turning sl1 t
+        → Followed g.ending (me (back_at now t)) K Caught Failed
         → ((x : Item) (u : Now Item) (sl2 : Slots) → Turning sl2 u → u.ticks ≤ t.ticks → sl2 (g.name (Temp s.temp) Int) ≡ sl1 (g.name (Temp s.temp) Int)
-        → sl2 (g.name (Temp (s.temp + 1)) (g.number x.typ)) ≡ x.val → Sits g x.val x.typ → K x u → Runs_ g q1 sl2 (bare u))
-        → Runs_ g q sl1 (bare t)
+        → sl2 (g.name (Temp (s.temp + 1)) (g.number x.typ)) ≡ x.val → Sits g x.val x.typ → K x u → RunsOn g q1 sl2 (bare u))
+        → RunsOn g q sl1 (bare t)
     piece_runs me p good K l q q1 sl1 t e at_ kb th next =
         let n : ℕ = s.temp in
         let d : Depths = s.depths in
@@ -166,7 +166,7 @@ module _ (g : AtWork) where
 
   module _ (place : TextPlace) (mm : Run Item Item) (m : Piece) (mc : Run Item Item) (c : Piece) (mb : Run Item Item) (b : Piece)
       (gm : Good g mm m) (gc : Good g mc c) (gb : Good g mb b) (tail : Tail) (s : Stand) (l pc pe ph pf : ℕ) (sl : Slots) (now : Now Item)
-      (tk : now.ticks < g.depth) (set : Set g s ph pf) where
+      (tk : now.ticks < g.depth) (set : LabelsStand g s ph pf) where
     abbrev K : Item → Now Item → Type 0
     K x t = Done g tail s pe sl now x (back_at now t)
 
@@ -210,40 +210,40 @@ module _ (g : AtWork) where
     unit_end = (unit_piece (kit g)).ended tail s lt_
 
     -- the places of the code: the label with the tick, the measure, its test, the body, the condition and its test
-    module _ (pt p1 p2 p3 p4 : ℕ) (htop : slice_get (C g) pt ≡ Some (I.Label l)) (htick : slice_get (C g) (pt + 1) ≡ Some I.Tick)
-        (hm : HasAt (C g) (pt + 1 + 1) (code_of pm (higher s) lm)) (em : p1 ≡ pt + 1 + 1 + length (code_of pm (higher s) lm))
-        (hf : HasAt (C g) p1 (fallen_code (kit g) place s.temp (l + 2))) (e2 : p2 ≡ p1 + 7)
-        (hb : HasAt (C g) p2 (code_of pbody (higher s) lb)) (eb : p3 ≡ p2 + length (code_of pbody (higher s) lb))
-        (hl1 : slice_get (C g) p3 ≡ Some (I.Label (l + 1)))
-        (hc : HasAt (C g) (p3 + 1) (code_of pcond (higher s) lc)) (ec : p4 ≡ p3 + 1 + length (code_of pcond (higher s) lc))
-        (ht : HasAt (C g) p4 (jump_where (kit g) (higher s) l ∷ unit_end)) (ends : pe ≡ p4 + 1 + length unit_end) where
+    module _ (pt p1 p2 p3 p4 : ℕ) (htop : slice_get (own_code g) pt ≡ Some (I.Label l)) (htick : slice_get (own_code g) (pt + 1) ≡ Some I.Tick)
+        (hm : HasAt (own_code g) (pt + 1 + 1) (code_of pm (higher s) lm)) (em : p1 ≡ pt + 1 + 1 + length (code_of pm (higher s) lm))
+        (hf : HasAt (own_code g) p1 (fallen_code (kit g) place s.temp (l + 2))) (e2 : p2 ≡ p1 + 7)
+        (hb : HasAt (own_code g) p2 (code_of pbody (higher s) lb)) (eb : p3 ≡ p2 + length (code_of pbody (higher s) lb))
+        (hl1 : slice_get (own_code g) p3 ≡ Some (I.Label (l + 1)))
+        (hc : HasAt (own_code g) (p3 + 1) (code_of pcond (higher s) lc)) (ec : p4 ≡ p3 + 1 + length (code_of pcond (higher s) lc))
+        (ht : HasAt (own_code g) p4 (jump_where (kit g) (higher s) l ∷ unit_end)) (ends : pe ≡ p4 + 1 + length unit_end) where
       abbrev Again : ℕ → Type 0
       Again k = (last : Option ℕ) (sl1 : Slots) (t : Now Item) → t.ticks < k → Turns sl1 t → sl1 (g.name (Temp s.temp) Int) ≡ V.Integer (last_of last)
-          → Then_ g.ending (while_turns (reading g) now k place mm mc mb last t) K H N → Runs_ g p3 sl1 (bare t)
+          → Followed g.ending (while_turns (reading g) now k place mm mc mb last t) K H N → RunsOn g p3 sl1 (bare t)
 
       -- the body, and then the next turn
       body : (k : ℕ) → Again k → (last : Option ℕ) (a : ℕ) (sl2 : Slots) (u : Now Item) → u.ticks < k → Turns sl2 u
-          → sl2 (g.name (Temp s.temp) Int) ≡ V.Integer (pos a) → Then_ g.ending (turn_of k last a u) K H N → Runs_ g p2 sl2 (bare u)
+          → sl2 (g.name (Temp s.temp) Int) ≡ V.Integer (pos a) → Followed g.ending (turn_of k last a u) K H N → RunsOn g p2 sl2 (bare u)
       body k next last a sl2 u lt k2 held th =
           piece_runs s ph pf sl now tk set mb b gb
-          (λ x w. Then_ g.ending (while_turns (reading g) now k place mm mc mb (Some a) w) K H N) lb p2 p3 sl2 u eb hb k2
+          (λ x w. Followed g.ending (while_turns (reading g) now k place mm mc mb (Some a) w) K H N) lb p2 p3 sl2 u eb hb k2
           (open_then g.ending (mb (back_at now u)) (λ x. while_turns (reading g) now k place mm mc mb (Some a)) K H N th)
           (λ x w sl3 k3 le still e3 had3 th1. next (Some a) sl3 w (omega (arith, le, lt)) k3 (still ∙ held) th1)
 
       -- the measure, which is to be below the last one
       measure : (k : ℕ) → Again k → (last : Option ℕ) (sl1 : Slots) (t : Now Item) → t.ticks < k → Turns sl1 t
           → sl1 (g.name (Temp s.temp) Int) ≡ V.Integer (last_of last)
-          → Then_ g.ending ((loop_measure (reading g) now place mm last then turn_of k last) t) K H N → Runs_ g (pt + 1 + 1) sl1 (bare t)
+          → Followed g.ending ((loop_measure (reading g) now place mm last then turn_of k last) t) K H N → RunsOn g (pt + 1 + 1) sl1 (bare t)
       measure k next last sl1 t lt k1 held th =
           let n : ℕ = s.temp in
           let tb : Now Item = back_at now t in
-          let Kn : ℕ → Now Item → Type 0 = λ a u. Then_ g.ending (turn_of k last a u) K H N in
-          let Kx : Item → Now Item → Type 0 = λ x u. Then_ g.ending ((natural (reading g) x then fallen place last) u) Kn H N in
+          let Kn : ℕ → Now Item → Type 0 = λ a u. Followed g.ending (turn_of k last a u) K H N in
+          let Kx : Item → Now Item → Type 0 = λ x u. Followed g.ending ((natural (reading g) x then fallen place last) u) Kn H N in
           piece_runs s ph pf sl now tk set mm m gm Kx lm (pt + 1 + 1) p1 sl1 t em hm k1
           (open_then g.ending (mm tb) (λ x. natural (reading g) x then fallen place last) Kn H N
           (open_then g.ending (loop_measure (reading g) now place mm last t) (turn_of k last) K H N th))
           (λ x u sl2 k2 le still e2_ had2 th1.
-          natural_is g.table g.cases g.ending x u (λ a w. Then_ g.ending (fallen place last a w) Kn H N) H N
+          natural_is g.table g.cases g.ending x u (λ a w. Followed g.ending (fallen place last a w) Kn H N) H N
           (open_then g.ending (natural (reading g) x u) (fallen place last) Kn H N th1)
           (λ a is th2.
           let ty : x.typ ≡ fixed_typ g.table int_typ = integer_typed g x.val (pos a) x.typ is had2 in
@@ -257,8 +257,8 @@ module _ (g : AtWork) where
       -- the tick
       turn : (k : ℕ) → Again k → (last : Option ℕ) (sl1 : Slots) (t : Now Item) → t.ticks < suc k → Turns sl1 t
           → sl1 (g.name (Temp s.temp) Int) ≡ V.Integer (last_of last) → (w : ℕ) → t.ticks ≡ w
-          → Then_ g.ending (goes_on (tick_at w t) (λ e. loop_measure (reading g) now place mm last then turn_of k last)) K H N
-          → Runs_ g (pt + 1) sl1 (bare t)
+          → Followed g.ending (goes_on (tick_at w t) (λ e. loop_measure (reading g) now place mm last then turn_of k last)) K H N
+          → RunsOn g (pt + 1) sl1 (bare t)
       turn k next last sl1 t lt k1 held zero e th =
           over g.m g.lets g.hart g.here g.ending (pt + 1) sl1 (bare t) I.Tick htick (ap (λ w. J.tick w sl1 (bare t)) e ∙ ap Over (sym th))
       turn k next last sl1 t lt k1 held (suc w) e th =
@@ -275,8 +275,8 @@ module _ (g : AtWork) where
           let n : ℕ = s.temp in
           let tb : Now Item = back_at now t in
           let choose : Bool → Run Item Item = if_so (turns_of k last) (gives (nothing (reading g))) in
-          let Kb : Bool → Now Item → Type 0 = λ e u. Then_ g.ending (choose e u) K H N in
-          let Kx : Item → Now Item → Type 0 = λ x u. Then_ g.ending (truth (reading g) x u) Kb H N in
+          let Kb : Bool → Now Item → Type 0 = λ e u. Followed g.ending (choose e u) K H N in
+          let Kx : Item → Now Item → Type 0 = λ x u. Followed g.ending (truth (reading g) x u) Kb H N in
           past g.m g.lets g.hart g.here g.ending p3 (l + 1) sl1 (bare t) hl1
           (piece_runs s ph pf sl now tk set mc c gc Kx lc (p3 + 1) p4 sl1 t ec hc k1
           (open_then g.ending (mc tb) (truth (reading g)) Kb H N (open_then g.ending (condition_of (reading g) now mc t) choose K H N th))
@@ -288,9 +288,9 @@ module _ (g : AtWork) where
           subst (λ y. sl2 (g.name (Temp (n + 1)) y) ≡ x.val) (ap g.number ty) e2_ ∙ is in
           test_step g.m g.lets g.hart g.here g.ending p4 pt l (from (kit g) (Temp (n + 1)) Bit) sl2 (bare u) htop ht.0 e holds
           (λ q. constant_step g (fixed_typ g.table Y.Unit) L.Unit tail s lt_ (p4 + 1) pe sl sl2 now (back_at now u) (unit_sits g) (omega (arith, ends)) ht.1 k3
-          (subst (λ w. Then_ g.ending (choose w u) K H N) q th2))
+          (subst (λ w. Followed g.ending (choose w u) K H N) q th2))
           (λ q. past g.m g.lets g.hart g.here g.ending pt l sl2 (bare u) htop
-          (turn k (again k) last sl2 u (omega (arith, le, lt)) k3 (still ∙ held) u.ticks refl (subst (λ w. Then_ g.ending (choose w u) K H N) q th2))))))
+          (turn k (again k) last sl2 u (omega (arith, le, lt)) k3 (still ∙ held) u.ticks refl (subst (λ w. Followed g.ending (choose w u) K H N) q th2))))))
 
   pub while_good : (place : TextPlace) (mm : Run Item Item) (m : Piece) (mc : Run Item Item) (c : Piece) (mb : Run Item Item) (b : Piece)
       → Good g mm m → Good g mc c → Good g mb b → Good g ((reading g).inside (while (reading g) place mm mc mb))
@@ -314,11 +314,11 @@ module _ (g : AtWork) where
         let p2 : ℕ = p1 + length cf in
         let p3 : ℕ = p2 + length cb in
         let p4 : ℕ = p3 + 1 + length cc_ in
-        let h0 : HasAt (C g) (pt + 1 + 1) (cm ++ (cf ++ (cb ++ t3))) = at_.1.1.1.1 in
-        let h1 : HasAt (C g) p1 (cf ++ (cb ++ t3)) = has_back (C g) (pt + 1 + 1) cm (cf ++ (cb ++ t3)) p1 refl h0 in
-        let h2 : HasAt (C g) p2 (cb ++ t3) = has_back (C g) p1 cf (cb ++ t3) p2 refl h1 in
-        let h3 : HasAt (C g) p3 t3 = has_back (C g) p2 cb t3 p3 refl h2 in
-        let h4 : HasAt (C g) p4 t4 = has_back (C g) (p3 + 1) cc_ t4 p4 refl h3.1 in
+        let h0 : HasAt (own_code g) (pt + 1 + 1) (cm ++ (cf ++ (cb ++ t3))) = at_.1.1.1.1 in
+        let h1 : HasAt (own_code g) p1 (cf ++ (cb ++ t3)) = has_back (own_code g) (pt + 1 + 1) cm (cf ++ (cb ++ t3)) p1 refl h0 in
+        let h2 : HasAt (own_code g) p2 (cb ++ t3) = has_back (own_code g) p1 cf (cb ++ t3) p2 refl h1 in
+        let h3 : HasAt (own_code g) p3 t3 = has_back (own_code g) p2 cb t3 p3 refl h2 in
+        let h4 : HasAt (own_code g) p4 t4 = has_back (own_code g) (p3 + 1) cc_ t4 p4 refl h3.1 in
         let ends : pe ≡ p4 + 1 + length c5 =
         omega (
           arith,
@@ -336,8 +336,8 @@ module _ (g : AtWork) where
         go g.m g.lets g.hart g.here g.ending pc sl sl1 (bare now) (bare now) i0 at_.0 refl
         (jump g.m g.lets g.hart g.here g.ending (pc + 1) p3 (l + 1) sl1 (bare now) (I.Goto (l + 1)) at_.1.0 refl h3.0
         (again place mm m mc c mb b gm gc gb tail s l pc pe ph pf sl now tk set pt p1 p2 p3 p4 at_.1.1.0 at_.1.1.1.0
-        (has_front (C g) (pt + 1 + 1) cm (cf ++ (cb ++ t3)) h0) refl (has_front (C g) p1 cf (cb ++ t3) h1) refl
-        (has_front (C g) p2 cb t3 h2) refl h3.0 (has_front (C g) (p3 + 1) cc_ t4 h3.1) refl h4 ends
+        (has_front (own_code g) (pt + 1 + 1) cm (cf ++ (cb ++ t3)) h0) refl (has_front (own_code g) p1 cf (cb ++ t3) h1) refl
+        (has_front (own_code g) p2 cb t3 h2) refl h3.0 (has_front (own_code g) (p3 + 1) cc_ t4 h3.1) refl h4 ends
         (suc now.ticks) None sl1 now (omega arith)
         (after_put g s.depths s.scope n n Int sl sl now now (V.Integer (negsuc 0)) (omega arith) is (after_here g s.depths s.scope n sl now same))
         (put_same sl (g.name (Temp n) Int) (V.Integer (negsuc 0)))

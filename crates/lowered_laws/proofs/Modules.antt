@@ -3,34 +3,44 @@ use Rattle.std.proofs.Common.{◌≡◌, ◌∙◌, ℕ, zero, suc, ◌+◌, ◌
 use Rattle.std.specs.Prelude.{nat_lt, option_map, slice_get, unwrap_or, if◌then◌else◌}
 use Rattle.sail_base.specs.declared.place.Place.{Place as TextPlace}
 use Rattle.sail_types.specs.declared.values.Value.{Value}
+use Rattle.sail_types.specs.declared.values.Value.TheVariants as V
+use Rattle.size_values.specs.declared.sized.Sized.{Sized}
 use Rattle.model_state.specs.declared.cause.Cause.TheVariants.{MatchFailure, Measure}
 use Rattle.jib.specs.declared.code.Instruction.{Instruction}
+use Rattle.jib.specs.declared.code.Instruction.TheVariants as I
 use Rattle.jib.specs.Jib.{Here, Slots, Outcome, Runs, act, code_of, entry, or_stop, runs_over}
 use Rattle.jib.specs.Jib as J
 use Rattle.sail_core.specs.declared.tree.Core.{Core}
 use Rattle.sail_core.specs.declared.tree.Giver.TheVariants as Gives
 use Rattle.sail_core.specs.declared.model.Function.{Function}
 use Rattle.sail_core.specs.Run as R
-use Rattle.sail_core.specs.Run.{Ended, Now, Run, gives, goes_on, if_so, leaving, needs, or_so, returned, stops, stuck, tick, ◌then◌}
+use Rattle.sail_core.specs.Run.{Ended, Now, Run, apart, gives, goes_on, if_so, leaving, needs, or_so, returned, stops, stuck, tick, ◌then◌}
 use Rattle.sail_core.specs.Numbers.{Givens, Instance, all_agree, givens_of, as_awaited}
 use Rattle.sail_types.specs.declared.table.Types.{Types as Table}
 use Rattle.sail_core.specs.Values.{integer_in, natural_of}
 use Rattle.sail_core.specs.Making.{Making, World, integer, made, natural}
-use Rattle.sail_core.specs.Meaning.{meaning}
-use Rattle.sail_core.specs.Program.{Measures, answered, below, calls, entered, event_of, framed, measured, nearest, world_of}
+use Rattle.sail_core.specs.Meaning.{meaning, option_typ, optional}
+use Rattle.sail_core.specs.Program.{Measures, answered, below, calls, crossed, direction_at, entered, event_of, framed, gone, measured, nearest, world_of}
 use Rattle.checked_meaning.specs.Checked.{Cases, Noted, checked, noting}
-use Rattle.checked_meaning.specs.Items.{Item, item, typs, vals}
+use Rattle.checked_meaning.specs.Fits.{has_sizes}
+use Rattle.checked_meaning.specs.Items.{Item, fixed_typ, item, typs, vals}
 use Rattle.lowered_pieces.specs.Places.{Given}
 use Rattle.lowered_laws.specs.Standing.{HasAt}
 use Rattle.lowered_laws.proofs.Pieces.{has_whole}
-use Rattle.lowered_pieces.specs.Forms.{Callees}
-use Rattle.lowered_laws.specs.Modules.{Made, Lowered, Leads, Active, further, sunk, Agrees, AllLowered, AllTick, Shape, EventsLowered, EventsAnswer}
+use Rattle.lowered_laws.proofs.Steps.{go}
+use Rattle.lowered_pieces.specs.Forms.{Callees, Piece}
+use Rattle.lowered_pieces.specs.Mapped.{optional_piece}
+use Rattle.lowered_laws.specs.Modules.{Made, Lowered, Leads, Active, crossing, further, sunk, Agrees, AllLowered, AllTick, AllTurned, Shape}
+use Rattle.lowered_laws.specs.Returning.{Stays}
+use Rattle.lowered_laws.specs.Modules.{EventsLowered, EventsAnswer, Turned}
 use Rattle.lowered_laws.specs.Modules.{CallsAnswer, alone, event_shape, kit_for, around_for, lowered_for, piece_for, result_for}
-use Rattle.lowered_pieces.specs.Functions.{all_in, called_code, measure_of}
-use Rattle.lowered_laws.specs.Simulation.{bare, Then_, AtWork, Passed, Good, AnswersFrom, LeadsTo}
-use Rattle.lowered_laws.proofs.Nodes.{node_good}
+use Rattle.lowered_pieces.specs.Functions.{all_in, called_code, direction_code, measure_of}
+use Rattle.lowered_laws.specs.Simulation.{bare, Followed, AtWork, Passed, Good, AnswersFrom, Around, CallsOk, LeadsTo}
+use Rattle.lowered_laws.proofs.Nodes.{node_good, node_right}
+use Rattle.lowered_laws.proofs.Turned.{option_good}
+use Rattle.lowered_laws.proofs.ClauseEnds.{TypedBy, ended_typed}
 use Rattle.lowered_laws.proofs.Works.{none_is, some_same}
-use Rattle.lowered_laws.proofs.Called.{begin, nothing_noted, called_good, event_good, measured_good}
+use Rattle.lowered_laws.proofs.Called.{begin, begins_so, nothing_noted, called_good, event_good, measured_good}
 use Rattle.lowered_laws.proofs.Ticks.{runs_fewer}
 
 -- ---- what never ends with No
@@ -133,10 +143,10 @@ module _ (types : Table) (cases : Cases) where
 
 -- ---- calls
 
-module _ (x : Made) (agrees : Agrees x) (all : AllLowered x) (begins : AllTick x) where
+module _ (x : Made) (agrees : Agrees x) (all : AllLowered x) (turned : AllTurned x) (begins : AllTick x) where
   -- what a function comes to, by whatever its frame does
   answers_framed : (h : Here) (q : ℕ) (vs : List Value) (now : Now Item) (left : ℕ) (B : Run Item Value) → ((t : Now Item) → Decided (B t))
-      → ((r : Outcome) → Then_ r (framed B (record now { ticks = left })) (λ v t. r ≡ J.Gives v (bare t)) (λ v t. r ≡ J.Throws v (bare t)) (λ t. ⊥)
+      → ((r : Outcome) → Followed r (framed B (record now { ticks = left })) (λ v t. r ≡ J.Gives v (bare t)) (λ v t. r ≡ J.Throws v (bare t)) (λ t. ⊥)
       → Runs x.m x.lets x.s.hart h 0 (entry x.m q vs) (bare now) r)
       → AnswersFrom x.m x.lets x.s.hart h q vs now (framed B (record now { ticks = left }))
   answers_framed h q vs now left B d run = by (B (begin now1 nothing_noted)) (d (begin now1 nothing_noted)) run
@@ -148,7 +158,7 @@ module _ (x : Made) (agrees : Agrees x) (all : AllLowered x) (begins : AllTick x
       change after = record after { locals = now1.locals; opened = now1.opened }
 
       by : (o : Ended Item Value) → Decided o
-          → ((r : Outcome) → Then_ r (returned (leaving change o)) (λ v t. r ≡ J.Gives v (bare t)) (λ v t. r ≡ J.Throws v (bare t)) (λ t. ⊥)
+          → ((r : Outcome) → Followed r (returned (leaving change o)) (λ v t. r ≡ J.Gives v (bare t)) (λ v t. r ≡ J.Throws v (bare t)) (λ t. ⊥)
           → Runs x.m x.lets x.s.hart h 0 (entry x.m q vs) (bare now) r)
           → AnswersFrom x.m x.lets x.s.hart h q vs now (returned (leaving change o))
       by (R.Gives v t) d run = let y = run (J.Gives v (bare t)) refl in (refl, refl, runs_fewer x.m x.lets x.s.hart y, y)
@@ -159,7 +169,7 @@ module _ (x : Made) (agrees : Agrees x) (all : AllLowered x) (begins : AllTick x
       by R.Stuck d run = tt
 
   abbrev ends_so : (r : Outcome) → Ended Item Value → Type 0
-  ends_so r o = Then_ r o (λ v t. r ≡ J.Gives v (bare t)) (λ v t. r ≡ J.Throws v (bare t)) (λ t. ⊥)
+  ends_so r o = Followed r o (λ v t. r ≡ J.Gives v (bare t)) (λ v t. r ≡ J.Throws v (bare t)) (λ t. ⊥)
 
   abbrev CallsGood : ℕ → Type 0
   CallsGood n = (active : Measures) (h : Here) (p : ℕ) → Active x active h p → (place : TextPlace) (i : ℕ) (a : Instance) (vs : List Value) (now : Now Item)
@@ -167,7 +177,18 @@ module _ (x : Made) (agrees : Agrees x) (all : AllLowered x) (begins : AllTick x
       → AnswersFrom x.m x.lets x.s.hart (J.called x.m h (x.function a.place) place) (x.function a.place) vs now
       ((calls x.s n).call active place i (Some a) vs now)
 
-  module _ (n : ℕ) (ih : CallsGood n) (q : ℕ) (shape : Shape x) (p i : ℕ) (f : Function) (nu : Givens) (vs : List Value) (xs : List Item)
+  abbrev CrossesGood : ℕ → Type 0
+  CrossesGood n = (active : Measures) (h : Here) (p : ℕ) → Active x active h p → (place : TextPlace) (d : ℕ) (v : Value) (now : Now Item)
+      → x.crosses p d ≡ true → has_sizes x.table v (x.direction d).takes ≡ true → now.ticks < n
+      → AnswersFrom x.m x.lets x.s.hart (J.called x.m h (x.direction d).function place) (x.direction d).function (v ∷ []) now
+      ((tick then λ t. (calls x.s n).enter active d v) now)
+
+  -- calls of functions and of directions
+  record BothGood (n : ℕ) : Type 0 where
+    pub calls_ : CallsGood n
+    pub crosses_ : CrossesGood n
+
+  module _ (n : ℕ) (ih : BothGood n) (q : ℕ) (shape : Shape x) (p i : ℕ) (f : Function) (nu : Givens) (vs : List Value) (xs : List Item)
       (l : Lowered x q shape i p f nu vs xs) where
     abbrev z : Making Item
     z = checked x.table l.cases
@@ -207,7 +228,10 @@ module _ (x : Made) (agrees : Agrees x) (all : AllLowered x) (begins : AllTick x
         → lowered_for x q p (typs xs) c ≡ true → Good (at_work h r) (meaning z (world active) c) (piece_for x q p (typs xs) c)
     good h r active fol c lowered =
         node_good (at_work h r) around_ (world active)
-        (record { tells = λ place j a ws t leads less. ih active (record h { function = q }) p fol place j a ws t leads less })
+        (record {
+          tells = λ place j a ws t leads less. ih.calls_ active (record h { function = q }) p fol place j a ws t leads less;
+          crosses = λ place d v t there had less. ih.crosses_ active (record h { function = q }) p fol place d v t there had less;
+        })
         (record {
           hart = refl;
           sized = refl;
@@ -247,7 +271,7 @@ module _ (x : Made) (agrees : Agrees x) (all : AllLowered x) (begins : AllTick x
 
   -- ---- events
 
-  module _ (n : ℕ) (ih : CallsGood n) (p i : ℕ) (f : Function) (nu : Givens) (vs : List Value) (xs : List Item)
+  module _ (n : ℕ) (ih : BothGood n) (p i : ℕ) (f : Function) (nu : Givens) (vs : List Value) (xs : List Item)
       (l : Lowered x (x.event p) event_shape i p f nu vs xs) (now : Now Item) (few : now.ticks < n) where
     abbrev ze : Making Item
     ze = checked x.table l.cases
@@ -273,7 +297,7 @@ module _ (x : Made) (agrees : Agrees x) (all : AllLowered x) (begins : AllTick x
 
   -- ---- calls
 
-  module _ (n : ℕ) (ih : CallsGood n) (a : Instance) (i : ℕ) (f : Function) (nu : Givens) (vs : List Value) (xs : List Item)
+  module _ (n : ℕ) (ih : BothGood n) (a : Instance) (i : ℕ) (f : Function) (nu : Givens) (vs : List Value) (xs : List Item)
       (l : Lowered x (x.function a.place) called_code i a.place f nu vs xs) (now : Now Item) (left : ℕ) (ticks : now.ticks ≡ suc left)
       (few : now.ticks < suc n) where
     abbrev p : ℕ
@@ -354,7 +378,7 @@ module _ (x : Made) (agrees : Agrees x) (all : AllLowered x) (begins : AllTick x
   entering_with n active place i p vs f nu =
       needs (x.s.sizing.enters i p nu vs) then λ xs. framed (framing n active place f (x.s.sizing.function i p nu) nu xs)
 
-  calls_step : (n : ℕ) → CallsGood n → CallsGood (suc n)
+  calls_step : (n : ℕ) → BothGood n → CallsGood (suc n)
   calls_step n ih active h p fol place i a vs now leads lt = at_function (slice_get x.s.functions i) refl
     where
       q : ℕ
@@ -403,13 +427,189 @@ module _ (x : Made) (agrees : Agrees x) (all : AllLowered x) (begins : AllTick x
       at_function None e = tt
       at_function (Some f) e = at_ticks f e now.ticks refl
 
-  calls_good : (n : ℕ) → CallsGood n
-  calls_good zero active h p fol place i a vs now leads lt = none_less now.ticks lt
-  calls_good (suc n) active h p fol place i a vs now leads lt = calls_step n (calls_good n) active h p fol place i a vs now leads lt
+  -- ---- directions
+
+  module _ (n : ℕ) (ih : BothGood n) (d p : ℕ) (v : Value) (l : Turned x d v) (h : Here) (place : TextPlace) (active : Measures)
+      (fol : Active x active (J.called x.m h (x.direction d).function place) (x.way d)) (now : Now Item) (left : ℕ) (ticks : now.ticks ≡ suc left)
+      (few : now.ticks < suc n) where
+    abbrev qd : ℕ
+    qd = (x.direction d).function
+
+    abbrev pd : ℕ
+    pd = x.way d
+
+    abbrev held : Item
+    held = item (x.direction d).takes v
+
+    abbrev zd : Making Item
+    zd = checked x.table l.cases
+
+    abbrev worldd : World Item
+    worldd = world_of x.s (calls x.s n) active [] (held ∷ [])
+
+    abbrev opt : Sized
+    opt = fixed_typ x.table (option_typ l.typ)
+
+    abbrev pay : Sized
+    pay = fixed_typ x.table l.typ
+
+    abbrev turning : Outcome → AtWork
+    turning r = record {
+      m = x.m;
+      lets = x.lets;
+      hart = x.s.hart;
+      here = J.called x.m h qd place;
+      ending = r;
+      name = x.name qd;
+      table = x.table;
+      number = x.number;
+      knows = x.knows pd;
+      had = x.had pd;
+      exception = x.exception;
+      size = x.size pd;
+      tables = x.tables pd;
+      cases = l.cases;
+      tells = l.tells;
+      types = l.types;
+      names = l.names;
+      slots = l.slots;
+      arguments = held ∷ [];
+      depth = n;
+    }
+
+    abbrev around_d : Callees
+    around_d = around_for x pd ((x.direction d).takes ∷ [])
+
+    abbrev me_d : Run Item Item
+    me_d = meaning zd worldd l.clauses
+
+    abbrev piece_d : Piece
+    piece_d = piece_for x qd pd ((x.direction d).takes ∷ []) l.clauses
+
+    module _ (had : has_sizes x.table v (x.direction d).takes ≡ true) (r : Outcome) where
+      calls_d : CallsOk (turning r) around_d worldd
+      calls_d = record {
+        tells = λ place2 j a ws t leads less. ih.calls_ active (J.called x.m h qd place) pd fol place2 j a ws t leads less;
+        crosses = λ place2 e w t there had2 less. ih.crosses_ active (J.called x.m h qd place) pd fol place2 e w t there had2 less;
+      }
+
+      around_is : Around (turning r) around_d worldd
+      around_is = record {
+        hart = refl;
+        sized = refl;
+        widths = l.sizes;
+        sizes = l.sizes;
+        truths = l.truths;
+        arguments = refl;
+        given = refl;
+        had = ((had, l.known_taken), tt);
+        lets = x.opened;
+      }
+
+      good_d : Good (turning r) me_d piece_d
+      good_d = node_good (turning r) around_d worldd calls_d around_is l.clauses l.lowered
+
+      typed_d : TypedBy pay me_d
+      typed_d =
+          ended_typed (turning r) worldd 0 [] pay piece_d.ends me_d l.ends
+          (node_right (turning r) around_d worldd calls_d around_is l.clauses l.lowered)
+
+      passed_d : Passed (turning r) (entry x.m qd (v ∷ [])) 0 (held ∷ [])
+      passed_d = (ap (entry x.m qd (v ∷ [])) l.place, tt)
+
+      runs_d : Followed r (me_d (begin (record now { ticks = left }) nothing_noted)) (λ y t. r ≡ J.Gives (V.Union 0 0 y.val) (bare t))
+          (λ w t. r ≡ J.Throws w (bare t)) (λ t. r ≡ J.Gives (V.Union 0 1 V.Unit) (bare t))
+          → Runs x.m x.lets x.s.hart (J.called x.m h qd place) 0 (entry x.m qd (v ∷ [])) (bare now) r
+      runs_d th =
+          let sl : Slots = entry x.m qd (v ∷ []) in
+          let code : List Instruction = direction_code (kit_for x qd pd) true l.m.place (optional_piece x.table (kit_for x qd pd) opt pay piece_d) in
+          let whole : HasAt (code_of x.m qd) 0 code = subst (λ c. HasAt (code_of x.m qd) 0 c) l.code (has_whole (code_of x.m qd)) in
+          go x.m x.lets x.s.hart (J.called x.m h qd place) r 0 sl sl (bare now) (bare (record now { ticks = left })) I.Tick whole.0
+          (ap (λ k. J.tick k sl (bare now)) ticks)
+          (option_good (turning r) opt pay l.m.place l.somes l.none l.known_option me_d piece_d good_d typed_d 1 sl
+          (begin (record now { ticks = left }) nothing_noted) (omega (arith, ticks, few)) whole.1
+          (begins_so (turning r) sl (record now { ticks = left }) passed_d) th)
+
+    abbrev as_option : Item → Run Item Item
+    as_option y = gives (zd.fixed (option_typ l.typ) (V.Union 0 0 y.val))
+
+    abbrev as_none : Now Item → Run Item Item
+    as_none before after = gives (zd.fixed (option_typ l.typ) (V.Union 0 1 V.Unit)) (zd.back before after)
+
+    abbrev change : Now Item → Now Item
+    change after = record after { locals = now.locals; opened = now.opened }
+
+    answers_d : (had : has_sizes x.table v (x.direction d).takes ≡ true) (o : Ended Item Item) → Stays o
+        → ((r : Outcome) → Followed r o (λ y t. r ≡ J.Gives (V.Union 0 0 y.val) (bare t)) (λ w t. r ≡ J.Throws w (bare t))
+        (λ t. r ≡ J.Gives (V.Union 0 1 V.Unit) (bare t))
+        → Runs x.m x.lets x.s.hart (J.called x.m h qd place) 0 (entry x.m qd (v ∷ [])) (bare now) r)
+        → (before : Now Item)
+        → AnswersFrom x.m x.lets x.s.hart (J.called x.m h qd place) qd (v ∷ []) now
+        (leaving change (goes_on (or_so (goes_on o as_option) (as_none before)) (λ y. gives y.val)))
+    answers_d had (R.Gives y t) stays run before =
+        let e = run (J.Gives (V.Union 0 0 y.val) (bare t)) refl in (refl, refl, runs_fewer x.m x.lets x.s.hart e, e)
+    answers_d had (R.No t) stays run before =
+        let e = run (J.Gives (V.Union 0 1 V.Unit) (bare t)) refl in (refl, refl, runs_fewer x.m x.lets x.s.hart e, e)
+    answers_d had (R.Returns w t) stays run before = absurd stays
+    answers_d had (R.Throws w t) stays run before =
+        let e = run (J.Throws w (bare t)) refl in (refl, refl, runs_fewer x.m x.lets x.s.hart e, e)
+    answers_d had (R.Stops cause t) stays run before = run (J.Stops cause (bare t)) refl
+    answers_d had R.Stuck stays run before = tt
+
+    crossed_d : has_sizes x.table v (x.direction d).takes ≡ true → AnswersFrom x.m x.lets x.s.hart (J.called x.m h qd place) qd (v ∷ []) now
+        (apart (optional zd l.typ me_d then λ y. gives y.val) (record now { ticks = left }))
+    crossed_d had =
+        answers_d had (me_d (begin (record now { ticks = left }) nothing_noted)) (l.stays n active (begin (record now { ticks = left }) nothing_noted))
+        (λ r th. runs_d had r th) (begin (record now { ticks = left }) nothing_noted)
+
+  crosses_step : (n : ℕ) → BothGood n → CrossesGood (suc n)
+  crosses_step n ih active h p fol place d v now there had lt = at_ticks now.ticks refl
+    where
+      l : Turned x d v
+      l = turned p d v there had
+
+      q : ℕ
+      q = (x.direction d).function
+
+      y : Item
+      y = item (x.direction d).takes v
+
+      world : List Item → World Item
+      world xs = world_of x.s (calls x.s n) active [] xs
+
+      z : Making Item
+      z = checked x.table l.cases
+
+      same : gone x.s world d v (direction_at x.s d) ≡ apart (optional z l.typ (meaning z (world (y ∷ [])) l.clauses) then λ u. gives u.val)
+      same =
+          ap (gone x.s world d v) l.found ∙ ap (λ o. needs o then λ u. crossed (x.s.sizing.direction d) (world (u ∷ [])) l.m) l.enters
+          ∙ ap (λ r. crossed r (world (y ∷ [])) l.m) l.reads ∙ ap (λ (b : Run Item Item). apart (b then λ u. gives u.val)) (l.means (world (y ∷ [])))
+
+      ticks_first : slice_get (code_of x.m q) 0 ≡ Some I.Tick
+      ticks_first = ap (λ c. slice_get c 0) l.code
+
+      at_ticks : (k : ℕ) → now.ticks ≡ k → AnswersFrom x.m x.lets x.s.hart (J.called x.m h q place) q (v ∷ []) now
+          (goes_on (R.tick_at k now) (λ t. gone x.s world d v (direction_at x.s d)))
+      at_ticks zero ticks =
+          runs_over (ap (λ o. act x.m x.lets x.s.hart (J.called x.m h q place) (or_stop o) (entry x.m q (v ∷ [])) (bare now)) ticks_first
+          ∙ ap (λ k. J.tick k (entry x.m q (v ∷ [])) (bare now)) ticks)
+      at_ticks (suc left) ticks =
+          subst (λ (b : Run Item Value). AnswersFrom x.m x.lets x.s.hart (J.called x.m h q place) q (v ∷ []) now (b (record now { ticks = left }))) (sym same)
+          (crossed_d n ih d p v l h place active (crossing fol there) now left ticks lt had)
+
+  both_good : (n : ℕ) → BothGood n
+  both_good zero = record {
+    calls_ = λ active h p fol place i a vs now leads lt. none_less now.ticks lt;
+    crosses_ = λ active h p fol place d v now there had lt. none_less now.ticks lt;
+  }
+  both_good (suc n) = let ih = both_good n in record {
+    calls_ = λ active h p fol place i a vs now leads lt. calls_step n ih active h p fol place i a vs now leads lt;
+    crosses_ = λ active h p fol place d v now there had lt. crosses_step n ih active h p fol place d v now there had lt;
+  }
 
 pub calls_answer : CallsAnswer
-calls_answer x agrees all begins n active h p fol place i a vs now leads lt =
-    calls_good x agrees all begins n active h p fol place i a vs now leads lt
+calls_answer x agrees all turned begins n active h p fol place i a vs now leads lt =
+    (both_good x agrees all turned begins n).calls_ active h p fol place i a vs now leads lt
 
 -- what an event enters
 module _ (x : Made) (n : ℕ) where
@@ -420,7 +620,7 @@ module _ (x : Made) (n : ℕ) where
   event_entering i p vs f nu =
       needs (x.s.sizing.enters i p nu vs) then λ xs. framed (event_framing f (x.s.sizing.function i p nu) nu xs)
 
-module _ (x : Made) (agrees : Agrees x) (all : AllLowered x) (begins : AllTick x) (events : EventsLowered x) where
+module _ (x : Made) (agrees : Agrees x) (all : AllLowered x) (turned : AllTurned x) (begins : AllTick x) (events : EventsLowered x) where
   event_step : (n i : ℕ) (a : Instance) (vs : List Value) (now : Now Item) → x.of a.place ≡ i → x.awaits a.place ≡ Some a.numbers → now.ticks < n
       → AnswersFrom x.m x.lets x.s.hart (J.alone (x.event a.place)) (x.event a.place) vs now
       (event_of x.s (calls x.s n) i (Some a) vs (slice_get x.s.functions i) now)
@@ -436,7 +636,7 @@ module _ (x : Made) (agrees : Agrees x) (all : AllLowered x) (begins : AllTick x
       at_items f e nu agree (Some xs) er =
           let l : Lowered x (x.event a.place) event_shape i a.place f nu vs xs = events i a.place f a.numbers nu vs xs of awaits agree e er in
           subst (λ z. AnswersFrom x.m x.lets x.s.hart (J.alone q) q vs now (framed (event_framing x n f z nu xs) now)) (sym l.reads)
-          (event_answers x agrees all begins n (calls_good x agrees all begins n) a.place i f nu vs xs l now few)
+          (event_answers x agrees all turned begins n (both_good x agrees all turned begins n) a.place i f nu vs xs l now few)
 
       at_awaited : (f : Function) → slice_get x.s.functions i ≡ Some f → (nu : Givens) (b : Bool) → all_agree a.numbers nu ≡ b
           → AnswersFrom x.m x.lets x.s.hart (J.alone q) q vs now (if_so (event_entering x n i a.place vs f nu) stuck b now)
@@ -455,4 +655,5 @@ module _ (x : Made) (agrees : Agrees x) (all : AllLowered x) (begins : AllTick x
       at_function (Some f) e = at_givens f e (givens_of (length f.variables) f.parameters vs)
 
 pub events_answer : EventsAnswer
-events_answer x agrees all begins events n i a vs now of awaits few = event_step x agrees all begins events n i a vs now of awaits few
+events_answer x agrees all turned begins events n i a vs now of awaits few =
+    event_step x agrees all turned begins events n i a vs now of awaits few

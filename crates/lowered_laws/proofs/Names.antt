@@ -23,7 +23,7 @@ use Rattle.lowered_laws.proofs.Steps.{go, moved, there}
 use Rattle.lowered_laws.proofs.Chosen.{some_is}
 use Rattle.lowered_pieces.specs.Forms.{Named, Stand, Tail, Callees, first_type, place_of, local_make, source_make, made_code, made_piece}
 use Rattle.lowered_pieces.specs.Forms.{all_notes}
-use Rattle.lowered_laws.specs.Simulation.{bare, Writable, Then_, AtWork, kit, C, reading, Runs_, Low, Holds, Same, Done, Catches, Fails, Good}
+use Rattle.lowered_laws.specs.Simulation.{bare, Writable, Followed, AtWork, kit, own_code, reading, RunsOn, Low, Holds, Same, Done, Catches, Fails, Good}
 use Rattle.lowered_laws.specs.Simulation.{Around}
 use Rattle.lowered_laws.proofs.States.{Is, lower_free, after_here}
 use Rattle.lowered_laws.proofs.Ended.{made_good}
@@ -31,7 +31,7 @@ use Rattle.lowered_laws.proofs.Had.{in_types}
 
 module _ (g : AtWork) where
   -- a name reads its slot
-  held_read : (sl : Slots) (ys : List Named) (ls : List (Bound Item)) (name : List ℕ) (x : Item) → Holds g sl ys ls → held_in name ls ≡ Some x
+  pub held_read : (sl : Slots) (ys : List Named) (ls : List (Bound Item)) (name : List ℕ) (x : Item) → Holds g sl ys ls → held_in name ls ≡ Some x
       → sl (g.name (place_of ys name) (g.number x.typ)) ≡ x.val
   held_read sl [] [] name x h e = cc
   held_read sl [] (l ∷ ls) name x h e = absurd h
@@ -72,11 +72,12 @@ module _ (g : AtWork) where
     where
       by : (tail : Tail) (s : Stand) (l pc pe ph pf : ℕ) (sl : Slots) (now : Now Item)
           → pe ≡ pc + length (made_code (kit g) g.number 0 (local_make (kit g) g.number name) (g.tables.cases k 1) (g.tables.gives k) tail s l)
-          → HasAt (C g) pc (made_code (kit g) g.number 0 (local_make (kit g) g.number name) (g.tables.cases k 1) (g.tables.gives k) tail s l)
+          → HasAt (own_code g) pc (made_code (kit g) g.number 0 (local_make (kit g) g.number name) (g.tables.cases k 1) (g.tables.gives k) tail s l)
           → Same g s.depths s.scope s.temp sl now → Writable s.depths (all_notes (g.tables.gives k)) → (o : Option Item) → held_in name now.locals ≡ o
-          → Then_ g.ending ((needs o then λ x. made (reading g) k (x ∷ []) x.val) now) (Done g tail s pe sl now) (Catches g s.depths s.scope ph s.temp sl now)
+          → Followed g.ending ((needs o then λ x. made (reading g) k (x ∷ []) x.val) now) (Done g tail s pe sl now)
+          (Catches g s.depths s.scope ph s.temp sl now)
           (Fails g s.depths s.scope pf s.temp sl now)
-          → Runs_ g pc sl (bare now)
+          → RunsOn g pc sl (bare now)
       by tail s l pc pe ph pf sl now end at_ same wr None e th = absurd th
       by tail s l pc pe ph pf sl now end at_ same wr (Some x) e th =
           let n : ℕ = s.temp in
@@ -106,11 +107,11 @@ module _ (g : AtWork) where
   pub source_step : (k : ℕ) (a : Source) (v : Value) (tail : Tail) (s : Stand) (l pc pe ph pf : ℕ) (sl : Slots) (now : Now Item)
       → ((sl' : Slots) → read g.m g.lets g.hart a sl' (bare now) ≡ v)
       → pe ≡ pc + length (made_code (kit g) g.number 0 (source_make (kit g) g.number a) (g.tables.cases k 0) (g.tables.gives k) tail s l)
-      → HasAt (C g) pc (made_code (kit g) g.number 0 (source_make (kit g) g.number a) (g.tables.cases k 0) (g.tables.gives k) tail s l)
+      → HasAt (own_code g) pc (made_code (kit g) g.number 0 (source_make (kit g) g.number a) (g.tables.cases k 0) (g.tables.gives k) tail s l)
       → Same g s.depths s.scope s.temp sl now → Writable s.depths (all_notes (g.tables.gives k))
-      → Then_ g.ending (made (reading g) k [] v now) (Done g tail s pe sl now) (Catches g s.depths s.scope ph s.temp sl now)
+      → Followed g.ending (made (reading g) k [] v now) (Done g tail s pe sl now) (Catches g s.depths s.scope ph s.temp sl now)
       (Fails g s.depths s.scope pf s.temp sl now)
-      → Runs_ g pc sl (bare now)
+      → RunsOn g pc sl (bare now)
   source_step k a v tail s l pc pe ph pf sl now is_read end at_ same wr th =
       let n : ℕ = s.temp in
       made_good g 0 k [] v (source_make (kit g) g.number a) tail s l pc pe sl sl now now (Catches g s.depths s.scope ph n sl now)
@@ -134,12 +135,12 @@ module _ (g : AtWork) where
     where
       by : (tail : Tail) (s : Stand) (l pc pe ph pf : ℕ) (sl : Slots) (now : Now Item)
           → pe ≡ pc + length (made_code (kit g) g.number 0 (source_make (kit g) g.number (S.Register r)) (g.tables.cases k 0) (g.tables.gives k) tail s l)
-          → HasAt (C g) pc (made_code (kit g) g.number 0 (source_make (kit g) g.number (S.Register r)) (g.tables.cases k 0) (g.tables.gives k) tail s l)
+          → HasAt (own_code g) pc (made_code (kit g) g.number 0 (source_make (kit g) g.number (S.Register r)) (g.tables.cases k 0) (g.tables.gives k) tail s l)
           → Same g s.depths s.scope s.temp sl now → Writable s.depths (all_notes (g.tables.gives k)) → (o : Option Value)
           → register_value now.state w.hart r ≡ o
-          → Then_ g.ending (goes_on (needs o now) (λ v. made (reading g) k [] v)) (Done g tail s pe sl now) (Catches g s.depths s.scope ph s.temp sl now)
+          → Followed g.ending (goes_on (needs o now) (λ v. made (reading g) k [] v)) (Done g tail s pe sl now) (Catches g s.depths s.scope ph s.temp sl now)
           (Fails g s.depths s.scope pf s.temp sl now)
-          → Runs_ g pc sl (bare now)
+          → RunsOn g pc sl (bare now)
       by tail s l pc pe ph pf sl now end at_ same wr None e th = absurd th
       by tail s l pc pe ph pf sl now end at_ same wr (Some v) e th =
           source_step k (S.Register r) v tail s l pc pe ph pf sl now
@@ -156,12 +157,12 @@ module _ (g : AtWork) where
       by : (tail : Tail) (s : Stand) (l pc pe ph pf : ℕ) (sl : Slots) (now : Now Item)
           → pe ≡ pc + length (made_code (kit g) g.number 0 (source_make (kit g) g.number (S.Let (callees.opening i))) (g.tables.cases k 0)
           (g.tables.gives k) tail s l)
-          → HasAt (C g) pc (made_code (kit g) g.number 0 (source_make (kit g) g.number (S.Let (callees.opening i))) (g.tables.cases k 0)
+          → HasAt (own_code g) pc (made_code (kit g) g.number 0 (source_make (kit g) g.number (S.Let (callees.opening i))) (g.tables.cases k 0)
           (g.tables.gives k) tail s l)
           → Same g s.depths s.scope s.temp sl now → Writable s.depths (all_notes (g.tables.gives k)) → (o : Option Value) → slice_get w.lets i ≡ o
-          → Then_ g.ending (goes_on (needs o now) (λ v. made (reading g) k [] v)) (Done g tail s pe sl now) (Catches g s.depths s.scope ph s.temp sl now)
+          → Followed g.ending (goes_on (needs o now) (λ v. made (reading g) k [] v)) (Done g tail s pe sl now) (Catches g s.depths s.scope ph s.temp sl now)
           (Fails g s.depths s.scope pf s.temp sl now)
-          → Runs_ g pc sl (bare now)
+          → RunsOn g pc sl (bare now)
       by tail s l pc pe ph pf sl now end at_ same wr None e th = absurd th
       by tail s l pc pe ph pf sl now end at_ same wr (Some v) e th =
           source_step k (S.Let (callees.opening i)) v tail s l pc pe ph pf sl now

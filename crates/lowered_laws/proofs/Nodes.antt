@@ -39,7 +39,8 @@ use Rattle.lowered_pieces.specs.Tables.{leads_to}
 use Rattle.lowered_pieces.specs.Forms.{Piece, Callees, constant_piece, ends_of, has_ends, unit_piece, if_piece, inside_piece, one_end, unsaid}
 use Rattle.lowered_pieces.specs.Arms.{constant_of, arm_lowered, arms_lowered, match_piece, try_piece}
 use Rattle.lowered_pieces.specs.Lowering.{Node, block_piece, row_piece, number_piece, truth_piece, row_lowered, kind_piece, node, piece, pieces_of}
-use Rattle.lowered_pieces.specs.Lowering.{all_lowered, block_lowered, is_lowered, is_matched, kind_lowered, number_lowered, path_lowered, way_lowered}
+use Rattle.lowered_pieces.specs.Lowering.{all_lowered, applied_lowered, block_lowered, is_lowered, is_matched, kind_lowered, number_lowered, path_lowered}
+use Rattle.lowered_pieces.specs.Lowering.{way_lowered}
 use Rattle.lowered_pieces.specs.Gathered.{all_one, is_one}
 use Rattle.lowered_pieces.specs.Paths.{path_piece}
 use Rattle.lowered_laws.proofs.Ends.{EndsRight, RightAll, built_right, fixed_right, made_right, needs_right, then_right, turn_right}
@@ -54,6 +55,9 @@ use Rattle.lowered_laws.proofs.Branches.{seq_good, return_good, stop_good, when_
 use Rattle.lowered_laws.proofs.Truths.{assert_good, and_good, or_good}
 use Rattle.lowered_laws.proofs.Paths.{GoodWay, GoodPath, path_good, with_item_good, with_slice_good, with_good}
 use Rattle.lowered_laws.proofs.ClauseEnds.{clauses_right}
+use Rattle.lowered_laws.proofs.Applied.{applied_good, applied_right}
+use Rattle.lowered_laws.proofs.WithFields.{with_several_good}
+use Rattle.lowered_pieces.specs.Mapped.{ends_with, fixed_end}
 use Rattle.lowered_laws.proofs.Arms.{Fit, match_good, let_good, clauses_good}
 use Rattle.lowered_laws.proofs.Tries.{try_good}
 use Rattle.lowered_laws.proofs.Gathered.{state_good, state_right}
@@ -63,6 +67,7 @@ use Rattle.lowered_laws.proofs.Binding.{bind_good}
 use Rattle.lowered_laws.proofs.Meeting.{meet_good}
 use Rattle.lowered_laws.proofs.Loops.{while_good}
 use Rattle.lowered_laws.proofs.Repeats.{repeat_good}
+use Rattle.lowered_laws.proofs.Counts.{foreach_good}
 use Rattle.lowered_laws.proofs.Calls.{GoodAll, call_good}
 use Rattle.lowered_laws.proofs.Constructors.{constructor_good}
 use Rattle.lowered_laws.proofs.Works.{row_good, tuple_good, vector_good, list_good, struct_good, cons_good}
@@ -295,6 +300,8 @@ module _ (g : AtWork) (callees : Callees) (w : World Item) (calls : CallsOk g ca
       (struct_good g struct fields k (runs ys) (pieces ys) (all_sim ys h), value_right k ys (struct_of struct fields))
   kind_sim place k (K.With struct (i ∷ [])) ys h =
       (with_good g struct i k (runs ys) (pieces ys) (all_sim ys h), value_right k ys (with_of struct (i ∷ [])))
+  kind_sim place k (K.With struct (i ∷ j ∷ is)) ys h =
+      (with_several_good g struct i j is k (runs ys) (pieces ys) (all_sim ys h), value_right k ys (with_of struct (i ∷ j ∷ is)))
   kind_sim place k (K.Part suffixes) (y ∷ ys) h =
       let q = and_parts (ok y.0) (path_lowered suffixes (nodes ys)) h in (
         unsaid_good (me y.0 then suffixes_of (reading g) suffixes (runs ys)) (path_piece (kit g) g.number g.tables suffixes (pieces ys) (code y.0))
@@ -359,6 +366,14 @@ module _ (g : AtWork) (callees : Callees) (w : World Item) (calls : CallsOk g ca
       let q = and_parts (ok a.0) (ok b.0 && ok c.0) h in
       let p = and_parts (ok b.0) (ok c.0) q.1 in
       (repeat_good g place (me a.0) (code a.0) (me b.0) (code b.0) (me c.0) (code c.0) (a.1 q.0).0 (b.1 p.0).0 (c.1 p.1).0, λ f. no f)
+  kind_sim place k (K.Foreach name way) (a ∷ b ∷ c ∷ d ∷ []) h =
+      let q = and_parts (ok a.0) (ok b.0 && (ok c.0 && ok d.0)) h in
+      let p = and_parts (ok b.0) (ok c.0 && ok d.0) q.1 in
+      let r = and_parts (ok c.0) (ok d.0) p.1 in
+      let good =
+      foreach_good g name way (me a.0) (code a.0) (me b.0) (code b.0) (me c.0) (code c.0) (me d.0) (code d.0) (a.1 q.0).0 (b.1 p.0).0 (c.1 r.0).0
+      (d.1 r.1).0 in
+      (good, λ f. no f)
   kind_sim place k K.Throw (y ∷ []) h = (throw_good g (me y.0) (code y.0) (y.1 h).0, λ f. no f)
   kind_sim place k K.Return (y ∷ []) h = (return_good g (me y.0) (code y.0) (y.1 h).0, λ f. no f)
   kind_sim place k K.Exit (y ∷ []) h = (stop_good g (Exit place) (me y.0) (code y.0) (y.1 h).0, λ f. no f)
@@ -399,6 +414,11 @@ module _ (g : AtWork) (callees : Callees) (w : World Item) (calls : CallsOk g ca
       (try_piece g.table (kit g) (g.tables.cases k 0) (g.tables.gives k) (g.tables.named k) arms (pieces ys) (code y.0))
       (try_good g w k arms (runs ys) (pieces ys) (arms_known arms r.0) p.0 (all_sim ys r.1) (me y.0) (code y.0) (y.1 q.0).0) k in
       (record { run = good.run }, λ f. no f)
+  kind_sim place k (K.Call (F.Applies d)) (y ∷ []) h =
+      let q = and_parts (applied_lowered callees d (code y.0).ends) (ok y.0) h in
+      let p = and_parts (callees.crosses d) (ends_with (callees.direction d).takes (fixed_end (code y.0).ends)) q.0 in
+      let it = y.1 q.1 in
+      (applied_good g callees w calls place k d (me y.0) (code y.0) it.0 it.1 p.1 p.0, applied_right g callees w calls place k d (me y.0))
   kind_sim place k (K.Clauses arms) ys h =
       let q = and_parts (arms_lowered callees.size arms) (all_lowered (nodes ys)) h in
       let good = clauses_good g w k callees.given arms (runs ys) (pieces ys) around.arguments around.given around.had (arms_known arms q.0) (all_sim ys q.1) in
@@ -424,3 +444,7 @@ module _ (g : AtWork) (callees : Callees) (w : World Item) (calls : CallsOk g ca
   pub node_good : (c : Core) → is_lowered g.table (kit g) g.number callees g.tables c ≡ true → Good g (me c) (code c)
   unfolding Sim
   node_good c h = (all_sims c h).0
+
+  pub node_right : (c : Core) → is_lowered g.table (kit g) g.number callees g.tables c ≡ true → EndsRight (code c).ends (me c)
+  unfolding Sim
+  node_right c h = (all_sims c h).1

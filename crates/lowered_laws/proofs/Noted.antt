@@ -47,7 +47,7 @@ use Rattle.lowered_laws.proofs.Steps.{go, moves, computed}
 use Rattle.lowered_pieces.specs.Forms.{Named, Depths, kit_at, Noter, number_noted, known_noted, part_noted, parts_noted, form_noted, noter_of, note_code}
 use Rattle.lowered_pieces.specs.Forms.{one_or_none, joined, form_notes, notes_of, all_notes}
 use Rattle.lowered_pieces.specs.Arms.{Held as Stood, values_noted, tuple_noted, arm_noted}
-use Rattle.lowered_laws.specs.Simulation.{bare, Then_, AtWork, kit, C, reading, Runs_, lower, handy, Settled, Holding, Writable, After, Sits}
+use Rattle.lowered_laws.specs.Simulation.{bare, Followed, AtWork, kit, own_code, reading, RunsOn, lower, handy, Settled, Holding, Writable, After, Sits}
 use Rattle.lowered_laws.proofs.Follows.{as_integer, no}
 use Rattle.lowered_laws.proofs.States.{Is, holds_by, passed_by, writable_front, writable_back}
 use Rattle.lowered_laws.proofs.Inside.{less_deep}
@@ -219,20 +219,20 @@ module _ (g : AtWork) (d : Depths) where
 
   -- what follows its end
   abbrev Then : ℕ → ℕ → Slots → Store → Noted → Type 0
-  Then p pe sl st noted = (sl2 : Slots) → Left p sl sl2 → Told kit_ noted sl2 → Runs_ g pe sl2 st
+  Then p pe sl st noted = (sl2 : Slots) → Left p sl sl2 → Told kit_ noted sl2 → RunsOn g pe sl2 st
 
   abbrev Writes_ : Noter kit_ g.number → Noting → List ℕ → Type 0
   Writes_ f h ns = Writable d ns → (s : Sized) (v : Value) (q : Place) (p pc : ℕ) (sl : Slots) (st : Store) (noted : Noted)
-      → HasAt (C g) pc (f (from (kit g) q (g.number s)) s p) → Sits g v s → lasting d.here p q ≡ true
+      → HasAt (own_code g) pc (f (from (kit g) q (g.number s)) s p) → Sits g v s → lasting d.here p q ≡ true
       → Held (f (from (kit g) q (g.number s)) s p) (sl (g.name q (g.number s)) ≡ v) → Told kit_ noted sl
-      → Then p (pc + length (f (from (kit g) q (g.number s)) s p)) sl st (h v noted) → Runs_ g pc sl st
+      → Then p (pc + length (f (from (kit g) q (g.number s)) s p)) sl st (h v noted) → RunsOn g pc sl st
 
   Writes : Indices → Type 0
   Writes i = Writes_ (noter i) (noted_by i) (notes_of i)
 
   -- no code, and nothing that is noted
   quiet : (c : List Instruction) → c ≡ [] → (p pc : ℕ) (sl : Slots) (st : Store) (noted : Noted) → Told kit_ noted sl
-      → Then p (pc + length c) sl st noted → Runs_ g pc sl st
+      → Then p (pc + length c) sl st noted → RunsOn g pc sl st
   quiet c e p pc sl st noted told rest =
       let n : length c ≡ 0 = ap length e in
       moves g.m g.lets g.hart g.here g.ending (pc + length c) pc sl st (omega (arith, n)) (rest sl (left_here p sl) told)
@@ -245,9 +245,9 @@ module _ (g : AtWork) (d : Depths) where
   silent (Some x) y a h = refl
 
   integer_runs : (o : Option ℕ) (z : ℤ) (v : Value) (q : Place) (u p pc : ℕ) (sl : Slots) (st : Store) (noted : Noted) → Writable d (one_or_none o)
-      → v ≡ V.Integer z → HasAt (C g) pc (number_noted kit_ g.number o Z.Int (from (kit g) q u))
+      → v ≡ V.Integer z → HasAt (own_code g) pc (number_noted kit_ g.number o Z.Int (from (kit g) q u))
       → Held (number_noted kit_ g.number o Z.Int (from (kit g) q u)) (sl (g.name q u) ≡ v) → Told kit_ noted sl
-      → Then p (pc + length (number_noted kit_ g.number o Z.Int (from (kit g) q u))) sl st (noted_for o z noted) → Runs_ g pc sl st
+      → Then p (pc + length (number_noted kit_ g.number o Z.Int (from (kit g) q u))) sl st (noted_for o z noted) → RunsOn g pc sl st
   integer_runs None z v q u p pc sl st noted wr ve at_ held told rest = quiet [] refl p pc sl st noted told rest
   integer_runs (Some x) z v q u p pc sl st noted wr ve at_ held told rest =
       let t : ℕ = (kit g).integer in
@@ -261,10 +261,10 @@ module _ (g : AtWork) (d : Depths) where
 
   integer_good : (t : Num) (x : Value-F Value) (y : Sized-F Sized) (v : Value) (q : Place) (u p pc : ℕ) (sl : Slots) (st : Store) (noted : Noted)
       → Writable d (one_or_none (variable_in t)) → out-Value v ≡ x → form_fits g.table (fits_in g x) y ≡ true
-      → HasAt (C g) pc (number_noted kit_ g.number (variable_in t) y (from (kit g) q u))
+      → HasAt (own_code g) pc (number_noted kit_ g.number (variable_in t) y (from (kit g) q u))
       → Held (number_noted kit_ g.number (variable_in t) y (from (kit g) q u)) (sl (g.name q u) ≡ v) → Told kit_ noted sl
       → Then p (pc + length (number_noted kit_ g.number (variable_in t) y (from (kit g) q u))) sl st (value_noted (W.Integer t) x noted)
-      → Runs_ g pc sl st
+      → RunsOn g pc sl st
   integer_good t (E.Integer z) Z.Int v q u p pc sl st noted wr e h at_ held told rest =
       integer_runs (variable_in t) z v q u p pc sl st noted wr (as_integer v z (ap form_integer e)) at_ held told rest
   integer_good t (E.Integer z) y v q u p pc sl st noted wr e h at_ held told rest = no h
@@ -275,8 +275,8 @@ module _ (g : AtWork) (d : Depths) where
   -- ---- a width or a length, which is that of the type
 
   known_runs : (o : Option ℕ) (n z : ℤ) (p pc : ℕ) (sl : Slots) (st : Store) (noted : Noted) → Writable d (one_or_none o) → z ≡ n
-      → HasAt (C g) pc (known_noted kit_ g.number o n) → Told kit_ noted sl
-      → Then p (pc + length (known_noted kit_ g.number o n)) sl st (noted_for o z noted) → Runs_ g pc sl st
+      → HasAt (own_code g) pc (known_noted kit_ g.number o n) → Told kit_ noted sl
+      → Then p (pc + length (known_noted kit_ g.number o n)) sl st (noted_for o z noted) → RunsOn g pc sl st
   known_runs None n z p pc sl st noted wr ze at_ told rest = quiet [] refl p pc sl st noted told rest
   known_runs (Some x) n z p pc sl st noted wr ze at_ told rest =
       let t : ℕ = (kit g).integer in
@@ -293,8 +293,8 @@ module _ (g : AtWork) (d : Depths) where
   bits_code t y a p = form_noted kit_ g.number (W.Bits t) y a p
 
   bits_good : (t : Num) (x : Value-F Value) (y : Sized-F Sized) (a : Source) (p pc : ℕ) (sl : Slots) (st : Store) (noted : Noted)
-      → Writable d (one_or_none (variable_in t)) → form_fits g.table (fits_in g x) y ≡ true → HasAt (C g) pc (bits_code t y a p) → Told kit_ noted sl
-      → Then p (pc + length (bits_code t y a p)) sl st (value_noted (W.Bits t) x noted) → Runs_ g pc sl st
+      → Writable d (one_or_none (variable_in t)) → form_fits g.table (fits_in g x) y ≡ true → HasAt (own_code g) pc (bits_code t y a p) → Told kit_ noted sl
+      → Then p (pc + length (bits_code t y a p)) sl st (value_noted (W.Bits t) x noted) → RunsOn g pc sl st
   bits_good t (E.Bits bits) (Z.Bits n) a p pc sl st noted wr h at_ told rest =
       known_runs (variable_in t) n (pos (length bits)) p pc sl st noted wr ((Decides-int_eq (pos (length bits)) n).0 h) at_ told rest
   bits_good t (E.Bits bits) y a p pc sl st noted wr h at_ told rest = no h
@@ -308,8 +308,8 @@ module _ (g : AtWork) (d : Depths) where
   as_many vs n h = ap pos (sym (length-map vs (has_sizes g.table))) ∙ (Decides-int_eq (pos (length (map (has_sizes g.table) vs))) n).0 h
 
   vector_good : (t : Num) (f : Noter kit_ g.number) (b : Noting) (x : Value-F Value) (y : Sized-F Sized) (a : Source) (p pc : ℕ) (sl : Slots) (st : Store)
-      (noted : Noted) → Writable d (one_or_none (variable_in t)) → form_fits g.table (fits_in g x) y ≡ true → HasAt (C g) pc (vector_code t f y a p)
-      → Told kit_ noted sl → Then p (pc + length (vector_code t f y a p)) sl st (value_noted (W.Vector t b) x noted) → Runs_ g pc sl st
+      (noted : Noted) → Writable d (one_or_none (variable_in t)) → form_fits g.table (fits_in g x) y ≡ true → HasAt (own_code g) pc (vector_code t f y a p)
+      → Told kit_ noted sl → Then p (pc + length (vector_code t f y a p)) sl st (value_noted (W.Vector t b) x noted) → RunsOn g pc sl st
   vector_good t f b (E.Vector vs) (Z.Vector n s) a p pc sl st noted wr h at_ told rest =
       let len = and_parts (int_eq (pos (length (map (has_sizes g.table) vs))) n) (all_fit (map (has_sizes g.table) vs) s) h in
       known_runs (variable_in t) n (pos (length vs)) p pc sl st noted wr (as_many vs n len.0) at_ told rest
@@ -338,15 +338,15 @@ module _ (g : AtWork) (d : Depths) where
   part_good : (y : SuchI) (s : Sized) (v whole : Value) (q : Place) (u j p pc : ℕ) (sl : Slots) (st : Store) (noted : Noted) (c : List Instruction)
       → Writable d (notes_of y.0) → noter y.0 (from (kit g) (Temp p) (g.number s)) s (p + 1) ≡ c
       → ((t : Option ValueType) → operate t (O.Field j) (whole ∷ []) g.hart st.state ≡ Some (plain st.state v))
-      → Sits g v s → HasAt (C g) pc (part_noted kit_ g.number (take_part p s j (from (kit g) q u)) c)
+      → Sits g v s → HasAt (own_code g) pc (part_noted kit_ g.number (take_part p s j (from (kit g) q u)) c)
       → Held (part_noted kit_ g.number (take_part p s j (from (kit g) q u)) c) (sl (g.name q u) ≡ whole) → Told kit_ noted sl
-      → Then p (pc + length (part_noted kit_ g.number (take_part p s j (from (kit g) q u)) c)) sl st (noted_by y.0 v noted) → Runs_ g pc sl st
+      → Then p (pc + length (part_noted kit_ g.number (take_part p s j (from (kit g) q u)) c)) sl st (noted_by y.0 v noted) → RunsOn g pc sl st
   unfolding Writes
   part_good y s v whole q u j p pc sl st noted [] wr e works had at_ held told rest =
       let a : Source = from (kit g) (Temp p) (g.number s) in
       let X : Type 0 = sl (g.name (Temp p) (g.number s)) ≡ v in
       let n : length (noter y.0 a s (p + 1)) ≡ 0 = ap length e in
-      y.1 wr s v (Temp p) (p + 1) pc sl st noted (subst (λ c. HasAt (C g) pc c) (sym e) tt) had (lasting_here p) (subst (λ c. Held c X) (sym e) tt) told
+      y.1 wr s v (Temp p) (p + 1) pc sl st noted (subst (λ c. HasAt (own_code g) pc c) (sym e) tt) had (lasting_here p) (subst (λ c. Held c X) (sym e) tt) told
       (λ sl2 left told2.
       moves g.m g.lets g.hart g.here g.ending (pc + 0) (pc + length (noter y.0 a s (p + 1))) sl2 st (omega (arith, n))
       (rest sl2 (left_less p (p + 1) sl sl2 (omega arith) left) told2))
@@ -361,7 +361,7 @@ module _ (g : AtWork) (d : Depths) where
       go g.m g.lets g.hart g.here g.ending pc sl sl1 st st take at_.0
       (computed g.m g.lets g.hart g.here g.ending (kit g) g.names (Temp p) t (O.Field j) (from (kit g) q u ∷ []) sl st v there
       (ap (λ w. operate (slice_get g.m.types t) (O.Field j) (w ∷ []) g.hart st.state) held ∙ works (slice_get g.m.types t)) (in_types g v s had))
-      (y.1 wr s v (Temp p) (p + 1) (pc + 1) sl1 st noted (subst (λ d. HasAt (C g) (pc + 1) d) (sym e) at_.1) had (lasting_here p)
+      (y.1 wr s v (Temp p) (p + 1) (pc + 1) sl1 st noted (subst (λ d. HasAt (own_code g) (pc + 1) d) (sym e) at_.1) had (lasting_here p)
       (held_of c (sl1 (g.name (Temp p) t) ≡ v) (put_same sl (g.name (Temp p) t) v)) (told_temp p t noted sl v there told)
       (λ sl2 left told2.
       moves g.m g.lets g.hart g.here g.ending (pc + length (take ∷ i ∷ is)) (pc + 1 + length c) sl2 st (omega (arith, n))
@@ -374,9 +374,9 @@ module _ (g : AtWork) (d : Depths) where
       (noted : Noted) → Writable d (joined (map notes_of (values ys))) → out-Value whole ≡ E.Tuple all
       → ((i : ℕ) (v : Value) → slice_get vs i ≡ Some v → (k : ℕ) → k ≡ i + j → slice_get all k ≡ Some v)
       → ((i : ℕ) (r : Sized) → slice_get ss i ≡ Some r → g.tables.known r ≡ true) → each_fits (map (has_sizes g.table) vs) ss ≡ true
-      → lasting d.here p q ≡ true → HasAt (C g) pc (parts_code ys ss j (from (kit g) q u) p)
+      → lasting d.here p q ≡ true → HasAt (own_code g) pc (parts_code ys ss j (from (kit g) q u) p)
       → Held (parts_code ys ss j (from (kit g) q u) p) (sl (g.name q u) ≡ whole) → Told kit_ noted sl
-      → Then p (pc + length (parts_code ys ss j (from (kit g) q u) p)) sl st (each_noted (map noted_by (values ys)) vs noted) → Runs_ g pc sl st
+      → Then p (pc + length (parts_code ys ss j (from (kit g) q u) p)) sl st (each_noted (map noted_by (values ys)) vs noted) → RunsOn g pc sl st
   parts_good [] vs ss whole all q u j p pc sl st noted wr out at kn fit last at_ held told rest = quiet [] refl p pc sl st noted told rest
   parts_good (y ∷ ys) [] [] whole all q u j p pc sl st noted wr out at kn fit last at_ held told rest = quiet [] refl p pc sl st noted told rest
   parts_good (y ∷ ys) [] (s ∷ ss) whole all q u j p pc sl st noted wr out at kn fit last at_ held told rest = no fit
@@ -390,11 +390,11 @@ module _ (g : AtWork) (d : Depths) where
       let p1 : ℕ = pc + length c1 in
       part_good y s v whole q u j p pc sl st noted c (writable_front d (notes_of y.0) (joined (map notes_of (values ys))) wr) refl
       (λ t. ap (λ x. option_map (plain st.state) (field j x)) out ∙ ap (λ o. option_map (plain st.state) o) (at 0 v refl j (omega arith))) (both.0, kn 0 s refl)
-      (has_front (C g) pc c1 c2 at_) (held_front c1 c2 (sl (g.name q u) ≡ whole) held) told
+      (has_front (own_code g) pc c1 c2 at_) (held_front c1 c2 (sl (g.name q u) ≡ whole) held) told
       (λ sl1 left1 told1.
       parts_good ys vs ss whole all q u (j + 1) p p1 sl1 st (noted_by y.0 v noted)
       (writable_back d (notes_of y.0) (joined (map notes_of (values ys))) wr) out
-      (λ i w e k f. at (suc i) w e k (omega (arith, f))) (λ i r e. kn (suc i) r e) both.1 last (has_back (C g) pc c1 c2 p1 refl at_)
+      (λ i w e k f. at (suc i) w e k (omega (arith, f))) (λ i r e. kn (suc i) r e) both.1 last (has_back (own_code g) pc c1 c2 p1 refl at_)
       (held_back c1 c2 (sl (g.name q u) ≡ whole) (sl1 (g.name q u) ≡ whole) (λ e. left1.others q u last ∙ e) held) told1
       (λ sl2 left2 told2.
       moves g.m g.lets g.hart g.here g.ending (pc + length (c1 ++ c2)) (p1 + length c2) sl2 st (omega (arith, length-append c1 c2))
@@ -406,9 +406,9 @@ module _ (g : AtWork) (d : Depths) where
   tuple_good : (ys : List SuchI) (x : Value-F Value) (y : Sized-F Sized) (v : Value) (q : Place) (u p pc : ℕ) (sl : Slots) (st : Store) (noted : Noted)
       → Writable d (joined (map notes_of (values ys))) → out-Value v ≡ x → form_fits g.table (fits_in g x) y ≡ true
       → ((i : ℕ) → g.tables.known (component_typ i y) ≡ true) → lasting d.here p q ≡ true
-      → HasAt (C g) pc (tuple_code ys y (from (kit g) q u) p)
+      → HasAt (own_code g) pc (tuple_code ys y (from (kit g) q u) p)
       → Held (tuple_code ys y (from (kit g) q u) p) (sl (g.name q u) ≡ v) → Told kit_ noted sl
-      → Then p (pc + length (tuple_code ys y (from (kit g) q u) p)) sl st (value_noted (W.Tuple (map noted_by (values ys))) x noted) → Runs_ g pc sl st
+      → Then p (pc + length (tuple_code ys y (from (kit g) q u) p)) sl st (value_noted (W.Tuple (map noted_by (values ys))) x noted) → RunsOn g pc sl st
   tuple_good ys (E.Tuple vs) (Z.Tuple ss) v q u p pc sl st noted wr e h kn last at_ held told rest =
       parts_good ys vs ss v vs q u 0 p pc sl st noted wr e
       (λ i w f k same. subst (λ m. slice_get vs m ≡ Some w) (and_none i k same) f)
@@ -475,29 +475,30 @@ module _ (g : AtWork) (d : Depths) where
   -- ---- of a value in hand, by all that is said of the node
 
   each_writes : (is : List Indices) (n : ℕ) (s : Sized) (v : Value) (pc : ℕ) (sl : Slots) (st : Store) (noted : Noted) → Writable d (all_notes is)
-      → HasAt (C g) pc (note_code kit_ g.number n is s) → Sits g v s → sl (g.name (Temp n) (g.number s)) ≡ v → Told kit_ noted sl
-      → Then (n + 1) (pc + length (note_code kit_ g.number n is s)) sl st (noted_by_each is v noted) → Runs_ g pc sl st
+      → HasAt (own_code g) pc (note_code kit_ g.number n is s) → Sits g v s → sl (g.name (Temp n) (g.number s)) ≡ v → Told kit_ noted sl
+      → Then (n + 1) (pc + length (note_code kit_ g.number n is s)) sl st (noted_by_each is v noted) → RunsOn g pc sl st
   unfolding Writes
   each_writes [] n s v pc sl st noted wr at_ had e told rest = quiet [] refl (n + 1) pc sl st noted told rest
   each_writes (i ∷ is) n s v pc sl st noted wr at_ had e told rest =
       let c1 : List Instruction = noter i (from (kit g) (Temp n) (g.number s)) s (n + 1) in
       let c2 : List Instruction = note_code kit_ g.number n is s in
       let p1 : ℕ = pc + length c1 in
-      all_write i (writable_front d (notes_of i) (all_notes is) wr) s v (Temp n) (n + 1) pc sl st noted (has_front (C g) pc c1 c2 at_) had (lasting_here n)
+      all_write i (writable_front d (notes_of i) (all_notes is) wr) s v (Temp n) (n + 1) pc sl st noted (has_front (own_code g) pc c1 c2 at_) had
+      (lasting_here n)
       (held_of c1 (sl (g.name (Temp n) (g.number s)) ≡ v) e) told
       (λ sl1 left1 told1.
-      each_writes is n s v p1 sl1 st (noted_by i v noted) (writable_back d (notes_of i) (all_notes is) wr) (has_back (C g) pc c1 c2 p1 refl at_) had
+      each_writes is n s v p1 sl1 st (noted_by i v noted) (writable_back d (notes_of i) (all_notes is) wr) (has_back (own_code g) pc c1 c2 p1 refl at_) had
       (left1.others (Temp n) (g.number s) (lasting_here n) ∙ e) told1
       (λ sl2 left2 told2.
       moves g.m g.lets g.hart g.here g.ending (pc + length (c1 ++ c2)) (p1 + length c2) sl2 st (omega (arith, length-append c1 c2))
       (rest sl2 (left_both (n + 1) sl sl1 sl2 left1 left2) told2)))
 
   pub noted_good : (is : List Indices) (scope : List Named) (n : ℕ) (s : Sized) (v : Value) (pc : ℕ) (sl sl1 : Slots) (now u : Now Item) (more : Noted)
-      → Writable d (all_notes is) → HasAt (C g) pc (note_code kit_ g.number n is s) → more ≡ noted_by_each is v u.opened → Sits g v s
+      → Writable d (all_notes is) → HasAt (own_code g) pc (note_code kit_ g.number n is s) → more ≡ noted_by_each is v u.opened → Sits g v s
       → After g d scope n sl now sl1 u → sl1 (g.name (Temp n) (g.number s)) ≡ v
       → ((sl2 : Slots) → After g d scope n sl now sl2 (record u { opened = more }) → sl2 (g.name (Temp n) (g.number s)) ≡ v
-      → Runs_ g (pc + length (note_code kit_ g.number n is s)) sl2 (bare u))
-      → Runs_ g pc sl1 (bare u)
+      → RunsOn g (pc + length (note_code kit_ g.number n is s)) sl2 (bare u))
+      → RunsOn g pc sl1 (bare u)
   noted_good is scope n s v pc sl sl1 now u more wr at_ by had k e rest =
       each_writes is n s v pc sl1 (bare u) u.opened wr at_ had e k.same.noted
       (λ sl2 left told. rest sl2 (record {
@@ -529,8 +530,8 @@ module _ (g : AtWork) (d : Depths) where
   )
 
   values_write : (is : List Indices) (hs : List Stood) (xs : List Item) (p pc : ℕ) (sl : Slots) (st : Store) (noted : Noted)
-      → Writable d (joined (map notes_of is)) → HasAt (C g) pc (values_noted kit_ is hs p) → Settled p hs → Holding g sl hs xs → Told kit_ noted sl
-      → Then p (pc + length (values_noted kit_ is hs p)) sl st (each_noted (map noted_by is) (vals xs) noted) → Runs_ g pc sl st
+      → Writable d (joined (map notes_of is)) → HasAt (own_code g) pc (values_noted kit_ is hs p) → Settled p hs → Holding g sl hs xs → Told kit_ noted sl
+      → Then p (pc + length (values_noted kit_ is hs p)) sl st (each_noted (map noted_by is) (vals xs) noted) → RunsOn g pc sl st
   unfolding Writes
   values_write [] [] [] p pc sl st noted wr at_ settled h told rest = quiet [] refl p pc sl st noted told rest
   values_write [] [] (x ∷ xs) p pc sl st noted wr at_ settled h told rest = absurd h
@@ -544,20 +545,20 @@ module _ (g : AtWork) (d : Depths) where
       let c2 : List Instruction = values_noted kit_ is hs p in
       let p1 : ℕ = pc + length c1 in
       let had : Sits g x.val y.typ = subst (λ t. Sits g x.val t) (sym h.0) h.2 in
-      all_write i (writable_front d (notes_of i) (joined (map notes_of is)) wr) y.typ x.val y.place p pc sl st noted (has_front (C g) pc c1 c2 at_) had
+      all_write i (writable_front d (notes_of i) (joined (map notes_of is)) wr) y.typ x.val y.place p pc sl st noted (has_front (own_code g) pc c1 c2 at_) had
       (handy_lasting d.here p y.place settled.0) (held_of c1 (sl (g.name y.place (g.number y.typ)) ≡ x.val) h.1) told
       (λ sl1 left1 told1.
       values_write is hs xs p p1 sl1 st (noted_by i x.val noted) (writable_back d (notes_of i) (joined (map notes_of is)) wr)
-      (has_back (C g) pc c1 c2 p1 refl at_) settled.1 (holding_left p sl sl1 hs xs left1 settled.1 h.3) told1
+      (has_back (own_code g) pc c1 c2 p1 refl at_) settled.1 (holding_left p sl sl1 hs xs left1 settled.1 h.3) told1
       (λ sl2 left2 told2.
       moves g.m g.lets g.hart g.here g.ending (pc + length (c1 ++ c2)) (p1 + length c2) sl2 st (omega (arith, length-append c1 c2))
       (rest sl2 (left_both p sl sl1 sl2 left1 left2) told2)))
 
   tuple_write : (o : Indices-F Indices Reading) (hs : List Stood) (xs : List Item) (p pc : ℕ) (sl : Slots) (st : Store) (noted : Noted)
-      → Writable d (notes_in o) → HasAt (C g) pc (tuple_noted kit_ o hs p) → Settled p hs → Holding g sl hs xs → Told kit_ noted sl
+      → Writable d (notes_in o) → HasAt (own_code g) pc (tuple_noted kit_ o hs p) → Settled p hs → Holding g sl hs xs → Told kit_ noted sl
       → Then p (pc + length (tuple_noted kit_ o hs p)) sl st
       (value_noted (map-Indices Indices Reading Noting Noting noted_by types_noted o) (E.Tuple (vals xs)) noted)
-      → Runs_ g pc sl st
+      → RunsOn g pc sl st
   tuple_write (W.Tuple is) hs xs p pc sl st noted wr at_ settled h told rest = values_write is hs xs p pc sl st noted wr at_ settled h told rest
   tuple_write o hs xs p pc sl st noted wr at_ settled h told rest = quiet [] refl p pc sl st noted told rest
 
@@ -575,19 +576,20 @@ module _ (g : AtWork) (d : Depths) where
       ap notes_of (sym (roll-out-Indices i)) ∙ fold-roll-Indices (List ℕ) (List ℕ) form_notes (λ (r : Reading-F (List ℕ) (List ℕ)). []) (out-Indices i)
 
   arm_writes : (is : List Indices) (hs : List Stood) (xs : List Item) (p pc : ℕ) (sl : Slots) (st : Store) (noted : Noted) → Writable d (all_notes is)
-      → HasAt (C g) pc (arm_noted kit_ is hs p) → Settled p hs → Holding g sl hs xs → Told kit_ noted sl
-      → Then p (pc + length (arm_noted kit_ is hs p)) sl st (noted_by_each is (V.Tuple (vals xs)) noted) → Runs_ g pc sl st
+      → HasAt (own_code g) pc (arm_noted kit_ is hs p) → Settled p hs → Holding g sl hs xs → Told kit_ noted sl
+      → Then p (pc + length (arm_noted kit_ is hs p)) sl st (noted_by_each is (V.Tuple (vals xs)) noted) → RunsOn g pc sl st
   arm_writes [] hs xs p pc sl st noted wr at_ settled h told rest = quiet [] refl p pc sl st noted told rest
   arm_writes (i ∷ is) hs xs p pc sl st noted wr at_ settled h told rest =
       let o : Indices-F Indices Reading = out-Indices i in
       let c1 : List Instruction = tuple_noted kit_ o hs p in
       let c2 : List Instruction = arm_noted kit_ is hs p in
       let p1 : ℕ = pc + length c1 in
-      tuple_write o hs xs p pc sl st noted (subst (Writable d) (notes_out i) (writable_front d (notes_of i) (all_notes is) wr)) (has_front (C g) pc c1 c2 at_)
+      tuple_write o hs xs p pc sl st noted (subst (Writable d) (notes_out i) (writable_front d (notes_of i) (all_notes is) wr))
+      (has_front (own_code g) pc c1 c2 at_)
       settled h told
       (λ sl1 left1 told1.
       arm_writes is hs xs p p1 sl1 st (noted_by i (V.Tuple (vals xs)) noted) (writable_back d (notes_of i) (all_notes is) wr)
-      (has_back (C g) pc c1 c2 p1 refl at_) settled (holding_left p sl sl1 hs xs left1 settled h)
+      (has_back (own_code g) pc c1 c2 p1 refl at_) settled (holding_left p sl sl1 hs xs left1 settled h)
       (subst (λ m. Told kit_ m sl1) (sym (noting_out i (vals xs) noted)) told1)
       (λ sl2 left2 told2.
       moves g.m g.lets g.hart g.here g.ending (pc + length (c1 ++ c2)) (p1 + length c2) sl2 st (omega (arith, length-append c1 c2))
@@ -596,11 +598,11 @@ module _ (g : AtWork) (d : Depths) where
   -- what is matched by an arm, and what its names hold, is noted where it stands
   pub names_good : {A : Type 0} (k j : ℕ) (hs : List Stood) (xs : List Item) (p pc : ℕ) (sl : Slots) (now : Now Item) (piece : Run Item A)
       (K : A → Now Item → Type 0) (H : Value → Now Item → Type 0) (N : Now Item → Type 0) → Writable d (all_notes (g.tables.named k j))
-      → HasAt (C g) pc (arm_noted kit_ (g.tables.named k j) hs p) → Settled p hs → Holding g sl hs xs → Told kit_ now.opened sl
-      → Then_ g.ending (goes_on ((reading g).note (Gives.Arm k j) (V.Tuple (vals xs)) now) (λ t. piece)) K H N
-      → ((more : Noted) (sl2 : Slots) → Left p sl sl2 → Told kit_ more sl2 → Then_ g.ending (piece (record now { opened = more })) K H N
-      → Runs_ g (pc + length (arm_noted kit_ (g.tables.named k j) hs p)) sl2 (bare now))
-      → Runs_ g pc sl (bare now)
+      → HasAt (own_code g) pc (arm_noted kit_ (g.tables.named k j) hs p) → Settled p hs → Holding g sl hs xs → Told kit_ now.opened sl
+      → Followed g.ending (goes_on ((reading g).note (Gives.Arm k j) (V.Tuple (vals xs)) now) (λ t. piece)) K H N
+      → ((more : Noted) (sl2 : Slots) → Left p sl sl2 → Told kit_ more sl2 → Followed g.ending (piece (record now { opened = more })) K H N
+      → RunsOn g (pc + length (arm_noted kit_ (g.tables.named k j) hs p)) sl2 (bare now))
+      → RunsOn g pc sl (bare now)
   names_good k j hs xs p pc sl now piece K H N wr at_ settled holding told th next = by (g.cases.notes (Gives.Arm k j) v now.opened) refl th
     where
       v : Value
@@ -609,8 +611,8 @@ module _ (g : AtWork) (d : Depths) where
       is : List Indices
       is = g.tables.named k j
 
-      by : (o : Option Noted) → g.cases.notes (Gives.Arm k j) v now.opened ≡ o → Then_ g.ending (goes_on (noting o now) (λ t. piece)) K H N
-          → Runs_ g pc sl (bare now)
+      by : (o : Option Noted) → g.cases.notes (Gives.Arm k j) v now.opened ≡ o → Followed g.ending (goes_on (noting o now) (λ t. piece)) K H N
+          → RunsOn g pc sl (bare now)
       by None e z = absurd z
       by (Some more) e z =
           arm_writes is hs xs p pc sl (bare now) now.opened wr at_ settled holding told

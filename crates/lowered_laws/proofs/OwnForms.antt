@@ -1,5 +1,5 @@
 -- The code of single forms sets no labels but its own and its tail's, and none of them twice.
-use Rattle.std.proofs.Common.{◌≡◌, ℕ, ◌+◌, ℤ, List, [], ◌∷◌, ◌++◌, length, map, Option, Some, None}
+use Rattle.std.proofs.Common.{◌≡◌, ℕ, ◌+◌, ℤ, List, [], ◌∷◌, ◌++◌, length, map, Option, Some, None, Bool, true, false, if◌then◌else◌}
 use Rattle.std.proofs.Common.{sym, subst, ap, arith}
 use Rattle.sail_types.specs.declared.numbers.Num.{Num}
 use Rattle.std.proofs.lemmas.Bool.Decides.{nat_tests}
@@ -28,7 +28,7 @@ use Rattle.lowered_pieces.specs.Chains.{by_case, many}
 use Rattle.lowered_laws.specs.CodeLaws.{Own, inside, sets}
 use Rattle.lowered_laws.proofs.Labels.{same, sets_append, inside_more, move_own, retype_own, by_case_own}
 use Rattle.lowered_pieces.specs.Forms.{construct_code, construct_make, Depths, kit_at, enter_code, inner, inside_piece, Stand, Tail, Piece, Maker}
-use Rattle.lowered_pieces.specs.Forms.{Noter, Order, Callees}
+use Rattle.lowered_pieces.specs.Forms.{Noter, Order, Callees, dead, live_code, numbers_of}
 use Rattle.lowered_pieces.specs.Forms.{no_tail, code_of, count_of, higher}
 use Rattle.lowered_pieces.specs.Forms.{picked_in, picked_by}
 use Rattle.lowered_pieces.specs.Forms.{nothing_piece, constant_piece, unit_piece, place_of, number_noted, known_noted, part_noted, parts_noted, form_noted}
@@ -41,6 +41,7 @@ use Rattle.lowered_pieces.specs.Forms.{seq_piece, if_piece, meet_piece, and_piec
 use Rattle.lowered_pieces.specs.Arms.{Held}
 use Rattle.lowered_pieces.specs.Arms.{values_noted, tuple_noted, arm_noted}
 use Rattle.lowered_laws.specs.FormLaws.{OwnTail}
+use Rattle.lowered_pieces.specs.Moves.{retype, sources}
 
 -- ---- labels that are counted on
 
@@ -435,6 +436,13 @@ module _ (kit : Kit) where
 module _ (kit : Kit) (number : Sized → ℕ) where
   -- ---- values by the cases of their nodes
 
+  pub live_bare : (ts : List Sized) (code : List Instruction) (k : ℕ) → sets k code ≡ 0 → sets k (live_code ts code) ≡ 0
+  live_bare ts code k bare = by (dead ts)
+    where
+      by : (b : Bool) → sets k (if b then [] else code) ≡ 0
+      by true = omega arith
+      by false = bare
+
   abbrev pub Plain : Maker kit number → Type 0
   Plain make = (s : Stand) (c : Case) (k : ℕ) → sets k (make s c) ≡ 0
 
@@ -469,10 +477,15 @@ module _ (kit : Kit) (number : Sized → ℕ) where
   source_plain a s c k = omega arith
 
   cast_plain : Plain (cast_make kit number)
-  cast_plain s c k = retype_own kit s.temp (first_type kit number c.takes) (number c.gives) k
+  cast_plain s c k =
+      live_bare c.takes (retype kit s.temp (first_type kit number c.takes) (number c.gives)) k
+      (retype_own kit s.temp (first_type kit number c.takes) (number c.gives) k)
 
   pub work_plain : (op : Operation) (order : Order) → Plain (work_make kit number op order)
-  work_plain op order s c k = omega arith
+  work_plain op order s c k =
+      let i : Instruction = I.Apply (to kit (Temp s.temp) (number c.gives)) op (order (sources kit s.temp (numbers_of kit number c.takes))) in
+      let bare : sets k (i ∷ []) ≡ 0 = omega arith in
+      live_bare c.takes (i ∷ []) k bare
 
   construct_own : (types : Types) (u c n : ℕ) (ts : List Sized) (s : Sized) (k : ℕ) → sets k (construct_code kit number types u c n ts s) ≡ 0
   construct_own types u c n [] s k = omega arith
@@ -480,7 +493,8 @@ module _ (kit : Kit) (number : Sized → ℕ) where
   construct_own types u c n (t ∷ r ∷ ts) s k = omega arith
 
   pub construct_plain : (types : Types) (u c : ℕ) → Plain (construct_make kit number types u c)
-  construct_plain types u c s a k = construct_own types u c s.temp a.takes a.gives k
+  construct_plain types u c s a k =
+      live_bare a.takes (construct_code kit number types u c s.temp a.takes a.gives) k (construct_own types u c s.temp a.takes a.gives k)
 
   answer_plain : (t : ℕ) → Plain (answer_make kit number t)
   answer_plain t s c k = retype_own kit s.temp t (number c.gives) k
@@ -501,7 +515,8 @@ module _ (kit : Kit) (number : Sized → ℕ) where
   met_own : (cases : List Case) (s : Stand) → OwnTail (met_tail kit number cases s)
   met_own cases s u =
       by_case_own picked_in (kit_at kit s.depths) (s.temp + 1) 0 (met_arm kit number u s)
-      (λ c k l. omega (arith, retype_own kit s.temp (number u) (number c.gives) k)) cases
+      (λ c k l.
+      omega (arith, live_bare (u ∷ []) (retype kit s.temp (number u) (number c.gives)) k (retype_own kit s.temp (number u) (number c.gives) k))) cases
 
   again_plain : Plain (again_make kit number)
   again_plain s c k = omega arith

@@ -22,7 +22,7 @@ use Rattle.lowered_pieces.specs.Forms.{Mapped, Piece, Stand, Tail, answer_make, 
 use Rattle.lowered_laws.specs.CodeLaws.{Own, sets}
 use Rattle.lowered_laws.proofs.Labels.{retype_own, sets_append}
 use Rattle.lowered_laws.specs.FormLaws.{OwnTail}
-use Rattle.lowered_laws.proofs.OwnForms.{Owns, Plain, held_own, made_own, own_three, own_two, three_of, two_of, unit_owns}
+use Rattle.lowered_laws.proofs.OwnForms.{Owns, Plain, held_own, made_own, own_three, own_two, three_of, two_of, unit_owns, live_bare}
 
 -- ---- structs with other fields
 
@@ -32,7 +32,8 @@ module _ (kit : Kit) (number : Sized → ℕ) (types : Types) where
   out_bare a j p (t ∷ ts) k = omega (arith, out_bare a (suc j) (p + 1) ts k)
 
   pub with_plain : (is : List ℕ) → Plain kit number (with_make kit number types is)
-  with_plain is s c k = by c.takes
+  with_plain is s c k =
+      live_bare kit number c.takes (with_code kit number types is s.temp c.takes c.gives) k (by c.takes)
     where
       by : (ts : List Sized) → sets k (with_code kit number types is s.temp ts c.gives) ≡ 0
       by [] = omega arith

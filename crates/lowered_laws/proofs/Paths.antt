@@ -28,7 +28,7 @@ use Rattle.model_state.specs.RunState.{RunState}
 use Rattle.checked_meaning.specs.Items.{Item, vals}
 use Rattle.lowered_pieces.specs.Forms.{Piece, in_order, work_piece}
 use Rattle.lowered_pieces.specs.Paths.{way_piece, path_piece}
-use Rattle.lowered_laws.specs.Simulation.{Then_, AtWork, kit, reading, Done, Catches, Fails, Good}
+use Rattle.lowered_laws.specs.Simulation.{Followed, AtWork, kit, reading, Done, Catches, Fails, Good}
 use Rattle.lowered_laws.proofs.Follows.{close_then, onward, open_then, integer_is}
 use Rattle.lowered_laws.proofs.States.{same_good}
 use Rattle.lowered_laws.proofs.Calls.{GoodAll}
@@ -133,7 +133,7 @@ with_slice_value (v ∷ i ∷ j ∷ x ∷ []) =
     and_then (integer_in i) (λ hi. and_then (integer_in j) (λ lo. C.with_slice hi lo (out-Value v) x))
 with_slice_value vs = None
 
-field_worked : (struct i : ℕ) (t : Option ValueType) (vs : List Value) (w : Value) → field_value struct i vs ≡ Some w → worked_out t (O.Field i) vs ≡ Some w
+pub field_worked : (struct i : ℕ) (t : Option ValueType) (vs : List Value) (w : Value) → field_value struct i vs ≡ Some w → worked_out t (O.Field i) vs ≡ Some w
 field_worked struct i t (v ∷ []) w e = field_as struct i (out-Value v) w e
 field_worked struct i t [] w e = none_is w e
 field_worked struct i t (v ∷ u ∷ vs) w e = none_is w e
@@ -236,11 +236,12 @@ then_then (R.Stops cause t) f h = refl
 then_then R.Stuck f h = refl
 
 pub turn_close : (r : Outcome) (ma : Run Item Item) (ms : List (Run Item Item)) (now : Now Item) (K : List Item → Now Item → Type 0)
-    (H : Value → Now Item → Type 0) (N : Now Item → Type 0) → Then_ r (ma now) (λ x t. Then_ r (in_turn ms t) (λ xs u. K (x ∷ xs) u) H N) H N
-    → Then_ r (in_turn (ma ∷ ms) now) K H N
+    (H : Value → Now Item → Type 0) (N : Now Item → Type 0) → Followed r (ma now) (λ x t. Followed r (in_turn ms t) (λ xs u. K (x ∷ xs) u) H N) H N
+    → Followed r (in_turn (ma ∷ ms) now) K H N
 turn_close r ma ms now K H N th =
     close_then r (ma now) (λ x. in_turn ms then λ xs. gives (x ∷ xs)) K H N
-    (onward r (ma now) (λ x t. Then_ r (in_turn ms t) (λ xs u. K (x ∷ xs) u) H N) H N (λ x t. Then_ r ((in_turn ms then λ xs. gives (x ∷ xs)) t) K H N) H N th
+    (onward r (ma now) (λ x t. Followed r (in_turn ms t) (λ xs u. K (x ∷ xs) u) H N) H N (λ x t. Followed r ((in_turn ms then λ xs. gives (x ∷ xs)) t) K H N)
+    H N th
     (λ x t z. close_then r (in_turn ms t) (λ xs. gives (x ∷ xs)) K H N z) (λ v t z. z) (λ t z. z))
 
 pub integer_here : (v : Value) (i : ℤ) → v ≡ V.Integer i → integer_in v ≡ Some i
@@ -264,8 +265,8 @@ module _ (g : AtWork) where
 
   -- a run that is stuck more often
   pub weaker_good : (ma mb : Run Item Item) (p : Piece)
-      → ((now : Now Item) (K : Item → Now Item → Type 0) (H : Value → Now Item → Type 0) (N : Now Item → Type 0) → Then_ g.ending (mb now) K H N
-      → Then_ g.ending (ma now) K H N)
+      → ((now : Now Item) (K : Item → Now Item → Type 0) (H : Value → Now Item → Type 0) (N : Now Item → Type 0) → Followed g.ending (mb now) K H N
+      → Followed g.ending (ma now) K H N)
       → Good g ma p → Good g mb p
   weaker_good ma mb p f good = record {
     run = λ tail s l pc pe ph pf sl now tk end at_ set same wr th.
@@ -284,7 +285,7 @@ module _ (g : AtWork) where
       (λ now K H N th.
       let kont : List Item → Run Item Item = λ xs. needs (field_value struct i (vals xs)) then made (reading g) k xs in
       close_then g.ending (in_turn (me ∷ []) now) kont K H N
-      (turn_close g.ending me [] now (λ xs t. Then_ g.ending (kont xs t) K H N) H N
+      (turn_close g.ending me [] now (λ xs t. Followed g.ending (kont xs t) K H N) H N
       (open_then g.ending (me now) (λ x. taken (reading g) k (field_way struct i) x []) K H N th)))
       (work_good g (O.Field i) in_order (field_value struct i) (works_by (O.Field i) (field_value struct i) (λ t vs s. refl) (field_worked struct i)) k
       (me ∷ [])
@@ -299,21 +300,22 @@ module _ (g : AtWork) where
       (work_piece (kit g) g.number O.Item in_order (g.tables.cases k 2) (g.tables.gives k) (p ∷ a ∷ []))
       (λ now K H N th.
       let kont : List Item → Run Item Item = λ xs. needs (item_value (vals xs)) then made (reading g) k xs in
-      let E2 : List Item → Now Item → Type 0 = λ xs t. Then_ g.ending (kont xs t) K H N in
+      let E2 : List Item → Now Item → Type 0 = λ xs t. Followed g.ending (kont xs t) K H N in
       let last : Item → Item → Run Item Item = λ x y. integer (reading g) y then λ i. taken (reading g) k (item_way i) x (y ∷ []) in
       let index : Item → Run Item Item = λ x. ma then last x in
       close_then g.ending (in_turn (me ∷ ma ∷ []) now) kont K H N
       (turn_close g.ending me (ma ∷ []) now E2 H N
-      (onward g.ending (me now) (λ x t. Then_ g.ending (index x t) K H N) H N (λ x t. Then_ g.ending (in_turn (ma ∷ []) t) (λ xs u. E2 (x ∷ xs) u) H N) H N
+      (onward g.ending (me now) (λ x t. Followed g.ending (index x t) K H N) H N (λ x t. Followed g.ending (in_turn (ma ∷ []) t) (λ xs u. E2 (x ∷ xs) u) H N)
+      H N
       (open_then g.ending (me now) index K H N th)
       (λ x t z.
       turn_close g.ending ma [] t (λ xs u. E2 (x ∷ xs) u) H N
-      (onward g.ending (ma t) (λ y u. Then_ g.ending (last x y u) K H N) H N (λ y u. E2 (x ∷ y ∷ []) u) H N (open_then g.ending (ma t) (last x) K H N z)
+      (onward g.ending (ma t) (λ y u. Followed g.ending (last x y u) K H N) H N (λ y u. E2 (x ∷ y ∷ []) u) H N (open_then g.ending (ma t) (last x) K H N z)
       (λ y u z2.
-      integer_is g.table g.cases g.ending y u (λ i w. Then_ g.ending (taken (reading g) k (item_way i) x (y ∷ []) w) K H N) H N
+      integer_is g.table g.cases g.ending y u (λ i w. Followed g.ending (taken (reading g) k (item_way i) x (y ∷ []) w) K H N) H N
       (open_then g.ending (integer (reading g) y u) (λ i. taken (reading g) k (item_way i) x (y ∷ [])) K H N z2)
       (λ i is z3.
-      subst (λ o. Then_ g.ending (goes_on (needs (and_then o (λ j. C.item j (out-Value x.val))) u) (made (reading g) k (x ∷ y ∷ []))) K H N)
+      subst (λ o. Followed g.ending (goes_on (needs (and_then o (λ j. C.item j (out-Value x.val))) u) (made (reading g) k (x ∷ y ∷ []))) K H N)
       (sym (integer_here y.val i is)) z3))
       (λ v t z. z) (λ t z. z)))
       (λ v t z. z) (λ t z. z))))
@@ -330,29 +332,31 @@ module _ (g : AtWork) where
       (work_piece (kit g) g.number O.Slice in_order (g.tables.cases k 3) (g.tables.gives k) (p ∷ a ∷ b ∷ []))
       (λ now K H N th.
       let kont : List Item → Run Item Item = λ xs. needs (slice_value (vals xs)) then made (reading g) k xs in
-      let E2 : List Item → Now Item → Type 0 = λ xs t. Then_ g.ending (kont xs t) K H N in
+      let E2 : List Item → Now Item → Type 0 = λ xs t. Followed g.ending (kont xs t) K H N in
       close_then g.ending (in_turn (me ∷ ma ∷ mb ∷ []) now) kont K H N
       (turn_close g.ending me (ma ∷ mb ∷ []) now E2 H N
-      (onward g.ending (me now) (λ x t. Then_ g.ending (first x t) K H N) H N
-      (λ x t. Then_ g.ending (in_turn (ma ∷ mb ∷ []) t) (λ xs u. E2 (x ∷ xs) u) H N) H N (open_then g.ending (me now) first K H N th)
+      (onward g.ending (me now) (λ x t. Followed g.ending (first x t) K H N) H N
+      (λ x t. Followed g.ending (in_turn (ma ∷ mb ∷ []) t) (λ xs u. E2 (x ∷ xs) u) H N) H N (open_then g.ending (me now) first K H N th)
       (λ x t z.
       turn_close g.ending ma (mb ∷ []) t (λ xs u. E2 (x ∷ xs) u) H N
-      (onward g.ending (ma t) (λ y u. Then_ g.ending (second x y u) K H N) H N
-      (λ y u. Then_ g.ending (in_turn (mb ∷ []) u) (λ xs w. E2 (x ∷ y ∷ xs) w) H N) H N (open_then g.ending (ma t) (second x) K H N z)
+      (onward g.ending (ma t) (λ y u. Followed g.ending (second x y u) K H N) H N
+      (λ y u. Followed g.ending (in_turn (mb ∷ []) u) (λ xs w. E2 (x ∷ y ∷ xs) w) H N) H N (open_then g.ending (ma t) (second x) K H N z)
       (λ y u z2.
       turn_close g.ending mb [] u (λ xs w. E2 (x ∷ y ∷ xs) w) H N
-      (onward g.ending (mb u) (λ q w. Then_ g.ending (third x y q w) K H N) H N (λ q w. E2 (x ∷ y ∷ q ∷ []) w) H N
+      (onward g.ending (mb u) (λ q w. Followed g.ending (third x y q w) K H N) H N (λ q w. E2 (x ∷ y ∷ q ∷ []) w) H N
       (open_then g.ending (mb u) (third x y) K H N z2)
       (λ q w z3.
-      integer_is g.table g.cases g.ending y w (λ hi n. Then_ g.ending (fourth x y q hi n) K H N) H N
+      integer_is g.table g.cases g.ending y w (λ hi n. Followed g.ending (fourth x y q hi n) K H N) H N
       (open_then g.ending (integer (reading g) y w) (fourth x y q) K H N z3)
       (λ hi is z4.
-      integer_is g.table g.cases g.ending q w (λ lo n. Then_ g.ending (taken (reading g) k (slice_way hi lo) x (y ∷ q ∷ []) n) K H N) H N
+      integer_is g.table g.cases g.ending q w (λ lo n. Followed g.ending (taken (reading g) k (slice_way hi lo) x (y ∷ q ∷ []) n) K H N) H N
       (open_then g.ending (integer (reading g) q w) (λ lo. taken (reading g) k (slice_way hi lo) x (y ∷ q ∷ [])) K H N z4)
       (λ lo is2 z5.
       let value : Option ℤ → Option ℤ → Option Value = λ o n. and_then o (λ h. and_then n (λ c. C.slice h c (out-Value x.val))) in
-      subst (λ o. Then_ g.ending (goes_on (needs (value o (integer_in q.val)) w) (made (reading g) k (x ∷ y ∷ q ∷ []))) K H N) (sym (integer_here y.val hi is))
-      (subst (λ n. Then_ g.ending (goes_on (needs (value (Some hi) n) w) (made (reading g) k (x ∷ y ∷ q ∷ []))) K H N) (sym (integer_here q.val lo is2)) z5))))
+      subst (λ o. Followed g.ending (goes_on (needs (value o (integer_in q.val)) w) (made (reading g) k (x ∷ y ∷ q ∷ []))) K H N)
+      (sym (integer_here y.val hi is))
+      (subst (λ n. Followed g.ending (goes_on (needs (value (Some hi) n) w) (made (reading g) k (x ∷ y ∷ q ∷ []))) K H N) (sym (integer_here q.val lo is2))
+      z5))))
       (λ v t z. z) (λ t z. z)))
       (λ v t z. z) (λ t z. z)))
       (λ v t z. z) (λ t z. z))))
@@ -465,24 +469,24 @@ module _ (g : AtWork) where
       (work_piece (kit g) g.number O.WithItem in_order (g.tables.cases k 3) (g.tables.gives k) (a ∷ b ∷ c ∷ []))
       (λ now K H N th.
       let kont : List Item → Run Item Item = λ xs. needs (with_item_value (vals xs)) then made (reading g) k xs in
-      let E2 : List Item → Now Item → Type 0 = λ xs t. Then_ g.ending (kont xs t) K H N in
+      let E2 : List Item → Now Item → Type 0 = λ xs t. Followed g.ending (kont xs t) K H N in
       close_then g.ending (in_turn (ma ∷ mb ∷ mc ∷ []) now) kont K H N
       (turn_close g.ending ma (mb ∷ mc ∷ []) now E2 H N
-      (onward g.ending (ma now) (λ x t. Then_ g.ending (first x t) K H N) H N
-      (λ x t. Then_ g.ending (in_turn (mb ∷ mc ∷ []) t) (λ xs u. E2 (x ∷ xs) u) H N) H N (open_then g.ending (ma now) first K H N th)
+      (onward g.ending (ma now) (λ x t. Followed g.ending (first x t) K H N) H N
+      (λ x t. Followed g.ending (in_turn (mb ∷ mc ∷ []) t) (λ xs u. E2 (x ∷ xs) u) H N) H N (open_then g.ending (ma now) first K H N th)
       (λ x t z.
       turn_close g.ending mb (mc ∷ []) t (λ xs u. E2 (x ∷ xs) u) H N
-      (onward g.ending (mb t) (λ y u. Then_ g.ending (second x y u) K H N) H N
-      (λ y u. Then_ g.ending (in_turn (mc ∷ []) u) (λ xs w. E2 (x ∷ y ∷ xs) w) H N) H N (open_then g.ending (mb t) (second x) K H N z)
+      (onward g.ending (mb t) (λ y u. Followed g.ending (second x y u) K H N) H N
+      (λ y u. Followed g.ending (in_turn (mc ∷ []) u) (λ xs w. E2 (x ∷ y ∷ xs) w) H N) H N (open_then g.ending (mb t) (second x) K H N z)
       (λ y u z2.
-      integer_is g.table g.cases g.ending y u (λ i w. Then_ g.ending (third x y i w) K H N) H N
+      integer_is g.table g.cases g.ending y u (λ i w. Followed g.ending (third x y i w) K H N) H N
       (open_then g.ending (integer (reading g) y u) (third x y) K H N z2)
       (λ i is z3.
       turn_close g.ending mc [] u (λ xs w. E2 (x ∷ y ∷ xs) w) H N
-      (onward g.ending (mc u) (λ q w. Then_ g.ending (put (reading g) k (item_way i) x (y ∷ []) q w) K H N) H N (λ q w. E2 (x ∷ y ∷ q ∷ []) w) H N
+      (onward g.ending (mc u) (λ q w. Followed g.ending (put (reading g) k (item_way i) x (y ∷ []) q w) K H N) H N (λ q w. E2 (x ∷ y ∷ q ∷ []) w) H N
       (open_then g.ending (mc u) (put (reading g) k (item_way i) x (y ∷ [])) K H N z3)
       (λ q w z4.
-      subst (λ o. Then_ g.ending (goes_on (needs (and_then o (λ j. C.with_item j (out-Value x.val) q.val)) w) (made (reading g) k (x ∷ y ∷ q ∷ []))) K H N)
+      subst (λ o. Followed g.ending (goes_on (needs (and_then o (λ j. C.with_item j (out-Value x.val) q.val)) w) (made (reading g) k (x ∷ y ∷ q ∷ []))) K H N)
       (sym (integer_here y.val i is)) z4)
       (λ v t z. z) (λ t z. z))))
       (λ v t z. z) (λ t z. z)))
@@ -510,34 +514,35 @@ module _ (g : AtWork) where
       (work_piece (kit g) g.number O.WithSlice in_order (g.tables.cases k 4) (g.tables.gives k) (a ∷ b ∷ c ∷ d ∷ []))
       (λ now K H N th.
       let kont : List Item → Run Item Item = λ xs. needs (with_slice_value (vals xs)) then made (reading g) k xs in
-      let E2 : List Item → Now Item → Type 0 = λ xs t. Then_ g.ending (kont xs t) K H N in
+      let E2 : List Item → Now Item → Type 0 = λ xs t. Followed g.ending (kont xs t) K H N in
       close_then g.ending (in_turn (ma ∷ mb ∷ mc ∷ md ∷ []) now) kont K H N
       (turn_close g.ending ma (mb ∷ mc ∷ md ∷ []) now E2 H N
-      (onward g.ending (ma now) (λ x t. Then_ g.ending (first x t) K H N) H N
-      (λ x t. Then_ g.ending (in_turn (mb ∷ mc ∷ md ∷ []) t) (λ xs u. E2 (x ∷ xs) u) H N) H N (open_then g.ending (ma now) first K H N th)
+      (onward g.ending (ma now) (λ x t. Followed g.ending (first x t) K H N) H N
+      (λ x t. Followed g.ending (in_turn (mb ∷ mc ∷ md ∷ []) t) (λ xs u. E2 (x ∷ xs) u) H N) H N (open_then g.ending (ma now) first K H N th)
       (λ x t z.
       turn_close g.ending mb (mc ∷ md ∷ []) t (λ xs u. E2 (x ∷ xs) u) H N
-      (onward g.ending (mb t) (λ y u. Then_ g.ending (second x y u) K H N) H N
-      (λ y u. Then_ g.ending (in_turn (mc ∷ md ∷ []) u) (λ xs w. E2 (x ∷ y ∷ xs) w) H N) H N (open_then g.ending (mb t) (second x) K H N z)
+      (onward g.ending (mb t) (λ y u. Followed g.ending (second x y u) K H N) H N
+      (λ y u. Followed g.ending (in_turn (mc ∷ md ∷ []) u) (λ xs w. E2 (x ∷ y ∷ xs) w) H N) H N (open_then g.ending (mb t) (second x) K H N z)
       (λ y u z2.
       turn_close g.ending mc (md ∷ []) u (λ xs w. E2 (x ∷ y ∷ xs) w) H N
-      (onward g.ending (mc u) (λ q w. Then_ g.ending (third x y q w) K H N) H N
-      (λ q w. Then_ g.ending (in_turn (md ∷ []) w) (λ xs n. E2 (x ∷ y ∷ q ∷ xs) n) H N) H N (open_then g.ending (mc u) (third x y) K H N z2)
+      (onward g.ending (mc u) (λ q w. Followed g.ending (third x y q w) K H N) H N
+      (λ q w. Followed g.ending (in_turn (md ∷ []) w) (λ xs n. E2 (x ∷ y ∷ q ∷ xs) n) H N) H N (open_then g.ending (mc u) (third x y) K H N z2)
       (λ q w z3.
-      integer_is g.table g.cases g.ending y w (λ hi n. Then_ g.ending (fourth x y q hi n) K H N) H N
+      integer_is g.table g.cases g.ending y w (λ hi n. Followed g.ending (fourth x y q hi n) K H N) H N
       (open_then g.ending (integer (reading g) y w) (fourth x y q) K H N z3)
       (λ hi is z4.
-      integer_is g.table g.cases g.ending q w (λ lo n. Then_ g.ending (fifth x y q hi lo n) K H N) H N
+      integer_is g.table g.cases g.ending q w (λ lo n. Followed g.ending (fifth x y q hi lo n) K H N) H N
       (open_then g.ending (integer (reading g) q w) (fifth x y q hi) K H N z4)
       (λ lo is2 z5.
       turn_close g.ending md [] w (λ xs n. E2 (x ∷ y ∷ q ∷ xs) n) H N
-      (onward g.ending (md w) (λ e n. Then_ g.ending (put (reading g) k (slice_way hi lo) x (y ∷ q ∷ []) e n) K H N) H N (λ e n. E2 (x ∷ y ∷ q ∷ e ∷ []) n) H N
+      (onward g.ending (md w) (λ e n. Followed g.ending (put (reading g) k (slice_way hi lo) x (y ∷ q ∷ []) e n) K H N) H N
+      (λ e n. E2 (x ∷ y ∷ q ∷ e ∷ []) n) H N
       (open_then g.ending (md w) (put (reading g) k (slice_way hi lo) x (y ∷ q ∷ [])) K H N z5)
       (λ e n z6.
       let value : Option ℤ → Option ℤ → Option Value = λ o m. and_then o (λ h. and_then m (λ l. C.with_slice h l (out-Value x.val) e.val)) in
-      subst (λ o. Then_ g.ending (goes_on (needs (value o (integer_in q.val)) n) (made (reading g) k (x ∷ y ∷ q ∷ e ∷ []))) K H N)
+      subst (λ o. Followed g.ending (goes_on (needs (value o (integer_in q.val)) n) (made (reading g) k (x ∷ y ∷ q ∷ e ∷ []))) K H N)
       (sym (integer_here y.val hi is))
-      (subst (λ m. Then_ g.ending (goes_on (needs (value (Some hi) m) n) (made (reading g) k (x ∷ y ∷ q ∷ e ∷ []))) K H N)
+      (subst (λ m. Followed g.ending (goes_on (needs (value (Some hi) m) n) (made (reading g) k (x ∷ y ∷ q ∷ e ∷ []))) K H N)
       (sym (integer_here q.val lo is2)) z6))
       (λ v t z. z) (λ t z. z)))))
       (λ v t z. z) (λ t z. z)))

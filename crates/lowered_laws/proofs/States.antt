@@ -19,8 +19,8 @@ use Rattle.checked_meaning.specs.Checked.{Noted}
 use Rattle.sized_meanings.specs.Present.{present}
 use Rattle.jib.specs.declared.code.Instruction.{Instruction}
 use Rattle.lowered_pieces.specs.Forms.{Named, Depths, kit_at, Stand, Tail, Piece, no_tail, code_of}
-use Rattle.lowered_laws.specs.Simulation.{bare, Then_, AtWork, kit, C, Runs_, lower, Low, Writable, Holds, Passed, Same, After, Done, Catches, Sits}
-use Rattle.lowered_laws.specs.Simulation.{Fails, Set}
+use Rattle.lowered_laws.specs.Simulation.{bare, Followed, AtWork, kit, own_code, RunsOn, lower, Low, Writable, Holds, Passed, Same, After, Done, Catches, Sits}
+use Rattle.lowered_laws.specs.Simulation.{Fails, LabelsStand}
 use Rattle.lowered_laws.specs.Simulation.{Good}
 use Rattle.lowered_laws.proofs.Follows.{onward}
 
@@ -87,10 +87,10 @@ module _ (g : AtWork) where
   -- the code of the case that is present is run
   pub case_good : {A : Type 0} (picks : A → List Picked) (d : Depths) (p q : ℕ) (arm : A → ℕ → List Instruction) (noted : Noted) (s : Store) (k : A)
       (us : List A) (l pc pe : ℕ) (sl : Slots) → present picks noted us ≡ Some k → Told (kit_at (kit g) d) noted sl
-      → pe ≡ pc + length (by_case picks (kit_at (kit g) d) p q arm l us) → HasAt (C g) pc (by_case picks (kit_at (kit g) d) p q arm l us)
-      → ((l' pc' : ℕ) (sl' : Slots) → Tested (kit g) p sl sl' → HasAt (C g) pc' (arm k l')
-      → ((sl2 : Slots) (s2 : Store) → Runs_ g pe sl2 s2 → Runs_ g (pc' + length (arm k l')) sl2 s2) → Runs_ g pc' sl' s)
-      → Runs_ g pc sl s
+      → pe ≡ pc + length (by_case picks (kit_at (kit g) d) p q arm l us) → HasAt (own_code g) pc (by_case picks (kit_at (kit g) d) p q arm l us)
+      → ((l' pc' : ℕ) (sl' : Slots) → Tested (kit g) p sl sl' → HasAt (own_code g) pc' (arm k l')
+      → ((sl2 : Slots) (s2 : Store) → RunsOn g pe sl2 s2 → RunsOn g (pc' + length (arm k l')) sl2 s2) → RunsOn g pc' sl' s)
+      → RunsOn g pc sl s
   case_good picks d p q arm noted s k us l pc pe sl there told end at_ run =
       by_case_good g.m g.lets g.hart g.here g.ending (kit_at (kit g) d) (types_at d) (names_at (kit g) (slots_of g.m g.here.function) g.names d) g.slots picks
       p q arm noted s k us l pc pe sl there told end at_ (λ l' pc' sl' td hp out. run l' pc' sl' (record { others = td.others }) hp out)
@@ -234,7 +234,7 @@ module _ (g : AtWork) where
 
   pub record Lands (d : Depths) (scope : List Named) (pe n : ℕ) (sl : Slots) (now : Now Item) (x : Item) (t : Now Item) : Type 0 where
     pub by : (sl' : Slots) → After g d scope n sl now sl' t → sl' (g.name (Temp n) (g.number x.typ)) ≡ x.val
-        → Sits g x.val x.typ → Runs_ g pe sl' (bare t)
+        → Sits g x.val x.typ → RunsOn g pe sl' (bare t)
 
   -- where a value stays in hand
   pub landed : (s : Stand) (pe : ℕ) (sl : Slots) (now : Now Item) (x : Item) (t : Now Item) → Lands s.depths s.scope pe s.temp sl now x t
@@ -244,11 +244,11 @@ module _ (g : AtWork) where
   }
 
   pub held_good : (me : Run Item Item) (p : Piece) → Good g me p → (s : Stand) (l pc pe ph pf : ℕ) (sl : Slots) (now : Now Item) → now.ticks < g.depth
-      → pe ≡ pc + length (code_of p s l) → HasAt (C g) pc (code_of p s l) → Set g s ph pf → Same g s.depths s.scope s.temp sl now
+      → pe ≡ pc + length (code_of p s l) → HasAt (own_code g) pc (code_of p s l) → LabelsStand g s ph pf → Same g s.depths s.scope s.temp sl now
       → Writable s.depths p.notes
-      → Then_ g.ending (me now) (Lands s.depths s.scope pe s.temp sl now) (Catches g s.depths s.scope ph s.temp sl now)
+      → Followed g.ending (me now) (Lands s.depths s.scope pe s.temp sl now) (Catches g s.depths s.scope ph s.temp sl now)
       (Fails g s.depths s.scope pf s.temp sl now)
-      → Runs_ g pc sl (bare now)
+      → RunsOn g pc sl (bare now)
   held_good me p good s l pc pe ph pf sl now tk end at_ set same wr th =
       let H = Catches g s.depths s.scope ph s.temp sl now in
       let N = Fails g s.depths s.scope pf s.temp sl now in
@@ -267,14 +267,14 @@ module _ (g : AtWork) where
   -- what may follow, seen from further on
   pub via : {A : Type 0} (d : Depths) (scope : List Named) (ph pf n k : ℕ) (sl sl1 : Slots) (now now1 : Now Item) (o : R.Ended Item A)
       (K K' : A → Now Item → Type 0) → n ≤ k → After g d scope n sl now sl1 now1
-      → Then_ g.ending o K (Catches g d scope ph n sl now) (Fails g d scope pf n sl now) → ((x : A) (t : Now Item) → K x t → K' x t)
-      → Then_ g.ending o K' (Catches g d scope ph k sl1 now1) (Fails g d scope pf k sl1 now1)
+      → Followed g.ending o K (Catches g d scope ph n sl now) (Fails g d scope pf n sl now) → ((x : A) (t : Now Item) → K x t → K' x t)
+      → Followed g.ending o K' (Catches g d scope ph k sl1 now1) (Fails g d scope pf k sl1 now1)
   via d scope ph pf n k sl sl1 now now1 o K K' le a th f =
       onward g.ending o K (Catches g d scope ph n sl now) (Fails g d scope pf n sl now) K' (Catches g d scope ph k sl1 now1) (Fails g d scope pf k sl1 now1)
       th f (catch_on d scope ph n k sl sl1 now now1 le a) (fail_on d scope pf n k sl sl1 now now1 le a)
 
   pub done_on : (tail : Tail) (s : Stand) (pe p : ℕ) (sl sl1 : Slots) (now now1 : Now Item) → After g s.depths s.scope s.temp sl now sl1 now1
-      → ((sl2 : Slots) (s2 : Store) → Runs_ g pe sl2 s2 → Runs_ g p sl2 s2) → (x : Item) (t : Now Item) → Done g tail s pe sl now x t
+      → ((sl2 : Slots) (s2 : Store) → RunsOn g pe sl2 s2 → RunsOn g p sl2 s2) → (x : Item) (t : Now Item) → Done g tail s pe sl now x t
       → Done g tail s p sl1 now1 x t
   done_on tail s pe p sl sl1 now now1 a w x t z = record {
     by = λ sl2 l q b e had hp out. z.by sl2 l q (after_both s.depths s.scope s.temp s.temp sl sl1 sl2 now now1 t (omega arith) a b) e had hp
@@ -286,12 +286,12 @@ module _ (g : AtWork) where
   same_good ma mb p e good = record {
     run = λ tail s l pc pe ph pf sl now tk end at_ set same wr th.
         good.run tail s l pc pe ph pf sl now tk end at_ set same wr
-        (subst (λ o. Then_ g.ending o (Done g tail s pe sl now) (Catches g s.depths s.scope ph s.temp sl now) (Fails g s.depths s.scope pf s.temp sl now))
+        (subst (λ o. Followed g.ending o (Done g tail s pe sl now) (Catches g s.depths s.scope ph s.temp sl now) (Fails g s.depths s.scope pf s.temp sl now))
         (sym (e now)) th);
   }
 
   -- the same at another end
-  pub done_at : (tail : Tail) (s : Stand) (pe p : ℕ) (sl : Slots) (now : Now Item) → ((sl2 : Slots) (s2 : Store) → Runs_ g pe sl2 s2 → Runs_ g p sl2 s2)
+  pub done_at : (tail : Tail) (s : Stand) (pe p : ℕ) (sl : Slots) (now : Now Item) → ((sl2 : Slots) (s2 : Store) → RunsOn g pe sl2 s2 → RunsOn g p sl2 s2)
       → (x : Item) (t : Now Item) → Done g tail s pe sl now x t → Done g tail s p sl now x t
   done_at tail s pe p sl now w x t z =
       record { by = λ sl2 l q k e had hp out. z.by sl2 l q k e had hp (λ sl3 s3 y. out sl3 s3 (w sl3 s3 y)) }

@@ -30,7 +30,7 @@ use Rattle.lowered_laws.specs.Standing.{HasAt, Tested}
 use Rattle.lowered_laws.proofs.Facts.{put_same, tested_here, tested_both, tested_less, tested_put, here_not}
 use Rattle.lowered_laws.proofs.Steps.{go, moves, computed}
 use Rattle.lowered_pieces.specs.Arms.{Held, Taking, takes_code, takes_held, item_take, vector_takes, head_taken}
-use Rattle.lowered_laws.specs.Simulation.{bare, Then_, AtWork, kit, C, reading, Runs_, Settled, Holding, Sits}
+use Rattle.lowered_laws.specs.Simulation.{bare, Followed, AtWork, kit, own_code, reading, RunsOn, Settled, Holding, Sits}
 use Rattle.lowered_laws.proofs.Follows.{no}
 use Rattle.lowered_laws.proofs.States.{Is}
 use Rattle.lowered_laws.proofs.Had.{fits_as_form, in_types}
@@ -77,10 +77,10 @@ module _ (g : AtWork) where
   Takes h hv t ks ys = ⊥
 
   pub takes_run : (ks : List Taking) (ys : List Item) (h : Held) (x : Item) (q pc : ℕ) (sl : Slots) (t : Now Item) → HeldIs g q sl h x
-      → Takes h x.val t ks ys → HasAt (C g) pc (takes_code g.table (kit g) ks q)
+      → Takes h x.val t ks ys → HasAt (own_code g) pc (takes_code g.table (kit g) ks q)
       → ((sl2 : Slots) → Tested (kit g) q sl sl2 → Holding g sl2 (takes_held g.table (kit g) ks q) ys
-      → Settled (q + length ks) (takes_held g.table (kit g) ks q) → Runs_ g (pc + length (takes_code g.table (kit g) ks q)) sl2 (bare t))
-      → Runs_ g pc sl (bare t)
+      → Settled (q + length ks) (takes_held g.table (kit g) ks q) → RunsOn g (pc + length (takes_code g.table (kit g) ks q)) sl2 (bare t))
+      → RunsOn g pc sl (bare t)
   takes_run [] [] h x q pc sl t held all at_ next =
       moves g.m g.lets g.hart g.here g.ending (pc + 0) pc sl (bare t) (omega arith) (next sl (tested_here (kit g) q sl) tt tt)
   takes_run [] (y ∷ ys) h x q pc sl t held all at_ next = absurd all
@@ -159,14 +159,14 @@ module _ (g : AtWork) where
   pub vector_runs : (k q fail : ℕ) (h : Held) → HeadBy g (head_taken g.table (kit g) h H.Vector k q fail) q fail h H.Vector k
   vector_runs k q fail h x pc pf sl t nu K Hx N held at_ hl th next failed = by (out-Value x.val) refl th
     where
-      by : (o : Value-F Value) → out-Value x.val ≡ o → Then_ g.ending (as_run (so_many k (opened (reading g) nu H.Vector k x o)) t) K Hx N
-          → Runs_ g pc sl (bare t)
+      by : (o : Value-F Value) → out-Value x.val ≡ o → Followed g.ending (as_run (so_many k (opened (reading g) nu H.Vector k x o)) t) K Hx N
+          → RunsOn g pc sl (bare t)
       by (E.Vector vs) e z = counted (nat_eq (length ys) k) refl z
         where
           ys : List Item
           ys = items (reading g) x (reverse vs)
 
-          counted : (b : Bool) → nat_eq (length ys) k ≡ b → Then_ g.ending (as_run (if b then Parts ys else Wrong) t) K Hx N → Runs_ g pc sl (bare t)
+          counted : (b : Bool) → nat_eq (length ys) k ≡ b → Followed g.ending (as_run (if b then Parts ys else Wrong) t) K Hx N → RunsOn g pc sl (bare t)
           counted false c y = absurd y
           counted true c y =
               let len : length (reverse vs) ≡ k = sym (length-map (reverse vs) ((reading g).part one_item x)) ∙ eqb-true (length ys) k c in

@@ -20,7 +20,8 @@ use Rattle.lowered_pieces.specs.Forms.{End, Stand, Tail, Piece, all_notes, caugh
 use Rattle.lowered_pieces.specs.Forms.{source_make}
 use Rattle.lowered_pieces.specs.Arms.{Choice, Held, Matched, arms_lowered, caught_piece, choices, first_piece, in_hand, picked_of, places_of, raised_piece}
 use Rattle.lowered_pieces.specs.Arms.{throw_here, thrown_code, try_piece}
-use Rattle.lowered_laws.specs.Simulation.{bare, Then_, AtWork, kit, C, reading, Runs_, Writable, Holding, After, Done, Catches, Fails, Set, Good, GoodOn}
+use Rattle.lowered_laws.specs.Simulation.{bare, Followed, AtWork, kit, own_code, reading, RunsOn, Writable}
+use Rattle.lowered_laws.specs.Simulation.{Holding, After, Done, Catches, Fails, LabelsStand, Good, GoodOn}
 use Rattle.lowered_pieces.specs.Chains.{by_case}
 use Rattle.lowered_laws.proofs.Follows.{onward, open_then}
 use Rattle.lowered_laws.proofs.States.{Is, after_here, after_raised, after_tested, after_time, case_good, catch_on, done_at, done_on, fail_on, landed}
@@ -33,7 +34,7 @@ use Rattle.lowered_laws.proofs.Calls.{GoodAll}
 use Rattle.lowered_laws.proofs.Arms.{Fit, first_on, matches_here}
 
 open_caught : {A : Type 0} (r : Outcome) (o : Ended Item A) (k : Value → Run Item A) (K : A → Now Item → Type 0) (H : Value → Now Item → Type 0)
-    (N : Now Item → Type 0) → Then_ r (caught o k) K H N → Then_ r o K (λ v t. Then_ r (k v t) K H N) N
+    (N : Now Item → Type 0) → Followed r (caught o k) K H N → Followed r o K (λ v t. Followed r (k v t) K H N) N
 open_caught r (R.Gives x t) k K H N z = z
 open_caught r (R.No t) k K H N z = z
 open_caught r (R.Returns v t) k K H N z = z
@@ -43,8 +44,8 @@ open_caught r R.Stuck k K H N z = z
 
 -- where a piece without what was opened in it throws, all is opened as before
 thrown_resets : {A : Type 0} (opened : ℕ → Option ℤ) (r : Outcome) (o : Ended Item A) (K : A → Now Item → Type 0) (H : Value → Now Item → Type 0)
-    (N : Now Item → Type 0) → Then_ r (leaving (λ after. record after { opened = opened }) o) K H N
-    → Then_ r (leaving (λ after. record after { opened = opened }) o) K (λ v t. H v t × (t.opened ≡ opened)) N
+    (N : Now Item → Type 0) → Followed r (leaving (λ after. record after { opened = opened }) o) K H N
+    → Followed r (leaving (λ after. record after { opened = opened }) o) K (λ v t. H v t × (t.opened ≡ opened)) N
 thrown_resets opened r (R.Gives x t) K H N z = z
 thrown_resets opened r (R.No t) K H N z = z
 thrown_resets opened r (R.Returns v t) K H N z = z
@@ -57,10 +58,10 @@ module _ (g : AtWork) where
 
   -- it is the one value in hand
   thrown_good : (hs : List Held) (x : Item) (v : Value) (s : Stand) (ph pc pn q : ℕ) (sl sl1 : Slots) (now : Now Item) → x.val ≡ v
-      → After g s.depths s.scope s.temp sl now sl1 now → Holding g sl1 hs (x ∷ []) → HasAt (C g) pc (thrown_code g.table (kit g) hs)
-      → ((sl2 : Slots) (s2 : Store) → Runs_ g pn sl2 s2 → Runs_ g (pc + length (thrown_code g.table (kit g) hs)) sl2 s2)
-      → ((sl2 : Slots) → After g s.depths s.scope s.temp sl now sl2 now → sl2 (g.name Raised g.exception) ≡ v → Runs_ g pn sl2 (bare now))
-      → Runs_ g pc sl1 (bare now)
+      → After g s.depths s.scope s.temp sl now sl1 now → Holding g sl1 hs (x ∷ []) → HasAt (own_code g) pc (thrown_code g.table (kit g) hs)
+      → ((sl2 : Slots) (s2 : Store) → RunsOn g pn sl2 s2 → RunsOn g (pc + length (thrown_code g.table (kit g) hs)) sl2 s2)
+      → ((sl2 : Slots) → After g s.depths s.scope s.temp sl now sl2 now → sl2 (g.name Raised g.exception) ≡ v → RunsOn g pn sl2 (bare now))
+      → RunsOn g pc sl1 (bare now)
   thrown_good [] x v s ph pc pn q sl sl1 now e k holding at_ out on = absurd holding
   thrown_good (h ∷ d ∷ hs) x v s ph pc pn q sl sl1 now e k holding at_ out on = absurd holding.3
   thrown_good (h ∷ []) x v s ph pc pn q sl sl1 now e k holding at_ out on =
@@ -82,8 +83,8 @@ module _ (g : AtWork) where
         let c1 : List Instruction = by_case picked_of (kit_at (kit g) s.depths) q 0 each l cs in
         let c2 : List Instruction = I.Goto s.on_throw ∷ [] in
         let p1 : ℕ = pc + length c1 in
-        let h2 : HasAt (C g) p1 c2 = has_back (C g) pc c1 c2 p1 refl at_ in
-        case_good g picked_of s.depths q 0 each now.opened (bare now) mt.choice cs l pc p1 sl mt.there same.noted refl (has_front (C g) pc c1 c2 at_)
+        let h2 : HasAt (own_code g) p1 c2 = has_back (own_code g) pc c1 c2 p1 refl at_ in
+        case_good g picked_of s.depths q 0 each now.opened (bare now) mt.choice cs l pc p1 sl mt.there same.noted refl (has_front (own_code g) pc c1 c2 at_)
         (λ l1 pc1 sl1 td hp out.
         thrown_good mt.choice.values x v s ph pc1 p1 q sl sl1 now e
         (after_tested g s.depths s.scope s.temp sl sl sl1 now now (tested_less (kit g) s.temp q sl sl1 (omega arith) td)
@@ -113,11 +114,11 @@ module _ (g : AtWork) where
 
     caught_good : (tail : Tail) (s : Stand) (l pc pe ph pf : ℕ) (sl sl1 : Slots) (now t : Now Item) (v : Value) → now.ticks < g.depth
         → pe ≡ pc + length ((caught_piece g.table (kit g) (g.tables.cases k 0) is (g.tables.named k) arms bs).ended tail s l)
-        → HasAt (C g) pc ((caught_piece g.table (kit g) (g.tables.cases k 0) is (g.tables.named k) arms bs).ended tail s l) → Set g s ph pf
+        → HasAt (own_code g) pc ((caught_piece g.table (kit g) (g.tables.cases k 0) is (g.tables.named k) arms bs).ended tail s l) → LabelsStand g s ph pf
         → Writable s.depths (all_notes is ++ first.notes) → After g s.depths s.scope s.temp sl now sl1 t → sl1 (g.name Raised g.exception) ≡ v
-        → Then_ g.ending ((made (reading g) k [] v then takes v) t) (Done g tail s pe sl now) (Catches g s.depths s.scope ph s.temp sl now)
+        → Followed g.ending ((made (reading g) k [] v then takes v) t) (Done g tail s pe sl now) (Catches g s.depths s.scope ph s.temp sl now)
         (Fails g s.depths s.scope pf s.temp sl now)
-        → Runs_ g pc sl1 (bare t)
+        → RunsOn g pc sl1 (bare t)
     caught_good tail s l pc pe ph pf sl sl1 now t v tk end at_ set wr k1 e th =
         let n : ℕ = s.temp in
         let lb : ℕ = l + count_of raised in
@@ -127,10 +128,10 @@ module _ (g : AtWork) where
         let D = Done g tail s pe sl now in
         let H = Catches g s.depths s.scope ph n sl now in
         let N = Fails g s.depths s.scope pf n sl now in
-        let K1 : Item → Now Item → Type 0 = λ x u. Then_ g.ending (takes v x u) D H N in
+        let K1 : Item → Now Item → Type 0 = λ x u. Followed g.ending (takes v x u) D H N in
         let Q : Item → Now Item → Type 0 = λ x u. (x.val ≡ v) × EndsIn ends x u.opened in
         made_good g 0 k [] v (source_make (kit g) g.number (from (kit g) Raised g.exception)) no_tail s l pc p1 sl sl1 now t H N
-        (writable_front s.depths (all_notes is) first.notes wr) refl (has_front (C g) pc c1 c2 at_) k1
+        (writable_front s.depths (all_notes is) first.notes wr) refl (has_front (own_code g) pc c1 c2 at_) k1
         (onward g.ending (made (reading g) k [] v t) (λ x u. K1 x u × Q x u) H N (Done g no_tail s p1 sl now) H N
         (then_gives g.ending (made (reading g) k [] v t) Q K1 H N (made_valued g k 0 [] v refl said t)
         (open_then g.ending (made (reading g) k [] v t) (takes v) D H N th))
@@ -140,7 +141,8 @@ module _ (g : AtWork) where
           by = λ sl2 k2 e2 had2.
               (first_on g w k (in_hand ends) (x ∷ []) arms ms bs (throws v) (throw_here g.table (kit g) (in_hand ends)) lowered all
               (throw_on (in_hand ends) x v y.1.0)).run
-              tail s lb p1 pe ph pf sl2 u (omega (arith, k2.fewer, tk)) (omega (arith, end, length-append c1 c2)) (has_back (C g) pc c1 c2 p1 refl at_) set
+              tail s lb p1 pe ph pf sl2 u (omega (arith, k2.fewer, tk)) (omega (arith, end, length-append c1 c2))
+              (has_back (own_code g) pc c1 c2 p1 refl at_) set
               k2.same (writable_back s.depths (all_notes is) first.notes wr) (matches_here g n ends x sl2 u.opened y.1.1 e2 had2)
               (onward g.ending (takes v x u) D H N (Done g tail s pe sl2 u) (Catches g s.depths s.scope ph n sl2 u)
               (Fails g s.depths s.scope pf (n + 1) sl2 u) y.0
@@ -176,18 +178,18 @@ module _ (g : AtWork) where
           let t2 : List Instruction = I.Goto (l + 1) ∷ I.Label l ∷ (c2 ++ t3) in
           let p1 : ℕ = pc + length c1 in
           let p2 : ℕ = p1 + 1 + 1 + length c2 in
-          let h1 : HasAt (C g) p1 t2 = has_back (C g) pc c1 t2 p1 refl at_ in
-          let h2 : HasAt (C g) p2 t3 = has_back (C g) (p1 + 1 + 1) c2 t3 p2 refl h1.1.1 in
+          let h1 : HasAt (own_code g) p1 t2 = has_back (own_code g) pc c1 t2 p1 refl at_ in
+          let h2 : HasAt (own_code g) p2 t3 = has_back (own_code g) (p1 + 1 + 1) c2 t3 p2 refl h1.1.1 in
           let behind : p2 + 1 ≡ pe = omega (arith, end, length-append c1 t2, length-append c2 t3) in
           let D = Done g tail s pe sl now in
           let H = Catches g s.depths s.scope ph n sl now in
           let N = Fails g s.depths s.scope pf n sl now in
           let kont : Value → Run Item Item = λ v after. (made (reading g) k [] v then takes v) ((reading g).back now after) in
-          let E : Value → Now Item → Type 0 = λ v t. Then_ g.ending (kont v t) D H N in
-          let finish : (sl2 : Slots) (s2 : Store) → Runs_ g pe sl2 s2 → Runs_ g p2 sl2 s2 =
+          let E : Value → Now Item → Type 0 = λ v t. Followed g.ending (kont v t) D H N in
+          let finish : (sl2 : Slots) (s2 : Store) → RunsOn g pe sl2 s2 → RunsOn g p2 sl2 s2 =
           λ sl2 s2 z. past g.m g.lets g.hart g.here g.ending p2 (l + 1) sl2 s2 h2.0
           (moves g.m g.lets g.hart g.here g.ending pe (p2 + 1) sl2 s2 (sym behind) z) in
-          (inside_good g ma a ga).run tail r (l + 2) pc p1 (p1 + 1) pf sl now tk refl (has_front (C g) pc c1 t2 at_)
+          (inside_good g ma a ga).run tail r (l + 2) pc p1 (p1 + 1) pf sl now tk refl (has_front (own_code g) pc c1 t2 at_)
           (record { throws = h1.1.0; fails = set.fails }) same tt
           (onward g.ending ((reading g).inside ma now) D (λ v t. E v t × (t.opened ≡ now.opened)) N (Done g tail r p1 sl now)
           (Catches g s.depths s.scope (p1 + 1) n sl now) N
@@ -203,7 +205,7 @@ module _ (g : AtWork) where
                 let t1 : Now Item = (reading g).back now t in
                 let k3 : After g s.depths s.scope n sl now sl2 t1 = after_time g s.depths s.scope n sl sl2 now t t1 refl (sym z.1) (omega arith) k2 in
                 past g.m g.lets g.hart g.here g.ending (p1 + 1) l sl2 (bare t) h1.1.0
-                (caught_good tail s lb (p1 + 1 + 1) p2 ph pf sl sl2 now t1 v tk refl (has_front (C g) (p1 + 1 + 1) c2 t3 h1.1.1) set wr k3 e2
+                (caught_good tail s lb (p1 + 1 + 1) p2 ph pf sl sl2 now t1 v tk refl (has_front (own_code g) (p1 + 1 + 1) c2 t3 h1.1.1) set wr k3 e2
                 (onward g.ending ((made (reading g) k [] v then takes v) t1) D H N (Done g tail s p2 sl now) H N z.0 (done_at g tail s pe p2 sl now finish)
                 (λ c u y. y) (λ u y. y)));
           })

@@ -20,7 +20,7 @@ use Rattle.lowered_laws.proofs.Pieces.{has_front, has_back, has_both}
 use Rattle.lowered_laws.proofs.Steps.{jump, moves, over, past}
 use Rattle.lowered_pieces.specs.Forms.{Stand, Tail, Piece, inside_piece, code_of, count_of, jump_where, unit_piece, assert_piece, and_piece}
 use Rattle.lowered_pieces.specs.Forms.{or_piece, truth_end}
-use Rattle.lowered_laws.specs.Simulation.{bare, Then_, AtWork, kit, C, reading, Runs_, After, Done, Catches, Fails, Good, Sits}
+use Rattle.lowered_laws.specs.Simulation.{bare, Followed, AtWork, kit, own_code, reading, RunsOn, After, Done, Catches, Fails, Good, Sits}
 use Rattle.lowered_laws.proofs.Follows.{open_then, open_leaving, close_then, close_leaving, onward, as_truth, truth_is}
 use Rattle.lowered_laws.proofs.States.{after_both, Lands, held_good, via, writable_front}
 use Rattle.lowered_laws.proofs.Inside.{inside_good}
@@ -34,18 +34,18 @@ module _ (g : AtWork) where
 
   -- a value that has to be a truth is one
   truly_is : (x : Item) (t : Now Item) (K : Item → Now Item → Type 0) (H : Value → Now Item → Type 0) (N : Now Item → Type 0)
-      → Then_ g.ending (truly (reading g) x t) K H N → Then_ g.ending (truly (reading g) x t) (λ y u. IsTruth y × K y u) H N
+      → Followed g.ending (truly (reading g) x t) K H N → Followed g.ending (truly (reading g) x t) (λ y u. IsTruth y × K y u) H N
   truly_is x t K H N th = by (truth_in x.val) refl th
     where
-      by : (o : Option Bool) → truth_in x.val ≡ o → Then_ g.ending (goes_on (needs o t) (λ c. gives x)) K H N
-          → Then_ g.ending (goes_on (needs o t) (λ c. gives x)) (λ y u. IsTruth y × K y u) H N
+      by : (o : Option Bool) → truth_in x.val ≡ o → Followed g.ending (goes_on (needs o t) (λ c. gives x)) K H N
+          → Followed g.ending (goes_on (needs o t) (λ c. gives x)) (λ y u. IsTruth y × K y u) H N
       by (Some c) e z = ((c, as_truth x.val c e), z)
       by None e z = z
 
   -- also where it is in `inside`
   truth_inside : (mb : Run Item Item) (t : Now Item) (K : Item → Now Item → Type 0) (H : Value → Now Item → Type 0) (N : Now Item → Type 0)
-      → Then_ g.ending ((reading g).inside (mb then truly (reading g)) t) K H N
-      → Then_ g.ending ((reading g).inside (mb then truly (reading g)) t) (λ y u. IsTruth y × K y u) H N
+      → Followed g.ending ((reading g).inside (mb then truly (reading g)) t) K H N
+      → Followed g.ending ((reading g).inside (mb then truly (reading g)) t) (λ y u. IsTruth y × K y u) H N
   truth_inside mb t K H N th =
       let T : Item → Now Item → Type 0 = λ y u. IsTruth y × K y u in
       let back : Now Item → Now Item = λ u. record u { opened = t.opened } in
@@ -55,7 +55,8 @@ module _ (g : AtWork) where
       let N1 : Now Item → Type 0 = λ u. N (back u) in
       close_leaving g.ending ((mb then truly (reading g)) t) t.opened T H N
       (close_then g.ending (mb t) (truly (reading g)) T1 H1 N1
-      (onward g.ending (mb t) (λ y u. Then_ g.ending (truly (reading g) y u) K1 H1 N1) H1 N1 (λ y u. Then_ g.ending (truly (reading g) y u) T1 H1 N1) H1 N1
+      (onward g.ending (mb t) (λ y u. Followed g.ending (truly (reading g) y u) K1 H1 N1) H1 N1 (λ y u. Followed g.ending (truly (reading g) y u) T1 H1 N1)
+      H1 N1
       (open_then g.ending (mb t) (truly (reading g)) K1 H1 N1 (open_leaving g.ending ((mb then truly (reading g)) t) t.opened K H N th))
       (λ y u z. truly_is y u K1 H1 N1 z) (λ v u z. z) (λ u z. z)))
 
@@ -67,7 +68,7 @@ module _ (g : AtWork) where
         let H = Catches g s.depths s.scope ph s.temp sl now in
         let N = Fails g s.depths s.scope pf s.temp sl now in
         gb.run tail s l pc pe ph pf sl now tk end at_ set same wr
-        (onward g.ending (mb now) (λ y u. Then_ g.ending (truly (reading g) y u) D H N) H N D H N (open_then g.ending (mb now) (truly (reading g)) D H N th)
+        (onward g.ending (mb now) (λ y u. Followed g.ending (truly (reading g) y u) D H N) H N D H N (open_then g.ending (mb now) (truly (reading g)) D H N th)
         (λ y u th1. truth_is g.table g.cases g.ending y u (λ e w. D y w) H N (open_then g.ending (truth (reading g) y u) (λ e. gives y) D H N th1)
         (λ e is k. k))
         (λ v u q. q) (λ u q. q));
@@ -79,12 +80,12 @@ module _ (g : AtWork) where
 
   -- what is done with a truth in hand
   truth_done : (tail : Tail) (s : Stand) (l p pe : ℕ) (sl sl1 : Slots) (now t : Now Item) (x : Item) → x.typ ≡ fixed_typ g.table Y.Bool
-      → pe ≡ p + length (truth_end (kit g) tail s l) → HasAt (C g) p (truth_end (kit g) tail s l) → After g s.depths s.scope s.temp sl now sl1 t
+      → pe ≡ p + length (truth_end (kit g) tail s l) → HasAt (own_code g) p (truth_end (kit g) tail s l) → After g s.depths s.scope s.temp sl now sl1 t
       → sl1 (g.name (Temp s.temp) (g.number x.typ)) ≡ x.val → Sits g x.val x.typ → Done g tail s pe sl now x t
-      → Runs_ g p sl1 (bare t)
+      → RunsOn g p sl1 (bare t)
   truth_done tail s l p pe sl sl1 now t x ty ends at_ k1 e1 had d =
-      d.by sl1 l p k1 e1 had (subst (λ w. HasAt (C g) p (tail.code w l)) (sym ty) at_)
-      (λ sl2 s2 y. subst (λ w. Runs_ g (p + length (tail.code w l)) sl2 s2) (sym ty)
+      d.by sl1 l p k1 e1 had (subst (λ w. HasAt (own_code g) p (tail.code w l)) (sym ty) at_)
+      (λ sl2 s2 y. subst (λ w. RunsOn g (p + length (tail.code w l)) sl2 s2) (sym ty)
       (moves g.m g.lets g.hart g.here g.ending pe (p + length (truth_end (kit g) tail s l)) sl2 s2 ends y))
 
   pub or_good : (ma : Run Item Item) (a : Piece) (mb : Run Item Item) (b : Piece) → Good g ma a → Good g mb b
@@ -106,16 +107,17 @@ module _ (g : AtWork) where
         let t1 : List Instruction = jump_where (kit g) s l ∷ (c2 ++ t2) in
         let p1 : ℕ = pc + length c1 in
         let p2 : ℕ = p1 + 1 + length c2 in
-        let h1 : HasAt (C g) p1 t1 = has_back (C g) pc c1 t1 p1 refl at_ in
-        let h2 : HasAt (C g) p2 t2 = has_back (C g) (p1 + 1) c2 t2 p2 refl h1.1 in
+        let h1 : HasAt (own_code g) p1 t1 = has_back (own_code g) pc c1 t1 p1 refl at_ in
+        let h2 : HasAt (own_code g) p2 t2 = has_back (own_code g) (p1 + 1) c2 t2 p2 refl h1.1 in
         let ends : pe ≡ p2 + 1 + length c3 = omega (arith, end, length-append c1 t1, length-append c2 t2) in
         let D = Done g tail s pe sl now in
         let H = Catches g s.depths s.scope ph n sl now in
         let N = Fails g s.depths s.scope pf n sl now in
         tested_good g ma a ga (λ x. if_so (gives x) second) s la pc p1 p2 l ph pf sl now D tk refl
-        (has_both (C g) pc c1 t0 p1 refl (has_front (C g) pc c1 t1 at_) (h1.0, tt)) (h2.0, tt) set same (writable_front s.depths a.notes [] wr) th
+        (has_both (own_code g) pc c1 t0 p1 refl (has_front (own_code g) pc c1 t1 at_) (h1.0, tt)) (h2.0, tt) set same (writable_front s.depths a.notes [] wr) th
         (λ x t sl1 ty k1 e1 had1 th1.
-        held_good g second r (second_good mb b gb) s lb (p1 + 1) p2 ph pf sl1 t (omega (arith, k1.fewer, tk)) refl (has_front (C g) (p1 + 1) c2 t2 h1.1) set
+        held_good g second r (second_good mb b gb) s lb (p1 + 1) p2 ph pf sl1 t (omega (arith, k1.fewer, tk)) refl
+        (has_front (own_code g) (p1 + 1) c2 t2 h1.1) set
         k1.same tt
         (via g s.depths s.scope ph pf n n sl sl1 now t (second t) (λ y u. IsTruth y × D y u) (Lands g s.depths s.scope p2 n sl1 t)
         (omega arith) k1 (truth_inside mb t D H N th1)
@@ -148,18 +150,20 @@ module _ (g : AtWork) where
         let p1 : ℕ = pc + length c1 in
         let pl : ℕ = p1 + 1 + 1 in
         let p2 : ℕ = pl + 1 + length c2 in
-        let h1 : HasAt (C g) p1 t1 = has_back (C g) pc c1 t1 p1 refl at_ in
-        let h2 : HasAt (C g) p2 t2 = has_back (C g) (pl + 1) c2 t2 p2 refl h1.1.1.1 in
+        let h1 : HasAt (own_code g) p1 t1 = has_back (own_code g) pc c1 t1 p1 refl at_ in
+        let h2 : HasAt (own_code g) p2 t2 = has_back (own_code g) (pl + 1) c2 t2 p2 refl h1.1.1.1 in
         let ends : pe ≡ p2 + 1 + length c3 = omega (arith, end, length-append c1 t1, length-append c2 t2) in
         let D = Done g tail s pe sl now in
         let H = Catches g s.depths s.scope ph n sl now in
         let N = Fails g s.depths s.scope pf n sl now in
         tested_good g ma a ga (λ x. if_so second (gives x)) s la pc p1 pl l ph pf sl now D tk refl
-        (has_both (C g) pc c1 t0 p1 refl (has_front (C g) pc c1 t1 at_) (h1.0, tt)) (h1.1.1.0, tt) set same (writable_front s.depths a.notes [] wr) th
+        (has_both (own_code g) pc c1 t0 p1 refl (has_front (own_code g) pc c1 t1 at_) (h1.0, tt)) (h1.1.1.0, tt) set same
+        (writable_front s.depths a.notes [] wr) th
         (λ x t sl1 ty k1 e1 had1 th1. jump g.m g.lets g.hart g.here g.ending (p1 + 1) p2 (l + 1) sl1 (bare t) (I.Goto (l + 1)) h1.1.0 refl h2.0
         (past g.m g.lets g.hart g.here g.ending p2 (l + 1) sl1 (bare t) h2.0 (truth_done tail s lt (p2 + 1) pe sl sl1 now t x ty ends h2.1 k1 e1 had1 th1)))
         (λ x t sl1 ty k1 e1 had1 th1.
-        held_good g second r (second_good mb b gb) s lb (pl + 1) p2 ph pf sl1 t (omega (arith, k1.fewer, tk)) refl (has_front (C g) (pl + 1) c2 t2 h1.1.1.1)
+        held_good g second r (second_good mb b gb) s lb (pl + 1) p2 ph pf sl1 t (omega (arith, k1.fewer, tk)) refl
+        (has_front (own_code g) (pl + 1) c2 t2 h1.1.1.1)
         set k1.same tt
         (via g s.depths s.scope ph pf n n sl sl1 now t (second t) (λ y u. IsTruth y × D y u) (Lands g s.depths s.scope p2 n sl1 t)
         (omega arith) k1 (truth_inside mb t D H N th1)
@@ -182,10 +186,10 @@ module _ (g : AtWork) where
         let t0 : List Instruction = jump_where (kit g) s l ∷ [] in
         let t1 : List Instruction = jump_where (kit g) s l ∷ I.Stop cause ∷ I.Label l ∷ c2 in
         let p1 : ℕ = pc + length c1 in
-        let h1 : HasAt (C g) p1 t1 = has_back (C g) pc c1 t1 p1 refl at_ in
+        let h1 : HasAt (own_code g) p1 t1 = has_back (own_code g) pc c1 t1 p1 refl at_ in
         let D = Done g tail s pe sl now in
         tested_good g ma a ga (λ x. if_so (gives (nothing (reading g))) (stops cause)) s la pc p1 (p1 + 1 + 1) l ph pf sl now D tk refl
-        (has_both (C g) pc c1 t0 p1 refl (has_front (C g) pc c1 t1 at_) (h1.0, tt)) (h1.1.1.0, tt) set same wr th
+        (has_both (own_code g) pc c1 t0 p1 refl (has_front (own_code g) pc c1 t1 at_) (h1.0, tt)) (h1.1.1.0, tt) set same wr th
         (λ x t sl1 ty k1 e1 had1 th1. over g.m g.lets g.hart g.here g.ending (p1 + 1) sl1 (bare t) (I.Stop cause) h1.1.0 (ap Over (sym th1)))
         (λ x t sl1 ty k1 e1 had1 th1.
         constant_step g (fixed_typ g.table Y.Unit) L.Unit tail s lt (p1 + 1 + 1 + 1) pe sl sl1 now t (unit_sits g)

@@ -1,5 +1,5 @@
 -- Values that an operation makes of the operands in hand.
-use Rattle.std.proofs.Common.{◌≡◌, ◌∙◌, ℕ, ◌+◌, Bool, true, false, List, [], ◌∷◌, ◌++◌, length, map, reverse, Option, Some, None}
+use Rattle.std.proofs.Common.{◌≡◌, ◌∙◌, ℕ, ◌+◌, Bool, true, false, List, [], ◌∷◌, ◌++◌, length, map, reverse, Option, Some, None, subst}
 use Rattle.std.proofs.Common.{refl, sym, ap, arith, length-append, eqb-true, eq-eqb, if◌then◌else◌}
 use Rattle.std.specs.Prelude.{slice_get, slice_set, nat_eq, nat_lt, option_map}
 use Rattle.std.proofs.lemmas.Bool.{and_parts}
@@ -42,14 +42,14 @@ use Rattle.lowered_laws.proofs.Pieces.{has_front, has_back}
 use Rattle.lowered_laws.proofs.Facts.{put_same, tested_put, pure_row}
 use Rattle.lowered_laws.proofs.Steps.{go, computed}
 use Rattle.lowered_pieces.specs.Forms.{all_notes, notes_in, Stand, Tail, Piece, Order, Maker, numbers_of, all_code, all_labels, made_code, work_make}
-use Rattle.lowered_pieces.specs.Forms.{made_of_piece, work_piece}
+use Rattle.lowered_pieces.specs.Forms.{made_of_piece, work_piece, live_code}
 use Rattle.lowered_pieces.specs.Forms.{in_fields, in_order, set_fields, unit_source}
-use Rattle.lowered_laws.specs.Simulation.{Writable, bare, Then_, AtWork, kit, C, reading, Runs_, After, Done, Catches, Fails, Good, Sits}
+use Rattle.lowered_laws.specs.Simulation.{Writable, bare, Followed, AtWork, kit, own_code, reading, RunsOn, After, AllHad, Done, Catches, Fails, Good, Sits}
 use Rattle.lowered_laws.proofs.Follows.{no, open_then}
 use Rattle.lowered_laws.proofs.States.{Is, same_good, writable_front, writable_back}
 use Rattle.lowered_laws.proofs.Ended.{made_from}
-use Rattle.lowered_laws.proofs.Calls.{InHand, in_hand_tested, taken_read, GoodAll, all_good}
-use Rattle.lowered_laws.proofs.Had.{in_types}
+use Rattle.lowered_laws.proofs.Calls.{InHand, all_had_good, in_hand_tested, taken_read, GoodAll}
+use Rattle.lowered_laws.proofs.Had.{in_types, all_live, live_is}
 
 pub some_same : {A : Type 0} (x y : A) → Some x ≡ Some y → x ≡ y
 some_same x y e = cc
@@ -63,7 +63,7 @@ map_reverse f (x ∷ xs) =
     ap (map f) (reverse-append (x ∷ []) xs) ∙ map-append f (reverse xs) (x ∷ []) ∙ ap (λ ys. ys ++ f x ∷ []) (map_reverse f xs)
     ∙ sym (reverse-append (f x ∷ []) (map f xs))
 
-map_set_fields : {A B : Type 0} (f : A → B) (is : List ℕ) (xs old : List A) → map f (set_fields is xs old) ≡ set_fields is (map f xs) (map f old)
+pub map_set_fields : {A B : Type 0} (f : A → B) (is : List ℕ) (xs old : List A) → map f (set_fields is xs old) ≡ set_fields is (map f xs) (map f old)
 map_set_fields f [] xs old = refl
 map_set_fields f (i ∷ is) [] old = refl
 map_set_fields f (i ∷ is) (x ∷ xs) old =
@@ -98,7 +98,7 @@ built_vector None fs vs h = no h
 built_vector (Some (T.Vector n t)) fs vs h = refl
 built_vector (Some t) fs vs h = no h
 
-built_struct : (o : Option ValueType) (s : ℕ) (fs : List Asked) (vs : List Value) → is_of (E.Struct s fs) o ≡ true → built o vs ≡ Some (V.Struct s vs)
+pub built_struct : (o : Option ValueType) (s : ℕ) (fs : List Asked) (vs : List Value) → is_of (E.Struct s fs) o ≡ true → built o vs ≡ Some (V.Struct s vs)
 built_struct None s fs vs h = no h
 built_struct (Some (T.Struct j ts)) s fs vs h =
     let same : s ≡ j = eqb-true s j (and_parts (nat_eq s j) (each_has fs ts) h).0 in
@@ -114,7 +114,7 @@ vector_is true w v e = some_same w v e
 vector_is false w v e = none_is v e
 
 -- a struct with others in these fields
-fields_are : (struct : ℕ) (is : List ℕ) (vs ys : List Value) (v : Value) → with_fields struct is vs (V.Struct struct ys) ≡ Some v
+pub fields_are : (struct : ℕ) (is : List ℕ) (vs ys : List Value) (v : Value) → with_fields struct is vs (V.Struct struct ys) ≡ Some v
     → V.Struct struct (set_fields is vs ys) ≡ v
 fields_are struct [] [] ys v e = some_same (V.Struct struct ys) v e
 fields_are struct [] (x ∷ vs) ys v e = none_is v e
@@ -147,27 +147,28 @@ module _ (g : AtWork) where
   -- how operands in hand come to the value of a case
   abbrev pub Makes : Maker (kit g) g.number → (List Value → Option Value) → Type 0
   Makes make value = (xs : List Item) (v : Value) (s : Stand) (c : Case) (p : ℕ) (sl : Slots) (t : Now Item) → value (vals xs) ≡ Some v → c.takes ≡ typs xs
-      → Sits g v c.gives → HasAt (C g) p (make s c) → InHand g sl s.temp xs
-      → ((sl2 : Slots) → Tested (kit g) s.temp sl sl2 → sl2 (g.name (Temp s.temp) (g.number c.gives)) ≡ v → Runs_ g (p + length (make s c)) sl2 (bare t))
-      → Runs_ g p sl (bare t)
+      → Sits g v c.gives → HasAt (own_code g) p (make s c) → InHand g sl s.temp xs → AllHad g.table g.tables.known xs
+      → ((sl2 : Slots) → Tested (kit g) s.temp sl sl2 → sl2 (g.name (Temp s.temp) (g.number c.gives)) ≡ v → RunsOn g (p + length (make s c)) sl2 (bare t))
+      → RunsOn g p sl (bare t)
 
   module _ (k : ℕ) (make : Maker (kit g) g.number) (value : List Value → Option Value) (makes : Makes make value) where
     -- the values in hand are those of a node that has a value for them
     making : (q : ℕ) (tail : Tail) (s : Stand) (l p1 pe ph pf : ℕ) (sl sl1 : Slots) (now t : Now Item) (xs : List Item) → length xs ≡ q
         → Writable s.depths (all_notes (g.tables.gives k)) → After g s.depths s.scope s.temp sl now sl1 t → InHand g sl1 s.temp xs
+        → AllHad g.table g.tables.known xs
         → pe ≡ p1 + length (made_code (kit g) g.number q make (g.tables.cases k q) (g.tables.gives k) tail s l)
-        → HasAt (C g) p1 (made_code (kit g) g.number q make (g.tables.cases k q) (g.tables.gives k) tail s l)
+        → HasAt (own_code g) p1 (made_code (kit g) g.number q make (g.tables.cases k q) (g.tables.gives k) tail s l)
         → (o : Option Value) → value (vals xs) ≡ o
-        → Then_ g.ending (goes_on (needs o t) (λ v. made (reading g) k xs v)) (Done g tail s pe sl now) (Catches g s.depths s.scope ph s.temp sl now)
+        → Followed g.ending (goes_on (needs o t) (λ v. made (reading g) k xs v)) (Done g tail s pe sl now) (Catches g s.depths s.scope ph s.temp sl now)
         (Fails g s.depths s.scope pf s.temp sl now)
-        → Runs_ g p1 sl1 (bare t)
-    making q tail s l p1 pe ph pf sl sl1 now t xs len wr k1 std end at_ None e th = absurd th
-    making q tail s l p1 pe ph pf sl sl1 now t xs len wr k1 std end at_ (Some v) e th =
+        → RunsOn g p1 sl1 (bare t)
+    making q tail s l p1 pe ph pf sl sl1 now t xs len wr k1 std hads end at_ None e th = absurd th
+    making q tail s l p1 pe ph pf sl sl1 now t xs len wr k1 std hads end at_ (Some v) e th =
         let n : ℕ = s.temp in
         made_from g q q k xs v make tail s l p1 pe sl sl1 now t (Catches g s.depths s.scope ph n sl now) (Fails g s.depths s.scope pf n sl now) wr len
         end at_ k1 th
         (λ c p sl2 taken had hp td next.
-        makes xs v s c p sl2 t e taken had hp (in_hand_tested g (n + q) n sl1 sl2 xs (omega (arith, len)) td std) next)
+        makes xs v s c p sl2 t e taken had hp (in_hand_tested g (n + q) n sl1 sl2 xs (omega (arith, len)) td std) hads next)
 
     pub made_of_good : (ms : List (Run Item Item)) (ps : List Piece) → GoodAll g ms ps
         → Good g (in_turn ms then λ xs. needs (value (vals xs)) then made (reading g) k xs)
@@ -186,11 +187,11 @@ module _ (g : AtWork) where
           let kont : List Item → Run Item Item = λ xs. needs (value (vals xs)) then made (reading g) k xs in
           let ns : List ℕ = notes_in (kit g) g.number ps in
           let gs : List ℕ = all_notes (g.tables.gives k) in
-          all_good g ms ps good s l pc p1 ph pf sl now (λ xs t. Then_ g.ending (kont xs t) K H N) tk refl (has_front (C g) pc c1 c2 at_) set same
+          all_had_good g ms ps good s l pc p1 ph pf sl now (λ xs t. Followed g.ending (kont xs t) K H N) tk refl (has_front (own_code g) pc c1 c2 at_) set same
           (writable_front s.depths ns gs wr) (open_then g.ending (in_turn ms now) kont K H N th)
-          (λ xs t sl1 k1 len std th1.
-          making q tail s lm p1 pe ph pf sl sl1 now t xs len (writable_back s.depths ns gs wr) k1 std (omega (arith, end, length-append c1 c2))
-          (has_back (C g) pc c1 c2 p1 refl at_)
+          (λ xs t sl1 k1 len std hads th1.
+          making q tail s lm p1 pe ph pf sl sl1 now t xs len (writable_back s.depths ns gs wr) k1 std hads (omega (arith, end, length-append c1 c2))
+          (has_back (own_code g) pc c1 c2 p1 refl at_)
           (value (vals xs)) refl th1);
     }
 
@@ -203,17 +204,20 @@ module _ (g : AtWork) where
 
   works_make : (op : Operation) (order : Order) (value : List Value → Option Value) → Works op order value
       → Makes (work_make (kit g) g.number op order) value
-  works_make op order value works xs v s c p sl t e taken had hp std next =
+  works_make op order value works xs v s c p sl t e taken had hp std hads next =
       let n : ℕ = s.temp in
       let y : ℕ = g.number c.gives in
       let rs : List Source = sources (kit g) n (numbers_of (kit g) g.number c.takes) in
       let i : Instruction = I.Apply (to (kit g) (Temp n) y) op (order rs) in
-      let is : Is g (Temp n) y = g.slots p (g.name (Temp n) y) i hp.0 refl in
+      let plain_is : live_code c.takes (i ∷ []) ≡ i ∷ [] = live_is c.takes (typs xs) (i ∷ []) taken (all_live g xs hads) in
+      let hq : HasAt (own_code g) p (i ∷ []) = subst (λ q. HasAt (own_code g) p q) plain_is hp in
+      let is : Is g (Temp n) y = g.slots p (g.name (Temp n) y) i hq.0 refl in
       let sl3 : Slots = put sl (g.name (Temp n) y) v in
-      go g.m g.lets g.hart g.here g.ending p sl sl3 (bare t) (bare t) i hp.0
+      go g.m g.lets g.hart g.here g.ending p sl sl3 (bare t) (bare t) i hq.0
       (computed g.m g.lets g.hart g.here g.ending (kit g) g.names (Temp n) y op (order rs) sl (bare t) v is
       (works rs (vals xs) sl (bare t) y v (taken_read g n xs sl (bare t) c taken std) e (in_types g v c.gives had)) (in_types g v c.gives had))
-      (next sl3 (tested_put (kit g) (slots_of g.m g.here.function) g.names n n y sl v (omega arith) is) (put_same sl (g.name (Temp n) y) v))
+      (subst (λ q. RunsOn g (p + length q) sl3 (bare t)) plain_is
+      (next sl3 (tested_put (kit g) (slots_of g.m g.here.function) g.names n n y sl v (omega arith) is) (put_same sl (g.name (Temp n) y) v)))
 
   pub work_good : (op : Operation) (order : Order) (value : List Value → Option Value) → Works op order value → (k : ℕ) (ms : List (Run Item Item))
       (ps : List Piece) → GoodAll g ms ps → Good g (built_of (reading g) k ms value)

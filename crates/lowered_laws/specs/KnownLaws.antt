@@ -18,11 +18,12 @@ use Rattle.sized_nodes.specs.declared.trees.Told.{Told}
 use Rattle.sized_meanings.specs.Sized.{all_told, cases_by, checks_by, entering, joined_nodes, numbers_of}
 use Rattle.lowered_pieces.specs.Nodes.{all_plain, told_as}
 
--- what is known under the numbers of an instance is known under those of a call of it
+-- a number that is known under the numbers of an instance is that number under those of a call of it
 abbrev pub SizesKnown : Type 0
 SizesKnown = (zs : List (Option ℤ)) (nu : Givens) → all_agree (map (option_map an_int) zs) nu ≡ true → (t : Num) (z : ℤ)
     → value_of (known_at (known_of zs)) t ≡ Some z → known nu t ≡ Some z
 
+-- and a constraint whose truth is known under them is as true there
 abbrev pub TruthsKnown : Type 0
 TruthsKnown = (zs : List (Option ℤ)) (nu : Givens) → all_agree (map (option_map an_int) zs) nu ≡ true → (c : Con) (b : Bool)
     → truth_of (known_at (known_of zs)) c ≡ Some b → known_truth nu c ≡ Some b

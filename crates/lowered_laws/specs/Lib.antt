@@ -3,7 +3,10 @@ pub mod CodeLaws
 pub mod Telling
 pub mod Simulation
 pub mod FormLaws
+pub mod Returning
 pub mod Modules
+pub mod Crossings
+pub mod Opened
 pub mod TablesTelling
 pub mod TableLaws
 pub mod KnownLaws

@@ -13,21 +13,27 @@ use Rattle.jib.specs.Jib.{Here, code_of, slots_of}
 use Rattle.jib.specs.Jib as J
 use Rattle.sail_core.specs.declared.tree.Core.{Core}
 use Rattle.sail_core.specs.declared.model.Function.{Function}
+use Rattle.sail_core.specs.declared.model.Direction.{Direction}
 use Rattle.sail_core.specs.Run.{Now}
+use Rattle.sail_core.specs.Making.{World}
+use Rattle.sail_core.specs.Meaning.{meaning, option_typ, optional}
+use Rattle.sail_types.specs.declared.types.Typ.{Typ}
 use Rattle.sail_types.specs.Places.{Given as Awaited}
 use Rattle.sail_types.specs.declared.numbers.Num.{Num}
 use Rattle.sail_types.specs.declared.numbers.Con.{Con}
 use Rattle.sail_core.specs.Numbers.{Givens, Instance, all_agree, known, known_truth}
-use Rattle.sail_core.specs.Program.{Measures, Setting, calls, event_of, nearest}
+use Rattle.sail_core.specs.Program.{Measures, Setting, calls, event_of, nearest, world_of}
 use Rattle.checked_meaning.specs.Checked.{Cases, checked}
 use Rattle.checked_meaning.specs.Fits.{has_sizes}
-use Rattle.checked_meaning.specs.Items.{Item, typs, vals}
+use Rattle.checked_meaning.specs.Items.{Item, fixed_typ, item, typs, vals}
 use Rattle.lowered_pieces.specs.Places.{Naming, Given, Kit, Names, HasSlots}
 use Rattle.lowered_laws.specs.Standing.{Types}
 use Rattle.lowered_pieces.specs.Tables.{Tables}
 use Rattle.lowered_laws.specs.Telling.{Tells}
+use Rattle.lowered_laws.specs.Returning.{Stays}
 use Rattle.lowered_pieces.specs.Forms.{Piece, Callees, Mapped, cast_piece}
-use Rattle.lowered_pieces.specs.Functions.{all_in, called_code, event_code, measure_of}
+use Rattle.lowered_pieces.specs.Functions.{all_in, called_code, direction_code, event_code, measure_of}
+use Rattle.lowered_pieces.specs.Mapped.{ends_with, fixed_end, optional_piece}
 use Rattle.lowered_pieces.specs.Lowering.{kit_of, is_lowered, piece}
 use Rattle.lowered_laws.specs.Simulation.{AllHad, AnswersFrom, Knows, LeadsTo}
 
@@ -56,8 +62,10 @@ pub record Made : Type 0 where
   pub awaits : ℕ → Option (List (Option Awaited))
   pub all_of : (p q : ℕ) → (tables p).of q ≡ of q
   pub all_await : (p q : ℕ) → (tables p).awaits q ≡ awaits q
-  -- directions of mappings
+  -- directions of mappings; the place of each, which is no instance's; and which of them the body at a place calls
   pub direction : ℕ → Mapped
+  pub way : ℕ → ℕ
+  pub crosses : ℕ → ℕ → Bool
   -- the values of names of top-level lets
   pub opening : ℕ → ℕ
   pub opened : (i : ℕ) (v : Value) → slice_get s.lets i ≡ Some v → slice_index_or lets (opening i) V.Unit ≡ v
@@ -67,8 +75,16 @@ module _ (x : Made) where
   kit_for q p = kit_of x.table (x.name q) x.number x.exception (x.size p)
 
   abbrev pub around_for : ℕ → List Sized → Callees
-  around_for p ts =
-      record { function = x.function; answer = x.answer; opening = x.opening; direction = x.direction; size = x.size p; truth = x.truth p; given = ts }
+  around_for p ts = record {
+    function = x.function;
+    answer = x.answer;
+    opening = x.opening;
+    direction = x.direction;
+    crosses = x.crosses p;
+    size = x.size p;
+    truth = x.truth p;
+    given = ts;
+  }
 
   -- of the instance at a place, as the q-th function of the module
   abbrev pub piece_for : ℕ → ℕ → List Sized → Core → Piece
@@ -102,6 +118,39 @@ module _ (x : Made) where
     pub code : code_of x.m q ≡ shape (kit_for q p) f.place
         (option_map (piece_for q p (typs xs)) (measure_of f.cycle f.measure)) (result_for q p f.last (piece_for q p (typs xs) f.body))
 
+  -- a direction may be entered with this value, as calls of it lead there: its body is an option of its clauses
+  pub record Turned (d : ℕ) (v : Value) : Type 0 where
+    pub m : Direction
+    pub found : slice_get x.s.directions d ≡ Some m
+    pub cases : Cases
+    pub reads : x.s.sizing.direction d ≡ checked x.table cases
+    pub enters : x.s.sizing.takes d v ≡ Some (item (x.direction d).takes v)
+    pub tells : Tells x.table (x.tables (x.way d)) cases
+    pub types : Types x.m.types (kit_for (x.direction d).function (x.way d))
+    pub names : Names (kit_for (x.direction d).function (x.way d)) (slots_of x.m (x.direction d).function)
+    pub slots : HasSlots (slots_of x.m (x.direction d).function) (code_of x.m (x.direction d).function)
+    pub known_taken : (x.tables (x.way d)).known (x.direction d).takes ≡ true
+    pub place : x.name (x.direction d).function (Given 0) (x.number (x.direction d).takes) ≡ 1
+    pub sizes : (t : Num) (z : ℤ) → x.size (x.way d) t ≡ Some z → known [] t ≡ Some z
+    pub truths : (c : Con) (b : Bool) → x.truth (x.way d) c ≡ Some b → known_truth [] c ≡ Some b
+    pub typ : Typ
+    pub clauses : Core
+    pub means : (w : World Item) → meaning (checked x.table cases) w m.body
+        ≡ optional (checked x.table cases) typ (meaning (checked x.table cases) w clauses)
+    pub lowered : lowered_for (x.direction d).function (x.way d) ((x.direction d).takes ∷ []) clauses ≡ true
+    pub ends : ends_with (fixed_typ x.table typ)
+        (fixed_end (piece_for (x.direction d).function (x.way d) ((x.direction d).takes ∷ []) clauses).ends) ≡ true
+    pub somes : (u : Value) → has_sizes x.table u (fixed_typ x.table typ) ≡ true
+        → has_sizes x.table (V.Union 0 0 u) (fixed_typ x.table (option_typ typ)) ≡ true
+    pub none : has_sizes x.table (V.Union 0 1 V.Unit) (fixed_typ x.table (option_typ typ)) ≡ true
+    pub known_option : (x.tables (x.way d)).known (fixed_typ x.table (option_typ typ)) ≡ true
+    -- nothing in it returns
+    pub stays : (n : ℕ) (active : Measures) (now : Now Item)
+        → Stays (meaning (checked x.table cases) (world_of x.s (calls x.s n) active [] (item (x.direction d).takes v ∷ [])) clauses now)
+    pub code : code_of x.m (x.direction d).function ≡ direction_code (kit_for (x.direction d).function (x.way d)) true m.place
+        (optional_piece x.table (kit_for (x.direction d).function (x.way d)) (fixed_typ x.table (option_typ typ)) (fixed_typ x.table typ)
+        (piece_for (x.direction d).function (x.way d) ((x.direction d).takes ∷ []) clauses))
+
   -- a call that is there: of the i-th function, from one place of the list to an instance
   pub record Leads (p : ℕ) (a : Instance) (i : ℕ) (f : Function) : Type 0 where
     pub leads : LeadsTo (x.tables p) i a
@@ -112,9 +161,16 @@ pub data Active (x : Made) : Measures → Here → ℕ → Type 0 where
   alone : {h : Here} {p : ℕ} → h.measure ≡ None → Active x [] h p
   further : {active : Measures} {h : Here} {p i : ℕ} {a : Instance} {f : Function} {place : TextPlace} → Active x active h p → Leads x p a i f
       → Active x active (J.called x.m h (x.function a.place) place) a.place
+  -- a direction takes over the measures of what calls it
+  crossing : {active : Measures} {h : Here} {p d : ℕ} {place : TextPlace} → Active x active h p → x.crosses p d ≡ true
+      → Active x active (J.called x.m h (x.direction d).function place) (x.way d)
   sunk : {active : Measures} {h : Here} {p i cycle n : ℕ} {a : Instance} {f : Function} {place : TextPlace} {measure : Core} → Active x active h p
       → Leads x p a i f → f.cycle ≡ Some cycle → f.measure ≡ Some measure
       → Active x ((cycle, n) ∷ active) (record (J.called x.m h (x.function a.place) place) { measure = Some (pos n) }) a.place
+
+-- each direction that a body calls may be entered with each value of the type that it takes
+abbrev pub AllTurned : Made → Type 0
+AllTurned x = (p d : ℕ) (v : Value) → x.crosses p d ≡ true → has_sizes x.table v (x.direction d).takes ≡ true → Turned x d v
 
 -- a call finds the measure that is before it: so it is where functions of one cycle alone call one another
 abbrev pub Agrees : Made → Type 0
@@ -141,7 +197,7 @@ AllTick x = (p i : ℕ) (a : Instance) → LeadsTo (x.tables p) i a → slice_ge
 
 -- each call does what its function means, however many calls are inside one another
 abbrev pub CallsAnswer : Type 0
-CallsAnswer = (x : Made) → Agrees x → AllLowered x → AllTick x
+CallsAnswer = (x : Made) → Agrees x → AllLowered x → AllTurned x → AllTick x
     → (n : ℕ) (active : Measures) (h : Here) (p : ℕ) → Active x active h p → (place : TextPlace) (i : ℕ) (a : Instance) (vs : List Value) (now : Now Item)
     → LeadsTo (x.tables p) i a → now.ticks < n
     → AnswersFrom x.m x.lets x.s.hart (J.called x.m h (x.function a.place) place) (x.function a.place) vs now
@@ -149,7 +205,7 @@ CallsAnswer = (x : Made) → Agrees x → AllLowered x → AllTick x
 
 -- each event does what the function means that it enters
 abbrev pub EventsAnswer : Type 0
-EventsAnswer = (x : Made) → Agrees x → AllLowered x → AllTick x → EventsLowered x
+EventsAnswer = (x : Made) → Agrees x → AllLowered x → AllTurned x → AllTick x → EventsLowered x
     → (n i : ℕ) (a : Instance) (vs : List Value) (now : Now Item) → x.of a.place ≡ i → x.awaits a.place ≡ Some a.numbers → now.ticks < n
     → AnswersFrom x.m x.lets x.s.hart (J.alone (x.event a.place)) (x.event a.place) vs now
     (event_of x.s (calls x.s n) i (Some a) vs (slice_get x.s.functions i) now)

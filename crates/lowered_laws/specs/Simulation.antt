@@ -13,7 +13,7 @@ use Rattle.jib.specs.Values.{has}
 use Rattle.jib.specs.Jib.{Slots, Store, Outcome, Here, Runs, slots_of}
 use Rattle.jib.specs.Jib as J
 use Rattle.sail_core.specs.Run as R
-use Rattle.sail_core.specs.Run.{Local as Bound, Now, Ended, Run}
+use Rattle.sail_core.specs.Run.{Local as Bound, Now, Ended, Run, tick, ◌then◌}
 use Rattle.sail_core.specs.Numbers.{Instance, known, known_truth}
 use Rattle.sail_types.specs.declared.numbers.Num.{Num}
 use Rattle.sail_types.specs.declared.numbers.Con.{Con}
@@ -32,6 +32,7 @@ use Rattle.lowered_pieces.specs.Tables.{Tables}
 use Rattle.lowered_laws.specs.Telling.{Tells}
 use Rattle.lowered_pieces.specs.Arms.{Choice, Held, Matched, choices, is_union, picked_of, places_of, word_width}
 use Rattle.lowered_pieces.specs.Forms.{Named, Depths, kit_at, Stand, Tail, Piece, Callees}
+use Rattle.lowered_pieces.specs.Fields.{all_known, field_types_of}
 use Rattle.lowered_pieces.specs.Lowering.{kit_of}
 
 -- ---- what may follow a piece of a run, by how it ends: where it is stuck, nothing
@@ -40,13 +41,14 @@ use Rattle.lowered_pieces.specs.Lowering.{kit_of}
 abbrev pub bare : Now Item → Store
 bare now = record { state = now.state; ticks = now.ticks; accesses = now.accesses }
 
-abbrev pub Then_ : {A : Type 0} → Outcome → Ended Item A → (A → Now Item → Type 0) → (Value → Now Item → Type 0) → (Now Item → Type 0) → Type 0
-Then_ r (R.Gives x t) K H N = K x t
-Then_ r (R.No t) K H N = N t
-Then_ r (R.Returns v t) K H N = r ≡ J.Gives v (bare t)
-Then_ r (R.Throws v t) K H N = H v t
-Then_ r (R.Stops cause t) K H N = r ≡ J.Stops cause (bare t)
-Then_ r R.Stuck K H N = ⊥
+-- what is so behind a run, by how it ends: where it returns or stops, the function's run has ended so
+abbrev pub Followed : {A : Type 0} → Outcome → Ended Item A → (A → Now Item → Type 0) → (Value → Now Item → Type 0) → (Now Item → Type 0) → Type 0
+Followed r (R.Gives x t) given thrown unmatched = given x t
+Followed r (R.No t) given thrown unmatched = unmatched t
+Followed r (R.Returns v t) given thrown unmatched = r ≡ J.Gives v (bare t)
+Followed r (R.Throws v t) given thrown unmatched = thrown v t
+Followed r (R.Stops cause t) given thrown unmatched = r ≡ J.Stops cause (bare t)
+Followed r R.Stuck given thrown unmatched = ⊥
 
 -- ---- a function at work
 
@@ -60,6 +62,7 @@ pub record Knows (table : Table) (known : Sized → Bool) : Type 0 where
   -- and with the type of a word those of shorter ones
   pub of_bits : (t : Sized) (n : ℕ) → known t ≡ true → n ≤ word_width (out-Sized t)
       → (known (S.Bits (pos n)) ≡ true) × (fixed_typ table (bits_typ n) ≡ S.Bits (pos n))
+  pub of_fields : (t : Sized) → known t ≡ true → all_known known (field_types_of table (out-Sized t)) ≡ true
   pub of_union : (u c : ℕ) (t : Sized) → is_union u (out-Sized t) ≡ true → known t ≡ true → known (part_typ table (payload u c) t) ≡ true
 
 -- a function of a module at work, and how its run ends
@@ -92,15 +95,17 @@ pub record AtWork : Type 0 where
 abbrev pub kit : AtWork → Kit
 kit g = kit_of g.table g.name g.number g.exception g.size
 
-abbrev pub C : AtWork → List Instruction
-C g = J.code_of g.m g.here.function
+-- its code
+abbrev pub own_code : AtWork → List Instruction
+own_code g = J.code_of g.m g.here.function
 
 -- the reading of the core by these cases
 abbrev pub reading : AtWork → Making Item
 reading g = checked g.table g.cases
 
-abbrev pub Runs_ : AtWork → ℕ → Slots → Store → Type 0
-Runs_ g pc sl s = Runs g.m g.lets g.hart g.here pc sl s g.ending
+-- from this instruction, with these slots, its run goes on to its end
+abbrev pub RunsOn : AtWork → ℕ → Slots → Store → Type 0
+RunsOn g pc sl s = Runs g.m g.lets g.hart g.here pc sl s g.ending
 
 -- ---- what slots hold
 
@@ -200,28 +205,28 @@ module _ (g : AtWork) where
   -- the code of a tail runs, wherever it stands, if what follows is run from pe on
   pub record Done (tail : Tail) (s : Stand) (pe : ℕ) (sl : Slots) (now : Now Item) (x : Item) (t : Now Item) : Type 0 where
     pub by : (sl' : Slots) (l q : ℕ) → After s.depths s.scope s.temp sl now sl' t → sl' (g.name (Temp s.temp) (g.number x.typ)) ≡ x.val
-        → Sits g x.val x.typ → HasAt (C g) q (tail.code x.typ l)
-        → ((after : Slots) (then_ : Store) → Runs_ g pe after then_ → Runs_ g (q + length (tail.code x.typ l)) after then_)
-        → Runs_ g q sl' (bare t)
+        → Sits g x.val x.typ → HasAt (own_code g) q (tail.code x.typ l)
+        → ((after : Slots) (then_ : Store) → RunsOn g pe after then_ → RunsOn g (q + length (tail.code x.typ l)) after then_)
+        → RunsOn g q sl' (bare t)
 
   pub record Catches (d : Depths) (scope : List Named) (ph n : ℕ) (sl : Slots) (now : Now Item) (v : Value) (t : Now Item) : Type 0 where
-    pub by : (sl' : Slots) → After d scope n sl now sl' t → sl' (g.name Raised g.exception) ≡ v → Runs_ g ph sl' (bare t)
+    pub by : (sl' : Slots) → After d scope n sl now sl' t → sl' (g.name Raised g.exception) ≡ v → RunsOn g ph sl' (bare t)
 
   pub record Fails (d : Depths) (scope : List Named) (pf n : ℕ) (sl : Slots) (now : Now Item) (t : Now Item) : Type 0 where
-    pub by : (sl' : Slots) → After d scope n sl now sl' t → Runs_ g pf sl' (bare t)
+    pub by : (sl' : Slots) → After d scope n sl now sl' t → RunsOn g pf sl' (bare t)
 
-  -- the labels of a stand are set
-  pub record Set (s : Stand) (ph pf : ℕ) : Type 0 where
-    pub throws : slice_get (C g) ph ≡ Some (I.Label s.on_throw)
-    pub fails : slice_get (C g) pf ≡ Some (I.Label s.on_no)
+  -- the labels of a stand, to which what is thrown and what doesn't match goes, stand at these instructions
+  pub record LabelsStand (s : Stand) (ph pf : ℕ) : Type 0 where
+    pub throws : slice_get (own_code g) ph ≡ Some (I.Label s.on_throw)
+    pub fails : slice_get (own_code g) pf ≡ Some (I.Label s.on_no)
 
   -- SIMULATION, in continuation form: wherever what may follow the run of a form runs to the end, its code does too
   pub record Good (me : Run Item Item) (p : Piece) : Type 0 where
     pub run : (tail : Tail) (s : Stand) (l pc pe ph pf : ℕ) (sl : Slots) (now : Now Item) → now.ticks < g.depth
-        → pe ≡ pc + length (p.ended tail s l) → HasAt (C g) pc (p.ended tail s l) → Set s ph pf → Same s.depths s.scope s.temp sl now
+        → pe ≡ pc + length (p.ended tail s l) → HasAt (own_code g) pc (p.ended tail s l) → LabelsStand s ph pf → Same s.depths s.scope s.temp sl now
         → Writable s.depths p.notes
-        → Then_ g.ending (me now) (Done tail s pe sl now) (Catches s.depths s.scope ph s.temp sl now) (Fails s.depths s.scope pf s.temp sl now)
-        → Runs_ g pc sl (bare now)
+        → Followed g.ending (me now) (Done tail s pe sl now) (Catches s.depths s.scope ph s.temp sl now) (Fails s.depths s.scope pf s.temp sl now)
+        → RunsOn g pc sl (bare now)
 
   -- values that are matched, where they stand: of the choice whose numbers are those that are noted
   pub record Matches (m : Matched) (q : ℕ) (xs : List Item) (sl : Slots) (opened : Noted) : Type 0 where
@@ -233,12 +238,12 @@ module _ (g : AtWork) where
   -- so of what is matched, which stays where it is until there is a value
   pub record GoodOn (m : Matched) (xs : List Item) (me : Run Item Item) (p : Piece) : Type 0 where
     pub run : (tail : Tail) (s : Stand) (l pc pe ph pf : ℕ) (sl : Slots) (now : Now Item) → now.ticks < g.depth
-        → pe ≡ pc + length (p.ended tail s l) → HasAt (C g) pc (p.ended tail s l) → Set s ph pf → Same s.depths s.scope s.temp sl now
+        → pe ≡ pc + length (p.ended tail s l) → HasAt (own_code g) pc (p.ended tail s l) → LabelsStand s ph pf → Same s.depths s.scope s.temp sl now
         → Writable s.depths p.notes
         → Matches m s.temp xs sl now.opened
-        → Then_ g.ending (me now) (Done tail s pe sl now) (Catches s.depths s.scope ph s.temp sl now)
+        → Followed g.ending (me now) (Done tail s pe sl now) (Catches s.depths s.scope ph s.temp sl now)
         (Fails s.depths s.scope pf (s.temp + places_of m) sl now)
-        → Runs_ g pc sl (bare now)
+        → RunsOn g pc sl (bare now)
 
   -- ---- what is around a run
 
@@ -261,3 +266,7 @@ module _ (g : AtWork) where
   pub record CallsOk (callees : Callees) (w : World Item) : Type 0 where
     pub tells : (place : TextPlace) (f : ℕ) (x : Instance) (vs : List Value) (now : Now Item) → LeadsTo g.tables f x → now.ticks < g.depth
         → Answers place (callees.function x.place) vs now (w.call place f (Some x) vs now)
+    -- and each call of a direction that this function's body calls, with its tick
+    pub crosses : (place : TextPlace) (d : ℕ) (v : Value) (now : Now Item) → callees.crosses d ≡ true
+        → has_sizes g.table v (callees.direction d).takes ≡ true → now.ticks < g.depth
+        → Answers place (callees.direction d).function (v ∷ []) now ((tick then λ t. w.enter d v) now)

@@ -1,6 +1,9 @@
 //! Laws of the code of forms: each function's contract is one, and it does nothing.
 ghost use Rattle.lowered_laws.specs.FormLaws.{FunctionsOwnLabels, NodesSimulate, NodesOwnLabels, OpeningsOwnLabels};
+ghost use Rattle.lowered_laws.specs.Opened.{NamesAnswer, ValuesAnswer};
 ghost use Rattle.lowered_laws.specs.Modules.{CallsAnswer, EventsAnswer};
+ghost use Rattle.lowered_laws.specs.Crossings.{CrossingsKnown};
+ghost use Rattle.lowered_laws.specs.Returning.{BodiesStay, WorldsStay};
 
 /// The code of a node does what the node means under the sizes of an instance, where each call with fewer ticks goes well: its value comes to
 /// the place for it, what it throws to the handler, and a stop or a return ends the run.
@@ -23,6 +26,12 @@ pub fn openings_own_labels()
     ensures own { OpeningsOwnLabels }
 {}
 
+/// The code of an initial value gives what the value comes to, and that of a name of a top-level `let` what the pattern binds to the name.
+pub fn openings_answer()
+    ensures values { ValuesAnswer }
+    ensures names { NamesAnswer }
+{}
+
 /// Each call does what its function means, however many calls are inside one another: where a module has the code of whatever may be entered, and
 /// a call finds the measure that is before it.
 pub fn calls_answer()
@@ -32,4 +41,19 @@ pub fn calls_answer()
 /// Each event does what the function means that it enters, where calls do and the module has the code of whatever an event may enter.
 pub fn events_answer()
     ensures answer { EventsAnswer }
+{}
+
+/// A body without `return` never ends with one.
+pub fn bodies_stay()
+    ensures stay { BodiesStay }
+{}
+
+/// Nothing that a call does returns to what is around it, where no direction of a mapping has a `return`.
+pub fn worlds_stay()
+    ensures stay { WorldsStay }
+{}
+
+/// Where all directions that a body calls are among some, it is lowered as where every direction may be called.
+pub fn crossings_known()
+    ensures known { CrossingsKnown }
 {}

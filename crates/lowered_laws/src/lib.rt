@@ -9,8 +9,8 @@ mod table_laws;
 
 pub use code_laws::{cases_run, labels_are_own};
 pub use form_laws::{
-    calls_answer, events_answer, functions_own_labels, nodes_own_labels, nodes_simulate,
-    openings_own_labels,
+    bodies_stay, calls_answer, crossings_known, events_answer, functions_own_labels,
+    nodes_own_labels, nodes_simulate, openings_answer, openings_own_labels, worlds_stay,
 };
 pub use known_laws::{arguments_told, instances_read, sizes_known, truths_known};
 pub use table_laws::{cases_tell, noted_cases_tell};

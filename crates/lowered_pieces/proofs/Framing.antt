@@ -1,5 +1,5 @@
 -- Arms that are put one after the other are a choice.
-use Rattle.std.proofs.Common.{◌≡◌, ◌∙◌, ℕ, ◌+◌, ◌≤◌, List, [], ◌∷◌, ◌++◌, length, refl, ap, subst, arith}
+use Rattle.std.proofs.Common.{◌≡◌, ◌∙◌, ℕ, ◌+◌, ◌≤◌, List, [], ◌∷◌, ◌++◌, length, refl, sym, ap, subst, arith}
 use Rattle.std.proofs.Common.{append_assoc, append-nil}
 use Rattle.std.specs.Prelude.{OnOk, Result}
 use Rattle.std.proofs.lemmas.Result.{on_ok_weaker}
@@ -11,7 +11,7 @@ use Rattle.lowered_pieces.specs.Chains.{by_case, chain, chain_labels, many, test
 use Rattle.lowered_pieces.specs.Emitted.{Coded, Emits, no_labels}
 use Rattle.lowered_pieces.specs.Frames.{ArmsPut, end_code, end_labels}
 use Rattle.lowered_pieces.specs.Places.{Kit, Naming}
-use Rattle.lowered_pieces.proofs.Emitting.{emits_as, emits_then}
+use Rattle.lowered_pieces.proofs.Emitting.{emits_as, emits_none, emits_then}
 
 module _ {A : Type 0} (picks : A → List Picked) (kit : Naming → Kit) (p : ℕ) (q : Naming → ℕ) (arm : Naming → A → ℕ → List Instruction) where
   abbrev chain_from : ℕ → List A → Coded
@@ -104,3 +104,29 @@ module _ {A : Type 0} (picks : A → List Picked) (kit : Naming → Kit) (p : �
       → OnOk r (Emits old new (λ name l. by_case picks (kit name) p (q name) (arm name) l us) (λ name. many (q name) us))
   ok_cases r us old a b new end n is counted_as first arms last =
       on_ok_weaker r (λ (e : Emits b new (λ name l. end_code n end) no_labels). cases_put us old a b new end n is counted_as first arms e) last
+
+  -- arms by the list that the code goes along
+  pub arms_none : (end : ℕ) (us : List A) (old : Coding) → us ≡ [] → ArmsPut picks kit p q arm end us old old
+  arms_none end us old is = subst (λ vs. ArmsPut picks kit p q arm end vs old old) (sym is) (emits_none old)
+
+  pub ok_one : {T E : Type 0} (r : Result T E) (end : ℕ) (u : A) (us : List A) (old new : Coding) → us ≡ u ∷ []
+      → OnOk r (Emits old new (λ name. arm name u) q) → OnOk r (ArmsPut picks kit p q arm end us old new)
+  ok_one r end u us old new is h = subst (λ vs. OnOk r (ArmsPut picks kit p q arm end vs old new)) (sym is) h
+
+  pub ok_more : {T E : Type 0} (r : Result T E) (end next : ℕ) (u : A) (vs us : List A) (old a b c new : Coding) → us ≡ u ∷ vs → 1 ≤ length vs
+      → next ≡ old.labels → Emits old a (λ name l. tests (kit name) p l (picks u)) (λ name. 1) → Emits a b (λ name. arm name u) q
+      → Emits b c (λ name l. I.Goto end ∷ I.Label next ∷ []) no_labels → OnOk r (ArmsPut picks kit p q arm end vs c new)
+      → OnOk r (ArmsPut picks kit p q arm end us old new)
+  ok_more r end next u vs us old a b c new is some label x y z h =
+      subst (λ ws. OnOk r (ArmsPut picks kit p q arm end ws old new)) (sym is)
+      (on_ok_weaker r (λ (k : ArmsPut picks kit p q arm end vs c new).
+      arms_more end u vs old a b c new some x y (subst (λ n. Emits b c (λ name l. I.Goto end ∷ I.Label n ∷ []) no_labels) label z) k) h)
+
+  -- where the last is put, and nothing else can fail
+  pub arms_next : (end next : ℕ) (u : A) (vs us : List A) (old a b c new : Coding) → us ≡ u ∷ vs → 1 ≤ length vs
+      → next ≡ old.labels → Emits old a (λ name l. tests (kit name) p l (picks u)) (λ name. 1) → Emits a b (λ name. arm name u) q
+      → Emits b c (λ name l. I.Goto end ∷ I.Label next ∷ []) no_labels → ArmsPut picks kit p q arm end vs c new
+      → ArmsPut picks kit p q arm end us old new
+  arms_next end next u vs us old a b c new is some label x y z k =
+      subst (λ ws. ArmsPut picks kit p q arm end ws old new) (sym is)
+      (arms_more end u vs old a b c new some x y (subst (λ n. Emits b c (λ name l. I.Goto end ∷ I.Label n ∷ []) no_labels) label z) k)

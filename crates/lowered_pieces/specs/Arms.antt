@@ -34,7 +34,7 @@ use Rattle.value_indices.specs.declared.indices.Indices.TheOpen as W
 use Rattle.value_indices.specs.declared.indices.Indices.TheOpen.{Indices-F}
 use Rattle.value_indices.specs.declared.indices.Reading.{Reading}
 use Rattle.size_values.specs.declared.constants.Picked.{Picked}
-use Rattle.sized_nodes.specs.declared.trees.Case.{Case}
+use Rattle.sized_meanings.specs.Case.{Case}
 use Rattle.lowered_pieces.specs.Places.{Place, Raised, Given, Temp, Kit, from, to}
 use Rattle.lowered_pieces.specs.Chains.{by_case, many}
 use Rattle.lowered_pieces.specs.Forms.{Named, Stand, Coder, Tail, End, Piece, ends_of, ending, nothing_piece, seq_piece, caught_at, made_piece, source_make}

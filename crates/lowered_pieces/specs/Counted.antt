@@ -1,5 +1,5 @@
 -- The code of `foreach` (Sail language manual, "Loops").
-use Rattle.std.specs.Prelude.{ℕ, ℤ, pos, ◌+◌, List, [], ◌∷◌, ◌++◌, length}
+use Rattle.std.specs.Prelude.{ℕ, pos, ◌+◌, List, [], ◌∷◌, ◌++◌, length}
 use Rattle.sail_types.specs.Limits.{largest}
 use Rattle.sail_types.specs.declared.rows.Row.{Row}
 use Rattle.sail_types.specs.declared.rows.Row.TheVariants as B

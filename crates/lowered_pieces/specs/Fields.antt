@@ -1,5 +1,5 @@
 -- The code of a struct with other values in several fields: it is built of these and of the others' old values (Sail language manual, "Structs").
-use Rattle.std.specs.Prelude.{ℕ, ℤ, suc, ◌+◌, List, [], ◌∷◌, ◌++◌, length, Option, Some, None}
+use Rattle.std.specs.Prelude.{ℕ, ℤ, suc, Bool, true, ◌&&◌, ◌+◌, List, [], ◌∷◌, ◌++◌, length, Option, Some, None}
 use Rattle.sail_types.specs.Named.{fields}
 use Rattle.sail_types.specs.declared.table.Field.{Field}
 use Rattle.sail_types.specs.declared.table.Types.{Types}
@@ -12,7 +12,7 @@ use Rattle.jib.specs.declared.code.Instruction.{Instruction}
 use Rattle.jib.specs.declared.code.Instruction.TheVariants as I
 use Rattle.lowered_pieces.specs.Places.{Temp, Kit, from, to}
 use Rattle.lowered_pieces.specs.Moves.{sources}
-use Rattle.lowered_pieces.specs.Forms.{Maker, numbers_of, set_fields}
+use Rattle.lowered_pieces.specs.Forms.{Maker, live_code, numbers_of, set_fields}
 
 -- the types of the fields of a struct, under its arguments; of another type none
 abbrev pub types_under : Types → List (Option ℤ) → List Sized → Option (List Field) → List Sized
@@ -22,6 +22,11 @@ types_under types zs ss (Some fs) = fields_under types zs ss fs
 abbrev pub field_types_of : Types → Sized-F Sized → List Sized
 field_types_of types (Z.Named u zs ss) = types_under types zs ss (fields types u)
 field_types_of types s = []
+
+-- types that all have a number
+abbrev pub all_known : (Sized → Bool) → List Sized → Bool
+all_known known [] = true
+all_known known (t ∷ ts) = known t && all_known known ts
 
 module _ (kit : Kit) (number : Sized → ℕ) (types : Types) where
   -- fields of these types, from the j-th on, are taken out to the places from p on
@@ -41,4 +46,4 @@ module _ (kit : Kit) (number : Sized → ℕ) (types : Types) where
       ++ I.Apply (to kit (Temp n) (number gives)) O.Build (with_sources is n ts (field_types_of types (out-Sized t))) ∷ []
 
   abbrev pub with_make : List ℕ → Maker kit number
-  with_make is s c = with_code is s.temp c.takes c.gives
+  with_make is s c = live_code c.takes (with_code is s.temp c.takes c.gives)

@@ -25,8 +25,8 @@ use Rattle.jib.specs.declared.code.Instruction.{Instruction}
 use Rattle.jib.specs.declared.code.Instruction.TheVariants as I
 use Rattle.sail_types.specs.declared.table.Types.{Types}
 use Rattle.checked_meaning.specs.Items.{payload_typ}
-use Rattle.sized_nodes.specs.declared.trees.Case.{Case}
-use Rattle.sized_nodes.specs.declared.trees.Lead.{Lead}
+use Rattle.sized_meanings.specs.Case.{Case}
+use Rattle.sized_meanings.specs.Lead.{Lead}
 use Rattle.lowered_pieces.specs.Places.{Place, Raised, Local, Number, Temp, Kit, from, to}
 use Rattle.sail_types.specs.declared.numbers.Num.{Num}
 use Rattle.sail_types.specs.declared.numbers.Con.{Con}
@@ -150,7 +150,9 @@ pub record Callees : Type 0 where
   pub truth : Con → Option Bool
   pub given : List Sized
   pub opening : ℕ → ℕ
+  -- directions of mappings, and which of them this function's body calls
   pub direction : ℕ → Mapped
+  pub crosses : ℕ → Bool
 
 -- ---- numbers that a value gives
 
@@ -208,6 +210,23 @@ one_end t = record { picked = []; typ = t } ∷ []
 
 abbrev pub picked_by : Lead → List Picked
 picked_by x = x.picked
+
+-- ---- what doesn't exist: no value has its type, so that nothing is ever made of operands of which one has it, and no code is needed
+
+abbrev pub never_form : Sized-F Sized → Bool
+never_form Z.Never = true
+never_form s = false
+
+abbrev pub is_never : Sized → Bool
+is_never t = never_form (out-Sized t)
+
+abbrev pub dead : List Sized → Bool
+dead [] = false
+dead (t ∷ ts) = is_never t || dead ts
+
+-- the code over values of these types
+abbrev pub live_code : List Sized → List Instruction → List Instruction
+live_code ts code = if dead ts then [] else code
 
 -- ---- constants
 
@@ -310,11 +329,12 @@ module _ (kit : Kit) (number : Sized → ℕ) where
 
   -- a value in hand comes to its type
   abbrev pub cast_make : Maker
-  cast_make s c = retype kit s.temp (first_type c.takes) (number c.gives)
+  cast_make s c = live_code c.takes (retype kit s.temp (first_type c.takes) (number c.gives))
 
   -- what an operation makes of the operands in hand, in another order
   abbrev pub work_make : Operation → Order → Maker
-  work_make op order s c = I.Apply (to kit (Temp s.temp) (number c.gives)) op (order (sources kit s.temp (numbers_of c.takes))) ∷ []
+  work_make op order s c =
+      live_code c.takes (I.Apply (to kit (Temp s.temp) (number c.gives)) op (order (sources kit s.temp (numbers_of c.takes))) ∷ [])
 
   abbrev pub cast_code : List Case → List Indices → Piece → Tail → Coder
   cast_code cases gives a tail s l = code_of a s l ++ made_code 1 cast_make cases gives tail s (l + count_of a)
@@ -329,7 +349,7 @@ module _ (kit : Kit) (number : Sized → ℕ) where
 
   -- where ways meet: each way's value comes from its own type to that of the node, whose case is the same behind all; then its numbers are noted
   abbrev pub met_arm : Sized → Stand → Case → ℕ → List Instruction
-  met_arm t s c l = retype kit s.temp (number t) (number c.gives)
+  met_arm t s c l = live_code (t ∷ []) (retype kit s.temp (number t) (number c.gives))
 
   abbrev pub met_tail : List Case → Stand → Tail
   met_tail cases s = record {
@@ -381,7 +401,7 @@ module _ (kit : Kit) (number : Sized → ℕ) where
       ∷ I.Apply (to kit (Temp n) (number s)) (O.Construct c) (from kit (Temp n) (number (payload_typ types u c (out-Sized s))) ∷ []) ∷ []
 
   abbrev pub construct_make : Types → ℕ → ℕ → Maker
-  construct_make types u c s a = construct_code types u c s.temp a.takes a.gives
+  construct_make types u c s a = live_code a.takes (construct_code types u c s.temp a.takes a.gives)
 
   -- the answer of a call comes to the type of the node's case
   abbrev pub answer_make : ℕ → Maker

@@ -6,7 +6,7 @@ use Rattle.size_values.specs.declared.sized.Sized.{Sized}
 use Rattle.jib.specs.declared.code.Source.{Source}
 use Rattle.jib.specs.declared.code.Operation.TheVariants as O
 use Rattle.jib.specs.declared.code.Instruction.TheVariants as I
-use Rattle.sized_nodes.specs.declared.trees.Case.{Case}
+use Rattle.sized_meanings.specs.Case.{Case}
 use Rattle.lowered_pieces.specs.Places.{Kit, Temp, from, to}
 use Rattle.lowered_pieces.specs.Forms.{Coder, End, Piece, Tail, all_code, all_labels, all_notes, kit_at, note_code, notes_in, nothing_piece, one_end}
 

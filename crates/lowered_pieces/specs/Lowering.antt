@@ -19,7 +19,7 @@ use Rattle.sail_types.specs.declared.values.Value.TheVariants as V
 use Rattle.jib.specs.declared.code.Literal.TheVariants as J
 use Rattle.sail_core.specs.Values.{literal_typ, literal_value, int_typ}
 use Rattle.model_state.specs.declared.cause.Cause.TheVariants.{Exit, Assertion, MatchFailure}
-use Rattle.size_values.specs.declared.sized.Sized.{Sized, out-Sized}
+use Rattle.size_values.specs.declared.sized.Sized.{Sized}
 use Rattle.checked_meaning.specs.Fits.{has_sizes}
 use Rattle.checked_meaning.specs.Items.{fixed_typ}
 use Rattle.jib.specs.declared.code.Operation.TheVariants as O
@@ -28,15 +28,15 @@ use Rattle.lowered_pieces.specs.Places.{Naming, Kit}
 use Rattle.lowered_pieces.specs.Tables.{Tables, leads_to}
 use Rattle.lowered_pieces.specs.Arms.{arm_lowered, arms_lowered, constant_of, match_piece, let_piece, clauses_piece, try_piece}
 use Rattle.sail_types.specs.declared.rows.Row.{Row}
-use Rattle.sized_nodes.specs.declared.trees.Case.{Case}
+use Rattle.sized_meanings.specs.Case.{Case}
 use Rattle.lowered_pieces.specs.Paths.{path_piece}
 use Rattle.lowered_pieces.specs.Gathered.{state_piece, all_one, is_one}
 use Rattle.lowered_pieces.specs.Writes.{target_spot, assign_piece, spot_lowered}
 use Rattle.lowered_pieces.specs.Counted.{foreach_piece}
-use Rattle.lowered_pieces.specs.Mapped.{applied_piece, optional_piece, with_ends}
+use Rattle.lowered_pieces.specs.Mapped.{applied_piece, ends_with, fixed_end, optional_piece, with_ends}
 use Rattle.sail_core.specs.Meaning.{option_typ}
-use Rattle.lowered_pieces.specs.Fields.{field_types_of, with_make}
-use Rattle.lowered_pieces.specs.Forms.{Piece, Callees, nothing_piece, constant_piece, unit_piece, made_piece, local_make, source_make, cast_piece}
+use Rattle.lowered_pieces.specs.Fields.{with_make}
+use Rattle.lowered_pieces.specs.Forms.{Callees, End, Piece, nothing_piece, constant_piece, unit_piece, made_piece, local_make, source_make, cast_piece}
 use Rattle.lowered_pieces.specs.Forms.{throw_piece, bind_piece, seq_piece, if_piece, meet_piece, inside_piece, while_piece, repeat_piece}
 use Rattle.lowered_pieces.specs.Forms.{work_piece, made_of_piece, construct_make, call_piece, in_order, in_fields, unit_source, return_piece}
 use Rattle.lowered_pieces.specs.Forms.{stop_piece, assert_piece, and_piece}
@@ -189,18 +189,9 @@ abbrev pub row_lowered : Bool → List Case → List Node → Bool
 row_lowered true cases args = is_one cases && (all_one (pieces_of args) && all_lowered args)
 row_lowered false cases args = all_lowered args
 
--- the types of all fields of structs in hand have numbers
-abbrev pub all_known : (Sized → Bool) → List Sized → Bool
-all_known known [] = true
-all_known known (t ∷ ts) = known t && all_known known ts
-
-abbrev first_known : Types → (Sized → Bool) → List Sized → Bool
-first_known types known [] = true
-first_known types known (t ∷ ts) = all_known known (field_types_of types (out-Sized t))
-
-abbrev pub fields_known : Types → (Sized → Bool) → List Case → Bool
-fields_known types known [] = true
-fields_known types known (c ∷ cs) = first_known types known c.takes && fields_known types known cs
+-- a direction that is called takes values of the one type that its operand has
+abbrev pub applied_lowered : Callees → ℕ → List End → Bool
+applied_lowered callees d es = callees.crosses d && ends_with (callees.direction d).takes (fixed_end es)
 
 -- literals have to be of their types, numbers and truths of variables have to be known, and a call has to lead to instances of its function
 abbrev pub kind_lowered : Types → Callees → Tables → ℕ → Kind → List Node → Bool
@@ -217,7 +208,7 @@ kind_lowered types callees tables k (K.Vector shape) parts = all_lowered parts
 kind_lowered types callees tables k (K.List shape) parts = all_lowered parts
 kind_lowered types callees tables k (K.Cons shape) parts = all_lowered parts
 kind_lowered types callees tables k (K.Struct struct fields) parts = all_lowered parts
-kind_lowered types callees tables k (K.With struct (i ∷ [])) parts = all_lowered parts
+kind_lowered types callees tables k (K.With struct (i ∷ is)) parts = all_lowered parts
 kind_lowered types callees tables k (K.Part suffixes) (a ∷ indexes) = a.ok && path_lowered suffixes indexes
 kind_lowered types callees tables k K.WithItem (a ∷ b ∷ c ∷ []) = a.ok && (b.ok && c.ok)
 kind_lowered types callees tables k K.WithSlice (a ∷ b ∷ c ∷ d ∷ []) = a.ok && (b.ok && (c.ok && d.ok))
@@ -231,6 +222,7 @@ kind_lowered types callees tables k (K.If shape) (c ∷ a ∷ []) = c.ok && a.ok
 kind_lowered types callees tables k (K.If shape) (c ∷ a ∷ b ∷ []) = c.ok && (a.ok && b.ok)
 kind_lowered types callees tables k K.While (m ∷ c ∷ b ∷ []) = m.ok && (c.ok && b.ok)
 kind_lowered types callees tables k K.Repeat (m ∷ b ∷ c ∷ []) = m.ok && (b.ok && c.ok)
+kind_lowered types callees tables k (K.Foreach name way) (a ∷ b ∷ c ∷ body ∷ []) = a.ok && (b.ok && (c.ok && body.ok))
 kind_lowered types callees tables k K.Throw (a ∷ []) = a.ok
 kind_lowered types callees tables k K.Return (a ∷ []) = a.ok
 kind_lowered types callees tables k K.Exit (a ∷ []) = a.ok
@@ -243,6 +235,7 @@ kind_lowered types callees tables k (K.Match arms shape) (a ∷ bodies) = is_mat
 kind_lowered types callees tables k (K.Try arms shape) (a ∷ bodies) =
     a.ok && (has_ends (ends_of (tables.gives k) (tables.cases k 0)) && (arms_lowered callees.size arms && all_lowered bodies))
 kind_lowered types callees tables k (K.Clauses arms) bodies = arms_lowered callees.size arms && all_lowered bodies
+kind_lowered types callees tables k (K.Call (F.Applies d)) (a ∷ []) = applied_lowered callees d a.piece.ends && a.ok
 kind_lowered types callees tables k kind parts = false
 
 module _ (types : Types) (kit : Kit) (number : Sized → ℕ) (callees : Callees) (tables : Tables) where

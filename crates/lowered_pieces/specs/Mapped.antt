@@ -10,7 +10,7 @@ use Rattle.size_values.specs.declared.sized.Sized.{Sized}
 use Rattle.jib.specs.declared.code.Operation.TheVariants as O
 use Rattle.jib.specs.declared.code.Instruction.{Instruction}
 use Rattle.jib.specs.declared.code.Instruction.TheVariants as I
-use Rattle.sized_nodes.specs.declared.trees.Case.{Case}
+use Rattle.sized_meanings.specs.Case.{Case}
 use Rattle.lowered_pieces.specs.Places.{Temp, Kit, from, to}
 use Rattle.lowered_pieces.specs.Chains.{many}
 use Rattle.lowered_pieces.specs.Moves.{retype}

@@ -4,12 +4,12 @@ use Rattle.sail_types.specs.Places.{Given}
 use Rattle.sail_core.specs.declared.tree.Giver.TheVariants as G
 use Rattle.size_values.specs.declared.sized.Sized.{Sized}
 use Rattle.size_values.specs.declared.sized.Sized.TheVariants as S
-use Rattle.sized_nodes.specs.declared.trees.Case.{Case}
-use Rattle.sized_nodes.specs.declared.trees.Lead.{Lead}
-use Rattle.sized_nodes.specs.declared.trees.NodeSizes.{NodeSizes}
-use Rattle.sized_nodes.specs.declared.trees.NodeSizes.TheVariants as Z
-use Rattle.sized_nodes.specs.declared.trees.SizedInstance.{SizedInstance}
-use Rattle.sized_nodes.specs.declared.trees.Told.{Told}
+use Rattle.sized_meanings.specs.Case.{Case}
+use Rattle.sized_meanings.specs.Lead.{Lead}
+use Rattle.sized_meanings.specs.NodeSizes.{NodeSizes}
+use Rattle.sized_meanings.specs.NodeSizes.TheVariants as Z
+use Rattle.sized_meanings.specs.SizedInstance.{SizedInstance}
+use Rattle.sized_meanings.specs.Told.{Told}
 use Rattle.sized_meanings.specs.Present.{gives_at}
 use Rattle.sized_meanings.specs.Sized.{numbers_of}
 use Rattle.lowered_pieces.specs.Tables.{Tables}

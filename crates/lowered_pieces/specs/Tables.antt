@@ -3,8 +3,8 @@ use Rattle.std.specs.Prelude.{ℕ, nat_eq, Bool, true, ◌&&◌, List, [], ◌�
 use Rattle.sail_types.specs.Places.{Given}
 use Rattle.value_indices.specs.declared.indices.Indices.{Indices}
 use Rattle.size_values.specs.declared.sized.Sized.{Sized}
-use Rattle.sized_nodes.specs.declared.trees.Case.{Case}
-use Rattle.sized_nodes.specs.declared.trees.Lead.{Lead}
+use Rattle.sized_meanings.specs.Case.{Case}
+use Rattle.sized_meanings.specs.Lead.{Lead}
 
 -- by the numbers of nodes: a target's stands where it is read and where it is written, so cases also go by how many operands they take; what an arm's
 -- names give also goes by how many arms or statements stand behind it

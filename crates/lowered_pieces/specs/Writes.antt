@@ -22,7 +22,7 @@ use Rattle.jib.specs.declared.code.Operation.TheVariants as O
 use Rattle.jib.specs.declared.code.Instruction.{Instruction}
 use Rattle.jib.specs.declared.code.Instruction.TheVariants as I
 use Rattle.jib.specs.declared.code.Target.TheVariants as J
-use Rattle.sized_nodes.specs.declared.trees.Case.{Case}
+use Rattle.sized_meanings.specs.Case.{Case}
 use Rattle.lowered_pieces.specs.Places.{Kit, Temp, from, to}
 use Rattle.lowered_pieces.specs.Tables.{Tables, leads_to}
 use Rattle.lowered_pieces.specs.Chains.{by_case, many}
@@ -210,10 +210,22 @@ module _ (types : Types) (known : Sized → Bool) where
   suffixes_fit ss [] news = true
   suffixes_fit ss (c ∷ cs) news = fits_all ss c.gives news && suffixes_fit ss cs news
 
+-- behind a field stands one suffix, and the field's type has a number whatever the case of the register's node is
+abbrev pub is_field : Way → Bool
+is_field (Y.Field struct i) = true
+is_field way = false
+
+abbrev pub ways_known : Types → (Sized → Bool) → Way → List Case → Bool
+ways_known types known way [] = true
+ways_known types known way (c ∷ cs) = known (way_typ types way c.gives) && ways_known types known way cs
+
 -- with so many parts
 abbrev pub spot_lowered : Types → Tables → Option Spot → ℕ → Bool
 spot_lowered types tables (Some (whole k r)) n = nat_eq n 1
 spot_lowered types tables (Some (part k j r (s ∷ []))) n =
     nat_eq n (takes_in (s ∷ []) + 1) && has_ends (ends_of (tables.gives j) (tables.cases j 0))
+spot_lowered types tables (Some (part k j r (f ∷ s ∷ []))) n =
+    (is_field f.way && ways_known types tables.known f.way (tables.cases j 0))
+    && (nat_eq n (takes_in (f ∷ s ∷ []) + 1) && has_ends (ends_of (tables.gives j) (tables.cases j 0)))
 spot_lowered types tables (Some (called k place m j f)) n = nat_eq n (m + 1) && leads_to tables.of f (tables.leads j)
 spot_lowered types tables spot n = false

@@ -4,6 +4,7 @@ ghost use Rattle.jib.specs.declared.code.Source.TheVariants as read;
 ghost use Rattle.jib.specs.declared.code.Target.TheVariants as write;
 ghost use Rattle.jib.specs.declared.code.Instruction.TheVariants as code;
 ghost use Rattle.jib.specs.declared.code.Source.{Source};
+ghost use Rattle.lowered_slots.specs.Slots.{with_slot};
 ghost use Rattle.lowered_pieces.specs.Places.{Naming};
 ghost use Rattle.lowered_pieces.specs.Emitted.{Emits, Grows, HasNumber, Puts, Sourced, no_labels};
 
@@ -42,6 +43,7 @@ impl Coding {
     pub fn slot(&mut self, place: Place, typ: u32) -> Result<u32, AllocError>
         ensures number { IfOk result (λ number. HasNumber self.new.slots place typ number) }
         ensures there { IfOk result (λ number. number < length self.new.slots) }
+        ensures slots { OnOk result (self.new.slots ≡ with_slot place typ self.old.slots) }
         ensures grown { OnOk result (Grows self.old self.new) }
     {
         number_slot(&mut self.slots, place, typ)

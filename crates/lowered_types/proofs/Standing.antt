@@ -28,7 +28,7 @@ use Rattle.checked_meaning.specs.Fits.{Fits, all_fit, each_fits, fields_fit, fie
 use Rattle.checked_meaning.specs.Items.{constant_of, component_typ, item_typ, payload_of, payload_typ}
 use Rattle.exact_sizes.proofs.Equal.{sized_same}
 use Rattle.lowered_types.specs.Table.{TypesStand, all_known, form_never, form_parts, form_value, is_known, named_parts, named_value, natural, type_in}
-use Rattle.lowered_types.specs.Laws.{PartsKnown, PartsOf, TypesHave, is_named}
+use Rattle.lowered_types.specs.Laws.{PartsKnown, PartsOf, TypesHave, field_types, is_named, types_under}
 
 no : {A : Type 0} → false ≡ true → A
 no h = cc
@@ -140,10 +140,25 @@ module _ (types : Types) (ss : List Sized) (vts : List ValueType) (stand : Types
       at (Some d) h = of_form d.form h
   union_part u c z n h = no n
 
+  struct_part : (z : Sized-F Sized) → all_known ss (form_parts types z) ≡ true → all_known ss (field_types types z) ≡ true
+  struct_part (Z.Named v zs qs) h = at (slice_get types.definitions v) h
+    where
+      of_form : (f : Form) → all_known ss (named_parts types zs qs f) ≡ true → all_known ss (types_under types zs qs (form_fields f)) ≡ true
+      of_form (F.Struct fs) h = h
+      of_form (F.Union fs) h = refl
+      of_form (F.Enum ms) h = refl
+
+      at : (o : Option Definition) → all_known ss (in_form [] (named_parts types zs qs) o) ≡ true
+          → all_known ss (types_under types zs qs (in_form None form_fields o)) ≡ true
+      at None h = refl
+      at (Some d) h = of_form d.form h
+  struct_part z h = refl
+
   all_parts : PartsOf types ss
   all_parts = record {
     of_tuple = λ i t k. tuple_part (out-Sized t) i (parts t k);
     of_items = λ t k. item_part (out-Sized t) (parts t k);
+    of_fields = λ t k. struct_part (out-Sized t) (parts t k);
     of_union = λ u c t n k. union_part u c (out-Sized t) n (parts t k);
   }
 

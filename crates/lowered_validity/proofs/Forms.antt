@@ -8,7 +8,7 @@ use Rattle.jib.specs.declared.code.Operation.TheVariants as O
 use Rattle.jib.specs.declared.code.Instruction.TheVariants as I
 use Rattle.sail_base.specs.declared.place.Place.{Place as TextPlace}
 use Rattle.model_state.specs.declared.cause.Cause.TheVariants.{Measure}
-use Rattle.std.specs.Prelude.{negsuc, pos, nat_eq}
+use Rattle.std.specs.Prelude.{negsuc, pos, nat_eq, ◌||◌}
 use Rattle.std.proofs.Common.{inl, inr, eqb-true, subst}
 use Rattle.std.proofs.Common.{Bool, List, Some, [], ap, length, refl, sym, true, ℕ, ◌&&◌, ◌++◌, ◌+◌, ◌∙◌, ◌∷◌, ◌≡◌}
 use Rattle.checked_meaning.specs.Items.{fixed_typ}
@@ -19,9 +19,10 @@ use Rattle.jib.specs.declared.code.Literal.{Literal}
 use Rattle.jib.specs.declared.code.Module.{Module}
 use Rattle.lowered_pieces.specs.Chains.{many}
 use Rattle.lowered_pieces.specs.Forms.{Callees, Depths, Piece, Stand, again_code, again_make, and_piece, assert_piece, bind_piece, bind_tail, bound, code_of}
-use Rattle.lowered_pieces.specs.Forms.{constant_piece, count_of, enter_code, if_piece, inner, inside_piece, jump_where, meet_piece, met_arm, met_tail}
+use Rattle.lowered_pieces.specs.Forms.{constant_piece, count_of, enter_code, if_piece, inner, inside_piece, is_never, jump_where, meet_piece, met_arm, met_tail}
 use Rattle.lowered_pieces.specs.Forms.{no_tail, nothing_piece, or_piece, picked_in, return_piece, return_tail, seq_piece, stop_piece, throw_piece, throw_tail}
 use Rattle.lowered_pieces.specs.Forms.{unit_piece, when_piece}
+use Rattle.lowered_pieces.specs.Moves.{retype}
 use Rattle.lowered_pieces.specs.Lowering.{kit_of}
 use Rattle.lowered_pieces.specs.Places.{Kit, Local, Naming, Number, Raised, Temp, from, to}
 use Rattle.lowered_pieces.specs.Tables.{Tables}
@@ -30,7 +31,7 @@ use Rattle.lowered_validity.proofs.Cases.{Arms, by_case_right}
 use Rattle.lowered_validity.proofs.Fitting.{constant_copy, copy_fits, end_fits, parts_of, retype_right, slot_copy, slot_typ, truth_fits, unit_is}
 use Rattle.lowered_validity.proofs.Flow.{alone, append, before, set_behind, set_first, set_next, tail_first, tail_second}
 use Rattle.lowered_validity.proofs.Labels.{goto_fits, label_fits, stop_fits}
-use Rattle.lowered_validity.proofs.Makers.{again_makes, made_right}
+use Rattle.lowered_validity.proofs.Makers.{again_makes, made_right, one_live}
 use Rattle.lowered_validity.specs.Laws.{Numbered}
 use Rattle.lowered_validity.specs.Right.{Fits, Labels, Placed, Right, RightPiece, RightTail, Signs}
 use Rattle.lowered_validity.specs.Typing.{are_of, cases_right, comes, gives_in, is_constant, meet_right, meets, picks_small}
@@ -180,21 +181,29 @@ module _ (types : Types) (ss : List Sized) (callees : Callees) (m : Module) (f :
   -- ---- ways that meet
 
   met_arms : (out : Labels) (t : Sized) (s : Stand) (cases : List Case)
-      → cases_right types number callees tables g (λ c. comes g (number t) (number c.gives)) cases ≡ true
+      → cases_right types number callees tables g (λ c. is_never t || comes g (number t) (number c.gives)) cases ≡ true
       → Arms types ss callees m f n name g pl picked_in (met_arm K number t s) out cases
   met_arms out t s [] h = tt
   met_arms out t s (c ∷ cs) h =
-      let p : Case → Bool = λ x. comes g (number t) (number x.gives) in
+      let p : Case → Bool = λ x. is_never t || comes g (number t) (number x.gives) in
       let q = parts_of (picks_small c.picked) (tables.known c.gives && (p c && cases_right types number callees tables g p cs)) h in
       let r = parts_of (tables.known c.gives) (p c && cases_right types number callees tables g p cs) q.1 in
       let w = parts_of (p c) (cases_right types number callees tables g p cs) r.1 in
-      ((q.0, λ l. retype_right types ss callees m f n name g pl out s.temp (number t) (number c.gives) w.0), met_arms out t s cs w.1)
+      let make : comes g (number t) (number c.gives) ≡ true → Ok out (retype K s.temp (number t) (number c.gives)) =
+      retype_right types ss callees m f n name g pl out s.temp (number t) (number c.gives) in (
+        (
+          q.0,
+          λ l. one_live types ss callees m f n name g pl tables all out t (retype K s.temp (number t) (number c.gives))
+              (comes g (number t) (number c.gives)) w.0 make,
+        ),
+        met_arms out t s cs w.1,
+      )
 
   met_right : (out : Labels) (s : Stand) (cases : List Case) (ts : List Sized) → meets types number callees tables g ts cases ≡ true
       → RightTail m f n out (met_tail K number cases s) ts
   met_right out s cases [] h = tt
   met_right out s cases (t ∷ ts) h =
-      let q = parts_of (cases_right types number callees tables g (λ c. comes g (number t) (number c.gives)) cases)
+      let q = parts_of (cases_right types number callees tables g (λ c. is_never t || comes g (number t) (number c.gives)) cases)
       (meets types number callees tables g ts cases) h in (
         λ l. by_case_right types ss callees m f n name g pl picked_in s.depths (s.temp + 1) 0 (met_arm K number t s) out cases (met_arms out t s cases q.0) l,
         met_right out s cases ts q.1,

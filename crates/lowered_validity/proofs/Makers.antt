@@ -6,7 +6,7 @@ use Rattle.jib.specs.declared.code.Instruction.TheVariants as I
 use Rattle.sail_core.specs.Making.{payload}
 use Rattle.checked_meaning.specs.Items.{part_typ}
 use Rattle.std.proofs.Common.{zero, suc, length, subst, arith}
-use Rattle.std.specs.Prelude.{slice_get}
+use Rattle.std.specs.Prelude.{false, slice_get, ◌||◌, if◌then◌else◌}
 use Rattle.size_values.specs.declared.sized.Sized.{out-Sized}
 use Rattle.lowered_pieces.specs.Fields.{field_types_of, fields_out, with_code, with_make, with_sources}
 use Rattle.lowered_validity.specs.Right.{Fits}
@@ -19,11 +19,12 @@ use Rattle.jib.specs.declared.code.Instruction.{Instruction}
 use Rattle.jib.specs.declared.code.Module.{Module}
 use Rattle.jib.specs.declared.code.Operation.{Operation}
 use Rattle.jib.specs.declared.code.Source.{Source}
-use Rattle.lowered_pieces.specs.Forms.{Callees, Maker, Order, Stand, Tail, again_make, answer_make, cast_make, construct_code, construct_make, first_type}
-use Rattle.lowered_pieces.specs.Forms.{in_order, kit_at, local_make, made_arm, made_code, made_piece, note_code, numbers_of, picked_in, place_of, set_fields}
+use Rattle.lowered_pieces.specs.Forms.{Callees, Maker, Order, Stand, Tail, again_make, answer_make, cast_make, construct_code, construct_make, dead, first_type}
+use Rattle.lowered_pieces.specs.Forms.{in_order, is_never, kit_at, live_code, local_make, made_arm}
+use Rattle.lowered_pieces.specs.Forms.{made_code, made_piece, note_code, numbers_of, picked_in, place_of, set_fields}
 use Rattle.lowered_pieces.specs.Forms.{source_make, unit_source, work_make}
 use Rattle.lowered_pieces.specs.Lowering.{kit_of}
-use Rattle.lowered_pieces.specs.Moves.{sources}
+use Rattle.lowered_pieces.specs.Moves.{retype, sources}
 use Rattle.lowered_pieces.specs.Places.{Kit, Naming, Temp, from, to}
 use Rattle.lowered_pieces.specs.Tables.{Tables}
 use Rattle.lowered_types.specs.Table.{type_in}
@@ -35,7 +36,7 @@ use Rattle.lowered_validity.proofs.Notes.{notes_right}
 use Rattle.lowered_validity.specs.Laws.{Numbered}
 use Rattle.lowered_validity.specs.Right.{Labels, Placed, Right, RightPiece, RightTail, Signs}
 use Rattle.lowered_validity.specs.Typing.{cases_right, comes, first_number, gives_in, is_cast, is_changed, is_constructed, is_payload, is_sourced, is_with}
-use Rattle.lowered_validity.specs.Typing.{is_work, numbers, one_operand, operands, picks_small, shell, takes_fields, with_slots, works}
+use Rattle.lowered_validity.specs.Typing.{is_recast, is_work, numbers, one_operand, operands, picks_small, shell, takes_fields, with_slots, works}
 use Rattle.sail_types.specs.declared.table.Types.{Types}
 use Rattle.size_values.specs.declared.sized.Sized.{Sized}
 use Rattle.sized_nodes.specs.declared.trees.Case.{Case}
@@ -56,6 +57,23 @@ module _ (types : Types) (ss : List Sized) (callees : Callees) (m : Module) (f :
   abbrev pub Makes : (Case → Bool) → Maker K number → Type 0
   Makes p make = (out : Labels) (s : Stand) (c : Case) → p c ≡ true → Ok out (make s c)
 
+  -- nothing is made of what doesn't exist
+  pub live_right : (out : Labels) (ts : List Sized) (code : List Instruction) (b : Bool) → (dead ts || b) ≡ true → (b ≡ true → Ok out code)
+      → Ok out (live_code ts code)
+  live_right out ts code b h make = by (dead ts) h
+    where
+      by : (d : Bool) → (d || b) ≡ true → Ok out (if d then [] else code)
+      by true e = tt
+      by false e = make e
+
+  pub one_live : (out : Labels) (t : Sized) (code : List Instruction) (b : Bool) → (is_never t || b) ≡ true → (b ≡ true → Ok out code)
+      → Ok out (live_code (t ∷ []) code)
+  one_live out t code b h make = by (is_never t) h
+    where
+      by : (d : Bool) → (d || b) ≡ true → Ok out (if d || false then [] else code)
+      by true e = tt
+      by false e = make e
+
   first_same : (ts : List Sized) → first_number types number callees tables g ts ≡ first_type K number ts
   first_same [] = refl
   first_same (t ∷ ts) = refl
@@ -69,10 +87,11 @@ module _ (types : Types) (ss : List Sized) (callees : Callees) (m : Module) (f :
       move_right types ss callees m f n name g pl out (Temp s.temp) (number c.gives) (place_of s.scope text) (first_type K number c.takes)
       (ap (λ t. comes g t (number c.gives)) (sym (first_same c.takes)) ∙ h)
 
-  pub cast_makes : Makes (is_cast types number callees tables g) (cast_make K number)
+  pub cast_makes : Makes (is_recast types number callees tables g) (cast_make K number)
   cast_makes out s c h =
+      live_right out c.takes (retype K s.temp (first_type K number c.takes) (number c.gives)) (is_cast types number callees tables g c) h (λ e.
       retype_right types ss callees m f n name g pl out s.temp (first_type K number c.takes) (number c.gives)
-      (ap (λ t. comes g t (number c.gives)) (sym (first_same c.takes)) ∙ h)
+      (ap (λ t. comes g t (number c.gives)) (sym (first_same c.takes)) ∙ e))
 
   pub again_makes : (p : Case → Bool) → Makes p (again_make K number)
   again_makes p out s c h = tt
@@ -91,9 +110,12 @@ module _ (types : Types) (ss : List Sized) (callees : Callees) (m : Module) (f :
   pub work_makes : (op : Operation) (first second : Order) → Ordered types ss callees m f n name g pl first second → (f.is_pure ≡ true → is_stateless op ≡ true)
       → Makes (is_work types number callees tables g op second) (work_make K number op first)
   work_makes op first second ordered pure out s c h =
-      alone m f n out (I.Apply (to K (Temp s.temp) (number c.gives)) op (first (sources K s.temp (numbers_of K number c.takes))))
+      let i : Instruction = I.Apply (to K (Temp s.temp) (number c.gives)) op (first (sources K s.temp (numbers_of K number c.takes))) in
+      live_right out c.takes (i ∷ [])
+      (works types number callees tables g op (second (operands 0 (numbers types number callees tables g c.takes))) c.takes c.gives) h (λ e.
+      alone m f n out i
       (work_fits types ss callees m f n name g pl (Temp s.temp) (number c.gives) op first second ordered pure s.temp (numbers_of K number c.takes)
-      (ap (λ ts. operation_typed (shell g) (with_slots ts) op (second (operands 0 ts)) (Some (number c.gives))) (sym (numbers_same c.takes)) ∙ h)) tt
+      (ap (λ ts. operation_typed (shell g) (with_slots ts) op (second (operands 0 ts)) (Some (number c.gives))) (sym (numbers_same c.takes)) ∙ e)) tt)
 
   constructed : (out : Labels) (u c q : ℕ) (ts : List Sized) (s : Sized) → is_payload types number callees tables g u c ts s ≡ true
       → Ok out (construct_code K number types u c q ts s)
@@ -119,7 +141,9 @@ module _ (types : Types) (ss : List Sized) (callees : Callees) (m : Module) (f :
       (alone m f n out i2 (one_fits types ss callees m f n name g pl (Temp q) (number s) (O.Construct c) (Temp q) (number p) refl d.1) tt)
 
   pub construct_makes : (u c : ℕ) → Makes (is_constructed types number callees tables g u c) (construct_make K number types u c)
-  construct_makes u c out s a h = constructed out u c s.temp a.takes a.gives h
+  construct_makes u c out s a h =
+      live_right out a.takes (construct_code K number types u c s.temp a.takes a.gives) (is_payload types number callees tables g u c a.takes a.gives) h
+      (constructed out u c s.temp a.takes a.gives)
 
   -- ---- several fields of a struct
 
@@ -193,7 +217,9 @@ module _ (types : Types) (ss : List Sized) (callees : Callees) (m : Module) (f :
       (fields_out_right out q (q + 1 + length ts) t old 0 r.0) (alone m f n out i2 (build_fits is q ts old s r.1) tt)
 
   pub with_makes : (is : List ℕ) → Makes (is_changed types number callees tables g is) (with_make K number types is)
-  with_makes is out s c h = changed_right out is s.temp c.takes c.gives h
+  with_makes is out s c h =
+      live_right out c.takes (with_code K number types is s.temp c.takes c.gives) (is_with types number callees tables g is c.takes c.gives) h
+      (changed_right out is s.temp c.takes c.gives)
 
   -- ---- by the cases of a node
 

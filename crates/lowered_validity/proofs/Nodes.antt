@@ -48,7 +48,7 @@ use Rattle.lowered_validity.proofs.Working.{Helds, applied_right, call_is_right,
 use Rattle.lowered_validity.proofs.Working.{path_is_right, state_is_right, work_right, write_is_right}
 use Rattle.lowered_validity.specs.Laws.{Numbered}
 use Rattle.lowered_validity.specs.Right.{Placed, RightPiece, Signs}
-use Rattle.lowered_validity.specs.Typing.{all_right, all_thrown, are_of, arms_types, cases_right, gives_in, is_cast, is_constructed, is_sourced, is_work}
+use Rattle.lowered_validity.specs.Typing.{all_right, all_thrown, are_of, arms_types, cases_right, gives_in, is_cast, is_constructed, is_recast, is_sourced, is_work}
 use Rattle.lowered_validity.specs.Typing.{leads_right, meet_right, numbers, operand_types, path_right, state_right, write_right}
 use Rattle.sail_core.specs.Values.{int_typ, literal_typ}
 use Rattle.sail_core.specs.declared.patterns.Arm.{Arm}
@@ -428,7 +428,7 @@ module _ (types : Types) (ss : List Sized) (callees : Callees) (m : Module) (f :
   kind_mine place k K.WithItem (y1 ∷ y2 ∷ y3 ∷ []) d = (refl, (in_order_worked k O.WithItem refl (y1 ∷ y2 ∷ y3 ∷ []) d).1)
   kind_mine place k K.WithSlice (y1 ∷ y2 ∷ y3 ∷ y4 ∷ []) d = (refl, (in_order_worked k O.WithSlice refl (y1 ∷ y2 ∷ y3 ∷ y4 ∷ []) d).1)
   kind_mine place k (K.Cast written) (y ∷ []) d =
-      let q = parts_of (typed y.0).right (cases_right types number callees tables g (is_cast types number callees tables g) (tables.cases k 1)) d in
+      let q = parts_of (typed y.0).right (cases_right types number callees tables g (is_recast types number callees tables g) (tables.cases k 1)) d in
       (refl, cast_right types ss callees m f n name g pl tables all (tables.cases k 1) q.1 (tables.gives k) (code y.0) (typed y.0).types (y.1 q.0).1)
   kind_mine place k (K.SizeOf t numbers) [] d = number_mine (callees.size t) d
   kind_mine place k (K.Constraint c numbers) [] d = truth_mine (callees.truth c) d

@@ -40,7 +40,7 @@ use Rattle.lowered_validity.proofs.Working.{cast_right}
 use Rattle.lowered_validity.specs.Laws.{Ended, Numbered, called_for, direction_for, event_for, is_named, is_typed, is_value, measure_right, name_for}
 use Rattle.lowered_validity.specs.Laws.{no_label, result_for, value_for}
 use Rattle.lowered_validity.specs.Right.{Goes, Labels, Placed, Right, RightPiece, Signs, seen}
-use Rattle.lowered_validity.specs.Typing.{Typing, are_of, arm_right, cases_right, gives_in, is_cast, is_sourced, picks_small, result_right, typing}
+use Rattle.lowered_validity.specs.Typing.{Typing, are_of, arm_right, cases_right, gives_in, is_recast, is_sourced, picks_small, result_right, typing}
 use Rattle.sail_core.specs.declared.patterns.Arm.{Arm}
 use Rattle.sail_types.specs.declared.table.Types.{Types}
 use Rattle.size_values.specs.declared.sized.Sized.{Sized}
@@ -289,7 +289,7 @@ module _ (types : Types) (ss : List Sized) (callees : Callees) (m : Module) (f :
       → RightPiece m f n (result_for types ss callees tables g name last body) (gives_in (tables.cases last 1))
       × (are_of types number callees tables g g.result (gives_in (tables.cases last 1)) ≡ true)
   result_piece last body d =
-      let a : Bool = cases_right types number callees tables g (is_cast types number callees tables g) (tables.cases last 1) in
+      let a : Bool = cases_right types number callees tables g (is_recast types number callees tables g) (tables.cases last 1) in
       let b : Bool = cases_right types number callees tables g (is_sourced types number callees tables g (Some g.result)) (tables.cases last 1) in
       let q = parts_of (typed_ body).right (a && b) d in
       let r = parts_of a b q.1 in

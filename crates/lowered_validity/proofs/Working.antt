@@ -52,7 +52,7 @@ use Rattle.lowered_validity.proofs.Makers.{Makes, answer_makes, cast_makes, made
 use Rattle.lowered_validity.proofs.Notes.{notes_right}
 use Rattle.lowered_validity.specs.Laws.{Numbered}
 use Rattle.lowered_validity.specs.Right.{Entered, Fits, Labels, Placed, Right, RightPiece, RightTail, Signs}
-use Rattle.lowered_validity.specs.Typing.{cases_right, comes, gives_in, is_cast, is_lead, is_sourced, is_work, leads_right, numbers, one_operand, operands}
+use Rattle.lowered_validity.specs.Typing.{cases_right, comes, gives_in, is_recast, is_lead, is_sourced, is_work, leads_right, numbers, one_operand, operands}
 use Rattle.lowered_validity.specs.Typing.{picks_small, row_ends, shell, state_right, works}
 use Rattle.sail_core.specs.Numbers.{known}
 use Rattle.sail_core.specs.declared.targets.Suffix.{Suffix}
@@ -124,12 +124,12 @@ module _ (types : Types) (ss : List Sized) (callees : Callees) (m : Module) (f :
       made_of_right (is_work types number callees tables g op second) (work_make K number op first)
       (work_makes types ss callees m f n name g pl tables all op first second ordered pure) cases d gives ps h
 
-  pub cast_right : (cases : List Case) → cases_right types number callees tables g (is_cast types number callees tables g) cases ≡ true → (gives : List Indices)
+  pub cast_right : (cases : List Case) → cases_right types number callees tables g (is_recast types number callees tables g) cases ≡ true → (gives : List Indices)
       → (a : Piece) (us : List Sized) → Piece_ a us → Piece_ (cast_piece K number cases gives a) (gives_in cases)
   cast_right cases d gives a us ha out tail s l ot on ht =
       append m f n out (code_of a s l) (made_code K number 1 (cast_make K number) cases gives tail s (l + count_of a))
       (held types ss callees m f n name g pl tables all a us ha out s l ot on)
-      (made_right types ss callees m f n name g pl tables all 1 (is_cast types number callees tables g) (cast_make K number)
+      (made_right types ss callees m f n name g pl tables all 1 (is_recast types number callees tables g) (cast_make K number)
       (cast_makes types ss callees m f n name g pl tables all) cases d gives out tail s (l + count_of a) ht)
 
   -- ---- calls
@@ -328,7 +328,7 @@ module _ (types : Types) (ss : List Sized) (callees : Callees) (m : Module) (f :
       (liked_fits types ss callees m f n name g pl (Temp s.temp) (number option) (O.Construct 1) [] (z ∷ []) (λ e. refl) d) tt (ht.0 l)
 
   whole_right : (k r : ℕ) (p : Piece) (us : List Sized) → f.is_pure ≡ false → Piece_ p us
-      → cases_right types number callees tables g (is_cast types number callees tables g) (tables.cases k 1) ≡ true
+      → cases_right types number callees tables g (is_recast types number callees tables g) (tables.cases k 1) ≡ true
       → cases_right types number callees tables g (is_sourced types number callees tables g (slice_get g.registers r)) (tables.cases k 1) ≡ true
       → Piece_ (write_piece K number tables r (new_piece types K number callees tables k p)) (fixed_typ types Y.Unit ∷ [])
   whole_right k r p us free hp d1 d2 out tail s l ot on ht =
@@ -486,7 +486,7 @@ module _ (types : Types) (ss : List Sized) (callees : Callees) (m : Module) (f :
   spot_is_right (whole k r) [] (t ∷ ts) e free h d = absurd h
   spot_is_right (whole k r) (p ∷ ps) [] e free h d = absurd h
   spot_is_right (whole k r) (p ∷ []) (t ∷ []) e free h d =
-      let d1 : Bool = cases_right types number callees tables g (is_cast types number callees tables g) (tables.cases k 1) in
+      let d1 : Bool = cases_right types number callees tables g (is_recast types number callees tables g) (tables.cases k 1) in
       let d2 : Bool = cases_right types number callees tables g (is_sourced types number callees tables g (slice_get g.registers r)) (tables.cases k 1) in
       let q = parts_of t.right (d1 && d2) d in
       let v = parts_of d1 d2 q.1 in
@@ -496,7 +496,7 @@ module _ (types : Types) (ss : List Sized) (callees : Callees) (m : Module) (f :
   spot_is_right (whole k r) (p ∷ q ∷ ps) (t ∷ u ∷ ts) e free h d = impossible d
   spot_is_right (part k j r qs) ps ts e free h d =
       let d0 : Bool = all_right ts in
-      let d1 : Bool = cases_right types number callees tables g (is_cast types number callees tables g) (tables.cases k 1) in
+      let d1 : Bool = cases_right types number callees tables g (is_recast types number callees tables g) (tables.cases k 1) in
       let d2 : Bool = cases_right types number callees tables g (is_sourced types number callees tables g (slice_get g.registers r)) (tables.cases j 0) in
       let d3 : Bool = replaces_all types number callees tables g qs (tables.cases j 0) (gives_in (tables.cases k 1)) in
       let q1 = parts_of (has_last types number callees tables g ts) (d0 && (d1 && (d2 && d3))) d in
@@ -511,7 +511,7 @@ module _ (types : Types) (ss : List Sized) (callees : Callees) (m : Module) (f :
   spot_is_right (called k place i j x) ps ts e free h d =
       let cases : List Case = tables.cases j (length ts) in
       let d0 : Bool = all_right ts in
-      let d1 : Bool = cases_right types number callees tables g (is_cast types number callees tables g) (tables.cases k 1) in
+      let d1 : Bool = cases_right types number callees tables g (is_recast types number callees tables g) (tables.cases k 1) in
       let d2 : Bool = leads_right types number callees tables g cases (tables.leads j) in
       let q1 = parts_of (has_last types number callees tables g ts) (d0 && (d1 && d2)) d in
       let q2 = parts_of d0 (d1 && d2) q1.1 in

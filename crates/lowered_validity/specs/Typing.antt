@@ -43,7 +43,7 @@ use Rattle.jib.specs.declared.code.Module.{Module}
 use Rattle.jib.specs.Typing.{literal_some, payload_typ, same, sort_at}
 use Rattle.jib.specs.Operands.{alike, operation_typed, some_comparable}
 use Rattle.lowered_pieces.specs.Tables.{Tables}
-use Rattle.lowered_pieces.specs.Forms.{Callees, End, Mapped, Order, cases_ends, ends_of, in_fields, in_order, one_end, set_fields}
+use Rattle.lowered_pieces.specs.Forms.{Callees, End, Mapped, Order, cases_ends, dead, ends_of, in_fields, in_order, is_never, one_end, set_fields}
 use Rattle.lowered_pieces.specs.Arms.{Matched, arguments, constant_of, cut_widths, in_hand, is_union, part_width, steps_in, word_width}
 use Rattle.lowered_pieces.specs.Gathered.{only_end}
 use Rattle.lowered_pieces.specs.Writes.{Spot, called, part, put_op, take_op, target_spot, way_typ, whole}
@@ -132,12 +132,16 @@ module _ (types : Types) (number : Sized → ℕ) (callees : Callees) (tables : 
   abbrev pub is_cast : Case → Bool
   is_cast c = comes g (first_number c.takes) (number c.gives)
 
+  -- nothing is made of a value in hand that doesn't exist
+  abbrev pub is_recast : Case → Bool
+  is_recast c = dead c.takes || is_cast c
+
   -- so from a source of this type
   abbrev pub is_sourced : Option ℕ → Case → Bool
   is_sourced o c = same o (Some (number c.gives))
 
   abbrev pub is_work : Operation → Order → Case → Bool
-  is_work op order c = works op (order (operands 0 (numbers c.takes))) c.takes c.gives
+  is_work op order c = dead c.takes || works op (order (operands 0 (numbers c.takes))) c.takes c.gives
 
   abbrev pub is_payload : ℕ → ℕ → List Sized → Sized → Bool
   is_payload u c [] s = works (O.Construct c) (no_value ∷ []) [] s
@@ -147,7 +151,7 @@ module _ (types : Types) (number : Sized → ℕ) (callees : Callees) (tables : 
       && works (O.Construct c) one_operand (part_typ types (payload u c) s ∷ []) s
 
   abbrev pub is_constructed : ℕ → ℕ → Case → Bool
-  is_constructed u c a = is_payload u c a.takes a.gives
+  is_constructed u c a = dead a.takes || is_payload u c a.takes a.gives
 
   -- a struct with others in several fields: all are taken out, and it is built anew
   abbrev pub takes_fields : Sized → ℕ → List Sized → Bool
@@ -162,12 +166,12 @@ module _ (types : Types) (number : Sized → ℕ) (callees : Callees) (tables : 
       (ts ++ field_types_of types (out-Sized t)) s
 
   abbrev pub is_changed : List ℕ → Case → Bool
-  is_changed is c = is_with is c.takes c.gives
+  is_changed is c = dead c.takes || is_with is c.takes c.gives
 
-  -- values of these types come to the types of the cases
+  -- values of these types come to the types of the cases, where they exist
   abbrev pub meets : List Sized → List Case → Bool
   meets [] cases = true
-  meets (t ∷ ts) cases = cases_right (λ c. comes g (number t) (number c.gives)) cases && meets ts cases
+  meets (t ∷ ts) cases = cases_right (λ c. is_never t || comes g (number t) (number c.gives)) cases && meets ts cases
 
   -- where ways meet, each comes to the type of the case behind all
   abbrev pub meet_right : List Sized → List Case → Bool
@@ -255,12 +259,12 @@ module _ (types : Types) (number : Sized → ℕ) (callees : Callees) (tables : 
   -- a register, a part of one, or what a call writes
   abbrev pub spot_right : Spot → List Typing → Bool
   spot_right (whole k r) (a ∷ []) =
-      a.right && (cases_right is_cast (tables.cases k 1) && cases_right (is_sourced (slice_get g.registers r)) (tables.cases k 1))
+      a.right && (cases_right is_recast (tables.cases k 1) && cases_right (is_sourced (slice_get g.registers r)) (tables.cases k 1))
   spot_right (part k j r ss) parts =
-      has_last parts && (all_right parts && (cases_right is_cast (tables.cases k 1)
+      has_last parts && (all_right parts && (cases_right is_recast (tables.cases k 1)
       && (cases_right (is_sourced (slice_get g.registers r)) (tables.cases j 0) && replaces_all ss (tables.cases j 0) (gives_in (tables.cases k 1)))))
   spot_right (called k place n j f) parts =
-      has_last parts && (all_right parts && (cases_right is_cast (tables.cases k 1) && leads_right (tables.cases j (length parts)) (tables.leads j)))
+      has_last parts && (all_right parts && (cases_right is_recast (tables.cases k 1) && leads_right (tables.cases j (length parts)) (tables.leads j)))
   spot_right spot parts = false
 
   abbrev pub write_right : Option Spot → List Typing → Bool
@@ -555,7 +559,7 @@ module _ (types : Types) (number : Sized → ℕ) (callees : Callees) (tables : 
   kind_right k (K.Part suffixes) (a ∷ indexes) = a.right && path_right suffixes indexes
   kind_right k K.WithItem (a ∷ b ∷ c ∷ []) = all_right (a ∷ b ∷ c ∷ []) && cases_right (is_work O.WithItem in_order) (tables.cases k 3)
   kind_right k K.WithSlice (a ∷ b ∷ c ∷ d ∷ []) = all_right (a ∷ b ∷ c ∷ d ∷ []) && cases_right (is_work O.WithSlice in_order) (tables.cases k 4)
-  kind_right k (K.Cast written) (a ∷ []) = a.right && cases_right is_cast (tables.cases k 1)
+  kind_right k (K.Cast written) (a ∷ []) = a.right && cases_right is_recast (tables.cases k 1)
   kind_right k (K.SizeOf t numbers) [] = number_right (callees.size t)
   kind_right k (K.Constraint c numbers) [] = truth_right (callees.truth c)
   kind_right k (K.Assign (t ∷ [])) parts = not g.is_pure && write_right (target_spot t) parts
@@ -595,4 +599,4 @@ module _ (types : Types) (number : Sized → ℕ) (callees : Callees) (tables : 
 
   -- the body's value comes to the type of the result at a node of its own
   abbrev pub result_right : ℕ → Typing → Bool
-  result_right last body = body.right && (cases_right is_cast (tables.cases last 1) && cases_right (is_sourced (Some g.result)) (tables.cases last 1))
+  result_right last body = body.right && (cases_right is_recast (tables.cases last 1) && cases_right (is_sourced (Some g.result)) (tables.cases last 1))

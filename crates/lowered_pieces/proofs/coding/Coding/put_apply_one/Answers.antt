@@ -13,5 +13,6 @@ returns c =
     let mid = c.source.new.self in
     let by : Naming → List Source = λ name. R.Slot (name c.args.from c.args.other) ∷ [] in
     let is : c.push.new.self ≡ c.in_ok-source.source ∷ [] = c.in_ok-push.ensures.pushed ∙ ap (λ rs. rs ++ c.in_ok-source.source ∷ []) c.new-sources.ensures in
-    ok_from c.put_apply.result c.args.self.now mid c.put_apply.new.self (λ name l. I.Apply (G.Slot (name c.args.to c.args.typ)) c.args.op (by name) ∷ []) no_labels
+    ok_from c.put_apply.result c.args.self.now mid c.put_apply.new.self (λ name l. I.Apply (G.Slot (name c.args.to c.args.typ)) c.args.op (by name) ∷ [])
+    no_labels
     c.in_ok-source.ensures.grown (c.put_apply.ensures by (subst (λ rs. Sourced mid.slots rs by) (sym is) c.in_ok-source.ensures.read))

@@ -17,7 +17,8 @@ returns c =
     let second : Naming → List Source = λ name. R.Slot (name c.args.second c.args.other) ∷ [] in
     let by : Naming → List Source = λ name. R.Slot (name c.args.first c.args.other) ∷ R.Slot (name c.args.second c.args.other) ∷ [] in
     let one : c.push.new.self ≡ c.in_ok-before.before ∷ [] = c.in_ok-push.ensures.pushed ∙ ap (λ rs. rs ++ c.in_ok-before.before ∷ []) c.new-sources.ensures in
-    let is : c.push-2.new.self ≡ c.in_ok-before.before ∷ c.in_ok-behind.behind ∷ [] = c.in_ok-push-2.ensures.pushed ∙ ap (λ rs. rs ++ c.in_ok-behind.behind ∷ []) one in
+    let is : c.push-2.new.self ≡ c.in_ok-before.before ∷ c.in_ok-behind.behind ∷ [] = c.in_ok-push-2.ensures.pushed ∙ ap
+    (λ rs. rs ++ c.in_ok-behind.behind ∷ []) one in
     let grown = c.in_ok-behind.ensures.grown in
     let lasts = sourced_lasts mid.slots late.slots (c.in_ok-before.before ∷ []) first grown.slots c.in_ok-before.ensures.read in
     let all : Sourced late.slots (c.in_ok-before.before ∷ c.in_ok-behind.behind ∷ []) by =

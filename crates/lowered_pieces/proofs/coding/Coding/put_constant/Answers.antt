@@ -7,5 +7,6 @@ use Rattle.lowered_pieces.proofs.coding.Coding.put_constant.Goals as goal
 
 pub returns : goal.returns
 returns c =
-    ok_put_one c.put_plain.result c.args.self.now c.slot.new.self c.put_plain.new.self _ _ _ (λ j. I.Copy (G.Slot j) (R.Constant c.args.typ c.args.literal)) c.in_ok-target.ensures.grown c.in_ok-target.ensures.number
+    ok_put_one c.put_plain.result c.args.self.now c.slot.new.self c.put_plain.new.self _ _ _ (λ j. I.Copy (G.Slot j)
+    (R.Constant c.args.typ c.args.literal)) c.in_ok-target.ensures.grown c.in_ok-target.ensures.number
     c.in_ok-target.ensures.there c.put_plain.ensures (λ lt. slot_read _ _ [] lt (no_reads _))

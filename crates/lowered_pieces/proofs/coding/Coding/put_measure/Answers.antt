@@ -6,5 +6,6 @@ use Rattle.lowered_pieces.proofs.coding.Coding.put_measure.Goals as goal
 
 pub returns : goal.returns
 returns c =
-    ok_put_one c.put_plain.result c.args.self.now c.slot.new.self c.put_plain.new.self _ _ _ (λ j. I.Measure (R.Slot j)) c.in_ok-slot.ensures.grown c.in_ok-slot.ensures.number
+    ok_put_one c.put_plain.result c.args.self.now c.slot.new.self c.put_plain.new.self _ _ _ (λ j. I.Measure (R.Slot j)) c.in_ok-slot.ensures.grown
+    c.in_ok-slot.ensures.number
     c.in_ok-slot.ensures.there c.put_plain.ensures (λ lt. slot_read _ _ [] lt (no_reads _))

@@ -7,5 +7,6 @@ use Rattle.lowered_pieces.proofs.coding.Coding.put_write.Goals as goal
 
 pub returns : goal.returns
 returns c =
-    ok_put_one c.put_plain.result c.args.self.now c.slot.new.self c.put_plain.new.self _ _ _ (λ j. I.Copy (G.Register c.args.register) (R.Slot j)) c.in_ok-source.ensures.grown c.in_ok-source.ensures.number
+    ok_put_one c.put_plain.result c.args.self.now c.slot.new.self c.put_plain.new.self _ _ _ (λ j. I.Copy (G.Register c.args.register) (R.Slot j))
+    c.in_ok-source.ensures.grown c.in_ok-source.ensures.number
     c.in_ok-source.ensures.there c.put_plain.ensures (λ lt. slot_read _ _ [] lt (no_reads _))

@@ -1,5 +1,5 @@
 use Rattle.std.proofs.Common.{◌<◌, length, refl}
-use Rattle.std.proofs.lemmas.Result.{IfOk-weaker, on_ok_weaker}
+use Rattle.std.proofs.lemmas.Result.{on_ok_weaker}
 use Rattle.std.proofs.Common.{◌≡◌}
 use Rattle.lowered_slots.specs.Slots.{name_in, with_slot}
 use Rattle.lowered_pieces.specs.Emitted.{HasNumber}
@@ -33,3 +33,6 @@ returns-clause-grown c =
     on_ok_weaker c.number_slot.result
     (λ (is : ts ≡ with_slot p t ss). record { slots = slot_behind ss ts p t is; code = refl; labels = refl })
     c.number_slot.ensures.put
+
+pub returns-clause-slots : goal.returns-clause-slots
+returns-clause-slots c = c.number_slot.ensures.put
