@@ -1,0 +1,4 @@
+use Rattle.lowered_steps.proofs.heads.+put_list.Given as goal
+
+abbrev pub decreases-put_list : goal.decreases-put_list
+decreases-put_list l = l.count

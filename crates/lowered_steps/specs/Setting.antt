@@ -1,0 +1,42 @@
+-- What the code of a function is made with, as the code that makes it holds it.
+use Rattle.std.specs.Prelude.{ℕ, ℤ, List, Option}
+use Rattle.sail_types.specs.declared.numbers.Num.{Num}
+use Rattle.size_values.specs.Numbers.{known_at, known_of, value_of}
+use Rattle.size_values.specs.declared.sized.Sized.{Sized}
+use Rattle.sized_nodes.specs.declared.trees.NodeSizes.{NodeSizes}
+use Rattle.sized_nodes.specs.declared.trees.SizedInstance.{SizedInstance}
+use Rattle.sized_meanings.specs.Sized.{joined_nodes}
+use Rattle.lowered_types.specs.Table.{is_known, type_in}
+use Rattle.lowered_pieces.specs.Nodes.{tables_of}
+use Rattle.lowered_pieces.specs.Places.{Kit, Naming}
+use Rattle.lowered_pieces.specs.Tables.{Tables}
+use Rattle.lowered_steps.specs.declared.setting.Setting.{Setting}
+
+-- what is constant at the nodes of all its trees
+abbrev pub nodes_in : Setting → List NodeSizes
+nodes_in setting = joined_nodes setting.bodies.now
+
+abbrev pub number_for : Setting → Sized → ℕ
+number_for setting = type_in setting.numbered.now
+
+-- the numbers that are known of the function's variables
+abbrev pub size_for : Setting → Num → Option ℤ
+size_for setting t = value_of (known_at (known_of setting.numbers.now)) t
+
+-- under a numbering of slots
+abbrev pub kit_for : Setting → Naming → Kit
+kit_for setting name = record {
+  name = name;
+  unit = setting.unit;
+  truth = setting.truth;
+  integer = setting.integer;
+  exception = setting.exception;
+  number = number_for setting;
+  nothing = setting.nothing.now;
+  truths = setting.truths.now;
+  depth = λ x. 0;
+  size = size_for setting;
+}
+
+abbrev pub tables_for : Setting → List SizedInstance → Tables
+tables_for setting instances = tables_of (is_known setting.numbered.now) instances (nodes_in setting)
