@@ -1,0 +1,17 @@
+use Rattle.std.proofs.Common.{◌∙◌, sym, ap}
+use Rattle.lowered_pieces.specs.Gathered.{is_one}
+use Rattle.lowered_steps.specs.Hands.{types_of}
+use Rattle.lowered_steps.specs.declared.hands.Ends.{Ends}
+use Rattle.lowered_ends.proofs.able.is_one.Goals as goal
+
+pub returns-in-Unsaid : goal.returns-in-Unsaid
+returns-in-Unsaid c =
+    ap (λ (e : Ends). is_one (types_of e)) (sym c.in-Unsaid.is)
+
+pub returns-in-Cases : goal.returns-in-Cases
+returns-in-Cases c =
+    c.has_one.ensures ∙ ap (λ (e : Ends). is_one (types_of e)) (sym c.in-Cases.is)
+
+pub returns-in-One : goal.returns-in-One
+returns-in-One c =
+    ap (λ (e : Ends). is_one (types_of e)) (sym c.in-One.is)

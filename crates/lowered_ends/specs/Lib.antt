@@ -1,0 +1,5 @@
+pub mod Able
+pub mod Around
+pub mod Ends
+pub mod Noted
+pub mod Targets

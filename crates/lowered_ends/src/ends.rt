@@ -1,0 +1,347 @@
+//! The types that the value of a node may have, where they are said: of a node that makes its value, by the numbers that are noted behind it.
+ghost use Rattle.std.specs.Prelude.{◌≡◌, nat_eq, length, not, IfOk};
+ghost use Rattle.sail_types.specs.declared.table.Types.{Types};
+ghost use Rattle.sail_core.specs.declared.tree.Giver.TheVariants as giver;
+ghost use Rattle.sail_core.specs.declared.tree.Kind.TheVariants as kind;
+ghost use Rattle.sail_core.specs.Values.{literal_typ};
+ghost use Rattle.row_types.specs.Calls.{has_state as has_state_of};
+ghost use Rattle.sized_meanings.specs.Present.{gives_at};
+ghost use Rattle.checked_meaning.specs.Items.{fixed_typ};
+ghost use Rattle.lowered_pieces.specs.Forms.{cases_apart, cases_ends, ends_of, is_in, picked_apart};
+ghost use Rattle.std.specs.Option.{option_copied};
+ghost use Rattle.lowered_pieces.specs.Mapped.{ends_with as ends_with_of, fixed_end as fixed_end_of};
+ghost use Rattle.lowered_pieces.specs.Nodes.{cases_at};
+ghost use Rattle.lowered_ends.specs.Ends as spec;
+ghost use Rattle.lowered_steps.specs.Hands.{types_of};
+ghost use Rattle.lowered_ends.specs.Around.{piece_as, piece_for};
+ghost use Rattle.lowered_pieces.specs.Places.{Naming};
+ghost use Rattle.lowered_steps.specs.Setting.{nodes_in};
+
+use crate::able::both;
+use crate::around::Around;
+use jib::has_state;
+use lowered_steps::{Ends, Setting, list_given};
+use sail_base::Items;
+use sail_core::{Callee, Core, Giver, Kind, Literal};
+use sail_types::{Con, Num, Row};
+use size_values::{Picked, Sized, Variables, copy_sized, same_sized, truth_of, value_of};
+use sized_nodes::Case;
+use std::alloc::{AllocError, Global};
+
+/// Whether a variable is none of these.
+fn is_apart(variable: u32, noted: &[u32]) -> bool
+    ensures { result ≡ not (is_in variable noted.now) }
+{
+    match noted {
+        [] => true,
+        [first, rest @ ..] => variable != *first && is_apart(variable, rest),
+    }
+}
+
+/// Whether none of the numbers is of one of these variables.
+fn all_apart(noted: &[u32], picked: &[Picked]) -> bool
+    ensures { result ≡ picked_apart noted.now picked.now }
+{
+    match picked {
+        [] => true,
+        [first, rest @ ..] => is_apart(first.variable, noted) && all_apart(noted, rest),
+    }
+}
+
+/// Whether cases go by none of these variables.
+pub fn are_apart(noted: &[u32], cases: &[Case]) -> bool
+    ensures { result ≡ cases_apart noted.now cases.now }
+{
+    match cases {
+        [] => true,
+        [first, rest @ ..] => all_apart(noted, first.picked.as_slice()) && are_apart(noted, rest),
+    }
+}
+
+/// What is said of the value of a node that makes one of so many operands. It fails where memory is wanting.
+pub fn made_ends<'a>(
+    alloc: Global,
+    setting: &Setting<'a>,
+    node: u32,
+    operands: usize,
+) -> Result<Ends<'a>, AllocError>
+    ensures { IfOk result (λ ends. types_of ends
+        ≡ ends_of (gives_at (nodes_in setting.now) (giver.Node node)) (cases_at node operands (nodes_in setting.now))) }
+{
+    let cases = setting.cases(node, operands);
+    let mut noted = Items::new(alloc);
+    list_given(alloc, &mut noted, setting, Giver::Node(node))?;
+    if are_apart(noted.as_slice(), cases) {
+        Ok(Ends::Cases(cases))
+    } else {
+        Ok(Ends::Unsaid)
+    }
+}
+
+/// The type of a literal. It fails where memory is wanting.
+pub fn literal_type(alloc: Global, literal: &Literal) -> Result<Sized, AllocError>
+    ensures { IfOk result (λ made. (types : Types) → made ≡ fixed_typ types (literal_typ literal.now)) }
+{
+    match literal {
+        Literal::Unit => Ok(Sized::Unit),
+        Literal::Integer(_) => Ok(Sized::Int),
+        Literal::Truth(_) => Ok(Sized::Bool),
+        Literal::Bit(_) => Ok(Sized::Bit),
+        Literal::Bits(word) => Ok(Sized::Bits(word.width() as i128)),
+        Literal::String(_) => Ok(Sized::String),
+        Literal::Member(place, _) => {
+            let numbers = Items::new(alloc);
+            let types = Items::new(alloc);
+            Ok(Sized::Named(*place, numbers, types))
+        }
+    }
+}
+
+/// The type of the only case, where it goes by no number.
+fn fixed_case(cases: &[Case]) -> Option<&Sized>
+    ensures { option_copied result ≡ fixed_end_of (cases_ends cases.now) }
+{
+    match cases {
+        [] => None,
+        [only] => match only.picked.as_slice() {
+            [] => Some(&only.gives),
+            _ => None,
+        },
+        [_, _, ..] => None,
+    }
+}
+
+/// The type that is said, where it is one whatever the numbers are.
+pub fn fixed_end<'b>(ends: &'b Ends<'_>) -> Option<&'b Sized>
+    ensures { option_copied result ≡ fixed_end_of (types_of ends.now) }
+{
+    match ends {
+        Ends::Unsaid => None,
+        Ends::Cases(cases) => fixed_case(cases),
+        Ends::One(typ) => Some(typ),
+    }
+}
+
+/// Whether one type is said, and is this one.
+pub fn ends_with(typ: &Sized, ends: &Ends<'_>) -> bool
+    ensures { result ≡ ends_with_of typ.now (fixed_end_of (types_of ends.now)) }
+{
+    match fixed_end(ends) {
+        Some(other) => same_sized(other, typ),
+        None => false,
+    }
+}
+
+/// Whether all nodes end with this type. It fails where memory is wanting.
+#[cycle(node_ends)]
+fn all_end(
+    alloc: Global,
+    setting: &Setting<'_>,
+    around: &Around<'_>,
+    typ: &Sized,
+    nodes: &[Core],
+) -> Result<bool, AllocError>
+    ensures { IfOk result (λ answer. (name : Naming) → answer ≡ spec.all_end_for setting.now around.now name typ.now nodes.now) }
+{
+    match nodes {
+        [] => Ok(true),
+        [first, rest @ ..] => {
+            let ends = node_ends(alloc, setting, around, first)?;
+            let is_first = ends_with(typ, &ends);
+            let are_others = all_end(alloc, setting, around, typ, rest)?;
+            Ok(both(is_first, are_others))
+        }
+    }
+}
+
+/// This type alone, where it is said of all. It fails where memory is wanting.
+fn end_where<'a>(alloc: Global, typ: &Sized, all: bool) -> Result<Ends<'a>, AllocError>
+    ensures { IfOk result (λ ends. types_of ends ≡ spec.end_where typ.now all) }
+{
+    if all {
+        Ok(Ends::One(copy_sized(alloc, typ)?))
+    } else {
+        Ok(Ends::Unsaid)
+    }
+}
+
+/// The type with which all nodes end, where there is one. It fails where memory is wanting.
+#[cycle(node_ends)]
+fn common_ends<'a>(
+    alloc: Global,
+    setting: &Setting<'a>,
+    around: &Around<'_>,
+    nodes: &[Core],
+) -> Result<Ends<'a>, AllocError>
+    ensures { IfOk result (λ ends. (name : Naming) → types_of ends ≡ spec.common_for setting.now around.now name nodes.now) }
+{
+    match nodes {
+        [] => Ok(Ends::Unsaid),
+        [first, rest @ ..] => {
+            let ends = node_ends(alloc, setting, around, first)?;
+            match fixed_end(&ends) {
+                Some(typ) => {
+                    let all = all_end(alloc, setting, around, typ, rest)?;
+                    end_where(alloc, typ, all)
+                }
+                None => Ok(Ends::Unsaid),
+            }
+        }
+    }
+}
+
+/// What is said of a literal without parts. It fails where memory is wanting.
+fn literal_ends<'a>(
+    alloc: Global,
+    literal: &Literal,
+    parts: &[Core],
+) -> Result<Ends<'a>, AllocError>
+    ensures { IfOk result (λ ends. (types : Types) → types_of ends ≡ spec.literal_ends types literal.now (length parts.now)) }
+{
+    match parts {
+        [] => Ok(Ends::One(literal_type(alloc, literal)?)),
+        _ => Ok(Ends::Unsaid),
+    }
+}
+
+/// What is said of the value of a node that has so many parts, where it makes one of so many operands. It fails where memory is wanting.
+fn counted_ends<'a>(
+    alloc: Global,
+    setting: &Setting<'a>,
+    node: u32,
+    operands: usize,
+    count: usize,
+    parts: &[Core],
+) -> Result<Ends<'a>, AllocError>
+    ensures { IfOk result (λ ends. types_of ends ≡ spec.counted_ends setting.now node operands (nat_eq (length parts.now) count)) }
+{
+    if parts.len() == count {
+        made_ends(alloc, setting, node, operands)
+    } else {
+        Ok(Ends::Unsaid)
+    }
+}
+
+/// What is said of the number of a size. It is one type, where the number is known.
+fn size_ends<'a>(setting: &Setting<'a>, size: &Num, parts: &[Core]) -> Ends<'a>
+    ensures { types_of result ≡ spec.size_ends setting.now size.now (length parts.now) }
+{
+    match parts {
+        [] => match value_of(size, &Variables::Known(setting.numbers, &[])) {
+            Some(_) => Ends::One(Sized::Int),
+            None => Ends::Unsaid,
+        },
+        _ => Ends::Unsaid,
+    }
+}
+
+/// What is said of the truth of a condition: one type, where the truth is known.
+fn truth_ends<'a>(setting: &Setting<'a>, condition: &Con, parts: &[Core]) -> Ends<'a>
+    ensures { types_of result ≡ spec.truth_ends setting.now condition.now (length parts.now) }
+{
+    match parts {
+        [] => match truth_of(condition, &Variables::Known(setting.numbers, &[])) {
+            Some(_) => Ends::One(Sized::Bool),
+            None => Ends::Unsaid,
+        },
+        _ => Ends::Unsaid,
+    }
+}
+
+/// What is said of the value of a builtin: of one of the state the type of its only case. It fails where memory is wanting.
+fn row_ends<'a>(
+    alloc: Global,
+    setting: &Setting<'a>,
+    row: Row,
+    node: u32,
+    count: usize,
+) -> Result<Ends<'a>, AllocError>
+    ensures { IfOk result (λ ends. types_of ends ≡ spec.row_ends setting.now (has_state_of row) node count) }
+{
+    if has_state(row) {
+        match setting.cases(node, count) {
+            [] => Ok(Ends::Unsaid),
+            [only] => Ok(Ends::One(copy_sized(alloc, &only.gives)?)),
+            [_, _, ..] => Ok(Ends::Unsaid),
+        }
+    } else {
+        made_ends(alloc, setting, node, count)
+    }
+}
+
+/// What is said of the value of a call. It fails where memory is wanting.
+fn callee_ends<'a>(
+    alloc: Global,
+    setting: &Setting<'a>,
+    around: &Around<'_>,
+    callee: Callee,
+    node: &Core,
+) -> Result<Ends<'a>, AllocError>
+    ensures { IfOk result (λ ends. (name : Naming) → types_of ends ≡ (piece_as setting.now around.now name (kind.Call callee) node.now).ends) }
+{
+    let number = node.number;
+    let parts = node.parts.as_slice();
+    match callee {
+        Callee::Function(_) => made_ends(alloc, setting, number, parts.len()),
+        Callee::Row(row) => row_ends(alloc, setting, row, number, parts.len()),
+        Callee::Constructor(_, _) => made_ends(alloc, setting, number, parts.len()),
+        Callee::Converts(_) => Ok(Ends::Unsaid),
+        Callee::Applies(_) => counted_ends(alloc, setting, number, 1, 1, parts),
+    }
+}
+
+/// What is said of the value of a node. It fails where memory is wanting.
+#[cycle(node_ends)]
+pub fn node_ends<'a>(
+    alloc: Global,
+    setting: &Setting<'a>,
+    around: &Around<'_>,
+    node: &Core,
+) -> Result<Ends<'a>, AllocError>
+    ensures { IfOk result (λ ends. (name : Naming) → types_of ends ≡ (piece_for setting.now around.now name node.now).ends) }
+{
+    let number = node.number;
+    let parts = node.parts.as_slice();
+    match &node.kind {
+        Kind::Constant(literal) => literal_ends(alloc, literal, parts),
+        Kind::Local(_) => counted_ends(alloc, setting, number, 1, 0, parts),
+        Kind::TopLevel(_) => counted_ends(alloc, setting, number, 0, 0, parts),
+        Kind::Register(_) => counted_ends(alloc, setting, number, 0, 0, parts),
+        Kind::Call(callee) => callee_ends(alloc, setting, around, *callee, node),
+        Kind::Tuple => made_ends(alloc, setting, number, parts.len()),
+        Kind::Vector(_) => made_ends(alloc, setting, number, parts.len()),
+        Kind::List(_) => made_ends(alloc, setting, number, parts.len()),
+        Kind::Cons(_) => made_ends(alloc, setting, number, parts.len()),
+        Kind::Struct(_, _) => made_ends(alloc, setting, number, parts.len()),
+        Kind::With(_, fields) => match fields.as_slice() {
+            [] => Ok(Ends::Unsaid),
+            _ => made_ends(alloc, setting, number, parts.len()),
+        },
+        Kind::Cast(_) => counted_ends(alloc, setting, number, 1, 1, parts),
+        Kind::SizeOf(size, _) => Ok(size_ends(setting, size, parts)),
+        Kind::Constraint(condition, _) => Ok(truth_ends(setting, condition, parts)),
+        Kind::Clauses(_) => common_ends(alloc, setting, around, parts),
+        Kind::Variable(_) => Ok(Ends::Unsaid),
+        Kind::And => Ok(Ends::Unsaid),
+        Kind::Or => Ok(Ends::Unsaid),
+        Kind::Part(_) => Ok(Ends::Unsaid),
+        Kind::WithItem => Ok(Ends::Unsaid),
+        Kind::WithSlice => Ok(Ends::Unsaid),
+        Kind::Assign(_) => Ok(Ends::Unsaid),
+        Kind::Block(_) => Ok(Ends::Unsaid),
+        Kind::Let(_) => Ok(Ends::Unsaid),
+        Kind::Var(_, _) => Ok(Ends::Unsaid),
+        Kind::If(_) => Ok(Ends::Unsaid),
+        Kind::Match(_, _) => Ok(Ends::Unsaid),
+        Kind::Try(_, _) => Ok(Ends::Unsaid),
+        Kind::When => Ok(Ends::Unsaid),
+        Kind::Foreach(_, _) => Ok(Ends::Unsaid),
+        Kind::While => Ok(Ends::Unsaid),
+        Kind::Repeat => Ok(Ends::Unsaid),
+        Kind::Return => Ok(Ends::Unsaid),
+        Kind::Throw => Ok(Ends::Unsaid),
+        Kind::Exit => Ok(Ends::Unsaid),
+        Kind::Assert(_) => Ok(Ends::Unsaid),
+        Kind::Optional(_) => Ok(Ends::Unsaid),
+    }
+}
