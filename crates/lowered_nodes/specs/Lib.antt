@@ -1,0 +1,2 @@
+pub mod Walk
+pub use Rattle.lowered_ends.specs.Around
