@@ -1,0 +1,12 @@
+use Rattle.std.proofs.Common.{◌≡◌, ◌∙◌, Bool, ap}
+use Rattle.lowered_typed.specs.Judging.{cases_typed, number_here, signs_here}
+use Rattle.lowered_validity.specs.Typing.{comes}
+use Rattle.std.proofs.lemmas.Result.{IfOk-weaker}
+use Rattle.lowered_typed.specs.Judged as judged
+use Rattle.lowered_typed.proofs.cases.comes_from.Goals as goal
+
+pub returns : goal.returns
+returns c =
+    IfOk-weaker c.are_as_asked.result _ (λ (a : Bool). a ≡ judged.come_right c.args.judge.now c.args.typ.now c.args.cases.now) (λ a e. e
+    ∙ ap (λ n. cases_typed c.args.judge.now
+    (λ x. comes (signs_here c.args.judge.now) n (number_here c.args.judge.now x.gives)) c.args.cases.now) c.in_ok-from.ensures) c.are_as_asked.ensures

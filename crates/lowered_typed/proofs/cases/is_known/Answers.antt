@@ -1,0 +1,10 @@
+use Rattle.lowered_ends.proofs.Known.{else_known, never_known}
+use Rattle.lowered_typed.proofs.cases.is_known.Goals as goal
+
+pub returns-in-Never : goal.returns-in-Never
+returns-in-Never c = never_known c.args.judge.now.setting.now.numbered.now c.args.typ.now c.in-Never.is
+
+pub returns-in_ok-number-in_default : goal.returns-in_ok-number-in_default
+returns-in_ok-number-in_default c =
+    else_known c.args.judge.now.setting.now.numbered.now c.args.typ.now c.in_default.not-Never c.in_ok-number-in_default.number
+    c.in_ok-number-in_default.ensures
