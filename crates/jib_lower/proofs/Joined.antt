@@ -1,0 +1,76 @@
+-- The module of a model, joined of what is made of its parts, of its openings and of its instances.
+use Rattle.std.proofs.Common.{◌≡◌, ◌∙◌, ◌++◌, ℕ, List, [], ◌+◌, ap, arith, subst, sym}
+use Rattle.std.specs.Prelude.{◌*◌}
+use Rattle.sail_core.specs.declared.model.CoreModel.{CoreModel}
+use Rattle.sized_nodes.specs.declared.trees.SizedCore.{SizedCore}
+use Rattle.jib.specs.declared.code.Function.{Function as Made}
+use Rattle.jib.specs.declared.code.Module.{Module}
+use Rattle.jib_lower.specs.declared.instances.Model.{Model}
+use Rattle.jib_lower.specs.declared.lowering.Parts.{Parts}
+use Rattle.jib_lower.specs.declared.openings.Opened.{Opened}
+use Rattle.jib_lower.specs.Instances.{CalledAre}
+use Rattle.jib_lower.specs.Leads.{AllAlone, EachAlone}
+use Rattle.jib_lower.specs.Lowered.{FlatFrom, ModelOf, OpeningsMade}
+use Rattle.jib_lower.specs.Parts.{FunctionsOf, ModelBy, OpenedOf, PartsOf}
+
+pub twice : (n k b : ℕ) → k ≡ n → b ≡ k + k → b ≡ 2 * n
+twice n k b e h = omega (arith, e, h)
+
+-- a module with the types, exceptions and registers of its parts
+record Shelled (parts : Parts) (m : Module) : Type 0 where
+  pub types : m.types ≡ parts.shell.types
+  pub exception : m.exception ≡ parts.shell.exception
+  pub registers : m.registers ≡ parts.shell.registers
+
+module _ (core : CoreModel) (sized : SizedCore) (parts : Parts) (m : Module) (p : PartsOf core sized parts) (s : Shelled parts m) where
+  model_of : (model : Model) → ModelBy core sized parts model → ModelOf core sized p.table m model
+  model_of model is = record {
+    of_core = is.of_core;
+    of_sized = is.of_sized;
+    numbered = is.numbered ∙ p.numbered;
+    shell_types = ap (λ (z : Module). z.types) is.shell ∙ sym s.types;
+    shell_exception = ap (λ (z : Module). z.exception) is.shell ∙ sym s.exception;
+    shell_registers = ap (λ (z : Module). z.registers) is.shell ∙ sym s.registers;
+    raised = is.exception ∙ p.exception;
+    nothing = is.nothing ∙ p.nothing;
+    truths = is.truths ∙ p.truths;
+  }
+
+pub flat_from : (core : CoreModel) (sized : SizedCore) (parts : Parts) (opened : Opened) (functions : List Made) (m : Module) → PartsOf core sized parts
+    → OpenedOf core sized parts opened → FunctionsOf core sized parts opened functions → AllAlone sized.instances → EachAlone sized.openings
+    → m.types ≡ parts.shell.types → m.exception ≡ parts.shell.exception → m.registers ≡ parts.shell.registers
+    → m.functions ≡ functions ++ opened.functions → m.openings ≡ opened.openings → FlatFrom core sized m
+flat_from core sized parts opened functions m p o f alone openings types exception registers all opens = record {
+  table = p.table;
+  stands = p.is.stands;
+  in_instances = p.is.in_instances;
+  in_openings = p.is.in_openings;
+  in_registers = p.is.in_registers;
+  types = types ∙ p.shell.types_are;
+  typs = p.shell.typs;
+  small = p.is.small;
+  bits = p.is.bits;
+  alone = alone;
+  openings_alone = openings;
+  basic = p.is.basic;
+  exception = exception ∙ p.shell.exception;
+  registers = registers ∙ p.shell.registers;
+  model = f.model;
+  is = model_of core sized parts m p shelled f.model f.is;
+  bare = o.bare;
+  bare_is = model_of core sized parts m p shelled o.bare o.is;
+  called = subst (λ cs. CalledAre core sized p.table.numbered cs) (sym f.is.called) p.called;
+  functions = functions;
+  instances = f.made;
+  opened = opened.functions;
+  of_registers = o.made.registers;
+  openings = subst (λ ts. OpeningsMade o.bare 0 core.openings [] [] opened.functions o.made.registers ts f.model.openings.now) (sym f.lets)
+      (subst (λ ns. OpeningsMade o.bare 0 core.openings [] [] opened.functions o.made.registers opened.types ns) (sym f.names)
+      (subst (λ (c : CoreModel). OpeningsMade o.bare 0 c.openings [] [] opened.functions o.made.registers opened.types opened.names) o.is.of_core
+      o.made.made));
+  all = all;
+  opens = opens ∙ o.made.opens;
+}
+  where
+    shelled : Shelled parts m
+    shelled = record { types = types; exception = exception; registers = registers }

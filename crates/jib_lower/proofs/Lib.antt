@@ -1,0 +1,16 @@
+pub mod Basics
+pub mod Kept
+pub mod Growth
+pub mod Held
+pub mod Listed
+pub mod Placing
+pub mod Standing
+pub mod Opened
+pub mod Valid
+pub mod Numbering
+pub mod Cycled
+pub mod Falling
+pub mod Alone
+pub mod Coded
+pub mod Joined
+pub mod Unmade

@@ -1,0 +1,30 @@
+use Rattle.std.proofs.Common.{◌∙◌, subst, sym}
+use Rattle.jib_lower.specs.Lowered.{FlatFrom}
+use Rattle.jib_lower.specs.Lowerable.{FlatLeft, not_flat, not_tabled}
+use Rattle.jib_lower.proofs.Unmade.{exit_more}
+use Rattle.jib_lower.proofs.lowering.lower.Goals as goal
+
+pub invariant_of-result : goal.invariant_of-result
+invariant_of-result c = record {
+  kept = c.modules_are_valid.ensures.valid c.args.written c.args.sized.now c.in_ok-program.program (record {
+    tabled = sym c.in_ok-tabled.ensures ∙ c.if-tabled.true;
+    flat = subst (λ core. FlatFrom core c.args.sized.now c.in_ok-program.program) c.in_ok-flat.ensures.rewritten c.in_ok-program.ensures.made;
+  });
+}
+
+pub returns-in_ok-program-clause-flat : goal.returns-in_ok-program-clause-flat
+returns-in_ok-program-clause-flat c = c.in_ok-flat.ensures.rewritten
+
+pub returns-in_ok-program-clause-made : goal.returns-in_ok-program-clause-made
+returns-in_ok-program-clause-made c = record {
+  tabled = sym c.in_ok-tabled.ensures ∙ c.if-tabled.true;
+  flat = subst (λ core. FlatFrom core c.args.sized.now c.in_ok-program.program) c.in_ok-flat.ensures.rewritten c.in_ok-program.ensures.made;
+}
+
+pub returns-else-tabled-clause-left : goal.returns-else-tabled-clause-left
+returns-else-tabled-clause-left c = not_tabled (sym c.in_ok-tabled.ensures ∙ c.if-tabled.false)
+
+pub returns-in_err-program-clause-left : goal.returns-in_err-program-clause-left
+returns-in_err-program-clause-left c =
+    exit_more _ _ c.from_residual-in_err-program.ensures.1
+    (λ why. not_flat (subst (λ core. FlatLeft core c.args.sized.now) c.in_ok-flat.ensures.rewritten why)) c.in_err-program.ensures.left

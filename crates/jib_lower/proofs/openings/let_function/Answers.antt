@@ -1,0 +1,70 @@
+use Rattle.std.proofs.Common.{◌∙◌, ap, refl}
+use Rattle.std.proofs.lemmas.Result.{IfOk-weaker}
+use Rattle.lowered_types.specs.Table.{type_in}
+use Rattle.jib_lower.proofs.Coded.{let_made}
+use Rattle.jib_lower.specs.Left.{arm_left, value_left}
+use Rattle.jib_lower.proofs.Unmade.{last_more}
+use Rattle.jib_lower.proofs.openings.let_function.Goals as goal
+
+pub returns-then-taken-clause-made : goal.returns-then-taken-clause-made
+returns-then-taken-clause-made c =
+    IfOk-weaker c.make_value.result _ _ (λ made h.
+    let_made c.args.model.now c.args.opened.now.types c.args.opened.now.names _ _ _ made c.args.of.now c.args.nodes.now c.args.arm.now c.args.whole.now h
+    (record {
+      setting = c.in_ok-setting.ensures;
+      instances = c.around_of-around.ensures.instances;
+      given = c.around_of-around.ensures.given;
+      openings = c.around_of-around.ensures.openings;
+      directions = c.around_of-around.ensures.directions;
+      judged = (refl, refl);
+      shell = c.signs_of-signs.ensures.shell;
+      lets = c.signs_of-signs.ensures.lets;
+      called = c.signs_of-signs.ensures.called;
+      turned = c.signs_of-signs.ensures.turned;
+      result = c.signs_of-signs.ensures.result_is;
+      is_pure = c.signs_of-signs.ensures.is_pure;
+      takes = refl;
+      reads = c.in_ok-count.ensures ∙ c.len.ensures;
+      pure = refl;
+    })
+    (c.in_ok-result.ensures ∙ ap (λ xs. type_in xs c.args.whole.now) c.in_ok-setting.ensures.numbered)
+    (c.in_ok-taken.ensures.is c.if-taken.true)) c.make_value.ensures.made
+
+pub returns-then-taken-clause-left : goal.returns-then-taken-clause-left
+returns-then-taken-clause-left c = last_more c.make_value.result (λ why. value_left (record {
+  walk = _;
+  judge = _;
+  head = _;
+  around = record {
+    setting = c.in_ok-setting.ensures;
+    instances = c.around_of-around.ensures.instances;
+    given = c.around_of-around.ensures.given;
+    openings = c.around_of-around.ensures.openings;
+    directions = c.around_of-around.ensures.directions;
+    judged = (refl, refl);
+    shell = c.signs_of-signs.ensures.shell;
+    lets = c.signs_of-signs.ensures.lets;
+    called = c.signs_of-signs.ensures.called;
+    turned = c.signs_of-signs.ensures.turned;
+    result = c.signs_of-signs.ensures.result_is;
+    is_pure = c.signs_of-signs.ensures.is_pure;
+    takes = refl;
+    reads = c.in_ok-count.ensures ∙ c.len.ensures;
+    pure = refl;
+  };
+  result = c.in_ok-result.ensures ∙ ap (λ xs. type_in xs c.args.whole.now) c.in_ok-setting.ensures.numbered;
+  why = why;
+})) c.make_value.ensures.left
+
+pub returns-else-taken-clause-left : goal.returns-else-taken-clause-left
+returns-else-taken-clause-left c = arm_left (record {
+  walk = _;
+  walked = record {
+    setting = c.in_ok-setting.ensures;
+    instances = c.around_of-around.ensures.instances;
+    given = c.around_of-around.ensures.given;
+    openings = c.around_of-around.ensures.openings;
+    directions = c.around_of-around.ensures.directions;
+  };
+  why = c.in_ok-taken.ensures.no c.if-taken.false;
+})

@@ -1,0 +1,64 @@
+use Rattle.std.proofs.Common.{◌≡◌, ap, subst, sym, true}
+use Rattle.std.proofs.lemmas.Result.{on_ok_weaker}
+use Rattle.lowered_pieces.specs.Emitted.{Begins}
+use Rattle.lowered_tables.proofs.Growing.{begins_here, begins_then}
+use Rattle.lowered_steps.proofs.Lists.{first_of, none_of, others}
+use Rattle.jib_lower.specs.Types.{all_in_cases, all_in_told}
+use Rattle.jib_lower.proofs.Kept.{told_next}
+use Rattle.jib_lower.proofs.Numbering.{ok_both}
+use Rattle.std.proofs.Common.{None, Some}
+use Rattle.lowered_tables.specs.Built.{with_numbers}
+use Rattle.jib_lower.specs.Types.{types_in_told}
+use Rattle.jib_lower.proofs.Unmade.{both_listed, exit_more, first_none, last_more}
+use Rattle.jib_lower.specs.Types.{types_in_cases}
+use Rattle.jib_lower.proofs.types.+add_told.Goals as goal
+
+pub returns-in-empty-clause-known : goal.returns-in-empty-clause-known
+returns-in-empty-clause-known t c = ap (λ xs. all_in_told c.args.table.now.numbered xs) (none_of c.args.told.now c.in-empty.len_below)
+
+pub returns-in-empty-clause-grown : goal.returns-in-empty-clause-grown
+returns-in-empty-clause-grown t c = begins_here c.args.table.now.numbered
+
+pub returns-in_ok-add_cases-in-len1-up-clause-known : goal.returns-in_ok-add_cases-in-len1-up-clause-known
+returns-in_ok-add_cases-in-len1-up-clause-known t c =
+    ok_both c.add_told.result (λ (g : Begins c.add_cases.new.table.numbered c.add_told.new.table.numbered)
+    (k : all_in_told c.add_told.new.table.numbered (others c.args.told.now) ≡ true).
+    subst (λ xs. all_in_told c.add_told.new.table.numbered xs ≡ true) (sym (first_of c.args.told.now c.first-item.result c.in-len1-up.len_at_least
+    c.first-item.is))
+    (told_next c.add_cases.new.table.numbered c.add_told.new.table.numbered c.first-item.result (others c.args.told.now) g
+    (subst (λ xs. all_in_cases c.add_cases.new.table.numbered xs ≡ true) c.as_slice.ensures c.in_ok-add_cases-in-len1-up.ensures.known) k))
+    c.add_told.ensures.grown
+    c.add_told.ensures.known
+
+pub returns-in_ok-add_cases-in-len1-up-clause-grown : goal.returns-in_ok-add_cases-in-len1-up-clause-grown
+returns-in_ok-add_cases-in-len1-up-clause-grown t c =
+    on_ok_weaker c.add_told.result (λ (g : Begins c.add_cases.new.table.numbered c.add_told.new.table.numbered).
+    begins_then c.args.table.now.numbered c.add_cases.new.table.numbered c.add_told.new.table.numbered c.in_ok-add_cases-in-len1-up.ensures.grown g)
+    c.add_told.ensures.grown
+
+pub returns-in-empty-clause-listed : goal.returns-in-empty-clause-listed
+returns-in-empty-clause-listed t c =
+    ap (λ xs. with_numbers c.args.types.now c.args.table.now.numbered (types_in_told xs)) (none_of c.args.told.now c.in-empty.len_below)
+
+pub returns-in_ok-add_cases-in-len1-up-clause-listed : goal.returns-in_ok-add_cases-in-len1-up-clause-listed
+returns-in_ok-add_cases-in-len1-up-clause-listed t c =
+    on_ok_weaker c.add_told.result
+    (λ (h : with_numbers c.args.types.now c.add_cases.new.table.numbered (types_in_told (others c.args.told.now)) ≡ Some c.add_told.new.table.numbered).
+    both_listed c.args.types.now c.args.table.now.numbered c.add_cases.new.table.numbered (types_in_cases c.first-item.result.cases) (types_in_told (others c.args.told.now)) (types_in_cases c.as_slice.result.now)
+    (types_in_told c.args.told.now) (Some c.add_told.new.table.numbered)
+    (ap (types_in_told) (first_of c.args.told.now c.first-item.result c.in-len1-up.len_at_least c.first-item.is)) (ap types_in_cases c.as_slice.ensures)
+    c.in_ok-add_cases-in-len1-up.ensures.listed h) c.add_told.ensures.listed
+
+pub returns-in_ok-add_cases-in-len1-up-clause-left : goal.returns-in_ok-add_cases-in-len1-up-clause-left
+returns-in_ok-add_cases-in-len1-up-clause-left t c =
+    last_more c.add_told.result
+    (both_listed c.args.types.now c.args.table.now.numbered c.add_cases.new.table.numbered (types_in_cases c.first-item.result.cases) (types_in_told (others c.args.told.now)) (types_in_cases c.as_slice.result.now)
+    (types_in_told c.args.told.now) None
+    (ap (types_in_told) (first_of c.args.told.now c.first-item.result c.in-len1-up.len_at_least c.first-item.is)) (ap types_in_cases c.as_slice.ensures)
+    c.in_ok-add_cases-in-len1-up.ensures.listed) c.add_told.ensures.left
+
+pub returns-in_err-add_cases-in-len1-up-clause-left : goal.returns-in_err-add_cases-in-len1-up-clause-left
+returns-in_err-add_cases-in-len1-up-clause-left t c =
+    exit_more _ _ c.from_residual.ensures.1
+    (first_none c.args.types.now c.args.table.now.numbered (types_in_cases c.first-item.result.cases) (types_in_told (others c.args.told.now)) (types_in_cases c.as_slice.result.now) (types_in_told c.args.told.now)
+    (ap (types_in_told) (first_of c.args.told.now c.first-item.result c.in-len1-up.len_at_least c.first-item.is)) (ap types_in_cases c.as_slice.ensures)) c.in_err-add_cases-in-len1-up.ensures.left

@@ -1,0 +1,4 @@
+use Rattle.jib_lower.proofs.types.+add_words.Given as goal
+
+abbrev pub decreases-add_words : goal.decreases-add_words
+decreases-add_words l = l.count

@@ -1,0 +1,14 @@
+pub mod Errors
+pub mod Types
+pub mod Tabled
+pub mod Cycles
+pub mod Functions
+pub mod Instances
+pub mod Added
+pub mod Leads
+pub mod Lowered
+pub mod Openings
+pub mod Left
+pub mod Laws
+pub mod Parts
+pub mod Lowerable

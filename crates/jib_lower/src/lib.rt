@@ -1,0 +1,21 @@
+//! Lowering: the module of flat code of a model with constant sizes.
+//!
+//! `specs/Lowered` tells what is made of a model, once its arms are flat: of the i-th instance the function 2i, which calls enter, and the function
+//! 2i + 1, which events enter; behind them the functions of top-level lets and initial values; each with the code of the definition (`lowered_pieces`)
+//! under the numbering of its own slots.
+#![tactic(auto)]
+
+mod cycles;
+mod error;
+mod functions;
+mod instances;
+mod laws;
+mod leads;
+mod lowering;
+mod openings;
+mod plain;
+mod types;
+
+pub use error::LowerError;
+pub use laws::modules_are_valid;
+pub use lowering::{Lowered, lower};

@@ -1,0 +1,305 @@
+//! The module of a model.
+ghost use Rattle.std.specs.Prelude.{◌≡◌, ◌++◌, Some, map, false, true, IfErr, IfOk, OnOk};
+ghost use Rattle.match_rewrite.specs.Rewriting.{with_flat_arms};
+ghost use Rattle.jib_lower.specs.Leads.{AllAlone, EachAlone};
+ghost use Rattle.checked_meaning.specs.Items.{fixed_typ};
+ghost use Rattle.lowered_types.specs.Table.{type_in};
+ghost use Rattle.jib.specs.Operands.{each};
+ghost use Rattle.jib.specs.Valid.{typ_right};
+ghost use Rattle.lowered_tables.specs.Built.{value_at};
+ghost use Rattle.jib_lower.specs.Errors.{OrMemory};
+ghost use Rattle.jib_lower.specs.Left.{TypesLeft};
+ghost use Rattle.jib_lower.specs.Lowerable.{FlatLeft, FunctionsLeft, NotLowerable, OpenedLeft, PartsLeft};
+ghost use Rattle.jib_lower.specs.Types.{numbered_types};
+ghost use Rattle.jib_lower.specs.Lowered.{FlatFrom, LoweredFrom};
+ghost use Rattle.jib_lower.specs.Parts.{FunctionsOf, ModelBy, OpenedOf, PartsOf};
+ghost use Rattle.jib_lower.specs.Tabled.{ShellOf, TableOf};
+
+use crate::error::LowerError;
+use crate::instances::{Model, all_called, make_instances, number_of};
+use crate::laws::modules_are_valid;
+use crate::leads::{each_alone, instances_alone};
+use crate::openings::{Opened, make_openings};
+use crate::types::{are_small, exception_type, number_types, register_type};
+use jib::{Checked, Function as Made, Module, ValueType, are_typs};
+use lowered_steps::{as_number, further};
+use lowered_tables::{Table, TableError};
+use lowered_typed::Called;
+use match_rewrite::rewrite;
+use model_state::Register;
+use sail_base::Items;
+use sail_core::CoreModel;
+use sail_types::Types;
+use size_values::Sized;
+use sized_nodes::SizedCore;
+use std::alloc::{AllocError, Global};
+use tabled_models::core_tabled;
+
+/// The table of a model's types, the widths and lengths of which are small. It fails where a type gets no number, and where memory is wanting.
+fn small_table(alloc: Global, core: &CoreModel, sized: &SizedCore) -> Result<Table, LowerError>
+    ensures is { IfOk result (λ table. TableOf core.now sized.now table) }
+    ensures listed { IfOk result (λ table. numbered_types core.now sized.now ≡ Some table.numbered) }
+    ensures values { IfOk result (λ table. table.types ≡ map (value_at core.now.types table.numbered) table.numbered) }
+    ensures left { IfErr result (OrMemory (TypesLeft core.now sized.now)) }
+{
+    let table = number_types(alloc, core, sized)?;
+    let numbered = table.numbered.as_slice();
+    let small = are_small(numbered);
+    if small {
+        Ok(table)
+    } else {
+        Err(LowerError::Table(TableError::TooWide))
+    }
+}
+
+/// The types of registers, by their numbers, come behind others. They fail where memory is wanting.
+fn push_registers(
+    alloc: Global,
+    types: &Types,
+    numbered: &[Sized],
+    registers: &[Register],
+    numbers: &mut Items<u32>,
+) -> Result<(), AllocError>
+    ensures { OnOk result (numbers.new ≡ numbers.old ++ map (λ r. type_in numbered.now (fixed_typ types.now r.typ)) registers.now) }
+{
+    match registers {
+        [] => Ok(()),
+        [first, rest @ ..] => {
+            let typ = register_type(alloc, types, first)?;
+            let number = number_of(numbered, &typ)?;
+            numbers.push(number)?;
+            push_registers(alloc, types, numbered, rest, numbers)
+        }
+    }
+}
+
+/// The types of registers, by their numbers. They fail where memory is wanting.
+fn register_numbers(
+    alloc: Global,
+    core: &CoreModel,
+    numbered: &[Sized],
+) -> Result<Items<u32>, AllocError>
+    ensures { IfOk result (λ numbers. numbers ≡ map (λ r. type_in numbered.now (fixed_typ core.now.types r.typ)) core.now.registers) }
+{
+    let registers = core.registers.as_slice();
+    let mut numbers = Items::new(alloc);
+    push_registers(alloc, &core.types, numbered, registers, &mut numbers)?;
+    Ok(numbers)
+}
+
+/// The module without functions. It fails where a type of the table is none that modules have, and where memory is wanting.
+fn make_shell(
+    alloc: Global,
+    core: &CoreModel,
+    numbered: &[Sized],
+    types: Items<ValueType>,
+) -> Result<Module, LowerError>
+    ensures shell { IfOk result (λ shell. ShellOf core.now numbered.now types shell) }
+    ensures left { IfErr result (OrMemory (each typ_right 0 types ≡ false)) }
+{
+    let typ = exception_type(alloc, core.exception);
+    let exception = number_of(numbered, &typ)?;
+    let registers = register_numbers(alloc, core, numbered)?;
+    let all = types.as_slice();
+    let typs = are_typs(all);
+    if typs {
+        Ok(Module {
+            types,
+            exception,
+            registers,
+            openings: Items::new(alloc),
+            functions: Items::new(alloc),
+        })
+    } else {
+        Err(LowerError::Table(TableError::TooWide))
+    }
+}
+
+/// What the code of a model is made by, beside the model and what its openings give.
+#[derive(Drop)]
+struct Parts {
+    /// The types that have a number, in order.
+    numbered: Items<Sized>,
+    /// The module without functions.
+    shell: Module,
+    /// The type of exceptions.
+    exception: Sized,
+    /// The type of `()`.
+    nothing: Sized,
+    /// That of truths.
+    truths: Sized,
+    /// What calls enter, by the places of instances.
+    called: Items<Called>,
+}
+
+/// What the code of a model is made by. It fails as `lower` does.
+fn make_parts(alloc: Global, core: &CoreModel, sized: &SizedCore) -> Result<Parts, LowerError>
+    ensures parts { IfOk result (λ parts. PartsOf core.now sized.now parts) }
+    ensures left { IfErr result (OrMemory (PartsLeft core.now sized.now)) }
+{
+    let table = small_table(alloc, core, sized)?;
+    let Table { numbered, types } = table;
+    let numbers = numbered.as_slice();
+    let shell = make_shell(alloc, core, numbers, types)?;
+    let called = all_called(alloc, core, sized, numbers)?;
+    let exception = exception_type(alloc, core.exception);
+    Ok(Parts {
+        numbered,
+        shell,
+        exception,
+        nothing: Sized::Unit,
+        truths: Sized::Bool,
+        called,
+    })
+}
+
+/// A model of these parts, where openings of these types are read, and these are of names.
+fn model_by<'x>(
+    core: &'x CoreModel,
+    sized: &'x SizedCore,
+    parts: &'x Parts,
+    lets: &'x [u32],
+    openings: &'x [u32],
+) -> Model<'x>
+    ensures is { ModelBy core.now sized.now parts.now result }
+    ensures lets { result.lets.now ≡ lets.now }
+    ensures openings { result.openings.now ≡ openings.now }
+{
+    let numbered = parts.numbered.as_slice();
+    let called = parts.called.as_slice();
+    Model {
+        core,
+        sized,
+        numbered,
+        shell: &parts.shell,
+        exception: &parts.exception,
+        nothing: &parts.nothing,
+        truths: &parts.truths,
+        called,
+        lets,
+        openings,
+    }
+}
+
+/// The functions of openings, which stand behind those of instances. They fail as `lower` does.
+fn opened_of<'x>(
+    alloc: Global,
+    core: &'x CoreModel,
+    sized: &'x SizedCore,
+    parts: &'x Parts,
+) -> Result<Opened, LowerError>
+    ensures opened { IfOk result (λ opened. OpenedOf core.now sized.now parts.now opened) }
+    ensures left { IfErr result (OrMemory (OpenedLeft core.now sized.now parts.now)) }
+{
+    let bare = model_by(core, sized, parts, &[], &[]);
+    let many = sized.instances.len();
+    let count = as_number(many)?;
+    let before = further(count, count)?;
+    make_openings(alloc, &bare, before)
+}
+
+/// The functions of instances, which may read these openings. They fail as `lower` does.
+fn functions_of<'x>(
+    alloc: Global,
+    core: &'x CoreModel,
+    sized: &'x SizedCore,
+    parts: &'x Parts,
+    opened: &'x Opened,
+) -> Result<Items<Made>, LowerError>
+    ensures made { IfOk result (λ functions. FunctionsOf core.now sized.now parts.now opened.now functions) }
+    ensures left { IfErr result (OrMemory (FunctionsLeft core.now sized.now parts.now opened.now)) }
+{
+    let lets = opened.types.as_slice();
+    let openings = opened.names.as_slice();
+    let model = model_by(core, sized, parts, lets, openings);
+    make_instances(alloc, &model)
+}
+
+/// Functions come behind others. They fail where memory is wanting.
+fn push_all(functions: &mut Items<Made>, others: Items<Made>) -> Result<(), AllocError>
+    ensures { OnOk result (functions.new ≡ functions.old ++ others) }
+{
+    for function in others.into_vec() {
+        functions.push(function)?;
+    }
+    Ok(())
+}
+
+/// The module of a model with flat arms, whose calls are told apart by the numbers of their nodes. It fails as `lower` does.
+fn module_of(alloc: Global, core: &CoreModel, sized: &SizedCore) -> Result<Module, LowerError>
+    requires alone { AllAlone sized.now.instances }
+    requires openings { EachAlone sized.now.openings }
+    ensures made { IfOk result (λ program. FlatFrom core.now sized.now program) }
+    ensures left { IfErr result (OrMemory (FlatLeft core.now sized.now)) }
+{
+    let parts = make_parts(alloc, core, sized)?;
+    let opened = opened_of(alloc, &*core, &*sized, &parts)?;
+    let mut functions = functions_of(alloc, &*core, &*sized, &parts, &opened)?;
+    push_all(&mut functions, opened.functions)?;
+    let shell = parts.shell;
+    let Module {
+        types,
+        exception,
+        registers,
+        openings: _,
+        functions: _,
+    } = shell;
+    Ok(Module {
+        types,
+        exception,
+        registers,
+        openings: opened.openings,
+        functions,
+    })
+}
+
+/// The module of a model with flat arms. It fails as `lower` does.
+fn lower_module(alloc: Global, core: &CoreModel, sized: &SizedCore) -> Result<Module, LowerError>
+    ensures made { IfOk result (λ program. FlatFrom core.now sized.now program) }
+    ensures left { IfErr result (OrMemory (FlatLeft core.now sized.now)) }
+{
+    let instances = sized.instances.as_slice();
+    let alone = instances_alone(instances);
+    let openings = sized.openings.as_slice();
+    let apart = each_alone(openings);
+    if alone {
+        if apart {
+            module_of(alloc, core, sized)
+        } else {
+            Err(LowerError::NotThere)
+        }
+    } else {
+        Err(LowerError::NotThere)
+    }
+}
+
+/// A model that is lowered.
+#[derive(Drop)]
+pub struct Lowered {
+    /// The model with flat arms.
+    pub flat: CoreModel,
+    /// Its module.
+    pub checked: Checked,
+}
+
+/// The module of a model as it is written, with the sizes of its nodes: of the i-th instance the function 2i, which calls enter, and the function 2i + 1,
+/// which events enter; behind them those of openings. It fails where the tables of the model aren't whole under the numbers that are noted before a value is
+/// there, where a tree isn't lowered here or a case of it doesn't fit, where a type gets no number, and where memory is wanting.
+pub fn lower(alloc: Global, written: CoreModel, sized: &SizedCore) -> Result<Lowered, LowerError>
+    ensures flat { IfOk result (λ lowered. lowered.flat ≡ with_flat_arms written) }
+    ensures made { IfOk result (λ lowered. LoweredFrom written sized.now lowered.checked.program) }
+    ensures left { IfErr result (OrMemory (NotLowerable written sized.now)) }
+{
+    let tabled = core_tabled(alloc, false, &written)?;
+    if tabled {
+        let flat = rewrite(alloc, written)?;
+        let program = lower_module(alloc, &flat, sized)?;
+        modules_are_valid();
+        Ok(Lowered {
+            flat,
+            checked: Checked { program },
+        })
+    } else {
+        Err(LowerError::NotTabled)
+    }
+}
