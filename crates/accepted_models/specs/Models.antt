@@ -7,7 +7,7 @@ use Rattle.shapes.specs.Resolved.{resolved}
 use Rattle.shapes.specs.Tabled.{tabled_of}
 use Rattle.known_texts.specs.Texts.{text_of}
 use Rattle.sail_top.specs.Models.{AreAccepted}
-use Rattle.sail_top.specs.declared.models.Accepted.{Accepted}
+use Rattle.sail_top.specs.Accepted.{Accepted}
 
 -- the core of a text does what the text does, whatever the numbers of its cycles of calls
 abbrev pub CoreMeans : List Def → Type 0

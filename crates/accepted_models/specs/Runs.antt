@@ -7,7 +7,7 @@ use Rattle.model_progress.specs.Checked.{checked_openings}
 use Rattle.model_progress.specs.Progress.{OpeningsGo}
 use Rattle.text_progress.specs.Laws.{CoreGoesOn, around_core, core_of}
 use Rattle.sail_top.specs.Models.{AreAccepted}
-use Rattle.sail_top.specs.declared.models.Accepted.{Accepted}
+use Rattle.sail_top.specs.Accepted.{Accepted}
 use Rattle.accepted_models.specs.Starts.{HaveZeros}
 
 -- where texts are accepted, the core of their definitions, gathered, goes on, whatever the numbers of its cycles of calls

@@ -52,7 +52,7 @@ pub fn accepted_models_open()
     fresh_states_are_fit();
 }
 
-/// Words have an answer over files that are told.
+/// Words have an answer over files that are told; those that run a model where the engine means something by each accepted text, or leaves it.
 pub fn words_have_an_answer()
     ensures { WordsHaveAnAnswer }
 {

@@ -26,13 +26,13 @@ use Rattle.known_texts.specs.Written.{IsWritten}
 use Rattle.text_progress.specs.ParsedTexts.{ParsedTextsAreWritten}
 use Rattle.goal_laws.specs.Goals.{AllHold}
 use Rattle.text_progress.specs.Laws.{core_of}
-use Rattle.sail_top.specs.Checked.{no_cycle}
-use Rattle.sail_top.specs.Models as Models
-use Rattle.sail_top.specs.Models.{end_of_all}
-use Rattle.sail_top.specs.declared.models.Accepted.{Accepted}
+use Rattle.sail_compile.specs.Checked.{no_cycle}
+use Rattle.sail_compile.specs.Models as Models
+use Rattle.sail_compile.specs.Models.{end_of_all}
+use Rattle.sail_compile.specs.declared.models.Accepted.{Accepted}
 use Rattle.whole_runs.specs.Safe.{IsFoundThroughout, ModelsRunSafely, StandsThroughout}
 use Rattle.safe_models.specs.TextLaws.{FittingTextsStand}
-use Rattle.sail_top.specs.laws.Holding.{AcceptedHold}
+use Rattle.sail_compile.specs.laws.Holding.{AcceptedHold}
 use Rattle.accepted_models.specs.Models.{AcceptedModelsMeanText}
 use Rattle.safe_models.specs.Safe.{AcceptedCoresRunSafely, AcceptedModelsRunSafely, Cycles, IsOfText, TextsRunSafely, meant_of}
 use Rattle.safe_models.proofs.Found.{found_throughout}

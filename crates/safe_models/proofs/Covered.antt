@@ -11,8 +11,8 @@ use Rattle.shapes.specs.Tabled.{tabled_of}
 use Rattle.known_texts.specs.Written.{IsWritten}
 use Rattle.text_progress.specs.Laws.{core_of}
 use Rattle.text_progress.specs.ParsedTexts.{ParsedTextsAreWritten}
-use Rattle.sail_top.specs.Checked.{no_cycle}
-use Rattle.sail_top.specs.Models.{end_of_all, joined}
+use Rattle.sail_compile.specs.Checked.{no_cycle}
+use Rattle.sail_compile.specs.Models.{end_of_all, joined}
 use Rattle.safe_models.specs.Safe.{AcceptedModelsRunSafely}
 use Rattle.safe_models.specs.Tested.{TestedListsCover, TestedModelsRunSafely}
 use Rattle.safe_models.specs.Ways.{WaysOfTextsFall}

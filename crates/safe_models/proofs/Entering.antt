@@ -29,8 +29,8 @@ use Rattle.known_texts.specs.KnownTexts.{DefinitionsAreSigned}
 use Rattle.known_texts.specs.Written.{IsWritten}
 use Rattle.text_progress.specs.Laws.{core_of}
 use Rattle.text_progress.specs.ParsedTexts.{ParsedTextsAreWritten}
-use Rattle.sail_top.specs.Checked.{no_cycle}
-use Rattle.sail_top.specs.Models.{end_of_all, joined}
+use Rattle.sail_compile.specs.Checked.{no_cycle}
+use Rattle.sail_compile.specs.Models.{end_of_all, joined}
 use Rattle.soundness_steps.specs.Works.{Coverage, Setting}
 use Rattle.soundness_calls.specs.Events.{EventEnters}
 use Rattle.whole_runs.specs.Never.{setting_in}

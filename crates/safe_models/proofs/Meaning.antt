@@ -13,7 +13,7 @@ use Rattle.checked_meaning.specs.Laws.{IsStuckOr}
 use Rattle.sized_meanings.specs.Laws.{SizedModelsAreAlike}
 use Rattle.sized_meanings.specs.Sized.{noted_checks_of}
 use Rattle.text_progress.specs.Laws.{core_of}
-use Rattle.sail_top.specs.Checked.{no_cycle}
+use Rattle.sail_compile.specs.Checked.{no_cycle}
 use Rattle.whole_runs.specs.Runs.{Goes}
 use Rattle.safe_models.specs.Tables.{TabledTextsGo}
 use Rattle.safe_models.specs.RunLaws.{EventsCome, LoweredEventsMean}

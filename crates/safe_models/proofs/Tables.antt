@@ -14,9 +14,9 @@ use Rattle.known_texts.specs.KnownTexts.{DefinitionsAreSigned}
 use Rattle.known_texts.specs.Written.{IsWritten}
 use Rattle.text_progress.specs.Laws.{core_of}
 use Rattle.text_progress.specs.ParsedTexts.{ParsedTextsAreWritten}
-use Rattle.sail_top.specs.Checked.{no_cycle}
-use Rattle.sail_top.specs.Models.{end_of_all, joined}
-use Rattle.sail_top.specs.laws.Holding.{AcceptedHold}
+use Rattle.sail_compile.specs.Checked.{no_cycle}
+use Rattle.sail_compile.specs.Models.{end_of_all, joined}
+use Rattle.sail_compile.specs.laws.Holding.{AcceptedHold}
 use Rattle.whole_runs.specs.Safe.{CoversThroughout, IsFoundThroughout, ModelsRunSafely, StandsThroughout}
 use Rattle.safe_models.specs.Tables.{TabledTextsGo, WholeTablesCover}
 use Rattle.safe_models.specs.TextLaws.{FittingTextsStand}

@@ -12,9 +12,9 @@ use Rattle.covering_laws.specs.Apart.{GivesKinds, NumbersApart}
 use Rattle.covering_laws.specs.Covered.{ways_fall}
 use Rattle.covering_laws.specs.Plain.{found_covered, plain_checks}
 use Rattle.text_progress.specs.Laws.{core_of}
-use Rattle.sail_top.specs.Checked.{no_cycle}
-use Rattle.sail_top.specs.Models.{AreAccepted}
-use Rattle.sail_top.specs.declared.models.Accepted.{Accepted}
+use Rattle.sail_compile.specs.Checked.{no_cycle}
+use Rattle.sail_compile.specs.Models.{AreAccepted}
+use Rattle.sail_compile.specs.declared.models.Accepted.{Accepted}
 use Rattle.whole_runs.specs.Safe.{CoversThroughout}
 use Rattle.safe_models.specs.Safe.{RunsSafely}
 

@@ -14,9 +14,9 @@ use Rattle.sized_trees.specs.Trees.{sized_core}
 use Rattle.sized_nodes.specs.declared.trees.SizedCore.{SizedCore}
 use Rattle.sized_meanings.specs.Sized.{noted_checks_of}
 use Rattle.text_progress.specs.Laws.{core_of}
-use Rattle.sail_top.specs.Checked.{no_cycle}
-use Rattle.sail_top.specs.Models.{AreAccepted}
-use Rattle.sail_top.specs.declared.models.Accepted.{Accepted}
+use Rattle.sail_compile.specs.Checked.{no_cycle}
+use Rattle.sail_compile.specs.Models.{AreAccepted}
+use Rattle.sail_compile.specs.declared.models.Accepted.{Accepted}
 use Rattle.whole_runs.specs.Never.{AllEnd}
 use Rattle.whole_runs.specs.Safe.{IsFit}
 use Rattle.safe_models.specs.Tables.{IsWhole}

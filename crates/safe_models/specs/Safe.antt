@@ -16,9 +16,9 @@ use Rattle.checked_meaning.specs.Checked.{Checks}
 use Rattle.goal_laws.specs.Goals.{AllHold}
 use Rattle.soundness_steps.specs.Works.{Coverage}
 use Rattle.text_progress.specs.Laws.{core_of}
-use Rattle.sail_top.specs.Checked.{no_cycle}
-use Rattle.sail_top.specs.Models.{AreAccepted}
-use Rattle.sail_top.specs.declared.models.Accepted.{Accepted}
+use Rattle.sail_compile.specs.Checked.{no_cycle}
+use Rattle.sail_compile.specs.Models.{AreAccepted}
+use Rattle.sail_compile.specs.declared.models.Accepted.{Accepted}
 use Rattle.accepted_models.specs.Starts.{HaveZeros}
 use Rattle.whole_runs.specs.Runs.{AreThere, Parts, RunGoes}
 use Rattle.whole_runs.specs.Safe.{CoversThroughout, IsFit, core_parts}

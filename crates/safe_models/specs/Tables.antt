@@ -14,9 +14,9 @@ use Rattle.covering_laws.specs.Apart.{NumbersApart}
 use Rattle.covering_laws.specs.Covered.{ways_fall}
 use Rattle.covering_laws.specs.Tables.{covered_by_tables}
 use Rattle.text_progress.specs.Laws.{core_of}
-use Rattle.sail_top.specs.Checked.{no_cycle}
-use Rattle.sail_top.specs.Models.{AreAccepted}
-use Rattle.sail_top.specs.declared.models.Accepted.{Accepted}
+use Rattle.sail_compile.specs.Checked.{no_cycle}
+use Rattle.sail_compile.specs.Models.{AreAccepted}
+use Rattle.sail_compile.specs.declared.models.Accepted.{Accepted}
 use Rattle.whole_runs.specs.Never.{AllEnd}
 use Rattle.whole_runs.specs.Runs.{PartsGo}
 use Rattle.whole_runs.specs.Safe.{CoversThroughout, IsFit, core_parts}

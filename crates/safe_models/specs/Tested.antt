@@ -9,9 +9,9 @@ use Rattle.met_notes.specs.Covers.{DirectionsPaired}
 use Rattle.covering_laws.specs.Apart.{GivesKinds, NumbersApart}
 use Rattle.covering_laws.specs.Covered.{checks_given, core_tested, covered_by, ways_fall}
 use Rattle.text_progress.specs.Laws.{core_of}
-use Rattle.sail_top.specs.Checked.{no_cycle}
-use Rattle.sail_top.specs.Models.{AreAccepted}
-use Rattle.sail_top.specs.declared.models.Accepted.{Accepted}
+use Rattle.sail_compile.specs.Checked.{no_cycle}
+use Rattle.sail_compile.specs.Models.{AreAccepted}
+use Rattle.sail_compile.specs.declared.models.Accepted.{Accepted}
 use Rattle.whole_runs.specs.Safe.{CoversThroughout}
 use Rattle.safe_models.specs.Safe.{RunsSafely}
 

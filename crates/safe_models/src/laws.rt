@@ -7,7 +7,7 @@ use accepted_models::accepted_models_mean_text;
 use covering_laws::{lists_cover, models_are_read, tables_cover};
 use known_texts::{definitions_are_signed, nothing_fails};
 use lowered_laws::events_answer;
-use sail_top::obligations_of_accepted_texts_hold;
+use sail_compile::obligations_of_accepted_texts_hold;
 use sized_meanings::sized_models_are_alike;
 use text_progress::parsed_texts_are_written;
 use whole_runs::models_run_safely;

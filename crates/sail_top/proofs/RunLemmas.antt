@@ -8,21 +8,21 @@ use Rattle.model_state.specs.Folds.{Meaning, RunEnd}
 use Rattle.model_state.specs.Report.{report_text}
 use Rattle.model_state.specs.RunState.{RunState, fresh}
 use Rattle.model_state.specs.declared.cause.Cause.{Cause}
-use Rattle.sail_fragment.specs.Meaning.{meaning, no_types}
-use Rattle.sail_fragment.specs.declared.model.Model.{Model}
+use Rattle.model_state.specs.declared.state.Register.{Register}
+use Rattle.sail_types.specs.declared.table.Types.{Types}
 use Rattle.sail_words.specs.declared.run.Setup.{Setup}
 use Rattle.sail_top.specs.Run.{beginning, ram, end_from, end_of, run_text}
 
 -- the report of a run's end is what the run writes
-pub text_is : (setup : Setup) (model : Model) (entry base : ℕ) (bytes kept : List ℕ) (m : Meaning) (before after : RunState) (why : Cause) (steps : ℕ)
-    → m ≡ meaning model → before ≡ fresh no_types m.registers setup.harts base bytes → base ≡ setup.ram_base → kept ≡ bytes
+pub text_is : (setup : Setup) (types : Types) (m : Meaning) (entry base : ℕ) (bytes kept : List ℕ) (registers : List Register) (before after : RunState)
+    (why : Cause) (steps : ℕ) → m.registers ≡ registers → before ≡ fresh types registers setup.harts base bytes → base ≡ setup.ram_base → kept ≡ bytes
     → why ≡ (end_from setup m entry before).cause
     → steps ≡ (end_from setup m entry before).steps
     → after ≡ (end_from setup m entry before).state
-    → report_text after kept why steps ≡ run_text setup model entry bytes
-text_is setup model entry base bytes kept m before after why steps model_is before_is base_is kept_is why_is steps_is after_is =
-    let begins : before ≡ beginning setup model bytes = before_is ∙ (λ i. fresh no_types (model_is i).registers setup.harts (base_is i) bytes) in
-    let ends : end_from setup m entry before ≡ end_of setup model entry bytes = λ i. end_from setup (model_is i) entry (begins i) in
+    → report_text after kept why steps ≡ run_text setup types m entry bytes
+text_is setup types m entry base bytes kept registers before after why steps same before_is base_is kept_is why_is steps_is after_is =
+    let begins : before ≡ beginning setup types m bytes = before_is ∙ (λ i. fresh types (sym same i) setup.harts (base_is i) bytes) in
+    let ends : end_from setup m entry before ≡ end_of setup types m entry bytes = λ i. end_from setup m entry (begins i) in
     λ i. report_text ((after_is ∙ ap (λ (end : RunEnd). end.state) ends) i) (kept_is i) ((why_is ∙ ap (λ (end : RunEnd). end.cause) ends) i)
     ((steps_is ∙ ap (λ (end : RunEnd). end.steps) ends) i)
 

@@ -7,17 +7,16 @@ use Rattle.model_state.specs.Folds.{Meaning, RunEnd, ended_now, start, run}
 use Rattle.model_state.specs.Report.{report_text}
 use Rattle.model_state.specs.RunState.{RunState, Access, fresh}
 use Rattle.model_state.specs.declared.cause.Cause.{Cause}
-use Rattle.sail_fragment.specs.Meaning.{meaning, no_types}
-use Rattle.sail_fragment.specs.declared.model.Model.{Model}
+use Rattle.sail_types.specs.declared.table.Types.{Types}
 use Rattle.sail_words.specs.declared.run.Setup.{Setup}
 
 -- RAM, zeros at first, once the image is placed
 abbrev pub ram : Setup → Image → List ℕ
 ram setup image = placed image setup.ram_base (replicate setup.ram_size 0)
 
--- the state at the beginning, over RAM of these bytes
-abbrev pub beginning : Setup → Model → List ℕ → RunState
-beginning setup model bytes = fresh no_types (meaning model).registers setup.harts setup.ram_base bytes
+-- the state at the beginning, of a model with these named types, over RAM of these bytes
+abbrev pub beginning : Setup → Types → Meaning → List ℕ → RunState
+beginning setup types model bytes = fresh types model.registers setup.harts setup.ram_base bytes
 
 -- these accesses were made before
 abbrev pub behind : List Access → RunEnd → RunEnd
@@ -38,13 +37,13 @@ abbrev pub end_from : Setup → Meaning → ℕ → RunState → RunEnd
 end_from setup model entry state = started_run model entry (schedule setup.order setup.steps) state
 
 -- and from the beginning, over RAM of these bytes
-abbrev pub end_of : Setup → Model → ℕ → List ℕ → RunEnd
-end_of setup model entry bytes = end_from setup (meaning model) entry (beginning setup model bytes)
+abbrev pub end_of : Setup → Types → Meaning → ℕ → List ℕ → RunEnd
+end_of setup types model entry bytes = end_from setup model entry (beginning setup types model bytes)
 
 -- the report of an ending, over RAM of these bytes
 abbrev pub report_of : List ℕ → RunEnd → List ℕ
 report_of bytes end = report_text end.state bytes end.cause end.steps
 
 -- what a run writes
-abbrev pub run_text : Setup → Model → ℕ → List ℕ → List ℕ
-run_text setup model entry bytes = report_of bytes (end_of setup model entry bytes)
+abbrev pub run_text : Setup → Types → Meaning → ℕ → List ℕ → List ℕ
+run_text setup types model entry bytes = report_of bytes (end_of setup types model entry bytes)

@@ -1,26 +1,27 @@
 //! What is answered for a model that is accepted, or refused.
-ghost use Rattle.std.specs.Prelude.{◌≡◌, ◌++◌, IfOk, IfSome, OnOk, true};
+ghost use Rattle.std.specs.Prelude.{◌≡◌, ◌++◌, IfOk, OnOk};
+ghost use Rattle.bidir_check.specs.Printed.{certificates_text};
 ghost use Rattle.elf_load.specs.Placed.{Fits};
-ghost use Rattle.sail_fragment.specs.Fragment.{is_well_formed};
+ghost use Rattle.sail_compile.specs.Engines.{HasRegisters};
 ghost use Rattle.sail_words.specs.Line.{IsWithinLimits};
 ghost use Rattle.sail_top.specs.Answer as spec;
 
 use crate::lines::{elf_line, refusal_line};
-use crate::models::Accepted;
-use crate::refusals::outside;
-use crate::run::run_text;
+use crate::run::{Declared, run_text};
 use crate::status::{Answer, Status};
 use elf_load::{ElfError, Image, place, read_elf};
 use mem_store::{Flat, Memory};
+use model_state::Stepper;
 use sail_base::{ElfRefusal, Items, Refusal};
-use sail_fragment::Model;
+use sail_compile::{Accepted, Compiled, Running, outside};
+use sail_core::CoreModel;
 use sail_types::push_integer;
 use sail_words::Setup;
 use std::alloc::{AllocError, Global};
 
 /// The answer of `check` for an accepted model.
 pub fn tell_counts(alloc: Global, made: Accepted) -> Result<Answer, AllocError>
-    ensures { IfOk result (λ answer. answer ≡ spec.check_answer made) }
+    ensures { IfOk result (λ answer. answer ≡ spec.told (spec.accepted_text made)) }
 {
     let mut bytes = Vec::new(alloc);
     push_counts(&mut bytes, &made)?;
@@ -39,7 +40,7 @@ pub fn push_counts(out: &mut Vec<u8>, made: &Accepted) -> Result<(), AllocError>
 
 /// The answer of `certs` for an accepted model.
 pub fn tell_certificates(alloc: Global, made: Accepted) -> Result<Answer, AllocError>
-    ensures { IfOk result (λ answer. answer ≡ spec.certs_answer made) }
+    ensures { IfOk result (λ answer. answer ≡ spec.told (certificates_text made.certified)) }
 {
     let mut bytes = Vec::new(alloc);
     made.certified.push_certificates(&mut bytes)?;
@@ -56,65 +57,89 @@ fn told(bytes: Vec<u8>) -> Answer
     }
 }
 
-/// The answer for an accepted model and a program's file that are to be run; a front is told before the run. A model that doesn't run
-/// today is refused.
-pub fn run_accepted(
+/// The answer for an accepted model and a program's file that are to be run; a front is told before the run. A model that the engine leaves is refused.
+pub fn run_accepted<P: Stepper + Drop>(
     alloc: Global,
     front: &[u8],
     setup: &Setup,
-    made: Accepted,
+    made: Compiled<P>,
     file: &[u8],
 ) -> Result<Answer, AllocError>
     requires limits { IsWithinLimits setup.now }
-    requires well_formed { IfSome made.model (λ model. is_well_formed model ≡ true) }
-    ensures { IfOk result (λ answer. answer ≡ spec.answer_if front.now setup.now made.model file.now) }
+    requires registers { HasRegisters P.meaning made.accepted.certified.core made.run }
+    ensures { IfOk result (λ answer. answer ≡ spec.answer_by P.meaning front.now setup.now file.now made.accepted made.run) }
 {
-    let Accepted {
-        certified: _,
-        instances: _,
-        model,
-    } = made;
-    match model {
-        Some(model) => judge_file(alloc, front, setup, model, file),
-        None => refuse_model(alloc, outside(alloc)?),
+    let Compiled { accepted, run } = made;
+    match run {
+        Running::Runs(stepper) => {
+            let declared = declared_of(accepted);
+            judge_file(alloc, front, setup, declared, stepper, file)
+        }
+        Running::NotRun => refuse_model(alloc, outside(alloc)?),
+        Running::NotWanted => refuse_model(alloc, outside(alloc)?),
     }
 }
 
+/// The named types and the registers of an accepted model.
+fn declared_of(accepted: Accepted) -> Declared
+    ensures types { result.types ≡ accepted.certified.core.types }
+    ensures registers { result.registers ≡ accepted.certified.core.registers }
+{
+    let Accepted {
+        certified,
+        instances: _,
+    } = accepted;
+    let CoreModel {
+        types,
+        exception: _,
+        registers,
+        register_texts: _,
+        functions: _,
+        directions: _,
+        openings: _,
+        reset: _,
+        step: _,
+    } = certified.into_core();
+    Declared { types, registers }
+}
+
 /// The answer for a model and a program's file.
-fn judge_file(
+fn judge_file<P: Stepper + Drop>(
     alloc: Global,
     front: &[u8],
     setup: &Setup,
-    model: Model,
+    declared: Declared,
+    stepper: P,
     file: &[u8],
 ) -> Result<Answer, AllocError>
     requires limits { IsWithinLimits setup.now }
-    requires well_formed { is_well_formed model ≡ true }
-    ensures { IfOk result (λ answer. answer ≡ spec.answer_for front.now setup.now model file.now) }
+    requires registers { (P.meaning stepper).registers ≡ declared.registers }
+    ensures { IfOk result (λ answer. answer ≡ spec.answer_for front.now setup.now declared.types (P.meaning stepper) file.now) }
 {
     match read_elf(alloc, file, None) {
-        Ok(image) => judge_image(alloc, front, setup, model, &image),
+        Ok(image) => judge_image(alloc, front, setup, declared, stepper, &image),
         Err(ElfError::Refused(refusal)) => refuse_image(alloc, refusal),
         Err(ElfError::OutOfMemory) => Err(AllocError),
     }
 }
 
 /// The answer for a model and an image.
-fn judge_image(
+fn judge_image<P: Stepper + Drop>(
     alloc: Global,
     front: &[u8],
     setup: &Setup,
-    model: Model,
+    declared: Declared,
+    stepper: P,
     image: &Image,
 ) -> Result<Answer, AllocError>
     requires limits { IsWithinLimits setup.now }
-    requires well_formed { is_well_formed model ≡ true }
+    requires registers { (P.meaning stepper).registers ≡ declared.registers }
     requires fits { Fits image.now }
-    ensures { IfOk result (λ answer. answer ≡ spec.image_answer front.now setup.now model image.now) }
+    ensures { IfOk result (λ answer. answer ≡ spec.image_answer front.now setup.now declared.types (P.meaning stepper) image.now) }
 {
     let mut memory = Flat::new(alloc, setup.ram_base, setup.ram_size)?;
     match place(image, &mut memory) {
-        Ok(()) => run_model(alloc, front, setup, model, image.entry, memory),
+        Ok(()) => run_model(alloc, front, setup, declared, stepper, image.entry, memory),
         Err(refusal) => refuse_image(alloc, refusal),
     }
 }
@@ -142,20 +167,22 @@ fn refuse_image(alloc: Global, refusal: ElfRefusal) -> Result<Answer, AllocError
 }
 
 /// The answer of a run over a memory in which the image is placed, behind what is told before it.
-fn run_model(
+fn run_model<P: Stepper + Drop>(
     alloc: Global,
     front: &[u8],
     setup: &Setup,
-    model: Model,
+    declared: Declared,
+    stepper: P,
     entry: u64,
     memory: Flat,
 ) -> Result<Answer, AllocError>
     requires limits { IsWithinLimits setup.now }
-    requires well_formed { is_well_formed model ≡ true }
+    requires registers { (P.meaning stepper).registers ≡ declared.registers }
     requires base { ⟦<Flat as Memory>⟧.base memory ≡ setup.now.ram_base }
-    ensures { IfOk result (λ answer. answer ≡ spec.done front.now setup.now model entry (⟦<Flat as Memory>⟧.bytes memory)) }
+    ensures { IfOk result (λ answer. answer
+        ≡ spec.done front.now setup.now declared.types (P.meaning stepper) entry (⟦<Flat as Memory>⟧.bytes memory)) }
 {
-    let text = run_text(alloc, setup, model, entry, memory)?;
+    let text = run_text(alloc, setup, declared, stepper, entry, memory)?;
     let mut bytes = Vec::from_slice(alloc, front)?;
     bytes.extend_from_slice(text.as_slice())?;
     Ok(told(bytes))

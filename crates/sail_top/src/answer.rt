@@ -12,11 +12,11 @@ ghost use Rattle.sail_top.specs.parts.Unread.{AnswersUnread};
 
 use crate::accepted::{refuse_model, run_accepted, tell_certificates, tell_counts};
 use crate::lines::named_line;
-use crate::models::{ModelError, read_models};
 use crate::reading::{Unread, Wanted, read_files, wanted_by};
 use crate::seeded::judge_synth;
 use crate::status::{Answer, Status};
 use sail_base::Items;
+use sail_compile::{Engine, ModelError};
 use sail_outside::{ReadError, Shelf};
 use sail_words::{Command, Run};
 use std::alloc::{AllocError, Global};
@@ -43,51 +43,57 @@ impl From<AllocError> for Unanswered {
 
 /// The answer to a command: its files are read whole, the models and then the program of `run`, and the first
 /// that isn't held or is too long decides.
-pub fn answer_command<S: Shelf>(
+pub fn answer_command<S: Shelf, E: Engine>(
     alloc: Global,
     command: &Command,
     shelf: &mut S,
+    engine: &mut E,
 ) -> Result<Answer, Unanswered>
     requires { IsAllowed command.now }
-    ensures answer { IfOk result (spec.AnswersCommand command.now (S.holds shelf.old)) }
+    ensures answer { IfOk result (spec.AnswersCommand (E.engine engine.old) command.now (S.holds shelf.old)) }
     ensures left { IfOk result (λ _. Leaves (Some command.now) (S.holds shelf.old) (S.left shelf.new)) }
     ensures fault { result ≡ Err Unanswered.Fault → Rose (S.faults shelf.old) (S.faults shelf.new) }
     ensures untouched { wanted_by command.now ≡ [] → shelf.new ≡ shelf.old }
 {
     let wanted = wanted_by(alloc, command)?;
     if wanted.is_empty() {
-        let answer = answer_at_once(alloc, command)?;
+        let answer = answer_at_once(alloc, command, engine)?;
         return Ok(answer);
     }
-    answer_read(alloc, command, wanted.as_slice(), shelf)
+    answer_read(alloc, command, wanted.as_slice(), shelf, engine)
 }
 
 /// The answer to a command that wants no file.
-fn answer_at_once(alloc: Global, command: &Command) -> Result<Answer, AllocError>
+fn answer_at_once<E: Engine>(
+    alloc: Global,
+    command: &Command,
+    engine: &mut E,
+) -> Result<Answer, AllocError>
     requires allowed { IsAllowed command.now }
     requires none { wanted_by command.now ≡ [] }
-    ensures { IfOk result (spec.AnswersFiles command.now []) }
+    ensures { IfOk result (spec.AnswersFiles (E.engine engine.old) command.now []) }
 {
-    answer_files(alloc, command, Items::new(alloc))
+    answer_files(alloc, command, Items::new(alloc), engine)
 }
 
 /// The answer to a command that wants these files, one at least.
-fn answer_read<S: Shelf>(
+fn answer_read<S: Shelf, E: Engine>(
     alloc: Global,
     command: &Command,
     wanted: &[Wanted<'_>],
     shelf: &mut S,
+    engine: &mut E,
 ) -> Result<Answer, Unanswered>
     requires allowed { IsAllowed command.now }
     requires wanted { map as_wanted wanted.now ≡ wanted_by command.now }
     requires some { 0 < length wanted.now }
-    ensures answer { IfOk result (spec.AnswersCommand command.now (S.holds shelf.old)) }
+    ensures answer { IfOk result (spec.AnswersCommand (E.engine engine.old) command.now (S.holds shelf.old)) }
     ensures left { IfOk result (λ _. Leaves (Some command.now) (S.holds shelf.old) (S.left shelf.new)) }
     ensures fault { result ≡ Err Unanswered.Fault → Rose (S.faults shelf.old) (S.faults shelf.new) }
 {
     match read_files(alloc, shelf, wanted) {
         Ok(files) => {
-            let answer = answer_files(alloc, command, files)?;
+            let answer = answer_files(alloc, command, files, engine)?;
             Ok(answer)
         }
         Err(unread) => answer_unread(alloc, unread),
@@ -121,55 +127,58 @@ fn answer_unread(alloc: Global, unread: Unread<'_>) -> Result<Answer, Unanswered
 }
 
 /// The answer where all files are read: the models' texts, and behind them the program's file of `run`.
-fn answer_files(
+fn answer_files<E: Engine>(
     alloc: Global,
     command: &Command,
     files: Items<Items<u8>>,
+    engine: &mut E,
 ) -> Result<Answer, AllocError>
     requires allowed { IsAllowed command.now }
     requires count { length files ≡ length (wanted_by command.now) }
     requires short { AreShortFor command.now files }
-    ensures { IfOk result (spec.AnswersFiles command.now files) }
+    ensures { IfOk result (spec.AnswersFiles (E.engine engine.old) command.now files) }
 {
     match command {
-        Command::Run(run) => answer_run(alloc, run, files),
-        Command::Check(_) => judge_counts(alloc, files.as_slice()),
-        Command::Certs(_) => judge_certificates(alloc, files.as_slice()),
-        Command::Synth(synth) => judge_synth(alloc, synth),
+        Command::Run(run) => answer_run(alloc, run, files, engine),
+        Command::Check(_) => judge_counts(alloc, files.as_slice(), engine),
+        Command::Certs(_) => judge_certificates(alloc, files.as_slice(), engine),
+        Command::Synth(synth) => judge_synth(alloc, synth, engine),
     }
 }
 
 /// The answer of `run` where all files are read: the models' texts, and the program's file behind them.
-fn answer_run(
+fn answer_run<E: Engine>(
     alloc: Global,
     command: &Run,
     mut files: Items<Items<u8>>,
+    engine: &mut E,
 ) -> Result<Answer, AllocError>
     requires limits { IsWithinLimits command.now.setup }
     requires some { 0 < length files }
     requires few { length files ≤ 65 }
     requires short { AreShortButLast files }
-    ensures { IfOk result (spec.RunsFiles command.now files) }
+    ensures { IfOk result (spec.RunsFiles (E.engine engine.old) command.now files) }
 {
     let Some(file) = files.pop() else {
         unreachable!()
     };
-    judge(alloc, command, files.as_slice(), file.as_slice())
+    judge(alloc, command, files.as_slice(), file.as_slice(), engine)
 }
 
 /// The answer of `run` for the models' texts and the program's file.
-fn judge(
+fn judge<E: Engine>(
     alloc: Global,
     command: &Run,
     texts: &[Items<u8>],
     file: &[u8],
+    engine: &mut E,
 ) -> Result<Answer, AllocError>
     requires limits { IsWithinLimits command.now.setup }
     requires few { length texts.now ≤ 64 }
     requires short { All IsShort texts.now }
-    ensures { IfOk result (spec.Judges (spec.run_answer command.now file.now) texts.now) }
+    ensures { IfOk result (spec.Judges (spec.AnswersAccepted (E.engine engine.old) command.now file.now) texts.now) }
 {
-    match read_models(alloc, texts) {
+    match engine.compile(alloc, texts, true) {
         Ok(made) => run_accepted(alloc, b"", &command.setup, made, file),
         Err(ModelError::Refused(refusal)) => refuse_model(alloc, refusal),
         Err(ModelError::OutOfMemory) => Err(AllocError),
@@ -177,26 +186,34 @@ fn judge(
 }
 
 /// The answer of `check` for the models' texts.
-fn judge_counts(alloc: Global, texts: &[Items<u8>]) -> Result<Answer, AllocError>
+fn judge_counts<E: Engine>(
+    alloc: Global,
+    texts: &[Items<u8>],
+    engine: &mut E,
+) -> Result<Answer, AllocError>
     requires few { length texts.now ≤ 64 }
     requires short { All IsShort texts.now }
-    ensures { IfOk result (spec.Judges spec.check_answer texts.now) }
+    ensures { IfOk result (spec.Judges spec.AnswersCheck texts.now) }
 {
-    match read_models(alloc, texts) {
-        Ok(made) => tell_counts(alloc, made),
+    match engine.compile(alloc, texts, false) {
+        Ok(made) => tell_counts(alloc, made.accepted),
         Err(ModelError::Refused(refusal)) => refuse_model(alloc, refusal),
         Err(ModelError::OutOfMemory) => Err(AllocError),
     }
 }
 
 /// The answer of `certs` for the models' texts.
-fn judge_certificates(alloc: Global, texts: &[Items<u8>]) -> Result<Answer, AllocError>
+fn judge_certificates<E: Engine>(
+    alloc: Global,
+    texts: &[Items<u8>],
+    engine: &mut E,
+) -> Result<Answer, AllocError>
     requires few { length texts.now ≤ 64 }
     requires short { All IsShort texts.now }
-    ensures { IfOk result (spec.Judges spec.certs_answer texts.now) }
+    ensures { IfOk result (spec.Judges spec.AnswersCerts texts.now) }
 {
-    match read_models(alloc, texts) {
-        Ok(made) => tell_certificates(alloc, made),
+    match engine.compile(alloc, texts, false) {
+        Ok(made) => tell_certificates(alloc, made.accepted),
         Err(ModelError::Refused(refusal)) => refuse_model(alloc, refusal),
         Err(ModelError::OutOfMemory) => Err(AllocError),
     }

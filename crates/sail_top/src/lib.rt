@@ -10,20 +10,16 @@
 
 mod accepted;
 mod answer;
-mod checking;
 mod laws;
 mod lines;
-mod models;
 mod reading;
-mod refusals;
 mod run;
 mod seeded;
-mod shape_refusals;
 mod status;
 mod top;
-mod variables;
 
-pub use laws::{obligations_of_accepted_texts_hold, words_have_one_answer};
+pub use laws::words_have_one_answer;
 pub use sail_base::{ElfRefusal, Refusal};
+pub use sail_compile::Jib;
 pub use status::Status;
 pub use top::run_words;

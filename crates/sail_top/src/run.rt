@@ -1,36 +1,46 @@
 //! A run over a memory in which the image is placed.
-ghost use Rattle.std.specs.Prelude.{◌≡◌, IfOk, OnOk, length, true};
+ghost use Rattle.std.specs.Prelude.{◌≡◌, IfOk, OnOk, length};
 ghost use Rattle.model_state.specs.Folds.{Keeps};
-ghost use Rattle.sail_fragment.specs.Fragment.{is_well_formed};
 ghost use Rattle.sail_words.specs.Line.{IsWithinLimits};
 ghost use Rattle.sail_top.specs.Run as spec;
 
 use harts::{Ending, run_order, start};
 use mem_store::Memory;
-use model_state::{Start, State, Stepper, report};
-use sail_fragment::{Machine, Model, no_types};
+use model_state::{Register, Start, State, Stepper, report};
+use sail_base::Items;
+use sail_types::Types;
 use sail_words::Setup;
 use std::alloc::{AllocError, Global};
+
+/// The named types and the registers of a model.
+#[derive(Drop)]
+pub struct Declared {
+    /// The named types.
+    pub types: Types,
+    /// The registers, in the order of the text.
+    pub registers: Items<Register>,
+}
 
 /// What a run of a model writes: the console's bytes and the report.
 ///
 /// The one error is want of memory.
-pub fn run_text<M: Memory + Drop>(
+pub fn run_text<P: Stepper + Drop, M: Memory + Drop>(
     alloc: Global,
     setup: &Setup,
-    model: Model,
+    declared: Declared,
+    stepper: P,
     entry: u64,
     memory: M,
 ) -> Result<Vec<u8>, AllocError>
     requires limits { IsWithinLimits setup.now }
-    requires well_formed { is_well_formed model ≡ true }
+    requires registers { (P.meaning stepper).registers ≡ declared.registers }
     requires base { M.base memory ≡ setup.now.ram_base }
-    ensures { IfOk result (λ text. text.items ≡ spec.run_text setup.now model entry (M.bytes memory)) }
+    ensures { IfOk result (λ text. text.items ≡ spec.run_text setup.now declared.types (P.meaning stepper) entry (M.bytes memory)) }
 {
-    let mut machine = Machine::new(alloc, model)?;
-    let registers = machine.registers(alloc)?;
+    let Declared { types, registers } = declared;
+    let mut machine = stepper;
     let placed = Start::of(alloc, &memory)?;
-    let mut state = State::new(alloc, no_types(alloc), registers, setup.harts, memory)?;
+    let mut state = State::new(alloc, types, registers, setup.harts, memory)?;
     let ending = run_from(alloc, setup, &mut machine, &mut state, entry)?;
     report(alloc, &state, &placed, &ending.cause, ending.steps)
 }

@@ -1,29 +1,34 @@
 //! A model and a program that are made of a seed, judged and run as if both had been read.
-ghost use Rattle.std.specs.Prelude.{◌≡◌, ◌≤◌, ◌∷◌, [], IfOk, IfSome, length, true};
+ghost use Rattle.std.specs.Prelude.{◌≡◌, ◌≤◌, ◌∷◌, [], IfOk, length};
 ghost use Rattle.std.specs.List.{All};
 ghost use Rattle.model_tokens.specs.Files.{IsShort};
-ghost use Rattle.sail_fragment.specs.Fragment.{is_well_formed};
+ghost use Rattle.sail_compile.specs.Engines.{HasRegisters};
 ghost use Rattle.sail_words.specs.Line.{IsSized};
-ghost use Rattle.sail_top.specs.Answer.{Judges, accepted_text, synth_answer};
+ghost use Rattle.sail_top.specs.Answer.{AnswersSynth, Judges, accepted_text, answer_by};
 ghost use Rattle.sail_top.specs.Seeded as spec;
 
 use crate::accepted::{push_counts, refuse_model, run_accepted};
-use crate::models::{Accepted, ModelError, read_models};
 use crate::status::Answer;
+use model_state::Stepper;
 use sail_base::Items;
+use sail_compile::{Accepted, Compiled, Engine, ModelError};
 use sail_gen::synth;
 use sail_types::push_integer;
 use sail_words::{Setup, Synth};
 use std::alloc::{AllocError, Global};
 
 /// The answer of `synth`.
-pub fn judge_synth(alloc: Global, numbers: &Synth) -> Result<Answer, AllocError>
+pub fn judge_synth<E: Engine>(
+    alloc: Global,
+    numbers: &Synth,
+    engine: &mut E,
+) -> Result<Answer, AllocError>
     requires { IsSized numbers.now }
-    ensures { IfOk result (Judges (synth_answer numbers.now) (spec.seeded_texts numbers.now)) }
+    ensures { IfOk result (Judges (AnswersSynth (E.engine engine.old) numbers.now) (spec.seeded_texts numbers.now)) }
 {
     let (text, image) = synth(alloc, numbers.seed, numbers.size)?;
     let texts = one_text(alloc, text)?;
-    judge_seeded(alloc, numbers, texts.as_slice(), image.as_slice())
+    judge_seeded(alloc, numbers, texts.as_slice(), image.as_slice(), engine)
 }
 
 /// A list of one text.
@@ -36,19 +41,20 @@ fn one_text(alloc: Global, text: Vec<u8>) -> Result<Items<Items<u8>>, AllocError
 }
 
 /// The answer for the texts and the program.
-fn judge_seeded(
+fn judge_seeded<E: Engine>(
     alloc: Global,
     numbers: &Synth,
     texts: &[Items<u8>],
     file: &[u8],
+    engine: &mut E,
 ) -> Result<Answer, AllocError>
     requires sized { IsSized numbers.now }
     requires few { length texts.now ≤ 64 }
     requires short { All IsShort texts.now }
     requires file { file.now ≡ spec.seeded_image numbers.now }
-    ensures { IfOk result (Judges (synth_answer numbers.now) texts.now) }
+    ensures { IfOk result (Judges (AnswersSynth (E.engine engine.old) numbers.now) texts.now) }
 {
-    match read_models(alloc, texts) {
+    match engine.compile(alloc, texts, true) {
         Ok(made) => run_seeded(alloc, numbers, made, file),
         Err(ModelError::Refused(refusal)) => refuse_model(alloc, refusal),
         Err(ModelError::OutOfMemory) => Err(AllocError),
@@ -56,18 +62,18 @@ fn judge_seeded(
 }
 
 /// The answer for the model, which is accepted so, and the program.
-fn run_seeded(
+fn run_seeded<P: Stepper + Drop>(
     alloc: Global,
     numbers: &Synth,
-    made: Accepted,
+    made: Compiled<P>,
     file: &[u8],
 ) -> Result<Answer, AllocError>
     requires sized { IsSized numbers.now }
-    requires well_formed { IfSome made.model (λ model. is_well_formed model ≡ true) }
+    requires registers { HasRegisters P.meaning made.accepted.certified.core made.run }
     requires file { file.now ≡ spec.seeded_image numbers.now }
-    ensures { IfOk result (λ answer. answer ≡ synth_answer numbers.now made) }
+    ensures { IfOk result (λ answer. answer ≡ answer_by P.meaning (spec.seeded_front numbers.now (accepted_text made.accepted)) (spec.seeded_setup numbers.now.size) (spec.seeded_image numbers.now) made.accepted made.run) }
 {
-    let front = front_of(alloc, numbers, &made)?;
+    let front = front_of(alloc, numbers, &made.accepted)?;
     let setup = setup_of(alloc, numbers.size)?;
     run_accepted(alloc, front.as_slice(), &setup, made, file)
 }

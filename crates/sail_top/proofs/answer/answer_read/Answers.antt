@@ -21,7 +21,7 @@ answer_files-requires-clause-short g c =
 
 pub returns-in_ok-answer-in-Ok-clause-answer : goal.returns-in_ok-answer-in-Ok-clause-answer
 returns-in_ok-answer-in-Ok-clause-answer g c =
-    command_answered (g.S.Shelf.holds c.args.shelf.now) c.args.command.now c.in-Ok.files (g.S.Shelf.left c.read_files.new.shelf)
+    command_answered (g.E.Engine.engine c.args.engine.now) (g.S.Shelf.holds c.args.shelf.now) c.args.command.now c.in-Ok.files (g.S.Shelf.left c.read_files.new.shelf)
     c.in_ok-answer-in-Ok.answer
     (subst (λ (wanted : List Wanted). Ends (g.S.Shelf.holds c.args.shelf.now) wanted (whole c.in-Ok.files) (g.S.Shelf.left c.read_files.new.shelf))
     c.requires.wanted c.in-Ok.ensures.whole) c.in_ok-answer-in-Ok.ensures

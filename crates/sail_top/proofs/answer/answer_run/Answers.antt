@@ -6,5 +6,5 @@ use Rattle.sail_top.proofs.ShortLemmas.{short_texts}
 use Rattle.sail_top.proofs.answer.answer_run.Goals as goal
 
 pub judge-requires-clause-short : goal.judge-requires-clause-short
-judge-requires-clause-short c =
+judge-requires-clause-short g c =
     subst (All IsShort) (sym c.as_slice.ensures) (short_texts c.pop.new.self c.in-Some.file (subst AreShortButLast c.in-Some.ensures c.requires.short))

@@ -1,5 +1,4 @@
-use Rattle.std.proofs.Common.{Result, Ok, Err, IfOk, ◌∙◌}
-use Rattle.model_state.specs.RunState.{fresh}
+use Rattle.std.proofs.Common.{Result, Ok, Err, IfOk, ◌∙◌, sym}
 use Rattle.sail_top.proofs.RunLemmas.{text_is}
 use Rattle.sail_top.proofs.run.run_text.Goals as goal
 
@@ -14,7 +13,7 @@ returns g c =
     let base = g.M.Memory.base c.args.memory in
     let bytes = g.M.Memory.bytes c.args.memory in
     let ends = c.in_ok-ending.ensures in
-    at_ok c.report.result _ _ (λ text is. is ∙ text_is setup c.args.model c.args.entry base bytes c.in_ok-placed.placed.bytes _ c.in_ok-state.state
-    c.run_from.new.state c.in_ok-ending.ending.cause c.in_ok-ending.ending.steps c.in_ok-machine.ensures
-    (c.in_ok-state.ensures ∙ (λ i. fresh (c.no_types.ensures i) (c.in_ok-registers.ensures i) setup.harts base bytes)) c.requires.base
+    at_ok c.report.result _ _ (λ text is. is ∙ text_is setup c.args.declared.types (g.P.Stepper.meaning c.args.stepper) c.args.entry base bytes
+    c.in_ok-placed.placed.bytes c.args.declared.registers c.in_ok-state.state
+    c.run_from.new.state c.in_ok-ending.ending.cause c.in_ok-ending.ending.steps c.requires.registers c.in_ok-state.ensures c.requires.base
     c.in_ok-placed.ensures.bytes ends.cause ends.steps ends.state) c.report.ensures

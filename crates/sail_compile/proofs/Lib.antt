@@ -1,0 +1,10 @@
+pub mod BarsEnd
+pub mod CheckLemmas
+pub mod HoldLemmas
+pub mod LeftOut
+pub mod ModelLemmas
+pub mod OneRefusal
+pub mod Reaching
+pub mod RunLemmas
+pub mod TableLemmas
+pub mod VariableLemmas

@@ -1,0 +1,7 @@
+use Rattle.sail_compile.proofs.RunLemmas.{started}
+use Rattle.sail_compile.proofs.flat_code.start.Goals as goal
+
+pub returns : goal.returns
+returns c = λ written sized sizes is_flat low.
+    started written sized c.args.lowered.flat c.args.lowered.checked.program sizes is_flat low c.new.result c.new.ensures.program c.new.ensures.types
+    c.new.ensures.registers c.new.ensures.entries c.new.ensures.opened

@@ -1,0 +1,5 @@
+use Rattle.sail_compile.proofs.RunLemmas.{left_unclosed}
+use Rattle.sail_compile.proofs.flat_code.unless_open.Goals as goal
+
+pub returns-in_default : goal.returns-in_default
+returns-in_default c = λ core met. left_unclosed core c.args.error.now met c.in_default.not-OutOfMemory

@@ -1,5 +1,0 @@
-use Rattle.sail_top.proofs.HoldLemmas.{accepted_hold}
-use Rattle.sail_top.proofs.laws.obligations_of_accepted_texts_hold.Goals as goal
-
-pub returns : goal.returns
-returns c = accepted_hold
