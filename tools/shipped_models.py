@@ -1,4 +1,4 @@
-"""Makes shipped_models.rt and shipped_rv64.rt in crates/sail_run/src, the texts of the models in crates/sail_run/data, and tutorial_rows.rt
+"""Makes shipped_models.rt and shipped_rv64.rt in crates/sail_rows/src, the texts of the models in crates/sail_run/data, and tutorial_rows.rt
 there, the models of docs/TUTORIAL.md with what is written for them.
 
     python3 tools/shipped_models.py
@@ -8,7 +8,6 @@ import os
 import re
 
 TOP = os.path.dirname(os.path.dirname(os.path.abspath(__file__)))
-CRATE = os.path.join(TOP, "crates/sail_run")
 MODELS = {
     "shipped_models": ["rv32_begin", "rv32i", "rv32m", "rv32a", "rv32_end", "toy16"],
     "shipped_rv64": ["rv64_begin", "rv64i", "rv64m", "rv64a"],
@@ -33,7 +32,7 @@ def read(name):
 
 
 def write(name, lines):
-    with open(os.path.join(CRATE, "src", name), "w") as file:
+    with open(os.path.join(TOP, "crates/sail_rows/src", name), "w") as file:
         file.write("\n".join(lines) + "\n")
 
 

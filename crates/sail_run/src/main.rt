@@ -4,36 +4,12 @@
 #[cfg(test)]
 mod answers;
 #[cfg(test)]
-mod checks_rows;
-#[cfg(test)]
-mod choices_rows;
-#[cfg(test)]
-mod facts_rows;
-#[cfg(test)]
-mod instances_rows;
-#[cfg(test)]
 mod long_texts;
 #[cfg(test)]
-mod members_rows;
-#[cfg(test)]
-mod patterns_rows;
-#[cfg(test)]
-mod shapes_rows;
-#[cfg(test)]
-mod shipped_models;
-#[cfg(test)]
-mod shipped_rv64;
-#[cfg(test)]
-mod tables_rows;
-#[cfg(test)]
 mod tests;
-#[cfg(test)]
-mod tutorial_rows;
-#[cfg(test)]
-mod words_rows;
 
 use sail_outside::{StdShelf, StdSink};
-use sail_top::{Status, run_words};
+use sail_top::{Jib, Status, run_words};
 use std::alloc::Global;
 use std::env::{self, Env};
 use std::io::ErrorKind;
@@ -52,7 +28,14 @@ fn answer(rt: &(impl Files + Print + AllocGlobal), line: &impl Env) -> ExitCode 
     };
     let mut files = StdShelf::new(rt);
     let mut out = StdSink::new(rt);
-    let status = run_words(rt.alloc(), words.as_slice(), &mut files, &mut out);
+    let mut engine = Jib;
+    let status = run_words(
+        rt.alloc(),
+        words.as_slice(),
+        &mut files,
+        &mut out,
+        &mut engine,
+    );
     ExitCode::from(status.code())
 }
 

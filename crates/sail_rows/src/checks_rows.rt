@@ -320,9 +320,14 @@ val f : int -> int
 function f(n) = n - 1
 # true
 # 1 M20 1:2:19 n = -85070591730234615865843651857942052864
-% run --elf Q M // a model that doesn't run today
+% run --elf Q --ram-size 8 --steps 2 M // a model without registers
 val f : int -> int
 function f(n) = n
 # true
-# 1 M05 1:1:1
+# 0 == report
+stop steps-done
+steps 2
+console 0
+hart 0
+== end
 ";

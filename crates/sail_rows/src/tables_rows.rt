@@ -1,5 +1,5 @@
-//! Models and what is written for them, the status first, by the rules of names, kinds, calls and parts: the text, the body of
-//! a step behind it, if it has one, and the answer. A model that has its tables doesn't run today.
+//! Models and what `check` writes for them, the status first, by the rules of names, kinds, calls and parts: the text, the body of
+//! a step behind it, if it has one, and the answer.
 
 /// Names that are taken, and equal names in one list.
 pub const NAMES: &str = "
@@ -27,7 +27,7 @@ let R = 1
 % // two spaces of names; the names of builtins are taken
 union E = { E : int }
 # true
-# 1 M05 1:1:1
+# 0 accepted
 %
 let f = 1
 val f : unit -> unit
@@ -94,7 +94,7 @@ function f(x) = x
 overload o = { f }
 overload o = { not_bool }
 # true
-# 1 M05 1:1:1
+# 0 accepted
 % // where a refused definition stands
 val f : unit -> unit
 # true
@@ -153,11 +153,11 @@ type t('n, 'n) = int('n)
 val f : unit -> int
 function f() = { let a = 1; let a = 2; var a = 3; a }
 # true
-# 1 M05 1:1:1
+# 0 accepted
 %
 mapping m : bool <-> bool = { x <-> x }
 # true
-# 1 M05 1:1:1
+# 0 accepted
 ";
 
 /// Definitions and their parts, measures, and what reaches itself.
@@ -176,12 +176,12 @@ val m : bool <-> bool
 val m : bool <-> bool
 mapping m = { true <-> true }
 # true
-# 1 M05 1:1:1
+# 0 accepted
 %
 function f() = ()
 val f : unit -> unit
 # true
-# 1 M05 1:1:1
+# 0 accepted
 % // bodies without types
 function f(x) -> int = 1
 # true
@@ -193,11 +193,11 @@ function f(x : int) = 1
 %
 function f(x : int) -> int = x
 # true
-# 1 M05 1:1:1
+# 0 accepted
 %
 function f() -> int = 1
 # true
-# 1 M05 1:1:1
+# 0 accepted
 %
 mapping m = { true <-> true }
 # true
@@ -225,7 +225,7 @@ val f : int -> int
 function f(x) = f(x)
 termination_measure f(x) = 1
 # true
-# 1 M05 1:1:1
+# 0 accepted
 %
 val f : unit -> unit
 function f() = while true do ()
@@ -261,7 +261,7 @@ function f(x) = match x { m(y) => y }
 termination_measure f(x) = 1
 mapping m : bits(1) <-> bool = { 0b0 if f(0b1) <-> true }
 # true
-# 1 M05 1:1:1
+# 0 accepted
 %
 val f : bool -> bool
 function f(x) = match x { m(y) => y }
@@ -298,7 +298,7 @@ scattered union U
 union clause U = A : S
 end U
 # true
-# 1 M05 1:1:1
+# 0 accepted
 %
 type t = s
 type s = int
@@ -311,11 +311,11 @@ function f(x : S) = ()
 struct S = { a : int }
 type T = bool
 # true
-# 1 M05 1:1:1
+# 0 accepted
 % // unions that name themselves, and kinds that are not written
 union U = { A : list((int, U)), B : unit }
 # true
-# 1 M05 1:1:1
+# 0 accepted
 %
 union U = { A : (U, int) }
 # true
@@ -324,7 +324,7 @@ union U = { A : (U, int) }
 type n = 8
 register R : bits(n)
 # true
-# 1 M05 1:1:1
+# 0 accepted
 %
 type n : Type = 8
 # true
@@ -333,7 +333,7 @@ type n : Type = 8
 type t('n) = bits('n)
 register R : t(8)
 # true
-# 1 M05 1:1:1
+# 0 accepted
 %
 type t('a) = list('a)
 # true
@@ -341,7 +341,7 @@ type t('a) = list('a)
 %
 type t = {'n, 0 <= 'n. int('n)}
 # true
-# 1 M05 1:1:1
+# 0 accepted
 %
 type t = {'n, 'n. int('n)}
 # true
@@ -378,7 +378,7 @@ type n = 2 ^ 127
 %
 type n = 2 ^ 126
 # true
-# 1 M05 1:1:1
+# 0 accepted
 %
 register R : bits(-1)
 # true
@@ -417,13 +417,13 @@ struct S('n) = { a : range(0, 'n) }
 val f : S(-1) -> unit
 function f(x) = ()
 # true
-# 1 M05 1:1:1
+# 0 accepted
 %
 type t('n) = bits(2 ^ 'n)
 val f : t(127) -> unit
 function f(x) = ()
 # true
-# 1 M05 1:1:1
+# 0 accepted
 %
 type t('n) = int('n + 1)
 val f : t(85070591730234615865843651857942052864) -> unit
@@ -443,7 +443,7 @@ let b = 1
 let b = 1
 let a = b + unsigned(0x1)
 # true
-# 1 M05 1:1:1
+# 0 accepted
 %
 val f : unit -> int
 function f() = 1
@@ -547,14 +547,14 @@ function g() = None
 val g : bool -> bool
 function g(x) = match x { None => true }
 # true
-# 1 M05 1:1:1
+# 0 accepted
 %
 val f : int -> int
 function f(x) = x
 val g : int -> int
 function g(f) = f(f)
 # true
-# 1 M05 1:1:1
+# 0 accepted
 % // what is assigned to
 register R : int
 val g : int -> unit
@@ -578,7 +578,7 @@ register R : int
 val g : unit -> unit
 function g() = { R = 1 }
 # true
-# 1 M05 1:1:1
+# 0 accepted
 %
 val g : unit -> unit
 function g() = { x = 1 }
@@ -631,7 +631,7 @@ mapping m : bool <-> bool = { x <-> x }
 union U = { A : int }
 overload o = { m_forwards, unsigned, A }
 # true
-# 1 M05 1:1:1
+# 0 accepted
 ";
 
 /// Definitions in parts, and entry points.
@@ -682,7 +682,7 @@ val step : unit -> bool
 function reset(h : range(0, 7), e : bits(64)) -> unit = ()
 function step() -> bool = true
 #
-# 1 M05 1:1:1
+# 0 accepted
 %
 type hart = range(0, 3 + 4)
 type xlen = 64
@@ -691,7 +691,7 @@ function reset(h, e) = ()
 val step : unit -> bool
 function step() = true
 #
-# 1 M05 1:1:1
+# 0 accepted
 %
 val reset : forall 'n. (range(0, 7), bits(64)) -> unit
 function reset(h, e) = ()

@@ -1,5 +1,5 @@
-//! Models and what is written for them, the status first, by the rules of shapes: the text, the body of a step behind it, and the
-//! answer. Here stand overloads, operators, and parts of values. A model that has its shapes doesn't run today.
+//! Models and what `check` writes for them, the status first, by the rules of shapes: the text, the body of a step behind it, and the
+//! answer. Here stand overloads, operators, and parts of values.
 
 /// Which member of an overload is taken, and which members clash.
 pub const OVERLOADS: &str = "
@@ -10,7 +10,7 @@ val h : bits(8) -> int
 function h(x) = 1
 overload o = { g, h }
 # { let x : int = o(0x12); o(1) }
-# 1 M05 1:1:1
+# 0 accepted
 %
 val g : int -> bool
 function g(x) = true
@@ -50,7 +50,7 @@ val u : unit -> bool
 function u() = true
 overload o = { g, u }
 # o() & o(1) & o(())
-# 1 M05 1:1:1
+# 0 accepted
 %
 val g : int -> bool
 function g(x) = true
@@ -58,7 +58,7 @@ val p : (int, bits(8)) -> bool
 function p(x, y) = true
 overload o = { g, p }
 # o(1) & o(1, 0x12)
-# 1 M05 1:1:1
+# 0 accepted
 %
 val g : int -> bool
 function g(x) = true
@@ -74,7 +74,7 @@ val p : (int, bits(8)) -> unit
 function p(x, y) = ()
 overload o = { g, p }
 # { o(1) = 0x12; o(1) }
-# 1 M05 1:1:1
+# 0 accepted
 %
 val g : int -> bool
 function g(x) = true
@@ -88,7 +88,7 @@ val g : option(int) -> bool
 function g(x) = true
 overload o = { g }
 # o(None())
-# 1 M05 1:1:1
+# 0 accepted
 %
 val g : bits(8) -> bool
 function g(x) = true
@@ -138,7 +138,7 @@ val h : forall ('a : Type). ((bool, 'a), int) -> int
 function h(x, y) = 2
 overload f = { g, h }
 # true
-# 1 M05 1:1:1
+# 0 accepted
 %
 val g : (int, bool) -> int
 function g(x, y) = 1
@@ -146,7 +146,7 @@ val h : forall ('a : Type). 'a -> int
 function h(x) = 2
 overload f = { g, h }
 # f(1, true) == f(true)
-# 1 M05 1:1:1
+# 0 accepted
 %
 val g : int -> bool
 function g(x) = true
@@ -167,7 +167,7 @@ val h : forall ('b : Type). 'b -> int
 function h(x) = 1
 overload o = { g, h }
 # o(1)
-# 1 M05 1:1:1
+# 0 accepted
 %
 val g : forall ('a : Type). 'a -> bool
 function g(x) = true
@@ -183,7 +183,7 @@ val h : forall ('b : Type) ('a : Type). ('a, 'b) -> int
 function h(x, y) = 1
 overload o = { g, h }
 # true
-# 1 M05 1:1:1
+# 0 accepted
 %
 val g : forall ('a : Type) ('b : Type). ('a, 'b) -> int
 function g(x, y) = 1
@@ -230,7 +230,7 @@ pub const OPERATORS: &str = r#"
 # 1 M16 1:4:19 not
 %
 # ~(true) | ~(0x1) == 0xe
-# 1 M05 1:1:1
+# 0 accepted
 % // an operand that fails fits every shape, and the form has no shape then
 # 0x1 + (true + true)
 # 1 M16 1:4:31 +
@@ -240,7 +240,7 @@ pub const OPERATORS: &str = r#"
 % // equality is of numbers, bits, truths, strings, unit and members of enums
 enum E = { A, B }
 # 1 == 2 & 0x1 == 0x2 & bitone != bitzero & true == false & "a" != "b" & () == () & A == B
-# 1 M05 1:1:1
+# 0 accepted
 %
 # (1, 2) == (1, 2)
 # 1 M16 1:4:26 ==
@@ -269,7 +269,7 @@ register R : S
 # 1 M16 1:4:19 length
 %
 # length([0x1]) == length(0x1)
-# 1 M05 1:1:1
+# 0 accepted
 % // on a truth, and on what fits every shape, `&` and `|` are no call
 # true & 0x1
 # 1 M14 1:4:26 wanted bool found bits
@@ -291,20 +291,20 @@ val g : (bits(8), bool) -> bool
 function g(x, y) = y
 overload operator & = { g }
 # 0x12 & true
-# 1 M05 1:1:1
+# 0 accepted
 "#;
 
 /// Members of operators: a list's first item, those that overloads add, and plain expressions.
 pub const MEMBERS: &str = "
 % // `::` puts an item before a list
 # { let x : list(int) = 1 :: 2 :: [| |]; let y = true :: [| |]; true }
-# 1 M05 1:1:1
+# 0 accepted
 %
 # 1 :: [| true |]
 # 1 M16 1:4:21 ::
 %
 # { let x : list(option(int)) = None() :: [| Some(1) |]; true }
-# 1 M05 1:1:1
+# 0 accepted
 %
 # { let x : bool = 1 :: [| |]; true }
 # 1 M14 1:4:38 wanted bool found list(int)
@@ -313,7 +313,7 @@ val g : (int, int) -> bool
 function g(x, y) = true
 overload operator :: = { g }
 # 1 :: 2
-# 1 M05 1:1:1
+# 0 accepted
 %
 val g : (int, list(int)) -> bool
 function g(x, y) = true
@@ -325,7 +325,7 @@ val g : (bool, bool) -> bool
 function g(x, y) = true
 overload operator + = { g }
 # true + true
-# 1 M05 1:1:1
+# 0 accepted
 %
 val g : (int, int) -> bool
 function g(x, y) = true
@@ -368,7 +368,7 @@ register R : bool = true + true
 let L = 1 + 2
 register R : bits(8) = 0x1 @ 0x2
 # { let x : int = L; true }
-# 1 M05 1:1:1
+# 0 accepted
 ";
 
 /// Parts of values, and structs.
@@ -378,7 +378,7 @@ register R : bits(8)
 register V : vector(4, bits(8))
 register I : int
 # { let x : bit = R[0]; let y : bits(4) = R[7 .. 4]; let z : bits(8) = V[3]; V[3][0] == bitone }
-# 1 M05 1:1:1
+# 0 accepted
 %
 register R : bits(8)
 register V : vector(4, bits(8))
@@ -447,7 +447,7 @@ register R : bits(8)
 register V : vector(4, bits(8))
 register I : int
 # { V[0] = 0x12; V[0][1] = bitone; R[3 .. 0] = 0x1; true }
-# 1 M05 1:1:1
+# 0 accepted
 %
 register R : bits(8)
 register V : vector(4, bits(8))
@@ -495,7 +495,7 @@ register V : vector(4, bits(8))
 register I : int
 struct S = { a : int, b : bits(8) }
 # { let x = [R with 0 = bitone]; let y = [R with 3 .. 0 = 0x1]; let z = [V with 0 = 0x12]; true }
-# 1 M05 1:1:1
+# 0 accepted
 %
 register R : bits(8)
 register V : vector(4, bits(8))
@@ -546,7 +546,7 @@ struct S = { a : int, b : bits(8) }
 struct S = { a : int, b : bits(8) }
 struct T = { a : int }
 # { let x = struct { b = 0x12, a = 1 }; let y : T = struct { a = 1 }; true }
-# 1 M05 1:1:1
+# 0 accepted
 %
 struct S = { a : int, b : bits(8) }
 # { let x : S = struct { a = 1 }; true }

@@ -1,5 +1,5 @@
-//! Models and what is written for them, the status first, by the rules of shapes: the text, the body of a step behind it, and the
-//! answer. A model that has its shapes doesn't run today.
+//! Models and what `check` writes for them, the status first, by the rules of shapes: the text, the body of a step behind it, and the
+//! answer.
 
 /// Where a shape could tell less than the value does: what is refused for it, and what isn't.
 pub const CHOICES: &str = "
@@ -11,7 +11,7 @@ val show_int : int -> int
 function show_int(i) = 2
 overload show = { show_bool, show_int }
 # { R = show(3); true }
-# 1 M05 1:1:1
+# 0 accepted
 % // `{ e with f = v }` and `[v with i = e]` have the shapes of what is put in too
 register R : int
 val show_bool : bool -> int
@@ -51,7 +51,7 @@ val set_bits : (int, bits(8)) -> unit
 function set_bits(i, b) = { A = b }
 overload acc = { get, set_bool, set_bits }
 # { acc(1)[0] = bitone; true }
-# 1 M05 1:1:1
+# 0 accepted
 %
 register R : int
 val show_bool : bool -> int
@@ -94,7 +94,7 @@ val shi : int -> int
 function shi(i) = 4
 overload sh = { shu, shi }
 # { R = sh(acc(1)[0] = bitone); true }
-# 1 M05 1:1:1
+# 0 accepted
 %
 register R : int
 val show_bool : bool -> int
@@ -212,7 +212,7 @@ function g(i, j) = (1, true)
 val f : forall ('a : Type). ('a, int) -> 'a
 function f(x, n) = x
 # { var z = false; z = f(true) = 5; true }
-# 1 M05 1:1:1
+# 0 accepted
 %
 val f : forall ('a : Type). ('a, int) -> 'a
 function f(x, n) = x
@@ -233,5 +233,5 @@ function f(i, p) = p
 % // a base that never ends has every field
 struct t = { h : int }
 # { let y : t = { exit() with h = 1 }; true }
-# 1 M05 1:1:1
+# 0 accepted
 ";

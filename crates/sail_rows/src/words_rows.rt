@@ -373,48 +373,99 @@ register PC : bits(8) register PC : bits(8)# { PC = PC + 0x01; true }
 register PC : bits(8)
 # { PC = Q + 0x01; true }
 # 1 M10 1:5:26 Q
-% run --elf Q N M // and then what runs today
+% run --elf Q --ram-size 8 --steps 3 N M // files one after another
 register PC : bits(8)
 #
-# 1 M05 1:1:1
+# 0 == report
+stop steps-done
+steps 3
+console 0
+hart 0
+PC = 0x03
+== end
 % synth 1 3 // made of a seed
 register PC : bits(8)
 # { PC = PC + 0x01; true }
-# 1 M05 1:1:1
-% run --elf Q M
+# 0 synth 1 3
+accepted 5 functions 18 obligations 5 instances
+== report
+stop all-rest
+steps 4
+console 0
+hart 0
+PC = 0x0000000080000006
+A = 0xf3
+== end
+% run --elf Q --ram-size 8 --steps 3 M // what steps do
 register PC : bits(0)
 # { true }
-# 1 M05 1:1:1
+# 0 == report
+stop steps-done
+steps 3
+console 0
+hart 0
+PC = 0b
+== end
 % run --elf Q M
 register PC : bits(129)
 # { true }
 # 1 M26 1:1:20 129
-% run --elf Q M
-register PC : bits(8) = 0x00
+% run --elf Q --ram-size 8 --steps 3 M
+register PC : bits(8) = 0x40
 # { PC = PC + 0x01; true }
-# 1 M05 1:1:1
-% run --elf Q M
+# 0 == report
+stop steps-done
+steps 3
+console 0
+hart 0
+PC = 0x43
+== end
+% run --elf Q --ram-size 8 --steps 3 M
 register PC : bits(8)
 # true
-# 1 M05 1:1:1
+# 0 == report
+stop steps-done
+steps 3
+console 0
+hart 0
+PC = 0x00
+== end
 % run --elf Q M
 register PC : bits(8)
 # { PC = PC + 0x001; true }
 # 1 M20 1:5:29
-% run --elf Q M
+% run --elf Q --ram-size 8 --steps 3 M
 register PC : bits(8)
 # { PC = PC - 0x01; true }
-# 1 M05 1:1:1
-% run --elf Q M
+# 0 == report
+stop steps-done
+steps 3
+console 0
+hart 0
+PC = 0xfd
+== end
+% run --elf Q --ram-size 8 --steps 3 M
 register PC : bits(8)
 # { PC = 0x01 + PC; true }
-# 1 M05 1:1:1
+# 0 == report
+stop steps-done
+steps 3
+console 0
+hart 0
+PC = 0x03
+== end
 % run --elf Q M
 register PC : bits(8)
 # { PC = PC + 0x01; true; }
 # 1 M14 1:5:19 wanted bool found unit
-% run --elf Q M
+% run --elf Q --ram-size 8 M
 register PC : bits(8)
 # { PC = PC + 0x01; false }
-# 1 M05 1:1:1
+# 0 == report
+stop all-rest
+steps 1
+console 0
+hart 0
+PC = 0x01
+== end
 ";
