@@ -2,6 +2,7 @@
 use Rattle.std.proofs.Common.{◌≡◌, ◌∙◌, ◌<◌, ap, sym, refl, subst, ℕ, suc, nat_eq, Bool, true, false, List, [], ◌∷◌, length, map, slice_get, arith}
 use Rattle.std.specs.Prelude.{Option, Some, None, option_map}
 use Rattle.std.proofs.lemmas.Bool.Decides.{Decides-eqb}
+use Rattle.std.proofs.lemmas.Option.{slice_get-map}
 use Rattle.sail_types.specs.Named.{constructors}
 use Rattle.sail_types.specs.Places.{an_int, first, only}
 use Rattle.sail_types.specs.Sums.{and_then}
@@ -14,13 +15,15 @@ use Rattle.model_state.specs.declared.cause.Cause.TheVariants as C
 use Rattle.model_state.specs.declared.cause.Ended.{Ended as Halt}
 use Rattle.model_state.specs.declared.cause.Ended.TheVariants as E
 use Rattle.sail_core.specs.Numbers.{Awaited, Givens, Instance, all_agree, as_awaited, givens_of, place_of}
-use Rattle.sail_core.specs.Program.{Calls, Setting, answered, calls, event_of, framed, world_of}
+use Rattle.sail_core.specs.Program.{Calls, Setting, Sizing, answered, calls, event_of, framed, world_of}
 use Rattle.sail_core.specs.Run as R
 use Rattle.sail_core.specs.Run.{Ended, Now, Run, if_so, needs, stuck, ◌then◌}
 use Rattle.sail_core.specs.Start as S
 use Rattle.sail_core.specs.Start.{event_run, setting_of}
 use Rattle.sail_core.specs.declared.model.CoreModel.{CoreModel}
 use Rattle.sail_core.specs.declared.model.Function.{Function}
+use Rattle.match_rewrite.proofs.FlatModels.{runs_kept}
+use Rattle.match_rewrite.specs.Rewriting.{flat_function, with_flat_arms}
 use Rattle.value_laws.proofs.Basics.{two}
 use Rattle.checked_meaning.specs.Checked.{checked, checking}
 use Rattle.checked_meaning.specs.Items.{Item, items_of}
@@ -83,7 +86,13 @@ ended_there x types hart ticks q vs state ran R.Stuck a h = none h
 
 module _ (m : CoreModel) (c : SizedCore) (hart i p : ℕ) (e : IsEntered m c i p) (depth : ℕ) (vs : List Value) where
   abbrev s : Setting Item
-  s = setting_of (checking (noted_checks_of m c)) m hart
+  s = setting_of (checking (noted_checks_of m c)) (with_flat_arms m) hart
+
+  abbrev function : Function
+  function = flat_function e.function
+
+  function_is : slice_get (with_flat_arms m).functions i ≡ Some function
+  function_is = slice_get-map flat_function m.functions i ∙ ap (option_map flat_function) e.is_it
 
   abbrev below : Calls Item
   below = calls s depth
@@ -95,16 +104,16 @@ module _ (m : CoreModel) (c : SizedCore) (hart i p : ℕ) (e : IsEntered m c i p
   run_by : Awaited → Givens → Run Item Value
   run_by a nu = if_so
       (needs (s.sizing.enters i (place_of a) nu vs)
-      then λ xs. framed (answered (s.sizing.function i (place_of a) nu) (world_of s below [] nu xs) e.function))
+      then λ xs. framed (answered (s.sizing.function i (place_of a) nu) (world_of s below [] nu xs) function))
       stuck (as_awaited a nu)
 
   abbrev begun_by : Awaited → ℕ → Run Item Value
-  begun_by a n = needs (givens_of n e.function.parameters vs) then run_by a
+  begun_by a n = needs (givens_of n function.parameters vs) then run_by a
 
   abbrev read_as : Option SizedInstance → Bool → Run Item Value
   read_as o b = if_so
       (needs (and_then (and_then (signature_for o) (entering false m.types vs)) (λ ss. items_of ss vs))
-      then λ xs. framed (answered (checked m.types (noted_cases_of m.types c.instances (nodes_for o))) (world_of s below [] [] xs) e.function))
+      then λ xs. framed (answered (checked m.types (noted_cases_of m.types c.instances (nodes_for o))) (world_of s below [] [] xs) function))
       stuck b
 
   numbers_are : all_agree (numbers_of e.instance.instance) [] ≡ true
@@ -112,7 +121,8 @@ module _ (m : CoreModel) (c : SizedCore) (hart i p : ℕ) (e : IsEntered m c i p
 
   it_is : is_for i [] e.instance ≡ true
   it_is =
-      two (nat_eq e.instance.instance.function i) (all_agree (numbers_of e.instance.instance) []) ((Decides-eqb e.instance.instance.function i).1 e.is_of) numbers_are
+      two (nat_eq e.instance.instance.function i) (all_agree (numbers_of e.instance.instance) []) ((Decides-eqb e.instance.instance.function i).1 e.is_of)
+      numbers_are
 
   at_place : entered c.instances i p [] ≡ Some e.instance
   at_place =
@@ -126,30 +136,34 @@ module _ (m : CoreModel) (c : SizedCore) (hart i p : ℕ) (e : IsEntered m c i p
   unfolding run_by
   same_run = λ j. read_as (same_instance j) (sym numbers_are j)
 
-  none_given : (a : Awaited) → begun_by a (length e.function.variables) ≡ run_by a []
+  none_given : (a : Awaited) → begun_by a (length function.variables) ≡ run_by a []
   none_given a = ap (λ ps. begun_by a (length ps)) e.plain
 
-  event_is : (a : Awaited) → event_of s below i a vs (slice_get m.functions i) ≡ begun_by a (length e.function.variables)
+  event_is : (a : Awaited) → event_of s below i a vs (slice_get (with_flat_arms m).functions i) ≡ begun_by a (length function.variables)
   unfolding run_by
-  event_is a = ap (event_of s below i a vs) e.is_it
+  event_is a = ap (event_of s below i a vs) function_is
 
-  pub same_event : event_of s below i None vs (slice_get m.functions i) ≡ event_of s below i (Some awaited) vs (slice_get m.functions i)
+  pub same_event : event_of s below i None vs (slice_get (with_flat_arms m).functions i)
+      ≡ event_of s below i (Some awaited) vs (slice_get (with_flat_arms m).functions i)
   same_event = event_is None ∙ none_given None ∙ same_run ∙ sym (none_given (Some awaited)) ∙ sym (event_is (Some awaited))
 
 pub events_come : Modules.EventsAnswer → EventsCome
 events_come answer m c hart x of i p e ticks vs state ran h =
-    let t : Setting Item = setting_of (checking (noted_checks_of m c)) m hart in
+    let sizing : Sizing Item = checking (noted_checks_of m c) in
+    let flat : CoreModel = with_flat_arms m in
+    let t : Setting Item = setting_of sizing flat hart in
     let a : Instance = record { place = p; numbers = numbers_of e.instance.instance } in
     let now : Now Item = S.begun ticks state in
     let less : ticks < suc ticks = omega arith in
-    let there = answer x of.agrees of.lowered of.ticks of.events (suc ticks) i a vs now (of.of p e.instance e.is_there ∙ e.is_of)
+    let there = answer x of.agrees of.lowered of.turned of.ticks of.events (suc ticks) i a vs now (of.of p e.instance e.is_there ∙ e.is_of)
     (of.awaits p e.instance e.is_there) less in
     let answers : AnswersFrom x.m x.lets hart (J.alone (x.event p)) (x.event p) vs now
-    (event_of t (calls t (suc ticks)) i (Some a) vs (slice_get m.functions i) now) =
+    (event_of t (calls t (suc ticks)) i (Some a) vs (slice_get flat.functions i) now) =
     subst (λ (u : Setting Item). AnswersFrom x.m x.lets u.hart (J.alone (x.event p)) (x.event p) vs now
     (event_of u (calls u (suc ticks)) i (Some a) vs (slice_get u.functions i) now)) of.setting there in
-    let same : event_run (checking (noted_checks_of m c)) m ticks None hart i vs state
-    ≡ event_of t (calls t (suc ticks)) i (Some a) vs (slice_get m.functions i) now =
+    let same : event_run sizing flat ticks None hart i vs state ≡ event_of t (calls t (suc ticks)) i (Some a) vs (slice_get flat.functions i) now =
     ap (λ (r : Run Item Value). r now) (same_event m c hart i p e (suc ticks) vs) in
-    ended_there x m.types hart ticks (x.event p) vs state ran (event_of t (calls t (suc ticks)) i (Some a) vs (slice_get m.functions i) now) answers
-    (ap (S.ran_of m.types) (sym same) ∙ h)
+    let kept : event_run sizing flat ticks None hart i vs state ≡ event_run sizing m ticks None hart i vs state =
+    (runs_kept sizing m).events ticks None hart i vs state in
+    ended_there x m.types hart ticks (x.event p) vs state ran (event_of t (calls t (suc ticks)) i (Some a) vs (slice_get flat.functions i) now) answers
+    (ap (S.ran_of m.types) (sym same ∙ kept) ∙ h)

@@ -17,7 +17,7 @@ use Rattle.size_laws.proofs.Said.{one}
 use Rattle.size_notes.specs.Bodies.{bodies_of}
 use Rattle.monomorph.specs.Instances.{model_of}
 use Rattle.monomorph.specs.Lasts.{Model}
-use Rattle.monomorph.specs.declared.found.Instance.{Instance}
+use Rattle.sized_nodes.specs.declared.trees.Instance.{Instance}
 use Rattle.sized_trees.specs.Trees.{sized_core, sized_instance, sized_instances, sized_list}
 use Rattle.sized_nodes.specs.declared.trees.SizedCore.{SizedCore}
 use Rattle.sized_nodes.specs.declared.trees.SizedInstance.{SizedInstance}
@@ -29,7 +29,6 @@ use Rattle.known_texts.specs.KnownTexts.{DefinitionsAreSigned}
 use Rattle.known_texts.specs.Written.{IsWritten}
 use Rattle.text_progress.specs.Laws.{core_of}
 use Rattle.text_progress.specs.ParsedTexts.{ParsedTextsAreWritten}
-use Rattle.sail_compile.specs.Checked.{no_cycle}
 use Rattle.sail_compile.specs.Models.{end_of_all, joined}
 use Rattle.soundness_steps.specs.Works.{Coverage, Setting}
 use Rattle.soundness_calls.specs.Events.{EventEnters}
@@ -92,42 +91,31 @@ module _ (core : CoreModel) (c : SizedCore) (found : sized_core core ≡ Ok c) w
         first = front_enters model starts.0 a b a (itself model starts.0 a b a);
       })
 
-  step_enters : (f : Function) → slice_get core.functions core.step ≡ Some f → f.variables ≡ [] → (p : ℕ) × IsEntered core c core.step p
+  step_enters : (f : Function) → slice_get core.functions core.step ≡ Some f → f.variables ≡ [] → IsEntered core c core.step 1
   step_enters f e plain =
       let k = accepted_list core c found in
       let starts = list_starts model k.0 k.1 in
       let a : ℕ = core.reset in
       let b : ℕ = core.step in
-      subst (λ (d : SizedCore). (p : ℕ) × IsEntered core d b p) (sym (k.2 ∙ ap (sized_list model) starts.1)) (by starts.0 (nat_eq a b) refl)
+      subst (λ (d : SizedCore). IsEntered core d b 1) (sym (k.2 ∙ ap (sized_list model) starts.1)) (record {
+        function = f;
+        is_it = e;
+        plain = plain;
+        instance = second model starts.0 a b;
+        is_there = refl;
+        is_of = refl;
+        bare = refl;
+        first = by starts.0 (nat_eq a b) refl;
+      })
     where
+      -- where `step` is `reset`, both instances are one
       by : (more : List Instance) (q : Bool) → nat_eq core.reset core.step ≡ q
-          → (p : ℕ) × IsEntered core (sized_list model (list model more core.reset core.step)) core.step p
-      by more true h = (
-        0,
-        record {
-          function = f;
-          is_it = e;
-          plain = plain;
-          instance = front model more core.reset core.step;
-          is_there = refl;
-          is_of = (Decides-eqb core.reset core.step).0 h;
-          bare = refl;
-          first = front_enters model more core.reset core.step core.step h;
-        },
-      )
-      by more false h = (
-        1,
-        record {
-          function = f;
-          is_it = e;
-          plain = plain;
-          instance = second model more core.reset core.step;
-          is_there = refl;
-          is_of = refl;
-          bare = refl;
-          first = second_enters model more core.reset core.step h;
-        },
-      )
+          → entered (sized_list model (list model more core.reset core.step)).instances core.step 0 [] ≡ Some (second model more core.reset core.step)
+      by more true h =
+          front_enters model more core.reset core.step core.step h
+          ∙ ap (λ (f : ℕ). Some (sized_instance model (list model more core.reset core.step) (bare model more core.reset core.step f)))
+          ((Decides-eqb core.reset core.step).0 h)
+      by more false h = second_enters model more core.reset core.step h
 
 -- ---- of an accepted text
 
@@ -150,14 +138,14 @@ module _ (m : CoreModel) (hart : ℕ) where
   it_plain i vs e = no_variables e.integers e.it.variables e.enters.awaited
 
 pub events_enter : ParsedTextsAreWritten → NothingOfItFails → DefinitionsAreSigned → EventsEnter
-events_enter written nothing sign texts made accepted c whole =
+events_enter written nothing sign texts made accepted cycle c whole =
     let text : List Def = gathered accepted.definitions in
-    let m : CoreModel = core_of text no_cycle in
+    let m : CoreModel = core_of text cycle in
     let clear : NothingFails text = nothing text (end_of_all texts) accepted.tables in
     let as_written : IsWritten text = (written (joined texts accepted.tokens) accepted.definitions accepted.parsed).1 in
     let few : 1 ≤ 8 = omega arith in
     let low : 0 < 1 = omega arith in
-    let found = found_throughout text no_cycle (sign text (end_of_all texts) accepted.tables as_written) clear.step clear.reset one all_covered 1 few 0 low in
+    let found = found_throughout text cycle (sign text (end_of_all texts) accepted.tables as_written) clear.step clear.reset one all_covered 1 few 0 low in
     let r = found.reset refl 0 in
     let s = found.step refl in (
       reset_enters m c whole r.it (it_there m 0 m.reset _ r) (it_plain m 0 m.reset _ r),

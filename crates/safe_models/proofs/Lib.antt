@@ -44,4 +44,4 @@ pub mod Listed
 pub mod Tables
 mod Coming
 mod Entering
-mod Meaning
+pub mod Meaning

@@ -57,7 +57,7 @@ module _ (text : Text) (m : CoreModel) (past : Positive) (count : ℕ) (same : I
       (harts_fit (pure_setting m past nothing_covered m.registers []) state.harts ok.registers hart r v s e
       (ap (λ ss. slice_get ss r) (sym same.registers) ∙ k))
 
-  parts_alike : AreAlike (core_parts plain m) (text_parts text) (IsFit m past count)
+  pub parts_alike : AreAlike (core_parts plain m) (text_parts text) (IsFit m past count)
   parts_alike = record {
     init = λ state ok. (means state (registers_fit state ok)).0;
     reset = λ hart entry state ok. ((means state (registers_fit state ok)).2 hart entry).0;

@@ -14,5 +14,5 @@ pub use Rattle.safe_models.specs.Safe.{AcceptedCoresRunSafely, AcceptedModelsRun
 pub use Rattle.safe_models.specs.Ways.{WaysOfTextsFall}
 pub use Rattle.safe_models.specs.Tested.{TestedListsCover, TestedModelsRunSafely}
 pub use Rattle.safe_models.specs.Listed.{AcceptedTextsRunSafely, FoundListsCover, ListedModelsRunSafely}
-pub use Rattle.safe_models.specs.Tables.{TabledTextsGo, WholeTablesCover}
+pub use Rattle.safe_models.specs.Tables.{TabledCoresGo, TabledTextsGo, WholeTablesCover}
 pub use Rattle.safe_models.specs.RunLaws.{EventsCome, EventsEnter, LoweredEventsMean}

@@ -5,7 +5,7 @@ use Rattle.scattered.specs.Gathered.{gathered}
 use Rattle.sail_core.specs.declared.model.CoreModel.{CoreModel}
 use Rattle.size_notes.specs.Bodies.{bodies_of}
 use Rattle.monomorph.specs.declared.found.Found.{Found}
-use Rattle.monomorph.specs.declared.found.Instance.{Instance}
+use Rattle.sized_nodes.specs.declared.trees.Instance.{Instance}
 use Rattle.monomorph.specs.Instances.{entry, found_from, instances_of, model_of}
 use Rattle.met_notes.specs.Covers.{DirectionsPaired}
 use Rattle.covering_laws.specs.Apart.{GivesKinds, NumbersApart}

@@ -181,18 +181,26 @@ pub fn whole_tables_cover()
     tables_cover();
 }
 
-/// Where the tables of a text that the program accepts are whole, no part of a run is stuck in which values carry the types that they tell.
-pub fn tabled_texts_go()
-    ensures { spec.TabledTextsGo }
+/// Where the tables of the core of a text that the program accepts are whole and its obligations hold, no part of a run is stuck in which values
+/// carry the types that they tell, whatever the numbers of its cycles of calls.
+pub fn tabled_cores_go()
+    ensures { spec.TabledCoresGo }
 {
     definitions_are_signed();
     fitting_texts_stand();
     models_run_safely();
     nothing_fails();
-    obligations_of_accepted_texts_hold();
     parsed_texts_are_written();
     ways_of_texts_fall();
     whole_tables_cover();
+}
+
+/// Where the tables of a text that the program accepts are whole, no part of a run is stuck in which values carry the types that they tell.
+pub fn tabled_texts_go()
+    ensures { spec.TabledTextsGo }
+{
+    obligations_of_accepted_texts_hold();
+    tabled_cores_go();
 }
 
 /// An event of a core that isn't stuck where cases go by noted numbers is a call of the module that is made of it.
@@ -217,6 +225,7 @@ pub fn lowered_events_mean()
     ensures { spec.LoweredEventsMean }
 {
     events_come();
+    events_enter();
     sized_models_are_alike();
-    tabled_texts_go();
+    tabled_cores_go();
 }

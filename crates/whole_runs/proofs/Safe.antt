@@ -118,11 +118,14 @@ module _ (models_alike : ModelsAreAlike) (models_keep : ModelsKeep) (m : CoreMod
 
   -- ---- both meanings
 
+  start_goes : (state : RunState) → Fit state → Goes (init_ran (checking c) m state) (λ ran. Fit ran.state)
+  start_goes state ok =
+      let t = init_there state ok in
+      goes_if (init_ran (checking c) m state) t.ran (λ ran. Fit ran.state) t.checked_is t.holds
+
   checked_goes : AllEnd m k → PartsGo (core_parts (checking c) m) count Fit
   checked_goes end = record {
-    init = λ state ok.
-        let t = init_there state ok in
-        goes_if (init_ran (checking c) m state) t.ran (λ ran. Fit ran.state) t.checked_is t.holds;
+    init = start_goes;
     reset = λ hart entry low state ok.
         let t = reset_there end hart entry low state ok in
         goes_if (reset_ran (checking c) m hart entry state) t.ran (λ ran. Fit ran.state) t.checked_is t.holds;
@@ -178,4 +181,5 @@ safe alike keep m past covered k rank count some held found covers stands = (
     plain_goes alike keep m past covered k rank count some held found covers stands end,
   ),
   run_goes alike keep m past covered k rank count some held found covers stands,
+  start_goes alike keep m past covered k rank count some held found covers stands,
 )

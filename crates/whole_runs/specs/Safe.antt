@@ -14,7 +14,7 @@ use Rattle.soundness_calls.specs.Events.{checks_of}
 use Rattle.whole_runs.specs.Initials.{pure_setting}
 use Rattle.met_notes.specs.Covers.{Covers}
 use Rattle.whole_runs.specs.Never.{AllEnd, IsFound, Stands, setting_in}
-use Rattle.whole_runs.specs.Runs.{AreThere, Parts, PartsGo, RunGoes}
+use Rattle.whole_runs.specs.Runs.{AreThere, Goes, Parts, PartsGo, RunGoes}
 
 -- the parts of a model's runs in a reading of it
 abbrev pub core_parts : {X : Type 0} → Sizing X → CoreModel → Parts
@@ -41,6 +41,7 @@ StandsThroughout m past covered k rank count = (hart : ℕ) → hart < count →
 abbrev pub IsFoundThroughout : CoreModel → Positive → Coverage → ℕ → Type 0
 IsFoundThroughout m past covered count = (hart : ℕ) → hart < count → IsFound (setting_in m past hart covered) m
 
+-- where openings end, no part of a run is stuck, in the reading and plainly; whole runs and the start aren't, however openings end
 abbrev pub ModelsRunSafely : Type 0
 ModelsRunSafely = (m : CoreModel) (past : Positive) (covered : Coverage) (k : Checks) (rank : ℕ → ℕ) (count : ℕ) → 0 < count
     → AllHold (obligations m) → IsFoundThroughout m past covered count
@@ -48,3 +49,4 @@ ModelsRunSafely = (m : CoreModel) (past : Positive) (covered : Coverage) (k : Ch
     → (AllEnd m k → PartsGo (core_parts (checking (checks_of m k)) m) count (IsFit m past count) × PartsGo (core_parts plain m) count (IsFit m past count))
     × ((entry : ℕ) (schedule : List ℕ) → AreThere count schedule → (state : RunState) → IsFit m past count state
     → RunGoes (core_parts plain m) (IsFit m past count) count entry schedule state)
+    × ((state : RunState) → IsFit m past count state → Goes (init_ran (checking (checks_of m k)) m state) (λ ran. IsFit m past count ran.state))
