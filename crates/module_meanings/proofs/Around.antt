@@ -1,0 +1,105 @@
+-- What the code of a function of a module is made with, by what it is made of.
+use Rattle.std.proofs.Common.{◌≡◌, ◌∙◌, ℕ, ℤ, Bool, List, [], Option, refl, ap}
+use Rattle.std.specs.Prelude.{is_some, slice_get, slice_index_or}
+use Rattle.sail_types.specs.declared.numbers.Con.{Con}
+use Rattle.sail_types.specs.declared.numbers.Num.{Num}
+use Rattle.sail_core.specs.declared.model.CoreModel.{CoreModel}
+use Rattle.sail_core.specs.declared.tree.Core.{Core}
+use Rattle.size_values.specs.Numbers.{known_at, known_of, truth_of, value_of}
+use Rattle.size_values.specs.declared.sized.Sized.{Sized}
+use Rattle.sized_nodes.specs.declared.trees.NodeSizes.{NodeSizes}
+use Rattle.sized_nodes.specs.declared.trees.SizedCore.{SizedCore}
+use Rattle.sized_nodes.specs.declared.trees.SizedInstance.{SizedInstance}
+use Rattle.sized_meanings.specs.Sized.{joined_nodes}
+use Rattle.jib.specs.declared.code.Module.{Module}
+use Rattle.lowered_types.specs.Table.{is_known, type_in}
+use Rattle.lowered_pieces.specs.Forms.{Callees}
+use Rattle.lowered_pieces.specs.Lowering.{Node, kit_of, node}
+use Rattle.lowered_pieces.specs.Nodes.{tables_of}
+use Rattle.lowered_pieces.specs.Places.{Kit, Naming}
+use Rattle.lowered_pieces.specs.Tables.{Tables}
+use Rattle.lowered_steps.specs.Setting.{kit_for, size_for, tables_for}
+use Rattle.lowered_steps.specs.declared.setting.Setting.{Setting}
+use Rattle.lowered_ends.specs.Around.{answer_in, called_number, callees_of, direction_in, node_for}
+use Rattle.lowered_ends.specs.declared.around.Around.{Around}
+use Rattle.lowered_ends.specs.declared.around.Mapped.{Mapped}
+use Rattle.jib_lower.specs.Instances.{SettingOf}
+use Rattle.jib_lower.specs.Lowered.{FlatFrom, ModelOf}
+use Rattle.jib_lower.specs.declared.instances.Model.{Model}
+use Rattle.jib_lower.proofs.Placing.{kit_here, numbered_are}
+
+-- no direction of a mapping
+abbrev pub no_directions : List Mapped
+no_directions = []
+
+module _ (core : CoreModel) (sized : SizedCore) (m : Module) (low : FlatFrom core sized m) where
+  -- the types that have numbers
+  abbrev pub ss : List Sized
+  ss = low.table.numbered
+
+  -- what is known under the numbers of an instance
+  abbrev pub size_by : List (Option ℤ) → Num → Option ℤ
+  size_by zs t = value_of (known_at (known_of zs)) t
+
+  abbrev pub truth_by : List (Option ℤ) → Con → Option Bool
+  truth_by zs c = truth_of (known_at (known_of zs)) c
+
+  abbrev pub kit_by : List (Option ℤ) → Naming → Kit
+  kit_by zs name = kit_of core.types name (type_in ss) m.exception (size_by zs)
+
+  abbrev pub callees_by : List (Option ℤ) → List Sized → List ℕ → Callees
+  callees_by zs given openings = record {
+    function = called_number;
+    answer = λ p. answer_in (slice_get sized.instances p);
+    size = size_by zs;
+    truth = truth_by zs;
+    given = given;
+    opening = λ i. slice_index_or openings i 0;
+    direction = λ d. direction_in (slice_get no_directions d);
+    crosses = λ d. is_some (slice_get no_directions d);
+  }
+
+  abbrev pub tables_by : List NodeSizes → Tables
+  tables_by nodes = tables_of (is_known ss) sized.instances nodes
+
+  abbrev pub node_by : List (Option ℤ) → List Sized → List ℕ → List NodeSizes → Naming → Core → Node
+  node_by zs given openings nodes name c = node core.types (kit_by zs name) (type_in ss) (callees_by zs given openings) (tables_by nodes) c
+
+  -- ---- so is what its code was made with
+
+  module _ (model : Model) (mo : ModelOf core sized low.table m model) (bodies : List (List NodeSizes)) (zs : List (Option ℤ)) (setting : Setting)
+      (s : SettingOf model bodies zs setting) where
+    pub types_same : setting.types.now ≡ core.types
+    types_same = s.types ∙ ap (λ (c : CoreModel). c.types) mo.of_core
+
+    pub numbers_same : setting.numbered.now ≡ ss
+    numbers_same = numbered_are core sized m low model mo bodies zs setting s
+
+    pub size_same : size_for setting ≡ size_by zs
+    size_same = ap size_by s.numbers_are
+
+    pub kit_same : (name : Naming) → kit_for setting name ≡ kit_by zs name
+    kit_same name =
+        kit_here core sized m low model mo bodies zs setting s name m.exception refl
+        ∙ (λ j. kit_of (types_same j) name (type_in (numbers_same j)) m.exception (size_same j))
+
+    pub tables_same : (instances : List SizedInstance) → instances ≡ sized.instances → tables_for setting instances ≡ tables_by (joined_nodes bodies)
+    tables_same instances e = λ j. tables_of (is_known (numbers_same j)) (e j) (joined_nodes (s.bodies_are j))
+
+    module _ (around : Around) (given : List Sized) (openings : List ℕ) (of_instances : around.instances.now ≡ sized.instances)
+        (of_given : around.given.now ≡ given) (of_openings : around.openings.now ≡ openings) (of_directions : around.directions.now ≡ no_directions) where
+      callees_same : callees_of setting around ≡ callees_by zs given openings
+      callees_same = λ j. record {
+        function = called_number;
+        answer = λ p. answer_in (slice_get (of_instances j) p);
+        size = size_same j;
+        truth = truth_by (s.numbers_are j);
+        given = of_given j;
+        opening = λ i. slice_index_or (of_openings j) i 0;
+        direction = λ d. direction_in (slice_get (of_directions j) d);
+        crosses = λ d. is_some (slice_get (of_directions j) d);
+      }
+
+      pub node_same : (name : Naming) (c : Core) → node_for setting around name c ≡ node_by zs given openings (joined_nodes bodies) name c
+      node_same name c = λ j. node (types_same j) (kit_same name j) (type_in (numbers_same j)) (callees_same j)
+          (tables_same around.instances.now of_instances j) c

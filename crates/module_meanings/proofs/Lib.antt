@@ -1,0 +1,12 @@
+pub mod Alone
+pub mod Around
+pub mod Slots
+pub mod Known
+pub mod Made
+pub mod Instances
+pub mod Steps
+pub mod Openings
+pub mod Lets
+pub mod Flat
+pub mod Whole
+pub mod Texts
