@@ -33,17 +33,21 @@ use Rattle.lowered_laws.proofs.Pieces.{has_front, has_back}
 use Rattle.lowered_laws.proofs.Facts.{put_same, tested_here, tested_both, tested_less, below}
 use Rattle.lowered_laws.proofs.Steps.{go, jump, jump_past, moves, over, past}
 use Rattle.lowered_pieces.specs.Forms.{Named, Depths, kit_at, Stand, Tail, End, Piece, all_notes, code_of, count_of, has_ends, inside_piece}
+use Rattle.lowered_pieces.specs.Forms.{said as said_as}
 use Rattle.lowered_pieces.specs.Arms.{Choice, Held, Hand, Matched, arguments, choices, choices_at, given_held, held_at, in_hand, picked_of}
 use Rattle.lowered_pieces.specs.Arms.{choice_labels, places_of, arm_noted, at_hand, head_taken}
 use Rattle.lowered_pieces.specs.Arms.{step_taken, step_hand, steps_code, steps_hand, begun, moved, arm_hand}
 use Rattle.lowered_pieces.specs.Arms.{arm_piece, arm_stand, choice_code, clauses_piece, else_piece, failing, fall_piece, first_piece, hand_of}
-use Rattle.lowered_pieces.specs.Arms.{let_piece, looks_code, match_piece, on_piece, stop_here, step_lowered, steps_lowered, arm_lowered, arms_lowered}
+use Rattle.lowered_pieces.specs.Arms.{let_piece, looks_code, match_piece, on_piece, stop_here, arm_fits, arms_fit, step_fits, steps_fit}
 use Rattle.lowered_laws.specs.Simulation.{bare, Followed, AtWork, kit, own_code, reading, RunsOn, Low}
 use Rattle.lowered_laws.specs.Simulation.{handy, Settled, Holding, Writable, Holds, Passed, AllHad, Sits}
 use Rattle.lowered_laws.specs.Simulation.{Same, After, Done, Catches, Fails, LabelsStand, Good, GoodOn, Matches}
 use Rattle.lowered_laws.proofs.Follows.{no, onward, open_or, open_then}
 use Rattle.value_indices.specs.declared.indices.Indices.{Indices}
 use Rattle.lowered_laws.proofs.Noted.{Left, handy_lasting, lasting_less, lower_lasts, names_good}
+use Rattle.lowered_pieces.specs.Nodes.{is_empty}
+use Rattle.lowered_laws.specs.Simulation.{Varies}
+use Rattle.lowered_laws.proofs.States.{unread_varied, varies_by}
 use Rattle.lowered_laws.proofs.States.{Is, holds_by, passed_by, lower_more, same_tested, after_here, after_tested, after_put, after_time}
 use Rattle.lowered_laws.proofs.States.{writable_front, writable_back, done_on, done_at, catch_on, fail_on, case_good, Lands, held_good}
 use Rattle.lowered_laws.proofs.Inside.{inside_on}
@@ -129,10 +133,37 @@ module _ (g : AtWork) where
   found_gone sl (y ∷ ys) zs [] h = absurd h
   found_gone sl (y ∷ ys) zs (l ∷ ls) h = found_gone sl ys zs ls h.2
 
+  -- names of which no variables are read
+  abbrev pub Unread : List Named → Type 0
+  Unread [] = Unit {0}
+  Unread (y ∷ ys) = (is_empty (g.tables.reads y.name) ≡ true) × Unread ys
+
+  unread_both : (ys zs : List Named) → Unread ys → Unread zs → Unread (ys ++ zs)
+  unread_both [] zs h k = k
+  unread_both (y ∷ ys) zs h k = (h.0, unread_both ys zs h.1 k)
+
+  varies_both : (q : ℕ) (sl : Slots) (ys zs : List Named) (ls ms : List (Bound Item)) → Handy q ys → Unread ys → Holds g sl ys ls → Varies g sl zs ms
+      → Varies g sl (ys ++ zs) (ls ++ ms)
+  varies_both q sl [] zs [] ms h u v k = k
+  varies_both q sl [] zs (l ∷ ls) ms h u v k = absurd v
+  varies_both q sl (y ∷ ys) zs [] ms h u v k = absurd v
+  varies_both q sl (y ∷ ys) zs (l ∷ ls) ms h u v k =
+      (unread_varied g q sl y (length (ys ++ zs)) l.held.val u.0 h.0, varies_both q sl ys zs ls ms h.1 u.1 v.2 k)
+
+  varies_gone : (sl : Slots) (ys zs : List Named) (ls : List (Bound Item)) → Varies g sl (ys ++ zs) ls → Varies g sl zs (drop (length ys) ls)
+  varies_gone sl [] zs ls h = h
+  varies_gone sl (y ∷ ys) zs [] h = none_varied zs
+    where
+      none_varied : (zs : List Named) → Varies g sl zs []
+      none_varied [] = tt
+      none_varied (z ∷ zs) = tt
+  varies_gone sl (y ∷ ys) zs (l ∷ ls) h = varies_gone sl ys zs ls h.1
+
   pub record HandIs (hd : Hand) (hr : P.Hand Item) (sl : Slots) : Type 0 where
     pub settled : Settled hd.free hd.values
     pub holding : Holding g sl hd.values hr.values
     pub named : Handy hd.free hd.names
+    pub unread : Unread hd.names
     pub found : Holds g sl hd.names hr.found
     pub kept : Settled hd.free hd.named
     pub held : Holding g sl hd.named (map held_by hr.found)
@@ -149,7 +180,8 @@ module _ (g : AtWork) where
 
   -- ---- a step
 
-  step_run : (st : Step) (w : World Item) → Fit w (step_lowered g.size st) → (hd : Hand) (hr : P.Hand Item) (pc pf fail : ℕ) (sl : Slots) (t : Now Item)
+  step_run : (st : Step) (w : World Item) → Fit w (step_fits g.size g.tables.reads st)
+      → (hd : Hand) (hr : P.Hand Item) (pc pf fail : ℕ) (sl : Slots) (t : Now Item)
       (K : P.Hand Item → Now Item → Type 0) (H : Value → Now Item → Type 0) (N : Now Item → Type 0) → HandIs hd hr sl
       → HasAt (own_code g) pc (code_in st hd fail)
       → slice_get (own_code g) pf ≡ Some (I.Label fail) → Followed g.ending (step_meaning (reading g) w st hr t) K H N
@@ -177,6 +209,7 @@ module _ (g : AtWork) where
             holding = holding_both g sl2 hd.values parts hr.values xs
                 (holding_tested g hd.free sl sl2 hd.values hr.values td hi.settled hi.holding) holding;
             named = handy_names hd.free r hd.names le hi.named;
+            unread = hi.unread;
             found = found_tested hd.free sl sl2 hd.names hr.found td hi.named hi.found;
             kept = settled_more hd.free r hd.named le hi.kept;
             held = holding_tested g hd.free sl sl2 hd.named (map held_by hr.found) td hi.kept hi.held;
@@ -207,6 +240,7 @@ module _ (g : AtWork) where
             settled = settled_both hd.free hd.values [] hi.settled tt;
             holding = kept hd.values hr.values hi.holding;
             named = handy_both hd.free hd.names (y ∷ []) hi.named (held.there, tt);
+            unread = unread_both hd.names (y ∷ []) hi.unread (lowered.0, tt);
             found = found_both sl hd.names (y ∷ []) hr.found (local name x ∷ []) hi.found (refl, stands, tt);
             kept = settled_both hd.free hd.named (h ∷ []) hi.kept (held.there, tt);
             held = subst (λ xs. Holding g sl (hd.named ++ h ∷ []) xs) (sym (map-append held_by hr.found (local name x ∷ [])))
@@ -216,7 +250,7 @@ module _ (g : AtWork) where
 
   -- ---- the steps of an arm
 
-  pub steps_run : (ss : List Step) (w : World Item) → Fit w (steps_lowered g.size ss)
+  pub steps_run : (ss : List Step) (w : World Item) → Fit w (steps_fit g.size g.tables.reads ss)
       → (hd : Hand) (hr : P.Hand Item) (pc pf fail : ℕ) (sl : Slots) (t : Now Item)
       (K : P.Hand Item → Now Item → Type 0) (H : Value → Now Item → Type 0) (N : Now Item → Type 0) → HandIs hd hr sl
       → HasAt (own_code g) pc (steps_code g.table (kit g) ss hd fail) → slice_get (own_code g) pf ≡ Some (I.Label fail)
@@ -228,7 +262,7 @@ module _ (g : AtWork) where
   steps_run [] w lowered hd hr pc pf fail sl t K H N hi at_ hl th next failed =
       moves g.m g.lets g.hart g.here g.ending (pc + 0) pc sl (bare t) (omega arith) (next hr sl (tested_here (kit g) hd.free sl) hi (omega arith) th)
   steps_run (s ∷ ss) w lowered hd hr pc pf fail sl t K H N hi at_ hl th next failed =
-      let both = and_parts (step_lowered g.size s) (steps_lowered g.size ss) lowered.0 in
+      let both = and_parts (step_fits g.size g.tables.reads s) (steps_fit g.size g.tables.reads ss) lowered.0 in
       let hd2 : Hand = step_of s hd fail in
       let c1 : List Instruction = code_in s hd fail in
       let c2 : List Instruction = steps_code g.table (kit g) ss hd2 fail in
@@ -250,12 +284,26 @@ module _ (g : AtWork) where
 
   pub same_upto : (d : Depths) (scope : List Named) (n k : ℕ) (sl : Slots) (now : Now Item) → n ≤ k → Same g d scope n sl now → Same g d scope k sl now
   same_upto d scope n k sl now le s =
-      record { locals = s.locals; noted = s.noted; low = low_upto n k scope le s.low; shallow = s.shallow; passed = s.passed }
+      record {
+        locals = s.locals;
+        noted = s.noted;
+        low = low_upto n k scope le s.low;
+        shallow = s.shallow;
+        passed = s.passed;
+        varied = s.varied;
+      }
 
   pub after_less : (d : Depths) (scope : List Named) (n k : ℕ) (sl sl1 : Slots) (now t : Now Item) → n ≤ k → Same g d scope n sl now
       → After g d scope k sl now sl1 t → After g d scope n sl now sl1 t
   after_less d scope n k sl sl1 now t le same a = record {
-    same = record { locals = a.same.locals; noted = a.same.noted; low = same.low; shallow = a.same.shallow; passed = a.same.passed };
+    same = record {
+      locals = a.same.locals;
+      noted = a.same.noted;
+      low = same.low;
+      shallow = a.same.shallow;
+      passed = a.same.passed;
+      varied = a.same.varied;
+    };
     kept = λ i u lt. a.kept i u (omega (arith, lt, le));
     given = a.given;
     numbers = a.numbers;
@@ -324,6 +372,10 @@ module _ (g : AtWork) where
           low = low_both hd.free hd.names s.scope hi.named (low_upto s.temp hd.free s.scope (omega (arith, up, le)) k.low);
           shallow = k.shallow;
           passed = passed_by g sl1 sl2 (λ i t. left.others (Given i) t refl) 0 g.arguments k.passed;
+          varied = varies_both hd.free sl2 hd.names s.scope hr.found now.locals hi.named hi.unread
+              (found_left s.depths hd.free sl1 sl2 hd.names hr.found left hi.named hi.found)
+              (varies_by g s.temp (length s.scope) sl1 sl2 s.scope now.locals (omega arith)
+              (λ p t h. left.others p t (lower_lasts s.depths.here s.temp (length s.scope) hd.free p (omega (arith, up, le)) h)) k.low k.varied);
         }))
 
     -- what stands below the n-th place is as before
@@ -339,6 +391,8 @@ module _ (g : AtWork) where
             low = low_upto s.temp n s.scope low same.low;
             shallow = same.shallow;
             passed = k.same.passed;
+            varied = subst (λ j. Varies g sl3 s.scope (drop j t.locals))
+                (ap length (sym alike.names) ∙ sym (found_many sl1 hd.names hr.found hi.found)) (varies_gone sl3 hd0.names s.scope t.locals k.same.varied);
           };
           kept = λ i u lt.
               k.kept i u (omega (arith, lt, high, le, free_)) ∙ left.others (Temp i) u (lasting_less hd.free i (omega (arith, lt, high, le)))
@@ -356,7 +410,8 @@ module _ (g : AtWork) where
   counted_by true X run now next K H N z f = f z
   counted_by false X run now next K H N z f = absurd z
 
-  pub arm_on : (w : World Item) (k j : ℕ) (arm : Arm) (m : Matched) (xs : List Item) (mb : Run Item Item) (b : Piece) → Fit w (arm_lowered g.size arm)
+  pub arm_on : (w : World Item) (k j : ℕ) (arm : Arm) (m : Matched) (xs : List Item) (mb : Run Item Item) (b : Piece)
+      → Fit w (arm_fits g.size g.tables.reads arm)
       → Good g mb b → GoodOn g m xs (arm_taken (reading g) w (Gives.Arm k j) arm mb xs) (arm_piece g.table (kit g) (g.tables.named k j) m arm b)
   arm_on w k j (A.Nested ps) m xs mb b lowered gb = no lowered.0
   arm_on w k j (A.Flat n ss) m xs mb b lowered gb = record {
@@ -393,7 +448,8 @@ module _ (g : AtWork) where
         let pn : ℕ = pc1 + length d1 in
         let hold1 : Holding g sl1 vs xs = holding_tested g q sl sl1 vs xs td0 mt.settled mt.holding in
         steps_run ss w lowered hd1 hr0 pc1 pf s.on_no sl1 now (λ hr t. K1 hr.found t) H N
-        (record { settled = mt.settled; holding = hold1; named = tt; found = tt; kept = tt; held = tt }) (has_front (own_code g) pc1 d1 d2 hp) set.fails
+        (record { settled = mt.settled; holding = hold1; named = tt; unread = tt; found = tt; kept = tt; held = tt }) (has_front (own_code g) pc1 d1 d2 hp)
+        set.fails
         (open_then g.ending o1 found_in K1 H N (open_then g.ending (goes_on o1 found_in) next D H N z))
         (λ hr sl2 td1 hi le z1.
         let td : Tested (kit g) q sl sl2 = tested_both (kit g) q sl sl1 sl2 td0 td1 in
@@ -551,7 +607,7 @@ module _ (g : AtWork) where
   }
 
   pub first_on : (w : World Item) (k : ℕ) (m : Matched) (xs : List Item) (arms : List Arm) (ms : List (Run Item Item)) (bs : List Piece)
-      (mn : Run Item Item) (none : Piece) → Fit w (arms_lowered g.size arms) → GoodAll g ms bs → GoodOn g m xs mn none
+      (mn : Run Item Item) (none : Piece) → Fit w (arms_fit g.size g.tables.reads arms) → GoodAll g ms bs → GoodOn g m xs mn none
       → GoodOn g m xs (first_of (reading g) w k arms ms mn xs) (first_piece g.table (kit g) (g.tables.named k) m arms bs none)
   first_on w k m xs [] [] [] mn none lowered all gn = gn
   first_on w k m xs [] [] (b ∷ bs) mn none lowered all gn = absurd all
@@ -559,7 +615,7 @@ module _ (g : AtWork) where
   first_on w k m xs (arm ∷ arms) [] bs mn none lowered all gn = stuck_on m xs (first_piece g.table (kit g) (g.tables.named k) m (arm ∷ arms) bs none)
   first_on w k m xs (arm ∷ arms) (y ∷ ms) [] mn none lowered all gn = absurd all
   first_on w k m xs (arm ∷ arms) (y ∷ ms) (b ∷ bs) mn none lowered all gn =
-      let both = and_parts (arm_lowered g.size arm) (arms_lowered g.size arms) lowered.0 in
+      let both = and_parts (arm_fits g.size g.tables.reads arm) (arms_fit g.size g.tables.reads arms) lowered.0 in
       let j : ℕ = length arms in
       let first : Run Item Item = arm_taken (reading g) w (Gives.Arm k j) arm y xs in
       let p : Piece = arm_piece g.table (kit g) (g.tables.named k j) m arm b in
@@ -625,7 +681,7 @@ module _ (g : AtWork) where
   }
 
   pub match_good : (w : World Item) (k : ℕ) (ma : Run Item Item) (a : Piece) (arms : List Arm) (ms : List (Run Item Item)) (bs : List Piece) (cause : Cause)
-      → Fit w (arms_lowered g.size arms) → Good g ma a → EndsRight a.ends ma → has_ends a.ends ≡ true → GoodAll g ms bs
+      → Fit w (arms_fit g.size g.tables.reads arms) → Good g ma a → EndsRight a.ends ma → has_ends a.ends ≡ true → GoodAll g ms bs
       → Good g (ma then λ x. first_of (reading g) w k arms ms (stops cause) (x ∷ []))
       (match_piece g.table (kit g) (g.tables.named k) a arms bs cause)
   match_good w k ma a arms ms bs cause lowered ga right said all =
@@ -635,19 +691,21 @@ module _ (g : AtWork) where
       (λ x. first_on w k m (x ∷ []) arms ms bs (stops cause) none lowered all (stop_on m (x ∷ []) cause))
 
   pub let_good : (w : World Item) (k j : ℕ) (place : TextPlace) (ma : Run Item Item) (a : Piece) (arm : Arm) (mb : Run Item Item) (b : Piece)
-      → Fit w (arm_lowered g.size arm) → Good g ma a → EndsRight a.ends ma → has_ends a.ends ≡ true → Good g mb b
+      → Fit w (arm_fits g.size g.tables.reads arm) → Good g ma a → EndsRight a.ends ma → has_ends a.ends ≡ true → Good g mb b
       → Good g (ma then λ x. let_in (reading g) w (Gives.Arm k j) place arm x mb)
       (let_piece g.table (kit g) (g.tables.named k j) a arm b (MatchFailure place))
   let_good w k j place ma a arm mb b lowered ga right said gb =
       let m : Matched = in_hand a.ends in
       let none : Piece = stop_here g.table (kit g) (MatchFailure place) in
       let p : Piece = arm_piece g.table (kit g) (g.tables.named k j) m arm b in
-      on_good ma a (λ x. let_in (reading g) w (Gives.Arm k j) place arm x mb) (else_piece g.table (kit g) p none) ga right said
+      on_good ma a (λ x. let_in (reading g) w (Gives.Arm k j) place arm x mb) (said_as b.ends (else_piece g.table (kit g) p none)) ga right said
       (λ x.
       let first : Run Item Item = arm_taken (reading g) w (Gives.Arm k j) arm mb (x ∷ []) in
+      let good =
       else_on m (x ∷ []) first p (stops (MatchFailure place)) none (λ now t. Unit {0}) (arm_on w k j arm m (x ∷ []) mb b lowered gb)
       (λ now K H N z. onward g.ending (first now) K H N K H (λ t. N t × Unit {0}) z (λ y t k. k) (λ v t k. k) (λ t k. (k, tt)))
-      (stop_follows m (x ∷ []) (MatchFailure place)))
+      (stop_follows m (x ∷ []) (MatchFailure place)) in
+      record { run = good.run })
 
   -- ---- the clauses of a function
 
@@ -660,7 +718,8 @@ module _ (g : AtWork) where
   given_holding sl i (x ∷ xs) p h = (refl, p.0, h.0, given_holding sl (i + 1) xs p.1 h.1)
 
   pub clauses_good : (w : World Item) (k : ℕ) (given : List Sized) (arms : List Arm) (ms : List (Run Item Item)) (bs : List Piece)
-      → w.arguments ≡ g.arguments → given ≡ typs g.arguments → AllHad g.table g.tables.known g.arguments → Fit w (arms_lowered g.size arms) → GoodAll g ms bs
+      → w.arguments ≡ g.arguments → given ≡ typs g.arguments → AllHad g.table g.tables.known g.arguments → Fit w (arms_fit g.size g.tables.reads arms)
+      → GoodAll g ms bs
       → Good g (first_of (reading g) w k arms ms falls w.arguments) (clauses_piece g.table (kit g) (g.tables.named k) given arms bs)
   clauses_good w k given arms ms bs args types had lowered all = record {
     run = λ tail s l pc pe ph pf sl now tk end at_ set same wr th.

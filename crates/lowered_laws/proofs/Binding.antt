@@ -1,21 +1,20 @@
--- A name comes into scope for what follows.
-use Rattle.std.proofs.Common.{◌≡◌, ℕ, ◌+◌, List, [], ◌∷◌, length, refl, ap, arith, length-append, false}
+-- A variable comes into scope for what follows.
+use Rattle.std.proofs.Common.{◌≡◌, ℕ, ◌+◌, List, [], ◌∷◌, length, refl, arith, length-append}
 use Rattle.std.specs.Prelude.{drop}
 use Rattle.sail_types.specs.declared.values.Value.{Value}
 use Rattle.jib.specs.declared.code.Instruction.{Instruction}
-use Rattle.jib.specs.declared.code.Instruction.TheVariants as I
-use Rattle.jib.specs.Jib.{Slots, Outcome, put, slots_of, Go}
+use Rattle.jib.specs.Jib.{Slots, Outcome}
 use Rattle.sail_core.specs.Run as R
 use Rattle.sail_core.specs.Run.{Ended, Now, Run, leaving, local, within, ◌then◌}
 use Rattle.checked_meaning.specs.Items.{Item}
-use Rattle.lowered_pieces.specs.Places.{Place, Local, Temp, same_place, from, to}
+use Rattle.size_values.specs.declared.sized.Sized.{Sized}
+use Rattle.lowered_pieces.specs.Places.{Local}
 use Rattle.lowered_laws.proofs.Pieces.{has_front, has_back}
-use Rattle.lowered_laws.proofs.Facts.{put_other}
-use Rattle.lowered_laws.proofs.Steps.{go}
-use Rattle.lowered_pieces.specs.Forms.{Named, Tail, Piece, count_of, bound, bind_tail, bind_piece}
+use Rattle.lowered_pieces.specs.Forms.{Named, Tail, Piece, count_of, bound, var_tail, var_piece}
 use Rattle.lowered_laws.specs.Simulation.{bare, Followed, AtWork, kit, own_code, After, Done, Catches, Fails, LabelsStand, Good}
 use Rattle.lowered_laws.proofs.Follows.{open_then, onward}
-use Rattle.lowered_laws.proofs.States.{writable_front, writable_back, Is, after_bound, after_dropped}
+use Rattle.lowered_laws.proofs.States.{writable_front, writable_back, after_dropped, after_named}
+use Rattle.lowered_laws.proofs.Variables.{kept_runs}
 
 -- a name goes out of scope, but nothing of what flat code has changes
 pub open_dropping : {A : Type 0} (r : Outcome) (o : Ended Item A) (K : A → Now Item → Type 0) (H : Value → Now Item → Type 0) (N : Now Item → Type 0)
@@ -33,16 +32,17 @@ module _ (g : AtWork) where
   abbrev less : Now Item → Now Item
   less t = record t { locals = drop 1 t.locals }
 
-  pub bind_good : (name : List ℕ) (ma : Run Item Item) (a : Piece) (mb : Run Item Item) (b : Piece) → Good g ma a → Good g mb b
-      → Good g (ma then λ x. within (local name x ∷ []) mb) (bind_piece (kit g) name a b)
-  bind_good name ma a mb b ga gb = record {
+  pub var_good : (name : List ℕ) (ma : Run Item Item) (a : Piece) (mb : Run Item Item) (b : Piece) → Good g ma a → Good g mb b
+      → Good g (ma then λ x. within (local name x ∷ []) mb) (var_piece (kit g) (g.tables.reads name) name a b)
+  var_good name ma a mb b ga gb = record {
     run = λ tail s l pc pe ph pf sl now tk end at_ set same wr th.
         let n : ℕ = s.temp in
         let d : ℕ = length s.scope in
+        let us : List Sized = g.tables.reads name in
         let y : Named = record { name = name; place = Local d } in
         let lb : ℕ = l + count_of a in
         let inner : Tail = tail in
-        let c1 : List Instruction = a.ended (bind_tail (kit g) s) s l in
+        let c1 : List Instruction = a.ended (var_tail (kit g) us s) s l in
         let c2 : List Instruction = b.ended inner (bound name s) lb in
         let p1 : ℕ = pc + length c1 in
         let D = Done g tail s pe sl now in
@@ -50,24 +50,20 @@ module _ (g : AtWork) where
         let N = Fails g s.depths s.scope pf n sl now in
         let kont : Item → Run Item Item = λ x. within (local name x ∷ []) mb in
         let set2 : LabelsStand g (bound name s) ph pf = record { throws = set.throws; fails = set.fails } in
-        ga.run (bind_tail (kit g) s) s l pc p1 ph pf sl now tk refl (has_front (own_code g) pc c1 c2 at_) set same (writable_front s.depths a.notes b.notes wr)
-        (onward g.ending (ma now) (λ x t. Followed g.ending (kont x t) D H N) H N (Done g (bind_tail (kit g) s) s p1 sl now) H N
+        ga.run (var_tail (kit g) us s) s l pc p1 ph pf sl now tk refl (has_front (own_code g) pc c1 c2 at_) set same (writable_front s.depths a.notes b.notes
+        wr)
+        (onward g.ending (ma now) (λ x t. Followed g.ending (kont x t) D H N) H N (Done g (var_tail (kit g) us s) s p1 sl now) H N
         (open_then g.ending (ma now) kont D H N th)
         (λ x t th1. record {
           by = λ sl1 l1 q k1 e1 had1 hp out.
-              let u : ℕ = g.number x.typ in
-              let i : Instruction = I.Copy (to (kit g) (Local d) u) (from (kit g) (Temp n) u) in
-              let is : Is g (Local d) u = g.slots q (g.name (Local d) u) i hp.0 refl in
-              let sl2 : Slots = put sl1 (g.name (Local d) u) x.val in
               let t2 : Now Item = record t { locals = local name x ∷ t.locals } in
-              let others : (p : Place) (w : ℕ) → same_place (Local d) p ≡ false → sl2 (g.name p w) ≡ sl1 (g.name p w) =
-              λ p w ne. put_other (kit g) (slots_of g.m g.here.function) g.names sl1 (Local d) u x.val p w is ne in
+              kept_runs g d n x.typ x.val us q sl1 (bare t) hp e1 had1
+              (λ sl2 others stands read.
               let left : (sl3 : Slots) (v : Now Item) → After g s.depths (y ∷ s.scope) n sl2 t2 sl3 v → After g s.depths s.scope n sl now sl3 (less v) =
               λ sl3 v k3. after_dropped g s.depths s.scope n y sl sl1 sl2 sl3 now t t2 v k1 others refl k3 in
-              go g.m g.lets g.hart g.here g.ending q sl1 sl2 (bare t) (bare t) i hp.0 (ap (λ w. Go (put sl1 (g.name (Local d) u) w) (bare t)) e1)
-              (out sl2 (bare t)
+              out sl2 (bare t)
               (gb.run inner (bound name s) lb p1 pe ph pf sl2 t2 (omega (arith, k1.fewer, tk)) (omega (arith, end, length-append c1 c2))
-              (has_back (own_code g) pc c1 c2 p1 refl at_) set2 (after_bound g s.depths s.scope n name x sl sl1 now t is k1)
+              (has_back (own_code g) pc c1 c2 p1 refl at_) set2 (after_named g s.depths s.scope n name x sl sl1 sl2 now t k1 others stands read)
               (writable_back s.depths a.notes b.notes wr)
               (onward g.ending (mb t2) (λ z v. D z (less v)) (λ w v. H w (less v)) (λ v. N (less v))
               (Done g inner (bound name s) pe sl2 t2) (Catches g s.depths (y ∷ s.scope) ph n sl2 t2) (Fails g s.depths (y ∷ s.scope) pf n sl2 t2)

@@ -57,7 +57,14 @@ module _ (g : AtWork) where
   none_told sl x z e = cc
 
   pub begins_so : (sl : Slots) (now : Now Item) → Passed g sl 0 g.arguments → Same g body_depths [] 0 sl (begin now nothing_noted)
-  begins_so sl now passed = record { locals = tt; noted = none_told sl; low = tt; shallow = λ x. omega arith; passed = passed }
+  begins_so sl now passed = record {
+    locals = tt;
+    noted = none_told sl;
+    low = tt;
+    shallow = λ x. omega arith;
+    passed = passed;
+    varied = tt;
+  }
 
   -- ---- the measure
 
@@ -254,6 +261,7 @@ module _ (g : AtWork) where
         low = tt;
         shallow = k.shallow;
         passed = passed_behind 0 g.arguments k.passed;
+        varied = tt;
       }
         where
           holds_behind : (ls : List (Local Item)) → Holds g sl [] ls → Holds (behind n) sl [] ls

@@ -37,6 +37,7 @@ use Rattle.lowered_pieces.specs.Forms.{Depths, Named, inside_piece, Stand, Tail,
 use Rattle.lowered_laws.specs.Simulation.{bare, Followed, AtWork, kit, own_code, reading, RunsOn, Low}
 use Rattle.lowered_laws.specs.Simulation.{Same, After, Done, Catches, Fails, LabelsStand, Good, Sits}
 use Rattle.lowered_laws.proofs.Follows.{open_then, open_leaving, close_leaving, onward, integer_is}
+use Rattle.lowered_pieces.specs.Nodes.{is_empty}
 use Rattle.lowered_laws.proofs.States.{Is, after_here, after_tested, after_both, after_time, after_bound, after_dropped, catch_on, done_on, fail_on}
 use Rattle.lowered_laws.proofs.States.{Lands, held_good, lower_more, same_higher, via, writable_back, writable_front}
 use Rattle.lowered_laws.proofs.Inside.{inside_good}
@@ -86,7 +87,14 @@ module _ (g : AtWork) where
 
   same_up : (d : Depths) (scope : List Named) (n k : ℕ) → n ≤ k → (sl : Slots) (now : Now Item) → Same g d scope n sl now → Same g d scope k sl now
   same_up d scope n k le sl now s =
-      record { locals = s.locals; noted = s.noted; low = low_up n k le scope s.low; shallow = s.shallow; passed = s.passed }
+      record {
+        locals = s.locals;
+        noted = s.noted;
+        low = low_up n k le scope s.low;
+        shallow = s.shallow;
+        passed = s.passed;
+        varied = s.varied;
+      }
 
   -- a builtin of two operands
   row_step : (p t : ℕ) (row : Row) (ra rb : Source) (va vb v : Value) (pc : ℕ) (sl : Slots) (u : Now Item)
@@ -222,7 +230,8 @@ module _ (g : AtWork) where
         (λ sl1 td h. ((held_on n i to_ by sl sl1 td held).0, h))
         (λ f. let small = next_small Down i by small_i one f in (less_small i by small, small)) ends goes
 
-  module _ (name : List ℕ) (way : Counting) (mb : Run Item Item) (b : Piece) (gb : Good g mb b) (to_ by : ℤ) (small_to : is_small to_ ≡ true)
+  module _ (name : List ℕ) (way : Counting) (mb : Run Item Item) (b : Piece) (gb : Good g mb b)
+      (none : is_empty (g.tables.reads name) ≡ true) (to_ by : ℤ) (small_to : is_small to_ ≡ true)
       (small_by : is_small by ≡ true) (one : pos 1 ≤ℤ by) (tail : Tail) (s : Stand) (l lb lt_ pe ph pf : ℕ) (sl : Slots) (now : Now Item)
       (tk : now.ticks < g.depth) (set : LabelsStand g s ph pf) where
     abbrev K : Item → Now Item → Type 0
@@ -309,7 +318,7 @@ module _ (g : AtWork) where
           let sl2 : Slots = put sl1 (g.name (Local j) Int) (V.Integer i) in
           let others : (p : Place) (w : ℕ) → same_place (Local j) p ≡ false → sl2 (g.name p w) ≡ sl1 (g.name p w) =
           λ p w ne. put_other (kit g) (slots_of g.m g.here.function) g.names sl1 (Local j) Int (V.Integer i) p w is ne in
-          let same2 : Same g s.depths (y ∷ s.scope) n sl2 t2 = after_bound g s.depths s.scope n name (it i) sl sl1 now tb is k1 in
+          let same2 : Same g s.depths (y ∷ s.scope) n sl2 t2 = after_bound g s.depths s.scope n name (it i) sl sl1 now tb none is k1 in
           let here2 : After g s.depths (y ∷ s.scope) n sl2 t2 sl2 t2 = after_here g s.depths (y ∷ s.scope) n sl2 t2 same2 in
           let left : (sl3 : Slots) (v : Now Item) → After g s.depths (y ∷ s.scope) (n + 3) sl2 t2 sl3 v → After g s.depths s.scope n sl now sl3 (less v) =
           λ sl3 v k3. after_dropped g s.depths s.scope n y sl sl1 sl2 sl3 now tb t2 v k1 others refl
@@ -371,7 +380,8 @@ module _ (g : AtWork) where
           (subst (λ c. Followed g.ending (chosen k i c t) K H N) f th))))
 
   -- the turns, behind the bounds and the step
-  counted : (name : List ℕ) (way : Counting) (mb : Run Item Item) (b : Piece) → Good g mb b → (tail : Tail) (s : Stand) (l lb lt_ pe ph pf : ℕ)
+  counted : (name : List ℕ) (way : Counting) (mb : Run Item Item) (b : Piece) → Good g mb b → is_empty (g.tables.reads name) ≡ true
+      → (tail : Tail) (s : Stand) (l lb lt_ pe ph pf : ℕ)
       (sl sl3 : Slots) (now w : Now Item) → w.ticks < g.depth → LabelsStand g s ph pf → After g s.depths s.scope s.temp sl now sl3 w
       → (p0 pt p1 p2 p3 : ℕ) (i to_ by : ℤ) → is_small i ≡ true → is_small to_ ≡ true → is_small by ≡ true → Held s.temp i to_ by sl3
       → slice_get (own_code g) p0 ≡ Some (I.Goto (l + 1)) → slice_get (own_code g) pt ≡ Some (I.Label l) → slice_get (own_code g) (pt + 1) ≡ Some I.Tick
@@ -386,14 +396,15 @@ module _ (g : AtWork) where
       (λ z x. Done g tail s pe sl now z (back_at g w x)) (λ z x. Catches g s.depths s.scope ph s.temp sl now z (back_at g w x))
       (λ x. Fails g s.depths s.scope pf s.temp sl now (back_at g w x))
       → RunsOn g p0 sl3 (bare w)
-  counted name way mb b gb tail s l lb lt_ pe ph pf sl sl3 now w tk set kept p0 pt p1 p2 p3 i to_ by small_i small_to small_by held h0 htop htick hcopy
-      hb eb hn en hl1 ht et he ends false f th = absurd th
-  counted name way mb b gb tail s l lb lt_ pe ph pf sl sl3 now w tk set kept p0 pt p1 p2 p3 i to_ by small_i small_to small_by held h0 htop htick hcopy
-      hb eb hn en hl1 ht et he ends true f th =
+  counted name way mb b gb none tail s l lb lt_ pe ph pf sl sl3 now w tk set kept p0 pt p1 p2 p3 i to_ by small_i small_to small_by held h0 htop htick
+      hcopy hb eb hn en hl1 ht et he ends false f th = absurd th
+  counted name way mb b gb none tail s l lb lt_ pe ph pf sl sl3 now w tk set kept p0 pt p1 p2 p3 i to_ by small_i small_to small_by held h0 htop htick
+      hcopy hb eb hn en hl1 ht et he ends true f th =
       let n : ℕ = s.temp in
       let d : Depths = s.depths in
       jump g.m g.lets g.hart g.here g.ending p0 p2 (l + 1) sl3 (bare w) (I.Goto (l + 1)) h0 refl hl1
-      (again name way mb b gb to_ by small_to small_by (one_from by f) tail s l lb lt_ pe ph pf sl3 w tk set pt p1 p2 p3 htop htick hcopy hb eb hn en hl1 ht et
+      (again name way mb b gb none to_ by small_to small_by (one_from by f) tail s l lb lt_ pe ph pf sl3 w tk set pt p1 p2 p3 htop htick hcopy hb eb hn en hl1
+      ht et
       he ends (suc w.ticks) i sl3 w small_i (omega arith) (after_here g d s.scope n sl3 w kept.same) held
       (onward g.ending (count_turns (reading g) w (suc w.ticks) name way i to_ by mb w) (λ z x. Done g tail s pe sl now z (back_at g w x))
       (λ z x. Catches g d s.scope ph n sl now z (back_at g w x)) (λ x. Fails g d s.scope pf n sl now (back_at g w x))
@@ -404,12 +415,12 @@ module _ (g : AtWork) where
       (λ x y. fail_on g d s.scope pf n n sl sl3 now w (omega arith) kept (back_at g w x) y)))
 
   pub foreach_good : (name : List ℕ) (way : Counting) (ma : Run Item Item) (a : Piece) (mb : Run Item Item) (b : Piece) (mc : Run Item Item) (c : Piece)
-      (me : Run Item Item) (e : Piece) → Good g ma a → Good g mb b → Good g mc c → Good g me e
+      (me : Run Item Item) (e : Piece) → is_empty (g.tables.reads name) ≡ true → Good g ma a → Good g mb b → Good g mc c → Good g me e
       → Good g
       (ma then λ x. integer (reading g) x then λ from_. mb then λ y. integer (reading g) y then λ to_. mc then λ u. integer (reading g) u then λ by.
       (reading g).inside (foreach (reading g) name way from_ to_ by me))
       (foreach_piece (kit g) name way a b c (inside_piece (kit g) e))
-  foreach_good name way ma a mb b mc c me e ga gb gc ge = record {
+  foreach_good name way ma a mb b mc c me e none ga gb gc ge = record {
     run = λ tail s l pc pe ph pf sl now tk end at_ set same wr th.
         let n : ℕ = s.temp in
         let d : Depths = s.depths in
@@ -520,7 +531,8 @@ module _ (g : AtWork) where
                           let runs : (o : Bool) → int_le (pos 1) by ≡ o
                           → Followed g.ending (if_so (count_turns (reading g) w (suc w.ticks) name way i to_ by me) stuck o w)
                           (λ z x2. D z (back_at g w x2)) (λ z x2. H1 z (back_at g w x2)) (λ x2. N1 (back_at g w x2)) → RunsOn g p0 sl3 (bare w) =
-                          λ o f z. counted name way me e ge tail s l lb lt_ pe ph pf sl sl3 now w (omega (arith, kept3.fewer, tk)) set kept3 p0 pt p1 p2 p3 i
+                          λ o f z. counted name way me e ge none tail s l lb lt_ pe ph pf sl sl3 now w (omega (arith, kept3.fewer, tk)) set kept3 p0 pt p1 p2
+                          p3 i
                           to_
                           by (integer_small g x.val i x.typ is had1) small_to small_by held h1.0 h1.1.0 h1.1.1.0 h1.1.1.1.0
                           (has_front (own_code g) (pt + 1 + 1 + 1) cb (cn ++ t3) h2) refl (has_front (own_code g) p1 cn t3 hn) refl h3.0

@@ -50,6 +50,39 @@ module _ (g : AtWork) where
       (out sl3 s3 z)))
 
   -- a value is made by the case that is present, if it comes to its place there
+  pub made_at : (q n k : ℕ) (xs : List Item) (v : Value) (make : Maker (kit g) g.number) (tail : Tail) (s : Stand) (l pc pe : ℕ) (sl sl1 : Slots)
+      (now u : Now Item) (H : Value → Now Item → Type 0) (N : Now Item → Type 0) → Writable s.depths (all_notes (g.tables.gives k))
+      → length xs ≡ q
+      → pe ≡ pc + length (made_code (kit g) g.number n make (g.tables.cases k q) (g.tables.gives k) tail s l)
+      → HasAt (own_code g) pc (made_code (kit g) g.number n make (g.tables.cases k q) (g.tables.gives k) tail s l)
+      → After g s.depths s.scope s.temp sl now sl1 u → Followed g.ending (made (reading g) k xs v u) (Done g tail s pe sl now) H N
+      → ((c : Case) (p : ℕ) (sl2 : Slots) → present_case u.opened (g.tables.cases k q) ≡ Some c → c.takes ≡ typs xs → Sits g v c.gives
+      → HasAt (own_code g) p (make s c) → Tested (kit g) (s.temp + n) sl1 sl2
+      → ((sl3 : Slots) → Tested (kit g) s.temp sl2 sl3 → sl3 (g.name (Temp s.temp) (g.number c.gives)) ≡ v
+      → RunsOn g (p + length (make s c)) sl3 (bare u))
+      → RunsOn g p sl2 (bare u))
+      → RunsOn g pc sl1 (bare u)
+  made_at q n k xs v make tail s l pc pe sl sl1 now u H N wr count end at_ kept th step =
+      let cs : List Case = g.tables.cases k q in
+      let is : List Indices = g.tables.gives k in
+      made_is g.table g.cases g.tables g.tells g.ending k xs v u (Done g tail s pe sl now) H N th
+      (λ c more there taken had by done.
+      let is_case : present_case u.opened (g.tables.cases k q) ≡ Some c =
+      subst (λ i. present_case u.opened (g.tables.cases k i) ≡ Some c) count there in
+      case_good g picked_in s.depths (s.temp + n) tail.labels
+      (made_arm (kit g) g.number make is tail s) u.opened (bare u) c cs l pc pe sl1
+      is_case kept.same.noted end at_
+      (λ l1 pc1 sl2 td hp out.
+      let r1 : List Instruction = make s c in
+      let r2 : List Instruction = note_code (kit_at (kit g) s.depths) g.number s.temp is c.gives ++ tail.code c.gives l1 in
+      let k2 : After g s.depths s.scope s.temp sl now sl2 u =
+      after_tested g s.depths s.scope s.temp sl sl1 sl2 now u (tested_less (kit g) s.temp (s.temp + n) sl1 sl2 (omega arith) td) kept in
+      step c pc1 sl2 is_case taken had (has_front (own_code g) pc1 r1 r2 hp) td
+      (λ sl3 td3 e3. arm_good is tail s c v l1 (pc1 + length r1) pe sl sl3 now u more wr (has_back (own_code g) pc1 r1 r2 (pc1 + length r1) refl hp)
+      (λ after then_ z. moves g.m g.lets g.hart g.here g.ending (pc1 + length (r1 ++ r2)) (pc1 + length r1 + length r2) after then_
+      (omega (arith, length-append r1 r2)) (out after then_ z))
+      by had (after_tested g s.depths s.scope s.temp sl sl2 sl3 now u td3 k2) e3 done)))
+
   pub made_from : (q n k : ℕ) (xs : List Item) (v : Value) (make : Maker (kit g) g.number) (tail : Tail) (s : Stand) (l pc pe : ℕ) (sl sl1 : Slots)
       (now u : Now Item) (H : Value → Now Item → Type 0) (N : Now Item → Type 0) → Writable s.depths (all_notes (g.tables.gives k))
       → length xs ≡ q
@@ -63,23 +96,7 @@ module _ (g : AtWork) where
       → RunsOn g p sl2 (bare u))
       → RunsOn g pc sl1 (bare u)
   made_from q n k xs v make tail s l pc pe sl sl1 now u H N wr count end at_ kept th step =
-      let cs : List Case = g.tables.cases k q in
-      let is : List Indices = g.tables.gives k in
-      made_is g.table g.cases g.tables g.tells g.ending k xs v u (Done g tail s pe sl now) H N th
-      (λ c more there taken had by done.
-      case_good g picked_in s.depths (s.temp + n) tail.labels
-      (made_arm (kit g) g.number make is tail s) u.opened (bare u) c cs l pc pe sl1
-      (subst (λ i. present_case u.opened (g.tables.cases k i) ≡ Some c) count there) kept.same.noted end at_
-      (λ l1 pc1 sl2 td hp out.
-      let r1 : List Instruction = make s c in
-      let r2 : List Instruction = note_code (kit_at (kit g) s.depths) g.number s.temp is c.gives ++ tail.code c.gives l1 in
-      let k2 : After g s.depths s.scope s.temp sl now sl2 u =
-      after_tested g s.depths s.scope s.temp sl sl1 sl2 now u (tested_less (kit g) s.temp (s.temp + n) sl1 sl2 (omega arith) td) kept in
-      step c pc1 sl2 taken had (has_front (own_code g) pc1 r1 r2 hp) td
-      (λ sl3 td3 e3. arm_good is tail s c v l1 (pc1 + length r1) pe sl sl3 now u more wr (has_back (own_code g) pc1 r1 r2 (pc1 + length r1) refl hp)
-      (λ after then_ z. moves g.m g.lets g.hart g.here g.ending (pc1 + length (r1 ++ r2)) (pc1 + length r1 + length r2) after then_
-      (omega (arith, length-append r1 r2)) (out after then_ z))
-      by had (after_tested g s.depths s.scope s.temp sl sl2 sl3 now u td3 k2) e3 done)))
+      made_at q n k xs v make tail s l pc pe sl sl1 now u H N wr count end at_ kept th (λ c p sl2 there taken had hp td next. step c p sl2 taken had hp td next)
 
   pub made_good : (n k : ℕ) (xs : List Item) (v : Value) (make : Maker (kit g) g.number) (tail : Tail) (s : Stand) (l pc pe : ℕ) (sl sl1 : Slots)
       (now u : Now Item) (H : Value → Now Item → Type 0) (N : Now Item → Type 0) → Writable s.depths (all_notes (g.tables.gives k))
@@ -94,6 +111,26 @@ module _ (g : AtWork) where
       → RunsOn g pc sl1 (bare u)
   made_good n k xs v make tail s l pc pe sl sl1 now u H N wr end at_ kept th step =
       made_from (length xs) n k xs v make tail s l pc pe sl sl1 now u H N wr refl end at_ kept th step
+
+  -- a value in hand comes to its type
+  pub cast_at : (k : ℕ) (x : Item) (tail : Tail) (s : Stand) (l pc pe : ℕ) (sl sl1 : Slots) (now t : Now Item) (H : Value → Now Item → Type 0)
+      (N : Now Item → Type 0) → Writable s.depths (all_notes (g.tables.gives k))
+      → pe ≡ pc + length (made_code (kit g) g.number 1 (cast_make (kit g) g.number) (g.tables.cases k 1) (g.tables.gives k) tail s l)
+      → HasAt (own_code g) pc (made_code (kit g) g.number 1 (cast_make (kit g) g.number) (g.tables.cases k 1) (g.tables.gives k) tail s l)
+      → After g s.depths s.scope s.temp sl now sl1 t → sl1 (g.name (Temp s.temp) (g.number x.typ)) ≡ x.val → Sits g x.val x.typ
+      → Followed g.ending (made (reading g) k (x ∷ []) x.val t) (Done g tail s pe sl now) H N → RunsOn g pc sl1 (bare t)
+  cast_at k x tail s l pc pe sl sl1 now t H N wr end at_ k1 e1 had1 th =
+      made_good 1 k (x ∷ []) x.val (cast_make (kit g) g.number) tail s l pc pe sl sl1 now t H N wr end at_ k1 th
+      (λ c q sl2 taken had hp td next.
+      let from_ : ℕ = first_type (kit g) g.number c.takes in
+      let ty : from_ ≡ g.number x.typ = ap (first_type (kit g) g.number) taken in
+      let held : sl2 (g.name (Temp s.temp) from_) ≡ x.val =
+      subst (λ w. sl2 (g.name (Temp s.temp) w) ≡ x.val) (sym ty) (td.others (Temp s.temp) (g.number x.typ) (here_not s.temp) ∙ e1) in
+      let code : List Instruction = retype (kit g) s.temp from_ (g.number c.gives) in
+      let plain : live_code c.takes code ≡ code = live_is c.takes (x.typ ∷ []) code taken (one_lives g x had1) in
+      retyped g.m g.lets g.hart g.here g.ending (kit g) g.names g.slots s.temp from_ (g.number c.gives) x.val q sl2 (bare t)
+      (subst (λ w. HasAt (own_code g) q w) plain hp) held (in_types g x.val c.gives had)
+      (λ sl3 td3 e3. subst (λ w. RunsOn g (q + length w) sl3 (bare t)) plain (next sl3 td3 e3)))
 
   pub cast_good : (me : Run Item Item) (p : Piece) → Good g me p → (k : ℕ)
       → Good g (me then λ x. made (reading g) k (x ∷ []) x.val) (cast_piece (kit g) g.number (g.tables.cases k 1) (g.tables.gives k) p)
@@ -114,19 +151,8 @@ module _ (g : AtWork) where
         (open_then g.ending (me now) kont D H N th)
         (λ x t th1. record {
           by = λ sl1 k1 e1 had1.
-              made_good 1 k (x ∷ []) x.val (cast_make (kit g) g.number) tail s lm p1 pe sl sl1 now t H N
-              (writable_back s.depths p.notes (all_notes (g.tables.gives k)) wr) (omega (arith, end, length-append c1 c2))
-              (has_back (own_code g) pc c1 c2 p1 refl at_) k1 th1
-              (λ c q sl2 taken had hp td next.
-              let from_ : ℕ = first_type (kit g) g.number c.takes in
-              let ty : from_ ≡ g.number x.typ = ap (first_type (kit g) g.number) taken in
-              let held : sl2 (g.name (Temp s.temp) from_) ≡ x.val =
-              subst (λ w. sl2 (g.name (Temp s.temp) w) ≡ x.val) (sym ty) (td.others (Temp s.temp) (g.number x.typ) (here_not s.temp) ∙ e1) in
-              let code : List Instruction = retype (kit g) s.temp from_ (g.number c.gives) in
-              let plain : live_code c.takes code ≡ code = live_is c.takes (x.typ ∷ []) code taken (one_lives g x had1) in
-              retyped g.m g.lets g.hart g.here g.ending (kit g) g.names g.slots s.temp from_ (g.number c.gives) x.val q sl2 (bare t)
-              (subst (λ w. HasAt (own_code g) q w) plain hp) held (in_types g x.val c.gives had)
-              (λ sl3 td3 e3. subst (λ w. RunsOn g (q + length w) sl3 (bare t)) plain (next sl3 td3 e3)));
+              cast_at k x tail s lm p1 pe sl sl1 now t H N (writable_back s.depths p.notes (all_notes (g.tables.gives k)) wr)
+              (omega (arith, end, length-append c1 c2)) (has_back (own_code g) pc c1 c2 p1 refl at_) k1 e1 had1 th1;
         })
         (λ v t z. z) (λ t z. z));
   }

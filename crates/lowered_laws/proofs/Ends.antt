@@ -8,7 +8,7 @@ use Rattle.sail_types.specs.declared.values.Value.{Value, Value-F, out-Value}
 use Rattle.sail_types.specs.declared.values.Value.TheOpen as V
 use Rattle.sail_core.specs.declared.tree.Giver.TheVariants as Gives
 use Rattle.sail_core.specs.Run as R
-use Rattle.sail_core.specs.Run.{Ended, Now, Run, gives, goes_on, in_turn, needs, ◌then◌}
+use Rattle.sail_core.specs.Run.{Ended, Now, Run, falls, gives, goes_on, if_so, in_turn, needs, ◌then◌}
 use Rattle.sail_core.specs.Making.{made}
 use Rattle.value_indices.specs.declared.indices.Indices.{Indices, roll-Indices}
 use Rattle.value_indices.specs.declared.indices.Indices.TheFolds.{fold-roll-Indices, ind-Indices, map-Indices}
@@ -152,7 +152,7 @@ noted_still xs noted more same (p ∷ ps) h =
       λ j. is_same (here_ j) p.number && rest.1 j,
     )
 
-abbrev end_of : Case → End
+abbrev pub end_of : Case → End
 end_of c = record { picked = c.picked; typ = c.gives }
 
 -- of one case alone, it
@@ -167,7 +167,7 @@ one_present noted c a e = by (is_noted noted c.picked) (is_present noted c.picke
 some_end : (x y : End) → Some x ≡ Some y → x ≡ y
 some_end x y e = cc
 
-present_still : (xs : List ℕ) (noted more : Noted) → ((x : ℕ) → is_in x xs ≡ false → more x ≡ noted x) → (cs : List Case) → cases_apart xs cs ≡ true
+pub present_still : (xs : List ℕ) (noted more : Noted) → ((x : ℕ) → is_in x xs ≡ false → more x ≡ noted x) → (cs : List Case) → cases_apart xs cs ≡ true
     → (c : Case) → present_case noted cs ≡ Some c → present (λ e. e.picked) more (cases_ends cs) ≡ Some (end_of c)
 present_still xs noted more same [] h c e = cc
 present_still xs noted more same (d ∷ cs) h c e =
@@ -253,12 +253,32 @@ one_typ e x opened h = by (is_noted opened e.picked) (is_present opened e.picked
     by true false f = cc
     by false b f = cc
 
+-- so it is of the case that is present now
+pub now_typed : (said : List Indices) (cs : List Case) (x : Item) (opened : Noted) (c : Case) → has_ends (ends_of said cs) ≡ true
+    → EndsIn (ends_of said cs) x opened → present_case opened cs ≡ Some c → c.gives ≡ x.typ
+now_typed said cs x opened c h e there = by (cases_apart (all_notes said) cs) refl h e.it e.there e.typ
+  where
+    by : (b : Bool) → cases_apart (all_notes said) cs ≡ b → has_ends (if b then cases_ends cs else []) ≡ true → (it : End)
+        → present (λ (y : End). y.picked) opened (if b then cases_ends cs else []) ≡ Some it → it.typ ≡ x.typ → c.gives ≡ x.typ
+    by true a h it f q =
+        ap (λ (y : End). y.typ) (some_end (end_of c) it (sym (present_still (all_notes said) opened opened (λ y z. refl) cs a c there) ∙ f)) ∙ q
+    by false a h it f q = no h
+
 -- one behind the other
 pub then_right : {A : Type 0} (es : List End) (m : Run Item A) (f : A → Run Item Item) → ((a : A) → EndsRight es (f a)) → EndsRight es (m then f)
 then_right es m f r h now = goes_gives (m now) f Any (λ x t. EndsIn es x t.opened) (gives_any (m now)) (λ a t u. r a h t)
 
 pub needs_right : {A : Type 0} (es : List End) (o : Option A) (f : A → Run Item Item) → ((a : A) → EndsRight es (f a)) → EndsRight es (needs o then f)
 needs_right es o f r = then_right es (needs o) f r
+
+-- a value behind a test, where the test may say that there is none
+pub tested_right : {A : Type 0} (es : List End) (m : Run Item A) (f : A → Run Item Bool) (mb : Run Item Item) → EndsRight es mb
+    → EndsRight es (m then λ x. f x then if_so mb falls)
+tested_right es m f mb r = then_right es m (λ x. f x then if_so mb falls) (λ x. then_right es (f x) (if_so mb falls) so)
+  where
+    so : (b : Bool) → EndsRight es (if_so mb falls b)
+    so true = r
+    so false = λ h now. tt
 
 -- operands in turn are as many as there are forms
 turn_many : (ms : List (Run Item Item)) (now : Now Item) → Gives_ (in_turn ms now) (λ xs t. length xs ≡ length ms)

@@ -21,7 +21,7 @@ use Rattle.lowered_laws.proofs.Follows.{no}
 use Rattle.lowered_laws.proofs.Had.{fits_form, fits_in}
 use Rattle.lowered_laws.proofs.Works.{none_is, out_as, some_same}
 
-set_here : (ws : List Value) (i : ℕ) (v : Value) → nat_lt i (length ws) ≡ true → slice_get (slice_set ws i v) i ≡ Some v
+pub set_here : {A : Type 0} (ws : List A) (i : ℕ) (v : A) → nat_lt i (length ws) ≡ true → slice_get (slice_set ws i v) i ≡ Some v
 set_here [] i v h = absurd (none_below i h)
   where
     none_below : (i : ℕ) → nat_lt i 0 ≡ true → ⊥

@@ -22,7 +22,7 @@ use Rattle.lowered_laws.specs.Simulation.{bare, AtWork, kit, own_code, reading, 
 use Rattle.lowered_laws.specs.Simulation.{handy, Settled, Holding, Writable, Same, After, Done, Catches}
 use Rattle.lowered_laws.specs.Simulation.{Fails, Good, GoodOn, Matches}
 use Rattle.lowered_laws.proofs.Follows.{no, onward, open_leaving}
-use Rattle.lowered_laws.proofs.States.{Is, holds_by, lower_more, passed_by}
+use Rattle.lowered_laws.proofs.States.{Is, holds_by, lower_more, passed_by, varies_by}
 
 in_first : (x : ℕ) (ys : List ℕ) → is_in x (x ∷ ys) ≡ true
 in_first x ys = ap (λ b. b || is_in x ys) (eq-eqb x x refl)
@@ -146,6 +146,8 @@ module _ (g : AtWork) where
     low = same.low;
     shallow = deeper_shallow d xs same.shallow;
     passed = passed_by g sl sl1 (λ i t. entered.others (Given i) t (λ x. refl)) 0 g.arguments same.passed;
+    varied = varies_by g n (length scope) sl sl1 scope now.locals (omega arith)
+        (λ q t h. entered.others q t (λ x. lower_number x (d.here + 1) n (length scope) q h)) same.low same.varied;
   }
 
   -- behind it only that is known which was noted before
@@ -161,6 +163,7 @@ module _ (g : AtWork) where
           low = k.same.low;
           shallow = same.shallow;
           passed = k.same.passed;
+          varied = k.same.varied;
         };
         kept = λ i u lt. k.kept i u lt ∙ entered.others (Temp i) u (λ y. refl);
         given = λ i u. k.given i u ∙ entered.others (Given i) u (λ y. refl);
@@ -231,7 +234,14 @@ module _ (g : AtWork) where
     where
       low_here : (d : Depths) (scope : List Named) (n q : ℕ) (sl : Slots) (now : Now Item) → n ≤ q → Same g d scope n sl now → Same g d scope q sl now
       low_here d scope n q sl now le s =
-          record { locals = s.locals; noted = s.noted; low = low_more_than n q scope le s.low; shallow = s.shallow; passed = s.passed }
+          record {
+            locals = s.locals;
+            noted = s.noted;
+            low = low_more_than n q scope le s.low;
+            shallow = s.shallow;
+            passed = s.passed;
+            varied = s.varied;
+          }
 
   on_nothing : (me : Run Item Item) (p : Piece) → Good g me p → GoodOn g (arguments []) [] me p
   on_nothing me p good = record {

@@ -52,7 +52,7 @@ module _ (g : AtWork) where
           ap (λ b. if b then y.place else place_of ys name) (ap (λ u. bytes_eq u name) (sym h.0) ∙ q) in
           subst (λ z. sl (g.name z (g.number x.typ)) ≡ x.val) (sym on) (more w)
 
-  not_in_hand : (ys : List Named) (name : List ℕ) (n : ℕ) → Low n ys → free n (place_of ys name) ≡ false
+  pub not_in_hand : (ys : List Named) (name : List ℕ) (n : ℕ) → Low n ys → free n (place_of ys name) ≡ false
   not_in_hand [] name n low = refl
   not_in_hand (y ∷ ys) name n low = by (bytes_eq y.name name) (not_in_hand ys name n low.1)
     where

@@ -19,31 +19,33 @@ use Rattle.sail_core.specs.declared.targets.Way.{Way}
 use Rattle.sail_core.specs.declared.targets.Way.TheVariants as Y
 use Rattle.sail_core.specs.declared.targets.Suffix.{Suffix}
 use Rattle.sail_core.specs.declared.tree.Callee.TheVariants as F
+use Rattle.sail_core.specs.declared.tree.Giver.TheVariants as Gives
 use Rattle.sail_core.specs.declared.tree.Statement.{Statement}
 use Rattle.sail_core.specs.declared.tree.Statement.TheVariants as S
 use Rattle.sail_core.specs.declared.tree.Kind.{Kind}
 use Rattle.sail_core.specs.declared.tree.Kind.TheVariants as K
 use Rattle.sail_core.specs.declared.tree.Core.{Core, Core-F, roll-Core, fold-roll-Core, map-Core, ind-Core}
-use Rattle.sail_core.specs.Run.{Run, gives, held_in, if_so, in_turn, needs, row_run, stops, ◌then◌}
-use Rattle.sail_core.specs.Targets.{called, read_register}
+use Rattle.sail_core.specs.Run.{Run, gives, held_in, if_so, in_turn, local, needs, row_run, stops, within, ◌then◌}
+use Rattle.sail_core.specs.Targets.{called, read_register, variable_read}
 use Rattle.sail_types.specs.declared.rows.Row.{Row}
 use Rattle.model_state.specs.declared.cause.Cause.{Cause}
 use Rattle.model_state.specs.declared.cause.Cause.TheVariants.{Exit, Assertion, MatchFailure}
 use Rattle.sail_core.specs.Numbers.{known, known_truth}
 use Rattle.sail_core.specs.Values.{int_typ, literal_typ, literal_value, cons_of, list_of, payload_of, struct_of, tuple_of, vector_of, with_of}
 use Rattle.sail_core.specs.Making.{World, made, nothing, truth}
-use Rattle.sail_core.specs.Meaning.{block, built, first_of, kind_meaning, meaning, suffixes_of, tried}
+use Rattle.sail_core.specs.Meaning.{block, built, first_of, kind_meaning, let_in, meaning, tried}
 use Rattle.checked_meaning.specs.Fits.{has_sizes}
 use Rattle.checked_meaning.specs.Items.{Item, item, fixed_typ, vals}
-use Rattle.lowered_pieces.specs.Tables.{leads_to}
-use Rattle.lowered_pieces.specs.Forms.{Piece, Callees, constant_piece, ends_of, has_ends, unit_piece, if_piece, inside_piece, one_end, unsaid}
-use Rattle.lowered_pieces.specs.Arms.{constant_of, arm_lowered, arms_lowered, match_piece, try_piece}
+use Rattle.lowered_pieces.specs.Tables.{leads_to, cases_among}
+use Rattle.lowered_pieces.specs.Forms.{Callees, End, Piece, constant_piece, ends_of, has_ends, unit_piece, if_piece, inside_piece, one_end, variable_piece}
+use Rattle.lowered_pieces.specs.Nodes.{is_empty}
+use Rattle.lowered_pieces.specs.Writes.{is_read}
+use Rattle.lowered_pieces.specs.Arms.{constant_of, arm_fits, arms_fit, match_piece, try_piece}
 use Rattle.lowered_pieces.specs.Lowering.{Node, block_piece, row_piece, number_piece, truth_piece, row_lowered, kind_piece, node, piece, pieces_of}
 use Rattle.lowered_pieces.specs.Lowering.{all_lowered, applied_lowered, block_lowered, is_lowered, is_matched, kind_lowered, number_lowered, path_lowered}
-use Rattle.lowered_pieces.specs.Lowering.{way_lowered}
+use Rattle.lowered_pieces.specs.Lowering.{no_parts, variable_lowered, way_lowered}
 use Rattle.lowered_pieces.specs.Gathered.{all_one, is_one}
-use Rattle.lowered_pieces.specs.Paths.{path_piece}
-use Rattle.lowered_laws.proofs.Ends.{EndsRight, RightAll, built_right, fixed_right, made_right, needs_right, then_right, turn_right}
+use Rattle.lowered_laws.proofs.Ends.{EndsRight, RightAll, built_right, fixed_right, made_right, needs_right, tested_right, then_right, turn_right}
 use Rattle.lowered_laws.specs.Simulation.{AtWork, kit, reading, Good, Around, CallsOk}
 use Rattle.lowered_laws.proofs.Follows.{no}
 use Rattle.lowered_laws.proofs.Inside.{inside_good}
@@ -55,6 +57,7 @@ use Rattle.lowered_laws.proofs.Branches.{seq_good, return_good, stop_good, when_
 use Rattle.lowered_laws.proofs.Truths.{assert_good, and_good, or_good}
 use Rattle.lowered_laws.proofs.Paths.{GoodWay, GoodPath, path_good, with_item_good, with_slice_good, with_good}
 use Rattle.lowered_laws.proofs.ClauseEnds.{clauses_right}
+use Rattle.lowered_laws.proofs.Lasting.{item_right, let_right, met_right, path_right, slice_right, within_right}
 use Rattle.lowered_laws.proofs.Applied.{applied_good, applied_right}
 use Rattle.lowered_laws.proofs.WithFields.{with_several_good}
 use Rattle.lowered_pieces.specs.Mapped.{ends_with, fixed_end}
@@ -63,7 +66,8 @@ use Rattle.lowered_laws.proofs.Tries.{try_good}
 use Rattle.lowered_laws.proofs.Gathered.{state_good, state_right}
 use Rattle.lowered_pieces.specs.Writes.{spot_lowered, target_spot}
 use Rattle.lowered_laws.proofs.Writes.{assign_good}
-use Rattle.lowered_laws.proofs.Binding.{bind_good}
+use Rattle.lowered_laws.proofs.Binding.{var_good}
+use Rattle.lowered_laws.proofs.Variables.{read_good}
 use Rattle.lowered_laws.proofs.Meeting.{meet_good}
 use Rattle.lowered_laws.proofs.Loops.{while_good}
 use Rattle.lowered_laws.proofs.Repeats.{repeat_good}
@@ -133,42 +137,73 @@ module _ (g : AtWork) (callees : Callees) (w : World Item) (calls : CallsOk g ca
   all_right [] h = tt
   all_right (y ∷ ys) h = let q = and_parts (ok y.0) (all_lowered (nodes ys)) h in ((y.1 q.0).1, all_right ys q.1)
 
-  arm_known : (arm : Arm) → arm_lowered callees.size arm ≡ true → Fit g w (arm_lowered g.size arm)
-  arm_known arm h = (subst (λ (f : Num → Option ℤ). arm_lowered f arm ≡ true) around.sized h, around.widths)
+  arm_known : (arm : Arm) → arm_fits callees.size g.tables.reads arm ≡ true → Fit g w (arm_fits g.size g.tables.reads arm)
+  arm_known arm h = (subst (λ (f : Num → Option ℤ). arm_fits f g.tables.reads arm ≡ true) around.sized h, around.widths)
 
-  arms_known : (arms : List Arm) → arms_lowered callees.size arms ≡ true → Fit g w (arms_lowered g.size arms)
-  arms_known arms h = (subst (λ (f : Num → Option ℤ). arms_lowered f arms ≡ true) around.sized h, around.widths)
-
-  unsaid_good : (m : Run Item Item) (p : Piece) → Good g m p → Good g m (unsaid p)
-  unsaid_good m p good = record { run = good.run }
+  arms_known : (arms : List Arm) → arms_fit callees.size g.tables.reads arms ≡ true → Fit g w (arms_fit g.size g.tables.reads arms)
+  arms_known arms h = (subst (λ (f : Num → Option ℤ). arms_fit f g.tables.reads arms ≡ true) around.sized h, around.widths)
 
   unit_good : Good g (gives (nothing (reading g))) (unit_piece (kit g))
   unit_good = constant_good g (fixed_typ g.table T.Unit) L.Unit (unit_sits g)
 
-  block_sim : (k : ℕ) (ss : List Statement) (ys : Parts) → block_lowered callees ss (nodes ys) ≡ true
+  block_sim : (k : ℕ) (ss : List Statement) (ys : Parts) → block_lowered callees g.tables ss (nodes ys) ≡ true
       → Good g (block (reading g) w k ss (runs ys)) (block_piece g.table (kit g) g.number callees g.tables k ss (pieces ys))
   unfolding Sim
-  block_sim k [] [] h = unit_good
+  block_sim k [] [] h = record { run = unit_good.run }
   block_sim k [] (y ∷ []) h = (y.1 h).0
   block_sim k [] (y ∷ x ∷ ys) h = no h
   block_sim k (S.Evaluate ∷ ss) [] h = no h
   block_sim k (S.Define place arm ∷ ss) [] h = no h
   block_sim k (S.Declare name written ∷ ss) [] h = no h
   block_sim k (S.Define place arm ∷ ss) (y ∷ ys) h =
-      let q = and_parts (arm_lowered callees.size arm) (is_matched (at_node y.0) && block_lowered callees ss (nodes ys)) h in
-      let p = and_parts (is_matched (at_node y.0)) (block_lowered callees ss (nodes ys)) q.1 in
+      let q = and_parts (arm_fits callees.size g.tables.reads arm) (is_matched (at_node y.0) && block_lowered callees g.tables ss (nodes ys)) h in
+      let p = and_parts (is_matched (at_node y.0)) (block_lowered callees g.tables ss (nodes ys)) q.1 in
       let r = and_parts (ok y.0) (has_ends (code y.0).ends) p.0 in
       let it = y.1 r.0 in
       let_good g w k (length ss) place (me y.0) (code y.0) arm (block (reading g) w k ss (runs ys))
       (block_piece g.table (kit g) g.number callees g.tables k ss (pieces ys)) (arm_known arm q.0) it.0 it.1 r.1 (block_sim k ss ys p.1)
   block_sim k (S.Evaluate ∷ ss) (y ∷ ys) h =
-      let q = and_parts (ok y.0) (block_lowered callees ss (nodes ys)) h in
+      let q = and_parts (ok y.0) (block_lowered callees g.tables ss (nodes ys)) h in
       seq_good g (me y.0) (code y.0) (block (reading g) w k ss (runs ys)) (block_piece g.table (kit g) g.number callees g.tables k ss (pieces ys)) (y.1 q.0).0
       (block_sim k ss ys q.1)
   block_sim k (S.Declare name written ∷ ss) (y ∷ ys) h =
-      let q = and_parts (ok y.0) (block_lowered callees ss (nodes ys)) h in
-      bind_good g name (me y.0) (code y.0) (block (reading g) w k ss (runs ys)) (block_piece g.table (kit g) g.number callees g.tables k ss (pieces ys))
+      let q = and_parts (ok y.0) (block_lowered callees g.tables ss (nodes ys)) h in
+      var_good g name (me y.0) (code y.0) (block (reading g) w k ss (runs ys)) (block_piece g.table (kit g) g.number callees g.tables k ss (pieces ys))
       (y.1 q.0).0 (block_sim k ss ys q.1)
+
+  -- the types of the value of a block's last part are those of the block
+  bound_right : (k j : ℕ) (place : TextPlace) (ma : Run Item Item) (arm : Arm) (mb : Run Item Item) (es : List End) → EndsRight es mb
+      → EndsRight es (ma then λ x. let_in (reading g) w (Gives.Arm k j) place arm x mb)
+  bound_right k j place ma arm mb es h =
+      then_right es ma (λ x. let_in (reading g) w (Gives.Arm k j) place arm x mb) (λ x. let_right g w (Gives.Arm k j) place arm x es mb h)
+
+  var_right : (name : List ℕ) (ma mb : Run Item Item) (es : List End) → EndsRight es mb → EndsRight es (ma then λ x. within (local name x ∷ []) mb)
+  var_right name ma mb es h = then_right es ma (λ x. within (local name x ∷ []) mb) (λ x. within_right es (local name x ∷ []) mb h)
+
+  abbrev block_in : ℕ → List Statement → Parts → Run Item Item
+  block_in k ss ys = block (reading g) w k ss (runs ys)
+
+  abbrev ends_in : ℕ → List Statement → Parts → List End
+  ends_in k ss ys = (block_piece g.table (kit g) g.number callees g.tables k ss (pieces ys)).ends
+
+  block_said : (k : ℕ) (ss : List Statement) (ys : Parts) → block_lowered callees g.tables ss (nodes ys) ≡ true → EndsRight (ends_in k ss ys) (block_in k ss ys)
+  unfolding Sim
+  block_said k [] [] h = λ f. no f
+  block_said k [] (y ∷ []) h = (y.1 h).1
+  block_said k [] (y ∷ x ∷ ys) h = no h
+  block_said k (S.Evaluate ∷ ss) [] h = no h
+  block_said k (S.Define place arm ∷ ss) [] h = no h
+  block_said k (S.Declare name written ∷ ss) [] h = no h
+  block_said k (S.Define place arm ∷ ss) (y ∷ ys) h =
+      let q = and_parts (arm_fits callees.size g.tables.reads arm) (is_matched (at_node y.0) && block_lowered callees g.tables ss (nodes ys)) h in
+      let p = and_parts (is_matched (at_node y.0)) (block_lowered callees g.tables ss (nodes ys)) q.1 in
+      bound_right k (length ss) place (me y.0) arm (block_in k ss ys) (ends_in k ss ys) (block_said k ss ys p.1)
+  block_said k (S.Evaluate ∷ ss) (y ∷ ys) h =
+      let q = and_parts (ok y.0) (block_lowered callees g.tables ss (nodes ys)) h in
+      then_right (ends_in k ss ys) (me y.0) (λ x. block_in k ss ys) (λ x. block_said k ss ys q.1)
+  block_said k (S.Declare name written ∷ ss) (y ∷ ys) h =
+      let q = and_parts (ok y.0) (block_lowered callees g.tables ss (nodes ys)) h in
+      var_right name (me y.0) (block_in k ss ys) (ends_in k ss ys) (block_said k ss ys q.1)
 
   way_sim : (w : Way) (ss : List Suffix) (ys : Parts)
       → ((zs : Parts) → path_lowered ss (nodes zs) ≡ true → GoodPath g ss (runs zs) (pieces zs)) → way_lowered w (nodes ys) (path_lowered ss) ≡ true
@@ -254,6 +289,16 @@ module _ (g : AtWork) (callees : Callees) (w : World Item) (calls : CallsOk g ca
       (λ awaited.
       then_right es (w.call place f awaited (vals xs)) (λ v. made (reading g) k xs v) (λ v. made_right g k (length (pieces ys)) xs v (e ∙ as_many ys))))
 
+  variable_sim : (k : ℕ) (name : List ℕ) (us : List Sized) → g.tables.reads name ≡ us → variable_lowered us (g.tables.cases k 0) [] ≡ true
+      → GoodSaid (variable_read (reading g) k name) (variable_piece (kit g) g.number us name (g.tables.cases k 0) (g.tables.gives k))
+  variable_sim k name [] e h = no h
+  variable_sim k name (u ∷ us) e h = (
+    read_good g k name (subst (λ ts. cases_among ts (g.tables.cases k 0) ≡ true) (sym e) h),
+    λ f now.
+        needs_right (ends_of (g.tables.gives k) (g.tables.cases k 0)) (held_in name now.locals) (λ x. made (reading g) k [] x.val)
+        (λ x. made_right g k 0 [] x.val refl) f now,
+  )
+
   kind_sim : (place : TextPlace) (k : ℕ) (kind : Kind) (ys : Parts)
       → Does (kind_meaning (reading g) w place k kind (runs ys)) (record {
         piece = kind_piece g.table (kit g) g.number callees g.tables place k kind (pieces ys);
@@ -273,6 +318,10 @@ module _ (g : AtWork) (callees : Callees) (w : World Item) (calls : CallsOk g ca
         needs_right (ends_of (g.tables.gives k) (g.tables.cases k 1)) (held_in name now.locals) (λ x. made (reading g) k (x ∷ []) x.val)
         (λ x. made_right g k 1 (x ∷ []) x.val refl) f now,
   )
+  kind_sim place k (K.Variable name) [] h = variable_sim k name (g.tables.reads name) refl h
+  kind_sim place k (K.Variable name) (y ∷ ys) h =
+      let q = and_parts (is_read (g.tables.reads name)) (no_parts (nodes (y ∷ ys)) && cases_among (g.tables.reads name) (g.tables.cases k 0)) h in
+      no (and_parts (no_parts (nodes (y ∷ ys))) (cases_among (g.tables.reads name) (g.tables.cases k 0)) q.1).0
   kind_sim place k (K.TopLevel i) [] h = (
     top_level_good g callees w around k i,
     needs_right (ends_of (g.tables.gives k) (g.tables.cases k 0)) (slice_get w.lets i) (λ v. made (reading g) k [] v) (λ v. made_right g k 0 [] v refl),
@@ -303,23 +352,24 @@ module _ (g : AtWork) (callees : Callees) (w : World Item) (calls : CallsOk g ca
   kind_sim place k (K.With struct (i ∷ j ∷ is)) ys h =
       (with_several_good g struct i j is k (runs ys) (pieces ys) (all_sim ys h), value_right k ys (with_of struct (i ∷ j ∷ is)))
   kind_sim place k (K.Part suffixes) (y ∷ ys) h =
-      let q = and_parts (ok y.0) (path_lowered suffixes (nodes ys)) h in (
-        unsaid_good (me y.0 then suffixes_of (reading g) suffixes (runs ys)) (path_piece (kit g) g.number g.tables suffixes (pieces ys) (code y.0))
-            (path_good g suffixes (runs ys) (pieces ys) (me y.0) (code y.0) (y.1 q.0).0 (path_sim suffixes ys q.1)),
-        λ f. no f,
+      let q = and_parts (ok y.0) (path_lowered suffixes (nodes ys)) h in
+      let it = y.1 q.0 in
+      let path = path_sim suffixes ys q.1 in (
+        path_good g suffixes (runs ys) (pieces ys) (me y.0) (code y.0) it.0 path,
+        path_right g suffixes (runs ys) (pieces ys) (me y.0) (code y.0) path it.1,
       )
   kind_sim place k K.WithItem (a ∷ b ∷ c ∷ []) h =
       let q = and_parts (ok a.0) (ok b.0 && ok c.0) h in
       let p = and_parts (ok b.0) (ok c.0) q.1 in
       let good = with_item_good g (me a.0) (code a.0) (me b.0) (code b.0) (me c.0) (code c.0) (a.1 q.0).0 (b.1 p.0).0 (c.1 p.1).0 k in
-      (record { run = good.run }, λ f. no f)
+      (good, item_right g k (me a.0) (me b.0) (me c.0))
   kind_sim place k K.WithSlice (a ∷ b ∷ c ∷ d ∷ []) h =
       let q = and_parts (ok a.0) (ok b.0 && (ok c.0 && ok d.0)) h in
       let p = and_parts (ok b.0) (ok c.0 && ok d.0) q.1 in
       let r = and_parts (ok c.0) (ok d.0) p.1 in
       let good =
       with_slice_good g (me a.0) (code a.0) (me b.0) (code b.0) (me c.0) (code c.0) (me d.0) (code d.0) (a.1 q.0).0 (b.1 p.0).0 (c.1 r.0).0 (d.1 r.1).0 k in
-      (record { run = good.run }, λ f. no f)
+      (good, slice_right g k (me a.0) (me b.0) (me c.0) (me d.0))
   kind_sim place k (K.Cast written) (y ∷ []) h = (
     cast_good g (me y.0) (code y.0) (y.1 h).0 k,
     then_right (ends_of (g.tables.gives k) (g.tables.cases k 1)) (me y.0) (λ x. made (reading g) k (x ∷ []) x.val)
@@ -330,16 +380,12 @@ module _ (g : AtWork) (callees : Callees) (w : World Item) (calls : CallsOk g ca
   kind_sim place k (K.Assign (t ∷ [])) ys h =
       let q = and_parts (spot_lowered g.table g.tables (target_spot t) (length (nodes ys))) (all_lowered (nodes ys)) h in
       let known = subst (λ n. spot_lowered g.table g.tables (target_spot t) n ≡ true) (as_cased ys) q.0 in
-      let good = assign_good g callees w calls around.hart t (runs ys) (pieces ys) (all_sim ys q.1) known in
+      let good = assign_good g callees w calls around t (runs ys) (pieces ys) (all_sim ys q.1) known in
       (record { run = good.run }, λ f. no f)
-  kind_sim place k (K.Block statements) ys h = (
-    unsaid_good (block (reading g) w k statements (runs ys)) (block_piece g.table (kit g) g.number callees g.tables k statements (pieces ys))
-        (block_sim k statements ys h),
-    λ f. no f,
-  )
+  kind_sim place k (K.Block statements) ys h = (block_sim k statements ys h, block_said k statements ys h)
   kind_sim place k (K.Var name written) (a ∷ b ∷ []) h =
       let q = and_parts (ok a.0) (ok b.0) h in
-      (bind_good g name (me a.0) (code a.0) (me b.0) (code b.0) (a.1 q.0).0 (b.1 q.1).0, λ f. no f)
+      (var_good g name (me a.0) (code a.0) (me b.0) (code b.0) (a.1 q.0).0 (b.1 q.1).0, var_right name (me a.0) (me b.0) (code b.0).ends (b.1 q.1).1)
   kind_sim place k (K.If shape) (a ∷ b ∷ []) h =
       let q = and_parts (ok a.0) (ok b.0) h in (
         if_good g (me a.0) (code a.0) ((reading g).inside (me b.0)) (inside_piece (kit g) (code b.0)) (gives (nothing (reading g))) (unit_piece (kit g))
@@ -357,7 +403,7 @@ module _ (g : AtWork) (callees : Callees) (w : World Item) (calls : CallsOk g ca
       meet_good g (me a.0 then λ x. truth (reading g) x then if_so mb mc) (if_piece (kit g) (code a.0) pb pc)
       (if_good g (me a.0) (code a.0) mb pb mc pc (a.1 q.0).0 (inside_good g (me b.0) (code b.0) (b.1 p.0).0)
       (inside_good g (me c.0) (code c.0) (c.1 p.1).0)) k in
-      (record { run = good.run }, λ f. no f)
+      (good, met_right g k (me a.0 then λ x. truth (reading g) x then if_so mb mc))
   kind_sim place k K.While (a ∷ b ∷ c ∷ []) h =
       let q = and_parts (ok a.0) (ok b.0 && ok c.0) h in
       let p = and_parts (ok b.0) (ok c.0) q.1 in
@@ -367,11 +413,12 @@ module _ (g : AtWork) (callees : Callees) (w : World Item) (calls : CallsOk g ca
       let p = and_parts (ok b.0) (ok c.0) q.1 in
       (repeat_good g place (me a.0) (code a.0) (me b.0) (code b.0) (me c.0) (code c.0) (a.1 q.0).0 (b.1 p.0).0 (c.1 p.1).0, λ f. no f)
   kind_sim place k (K.Foreach name way) (a ∷ b ∷ c ∷ d ∷ []) h =
-      let q = and_parts (ok a.0) (ok b.0 && (ok c.0 && ok d.0)) h in
+      let f = and_parts (is_empty (g.tables.reads name)) (ok a.0 && (ok b.0 && (ok c.0 && ok d.0))) h in
+      let q = and_parts (ok a.0) (ok b.0 && (ok c.0 && ok d.0)) f.1 in
       let p = and_parts (ok b.0) (ok c.0 && ok d.0) q.1 in
       let r = and_parts (ok c.0) (ok d.0) p.1 in
       let good =
-      foreach_good g name way (me a.0) (code a.0) (me b.0) (code b.0) (me c.0) (code c.0) (me d.0) (code d.0) (a.1 q.0).0 (b.1 p.0).0 (c.1 r.0).0
+      foreach_good g name way (me a.0) (code a.0) (me b.0) (code b.0) (me c.0) (code c.0) (me d.0) (code d.0) f.0 (a.1 q.0).0 (b.1 p.0).0 (c.1 r.0).0
       (d.1 r.1).0 in
       (good, λ f. no f)
   kind_sim place k K.Throw (y ∷ []) h = (throw_good g (me y.0) (code y.0) (y.1 h).0, λ f. no f)
@@ -385,17 +432,22 @@ module _ (g : AtWork) (callees : Callees) (w : World Item) (calls : CallsOk g ca
       let q = and_parts (ok a.0) (ok b.0) h in
       (or_good g (me a.0) (code a.0) (me b.0) (code b.0) (a.1 q.0).0 (b.1 q.1).0, λ f. no f)
   kind_sim place k K.When (a ∷ b ∷ []) h =
-      let q = and_parts (ok a.0) (ok b.0) h in
-      (when_good g (me a.0) (code a.0) (me b.0) (code b.0) (a.1 q.0).0 (b.1 q.1).0, λ f. no f)
+      let q = and_parts (ok a.0) (ok b.0) h in (
+        when_good g (me a.0) (code a.0) (me b.0) (code b.0) (a.1 q.0).0 (b.1 q.1).0,
+        tested_right (code b.0).ends (me a.0) (truth (reading g)) (me b.0) (b.1 q.1).1,
+      )
   kind_sim place k (K.Let arm) (a ∷ b ∷ []) h =
-      let q = and_parts (arm_lowered callees.size arm) (is_matched (at_node a.0) && ok b.0) h in
+      let q = and_parts (arm_fits callees.size g.tables.reads arm) (is_matched (at_node a.0) && ok b.0) h in
       let p = and_parts (is_matched (at_node a.0)) (ok b.0) q.1 in
       let r = and_parts (ok a.0) (has_ends (code a.0).ends) p.0 in
       let it = a.1 r.0 in
-      (let_good g w k 0 place (me a.0) (code a.0) arm (me b.0) (code b.0) (arm_known arm q.0) it.0 it.1 r.1 (b.1 p.1).0, λ f. no f)
+      let body = b.1 p.1 in (
+        let_good g w k 0 place (me a.0) (code a.0) arm (me b.0) (code b.0) (arm_known arm q.0) it.0 it.1 r.1 body.0,
+        bound_right k 0 place (me a.0) arm (me b.0) (code b.0).ends body.1,
+      )
   kind_sim place k (K.Match arms shape) (y ∷ ys) h =
-      let q = and_parts (is_matched (at_node y.0)) (arms_lowered callees.size arms && all_lowered (nodes ys)) h in
-      let p = and_parts (arms_lowered callees.size arms) (all_lowered (nodes ys)) q.1 in
+      let q = and_parts (is_matched (at_node y.0)) (arms_fit callees.size g.tables.reads arms && all_lowered (nodes ys)) h in
+      let p = and_parts (arms_fit callees.size g.tables.reads arms) (all_lowered (nodes ys)) q.1 in
       let r = and_parts (ok y.0) (has_ends (code y.0).ends) q.0 in
       let it = y.1 r.0 in
       let cause : Cause = MatchFailure place in
@@ -403,24 +455,24 @@ module _ (g : AtWork) (callees : Callees) (w : World Item) (calls : CallsOk g ca
       meet_good g (me y.0 then λ x. first_of (reading g) w k arms (runs ys) (stops cause) (x ∷ []))
       (match_piece g.table (kit g) (g.tables.named k) (code y.0) arms (pieces ys) cause)
       (match_good g w k (me y.0) (code y.0) arms (runs ys) (pieces ys) cause (arms_known arms p.0) it.0 it.1 r.1 (all_sim ys p.1)) k in
-      (record { run = good.run }, λ f. no f)
+      (good, met_right g k (me y.0 then λ x. first_of (reading g) w k arms (runs ys) (stops cause) (x ∷ [])))
   kind_sim place k (K.Try arms shape) (y ∷ ys) h =
       let es = ends_of (g.tables.gives k) (g.tables.cases k 0) in
-      let q = and_parts (ok y.0) (has_ends es && (arms_lowered callees.size arms && all_lowered (nodes ys))) h in
-      let p = and_parts (has_ends es) (arms_lowered callees.size arms && all_lowered (nodes ys)) q.1 in
-      let r = and_parts (arms_lowered callees.size arms) (all_lowered (nodes ys)) p.1 in
+      let q = and_parts (ok y.0) (has_ends es && (arms_fit callees.size g.tables.reads arms && all_lowered (nodes ys))) h in
+      let p = and_parts (has_ends es) (arms_fit callees.size g.tables.reads arms && all_lowered (nodes ys)) q.1 in
+      let r = and_parts (arms_fit callees.size g.tables.reads arms) (all_lowered (nodes ys)) p.1 in
       let good =
       meet_good g (tried (reading g) w k arms (runs ys) (me y.0))
       (try_piece g.table (kit g) (g.tables.cases k 0) (g.tables.gives k) (g.tables.named k) arms (pieces ys) (code y.0))
       (try_good g w k arms (runs ys) (pieces ys) (arms_known arms r.0) p.0 (all_sim ys r.1) (me y.0) (code y.0) (y.1 q.0).0) k in
-      (record { run = good.run }, λ f. no f)
+      (good, met_right g k (tried (reading g) w k arms (runs ys) (me y.0)))
   kind_sim place k (K.Call (F.Applies d)) (y ∷ []) h =
       let q = and_parts (applied_lowered callees d (code y.0).ends) (ok y.0) h in
       let p = and_parts (callees.crosses d) (ends_with (callees.direction d).takes (fixed_end (code y.0).ends)) q.0 in
       let it = y.1 q.1 in
       (applied_good g callees w calls place k d (me y.0) (code y.0) it.0 it.1 p.1 p.0, applied_right g callees w calls place k d (me y.0))
   kind_sim place k (K.Clauses arms) ys h =
-      let q = and_parts (arms_lowered callees.size arms) (all_lowered (nodes ys)) h in
+      let q = and_parts (arms_fit callees.size g.tables.reads arms) (all_lowered (nodes ys)) h in
       let good = clauses_good g w k callees.given arms (runs ys) (pieces ys) around.arguments around.given around.had (arms_known arms q.0) (all_sim ys q.1) in
       (record { run = good.run }, clauses_right g w k w.arguments arms (runs ys) (pieces ys) (all_right ys q.1))
   kind_sim place k kind ys h = no h

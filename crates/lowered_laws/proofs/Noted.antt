@@ -49,7 +49,7 @@ use Rattle.lowered_pieces.specs.Forms.{one_or_none, joined, form_notes, notes_of
 use Rattle.lowered_pieces.specs.Arms.{Held as Stood, values_noted, tuple_noted, arm_noted}
 use Rattle.lowered_laws.specs.Simulation.{bare, Followed, AtWork, kit, own_code, reading, RunsOn, lower, handy, Settled, Holding, Writable, After, Sits}
 use Rattle.lowered_laws.proofs.Follows.{as_integer, no}
-use Rattle.lowered_laws.proofs.States.{Is, holds_by, passed_by, writable_front, writable_back}
+use Rattle.lowered_laws.proofs.States.{Is, holds_by, passed_by, varies_by, writable_front, writable_back}
 use Rattle.lowered_laws.proofs.Inside.{less_deep}
 use Rattle.lowered_laws.proofs.Had.{fits_in, fits_form, in_types}
 
@@ -509,6 +509,8 @@ module _ (g : AtWork) (d : Depths) where
           low = k.same.low;
           shallow = k.same.shallow;
           passed = passed_by g sl1 sl2 (λ i t. left.others (Given i) t refl) 0 g.arguments k.same.passed;
+          varied = varies_by g n (length scope) sl1 sl2 scope u.locals (omega arith)
+              (λ q t h. left.others q t (lower_lasting d.here n (length scope) q h)) k.same.low k.same.varied;
         };
         kept = λ i t lt. left.others (Temp i) t (lasting_below n i lt) ∙ k.kept i t lt;
         given = λ i t. left.others (Given i) t refl ∙ k.given i t;

@@ -1,6 +1,7 @@
 -- The code of single forms sets no labels but its own and its tail's, and none of them twice.
-use Rattle.std.proofs.Common.{◌≡◌, ℕ, ◌+◌, ℤ, List, [], ◌∷◌, ◌++◌, length, map, Option, Some, None, Bool, true, false, if◌then◌else◌}
+use Rattle.std.proofs.Common.{◌≡◌, ℕ, ◌+◌, ℤ, List, [], ◌∷◌, ◌++◌, length, map, Option, Some, None, Bool, true, false, if◌then◌else◌, cond}
 use Rattle.std.proofs.Common.{sym, subst, ap, arith}
+use Rattle.std.specs.Prelude.{nat_eq}
 use Rattle.sail_types.specs.declared.numbers.Num.{Num}
 use Rattle.std.proofs.lemmas.Bool.Decides.{nat_tests}
 use Rattle.sail_base.specs.declared.place.Place.{Place as TextPlace}
@@ -23,7 +24,8 @@ use Rattle.jib.specs.declared.code.Instruction.{Instruction}
 use Rattle.jib.specs.declared.code.Instruction.TheVariants as I
 use Rattle.sized_nodes.specs.declared.trees.Case.{Case}
 use Rattle.sized_nodes.specs.declared.trees.Lead.{Lead}
-use Rattle.lowered_pieces.specs.Places.{Temp, Kit, from, to}
+use Rattle.lowered_pieces.specs.Places.{Temp, Kit, from, to, Local, Place}
+use Rattle.lowered_pieces.specs.Moves.{kept_all, kept_as, kept_code}
 use Rattle.lowered_pieces.specs.Chains.{by_case, many}
 use Rattle.lowered_laws.specs.CodeLaws.{Own, inside, sets}
 use Rattle.lowered_laws.proofs.Labels.{same, sets_append, inside_more, move_own, retype_own, by_case_own}
@@ -34,6 +36,7 @@ use Rattle.lowered_pieces.specs.Forms.{picked_in, picked_by}
 use Rattle.lowered_pieces.specs.Forms.{nothing_piece, constant_piece, unit_piece, place_of, number_noted, known_noted, part_noted, parts_noted, form_noted}
 use Rattle.lowered_pieces.specs.Forms.{noter_of, note_code}
 use Rattle.lowered_pieces.specs.Forms.{first_type, made_arm, made_code, made_piece, local_make, source_make, cast_make, cast_piece, met_arm, met_tail}
+use Rattle.lowered_pieces.specs.Forms.{var_piece, var_tail, variable_make}
 use Rattle.lowered_pieces.specs.Forms.{again_make, again_code, all_code, all_labels, work_make, made_of_piece, answer_make, lead_arm}
 use Rattle.lowered_pieces.specs.Forms.{call_piece}
 use Rattle.lowered_pieces.specs.Forms.{throw_tail, throw_piece, return_tail, return_piece, stop_piece, jump_where, assert_piece, bound, bind_tail, bind_piece}
@@ -133,6 +136,36 @@ bind_owns kit name a b oa ob tail ot s k l =
       arith,
       sets_append k (a.ended (bind_tail kit s) s l) (b.ended tail (bound name s) (l + count_of a)),
       oa (bind_tail kit s) (λ u k l. omega arith) s k l,
+      ob tail ot (bound name s) k (l + count_of a),
+      inside_more l (count_of a) (b.labels tail.labels) k,
+    )
+
+kept_as_own : (kit : Kit) (p : Place) (u n t k : ℕ) → sets k (kept_as kit p u n t) ≡ 0
+kept_as_own kit p u n t k = by (nat_eq t u)
+  where
+    by : (b : Bool) → sets k (cond b [] (I.Apply (to kit p u) O.Same (from kit (Temp n) t ∷ []) ∷ [])) ≡ 0
+    by true = omega arith
+    by false = omega arith
+
+kept_all_own : (kit : Kit) (p : Place) (n t : ℕ) (us : List Sized) (k : ℕ) → sets k (kept_all kit p n t us) ≡ 0
+kept_all_own kit p n t [] k = omega arith
+kept_all_own kit p n t (u ∷ us) k =
+    omega (
+      arith,
+      sets_append k (kept_as kit p (kit.number u) n t) (kept_all kit p n t us),
+      kept_as_own kit p (kit.number u) n t k,
+      kept_all_own kit p n t us k,
+    )
+
+pub kept_own : (kit : Kit) (p : Place) (n : ℕ) (us : List Sized) (t : Sized) (k : ℕ) → sets k (kept_code kit p n us t) ≡ 0
+kept_own kit p n us t k = omega (arith, kept_all_own kit p n (kit.number t) us k)
+
+pub var_owns : (kit : Kit) (us : List Sized) (name : List ℕ) (a b : Piece) → Owns a → Owns b → Owns (var_piece kit us name a b)
+var_owns kit us name a b oa ob tail ot s k l =
+    omega (
+      arith,
+      sets_append k (a.ended (var_tail kit us s) s l) (b.ended tail (bound name s) (l + count_of a)),
+      oa (var_tail kit us s) (λ u k l. omega (arith, kept_own kit (Local (length s.scope)) s.temp us u k)) s k l,
       ob tail ot (bound name s) k (l + count_of a),
       inside_more l (count_of a) (b.labels tail.labels) k,
     )
@@ -473,10 +506,13 @@ module _ (kit : Kit) (number : Sized → ℕ) where
   local_plain name s c k =
       omega (arith, move_own kit (Temp s.temp) (number c.gives) (place_of s.scope name) (first_type kit number c.takes) k)
 
+  pub variable_plain : (name : List ℕ) → Plain (variable_make kit number name)
+  variable_plain name s c k = omega arith
+
   pub source_plain : (a : Source) → Plain (source_make kit number a)
   source_plain a s c k = omega arith
 
-  cast_plain : Plain (cast_make kit number)
+  pub cast_plain : Plain (cast_make kit number)
   cast_plain s c k =
       live_bare c.takes (retype kit s.temp (first_type kit number c.takes) (number c.gives)) k
       (retype_own kit s.temp (first_type kit number c.takes) (number c.gives) k)

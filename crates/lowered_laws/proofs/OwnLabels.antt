@@ -15,7 +15,6 @@ use Rattle.jib.specs.declared.code.Operation.{Operation}
 use Rattle.jib.specs.declared.code.Operation.TheVariants as O
 use Rattle.jib.specs.declared.code.Instruction.{Instruction}
 use Rattle.jib.specs.declared.code.Instruction.TheVariants as I
-use Rattle.jib.specs.declared.code.Target.TheVariants as J
 use Rattle.sail_core.specs.declared.patterns.Head.{Head}
 use Rattle.sail_core.specs.declared.patterns.Head.TheVariants as H
 use Rattle.sail_core.specs.declared.patterns.Step.{Step}
@@ -44,10 +43,10 @@ use Rattle.lowered_pieces.specs.Forms.{Order, Callees}
 use Rattle.lowered_pieces.specs.Forms.{caught_at}
 use Rattle.lowered_pieces.specs.Forms.{unit_piece}
 use Rattle.lowered_pieces.specs.Forms.{note_code}
-use Rattle.lowered_pieces.specs.Forms.{local_make, source_make}
+use Rattle.lowered_pieces.specs.Forms.{local_make, place_of, source_make, variable_make, variable_piece}
 use Rattle.lowered_pieces.specs.Forms.{all_code, all_labels, work_make, work_piece}
 use Rattle.lowered_pieces.specs.Forms.{if_piece}
-use Rattle.lowered_pieces.specs.Forms.{End, ends_of, in_order, in_fields, unit_source, nothing_piece, picked_in}
+use Rattle.lowered_pieces.specs.Forms.{End, cast_make, ends_of, higher, in_order, in_fields, unit_source, nothing_piece}
 use Rattle.checked_meaning.specs.Items.{fixed_typ}
 use Rattle.lowered_pieces.specs.Arms.{Choice, Held, Hand, Matched, Taken, Taking, arguments, choice_labels, choices, choices_at, constant_of, in_hand, is_union}
 use Rattle.lowered_pieces.specs.Arms.{picked_of, places_of, skipped, steps_in, arm_noted, takes_code, vector_takes, word_takes, part_at}
@@ -61,9 +60,11 @@ use Rattle.lowered_pieces.specs.Arms.{thrown_code, throw_here, raised_piece, cau
 use Rattle.sail_types.specs.declared.rows.Row.{Row}
 use Rattle.row_types.specs.Calls.{has_state}
 use Rattle.lowered_pieces.specs.Paths.{way_piece, path_piece}
-use Rattle.lowered_pieces.specs.Writes.{Spot as Aim, assign_piece, before, called, final, new_piece, part, register_tail, spot_piece, target_spot, whole}
-use Rattle.lowered_pieces.specs.Writes.{part_arm, part_piece, part_tail, put_step, raised, replaced_code, stored_code, takes_in, takes_of, way_typ}
-use Rattle.lowered_pieces.specs.Writes.{write_piece}
+use Rattle.lowered_pieces.specs.Writes.{Cell, Holder, Spot as Aim, Writing, assign_piece, before}
+use Rattle.lowered_pieces.specs.Writes.{called, cell_code, cell_labels, cell_writing, final, given_piece}
+use Rattle.lowered_pieces.specs.Writes.{given_tail, held_make, new_piece, one, put_step, register, renewed_code, renewed_tail, replaced_code, several}
+use Rattle.lowered_pieces.specs.Writes.{several_code, several_labels, several_writing, spot_piece, store_code, takes_in, takes_of, target_spot, typed_code}
+use Rattle.lowered_pieces.specs.Writes.{typed_labels, typed_tail, variable, way_typ}
 use Rattle.lowered_pieces.specs.Fields.{with_make}
 use Rattle.lowered_pieces.specs.Mapped.{none_piece, some_piece}
 use Rattle.sail_core.specs.Meaning.{option_typ}
@@ -72,7 +73,8 @@ use Rattle.lowered_pieces.specs.Gathered.{row_code, state_piece}
 use Rattle.lowered_pieces.specs.Lowering.{Node, block_piece, row_piece, number_piece, truth_piece, kind_lowered, kind_piece, node, piece, pieces_of}
 use Rattle.lowered_laws.specs.FormLaws.{OwnTail}
 use Rattle.lowered_laws.proofs.OwnForms.{two_of, own_two, Owns, nothing_owns, constant_owns, unit_owns, throw_owns, return_owns, stop_owns, seq_owns}
-use Rattle.lowered_laws.proofs.OwnForms.{bind_owns, inside_owns, if_owns, and_owns, or_owns, when_owns, assert_owns, while_owns, repeat_owns, note_own}
+use Rattle.lowered_laws.proofs.OwnForms.{Plain, cast_plain, kept_own, made_own, var_owns, variable_plain}
+use Rattle.lowered_laws.proofs.OwnForms.{inside_owns, if_owns, and_owns, or_owns, when_owns, assert_owns, while_owns, repeat_owns, note_own}
 use Rattle.lowered_laws.proofs.OwnForms.{arm_noted_bare, made_owns, local_plain, source_plain, work_plain, construct_plain, cast_owns, meet_owns, OwnsAll}
 use Rattle.lowered_laws.proofs.OwnForms.{all_own, made_of_owns, call_owns}
 
@@ -107,10 +109,6 @@ module _ (kit : Kit) (number : Sized → ℕ) (tables : Tables) where
 -- ---- assignments
 
 module _ (types : Types) (kit : Kit) (number : Sized → ℕ) (callees : Callees) (tables : Tables) where
-  write_owns : (r : ℕ) (c : Piece) → Owns c → Owns (write_piece kit number tables r c)
-  write_owns r c own tail ot s =
-      own (register_tail kit number tables r tail s) (λ u k l. omega (arith, unit_owns kit tail ot s k l)) s
-
   before_own : (ps : List Piece) → OwnsAll kit number ps → OwnsAll kit number (before ps)
   before_own [] h = tt
   before_own (p ∷ []) h = tt
@@ -133,61 +131,89 @@ module _ (types : Types) (kit : Kit) (number : Sized → ℕ) (callees : Callees
       let c2 : List Instruction = put_step types kit s.way n q t (from kit (Temp (q + 1)) (kit.number (way_typ types s.way t))) ∷ [] in
       omega (arith, sets_append k c1 c2, replaced_bare (r ∷ ss) (n + takes_of s.way) (q + 1) (way_typ types s.way t) new k)
 
-  stored_bare : (r : ℕ) (ss : List Suffix) (gives : List Indices) (s : Stand) (q : ℕ) (new : Source) (c : Case) (k : ℕ)
-      → sets k (stored_code types kit r ss gives s q new c) ≡ 0
-  stored_bare r ss gives s q new c k =
-      let c1 : List Instruction = note_code (kit_at kit s.depths) kit.number q gives c.gives in
-      let c2 : List Instruction = replaced_code types kit ss s.temp q c.gives new in
-      let c3 : List Instruction = I.Copy (J.Register r) (from kit (Temp q) (kit.number c.gives)) ∷ [] in
+  store_bare : (h : Holder) (s : Stand) (t : Sized) (k : ℕ) → sets k (store_code types kit tables h s t) ≡ 0
+  store_bare (register r) s t k = omega arith
+  store_bare (variable name) s t k = kept_own kit (place_of s.scope name) s.temp (tables.reads name) t k
+
+  renewed_bare : (c : Cell) (at : ℕ) (new : Source) (s : Stand) (t : Sized) (k : ℕ) → sets k (renewed_code types kit tables c at new s t) ≡ 0
+  renewed_bare c at new s t k =
+      let c1 : List Instruction = replaced_code types kit c.suffixes at s.temp t new in
+      let c2 : List Instruction = note_code (kit_at kit s.depths) kit.number s.temp (tables.gives c.read) t in
+      let c3 : List Instruction = store_code types kit tables c.holder s t in
       omega (
         arith,
-        sets_append k c1 (c2 ++ (c1 ++ c3)),
-        sets_append k c2 (c1 ++ c3),
-        sets_append k c1 c3,
-        note_own (kit_at kit s.depths) kit.number q gives c.gives k,
-        replaced_bare ss s.temp q c.gives new k,
+        sets_append k c1 (c2 ++ c3),
+        sets_append k c2 c3,
+        replaced_bare c.suffixes at s.temp t new k,
+        note_own (kit_at kit s.depths) kit.number s.temp (tables.gives c.read) t k,
+        store_bare c.holder s t k,
       )
 
-  part_own : (r : ℕ) (ss : List Suffix) (cases : List Case) (gives : List Indices) (tail : Tail) → OwnTail tail → (s : Stand)
-      → OwnTail (part_tail types kit r ss cases gives tail s)
-  part_own r ss cases gives tail ot s t =
-      let new : Source = from kit (Temp (s.temp + takes_in ss)) (kit.number t) in
-      let q : ℕ = s.temp + takes_in ss + 1 in
-      λ k l.
+  held_plain : (h : Holder) → Plain kit kit.number (held_make types kit tables h)
+  held_plain (register r) = source_plain kit kit.number (R.Register r)
+  held_plain (variable name) = variable_plain kit kit.number name
+
+  typed_own : (qs : List Suffix) (c : Cell) (at : ℕ) (s : Stand) (t : Sized)
+      → Own (typed_code types kit tables qs c at s t) (typed_labels types kit tables qs c)
+  typed_own [] c at s t k l = omega (arith, store_bare c.holder s t k)
+  typed_own (x ∷ ss) c at s t k l =
+      let new : Source = from kit (Temp s.temp) (kit.number t) in
+      made_own kit kit.number 0 (held_make types kit tables c.holder) (held_plain c.holder) (tables.cases c.read 0) (tables.gives c.read)
+      (renewed_tail types kit tables c at new (higher s)) (λ u j m. omega (arith, renewed_bare c at new (higher s) u j)) (higher s) k l
+
+  cell_own : (c : Cell) (at : ℕ) (s : Stand) → Own (cell_code types kit tables c at s) (cell_labels types kit tables c)
+  cell_own c at s =
+      made_own kit kit.number 1 (cast_make kit kit.number) (cast_plain kit kit.number) (tables.cases c.number 1) (tables.gives c.number)
+      (typed_tail types kit tables c at s) (λ t. typed_own c.suffixes c at s t) s
+
+  several_own : (cs : List Cell) (i at : ℕ) (s : Stand) (t : Sized)
+      → Own (several_code types kit tables cs i at s t) (several_labels types kit tables cs)
+  several_own [] i at s t k l = omega arith
+  several_own (c ∷ cs) i at s t k l =
+      let n : ℕ = cell_labels types kit tables c in
+      let at2 : ℕ = at + takes_in c.suffixes in
       omega (
         arith,
-        sets_append k (by_case picked_in (kit_at kit s.depths) q 0 (part_arm types kit r ss gives s t) l cases)
-            ((unit_piece kit).ended tail s (l + many 0 cases)),
-        by_case_own picked_in (kit_at kit s.depths) q 0 (part_arm types kit r ss gives s t)
-            (λ c i m. omega (arith, stored_bare r ss gives s q new c i)) cases k l,
-        unit_owns kit tail ot s k (l + many 0 cases),
-        inside_more l (many 0 cases) tail.labels k,
+        sets_append k (cell_code types kit tables c at (higher s) l) (several_code types kit tables cs (suc i) at2 s t (l + n)),
+        cell_own c at (higher s) k l,
+        several_own cs (suc i) at2 s t k (l + n),
+        inside_more l n (several_labels types kit tables cs) k,
       )
 
-  part_owns : (r : ℕ) (ss : List Suffix) (cases : List Case) (gives : List Indices) (is : List Piece) (a : Piece) → OwnsAll kit kit.number is → Owns a
-      → Owns (part_piece types kit r ss cases gives is a)
-  part_owns r ss cases gives is a h own tail ot s k l =
+  given_own : (w : Writing) → ((at : ℕ) (s : Stand) (t : Sized) → Own (w.code at s t) w.labels) → (tail : Tail) → OwnTail tail → (s : Stand)
+      → OwnTail (given_tail kit w tail s)
+  given_own w owns tail ot s t k l =
+      let high : Stand = record s { temp = s.temp + w.takes } in
+      omega (
+        arith,
+        sets_append k (w.code s.temp high t l) ((unit_piece kit).ended tail s (l + w.labels)),
+        owns s.temp high t k l,
+        unit_owns kit tail ot s k (l + w.labels),
+        inside_more l w.labels tail.labels k,
+      )
+
+  given_owns : (w : Writing) → ((at : ℕ) (s : Stand) (t : Sized) → Own (w.code at s t) w.labels) → (is : List Piece) (a : Piece)
+      → OwnsAll kit kit.number is → Owns a → Owns (given_piece kit w is a)
+  given_owns w owns is a h own tail ot s k l =
       let m : ℕ = all_labels kit kit.number is in
-      let first : Tail = part_tail types kit r ss cases gives tail s in
-      let raised_ : Stand = raised types kit (takes_in ss) s in
+      let first : Tail = given_tail kit w tail s in
+      let high : Stand = record s { temp = s.temp + w.takes } in
       omega (
         arith,
-        sets_append k (all_code kit kit.number is s l) (a.ended first raised_ (l + m)),
+        sets_append k (all_code kit kit.number is s l) (a.ended first high (l + m)),
         all_own kit kit.number is h s k l,
-        own first (part_own r ss cases gives tail ot s) raised_ k (l + m),
-        inside_more l m (a.labels (many 0 cases + tail.labels)) k,
+        own first (given_own w owns tail ot s) high k (l + m),
+        inside_more l m (a.labels (w.labels + tail.labels)) k,
       )
 
   new_owns : (k : ℕ) (a : Piece) → Owns a → Owns (new_piece types kit number callees tables k a)
   new_owns k a own = cast_owns kit number (tables.cases k 1) (tables.gives k) a own
 
   spot_owns : (a : Aim) (ps : List Piece) → OwnsAll kit number ps → Owns (spot_piece types kit number callees tables a ps)
-  spot_owns (whole k r) [] h = nothing_owns
-  spot_owns (whole k r) (p ∷ []) h = write_owns r (new_piece types kit number callees tables k p) (new_owns k p h.0)
-  spot_owns (whole k r) (p ∷ q ∷ ps) h = nothing_owns
-  spot_owns (part k j r ss) ps h =
-      part_owns r ss (tables.cases j 0) (tables.gives j) (before ps) (new_piece types kit number callees tables k (final nothing_piece ps))
-      (before_own ps h) (new_owns k (final nothing_piece ps) (final_owns ps h))
+  spot_owns (one c) ps h =
+      given_owns (cell_writing types kit tables c) (λ at s t. cell_own c at s) (before ps) (final nothing_piece ps) (before_own ps h) (final_owns ps h)
+  spot_owns (several cs) ps h =
+      given_owns (several_writing types kit tables cs) (several_own cs 0) (before ps) (final nothing_piece ps) (before_own ps h) (final_owns ps h)
   spot_owns (called k place n j f) ps h =
       let last : Piece = final nothing_piece ps in
       call_owns kit number callees place (tables.cases j (length ps)) (tables.leads j) (tables.gives j)
@@ -470,7 +496,7 @@ module _ (types : Types) (kit : Kit) (number : Sized → ℕ) (callees : Callees
   block_mine k (S.Evaluate ∷ ss) (y ∷ ys) =
       seq_owns (code y.0) (block_piece types kit number callees tables k ss (pieces ys)) y.1 (block_mine k ss ys)
   block_mine k (S.Declare name written ∷ ss) (y ∷ ys) =
-      bind_owns kit name (code y.0) (block_piece types kit number callees tables k ss (pieces ys)) y.1 (block_mine k ss ys)
+      var_owns kit (tables.reads name) name (code y.0) (block_piece types kit number callees tables k ss (pieces ys)) y.1 (block_mine k ss ys)
 
   worked : (k : ℕ) (op : Operation) (order : Order) (ys : List Known)
       → Owns (work_piece kit number op order (tables.cases k (length (pieces ys))) (tables.gives k) (pieces ys))
@@ -490,11 +516,17 @@ module _ (types : Types) (kit : Kit) (number : Sized → ℕ) (callees : Callees
   row_mine true k row ys = state_owns kit number row (tables.cases k (length (pieces ys))) (tables.gives k) (pieces ys) (all_mine ys)
   row_mine false k row ys = worked k (O.Builtin row) in_order ys
 
+  variable_owns : (us : List Sized) (name : List ℕ) (k : ℕ) → Owns (variable_piece kit number us name (tables.cases k 0) (tables.gives k))
+  variable_owns [] name k = nothing_owns
+  variable_owns (t ∷ ts) name k =
+      made_owns kit number (variable_make kit number name) (variable_plain kit number name) (tables.cases k 0) (tables.gives k)
+
   kind_mine : (place : TextPlace) (k : ℕ) (kind : Kind) (ys : List Known) → Owns (kind_piece types kit number callees tables place k kind (pieces ys))
   unfolding Mine
   kind_mine place k (K.Constant literal) [] = constant_owns kit (fixed_typ types (literal_typ literal)) (constant_of literal)
   kind_mine place k (K.Local name) [] =
       made_owns kit number (local_make kit number name) (local_plain kit number name) (tables.cases k 1) (tables.gives k)
+  kind_mine place k (K.Variable name) ys = variable_owns (tables.reads name) name k
   kind_mine place k (K.TopLevel i) [] =
       let a : Source = R.Let (callees.opening i) in
       made_owns kit number (source_make kit number a) (source_plain kit number a) (tables.cases k 0) (tables.gives k)
@@ -524,7 +556,7 @@ module _ (types : Types) (kit : Kit) (number : Sized → ℕ) (callees : Callees
   kind_mine place k (K.Constraint c numbers) [] = truth_owns (callees.truth c)
   kind_mine place k (K.Assign (t ∷ [])) ys = assign_owns types kit number callees tables (target_spot t) (pieces ys) (all_mine ys)
   kind_mine place k (K.Block statements) ys = block_mine k statements ys
-  kind_mine place k (K.Var name written) (y1 ∷ y2 ∷ []) = bind_owns kit name (code y1.0) (code y2.0) y1.1 y2.1
+  kind_mine place k (K.Var name written) (y1 ∷ y2 ∷ []) = var_owns kit (tables.reads name) name (code y1.0) (code y2.0) y1.1 y2.1
   kind_mine place k (K.If shape) (y1 ∷ y2 ∷ []) = if_owns kit (code y1.0) (inside_piece kit (code y2.0)) (unit_piece kit) y1.1
       (inside_owns kit (code y2.0) y2.1) (unit_owns kit)
   kind_mine place k (K.If shape) (y1 ∷ y2 ∷ y3 ∷ []) =

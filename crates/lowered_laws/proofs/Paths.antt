@@ -138,7 +138,7 @@ field_worked struct i t (v ∷ []) w e = field_as struct i (out-Value v) w e
 field_worked struct i t [] w e = none_is w e
 field_worked struct i t (v ∷ u ∷ vs) w e = none_is w e
 
-item_worked : (t : Option ValueType) (vs : List Value) (w : Value) → item_value vs ≡ Some w → worked_out t O.Item vs ≡ Some w
+pub item_worked : (t : Option ValueType) (vs : List Value) (w : Value) → item_value vs ≡ Some w → worked_out t O.Item vs ≡ Some w
 item_worked t [] w e = none_is w e
 item_worked t (v ∷ []) w e = none_is w e
 item_worked t (v ∷ i ∷ u ∷ vs) w e = none_is w e

@@ -12,18 +12,21 @@ use Rattle.sail_core.specs.declared.targets.TargetKind.TheVariants as T
 use Rattle.sail_core.specs.declared.targets.Target.{Target, Target-F, roll-Target, fold-roll-Target, map-Target, ind-Target}
 use Rattle.sail_core.specs.Run.{Now, Run, gives, goes_on, in_turn, ◌then◌}
 use Rattle.sail_core.specs.Making.{World, made}
-use Rattle.sail_core.specs.Targets.{Spot, Spotted, Spotting, asked, assigned, call_spot, part_spot, register_spot, spotted, spotting, target_meaning}
-use Rattle.sail_core.specs.Targets.{ways_of}
+use Rattle.sail_core.specs.Targets.{Spot, Spotted, Spotting, asked, assigned, call_spot, part_spot, register_spot, spots_of, spotted, spotting, target_meaning}
+use Rattle.sail_core.specs.Targets.{tuple_spot, variable_spot, ways_of}
 use Rattle.checked_meaning.specs.Items.{Item}
 use Rattle.lowered_pieces.specs.Tables.{leads_to}
 use Rattle.lowered_pieces.specs.Forms.{Callees, Piece, call_piece, cast_piece, nothing_piece}
-use Rattle.lowered_pieces.specs.Writes.{Spot as Aim, before, called, called_spot, final, kind_spot, part, spot_piece, target_spot, whole}
+use Rattle.lowered_pieces.specs.Writes.{Cell, Spot as Aim, before, called, called_spot, cells_in}
+use Rattle.lowered_pieces.specs.Writes.{final, kind_spot, one, part_spot as part_of, register, several}
+use Rattle.lowered_pieces.specs.Writes.{several_spot, spot_piece, target_spot, variable, whole_cell, with_cell}
 use Rattle.lowered_laws.proofs.Chosen.{some_is}
 use Rattle.lowered_laws.specs.Simulation.{AtWork, kit, reading, CallsOk, Good}
 use Rattle.lowered_laws.proofs.Calls.{GoodAll, call_good}
 use Rattle.lowered_laws.proofs.Ended.{cast_good}
 use Rattle.lowered_laws.proofs.Paths.{then_then}
 use Rattle.lowered_laws.proofs.States.{same_good}
+use Rattle.lowered_laws.proofs.Storing.{spot_along}
 use Rattle.lowered_laws.proofs.Works.{goes_same, none_is}
 
 -- ---- the last of a list, and those before it
@@ -112,22 +115,32 @@ module _ (g : AtWork) where
 module _ (g : AtWork) (w : World Item) where
   -- ---- what a target is
 
-  abbrev calling_spot : TextPlace → ℕ → ℕ → Option Caller → Caller → Spotting Item (Spot Item)
+  abbrev Spots_ : Type 0
+  Spots_ = Spotting Item (Spot Item)
+
+  abbrev calling_spot : TextPlace → ℕ → ℕ → Option Caller → Caller → Spots_
   calling_spot place k n reader writer parts =
       in_turn (take n parts) then λ xs. spotted (call_spot (reading g) w place k reader writer xs) (drop n parts)
 
-  -- the ways into a register, once their indexes are there
-  abbrev pub part_spotting : ℕ → ℕ → ℕ → List Suffix → Spotting Item (Spot Item)
-  part_spotting k j r ss parts =
-      ways_of (reading g) ss parts
-      then λ ways. spotted (part_spot (reading g) k (register_spot (reading g) w j r) ways.found) ways.left
+  -- the ways into a register or a variable, once their indexes are there
+  abbrev pub along_spotting : List Suffix → Cell → Spots_
+  along_spotting ss c parts = ways_of (reading g) ss parts then λ ways. spotted (spot_along g w ss c ways.found) ways.left
 
   abbrev writer_of : ℕ → ℕ → Caller
   writer_of j f = record { number = j; callee = F.Function f }
 
-  abbrev pub Means : Aim → Spotting Item (Spot Item) → Type 0
-  Means (whole k r) s = s ≡ spotted (register_spot (reading g) w k r)
-  Means (part k j r ss) s = (parts : List (Run Item Item)) → s parts ≡ part_spotting k j r ss parts
+  abbrev pub MeansCell : Cell → Spots_ → Type 0
+  MeansCell c s = (parts : List (Run Item Item)) → s parts ≡ along_spotting c.suffixes c parts
+
+  abbrev pub MeanCells : List Cell → List Spots_ → Type 0
+  MeanCells [] [] = Unit {0}
+  MeanCells (c ∷ cs) (s ∷ fs) = MeansCell c s × MeanCells cs fs
+  MeanCells cs fs = ⊥
+
+  abbrev pub Means : Aim → Spots_ → Type 0
+  Means (one c) s = MeansCell c s
+  Means (several cs) s = (k : ℕ) × (fs : List Spots_) × MeanCells cs fs
+      × ((parts : List (Run Item Item)) → s parts ≡ (spots_of fs parts then λ all. spotted (tuple_spot (reading g) k all.found) all.left))
   Means (called k place n j f) s =
       (reader : Option Caller) × ((parts : List (Run Item Item)) → s parts ≡ calling_spot place k n reader (writer_of j f) parts)
 
@@ -137,16 +150,57 @@ module _ (g : AtWork) (w : World Item) where
   abbrev Such : Type 0
   Such = (t : Target) × Spots t
 
-  at_base : (k : ℕ) (place : TextPlace) (ss : List Suffix) (z : Such) (a : Aim) (o : Option Aim) → target_spot z.0 ≡ o
-      → kind_spot place k (T.Part ss) (o ∷ []) ≡ Some a
-      → Means a (target_meaning (reading g) w place k (T.Part ss) (spotting (reading g) w z.0 ∷ []))
-  unfolding Spots
-  at_base k place ss z a (Some (whole j r)) e h =
-      subst (λ b. Means b (target_meaning (reading g) w place k (T.Part ss) (spotting (reading g) w z.0 ∷ []))) (some_is (part k j r ss) a h)
+  -- a part of a whole
+  at_whole : (k : ℕ) (place : TextPlace) (x : Suffix) (ss : List Suffix) (c : Cell) (s : Spots_) → MeansCell c s → (a : Aim) (qs : List Suffix)
+      → c.suffixes ≡ qs → part_of k (x ∷ ss) c qs ≡ Some a → Means a (target_meaning (reading g) w place k (T.Part (x ∷ ss)) (s ∷ []))
+  at_whole k place x ss c s means a [] q h =
+      let new : Cell = record { number = k; read = c.number; holder = c.holder; suffixes = x ∷ ss } in
+      subst (λ b. Means b (target_meaning (reading g) w place k (T.Part (x ∷ ss)) (s ∷ []))) (some_is (one new) a h)
       (λ parts.
-      ap (λ (s : Spotting Item (Spot Item)). s parts then λ b. ways_of (reading g) ss b.left
-      then λ ways. spotted (part_spot (reading g) k b.found ways.found) ways.left) (z.1 (whole j r) e))
-  at_base k place ss z a o e h = none_is a h
+      ap (λ (r : Run Item (Spotted Item (Spot Item))). r then λ b. ways_of (reading g) (x ∷ ss) b.left
+      then λ ways. spotted (part_spot (reading g) k b.found ways.found) ways.left) (means parts ∙ ap (λ (zs : List Suffix). along_spotting zs c parts) q))
+  at_whole k place x ss c s means a (r ∷ rs) q h = none_is a h
+
+  at_base : (k : ℕ) (place : TextPlace) (x : Suffix) (ss : List Suffix) (z : Such) (a : Aim) (o : Option Aim) → target_spot z.0 ≡ o
+      → kind_spot place k (T.Part (x ∷ ss)) (o ∷ []) ≡ Some a
+      → Means a (target_meaning (reading g) w place k (T.Part (x ∷ ss)) (spotting (reading g) w z.0 ∷ []))
+  unfolding Spots
+  at_base k place x ss z a (Some (one c)) e h = at_whole k place x ss c (spotting (reading g) w z.0) (z.1 (one c) e) a c.suffixes refl h
+  at_base k place x ss z a o e h = none_is a h
+
+  -- the targets of a tuple
+  cells_mean : (ys : List Such) (cs : List Cell) → cells_in (map target_spot (map (λ q. q.0) ys)) ≡ Some cs
+      → MeanCells cs (map (spotting (reading g) w) (map (λ q. q.0) ys))
+  unfolding Spots
+  cells_mean [] [] h = tt
+  cells_mean [] (c ∷ cs) h = none_such (some_is [] (c ∷ cs) h)
+    where
+      none_such : {X : Type 0} → [] ≡ c ∷ cs → X
+      none_such e = cc
+  cells_mean (y ∷ ys) cs h = by (target_spot y.0) refl h (λ ds f. cells_mean ys ds f)
+    where
+      behind : (c : Cell) → target_spot y.0 ≡ Some (one c) → (o : Option (List Cell)) → cells_in (map target_spot (map (λ (q : Such). q.0) ys)) ≡ o
+          → with_cell c o ≡ Some cs
+          → ((ds : List Cell) → cells_in (map target_spot (map (λ (q : Such). q.0) ys)) ≡ Some ds
+          → MeanCells ds (map (spotting (reading g) w) (map (λ (q : Such). q.0) ys)))
+          → MeanCells cs (map (spotting (reading g) w) (map (λ (q : Such). q.0) (y ∷ ys)))
+      behind c e None f q more = none_is cs q
+      behind c e (Some ds) f q more =
+          subst (λ zs. MeanCells zs (map (spotting (reading g) w) (map (λ (p : Such). p.0) (y ∷ ys)))) (some_is (c ∷ ds) cs q) (y.1 (one c) e, more ds f)
+
+      by : (o : Option Aim) → target_spot y.0 ≡ o → cells_in (o ∷ map target_spot (map (λ (q : Such). q.0) ys)) ≡ Some cs
+          → ((ds : List Cell) → cells_in (map target_spot (map (λ (q : Such). q.0) ys)) ≡ Some ds
+          → MeanCells ds (map (spotting (reading g) w) (map (λ (q : Such). q.0) ys)))
+          → MeanCells cs (map (spotting (reading g) w) (map (λ (q : Such). q.0) (y ∷ ys)))
+      by (Some (one c)) e f more = behind c e (cells_in (map target_spot (map (λ (q : Such). q.0) ys))) refl f more
+      by o e f more = none_is cs f
+
+  at_tuple : (k : ℕ) (place : TextPlace) (ys : List Such) (a : Aim) (o : Option (List Cell)) → cells_in (map target_spot (map (λ q. q.0) ys)) ≡ o
+      → several_spot o ≡ Some a → Means a (target_meaning (reading g) w place k T.Tuple (map (spotting (reading g) w) (map (λ q. q.0) ys)))
+  at_tuple k place ys a None e h = none_is a h
+  at_tuple k place ys a (Some cs) e h =
+      subst (λ b. Means b (target_meaning (reading g) w place k T.Tuple (map (spotting (reading g) w) (map (λ (q : Such). q.0) ys))))
+      (some_is (several cs) a h) (k, map (spotting (reading g) w) (map (λ (q : Such). q.0) ys), cells_mean ys cs e, λ parts. refl)
 
   rolled : (y : Target-F Such) → Spots (roll-Target (map-Target Such Target (λ q. q.0) y))
   unfolding Spots
@@ -168,21 +222,25 @@ module _ (g : AtWork) (w : World Item) where
       by : (kind : TargetKind) (ys : List Such) → kind_spot y.place y.number kind (map target_spot (map (λ q. q.0) ys)) ≡ Some a
           → Means a (target_meaning (reading g) w y.place y.number kind (map (spotting (reading g) w) (map (λ q. q.0) ys)))
       by (T.Register r) [] h =
-          subst (λ b. Means b (spotted (register_spot (reading g) w y.number r))) (some_is (whole y.number r) a h) refl
+          subst (λ b. Means b (spotted (register_spot (reading g) w y.number r))) (some_is (one (whole_cell y.number (register r))) a h) (λ parts. refl)
       by (T.Register r) (z ∷ zs) h = none_is a h
+      by (T.Variable name) [] h =
+          subst (λ b. Means b (spotted (variable_spot (reading g) y.number name))) (some_is (one (whole_cell y.number (variable name))) a h) (λ parts. refl)
+      by (T.Variable name) (z ∷ zs) h = none_is a h
       by (T.Call n reader writer) [] h = at_callee n reader writer writer.callee refl h
       by (T.Call n reader writer) (z ∷ zs) h = none_is a h
-      by (T.Part ss) [] h = none_is a h
-      by (T.Part ss) (z ∷ []) h = at_base y.number y.place ss z a (target_spot z.0) refl h
-      by (T.Part ss) (z ∷ x ∷ zs) h = two_bases (target_spot z.0) h
+      by T.Tuple zs h = at_tuple y.number y.place zs a (cells_in (map target_spot (map (λ (q : Such). q.0) zs))) refl h
+      by (T.Part []) zs h = none_is a h
+      by (T.Part (s ∷ ss)) [] h = none_is a h
+      by (T.Part (s ∷ ss)) (z ∷ []) h = at_base y.number y.place s ss z a (target_spot z.0) refl h
+      by (T.Part (s ∷ ss)) (z ∷ x ∷ zs) h = two_bases (target_spot z.0) h
         where
           two_bases : {X : Type 0} (o : Option Aim)
-              → kind_spot y.place y.number (T.Part ss) (o ∷ target_spot x.0 ∷ map target_spot (map (λ (q : Such). q.0) zs)) ≡ Some a → X
+              → kind_spot y.place y.number (T.Part (s ∷ ss)) (o ∷ target_spot x.0 ∷ map target_spot (map (λ (q : Such). q.0) zs)) ≡ Some a → X
           two_bases None h = none_is a h
-          two_bases (Some (whole j r)) h = none_is a h
-          two_bases (Some (part k j r rs)) h = none_is a h
+          two_bases (Some (one c)) h = none_is a h
+          two_bases (Some (several cs)) h = none_is a h
           two_bases (Some (called k place n j f)) h = none_is a h
-      by kind ys h = none_is a h
 
   all_spots : (t : Target) → Spots t
   all_spots = ind-Target Spots (λ t y same. subst (λ d. Spots (roll-Target d)) same (rolled y))

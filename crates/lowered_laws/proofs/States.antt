@@ -1,6 +1,6 @@
 -- What slots hold of a moment of a run, and what a piece of code leaves of them.
 use Rattle.std.proofs.Common.{◌≡◌, ◌∙◌, ℕ, ◌+◌, ◌<◌, ◌≤◌, true, false, List, [], ◌∷◌, ◌++◌, length, refl, sym}
-use Rattle.std.proofs.Common.{subst, arith, Some}
+use Rattle.std.proofs.Common.{subst, arith, ap, Some}
 use Rattle.std.specs.Prelude.{suc, nat_lt, drop}
 use Rattle.std.proofs.lemmas.Bool.Decides.{nat_tests}
 use Rattle.sail_types.specs.declared.values.Value.{Value}
@@ -20,9 +20,12 @@ use Rattle.sized_meanings.specs.Present.{present}
 use Rattle.jib.specs.declared.code.Instruction.{Instruction}
 use Rattle.lowered_pieces.specs.Forms.{Named, Depths, kit_at, Stand, Tail, Piece, no_tail, code_of}
 use Rattle.lowered_laws.specs.Simulation.{bare, Followed, AtWork, kit, own_code, RunsOn, lower, Low, Writable, Holds, Passed, Same, After, Done, Catches, Sits}
-use Rattle.lowered_laws.specs.Simulation.{Fails, LabelsStand}
+use Rattle.lowered_laws.specs.Simulation.{Fails, LabelsStand, ReadAs, Varied, Varies, handy}
 use Rattle.lowered_laws.specs.Simulation.{Good}
-use Rattle.lowered_laws.proofs.Follows.{onward}
+use Rattle.lowered_laws.proofs.Follows.{no, onward}
+use Rattle.lowered_pieces.specs.Nodes.{is_empty}
+use Rattle.lowered_pieces.specs.Writes.{is_read}
+use Rattle.size_values.specs.declared.sized.Sized.{Sized}
 
 abbrev pub Is : AtWork → Place → ℕ → Type 0
 Is g p t = g.name p t < length (slots_of g.m g.here.function)
@@ -41,7 +44,7 @@ lower_raised n d Raised h = cc
 lower_raised n d (Given i) h = refl
 lower_raised n d (Number x e) h = refl
 
-lower_local : (n d : ℕ) (q : Place) → lower n d q ≡ true → same_place (Local d) q ≡ false
+pub lower_local : (n d : ℕ) (q : Place) → lower n d q ≡ true → same_place (Local d) q ≡ false
 lower_local n d (Local i) h = grind (arith, nat_tests)
 lower_local n d (Temp i) h = refl
 lower_local n d Raised h = refl
@@ -59,6 +62,10 @@ low_more : (n : ℕ) (ys : List Named) → Low n ys → Low (n + 1) ys
 low_more n [] h = tt
 low_more n (y ∷ ys) h =
     (lower_more n (n + 1) (length (y ∷ ys)) (length (y ∷ ys)) y.place (omega arith) (omega arith) h.0, low_more n ys h.1)
+
+abbrev local_number : Place → ℕ
+local_number (Local i) = i
+local_number p = 0
 
 own_place : (d : ℕ) → nat_lt d (suc d) ≡ true
 own_place d = grind (arith, nat_tests)
@@ -96,7 +103,14 @@ module _ (g : AtWork) where
       p q arm noted s k us l pc pe sl there told end at_ (λ l' pc' sl' td hp out. run l' pc' sl' (record { others = td.others }) hp out)
 
   pub same_higher : (d : Depths) (scope : List Named) (n : ℕ) (sl : Slots) (now : Now Item) → Same g d scope n sl now → Same g d scope (n + 1) sl now
-  same_higher d scope n sl now s = record { locals = s.locals; noted = s.noted; low = low_more n scope s.low; shallow = s.shallow; passed = s.passed }
+  same_higher d scope n sl now s = record {
+    locals = s.locals;
+    noted = s.noted;
+    low = low_more n scope s.low;
+    shallow = s.shallow;
+    passed = s.passed;
+    varied = s.varied;
+  }
 
   pub holds_by : (n d : ℕ) (sl sl' : Slots) (ys : List Named) (ls : List (Bound Item)) → length ys ≤ d
       → ((q : Place) (t : ℕ) → lower n d q ≡ true → sl' (g.name q t) ≡ sl (g.name q t)) → Low n ys → Holds g sl ys ls → Holds g sl' ys ls
@@ -109,6 +123,26 @@ module _ (g : AtWork) where
   holds_by n d sl sl' [] (l ∷ ls) le h w v = absurd v
   holds_by n d sl sl' (y ∷ ys) [] le h w v = absurd v
 
+  read_by : (sl sl' : Slots) (p : Place) (v : Value) (ts : List Sized) → ((t : ℕ) → sl' (g.name p t) ≡ sl (g.name p t)) → ReadAs g sl p v ts
+      → ReadAs g sl' p v ts
+  read_by sl sl' p v [] still r = tt
+  read_by sl sl' p v (t ∷ ts) still r = (λ had. still (g.number t) ∙ r.0 had, read_by sl sl' p v ts still r.1)
+
+  pub varied_by : (sl sl' : Slots) (y : Named) (d : ℕ) (v : Value) → ((t : ℕ) → sl' (g.name y.place t) ≡ sl (g.name y.place t)) → Varied g sl y d v
+      → Varied g sl' y d v
+  varied_by sl sl' y d v still w =
+      record { own = w.own; local = w.local; read = read_by sl sl' y.place v (g.tables.reads y.name) still w.read }
+
+  pub varies_by : (n d : ℕ) (sl sl' : Slots) (ys : List Named) (ls : List (Bound Item)) → length ys ≤ d
+      → ((q : Place) (t : ℕ) → lower n d q ≡ true → sl' (g.name q t) ≡ sl (g.name q t)) → Low n ys → Varies g sl ys ls → Varies g sl' ys ls
+  varies_by n d sl sl' [] ls le h w v = tt
+  varies_by n d sl sl' (y ∷ ys) [] le h w v = tt
+  varies_by n d sl sl' (y ∷ ys) (l ∷ ls) le h w v = (
+    varied_by sl sl' y (length ys) l.held.val
+        (λ t. h y.place t (lower_more n n (length (y ∷ ys)) d y.place (omega arith) le w.0)) v.0,
+    varies_by n d sl sl' ys ls (omega (arith, le)) h w.1 v.1,
+  )
+
   pub same_tested : (d : Depths) (scope : List Named) (n : ℕ) (sl sl' : Slots) (now : Now Item) → Tested (kit g) n sl sl' → Same g d scope n sl now
       → Same g d scope n sl' now
   same_tested d scope n sl sl' now td s = record {
@@ -117,6 +151,7 @@ module _ (g : AtWork) where
     low = s.low;
     shallow = s.shallow;
     passed = passed_by sl sl' (λ i t. td.others (Given i) t refl) 0 g.arguments s.passed;
+    varied = varies_by n (length scope) sl sl' scope now.locals (omega arith) (λ q t h. td.others q t (lower_free n (length scope) q h)) s.low s.varied;
   }
 
   pub after_here : (d : Depths) (scope : List Named) (n : ℕ) (sl : Slots) (now : Now Item) → Same g d scope n sl now → After g d scope n sl now sl now
@@ -135,7 +170,14 @@ module _ (g : AtWork) where
   pub after_both : (d : Depths) (scope : List Named) (n p : ℕ) (sl sl1 sl2 : Slots) (now t u : Now Item) → n ≤ p → After g d scope n sl now sl1 t
       → After g d scope p sl1 t sl2 u → After g d scope n sl now sl2 u
   after_both d scope n p sl sl1 sl2 now t u le a b = record {
-    same = record { locals = b.same.locals; noted = b.same.noted; low = a.same.low; shallow = a.same.shallow; passed = b.same.passed };
+    same = record {
+      locals = b.same.locals;
+      noted = b.same.noted;
+      low = a.same.low;
+      shallow = a.same.shallow;
+      passed = b.same.passed;
+      varied = b.same.varied;
+    };
     kept = λ i w lt. b.kept i w (omega (arith, le, lt)) ∙ a.kept i w lt;
     given = λ i w. b.given i w ∙ a.given i w;
     numbers = λ x e lt. b.numbers x e lt ∙ a.numbers x e lt;
@@ -162,6 +204,8 @@ module _ (g : AtWork) where
           noted = λ x z e. other (Number x (d.of x)) (kit g).integer refl ∙ k.same.noted x z e;
           shallow = k.same.shallow;
           passed = passed_by sl1 sl2 (λ i u. other (Given i) u refl) 0 g.arguments k.same.passed;
+          varied = varies_by n (length scope) sl1 sl2 scope t.locals (omega arith) (λ q u h. other q u (lower_raised n (length scope) q h)) k.same.low
+              k.same.varied;
         };
         kept = λ i u lt. other (Temp i) u refl ∙ k.kept i u lt;
         given = λ i u. other (Given i) u refl ∙ k.given i u;
@@ -169,31 +213,68 @@ module _ (g : AtWork) where
         fewer = k.fewer;
       }
 
-  -- a name comes into scope, in a place that no other has
-  pub after_bound : (d : Depths) (scope : List Named) (n : ℕ) (name : List ℕ) (x : Item) (sl sl1 : Slots) (now t : Now Item)
-      → Is g (Local (length scope)) (g.number x.typ) → After g d scope n sl now sl1 t
-      → Same g d (record { name = name; place = Local (length scope) } ∷ scope) n (put sl1 (g.name (Local (length scope)) (g.number x.typ)) x.val)
-      (record t { locals = local name x ∷ t.locals })
-  after_bound d scope n name x sl sl1 now t is k =
+  -- a name comes into scope, in a place that no other has: its value stands there, at its type and at those that its variables are read at
+  pub after_named : (d : Depths) (scope : List Named) (n : ℕ) (name : List ℕ) (x : Item) (sl sl1 sl2 : Slots) (now t : Now Item)
+      → After g d scope n sl now sl1 t
+      → ((q : Place) (u : ℕ) → same_place (Local (length scope)) q ≡ false → sl2 (g.name q u) ≡ sl1 (g.name q u))
+      → sl2 (g.name (Local (length scope)) (g.number x.typ)) ≡ x.val → ReadAs g sl2 (Local (length scope)) x.val (g.tables.reads name)
+      → Same g d (record { name = name; place = Local (length scope) } ∷ scope) n sl2 (record t { locals = local name x ∷ t.locals })
+  after_named d scope n name x sl sl1 sl2 now t k other stands read =
       let j : ℕ = length scope in
-      let i : ℕ = g.name (Local j) (g.number x.typ) in
-      let other : (q : Place) (u : ℕ) → same_place (Local j) q ≡ false → put sl1 i x.val (g.name q u) ≡ sl1 (g.name q u) =
-      λ q u e. put_other (kit g) (slots_of g.m g.here.function) g.names sl1 (Local j) (g.number x.typ) x.val q u is e in
       record {
         locals = (
           refl,
-          put_same sl1 i x.val,
-          holds_by n j sl1 (put sl1 i x.val) scope t.locals (omega arith) (λ q u h. other q u (lower_local n j q h)) k.same.low k.same.locals,
+          stands,
+          holds_by n j sl1 sl2 scope t.locals (omega arith) (λ q u h. other q u (lower_local n j q h)) k.same.low k.same.locals,
         );
         noted = λ y w e. other (Number y (d.of y)) (kit g).integer refl ∙ k.same.noted y w e;
         low = (own_place j, k.same.low);
         shallow = k.same.shallow;
-        passed = passed_by sl1 (put sl1 i x.val) (λ a u. other (Given a) u refl) 0 g.arguments k.same.passed;
+        passed = passed_by sl1 sl2 (λ a u. other (Given a) u refl) 0 g.arguments k.same.passed;
+        varied = (
+          record { own = λ i e. sym (ap local_number e); local = λ h. refl; read = read },
+          varies_by n j sl1 sl2 scope t.locals (omega arith) (λ q u h. other q u (lower_local n j q h)) k.same.low k.same.varied,
+        );
       }
+
+  unread : (sl : Slots) (p : Place) (v : Value) (ts : List Sized) → is_empty ts ≡ true → ReadAs g sl p v ts
+  unread sl p v [] e = tt
+  unread sl p v (t ∷ ts) e = no e
+
+  -- so a name of which no variables are read
+  pub after_bound : (d : Depths) (scope : List Named) (n : ℕ) (name : List ℕ) (x : Item) (sl sl1 : Slots) (now t : Now Item)
+      → is_empty (g.tables.reads name) ≡ true
+      → Is g (Local (length scope)) (g.number x.typ) → After g d scope n sl now sl1 t
+      → Same g d (record { name = name; place = Local (length scope) } ∷ scope) n (put sl1 (g.name (Local (length scope)) (g.number x.typ)) x.val)
+      (record t { locals = local name x ∷ t.locals })
+  after_bound d scope n name x sl sl1 now t none is k =
+      let j : ℕ = length scope in
+      let i : ℕ = g.name (Local j) (g.number x.typ) in
+      after_named d scope n name x sl sl1 (put sl1 i x.val) now t k
+      (λ q u e. put_other (kit g) (slots_of g.m g.here.function) g.names sl1 (Local j) (g.number x.typ) x.val q u is e) (put_same sl1 i x.val)
+      (unread (put sl1 i x.val) (Local j) x.val (g.tables.reads name) none)
+
+  -- a name that never is a variable's
+  pub unread_varied : (q : ℕ) (sl : Slots) (y : Named) (d : ℕ) (v : Value) → is_empty (g.tables.reads y.name) ≡ true → handy q y.place ≡ true
+      → Varied g sl y d v
+  unread_varied q sl y d v none h = record {
+    own = λ i e. no (subst (λ p. handy q p ≡ true) e h);
+    local = λ r. absurd (not_both (g.tables.reads y.name) none r);
+    read = unread sl y.place v (g.tables.reads y.name) none;
+  }
+    where
+      not_both : (ts : List Sized) → is_empty ts ≡ true → is_read ts ≡ true → ⊥
+      not_both [] e r = no r
+      not_both (t ∷ ts) e r = no e
 
   holds_drop : (sl : Slots) (y : Named) (ys : List Named) (ls : List (Bound Item)) → Holds g sl (y ∷ ys) ls → Holds g sl ys (drop 1 ls)
   holds_drop sl y ys [] h = absurd h
   holds_drop sl y ys (l ∷ ls) h = h.2
+
+  varies_drop : (sl : Slots) (y : Named) (ys : List Named) (ls : List (Bound Item)) → Varies g sl (y ∷ ys) ls → Varies g sl ys (drop 1 ls)
+  varies_drop sl y [] [] h = tt
+  varies_drop sl y (z ∷ ys) [] h = tt
+  varies_drop sl y ys (l ∷ ls) h = h.1
 
   -- and goes out of it; all else stood still between
   pub after_dropped : (d : Depths) (scope : List Named) (n : ℕ) (y : Named) (sl sl1 sl2 sl3 : Slots) (now t u v : Now Item) → After g d scope n sl now sl1 t
@@ -206,6 +287,7 @@ module _ (g : AtWork) where
       low = a.same.low;
       shallow = a.same.shallow;
       passed = b.same.passed;
+      varied = varies_drop sl3 y scope v.locals b.same.varied;
     };
     kept = λ i w lt. b.kept i w lt ∙ others (Temp i) w refl ∙ a.kept i w lt;
     given = λ i w. b.given i w ∙ others (Given i) w refl ∙ a.given i w;
@@ -223,6 +305,7 @@ module _ (g : AtWork) where
       low = k.same.low;
       shallow = k.same.shallow;
       passed = k.same.passed;
+      varied = subst (λ ls. Varies g sl1 scope ls) (sym el) k.same.varied;
     };
     kept = k.kept;
     given = k.given;

@@ -9,7 +9,7 @@ use Rattle.jib.specs.declared.code.Operation.TheVariants as O
 use Rattle.jib.specs.declared.code.Instruction.{Instruction}
 use Rattle.jib.specs.declared.code.Instruction.TheVariants as I
 use Rattle.jib.specs.declared.code.Module.{Module}
-use Rattle.jib.specs.Values.{has}
+use Rattle.jib.specs.Values.{fit, has}
 use Rattle.jib.specs.Jib.{Slots, Store, Outcome, Here, Go, Jump, Over, code_of, slots_of, or_stop, put, plain, operate, with_ran, branch, is_true}
 use Rattle.jib.specs.Jib.{read, reads, write, finish, apply, act, Runs, runs_go, runs_jump, runs_over}
 use Rattle.lowered_pieces.specs.Places.{Place, Temp, Kit, Names, HasSlots, from, to}
@@ -65,6 +65,16 @@ module _ (m : Module) (lets : List Value) (hart : ℕ) (here : Here) (r : Outcom
         ∙ ap (λ o. finish m lets hart (to kit p t) t o sl s) e
         ∙ ap (λ w. write m lets hart (to kit p t) w sl (with_ran (plain s.state v) s)) (fits_already m.types t v ht)
         ∙ ap (λ u. Go (put sl (kit.name p t) v) u) (with_plain s v)
+
+    -- and one that may not be of that type
+    pub computed_any : (p : Place) (t : ℕ) (op : Operation) (rs : List Source) (sl : Slots) (s : Store) (v : Value)
+        → kit.name p t < length (slots_of m here.function)
+        → operate (slice_get m.types t) op (reads m lets hart rs sl s) hart s.state ≡ Some (plain s.state v)
+        → act m lets hart here (I.Apply (to kit p t) op rs) sl s ≡ Go (put sl (kit.name p t) (fit m.types t v)) s
+    computed_any p t op rs sl s v lt e =
+        ap (λ u. apply m lets hart (to kit p t) u op (reads m lets hart rs sl s) sl s) (nm.typed p t lt)
+        ∙ ap (λ o. finish m lets hart (to kit p t) t o sl s) e
+        ∙ ap (λ u. Go (put sl (kit.name p t) (fit m.types t v)) u) (with_plain s v)
 
     -- a value goes to another place, at its type
     pub moved : (p : Place) (u : ℕ) (q : Place) (t : ℕ) (sl : Slots) (s : Store) (v : Value) → kit.name p u < length (slots_of m here.function)

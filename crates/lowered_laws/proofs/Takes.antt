@@ -117,7 +117,7 @@ module _ (g : AtWork) where
       subst (λ u. has_sizes g.table u s ≡ true) (some_same w v e) (and_parts (has_sizes g.table w s) (all_fit (map (has_sizes g.table) vs) s) h).0
   fits_one (w ∷ vs) s (suc m) v h e = fits_one vs s m v (and_parts (has_sizes g.table w s) (all_fit (map (has_sizes g.table) vs) s) h).1 e
 
-  vector_had : (vs : List Value) (z : Sized-F Sized) → form_fits g.table (E.Vector (map (has_sizes g.table) vs)) z ≡ true → (m : ℕ) (v : Value)
+  pub vector_had : (vs : List Value) (z : Sized-F Sized) → form_fits g.table (E.Vector (map (has_sizes g.table) vs)) z ≡ true → (m : ℕ) (v : Value)
       → slice_get vs m ≡ Some v → has_sizes g.table v (item_typ z) ≡ true
   vector_had vs (Z.Vector n s) h m v e =
       fits_one vs s m v (and_parts (int_eq (pos (length (map (has_sizes g.table) vs))) n) (all_fit (map (has_sizes g.table) vs) s) h).1 e

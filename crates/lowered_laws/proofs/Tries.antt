@@ -18,7 +18,7 @@ use Rattle.lowered_laws.proofs.Facts.{put_same, tested_less, tested_put}
 use Rattle.lowered_laws.proofs.Steps.{go, jump, jump_past, moves, past}
 use Rattle.lowered_pieces.specs.Forms.{End, Stand, Tail, Piece, all_notes, caught_at, code_of, count_of, ends_of, has_ends, inside_piece, kit_at, no_tail}
 use Rattle.lowered_pieces.specs.Forms.{source_make}
-use Rattle.lowered_pieces.specs.Arms.{Choice, Held, Matched, arms_lowered, caught_piece, choices, first_piece, in_hand, picked_of, places_of, raised_piece}
+use Rattle.lowered_pieces.specs.Arms.{Choice, Held, Matched, arms_fit, caught_piece, choices, first_piece, in_hand, picked_of, places_of, raised_piece}
 use Rattle.lowered_pieces.specs.Arms.{throw_here, thrown_code, try_piece}
 use Rattle.lowered_laws.specs.Simulation.{bare, Followed, AtWork, kit, own_code, reading, RunsOn, Writable}
 use Rattle.lowered_laws.specs.Simulation.{Holding, After, Done, Catches, Fails, LabelsStand, Good, GoodOn}
@@ -95,7 +95,7 @@ module _ (g : AtWork) where
 
   -- ---- the arms of what is caught
 
-  module _ (w : World Item) (k : ℕ) (arms : List Arm) (ms : List (Run Item Item)) (bs : List Piece) (lowered : Fit g w (arms_lowered g.size arms))
+  module _ (w : World Item) (k : ℕ) (arms : List Arm) (ms : List (Run Item Item)) (bs : List Piece) (lowered : Fit g w (arms_fit g.size g.tables.reads arms))
       (said : has_ends (ends_of (g.tables.gives k) (g.tables.cases k 0)) ≡ true) (all : GoodAll g ms bs) where
     abbrev is : List Indices
     is = g.tables.gives k

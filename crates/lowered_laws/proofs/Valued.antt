@@ -28,7 +28,7 @@ use Rattle.lowered_laws.specs.Standing.{HasAt, Tested}
 use Rattle.lowered_laws.proofs.Facts.{put_same, tested_less}
 use Rattle.lowered_laws.proofs.Pieces.{has_front, has_back}
 use Rattle.lowered_laws.proofs.Steps.{go, moves, over, past}
-use Rattle.lowered_pieces.specs.Arms.{Hand, Held, arm_hand, begun, failing, held_at, moved, steps_code, steps_hand, steps_lowered}
+use Rattle.lowered_pieces.specs.Arms.{Hand, Held, arm_hand, begun, failing, held_at, moved, steps_code, steps_hand, steps_fit}
 use Rattle.lowered_pieces.specs.Forms.{Named, Piece, Stand, Tail, no_tail, place_of, return_piece, return_tail}
 use Rattle.lowered_pieces.specs.Functions.{body_depths, body_stand, ends_code, event_code}
 use Rattle.lowered_pieces.specs.Openings.{named_piece}
@@ -92,7 +92,7 @@ module _ (g : AtWork) where
   -- ---- a name of a let: its value comes in hand, its steps look at it, and what the name holds comes to the place for it
 
   module _ (w : World Item) (place : TextPlace) (k : ℕ) (whole typ : Sized) (ss : List Step) (text : List ℕ) (v : Value)
-      (lowered : steps_lowered g.size ss ≡ true) (widths : (t : Num) (z : ℤ) → g.size t ≡ Some z → known w.numbers t ≡ Some z)
+      (lowered : steps_fit g.size g.tables.reads ss ≡ true) (widths : (t : Num) (z : ℤ) → g.size t ≡ Some z → known w.numbers t ≡ Some z)
       (is_typ : held_typ (name_hand g ss whole).names (name_hand g ss whole).named text ≡ Some typ) (given : slice_index_or g.lets k V.Unit ≡ v)
       (had : Sits g v whole) (sl : Slots) (now : Now Item)
       (at_ : HasAt (own_code g) 0 (event_code (kit g) place (named_piece g.table (kit g) [] place k whole (A.Flat 0 ss) text typ)))
@@ -209,6 +209,7 @@ module _ (g : AtWork) where
           settled = (refl, tt);
           holding = (refl, put_same sl (g.name (Temp 0) (g.number whole)) v, had, tt);
           named = tt;
+          unread = tt;
           found = tt;
           kept = tt;
           held = tt;

@@ -16,7 +16,7 @@ use Rattle.sail_core.specs.Numbers.{known}
 use Rattle.sail_core.specs.Patterns.{steps_meaning}
 use Rattle.sail_core.specs.Run.{Now, Run, held_in, needs, ◌then◌}
 use Rattle.checked_meaning.specs.Items.{Item, item}
-use Rattle.lowered_pieces.specs.Arms.{Hand, Held, arm_hand, held_at, steps_lowered}
+use Rattle.lowered_pieces.specs.Arms.{Hand, Held, arm_hand, held_at, steps_fit}
 use Rattle.lowered_pieces.specs.Forms.{Named, Piece}
 use Rattle.lowered_pieces.specs.Functions.{body_depths, event_code}
 use Rattle.lowered_pieces.specs.Openings.{named_piece}
@@ -46,7 +46,7 @@ name_hand g ss whole = arm_hand g.table (kit g) ss 1 3 (held_at 0 whole ∷ [])
 -- the code of a name of a top-level let, where the k-th opening gives the value: it stops where the pattern doesn't match
 abbrev pub NamesAnswer : Type 0
 NamesAnswer = (g : AtWork) (w : World Item) (place : TextPlace) (k : ℕ) (whole typ : Sized) (ss : List Step) (text : List ℕ) (v : Value)
-    → steps_lowered g.size ss ≡ true → ((t : Num) (z : ℤ) → g.size t ≡ Some z → known w.numbers t ≡ Some z)
+    → steps_fit g.size g.tables.reads ss ≡ true → ((t : Num) (z : ℤ) → g.size t ≡ Some z → known w.numbers t ≡ Some z)
     → held_typ (name_hand g ss whole).names (name_hand g ss whole).named text ≡ Some typ → slice_index_or g.lets k V.Unit ≡ v → Sits g v whole
     → (sl : Slots) (now : Now Item) → HasAt (own_code g) 0 (event_code (kit g) place (named_piece g.table (kit g) [] place k whole (A.Flat 0 ss) text typ))
     → Same g body_depths [] 0 sl now

@@ -34,6 +34,7 @@ use Rattle.lowered_pieces.specs.Arms.{Choice, Held, Matched, choices, is_union, 
 use Rattle.lowered_pieces.specs.Forms.{Named, Depths, kit_at, Stand, Tail, Piece, Callees}
 use Rattle.lowered_pieces.specs.Fields.{all_known, field_types_of}
 use Rattle.lowered_pieces.specs.Lowering.{kit_of}
+use Rattle.lowered_pieces.specs.Writes.{is_read}
 
 -- ---- what may follow a piece of a run, by how it ends: where it is stuck, nothing
 
@@ -173,6 +174,23 @@ module _ (g : AtWork) where
   Holds sl (y ∷ ys) (l ∷ ls) = (l.name ≡ y.name) × (sl (g.name y.place (g.number l.held.typ)) ≡ l.held.val) × Holds sl ys ls
   Holds sl ys ls = ⊥
 
+  -- a value at a place, at each of these types whose sizes it has
+  abbrev pub ReadAs : Slots → Place → Value → List Sized → Type 0
+  ReadAs sl p v [] = Unit {0}
+  ReadAs sl p v (t ∷ ts) = (Sits g v t → sl (g.name p (g.number t)) ≡ v) × ReadAs sl p v ts
+
+  -- a name that may be a variable's, with so many names behind it: its local is its own, and where its variables are read it has one and stands there at the
+  -- types that they are read at
+  pub record Varied (sl : Slots) (y : Named) (d : ℕ) (v : Value) : Type 0 where
+    pub own : (i : ℕ) → y.place ≡ Local i → i ≡ d
+    pub local : is_read (g.tables.reads y.name) ≡ true → y.place ≡ Local d
+    pub read : ReadAs sl y.place v (g.tables.reads y.name)
+
+  abbrev pub Varies : Slots → List Named → List (Bound Item) → Type 0
+  Varies sl [] ls = Unit {0}
+  Varies sl (y ∷ ys) [] = Unit {0}
+  Varies sl (y ∷ ys) (l ∷ ls) = Varied sl y (length ys) l.held.val × Varies sl ys ls
+
   -- arguments, in their slots
   abbrev pub Passed : Slots → ℕ → List Item → Type 0
   Passed sl i [] = Unit {0}
@@ -191,6 +209,7 @@ module _ (g : AtWork) where
     pub low : Low n scope
     pub shallow : (x : ℕ) → d.of x ≤ d.here
     pub passed : Passed sl 0 g.arguments
+    pub varied : Varies sl scope now.locals
 
   -- what a piece leaves: its places in hand from n on may be others, and its numbers so deep
   pub record After (d : Depths) (scope : List Named) (n : ℕ) (sl : Slots) (now : Now Item) (sl' : Slots) (t : Now Item) : Type 0 where

@@ -1,2 +1,3 @@
 pub mod Emitting
 pub mod Framing
+pub mod Pathing

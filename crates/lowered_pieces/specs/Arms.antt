@@ -37,7 +37,8 @@ use Rattle.size_values.specs.declared.constants.Picked.{Picked}
 use Rattle.sized_meanings.specs.Case.{Case}
 use Rattle.lowered_pieces.specs.Places.{Place, Raised, Given, Temp, Kit, from, to}
 use Rattle.lowered_pieces.specs.Chains.{by_case, many}
-use Rattle.lowered_pieces.specs.Forms.{Named, Stand, Coder, Tail, End, Piece, ends_of, ending, nothing_piece, seq_piece, caught_at, made_piece, source_make}
+use Rattle.lowered_pieces.specs.Nodes.{is_empty}
+use Rattle.lowered_pieces.specs.Forms.{Named, Stand, Coder, Tail, End, Piece, ends_of, ending, nothing_piece, seq_piece, said, caught_at, made_piece, source_make}
 use Rattle.lowered_pieces.specs.Forms.{inside_piece, kit_at, noter_of, all_notes}
 
 abbrev pub constant_of : CoreLiteral → Literal
@@ -393,7 +394,7 @@ module _ (types : Types) (kit : Kit) where
 
   -- the run stops where the pattern of a `let` doesn't match
   abbrev pub let_piece : List Indices → Piece → Arm → Piece → Cause → Piece
-  let_piece gives a arm b cause = on_piece a (else_piece (arm_piece gives (in_hand a.ends) arm b) (stop_here cause))
+  let_piece gives a arm b cause = on_piece a (said b.ends (else_piece (arm_piece gives (in_hand a.ends) arm b) (stop_here cause)))
 
   -- ---- what is thrown is matched where it is caught; what no arm takes is thrown on
 
@@ -430,7 +431,7 @@ module _ (types : Types) (kit : Kit) where
   abbrev pub clauses_piece : Names → List Sized → List Arm → List Piece → Piece
   clauses_piece names given arms bs = first_piece names (arguments given) arms bs fall_piece
 
--- ---- the arms that are lowered here: a mapping in a pattern isn't yet
+-- ---- the arms that are lowered here: a mapping in a pattern isn't yet, nor is a name of a variable, where variables of a name are read at these types
 
 module _ (size : Num → Option ℤ) where
   -- a width that is written has to be known
@@ -446,19 +447,33 @@ module _ (size : Num → Option ℤ) where
   head_lowered (H.Cut ws) = widths_lowered ws
   head_lowered head = true
 
+  module _ (reads : List ℕ → List Sized) where
+    abbrev pub step_fits : Step → Bool
+    step_fits (S.Opens i head k) = head_lowered head
+    step_fits (S.Names i name) = is_empty (reads name)
+    step_fits step = false
+
+    abbrev pub steps_fit : List Step → Bool
+    steps_fit [] = true
+    steps_fit (s ∷ ss) = step_fits s && steps_fit ss
+
+    abbrev pub arm_fits : Arm → Bool
+    arm_fits (A.Flat k ss) = steps_fit ss
+    arm_fits arm = false
+
+    abbrev pub arms_fit : List Arm → Bool
+    arms_fit [] = true
+    arms_fit (arm ∷ arms) = arm_fits arm && arms_fit arms
+
+  -- so where no variable is read
   abbrev pub step_lowered : Step → Bool
-  step_lowered (S.Opens i head k) = head_lowered head
-  step_lowered (S.Names i name) = true
-  step_lowered step = false
+  step_lowered s = step_fits (λ name. []) s
 
   abbrev pub steps_lowered : List Step → Bool
-  steps_lowered [] = true
-  steps_lowered (s ∷ ss) = step_lowered s && steps_lowered ss
+  steps_lowered ss = steps_fit (λ name. []) ss
 
   abbrev pub arm_lowered : Arm → Bool
-  arm_lowered (A.Flat k ss) = steps_lowered ss
-  arm_lowered arm = false
+  arm_lowered arm = arm_fits (λ name. []) arm
 
   abbrev pub arms_lowered : List Arm → Bool
-  arms_lowered [] = true
-  arms_lowered (arm ∷ arms) = arm_lowered arm && arms_lowered arms
+  arms_lowered arms = arms_fit (λ name. []) arms

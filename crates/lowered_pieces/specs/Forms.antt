@@ -31,7 +31,7 @@ use Rattle.lowered_pieces.specs.Places.{Place, Raised, Local, Number, Temp, Kit,
 use Rattle.sail_types.specs.declared.numbers.Num.{Num}
 use Rattle.sail_types.specs.declared.numbers.Con.{Con}
 use Rattle.lowered_pieces.specs.Chains.{by_case, many}
-use Rattle.lowered_pieces.specs.Moves.{move, retype, sources}
+use Rattle.lowered_pieces.specs.Moves.{move, kept_code, retype, sources}
 
 -- ---- pieces
 
@@ -104,9 +104,13 @@ caught_at h s = record s { on_throw = h }
 abbrev pub nothing_piece : Piece
 nothing_piece = ending 0 (λ s l. []) []
 
+-- a form of whose value these types are said
+abbrev pub said : List End → Piece → Piece
+said es p = record { labels = p.labels; ended = p.ended; notes = p.notes; ends = es }
+
 -- a form of whose value no type is said
 abbrev pub unsaid : Piece → Piece
-unsaid p = record { labels = p.labels; ended = p.ended; notes = p.notes; ends = [] }
+unsaid p = said [] p
 
 abbrev pub picked_in : Case → List Picked
 picked_in c = c.picked
@@ -323,6 +327,15 @@ module _ (kit : Kit) (number : Sized → ℕ) where
   abbrev pub local_make : List ℕ → Maker
   local_make name s c = move kit (Temp s.temp) (number c.gives) (place_of s.scope name) (first_type c.takes) ∷ []
 
+  -- a variable, at the type at which it is read here
+  abbrev pub variable_make : List ℕ → Maker
+  variable_make name s c = I.Copy (to kit (Temp s.temp) (number c.gives)) (from kit (place_of s.scope name) (number c.gives)) ∷ []
+
+  -- where it is read at all
+  abbrev pub variable_piece : List Sized → List ℕ → List Case → List Indices → Piece
+  variable_piece [] name cases gives = nothing_piece
+  variable_piece (t ∷ ts) name cases gives = made_piece (variable_make name) cases gives
+
   -- a register, or the value of an opening
   abbrev pub source_make : Source → Maker
   source_make a s c = I.Copy (to kit (Temp s.temp) (number c.gives)) a ∷ []
@@ -491,6 +504,21 @@ bind_piece kit name a b = record {
   ends = [];
 }
 
+-- a variable, which is read at these types
+abbrev pub var_tail : Kit → List Sized → Stand → Tail
+var_tail kit us s = record { labels = 0; code = λ t l. kept_code kit (Local (length s.scope)) s.temp us t }
+
+abbrev pub var_code : Kit → List Sized → List ℕ → Piece → Piece → Tail → Coder
+var_code kit us name a b tail s l = a.ended (var_tail kit us s) s l ++ b.ended tail (bound name s) (l + count_of a)
+
+abbrev pub var_piece : Kit → List Sized → List ℕ → Piece → Piece → Piece
+var_piece kit us name a b = record {
+  labels = λ q. count_of a + b.labels q;
+  ended = var_code kit us name a b;
+  notes = a.notes ++ b.notes;
+  ends = b.ends;
+}
+
 -- ---- one behind the other
 
 abbrev pub seq_code : Piece → Piece → Tail → Coder
@@ -501,7 +529,7 @@ seq_piece a b = record {
   labels = λ q. count_of a + b.labels q;
   ended = seq_code a b;
   notes = a.notes ++ b.notes;
-  ends = [];
+  ends = b.ends;
 }
 
 -- ---- branches, turns of loops and arms: what is noted there is gone behind them, so that the numbers of its variables stand in places of their own
@@ -593,7 +621,7 @@ when_piece kit a b = record {
   labels = λ q. 1 + count_of a + b.labels q;
   ended = when_code kit a b;
   notes = a.notes ++ b.notes;
-  ends = [];
+  ends = b.ends;
 }
 
 -- ---- `while`: the test stands behind the body, and the jump back is to a label with a tick; the measure of the turn before is in hand,

@@ -25,19 +25,20 @@ use Rattle.checked_meaning.specs.Items.{fixed_typ}
 use Rattle.jib.specs.declared.code.Operation.TheVariants as O
 use Rattle.jib.specs.declared.code.Source.TheVariants as R
 use Rattle.lowered_pieces.specs.Places.{Naming, Kit}
-use Rattle.lowered_pieces.specs.Tables.{Tables, leads_to}
-use Rattle.lowered_pieces.specs.Arms.{arm_lowered, arms_lowered, constant_of, match_piece, let_piece, clauses_piece, try_piece}
+use Rattle.lowered_pieces.specs.Tables.{Tables, cases_among, leads_to}
+use Rattle.lowered_pieces.specs.Nodes.{is_empty}
+use Rattle.lowered_pieces.specs.Arms.{arm_fits, arms_fit, constant_of, match_piece, let_piece, clauses_piece, try_piece}
 use Rattle.sail_types.specs.declared.rows.Row.{Row}
 use Rattle.sized_meanings.specs.Case.{Case}
 use Rattle.lowered_pieces.specs.Paths.{path_piece}
 use Rattle.lowered_pieces.specs.Gathered.{state_piece, all_one, is_one}
-use Rattle.lowered_pieces.specs.Writes.{target_spot, assign_piece, spot_lowered}
+use Rattle.lowered_pieces.specs.Writes.{target_spot, assign_piece, is_read, spot_lowered}
 use Rattle.lowered_pieces.specs.Counted.{foreach_piece}
 use Rattle.lowered_pieces.specs.Mapped.{applied_piece, ends_with, fixed_end, optional_piece, with_ends}
 use Rattle.sail_core.specs.Meaning.{option_typ}
 use Rattle.lowered_pieces.specs.Fields.{with_make}
 use Rattle.lowered_pieces.specs.Forms.{Callees, End, Piece, nothing_piece, constant_piece, unit_piece, made_piece, local_make, source_make, cast_piece}
-use Rattle.lowered_pieces.specs.Forms.{throw_piece, bind_piece, seq_piece, if_piece, meet_piece, inside_piece, while_piece, repeat_piece}
+use Rattle.lowered_pieces.specs.Forms.{variable_piece, var_piece, throw_piece, seq_piece, if_piece, meet_piece, inside_piece, while_piece, repeat_piece}
 use Rattle.lowered_pieces.specs.Forms.{work_piece, made_of_piece, construct_make, call_piece, in_order, in_fields, unit_source, return_piece}
 use Rattle.lowered_pieces.specs.Forms.{stop_piece, assert_piece, and_piece}
 use Rattle.lowered_pieces.specs.Forms.{or_piece, when_piece, ends_of, has_ends, unsaid}
@@ -64,12 +65,12 @@ kit_of types name number exception size = record {
 module _ (types : Types) (kit : Kit) (number : Sized → ℕ) (callees : Callees) (tables : Tables) where
   -- statements of the block of a number, each with the rest of the block behind it
   abbrev pub block_piece : ℕ → List Statement → List Piece → Piece
-  block_piece k [] [] = unit_piece kit
+  block_piece k [] [] = unsaid (unit_piece kit)
   block_piece k [] (value ∷ []) = value
   block_piece k (S.Evaluate ∷ ss) (a ∷ parts) = seq_piece a (block_piece k ss parts)
   block_piece k (S.Define place arm ∷ ss) (a ∷ parts) =
       let_piece types kit (tables.named k (length ss)) a arm (block_piece k ss parts) (MatchFailure place)
-  block_piece k (S.Declare name written ∷ ss) (a ∷ parts) = bind_piece kit name a (block_piece k ss parts)
+  block_piece k (S.Declare name written ∷ ss) (a ∷ parts) = var_piece kit (tables.reads name) name a (block_piece k ss parts)
   block_piece k ss parts = nothing_piece
 
   -- a number or a truth of the type variables
@@ -89,6 +90,7 @@ module _ (types : Types) (kit : Kit) (number : Sized → ℕ) (callees : Callees
   abbrev pub kind_piece : TextPlace → ℕ → Kind → List Piece → Piece
   kind_piece place k (K.Constant literal) [] = constant_piece kit (fixed_typ types (literal_typ literal)) (constant_of literal)
   kind_piece place k (K.Local name) [] = made_piece kit number (local_make kit number name) (tables.cases k 1) (tables.gives k)
+  kind_piece place k (K.Variable name) parts = variable_piece kit number (tables.reads name) name (tables.cases k 0) (tables.gives k)
   kind_piece place k (K.TopLevel i) [] =
       made_piece kit number (source_make kit number (R.Let (callees.opening i))) (tables.cases k 0) (tables.gives k)
   kind_piece place k (K.Register r) [] = made_piece kit number (source_make kit number (R.Register r)) (tables.cases k 0) (tables.gives k)
@@ -107,20 +109,20 @@ module _ (types : Types) (kit : Kit) (number : Sized → ℕ) (callees : Callees
       work_piece kit number (O.WithField i) in_order (tables.cases k (length parts)) (tables.gives k) parts
   kind_piece place k (K.With struct (i ∷ j ∷ is)) parts =
       made_of_piece kit number (with_make kit number types (i ∷ j ∷ is)) (tables.cases k (length parts)) (tables.gives k) parts
-  kind_piece place k (K.Part suffixes) (a ∷ indexes) = unsaid (path_piece kit number tables suffixes indexes a)
+  kind_piece place k (K.Part suffixes) (a ∷ indexes) = path_piece kit number tables suffixes indexes a
   kind_piece place k K.WithItem (a ∷ b ∷ c ∷ []) =
-      unsaid (work_piece kit number O.WithItem in_order (tables.cases k 3) (tables.gives k) (a ∷ b ∷ c ∷ []))
+      work_piece kit number O.WithItem in_order (tables.cases k 3) (tables.gives k) (a ∷ b ∷ c ∷ [])
   kind_piece place k K.WithSlice (a ∷ b ∷ c ∷ d ∷ []) =
-      unsaid (work_piece kit number O.WithSlice in_order (tables.cases k 4) (tables.gives k) (a ∷ b ∷ c ∷ d ∷ []))
+      work_piece kit number O.WithSlice in_order (tables.cases k 4) (tables.gives k) (a ∷ b ∷ c ∷ d ∷ [])
   kind_piece place k (K.Cast written) (a ∷ []) = cast_piece kit number (tables.cases k 1) (tables.gives k) a
   kind_piece place k (K.SizeOf t numbers) [] = number_piece (callees.size t)
   kind_piece place k (K.Constraint c numbers) [] = truth_piece (callees.truth c)
   kind_piece place k (K.Assign (t ∷ [])) parts = unsaid (assign_piece types kit number callees tables (target_spot t) parts)
-  kind_piece place k (K.Block statements) parts = unsaid (block_piece k statements parts)
-  kind_piece place k (K.Var name written) (a ∷ b ∷ []) = bind_piece kit name a b
+  kind_piece place k (K.Block statements) parts = block_piece k statements parts
+  kind_piece place k (K.Var name written) (a ∷ b ∷ []) = var_piece kit (tables.reads name) name a b
   kind_piece place k (K.If shape) (c ∷ a ∷ []) = if_piece kit c (inside_piece kit a) (unit_piece kit)
   kind_piece place k (K.If shape) (c ∷ a ∷ b ∷ []) =
-      unsaid (meet_piece kit number (tables.cases k 1) (tables.gives k) (if_piece kit c (inside_piece kit a) (inside_piece kit b)))
+      meet_piece kit number (tables.cases k 1) (tables.gives k) (if_piece kit c (inside_piece kit a) (inside_piece kit b))
   kind_piece place k K.While (m ∷ c ∷ b ∷ []) = while_piece kit place (inside_piece kit m) (inside_piece kit c) (inside_piece kit b)
   kind_piece place k K.Repeat (m ∷ b ∷ c ∷ []) = repeat_piece kit place (inside_piece kit m) (inside_piece kit b) (inside_piece kit c)
   kind_piece place k (K.Foreach name way) (a ∷ b ∷ c ∷ body ∷ []) = foreach_piece kit name way a b c (inside_piece kit body)
@@ -133,10 +135,10 @@ module _ (types : Types) (kit : Kit) (number : Sized → ℕ) (callees : Callees
   kind_piece place k K.When (a ∷ b ∷ []) = when_piece kit a b
   kind_piece place k (K.Let arm) (a ∷ b ∷ []) = let_piece types kit (tables.named k 0) a arm b (MatchFailure place)
   kind_piece place k (K.Match arms shape) (a ∷ bodies) =
-      unsaid (meet_piece kit number (tables.cases k 1) (tables.gives k) (match_piece types kit (tables.named k) a arms bodies (MatchFailure place)))
+      meet_piece kit number (tables.cases k 1) (tables.gives k) (match_piece types kit (tables.named k) a arms bodies (MatchFailure place))
   kind_piece place k (K.Try arms shape) (a ∷ bodies) =
-      unsaid (meet_piece kit number (tables.cases k 1) (tables.gives k)
-      (try_piece types kit (tables.cases k 0) (tables.gives k) (tables.named k) arms bodies a))
+      meet_piece kit number (tables.cases k 1) (tables.gives k)
+      (try_piece types kit (tables.cases k 0) (tables.gives k) (tables.named k) arms bodies a)
   kind_piece place k (K.Clauses arms) bodies = with_ends (clauses_piece types kit (tables.named k) callees.given arms bodies) bodies
   kind_piece place k (K.Call (F.Applies d)) (a ∷ []) = applied_piece kit place (callees.direction d) (tables.cases k 1) (tables.gives k) a
   kind_piece place k (K.Optional t) (a ∷ []) = optional_piece types kit (fixed_typ types (option_typ t)) (fixed_typ types t) a
@@ -160,13 +162,21 @@ pieces_of ns = map (λ n. n.piece) ns
 abbrev pub is_matched : Node → Bool
 is_matched n = n.ok && has_ends n.piece.ends
 
-abbrev pub block_lowered : Callees → List Statement → List Node → Bool
-block_lowered callees [] [] = true
-block_lowered callees [] (value ∷ []) = value.ok
-block_lowered callees (S.Evaluate ∷ ss) (a ∷ parts) = a.ok && block_lowered callees ss parts
-block_lowered callees (S.Define place arm ∷ ss) (a ∷ parts) = arm_lowered callees.size arm && (is_matched a && block_lowered callees ss parts)
-block_lowered callees (S.Declare name written ∷ ss) (a ∷ parts) = a.ok && block_lowered callees ss parts
-block_lowered callees ss parts = false
+abbrev pub block_lowered : Callees → Tables → List Statement → List Node → Bool
+block_lowered callees tables [] [] = true
+block_lowered callees tables [] (value ∷ []) = value.ok
+block_lowered callees tables (S.Evaluate ∷ ss) (a ∷ parts) = a.ok && block_lowered callees tables ss parts
+block_lowered callees tables (S.Define place arm ∷ ss) (a ∷ parts) =
+    arm_fits callees.size tables.reads arm && (is_matched a && block_lowered callees tables ss parts)
+block_lowered callees tables (S.Declare name written ∷ ss) (a ∷ parts) = a.ok && block_lowered callees tables ss parts
+block_lowered callees tables ss parts = false
+
+abbrev pub no_parts : List Node → Bool
+no_parts [] = true
+no_parts (n ∷ ns) = false
+
+abbrev pub variable_lowered : List Sized → List Case → List Node → Bool
+variable_lowered us cases parts = is_read us && (no_parts parts && cases_among us cases)
 
 -- a suffix takes its indexes
 abbrev pub way_lowered : Way → List Node → (List Node → Bool) → Bool
@@ -198,6 +208,7 @@ abbrev pub kind_lowered : Types → Callees → Tables → ℕ → Kind → List
 kind_lowered types callees tables k (K.Constant literal) [] =
     has_sizes types (literal_value literal) (fixed_typ types (literal_typ literal)) && tables.known (fixed_typ types (literal_typ literal))
 kind_lowered types callees tables k (K.Local name) [] = true
+kind_lowered types callees tables k (K.Variable name) parts = variable_lowered (tables.reads name) (tables.cases k 0) parts
 kind_lowered types callees tables k (K.TopLevel i) [] = true
 kind_lowered types callees tables k (K.Register r) [] = true
 kind_lowered types callees tables k (K.Call (F.Function f)) args = leads_to tables.of f (tables.leads k) && all_lowered args
@@ -216,13 +227,14 @@ kind_lowered types callees tables k (K.Cast written) (a ∷ []) = a.ok
 kind_lowered types callees tables k (K.SizeOf t numbers) [] = number_lowered types (callees.size t)
 kind_lowered types callees tables k (K.Constraint c numbers) [] = is_some (callees.truth c)
 kind_lowered types callees tables k (K.Assign (t ∷ [])) parts = spot_lowered types tables (target_spot t) (length parts) && all_lowered parts
-kind_lowered types callees tables k (K.Block statements) parts = block_lowered callees statements parts
+kind_lowered types callees tables k (K.Block statements) parts = block_lowered callees tables statements parts
 kind_lowered types callees tables k (K.Var name written) (a ∷ b ∷ []) = a.ok && b.ok
 kind_lowered types callees tables k (K.If shape) (c ∷ a ∷ []) = c.ok && a.ok
 kind_lowered types callees tables k (K.If shape) (c ∷ a ∷ b ∷ []) = c.ok && (a.ok && b.ok)
 kind_lowered types callees tables k K.While (m ∷ c ∷ b ∷ []) = m.ok && (c.ok && b.ok)
 kind_lowered types callees tables k K.Repeat (m ∷ b ∷ c ∷ []) = m.ok && (b.ok && c.ok)
-kind_lowered types callees tables k (K.Foreach name way) (a ∷ b ∷ c ∷ body ∷ []) = a.ok && (b.ok && (c.ok && body.ok))
+kind_lowered types callees tables k (K.Foreach name way) (a ∷ b ∷ c ∷ body ∷ []) =
+    is_empty (tables.reads name) && (a.ok && (b.ok && (c.ok && body.ok)))
 kind_lowered types callees tables k K.Throw (a ∷ []) = a.ok
 kind_lowered types callees tables k K.Return (a ∷ []) = a.ok
 kind_lowered types callees tables k K.Exit (a ∷ []) = a.ok
@@ -230,11 +242,11 @@ kind_lowered types callees tables k (K.Assert text) (a ∷ []) = a.ok
 kind_lowered types callees tables k K.And (a ∷ b ∷ []) = a.ok && b.ok
 kind_lowered types callees tables k K.Or (a ∷ b ∷ []) = a.ok && b.ok
 kind_lowered types callees tables k K.When (a ∷ b ∷ []) = a.ok && b.ok
-kind_lowered types callees tables k (K.Let arm) (a ∷ b ∷ []) = arm_lowered callees.size arm && (is_matched a && b.ok)
-kind_lowered types callees tables k (K.Match arms shape) (a ∷ bodies) = is_matched a && (arms_lowered callees.size arms && all_lowered bodies)
+kind_lowered types callees tables k (K.Let arm) (a ∷ b ∷ []) = arm_fits callees.size tables.reads arm && (is_matched a && b.ok)
+kind_lowered types callees tables k (K.Match arms shape) (a ∷ bodies) = is_matched a && (arms_fit callees.size tables.reads arms && all_lowered bodies)
 kind_lowered types callees tables k (K.Try arms shape) (a ∷ bodies) =
-    a.ok && (has_ends (ends_of (tables.gives k) (tables.cases k 0)) && (arms_lowered callees.size arms && all_lowered bodies))
-kind_lowered types callees tables k (K.Clauses arms) bodies = arms_lowered callees.size arms && all_lowered bodies
+    a.ok && (has_ends (ends_of (tables.gives k) (tables.cases k 0)) && (arms_fit callees.size tables.reads arms && all_lowered bodies))
+kind_lowered types callees tables k (K.Clauses arms) bodies = arms_fit callees.size tables.reads arms && all_lowered bodies
 kind_lowered types callees tables k (K.Call (F.Applies d)) (a ∷ []) = applied_lowered callees d a.piece.ends && a.ok
 kind_lowered types callees tables k kind parts = false
 

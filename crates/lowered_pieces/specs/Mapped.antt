@@ -16,7 +16,7 @@ use Rattle.lowered_pieces.specs.Chains.{many}
 use Rattle.lowered_pieces.specs.Moves.{retype}
 use Rattle.lowered_pieces.specs.Arms.{else_piece}
 use Rattle.lowered_pieces.specs.Gathered.{only_end}
-use Rattle.lowered_pieces.specs.Forms.{Coder, End, Mapped, Piece, Stand, Tail, all_notes, answer_make, code_of, count_of, ends_of, made_code, one_end}
+use Rattle.lowered_pieces.specs.Forms.{Coder, End, Mapped, Piece, Stand, Tail, all_notes, answer_make, code_of, count_of, ends_of, made_code, one_end, said}
 use Rattle.lowered_pieces.specs.Forms.{unit_source}
 
 module _ (kit : Kit) where
@@ -109,4 +109,4 @@ common_ends (p ∷ ps) = ends_if (fixed_end p.ends) ps
 
 -- clauses, whose bodies may all end with one type
 abbrev pub with_ends : Piece → List Piece → Piece
-with_ends p bodies = record { labels = p.labels; ended = p.ended; notes = p.notes; ends = common_ends bodies }
+with_ends p bodies = said (common_ends bodies) p

@@ -78,6 +78,7 @@ tables_of known instances nodes = record {
   leads = λ k. leads_at k nodes;
   gives = λ k. gives_at nodes (G.Node k);
   named = λ k n. gives_at nodes (G.Arm k n);
+  reads = λ name. [];
   known = known;
   of = λ i. function_in (slice_get instances i);
   awaits = λ i. awaited_in (slice_get instances i);

@@ -27,7 +27,7 @@ use Rattle.jib.specs.Valid.{aim, all_quiet, call_right, is_quiet, is_stateless, 
 use Rattle.jib.specs.laws.Ways.{In}
 use Rattle.lowered_types.specs.Table.{type_in}
 use Rattle.lowered_pieces.specs.Places.{Place, Temp, Naming, Kit, from, to}
-use Rattle.lowered_pieces.specs.Moves.{move, retype, sources}
+use Rattle.lowered_pieces.specs.Moves.{kept_as, move, retype, sources}
 use Rattle.lowered_pieces.specs.Forms.{Callees, Order, in_fields, in_order, numbers_of, set_fields, unit_source}
 use Rattle.lowered_pieces.specs.Lowering.{kit_of}
 use Rattle.lowered_validity.specs.Right.{Entered, Fits, Goes, Labels, Placed, Right, Signs, Used}
@@ -285,6 +285,20 @@ module _ (types : Types) (ss : List Sized) (callees : Callees) (m : Module) (f :
       by : (b : Bool) → nat_eq t u ≡ b → Right m f n out (cond b [] (I.Apply (to K (Temp q) u) O.Same (from K (Temp q) t ∷ []) ∷ []))
       by true e = tt
       by false e = alone m f n out again (one_fits (Temp q) u O.Same (Temp q) t refl (sym (ap (λ b. b || alike_here) e) ∙ h)) tt
+
+  -- a value in hand is kept at another type as well
+  pub kept_as_right : (out : Labels) (p : Place) (q t u : ℕ) → comes g t u ≡ true → Right m f n out (kept_as K p u q t)
+  kept_as_right out p q t u h = by (nat_eq t u) refl
+    where
+      again : Instruction
+      again = I.Apply (to K p u) O.Same (from K (Temp q) t ∷ [])
+
+      alike_here : Bool
+      alike_here = operation_typed (shell g) (with_slots (t ∷ [])) O.Same one_operand (Some u)
+
+      by : (b : Bool) → nat_eq t u ≡ b → Right m f n out (cond b [] (I.Apply (to K p u) O.Same (from K (Temp q) t ∷ []) ∷ []))
+      by true e = tt
+      by false e = alone m f n out again (one_fits p u O.Same (Temp q) t refl (sym (ap (λ b. b || alike_here) e) ∙ h)) tt
 
   -- ---- calls
 

@@ -24,8 +24,12 @@ use Rattle.lowered_pieces.specs.Forms.{no_tail, nothing_piece, or_piece, picked_
 use Rattle.lowered_pieces.specs.Forms.{unit_piece, when_piece}
 use Rattle.lowered_pieces.specs.Moves.{retype}
 use Rattle.lowered_pieces.specs.Lowering.{kit_of}
-use Rattle.lowered_pieces.specs.Places.{Kit, Local, Naming, Number, Raised, Temp, from, to}
+use Rattle.lowered_pieces.specs.Places.{Kit, Local, Naming, Number, Place, Raised, Temp, from, to}
 use Rattle.lowered_pieces.specs.Tables.{Tables}
+use Rattle.lowered_pieces.specs.Moves.{kept_all, kept_as, kept_code}
+use Rattle.lowered_pieces.specs.Forms.{Tail, var_piece, var_tail}
+use Rattle.lowered_validity.specs.Typing.{all_come, kept_right}
+use Rattle.lowered_validity.proofs.Fitting.{both, kept_as_right}
 use Rattle.lowered_types.specs.Table.{type_in}
 use Rattle.lowered_validity.proofs.Cases.{Arms, by_case_right}
 use Rattle.lowered_validity.proofs.Fitting.{constant_copy, copy_fits, end_fits, parts_of, retype_right, slot_copy, slot_typ, truth_fits, unit_is}
@@ -139,6 +143,59 @@ module _ (types : Types) (ss : List Sized) (callees : Callees) (m : Module) (f :
   bind_right text a b ts us ha hb out tail s l ot on ht =
       append m f n out (a.ended (bind_tail K s) s l) (b.ended tail (bound text s) (l + count_of a)) (ha out (bind_tail K s) s l ot on (bound_tail out s ts))
       (hb out tail (bound text s) (l + count_of a) ot on ht)
+
+  -- ---- variables
+
+  abbrev Reaches : Sized → List Sized → Type 0
+  Reaches t [] = Unit {0}
+  Reaches t (u ∷ us) = (comes g (number t) (number u) ≡ true) × Reaches t us
+
+  kept_parts : (us : List Sized) (t : Sized) (ts : List Sized) → kept_right types number callees tables g us (t ∷ ts) ≡ true
+      → Reaches t us × (kept_right types number callees tables g us ts ≡ true)
+  kept_parts [] t ts d = (tt, refl)
+  kept_parts (u ∷ us) t ts d =
+      let a : Bool = all_come types number callees tables g ts u in
+      let q = parts_of (comes g (number t) (number u) && a) (kept_right types number callees tables g us (t ∷ ts)) d in
+      let r = parts_of (comes g (number t) (number u)) a q.0 in
+      let w = kept_parts us t ts q.1 in
+      ((r.0, w.0), both a (kept_right types number callees tables g us ts) r.1 w.1)
+
+  kept_all_right : (out : Labels) (p : Place) (q : ℕ) (t : Sized) (us : List Sized) → Reaches t us → Ok out (kept_all K p q (number t) us)
+  kept_all_right out p q t [] h = tt
+  kept_all_right out p q t (u ∷ us) h =
+      append m f n out (kept_as K p (number u) q (number t)) (kept_all K p q (number t) us)
+      (kept_as_right types ss callees m f n name g pl out p q (number t) (number u) h.0) (kept_all_right out p q t us h.1)
+
+  kept_code_right : (out : Labels) (p : Place) (q : ℕ) (us : List Sized) (t : Sized) → Reaches t us → Ok out (kept_code K p q us t)
+  kept_code_right out p q us t h =
+      before m f n out (I.Copy (to K p (number t)) (from K (Temp q) (number t))) (kept_all K p q (number t) us)
+      (slot_copy types ss callees m f n name g pl p (number t) (Temp q)) tt (kept_all_right out p q t us h)
+
+  kept_tail : (out : Labels) (us : List Sized) (s : Stand) (ts : List Sized) → kept_right types number callees tables g us ts ≡ true
+      → RightTail m f n out (var_tail K us s) ts
+  kept_tail out us s [] d = tt
+  kept_tail out us s (t ∷ ts) d =
+      let q = kept_parts us t ts d in
+      (λ l. kept_code_right out (Local (length s.scope)) s.temp us t q.0, kept_tail out us s ts q.1)
+
+  pub var_right : (us : List Sized) (text : List ℕ) (a b : Piece) (ts vs : List Sized) → Piece_ a ts → kept_right types number callees tables g us ts ≡ true
+      → Piece_ b vs → Piece_ (var_piece K us text a b) vs
+  var_right us text a b ts vs ha d hb out tail s l ot on ht =
+      append m f n out (a.ended (var_tail K us s) s l) (b.ended tail (bound text s) (l + count_of a))
+      (ha out (var_tail K us s) s l ot on (kept_tail out us s ts d)) (hb out tail (bound text s) (l + count_of a) ot on ht)
+
+  -- of each of these types
+  abbrev pub Each : (Sized → Type 0) → List Sized → Type 0
+  Each F [] = Unit {0}
+  Each F (t ∷ ts) = F t × Each F ts
+
+  -- a value in hand goes to the place of a variable
+  pub kept_codes : (out : Labels) (p : Place) (q : ℕ) (us ts : List Sized) → kept_right types number callees tables g us ts ≡ true
+      → Each (λ t. Ok out (kept_code K p q us t)) ts
+  kept_codes out p q us [] d = tt
+  kept_codes out p q us (t ∷ ts) d =
+      let w = kept_parts us t ts d in
+      (kept_code_right out p q us t w.0, kept_codes out p q us ts w.1)
 
   pub seq_right : (a b : Piece) (ts us : List Sized) → Piece_ a ts → Piece_ b us → Piece_ (seq_piece a b) us
   seq_right a b ts us ha hb out tail s l ot on ht =

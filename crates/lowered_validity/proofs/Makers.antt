@@ -20,7 +20,7 @@ use Rattle.jib.specs.declared.code.Module.{Module}
 use Rattle.jib.specs.declared.code.Operation.{Operation}
 use Rattle.jib.specs.declared.code.Source.{Source}
 use Rattle.lowered_pieces.specs.Forms.{Callees, Maker, Order, Stand, Tail, again_make, answer_make, cast_make, construct_code, construct_make, dead, first_type}
-use Rattle.lowered_pieces.specs.Forms.{in_order, is_never, kit_at, live_code, local_make, made_arm}
+use Rattle.lowered_pieces.specs.Forms.{in_order, is_never, kit_at, live_code, local_make, made_arm, variable_make}
 use Rattle.lowered_pieces.specs.Forms.{made_code, made_piece, note_code, numbers_of, picked_in, place_of, set_fields}
 use Rattle.lowered_pieces.specs.Forms.{source_make, unit_source, work_make}
 use Rattle.lowered_pieces.specs.Lowering.{kit_of}
@@ -30,7 +30,7 @@ use Rattle.lowered_pieces.specs.Tables.{Tables}
 use Rattle.lowered_types.specs.Table.{type_in}
 use Rattle.lowered_validity.proofs.Cases.{Arms, by_case_right}
 use Rattle.lowered_validity.proofs.Fitting.{Liked, Ordered, There, copy_fits, firsts, in_order_fits, like_constant, liked_fits, liked_sources, map_set_fields}
-use Rattle.lowered_validity.proofs.Fitting.{move_right, one_fits, parts_of, retype_right, same_some, seconds, unit_is, work_fits}
+use Rattle.lowered_validity.proofs.Fitting.{move_right, one_fits, parts_of, retype_right, same_some, seconds, slot_copy, unit_is, work_fits}
 use Rattle.lowered_validity.proofs.Flow.{alone, append, before}
 use Rattle.lowered_validity.proofs.Notes.{notes_right}
 use Rattle.lowered_validity.specs.Laws.{Numbered}
@@ -86,6 +86,11 @@ module _ (types : Types) (ss : List Sized) (callees : Callees) (m : Module) (f :
   local_makes text out s c h =
       move_right types ss callees m f n name g pl out (Temp s.temp) (number c.gives) (place_of s.scope text) (first_type K number c.takes)
       (ap (λ t. comes g t (number c.gives)) (sym (first_same c.takes)) ∙ h)
+
+  pub variable_makes : (text : List ℕ) → Makes (λ c. true) (variable_make K number text)
+  variable_makes text out s c h =
+      alone m f n out (I.Copy (to K (Temp s.temp) (number c.gives)) (from K (place_of s.scope text) (number c.gives)))
+      (slot_copy types ss callees m f n name g pl (Temp s.temp) (number c.gives) (place_of s.scope text)) tt
 
   pub cast_makes : Makes (is_recast types number callees tables g) (cast_make K number)
   cast_makes out s c h =

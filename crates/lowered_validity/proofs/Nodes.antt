@@ -19,7 +19,8 @@ use Rattle.lowered_validity.specs.Typing.{all_ending, applies_right, comes, comm
 use Rattle.sail_core.specs.declared.tree.Core.{Core, Core-F, roll-Core, fold-roll-Core, map-Core, ind-Core}
 use Rattle.row_types.specs.Calls.{has_state}
 use Rattle.jib.specs.Typing.{source_typ}
-use Rattle.lowered_validity.specs.Typing.{arms_right, block_right, block_types, ends_right, kind_ends, kind_right, kind_types, number_ends, number_right}
+use Rattle.lowered_validity.specs.Typing.{arms_right, block_ends, block_right, block_types, ends_right}
+use Rattle.lowered_validity.specs.Typing.{kind_ends, kind_right, kind_types, number_ends, number_right}
 use Rattle.lowered_validity.specs.Typing.{number_types, row_ends, row_right, truth_ends, truth_right, truth_types, typing, Typing}
 use Rattle.std.proofs.Common.{Bool, List, None, Option, Some, [], ap, false, if◌then◌else◌, length, map, refl, suc, sym, true, ℕ, ℤ, ◌&&◌, ◌++◌, ◌∙◌, ◌∷◌}
 use Rattle.std.proofs.Common.{◌≡◌}
@@ -32,23 +33,28 @@ use Rattle.jib.specs.declared.code.Module.{Module}
 use Rattle.jib.specs.declared.code.Operation.{Operation}
 use Rattle.lowered_pieces.specs.Arms.{Matched, arguments, constant_of, fall_piece, in_hand, let_piece, match_piece, try_piece}
 use Rattle.lowered_pieces.specs.Forms.{Callees, End, Maker, Order, Piece, call_piece, construct_make, ends_of, if_piece, in_fields, in_order, inside_piece}
+use Rattle.lowered_pieces.specs.Forms.{variable_make, variable_piece}
 use Rattle.lowered_pieces.specs.Forms.{local_make, made_of_piece, made_piece, meet_piece, one_end, source_make, unit_piece, unit_source, work_piece}
 use Rattle.lowered_pieces.specs.Gathered.{state_piece}
 use Rattle.lowered_pieces.specs.Lowering.{Node, block_piece, kind_lowered, kind_piece, kit_of, node, number_piece, piece, pieces_of, row_piece, truth_piece}
+use Rattle.lowered_pieces.proofs.Pathing.{path_said}
+use Rattle.lowered_pieces.specs.Paths.{path_ends}
 use Rattle.lowered_pieces.specs.Places.{Kit, Naming}
 use Rattle.lowered_pieces.specs.Tables.{Tables}
 use Rattle.lowered_types.specs.Table.{type_in}
 use Rattle.lowered_validity.proofs.Arms.{RightAll, fall_right, first_right, let_right, match_right, try_right}
 use Rattle.lowered_validity.proofs.Fitting.{Ordered, both, fields_fit, in_order_fits, parts_of, reverse_fits}
-use Rattle.lowered_validity.proofs.Forms.{and_right, assert_right, bind_right, constant_right, if_right, inside_right, meet_is_right, or_right, return_right}
+use Rattle.lowered_validity.proofs.Forms.{and_right, assert_right, var_right, constant_right, if_right, inside_right, meet_is_right, or_right, return_right}
 use Rattle.lowered_validity.proofs.Forms.{seq_right, stop_right, throw_right, unit_right, when_right}
 use Rattle.lowered_validity.proofs.Loops.{foreach_right, repeat_right, while_right}
-use Rattle.lowered_validity.proofs.Makers.{Makes, construct_makes, local_makes, made_piece_right, source_makes, with_makes}
+use Rattle.lowered_validity.proofs.Makers.{Makes, construct_makes, local_makes, made_piece_right, source_makes, variable_makes, with_makes}
 use Rattle.lowered_validity.proofs.Working.{Helds, applied_right, call_is_right, cast_right, free_of, helds_of, made_of_right, optional_is_right}
 use Rattle.lowered_validity.proofs.Working.{path_is_right, state_is_right, work_right, write_is_right}
 use Rattle.lowered_validity.specs.Laws.{Numbered}
 use Rattle.lowered_validity.specs.Right.{Placed, RightPiece, Signs}
-use Rattle.lowered_validity.specs.Typing.{all_right, all_thrown, are_of, arms_types, cases_right, gives_in, is_cast, is_constructed, is_recast, is_sourced, is_work}
+use Rattle.lowered_validity.specs.Typing.{all_right, all_thrown, are_of, arms_types, cases_right}
+use Rattle.lowered_validity.specs.Typing.{gives_in, is_cast, is_constructed, is_recast, is_sourced, is_work}
+use Rattle.lowered_validity.specs.Typing.{kept_right, variable_ends, variable_right, variable_types}
 use Rattle.lowered_validity.specs.Typing.{leads_right, meet_right, numbers, operand_types, path_right, state_right, write_right}
 use Rattle.sail_core.specs.Values.{int_typ, literal_typ}
 use Rattle.sail_core.specs.declared.patterns.Arm.{Arm}
@@ -209,6 +215,13 @@ module _ (types : Types) (ss : List Sized) (callees : Callees) (m : Module) (f :
       → Good (made_piece K_ number make (tables.cases k j) (tables.gives k)) (ends_of (tables.gives k) (tables.cases k j)) (gives_in (tables.cases k j))
   made_mine k j p make makes d = (refl, made_piece_right types ss callees m f n name g pl tables all p make makes (tables.cases k j) d (tables.gives k))
 
+  variable_mine : (k : ℕ) (text : List ℕ) (us : List Sized) → variable_right types number callees tables g us (tables.cases k 0) ≡ true
+      → Good (variable_piece K_ number us text (tables.cases k 0) (tables.gives k))
+      (variable_ends types number callees tables g us (tables.gives k) (tables.cases k 0)) (variable_types types number callees tables g us (tables.cases k 0))
+  variable_mine k text [] d = no_way d
+  variable_mine k text (u ∷ us) d =
+      made_mine k 0 (λ c. true) (variable_make K_ number text) (variable_makes types ss callees m f n name g pl tables all text) d
+
   let_mine : (k i : ℕ) → cases_right types number callees tables g (is_sourced types number callees tables g (slice_get g.lets i)) (tables.cases k 0) ≡ true
       → Good (made_piece K_ number (source_make K_ number (R.Let i)) (tables.cases k 0) (tables.gives k)) (ends_of (tables.gives k) (tables.cases k 0))
       (gives_in (tables.cases k 0))
@@ -276,9 +289,33 @@ module _ (types : Types) (ss : List Sized) (callees : Callees) (m : Module) (f :
       seq_right types ss callees m f n name g pl tables all (code y.0) (block_piece types K_ number callees tables k qs (pieces ys)) (typed y.0).types
       (block_types types number callees tables g qs (typings ys)) (y.1 q.0).1 (block_mine k qs ys q.1)
   block_mine k (S.Declare text written ∷ qs) (y ∷ ys) d =
-      let q = parts_of (typed y.0).right (block_right types number callees tables g qs (typings ys)) d in
-      bind_right types ss callees m f n name g pl tables all text (code y.0) (block_piece types K_ number callees tables k qs (pieces ys)) (typed y.0).types
-      (block_types types number callees tables g qs (typings ys)) (y.1 q.0).1 (block_mine k qs ys q.1)
+      let us : List Sized = tables.reads text in
+      let rest : Bool = block_right types number callees tables g qs (typings ys) in
+      let kept : Bool = kept_right types number callees tables g us (typed y.0).types in
+      let q = parts_of (typed y.0).right (kept && rest) d in
+      let r = parts_of kept rest q.1 in
+      var_right types ss callees m f n name g pl tables all us text (code y.0) (block_piece types K_ number callees tables k qs (pieces ys)) (typed y.0).types
+      (block_types types number callees tables g qs (typings ys)) (y.1 q.0).1 r.0 (block_mine k qs ys r.1)
+
+  block_said : (k : ℕ) (qs : List Statement) (ys : List Known) → block_right types number callees tables g qs (typings ys) ≡ true
+      → (block_piece types K_ number callees tables k qs (pieces ys)).ends ≡ block_ends types number callees tables g qs (typings ys)
+  unfolding Mine
+  block_said k [] [] d = refl
+  block_said k [] (y ∷ []) d = (y.1 d).0
+  block_said k [] (y ∷ x ∷ ys) d = no_way d
+  block_said k (S.Evaluate ∷ qs) [] d = no_way d
+  block_said k (S.Declare text written ∷ qs) [] d = no_way d
+  block_said k (S.Define place arm ∷ qs) [] d = no_way d
+  block_said k (S.Define place arm ∷ qs) (y ∷ ys) d =
+      let rest : Bool = block_right types number callees tables g qs (typings ys) in
+      let e : Bool = ends_right types number callees tables g arm (typed y.0).ends in
+      block_said k qs ys (parts_of e rest (parts_of (typed y.0).right (e && rest) d).1).1
+  block_said k (S.Evaluate ∷ qs) (y ∷ ys) d =
+      block_said k qs ys (parts_of (typed y.0).right (block_right types number callees tables g qs (typings ys)) d).1
+  block_said k (S.Declare text written ∷ qs) (y ∷ ys) d =
+      let rest : Bool = block_right types number callees tables g qs (typings ys) in
+      let kept : Bool = kept_right types number callees tables g (tables.reads text) (typed y.0).types in
+      block_said k qs ys (parts_of kept rest (parts_of (typed y.0).right (kept && rest) d).1).1
 
   -- ---- forms with control
 
@@ -398,6 +435,7 @@ module _ (types : Types) (ss : List Sized) (callees : Callees) (m : Module) (f :
       (refl, constant_right types ss callees m f n name g pl tables all (fixed_typ types (literal_typ literal)) (constant_of literal) d)
   kind_mine place k (K.Local text) [] d =
       made_mine k 1 (is_cast types number callees tables g) (local_make K_ number text) (local_makes types ss callees m f n name g pl tables all text) d
+  kind_mine place k (K.Variable text) [] d = variable_mine k text (tables.reads text) d
   kind_mine place k (K.TopLevel i) [] d = let_mine k (callees.opening i) d
   kind_mine place k (K.Register r) [] d = register_mine k r d
   kind_mine place k (K.Call (F.Function x)) ys d = called place k ys d
@@ -422,7 +460,8 @@ module _ (types : Types) (ss : List Sized) (callees : Callees) (m : Module) (f :
       )
   kind_mine place k (K.Part suffixes) (y ∷ ys) d =
       let q = parts_of (typed y.0).right (path_right types number callees tables g suffixes (typings ys)) d in (
-        refl,
+        path_said K_ number tables suffixes (pieces ys) (code y.0)
+            ∙ (λ j. path_ends tables suffixes (sym (many_same ys) j) ((y.1 q.0).0 j)),
         path_is_right types ss callees m f n name g pl tables all suffixes (pieces ys) (typings ys) (code y.0) (typed y.0).types (all_mine ys) q.1 (y.1 q.0).1,
       )
   kind_mine place k K.WithItem (y1 ∷ y2 ∷ y3 ∷ []) d = (refl, (in_order_worked k O.WithItem refl (y1 ∷ y2 ∷ y3 ∷ []) d).1)
@@ -438,12 +477,15 @@ module _ (types : Types) (ss : List Sized) (callees : Callees) (m : Module) (f :
         write_is_right types ss callees m f n name g pl tables all (target_spot t) (pieces ys) (typings ys) (many_same ys) (free_from b d) (all_mine ys)
             (parts_of (not g.is_pure) b d).1,
       )
-  kind_mine place k (K.Block statements) ys d = (refl, block_mine k statements ys d)
+  kind_mine place k (K.Block statements) ys d = (block_said k statements ys d, block_mine k statements ys d)
   kind_mine place k (K.Var text written) (y1 ∷ y2 ∷ []) d =
-      let q = parts_of (typed y1.0).right (typed y2.0).right d in (
-        refl,
-        bind_right types ss callees m f n name g pl tables all text (code y1.0) (code y2.0) (typed y1.0).types (typed y2.0).types (y1.1 q.0).1
-            (y2.1 q.1).1,
+      let us : List Sized = tables.reads text in
+      let kept : Bool = kept_right types number callees tables g us (typed y1.0).types in
+      let q = parts_of (typed y1.0).right (kept && (typed y2.0).right) d in
+      let r = parts_of kept (typed y2.0).right q.1 in (
+        (y2.1 r.1).0,
+        var_right types ss callees m f n name g pl tables all us text (code y1.0) (code y2.0) (typed y1.0).types (typed y2.0).types (y1.1 q.0).1 r.0
+            (y2.1 r.1).1,
       )
   kind_mine place k (K.If shape) (y1 ∷ y2 ∷ []) d =
       let q = parts_of (typed y1.0).right (typed y2.0).right d in (
@@ -505,12 +547,12 @@ module _ (types : Types) (ss : List Sized) (callees : Callees) (m : Module) (f :
       )
   kind_mine place k K.When (y1 ∷ y2 ∷ []) d =
       let q = parts_of (typed y1.0).right (typed y2.0).right d in
-      (refl, when_right types ss callees m f n name g pl tables all (code y1.0) (code y2.0) (typed y1.0).types (typed y2.0).types (y1.1 q.0).1 (y2.1 q.1).1)
+      ((y2.1 q.1).0, when_right types ss callees m f n name g pl tables all (code y1.0) (code y2.0) (typed y1.0).types (typed y2.0).types (y1.1 q.0).1 (y2.1 q.1).1)
   kind_mine place k (K.Let arm) (y1 ∷ y2 ∷ []) d =
       let e : Bool = ends_right types number callees tables g arm (typed y1.0).ends in
       let q = parts_of (typed y1.0).right (e && (typed y2.0).right) d in
       let r = parts_of e (typed y2.0).right q.1 in
-      (refl, let_is_mine (tables.named k 0) y1 arm (code y2.0) (typed y2.0).types place q.0 r.0 (y2.1 r.1).1)
+      ((y2.1 r.1).0, let_is_mine (tables.named k 0) y1 arm (code y2.0) (typed y2.0).types place q.0 r.0 (y2.1 r.1).1)
   kind_mine place k (K.Match arms shape) (y ∷ ys) d = (refl, match_mine place k arms y ys d)
   kind_mine place k (K.Try arms shape) (y ∷ ys) d = (refl, try_mine k arms y ys d)
   kind_mine place k (K.Call (F.Applies x)) (y ∷ []) d = (

@@ -7,35 +7,42 @@ use Rattle.jib.specs.declared.code.Target.TheVariants as J
 use Rattle.jib.specs.declared.code.Operation.TheVariants as O
 use Rattle.jib.specs.declared.code.Instruction.TheVariants as I
 use Rattle.sail_base.specs.declared.place.Place.{Place as TextPlace}
-use Rattle.std.proofs.Common.{inl, inr, subst, length, not}
+use Rattle.std.proofs.Common.{inl, inr, subst, length, not, suc}
 use Rattle.model_state.specs.declared.cause.Cause.TheVariants.{MatchFailure}
 use Rattle.jib.specs.Valid.{is_stateless}
 use Rattle.jib.specs.Typing.{payload_typ}
-use Rattle.lowered_pieces.specs.Writes.{Spot, assign_piece, before as ahead, called, final, new_piece, part, part_arm, part_piece, part_tail, put_step, raised}
-use Rattle.lowered_pieces.specs.Writes.{register_tail, replaced_code, spot_piece, stored_code, taken_step, takes_in, takes_of, way_typ, whole, write_piece}
+use Rattle.lowered_pieces.specs.Writes.{Cell, Holder, Spot, Writing, assign_piece}
+use Rattle.lowered_pieces.specs.Writes.{before as ahead, called, cell_code, cell_labels, cell_writing, component_step}
+use Rattle.lowered_pieces.specs.Writes.{final, given_piece, given_tail, held_piece, new_piece, one, put_step, register, renewed_code, renewed_tail}
+use Rattle.lowered_pieces.specs.Writes.{replaced_code, several, several_code, several_writing, spot_piece, store_code, taken_step, takes_in, takes_of}
+use Rattle.lowered_pieces.specs.Writes.{typed_code, typed_tail, variable, way_typ}
 use Rattle.lowered_pieces.specs.Forms.{Mapped}
 use Rattle.lowered_pieces.specs.Mapped.{applied_piece, direction_call, none_piece, operand_moved, optional_piece, some_piece, some_tail}
 use Rattle.lowered_validity.proofs.Flow.{before}
 use Rattle.lowered_validity.specs.Typing.{Typing, applies_right, all_come, all_right, has_last, is_put, is_taken, moves_to, no_value, optional_right, replaces}
-use Rattle.lowered_validity.specs.Typing.{replaces_all, spot_right, spot_types, write_right}
-use Rattle.lowered_types.specs.Table.{is_known, type_in}
+use Rattle.lowered_validity.specs.Typing.{all_fields_right, cell_right, cells_right, fields_right}
+use Rattle.lowered_validity.specs.Typing.{holder_right, last_types, replaces_all, spot_right, spot_types}
+use Rattle.lowered_validity.specs.Typing.{typed_right, write_right}
+use Rattle.lowered_types.specs.Table.{type_in}
 use Rattle.jib.specs.Typing.{same, source_typ}
 use Rattle.lowered_pieces.specs.Gathered.{operand_at, operands_at, row_code, state_piece, only_end}
 use Rattle.lowered_validity.specs.Typing.{operand_typ, operand_types, path_types, path_right, way_right, way_types}
 use Rattle.std.proofs.Common.{Bool, List, None, Option, Some, [], ap, false, refl, sym, true, ℕ, ◌&&◌, ◌++◌, ◌+◌, ◌∙◌, ◌∷◌, ◌≡◌}
 use Rattle.std.specs.Prelude.{slice_get}
-use Rattle.checked_meaning.specs.Items.{fixed_typ}
+use Rattle.sail_core.specs.Making.{component}
+use Rattle.checked_meaning.specs.Items.{fixed_typ, part_typ}
 use Rattle.jib.specs.Operands.{makes}
 use Rattle.jib.specs.declared.code.Function.{Function}
 use Rattle.jib.specs.declared.code.Instruction.{Instruction}
 use Rattle.jib.specs.declared.code.Module.{Module}
 use Rattle.jib.specs.declared.code.Operation.{Operation}
+use Rattle.jib.specs.declared.code.Source.{Source}
 use Rattle.lowered_laws.specs.Standing.{free}
 use Rattle.lowered_pieces.specs.Arms.{arguments}
 use Rattle.lowered_pieces.specs.Chains.{by_case, many}
 use Rattle.lowered_pieces.specs.Forms.{Callees, Maker, Order, Piece, Stand, Tail, all_code, all_labels, answer_make, call_piece, cast_make, cast_piece}
 use Rattle.lowered_pieces.specs.Forms.{code_of, count_of, higher, in_order, kit_at, lead_arm, made_code, made_of_piece, note_code, nothing_piece, numbers_of}
-use Rattle.lowered_pieces.specs.Forms.{picked_by, picked_in, unit_piece, unit_source, work_make, work_piece}
+use Rattle.lowered_pieces.specs.Forms.{picked_by, place_of, source_make, unit_piece, unit_source, variable_make, work_make, work_piece}
 use Rattle.lowered_pieces.specs.Lowering.{kit_of}
 use Rattle.lowered_pieces.specs.Moves.{retype, sources}
 use Rattle.lowered_pieces.specs.Paths.{path_piece, way_piece}
@@ -43,12 +50,12 @@ use Rattle.lowered_pieces.specs.Places.{Kit, Naming, Temp, from, to}
 use Rattle.lowered_pieces.specs.Tables.{Tables}
 use Rattle.lowered_validity.proofs.Arms.{RightAll, else_right}
 use Rattle.lowered_validity.proofs.Cases.{Arms, by_case_right}
-use Rattle.lowered_validity.proofs.Fitting.{Liked, Ordered, call_fits, copy_fits, in_order_fits, like_constant, like_slot, liked_fits, nats_same, one_fits}
+use Rattle.lowered_validity.proofs.Fitting.{Liked, Ordered, call_fits, in_order_fits, like_constant, like_slot, liked_fits, nats_same, one_fits}
 use Rattle.lowered_validity.proofs.Fitting.{parts_of, payload_fits, retype_right, same_is, same_some, slot_typ, unit_is, work_fits}
 use Rattle.lowered_validity.proofs.Flow.{alone, append, more, set_first, set_next}
-use Rattle.lowered_validity.proofs.Forms.{held, unit_right}
+use Rattle.lowered_validity.proofs.Forms.{Each, held, kept_codes, unit_right}
 use Rattle.lowered_validity.proofs.Labels.{goto_fits, label_fits, stop_fits}
-use Rattle.lowered_validity.proofs.Makers.{Makes, answer_makes, cast_makes, made_right, numbers_same, work_makes}
+use Rattle.lowered_validity.proofs.Makers.{Makes, answer_makes, cast_makes, made_right, numbers_same, source_makes, variable_makes, work_makes}
 use Rattle.lowered_validity.proofs.Notes.{notes_right}
 use Rattle.lowered_validity.specs.Laws.{Numbered}
 use Rattle.lowered_validity.specs.Right.{Entered, Fits, Labels, Placed, Right, RightPiece, RightTail, Signs}
@@ -124,7 +131,8 @@ module _ (types : Types) (ss : List Sized) (callees : Callees) (m : Module) (f :
       made_of_right (is_work types number callees tables g op second) (work_make K number op first)
       (work_makes types ss callees m f n name g pl tables all op first second ordered pure) cases d gives ps h
 
-  pub cast_right : (cases : List Case) → cases_right types number callees tables g (is_recast types number callees tables g) cases ≡ true → (gives : List Indices)
+  pub cast_right : (cases : List Case) → cases_right types number callees tables g (is_recast types number callees tables g) cases ≡ true
+      → (gives : List Indices)
       → (a : Piece) (us : List Sized) → Piece_ a us → Piece_ (cast_piece K number cases gives a) (gives_in cases)
   cast_right cases d gives a us ha out tail s l ot on ht =
       append m f n out (code_of a s l) (made_code K number 1 (cast_make K number) cases gives tail s (l + count_of a))
@@ -297,23 +305,6 @@ module _ (types : Types) (ss : List Sized) (callees : Callees) (m : Module) (f :
     λ w. impossible (sym free ∙ w),
   )
 
-  register_tail_right : (out : Labels) (r : ℕ) (tail : Tail) (s : Stand) → out s.on_throw ≡ true → out s.on_no ≡ true → f.is_pure ≡ false
-      → RightTail m f n out tail (fixed_typ types Y.Unit ∷ []) → (cases : List Case)
-      → cases_right types number callees tables g (is_sourced types number callees tables g (slice_get g.registers r)) cases ≡ true
-      → RightTail m f n out (register_tail K number tables r tail s) (gives_in cases)
-  register_tail_right out r tail s ot on free ht [] d = tt
-  register_tail_right out r tail s ot on free ht (c ∷ cs) d =
-      let o : Option ℕ = slice_get g.registers r in
-      let p : Case → Bool = is_sourced types number callees tables g o in
-      let q = parts_of (picks_small c.picked) (tables.known c.gives && (p c && cases_right types number callees tables g p cs)) d in
-      let w = parts_of (tables.known c.gives) (p c && cases_right types number callees tables g p cs) q.1 in
-      let v = parts_of (p c) (cases_right types number callees tables g p cs) w.1 in (
-        λ l. before m f n out (I.Copy (J.Register r) (from K (Temp s.temp) (number c.gives))) ((unit_piece K).ended tail s l)
-            (register_fits r s.temp (number c.gives) free (same_some o (number c.gives) v.0)) tt
-            (unit_right types ss callees m f n name g pl tables all out tail s l ot on ht),
-        register_tail_right out r tail s ot on free ht cs v.1,
-      )
-
   moved_operand : (out : Labels) (q : ℕ) (o : Option Sized) (t : Sized) → moves_to types number callees tables g o t ≡ true → Ok out (operand_moved K q o t)
   moved_operand out q None t d = tt
   moved_operand out q (Some u) t d = retype_right types ss callees m f n name g pl out q (number u) (number t) d
@@ -327,15 +318,7 @@ module _ (types : Types) (ss : List Sized) (callees : Callees) (m : Module) (f :
       before m f n out i1 (tail.code option l)
       (liked_fits types ss callees m f n name g pl (Temp s.temp) (number option) (O.Construct 1) [] (z ∷ []) (λ e. refl) d) tt (ht.0 l)
 
-  whole_right : (k r : ℕ) (p : Piece) (us : List Sized) → f.is_pure ≡ false → Piece_ p us
-      → cases_right types number callees tables g (is_recast types number callees tables g) (tables.cases k 1) ≡ true
-      → cases_right types number callees tables g (is_sourced types number callees tables g (slice_get g.registers r)) (tables.cases k 1) ≡ true
-      → Piece_ (write_piece K number tables r (new_piece types K number callees tables k p)) (fixed_typ types Y.Unit ∷ [])
-  whole_right k r p us free hp d1 d2 out tail s l ot on ht =
-      cast_right (tables.cases k 1) d1 (tables.gives k) p us hp out (register_tail K number tables r tail s) s l ot on
-      (register_tail_right out r tail s ot on free ht (tables.cases k 1) d2)
-
-  -- ---- parts of registers
+  -- ---- parts of what a holder holds
 
   abbrev At : List ℕ → Type 0
   At us = Liked types ss callees m f n name g pl us
@@ -388,76 +371,179 @@ module _ (types : Types) (ss : List Sized) (callees : Callees) (m : Module) (f :
       (append m f n out c2 (i3 ∷ []) (replaced_right out (y ∷ qs) (k + takes_of x.way) (q + 1) p v u w.0)
       (alone m f n out i3 (put_fits x.way k q (q + 1) t v w.1) tt))
 
-  abbrev is_stored : ℕ → List Suffix → Sized → Case → Bool
-  is_stored r qs u c = replaces types number callees tables g qs c.gives u
+  abbrev Each_ : (Sized → Type 0) → List Sized → Type 0
+  Each_ F ts = Each types ss callees m f n name g pl tables all F ts
 
-  stored_right : (out : Labels) (r : ℕ) (qs : List Suffix) (gives : List Indices) (s : Stand) (q p : ℕ) (u : Sized) (c : Case) → f.is_pure ≡ false
-      → slice_get g.registers r ≡ Some (number c.gives) → is_known ss c.gives ≡ true → replaces types number callees tables g qs c.gives u ≡ true
-      → Ok out (stored_code types K r qs gives s q (from K (Temp p) (number u)) c)
-  stored_right out r qs gives s q p u c free e known d =
-      let t : ℕ = number c.gives in
-      let i1 : Instruction = I.Copy (to K (Temp q) t) (R.Register r) in
-      let i5 : Instruction = I.Copy (J.Register r) (from K (Temp q) t) in
-      let noted : List Instruction = note_code (kit_at K s.depths) number q gives c.gives in
-      let c3 : List Instruction = replaced_code types K qs s.temp q c.gives (from K (Temp p) (number u)) in
-      let notes : Ok out noted = notes_right types ss callees m f n name g pl tables all s.depths out q gives c.gives known in
-      let read : Fits m f n i1 = copy_fits types ss callees m f n name g pl (Temp q) t (R.Register r) (λ w. ap (λ rs. slice_get rs r) pl.registers ∙ e)
-      (λ w. impossible (sym free ∙ w)) in
-      before m f n out i1 (noted ++ (c3 ++ (noted ++ i5 ∷ []))) read tt
-      (append m f n out noted (c3 ++ (noted ++ i5 ∷ [])) notes
-      (append m f n out c3 (noted ++ i5 ∷ []) (replaced_right out qs s.temp q p c.gives u d)
-      (append m f n out noted (i5 ∷ []) notes (alone m f n out i5 (register_fits r q t free e) tt))))
+  -- a value in hand goes to its holder
+  abbrev Stored : Labels → Holder → Stand → List Sized → Type 0
+  Stored out h s ts = Each_ (λ t. Ok out (store_code types K tables h s t)) ts
 
-  part_arms : (out : Labels) (r : ℕ) (qs : List Suffix) (gives : List Indices) (s : Stand) (u : Sized) → f.is_pure ≡ false → (cases : List Case)
+  registers_stored : (out : Labels) (r : ℕ) (s : Stand) → f.is_pure ≡ false → (cases : List Case)
       → cases_right types number callees tables g (is_sourced types number callees tables g (slice_get g.registers r)) cases ≡ true
-      → cases_right types number callees tables g (is_stored r qs u) cases ≡ true
-      → Arms types ss callees m f n name g pl picked_in (part_arm types K r qs gives s u) out cases
-  part_arms out r qs gives s u free [] d1 d2 = tt
-  part_arms out r qs gives s u free (c ∷ cs) d1 d2 =
+      → Stored out (register r) s (gives_in cases)
+  registers_stored out r s free [] d = tt
+  registers_stored out r s free (c ∷ cs) d =
       let o : Option ℕ = slice_get g.registers r in
-      let p1 : Case → Bool = is_sourced types number callees tables g o in
-      let p2 : Case → Bool = is_stored r qs u in
-      let q1 = parts_of (picks_small c.picked) (tables.known c.gives && (p1 c && cases_right types number callees tables g p1 cs)) d1 in
-      let w1 = parts_of (tables.known c.gives) (p1 c && cases_right types number callees tables g p1 cs) q1.1 in
-      let v1 = parts_of (p1 c) (cases_right types number callees tables g p1 cs) w1.1 in
-      let q2 = parts_of (picks_small c.picked) (tables.known c.gives && (p2 c && cases_right types number callees tables g p2 cs)) d2 in
-      let w2 = parts_of (tables.known c.gives) (p2 c && cases_right types number callees tables g p2 cs) q2.1 in
-      let v2 = parts_of (p2 c) (cases_right types number callees tables g p2 cs) w2.1 in
-      let q : ℕ = s.temp + takes_in qs + 1 in (
-        (
-          q1.0,
-          λ l. stored_right out r qs gives s q (s.temp + takes_in qs) u c free (same_some o (number c.gives) v1.0) (all.known c.gives w1.0) v2.0,
-        ),
-        part_arms out r qs gives s u free cs v1.1 v2.1,
+      let p : Case → Bool = is_sourced types number callees tables g o in
+      let q = parts_of (picks_small c.picked) (tables.known c.gives && (p c && cases_right types number callees tables g p cs)) d in
+      let w = parts_of (tables.known c.gives) (p c && cases_right types number callees tables g p cs) q.1 in
+      let v = parts_of (p c) (cases_right types number callees tables g p cs) w.1 in (
+        alone m f n out (I.Copy (J.Register r) (from K (Temp s.temp) (number c.gives)))
+            (register_fits r s.temp (number c.gives) free (same_some o (number c.gives) v.0)) tt,
+        registers_stored out r s free cs v.1,
       )
 
-  part_tail_right : (out : Labels) (r : ℕ) (qs : List Suffix) (cases : List Case) (gives : List Indices) (tail : Tail) (s : Stand) → f.is_pure ≡ false
-      → out s.on_throw ≡ true → out s.on_no ≡ true → RightTail m f n out tail (fixed_typ types Y.Unit ∷ [])
-      → cases_right types number callees tables g (is_sourced types number callees tables g (slice_get g.registers r)) cases ≡ true
-      → (us : List Sized) → replaces_all types number callees tables g qs cases us ≡ true
-      → RightTail m f n out (part_tail types K r qs cases gives tail s) us
-  part_tail_right out r qs cases gives tail s free ot on ht d1 [] d2 = tt
-  part_tail_right out r qs cases gives tail s free ot on ht d1 (u ∷ us) d2 =
-      let w = parts_of (cases_right types number callees tables g (is_stored r qs u) cases) (replaces_all types number callees tables g qs cases us) d2 in
-      let q : ℕ = s.temp + takes_in qs + 1 in (
-        λ l. append m f n out (by_case picked_in (kit_at K s.depths) q 0 (part_arm types K r qs gives s u) l cases)
-            ((unit_piece K).ended tail s (l + many 0 cases))
-            (by_case_right types ss callees m f n name g pl picked_in s.depths q 0 (part_arm types K r qs gives s u) out cases
-            (part_arms out r qs gives s u free cases d1 w.0) l)
-            (unit_right types ss callees m f n name g pl tables all out tail s (l + many 0 cases) ot on ht),
-        part_tail_right out r qs cases gives tail s free ot on ht d1 us w.1,
+  stored : (out : Labels) (h : Holder) (s : Stand) → f.is_pure ≡ false → (cases : List Case)
+      → holder_right types number callees tables g h cases ≡ true → Stored out h s (gives_in cases)
+  stored out (register r) s free cases d = registers_stored out r s free cases d
+  stored out (variable text) s free cases d =
+      kept_codes types ss callees m f n name g pl tables all out (place_of s.scope text) s.temp (tables.reads text) (gives_in cases) d
+
+  -- the whole, with a new part of this type, goes to its holder
+  abbrev is_replaced : List Suffix → Sized → Case → Bool
+  is_replaced qs u c = replaces types number callees tables g qs c.gives u
+
+  renewed_right : (out : Labels) (c : Cell) (qs : List Suffix) → c.suffixes ≡ qs → (at p : ℕ) (s : Stand) (u : Sized) (cases : List Case)
+      → cases_right types number callees tables g (λ k. true) cases ≡ true → cases_right types number callees tables g (is_replaced qs u) cases ≡ true
+      → Stored out c.holder s (gives_in cases)
+      → RightTail m f n out (renewed_tail types K tables c at (from K (Temp p) (number u)) s) (gives_in cases)
+  renewed_right out c qs same at p s u [] d1 d2 h = tt
+  renewed_right out c qs same at p s u (k ∷ cs) d1 d2 h =
+      let one_ : Case → Bool = λ k. true in
+      let p2 : Case → Bool = is_replaced qs u in
+      let q1 = parts_of (picks_small k.picked) (tables.known k.gives && (true && cases_right types number callees tables g one_ cs)) d1 in
+      let w1 = parts_of (tables.known k.gives) (true && cases_right types number callees tables g one_ cs) q1.1 in
+      let v1 = parts_of true (cases_right types number callees tables g one_ cs) w1.1 in
+      let q2 = parts_of (picks_small k.picked) (tables.known k.gives && (p2 k && cases_right types number callees tables g p2 cs)) d2 in
+      let w2 = parts_of (tables.known k.gives) (p2 k && cases_right types number callees tables g p2 cs) q2.1 in
+      let v2 = parts_of (p2 k) (cases_right types number callees tables g p2 cs) w2.1 in
+      let c1 : List Instruction = replaced_code types K qs at s.temp k.gives (from K (Temp p) (number u)) in
+      let c2 : List Instruction = note_code (kit_at K s.depths) number s.temp (tables.gives c.read) k.gives in
+      let c3 : List Instruction = store_code types K tables c.holder s k.gives in
+      let code_is : renewed_code types K tables c at (from K (Temp p) (number u)) s k.gives ≡ c1 ++ (c2 ++ c3) =
+      ap (λ (zs : List Suffix). replaced_code types K zs at s.temp k.gives (from K (Temp p) (number u)) ++ (c2 ++ c3)) same in (
+        λ l. subst (λ z. Ok out z) (sym code_is)
+            (append m f n out c1 (c2 ++ c3) (replaced_right out qs at s.temp p k.gives u v2.0)
+            (append m f n out c2 c3
+            (notes_right types ss callees m f n name g pl tables all s.depths out s.temp (tables.gives c.read) k.gives (all.known k.gives w1.0)) h.0)),
+        renewed_right out c qs same at p s u cs v1.1 v2.1 h.1,
       )
 
-  part_right : (r : ℕ) (qs : List Suffix) (cases : List Case) (gives : List Indices) (is : List Piece) (a : Piece) (us : List Sized) → f.is_pure ≡ false
-      → Helds is → Piece_ a us
-      → cases_right types number callees tables g (is_sourced types number callees tables g (slice_get g.registers r)) cases ≡ true
-      → replaces_all types number callees tables g qs cases us ≡ true → Piece_ (part_piece types K r qs cases gives is a) (fixed_typ types Y.Unit ∷ [])
-  part_right r qs cases gives is a us free hi ha d1 d2 out tail s l ot on ht =
+  -- what a holder holds is read
+  held_is_right : (h : Holder) (j : ℕ) → f.is_pure ≡ false → cases_right types number callees tables g (λ k. true) (tables.cases j 0) ≡ true
+      → holder_right types number callees tables g h (tables.cases j 0) ≡ true → (out : Labels) (tail : Tail) (s : Stand) (l : ℕ)
+      → RightTail m f n out tail (gives_in (tables.cases j 0)) → Ok out ((held_piece types K tables h j).ended tail s l)
+  held_is_right (register r) j free d1 d2 out tail s l ht =
+      let o : Option ℕ = slice_get g.registers r in
+      made_right types ss callees m f n name g pl tables all 0 (is_sourced types number callees tables g o) (source_make K number (R.Register r))
+      (source_makes types ss callees m f n name g pl tables all (R.Register r) o (λ t e w. ap (λ rs. slice_get rs r) pl.registers ∙ e)
+      (λ w. impossible (sym free ∙ w))) (tables.cases j 0) d2 (tables.gives j) out tail s l ht
+  held_is_right (variable text) j free d1 d2 out tail s l ht =
+      made_right types ss callees m f n name g pl tables all 0 (λ k. true) (variable_make K number text)
+      (variable_makes types ss callees m f n name g pl tables all text) (tables.cases j 0) d1 (tables.gives j) out tail s l ht
+
+  parts_right : (c : Cell) (x : Suffix) (qs : List Suffix) → c.suffixes ≡ x ∷ qs → f.is_pure ≡ false
+      → cases_right types number callees tables g (λ k. true) (tables.cases c.read 0) ≡ true
+      → holder_right types number callees tables g c.holder (tables.cases c.read 0) ≡ true → (out : Labels) (at : ℕ) (s : Stand) (us : List Sized)
+      → replaces_all types number callees tables g (x ∷ qs) (tables.cases c.read 0) us ≡ true
+      → Each_ (λ u. (l : ℕ) → Ok out (typed_code types K tables (x ∷ qs) c at s u l)) us
+  parts_right c x qs same free d1 d2 out at s [] d3 = tt
+  parts_right c x qs same free d1 d2 out at s (u ∷ us) d3 =
+      let cases : List Case = tables.cases c.read 0 in
+      let w =
+      parts_of (cases_right types number callees tables g (is_replaced (x ∷ qs) u) cases) (replaces_all types number callees tables g (x ∷ qs) cases us) d3 in
+      let new : Source = from K (Temp s.temp) (number u) in (
+        λ l. held_is_right c.holder c.read free d1 d2 out (renewed_tail types K tables c at new (higher s)) (higher s) l
+            (renewed_right out c (x ∷ qs) same at s.temp (higher s) u cases d1 w.0 (stored out c.holder (higher s) free cases d2)),
+        parts_right c x qs same free d1 d2 out at s us w.1,
+      )
+
+  -- a new value of its type
+  each_tail : (out : Labels) (tail : Tail) (us : List Sized) → Each_ (λ u. (l : ℕ) → Ok out (tail.code u l)) us → RightTail m f n out tail us
+  each_tail out tail [] h = tt
+  each_tail out tail (u ∷ us) h = (h.0, each_tail out tail us h.1)
+
+  always : (F : Sized → Type 0) (us : List Sized) → Each_ F us → Each_ (λ u. (l : ℕ) → F u) us
+  always F [] h = tt
+  always F (u ∷ us) h = ((λ l. h.0), always F us h.1)
+
+  typed_is_right : (qs : List Suffix) (c : Cell) → c.suffixes ≡ qs → f.is_pure ≡ false → typed_right types number callees tables g qs c ≡ true
+      → (out : Labels) (at : ℕ) (s : Stand)
+      → Each_ (λ u. (l : ℕ) → Ok out (typed_code types K tables qs c at s u l)) (gives_in (tables.cases c.number 1))
+  typed_is_right [] c same free d out at s =
+      always (λ u. Ok out (store_code types K tables c.holder s u)) (gives_in (tables.cases c.number 1))
+      (stored out c.holder s free (tables.cases c.number 1) d)
+  typed_is_right (x ∷ qs) c same free d out at s =
+      let cases : List Case = tables.cases c.read 0 in
+      let d1 : Bool = cases_right types number callees tables g (λ k. true) cases in
+      let d2 : Bool = holder_right types number callees tables g c.holder cases in
+      let d3 : Bool = replaces_all types number callees tables g (x ∷ qs) cases (gives_in (tables.cases c.number 1)) in
+      let q = parts_of d1 (d2 && d3) d in
+      let w = parts_of d2 d3 q.1 in
+      parts_right c x qs same free q.0 w.0 out at s (gives_in (tables.cases c.number 1)) w.1
+
+  cell_is_right : (c : Cell) → f.is_pure ≡ false → cell_right types number callees tables g c ≡ true → (out : Labels) (at : ℕ) (s : Stand) (l : ℕ)
+      → Ok out (cell_code types K tables c at s l)
+  cell_is_right c free d out at s l =
+      let cases : List Case = tables.cases c.number 1 in
+      let d1 : Bool = cases_right types number callees tables g (is_recast types number callees tables g) cases in
+      let w = parts_of d1 (typed_right types number callees tables g c.suffixes c) d in
+      made_right types ss callees m f n name g pl tables all 1 (is_recast types number callees tables g) (cast_make K number)
+      (cast_makes types ss callees m f n name g pl tables all) cases w.0 (tables.gives c.number) out (typed_tail types K tables c at s) s l
+      (each_tail out (typed_tail types K tables c at s) (gives_in cases) (typed_is_right c.suffixes c refl free w.1 out at s))
+
+  several_is_right : (cs : List Cell) (i at : ℕ) (s : Stand) (t : Sized) (l : ℕ) → f.is_pure ≡ false
+      → cells_right types number callees tables g cs ≡ true → fields_right types number callees tables g t i (length cs) ≡ true → (out : Labels)
+      → Ok out (several_code types K tables cs i at s t l)
+  several_is_right [] i at s t l free d e out = tt
+  several_is_right (c ∷ cs) i at s t l free d e out =
+      let ty : Sized = part_typ types (component i) t in
+      let q = parts_of (cell_right types number callees tables g c) (cells_right types number callees tables g cs) d in
+      let w =
+      parts_of (works types number callees tables g (O.Field i) one_operand (t ∷ []) ty)
+      (fields_right types number callees tables g t (suc i) (length cs)) e in
+      let l2 : ℕ = l + cell_labels types K tables c in
+      let at2 : ℕ = at + takes_in c.suffixes in
+      let c1 : List Instruction = cell_code types K tables c at (higher s) l in
+      let c2 : List Instruction = several_code types K tables cs (suc i) at2 s t l2 in
+      before m f n out (component_step types K tables i s t) (c1 ++ c2)
+      (one_fits types ss callees m f n name g pl (Temp (s.temp + 1)) (number ty) (O.Field i) (Temp s.temp) (number t) refl w.0) tt
+      (append m f n out c1 c2 (cell_is_right c free q.0 out at (higher s) l) (several_is_right cs (suc i) at2 s t l2 free q.1 w.1 out))
+
+  -- a write is right, whatever of these types the new value has
+  abbrev Writes : Writing → List Sized → Type 0
+  Writes w us = (out : Labels) (at : ℕ) (s : Stand) → Each_ (λ u. (l : ℕ) → Ok out (w.code at s u l)) us
+
+  cell_writes : (c : Cell) → f.is_pure ≡ false → cell_right types number callees tables g c ≡ true → (us : List Sized)
+      → Writes (cell_writing types K tables c) us
+  cell_writes c free d [] out at s = tt
+  cell_writes c free d (u ∷ us) out at s = ((λ l. cell_is_right c free d out at s l), cell_writes c free d us out at s)
+
+  several_writes : (cs : List Cell) → f.is_pure ≡ false → cells_right types number callees tables g cs ≡ true → (us : List Sized)
+      → all_fields_right types number callees tables g us (length cs) ≡ true → Writes (several_writing types K tables cs) us
+  several_writes cs free d [] e out at s = tt
+  several_writes cs free d (u ∷ us) e out at s =
+      let w =
+      parts_of (fields_right types number callees tables g u 0 (length cs)) (all_fields_right types number callees tables g us (length cs)) e in
+      ((λ l. several_is_right cs 0 at s u l free d w.0 out), several_writes cs free d us w.1 out at s)
+
+  given_tail_right : (out : Labels) (w : Writing) (tail : Tail) (s : Stand) → out s.on_throw ≡ true → out s.on_no ≡ true
+      → RightTail m f n out tail (fixed_typ types Y.Unit ∷ []) → (us : List Sized)
+      → Each_ (λ u. (l : ℕ) → Ok out (w.code s.temp (record s { temp = s.temp + w.takes }) u l)) us → RightTail m f n out (given_tail K w tail s) us
+  given_tail_right out w tail s ot on ht [] h = tt
+  given_tail_right out w tail s ot on ht (u ∷ us) h = (
+    λ l. append m f n out (w.code s.temp (record s { temp = s.temp + w.takes }) u l) ((unit_piece K).ended tail s (l + w.labels)) (h.0 l)
+        (unit_right types ss callees m f n name g pl tables all out tail s (l + w.labels) ot on ht),
+    given_tail_right out w tail s ot on ht us h.1,
+  )
+
+  given_right : (w : Writing) (is : List Piece) (a : Piece) (us : List Sized) → Helds is → Piece_ a us → Writes w us
+      → Piece_ (given_piece K w is a) (fixed_typ types Y.Unit ∷ [])
+  given_right w is a us hi ha hw out tail s l ot on ht =
       let l2 : ℕ = l + all_labels K number is in
-      let inner_ : Stand = raised types K (takes_in qs) s in
-      let t : Tail = part_tail types K r qs cases gives tail s in
-      append m f n out (all_code K number is s l) (a.ended t inner_ l2) (all_code_right out is hi s l ot on)
-      (ha out t inner_ l2 ot on (part_tail_right out r qs cases gives tail s free ot on ht d1 us d2))
+      let high : Stand = record s { temp = s.temp + w.takes } in
+      append m f n out (all_code K number is s l) (a.ended (given_tail K w tail s) high l2) (all_code_right out is hi s l ot on)
+      (ha out (given_tail K w tail s) high l2 ot on (given_tail_right out w tail s ot on ht us (hw out s.temp high)))
 
   -- ---- the last part is the new value
 
@@ -466,14 +552,15 @@ module _ (types : Types) (ss : List Sized) (callees : Callees) (m : Module) (f :
   before_helds (p ∷ []) h = tt
   before_helds (p ∷ q ∷ ps) h = (h.0, before_helds (q ∷ ps) h.1)
 
-  final_held : (ps : List Piece) (ts : List Typing) → Rights ps ts → has_last types number callees tables g ts ≡ true → Helds ps
-      → (us : List Sized) × Piece_ (final nothing_piece ps) us
-  final_held [] [] h d hs = impossible d
-  final_held [] (t ∷ ts) h d hs = absurd h
-  final_held (p ∷ ps) [] h d hs = absurd h
-  final_held (p ∷ []) (t ∷ ts) h d hs = hs.0
-  final_held (p ∷ q ∷ ps) (t ∷ []) h d hs = absurd h.1
-  final_held (p ∷ q ∷ ps) (t ∷ u ∷ ts) h d hs = final_held (q ∷ ps) (u ∷ ts) h.1 refl hs.1
+  final_held : (ps : List Piece) (ts : List Typing) → Rights ps ts → has_last types number callees tables g ts ≡ true
+      → all_right ts ≡ true → Piece_ (final nothing_piece ps) (last_types types number callees tables g ts)
+  final_held [] [] h d r = impossible d
+  final_held [] (t ∷ ts) h d r = absurd h
+  final_held (p ∷ ps) [] h d r = absurd h
+  final_held (p ∷ []) (t ∷ []) h d r = (h.0 (parts_of t.right true r).0).1
+  final_held (p ∷ []) (t ∷ u ∷ ts) h d r = absurd h.1
+  final_held (p ∷ q ∷ ps) (t ∷ []) h d r = absurd h.1
+  final_held (p ∷ q ∷ ps) (t ∷ u ∷ ts) h d r = final_held (q ∷ ps) (u ∷ ts) h.1 refl (parts_of t.right (all_right (u ∷ ts)) r).1
 
   helds_and : (ps : List Piece) (p : Piece) (us : List Sized) → Helds ps → Piece_ p us → Helds (ps ++ p ∷ [])
   helds_and [] p us h hp = ((us, hp), tt)
@@ -482,32 +569,21 @@ module _ (types : Types) (ss : List Sized) (callees : Callees) (m : Module) (f :
   spot_is_right : (w : Spot) (ps : List Piece) (ts : List Typing) → length ts ≡ length ps → f.is_pure ≡ false → Rights ps ts
       → spot_right types number callees tables g w ts ≡ true
       → Piece_ (spot_piece types K number callees tables w ps) (spot_types types number callees tables g (Some w) ts)
-  spot_is_right (whole k r) [] [] e free h d = impossible d
-  spot_is_right (whole k r) [] (t ∷ ts) e free h d = absurd h
-  spot_is_right (whole k r) (p ∷ ps) [] e free h d = absurd h
-  spot_is_right (whole k r) (p ∷ []) (t ∷ []) e free h d =
-      let d1 : Bool = cases_right types number callees tables g (is_recast types number callees tables g) (tables.cases k 1) in
-      let d2 : Bool = cases_right types number callees tables g (is_sourced types number callees tables g (slice_get g.registers r)) (tables.cases k 1) in
-      let q = parts_of t.right (d1 && d2) d in
-      let v = parts_of d1 d2 q.1 in
-      whole_right k r p t.types free (h.0 q.0).1 v.0 v.1
-  spot_is_right (whole k r) (p ∷ []) (t ∷ u ∷ ts) e free h d = absurd h.1
-  spot_is_right (whole k r) (p ∷ q ∷ ps) (t ∷ []) e free h d = absurd h.1
-  spot_is_right (whole k r) (p ∷ q ∷ ps) (t ∷ u ∷ ts) e free h d = impossible d
-  spot_is_right (part k j r qs) ps ts e free h d =
-      let d0 : Bool = all_right ts in
-      let d1 : Bool = cases_right types number callees tables g (is_recast types number callees tables g) (tables.cases k 1) in
-      let d2 : Bool = cases_right types number callees tables g (is_sourced types number callees tables g (slice_get g.registers r)) (tables.cases j 0) in
-      let d3 : Bool = replaces_all types number callees tables g qs (tables.cases j 0) (gives_in (tables.cases k 1)) in
-      let q1 = parts_of (has_last types number callees tables g ts) (d0 && (d1 && (d2 && d3))) d in
-      let q2 = parts_of d0 (d1 && (d2 && d3)) q1.1 in
-      let q3 = parts_of d1 (d2 && d3) q2.1 in
-      let q4 = parts_of d2 d3 q3.1 in
-      let hs : Helds ps = helds_of ps ts h q2.0 in
-      let last = final_held ps ts h q1.0 hs in
-      part_right r qs (tables.cases j 0) (tables.gives j) (ahead ps) (new_piece types K number callees tables k (final nothing_piece ps))
-      (gives_in (tables.cases k 1))
-      free (before_helds ps hs) (cast_right (tables.cases k 1) q3.0 (tables.gives k) (final nothing_piece ps) last.0 last.1) q4.0 q4.1
+  spot_is_right (one c) ps ts e free h d =
+      let d1 : Bool = cell_right types number callees tables g c in
+      let q1 = parts_of (has_last types number callees tables g ts) (all_right ts && d1) d in
+      let q2 = parts_of (all_right ts) d1 q1.1 in
+      given_right (cell_writing types K tables c) (ahead ps) (final nothing_piece ps) (last_types types number callees tables g ts)
+      (before_helds ps (helds_of ps ts h q2.0)) (final_held ps ts h q1.0 q2.0) (cell_writes c free q2.1 (last_types types number callees tables g ts))
+  spot_is_right (several cs) ps ts e free h d =
+      let us : List Sized = last_types types number callees tables g ts in
+      let d1 : Bool = cells_right types number callees tables g cs in
+      let d2 : Bool = all_fields_right types number callees tables g us (length cs) in
+      let q1 = parts_of (has_last types number callees tables g ts) (all_right ts && (d1 && d2)) d in
+      let q2 = parts_of (all_right ts) (d1 && d2) q1.1 in
+      let q3 = parts_of d1 d2 q2.1 in
+      given_right (several_writing types K tables cs) (ahead ps) (final nothing_piece ps) us (before_helds ps (helds_of ps ts h q2.0))
+      (final_held ps ts h q1.0 q2.0) (several_writes cs free q3.0 us q3.1)
   spot_is_right (called k place i j x) ps ts e free h d =
       let cases : List Case = tables.cases j (length ts) in
       let d0 : Bool = all_right ts in
@@ -517,13 +593,13 @@ module _ (types : Types) (ss : List Sized) (callees : Callees) (m : Module) (f :
       let q2 = parts_of d0 (d1 && d2) q1.1 in
       let q3 = parts_of d1 d2 q2.1 in
       let hs : Helds ps = helds_of ps ts h q2.0 in
-      let last = final_held ps ts h q1.0 hs in
+      let last = final_held ps ts h q1.0 q2.0 in
       let new : Piece = new_piece types K number callees tables k (final nothing_piece ps) in
       let args : List Piece = ahead ps ++ new ∷ [] in
       subst (λ c. Piece_ (call_piece K number callees place (tables.cases j c) (tables.leads j) (tables.gives j) args) (gives_in cases)) e
       (call_is_right place cases (tables.leads j) (tables.gives j) args free
       (helds_and (ahead ps) new (gives_in (tables.cases k 1)) (before_helds ps hs)
-      (cast_right (tables.cases k 1) q3.0 (tables.gives k) (final nothing_piece ps) last.0 last.1)) q3.1)
+      (cast_right (tables.cases k 1) q3.0 (tables.gives k) (final nothing_piece ps) (last_types types number callees tables g ts) last)) q3.1)
 
   pub write_is_right : (w : Option Spot) (ps : List Piece) (ts : List Typing) → length ts ≡ length ps → f.is_pure ≡ false → Rights ps ts
       → write_right types number callees tables g w ts ≡ true

@@ -26,6 +26,7 @@ use Rattle.sail_core.specs.Making.{Part, component, payload, one_item}
 use Rattle.sail_core.specs.Meaning.{option_typ}
 use Rattle.sail_core.specs.Values.{int_typ, literal_typ}
 use Rattle.row_types.specs.Calls.{has_state}
+use Rattle.value_indices.specs.declared.indices.Indices.{Indices}
 use Rattle.size_values.specs.declared.constants.Picked.{Picked}
 use Rattle.size_values.specs.declared.sized.Sized.{Sized, out-Sized}
 use Rattle.size_values.specs.declared.sized.Sized.TheVariants as Z
@@ -43,10 +44,11 @@ use Rattle.jib.specs.declared.code.Module.{Module}
 use Rattle.jib.specs.Typing.{literal_some, payload_typ, same, sort_at}
 use Rattle.jib.specs.Operands.{alike, operation_typed, some_comparable}
 use Rattle.lowered_pieces.specs.Tables.{Tables}
-use Rattle.lowered_pieces.specs.Forms.{Callees, End, Mapped, Order, cases_ends, dead, ends_of, in_fields, in_order, is_never, one_end, set_fields}
+use Rattle.lowered_pieces.specs.Forms.{Callees, End, Mapped, Order, dead, ends_of, in_fields, in_order, is_never, one_end, set_fields}
 use Rattle.lowered_pieces.specs.Arms.{Matched, arguments, constant_of, cut_widths, in_hand, is_union, part_width, steps_in, word_width}
 use Rattle.lowered_pieces.specs.Gathered.{only_end}
-use Rattle.lowered_pieces.specs.Writes.{Spot, called, part, put_op, take_op, target_spot, way_typ, whole}
+use Rattle.lowered_pieces.specs.Paths.{path_ends}
+use Rattle.lowered_pieces.specs.Writes.{Cell, Holder, Spot, called, one, register, several, target_spot, variable, way_typ}
 use Rattle.lowered_pieces.specs.Fields.{field_types_of}
 use Rattle.lowered_pieces.specs.Mapped.{ends_with, fixed_end}
 use Rattle.lowered_validity.specs.Right.{Signs}
@@ -225,6 +227,29 @@ module _ (types : Types) (number : Sized → ℕ) (callees : Callees) (tables : 
   path_types [] ts = ts
   path_types (s ∷ ss) ts = path_types ss (way_types s.way s.number)
 
+  -- ---- variables, which are read at these types
+
+  abbrev pub all_come : List Sized → Sized → Bool
+  all_come [] t = true
+  all_come (u ∷ us) t = comes g (number u) (number t) && all_come us t
+
+  -- values of these types come to all types at which the variable is read
+  abbrev pub kept_right : List Sized → List Sized → Bool
+  kept_right [] ts = true
+  kept_right (u ∷ us) ts = all_come ts u && kept_right us ts
+
+  abbrev pub variable_types : List Sized → List Case → List Sized
+  variable_types [] cases = []
+  variable_types (u ∷ us) cases = gives_in cases
+
+  abbrev pub variable_ends : List Sized → List Indices → List Case → List End
+  variable_ends [] gives cases = []
+  variable_ends (u ∷ us) gives cases = ends_of gives cases
+
+  abbrev pub variable_right : List Sized → List Case → Bool
+  variable_right [] cases = false
+  variable_right (u ∷ us) cases = cases_right (λ c. true) cases
+
   -- ---- assignments
 
   abbrev pub integer_typ : Sized
@@ -256,16 +281,47 @@ module _ (types : Types) (number : Sized → ℕ) (callees : Callees) (tables : 
   has_last [] = false
   has_last (a ∷ parts) = true
 
-  -- a register, a part of one, or what a call writes
+  -- what the last of the parts gives
+  abbrev pub last_types : List Typing → List Sized
+  last_types [] = []
+  last_types (a ∷ []) = a.types
+  last_types (a ∷ b ∷ parts) = last_types (b ∷ parts)
+
+  -- a holder takes values of the types of these cases
+  abbrev pub holder_right : Holder → List Case → Bool
+  holder_right (register r) cases = cases_right (is_sourced (slice_get g.registers r)) cases
+  holder_right (variable name) cases = kept_right (tables.reads name) (gives_in cases)
+
+  -- and new parts of the type of the new value
+  abbrev pub typed_right : List Suffix → Cell → Bool
+  typed_right [] c = holder_right c.holder (tables.cases c.number 1)
+  typed_right (s ∷ ss) c =
+      cases_right (λ k. true) (tables.cases c.read 0)
+      && (holder_right c.holder (tables.cases c.read 0) && replaces_all (s ∷ ss) (tables.cases c.read 0) (gives_in (tables.cases c.number 1)))
+
+  abbrev pub cell_right : Cell → Bool
+  cell_right c = cases_right is_recast (tables.cases c.number 1) && typed_right c.suffixes c
+
+  abbrev pub cells_right : List Cell → Bool
+  cells_right [] = true
+  cells_right (c ∷ cs) = cell_right c && cells_right cs
+
+  -- so many parts of a tuple, from the j-th on
+  abbrev pub fields_right : Sized → ℕ → ℕ → Bool
+  fields_right t j zero = true
+  fields_right t j (suc k) = works (O.Field j) one_operand (t ∷ []) (part_typ types (component j) t) && fields_right t (suc j) k
+
+  abbrev pub all_fields_right : List Sized → ℕ → Bool
+  all_fields_right [] k = true
+  all_fields_right (t ∷ ts) k = fields_right t 0 k && all_fields_right ts k
+
+  -- what is assigned to
   abbrev pub spot_right : Spot → List Typing → Bool
-  spot_right (whole k r) (a ∷ []) =
-      a.right && (cases_right is_recast (tables.cases k 1) && cases_right (is_sourced (slice_get g.registers r)) (tables.cases k 1))
-  spot_right (part k j r ss) parts =
-      has_last parts && (all_right parts && (cases_right is_recast (tables.cases k 1)
-      && (cases_right (is_sourced (slice_get g.registers r)) (tables.cases j 0) && replaces_all ss (tables.cases j 0) (gives_in (tables.cases k 1)))))
+  spot_right (one c) parts = has_last parts && (all_right parts && cell_right c)
+  spot_right (several cs) parts =
+      has_last parts && (all_right parts && (cells_right cs && all_fields_right (last_types parts) (length cs)))
   spot_right (called k place n j f) parts =
       has_last parts && (all_right parts && (cases_right is_recast (tables.cases k 1) && leads_right (tables.cases j (length parts)) (tables.leads j)))
-  spot_right spot parts = false
 
   abbrev pub write_right : Option Spot → List Typing → Bool
   write_right None parts = false
@@ -281,10 +337,6 @@ module _ (types : Types) (number : Sized → ℕ) (callees : Callees) (tables : 
   abbrev pub fields_typ : Sized → ℕ → ℕ → List Sized
   fields_typ t j zero = []
   fields_typ t j (suc k) = part_typ types (component j) t ∷ fields_typ t (suc j) k
-
-  abbrev pub fields_right : Sized → ℕ → ℕ → Bool
-  fields_right t j zero = true
-  fields_right t j (suc k) = works (O.Field j) one_operand (t ∷ []) (part_typ types (component j) t) && fields_right t (suc j) k
 
   abbrev pub items_typ : Sized → ℕ → List Sized
   items_typ t zero = []
@@ -411,10 +463,6 @@ module _ (types : Types) (number : Sized → ℕ) (callees : Callees) (tables : 
       && (same (payload_typ (shell g) (Some (number m.gives)) 0) (Some (number m.payload))
       && cases_right (λ c. comes g (number m.payload) (number c.gives)) cases))))
 
-  abbrev pub all_come : List Sized → Sized → Bool
-  all_come [] t = true
-  all_come (u ∷ us) t = comes g (number u) (number t) && all_come us t
-
   abbrev pub optional_right : Sized → Sized → Typing → Bool
   optional_right option inner a =
       a.right && (all_come a.types inner
@@ -437,12 +485,17 @@ module _ (types : Types) (number : Sized → ℕ) (callees : Callees) (tables : 
   block_types (s ∷ ss) (a ∷ parts) = block_types ss parts
   block_types ss parts = []
 
+  abbrev pub block_ends : List Statement → List Typing → List End
+  block_ends [] (value ∷ []) = value.ends
+  block_ends (s ∷ ss) (a ∷ parts) = block_ends ss parts
+  block_ends ss parts = []
+
   abbrev pub block_right : List Statement → List Typing → Bool
   block_right [] [] = true
   block_right [] (value ∷ []) = value.right
   block_right (S.Evaluate ∷ ss) (a ∷ parts) = a.right && block_right ss parts
   block_right (S.Define place arm ∷ ss) (a ∷ parts) = a.right && (ends_right arm a.ends && block_right ss parts)
-  block_right (S.Declare name written ∷ ss) (a ∷ parts) = a.right && block_right ss parts
+  block_right (S.Declare name written ∷ ss) (a ∷ parts) = a.right && (kept_right (tables.reads name) a.types && block_right ss parts)
   block_right ss parts = false
 
   -- ---- nodes
@@ -483,6 +536,7 @@ module _ (types : Types) (number : Sized → ℕ) (callees : Callees) (tables : 
   abbrev pub kind_types : ℕ → Kind → List Typing → List Sized
   kind_types k (K.Constant literal) [] = fixed_typ types (literal_typ literal) ∷ []
   kind_types k (K.Local name) [] = gives_in (tables.cases k 1)
+  kind_types k (K.Variable name) [] = variable_types (tables.reads name) (tables.cases k 0)
   kind_types k (K.TopLevel i) [] = gives_in (tables.cases k 0)
   kind_types k (K.Register r) [] = gives_in (tables.cases k 0)
   kind_types k (K.Call (F.Applies d)) (a ∷ []) = gives_in (tables.cases k 1)
@@ -521,6 +575,7 @@ module _ (types : Types) (number : Sized → ℕ) (callees : Callees) (tables : 
   abbrev pub kind_ends : ℕ → Kind → List Typing → List End
   kind_ends k (K.Constant literal) [] = one_end (fixed_typ types (literal_typ literal))
   kind_ends k (K.Local name) [] = ends_of (tables.gives k) (tables.cases k 1)
+  kind_ends k (K.Variable name) parts = variable_ends (tables.reads name) (tables.gives k) (tables.cases k 0)
   kind_ends k (K.TopLevel i) [] = ends_of (tables.gives k) (tables.cases k 0)
   kind_ends k (K.Register r) [] = ends_of (tables.gives k) (tables.cases k 0)
   kind_ends k (K.Call (F.Function f)) args = ends_of (tables.gives k) (tables.cases k (length args))
@@ -532,10 +587,20 @@ module _ (types : Types) (number : Sized → ℕ) (callees : Callees) (tables : 
   kind_ends k (K.Cons shape) parts = ends_of (tables.gives k) (tables.cases k (length parts))
   kind_ends k (K.Struct struct fields) parts = ends_of (tables.gives k) (tables.cases k (length parts))
   kind_ends k (K.With struct (i ∷ is)) parts = ends_of (tables.gives k) (tables.cases k (length parts))
+  kind_ends k (K.Part suffixes) (a ∷ indexes) = path_ends tables suffixes (length indexes) a.ends
+  kind_ends k K.WithItem (a ∷ b ∷ c ∷ []) = ends_of (tables.gives k) (tables.cases k 3)
+  kind_ends k K.WithSlice (a ∷ b ∷ c ∷ d ∷ []) = ends_of (tables.gives k) (tables.cases k 4)
   kind_ends k (K.Cast written) (a ∷ []) = ends_of (tables.gives k) (tables.cases k 1)
   kind_ends k (K.SizeOf t numbers) [] = number_ends (callees.size t)
   kind_ends k (K.Constraint c numbers) [] = truth_ends (callees.truth c)
   kind_ends k (K.Call (F.Applies d)) (a ∷ []) = ends_of (tables.gives k) (tables.cases k 1)
+  kind_ends k (K.Block statements) parts = block_ends statements parts
+  kind_ends k (K.Var name written) (a ∷ b ∷ []) = b.ends
+  kind_ends k (K.If shape) (c ∷ a ∷ b ∷ []) = ends_of (tables.gives k) (tables.cases k 1)
+  kind_ends k K.When (a ∷ b ∷ []) = b.ends
+  kind_ends k (K.Let arm) (a ∷ b ∷ []) = b.ends
+  kind_ends k (K.Match arms shape) (a ∷ bodies) = ends_of (tables.gives k) (tables.cases k 1)
+  kind_ends k (K.Try arms shape) (a ∷ bodies) = ends_of (tables.gives k) (tables.cases k 1)
   kind_ends k (K.Clauses arms) bodies = common_of bodies
   kind_ends k kind parts = []
 
@@ -543,6 +608,7 @@ module _ (types : Types) (number : Sized → ℕ) (callees : Callees) (tables : 
   abbrev pub kind_right : ℕ → Kind → List Typing → Bool
   kind_right k (K.Constant literal) [] = is_constant (fixed_typ types (literal_typ literal)) (constant_of literal)
   kind_right k (K.Local name) [] = cases_right is_cast (tables.cases k 1)
+  kind_right k (K.Variable name) [] = variable_right (tables.reads name) (tables.cases k 0)
   kind_right k (K.TopLevel i) [] = cases_right (is_sourced (slice_get g.lets (callees.opening i))) (tables.cases k 0)
   kind_right k (K.Register r) [] = not g.is_pure && cases_right (is_sourced (slice_get g.registers r)) (tables.cases k 0)
   kind_right k (K.Call (F.Function f)) args = not g.is_pure && (all_right args && leads_right (tables.cases k (length args)) (tables.leads k))
@@ -564,7 +630,7 @@ module _ (types : Types) (number : Sized → ℕ) (callees : Callees) (tables : 
   kind_right k (K.Constraint c numbers) [] = truth_right (callees.truth c)
   kind_right k (K.Assign (t ∷ [])) parts = not g.is_pure && write_right (target_spot t) parts
   kind_right k (K.Block statements) parts = block_right statements parts
-  kind_right k (K.Var name written) (a ∷ b ∷ []) = a.right && b.right
+  kind_right k (K.Var name written) (a ∷ b ∷ []) = a.right && (kept_right (tables.reads name) a.types && b.right)
   kind_right k (K.If shape) (c ∷ a ∷ []) = c.right && a.right
   kind_right k (K.If shape) (c ∷ a ∷ b ∷ []) =
       c.right && (a.right && (b.right && meet_right (a.types ++ b.types) (tables.cases k 1)))
