@@ -17,7 +17,7 @@ use Rattle.lowered_pieces.specs.Chains.{tests}
 use Rattle.lowered_pieces.specs.Emitted.{Emits, no_labels}
 use Rattle.lowered_pieces.specs.Forms.{kit_at}
 use Rattle.lowered_pieces.specs.Frames.{end_code, end_labels}
-use Rattle.lowered_pieces.specs.Moves.{move, retype}
+use Rattle.lowered_pieces.specs.Moves.{kept_as, move, retype}
 use Rattle.lowered_pieces.specs.Places.{Naming, Number, Place, Temp}
 use Rattle.lowered_pieces.proofs.Emitting.{emits_as, emits_next, emits_none, emits_then, ok_next, ok_same}
 use Rattle.lowered_steps.specs.declared.setting.Setting.{Setting}
@@ -142,8 +142,23 @@ module _ {T E : Type 0} (r : Result T E) (old new : Coding) (setting : Setting) 
       (λ name l. retype (kit_for setting name) n t u) no_labels
       (λ name. ap (λ b. cond b [] (I.Apply (G.Slot (name (Temp n) u)) O.Same (R.Slot (name (Temp n) t) ∷ []) ∷ [])) (sym (different t u apart))) h
 
+  pub kept_apart : (p : Place) (n t u : ℕ) → (t ≡ u → ⊥)
+      → OnOk r (Emits old new (λ name l. I.Apply (G.Slot (name p u)) O.Same (R.Slot (name (Temp n) t) ∷ []) ∷ []) no_labels)
+      → OnOk r (Emits old new (λ name l. kept_as (kit_for setting name) p u n t) no_labels)
+  kept_apart p n t u apart h =
+      ok_same r old new (λ name l. I.Apply (G.Slot (name p u)) O.Same (R.Slot (name (Temp n) t) ∷ []) ∷ [])
+      (λ name l. kept_as (kit_for setting name) p u n t) no_labels
+      (λ name. ap (λ b. cond b [] (I.Apply (G.Slot (name p u)) O.Same (R.Slot (name (Temp n) t) ∷ []) ∷ [])) (sym (different t u apart))) h
+
 pub retyped_same : (old : Coding) (setting : Setting) (n t u : ℕ) → t ≡ u → Emits old old (λ name l. retype (kit_for setting name) n t u) no_labels
 retyped_same old setting n t u is =
     emits_as old old (λ name l. []) (λ name l. retype (kit_for setting name) n t u) no_labels no_labels
     (λ name. ap (λ b. cond b [] (I.Apply (G.Slot (name (Temp n) u)) O.Same (R.Slot (name (Temp n) t) ∷ []) ∷ [])) (sym (eq-eqb t u is))) (λ name. refl)
+    (emits_none old)
+
+pub kept_same : (old : Coding) (setting : Setting) (p : Place) (n t u : ℕ) → t ≡ u
+    → Emits old old (λ name l. kept_as (kit_for setting name) p u n t) no_labels
+kept_same old setting p n t u is =
+    emits_as old old (λ name l. []) (λ name l. kept_as (kit_for setting name) p u n t) no_labels no_labels
+    (λ name. ap (λ b. cond b [] (I.Apply (G.Slot (name p u)) O.Same (R.Slot (name (Temp n) t) ∷ []) ∷ [])) (sym (eq-eqb t u is))) (λ name. refl)
     (emits_none old)

@@ -15,5 +15,7 @@ pub mod Standing
 pub mod Opened
 pub mod Wide
 pub mod Storing
+pub mod Celled
+pub mod Aimed
 pub mod Changed
 pub mod Living

@@ -1,32 +1,24 @@
--- New parts of registers, as they are put.
+-- New parts of values, as they are put.
 use Rattle.std.proofs.Common.{◌≡◌, ◌∙◌, ℕ, ◌+◌, ◌≤◌, List, [], ◌∷◌, ◌++◌, length, refl, sym, ap, subst, arith}
 use Rattle.std.specs.Prelude.{IfOk, OnOk, Result}
 use Rattle.std.proofs.lemmas.Result.{IfOk-weaker}
 use Rattle.sail_core.specs.declared.targets.Suffix.{Suffix}
 use Rattle.sail_core.specs.declared.targets.Way.{Way}
-use Rattle.sail_core.specs.declared.tree.Giver.TheVariants as Gives
 use Rattle.size_values.specs.declared.sized.Sized.{Sized}
-use Rattle.sized_meanings.specs.Present.{gives_at}
-use Rattle.sized_nodes.specs.declared.trees.Case.{Case}
 use Rattle.jib.specs.declared.code.Operation.{Operation}
 use Rattle.jib.specs.declared.code.Source.{Source}
-use Rattle.jib.specs.declared.code.Source.TheVariants as R
 use Rattle.jib.specs.declared.code.Target.TheVariants as G
 use Rattle.jib.specs.declared.code.Instruction.{Instruction}
 use Rattle.jib.specs.declared.code.Instruction.TheVariants as I
 use Rattle.lowered_slots.specs.declared.slots.Slot.{Slot}
 use Rattle.lowered_pieces.specs.declared.coding.Coding.{Coding}
 use Rattle.lowered_pieces.specs.Emitted.{Begins, Emits, Grows, Sourced, no_labels}
-use Rattle.lowered_pieces.specs.Forms.{kit_at, note_code}
 use Rattle.lowered_pieces.specs.Places.{Naming, Temp}
 use Rattle.lowered_pieces.specs.Writes.{put_op, put_step, replaced_code, take_op, taken_step, takes_in, takes_of, way_typ}
 use Rattle.lowered_pieces.proofs.Emitting.{ok_from, ok_next, ok_same, sourced_both, sourced_lasts}
 use Rattle.lowered_steps.specs.declared.setting.Setting.{Setting}
-use Rattle.lowered_steps.specs.declared.stands.Stand.{Stand as Standing}
-use Rattle.lowered_steps.specs.declared.stores.Stored.{Stored}
-use Rattle.lowered_steps.specs.Setting.{kit_for, nodes_in, number_for}
-use Rattle.lowered_steps.specs.Stands.{depths_of}
-use Rattle.lowered_steps.specs.Stores.{one, stored_of, temp_at, whole_sources}
+use Rattle.lowered_steps.specs.Setting.{kit_for, number_for}
+use Rattle.lowered_steps.specs.Stores.{one, temp_at, whole_sources}
 
 -- the indexes of suffixes, the first one's before the others'
 pub indexes_more : {E : Type 0} (r : Result ℕ E) (s : Suffix) (ss us : List Suffix) (k n : ℕ) → us ≡ s ∷ ss → k ≡ takes_of s.way → n ≡ takes_in ss
@@ -133,37 +125,3 @@ module _ {V E : Type 0} (r : Result V E) (setting : Setting) (old : Coding) (new
       ∙ sym (replaced_step setting s ss n q i k t name some) ∙ ap (λ vs. replaced setting vs n q t i k name) (sym all))
       (ok_next r old a new (λ name. first name ∷ []) (λ name. replaced setting ss n2 q2 u i k name ++ last_step setting s.way n q t q2 m name ∷ []) x
       (ok_next r a b new (λ name. replaced setting ss n2 q2 u i k name) (λ name. last_step setting s.way n q t q2 m name ∷ []) y z))
-
--- a register is read, gets its part, and is written
-module _ {V E : Type 0} (r : Result V E) (setting : Setting) (old : Coding) (new : Coding) (s : Standing) (w : Stored) (c : Case) (t : Sized) where
-  abbrev noted : ℕ → Naming → List Instruction
-  noted q name = note_code (kit_at (kit_for setting name) (depths_of s.levels.now)) (number_for setting) q
-      (gives_at (nodes_in setting) (Gives.Node w.node)) c.gives
-
-  abbrev read_step : ℕ → ℕ → Naming → Instruction
-  read_step q n name = I.Copy (G.Slot (name (Temp q) n)) (R.Register w.register)
-
-  abbrev write_step : ℕ → ℕ → Naming → Instruction
-  write_step q n name = I.Copy (G.Register w.register) (R.Slot (name (Temp q) n))
-
-  abbrev changed : ℕ → ℕ → ℕ → Naming → List Instruction
-  changed q i k name = replaced_code setting.types.now (kit_for setting name) w.suffixes.now s.temp q c.gives (temp_at name i k)
-
-  abbrev all_stored : ℕ → ℕ → ℕ → ℕ → Naming → List Instruction
-  all_stored q n i k name = read_step q n name ∷ (noted q name ++ (changed q i k name ++ (noted q name ++ write_step q n name ∷ [])))
-
-  pub stored_put : (a b d e : Coding) (q n i k : ℕ) → i ≡ s.temp + takes_in w.suffixes.now → q ≡ i + 1 → n ≡ number_for setting c.gives
-      → k ≡ number_for setting t → Emits old a (λ name l. read_step q n name ∷ []) no_labels → Emits a b (λ name l. noted q name) no_labels
-      → Emits b d (λ name l. changed q i k name) no_labels → Emits d e (λ name l. noted q name) no_labels
-      → OnOk r (Emits e new (λ name l. write_step q n name ∷ []) no_labels)
-      → OnOk r (Emits old new (λ name l. stored_of setting name w s t c) no_labels)
-  stored_put a b d e q n i k behind next whole part v x y z h =
-      let j : ℕ = s.temp + takes_in w.suffixes.now in
-      ok_same r old new (λ name l. all_stored q n i k name) (λ name l. stored_of setting name w s t c) no_labels
-      (λ name.
-      ap (λ m. all_stored m n i k name) (next ∙ ap (λ m. m + 1) behind) ∙ ap (λ m. all_stored (j + 1) n m k name) behind
-      ∙ ap (λ m. all_stored (j + 1) m j k name) whole ∙ ap (λ m. all_stored (j + 1) (number_for setting c.gives) j m name) part)
-      (ok_next r old a new (λ name. read_step q n name ∷ []) (λ name. noted q name ++ (changed q i k name ++ (noted q name ++ write_step q n name ∷ []))) v
-      (ok_next r a b new (λ name. noted q name) (λ name. changed q i k name ++ (noted q name ++ write_step q n name ∷ [])) x
-      (ok_next r b d new (λ name. changed q i k name) (λ name. noted q name ++ write_step q n name ∷ []) y
-      (ok_next r d e new (λ name. noted q name) (λ name. write_step q n name ∷ []) z h))))

@@ -2,10 +2,7 @@
 use Rattle.std.proofs.Common.{◌≡◌, ◌∙◌, ℕ, ◌+◌, false, List, [], ◌∷◌, ◌++◌, length, sym, ap, subst, arith, eq-eqb, if◌then◌else◌}
 use Rattle.std.specs.Prelude.{nat_eq, OnOk, Result}
 use Rattle.std.proofs.lemmas.Bool.Decides.{nat_tests}
-use Rattle.sail_core.specs.declared.tree.Giver.TheVariants as Gives
 use Rattle.size_values.specs.declared.sized.Sized.{Sized}
-use Rattle.sized_meanings.specs.Present.{gives_at}
-use Rattle.sized_nodes.specs.declared.trees.Case.{Case}
 use Rattle.jib.specs.declared.code.Literal.TheVariants as L
 use Rattle.jib.specs.declared.code.Source.TheVariants as R
 use Rattle.jib.specs.declared.code.Target.TheVariants as G
@@ -15,21 +12,17 @@ use Rattle.jib.specs.declared.code.Instruction.TheVariants as I
 use Rattle.lowered_pieces.specs.declared.coding.Coding.{Coding}
 use Rattle.lowered_pieces.specs.Arms.{moved}
 use Rattle.lowered_pieces.specs.Emitted.{Emits, no_labels}
-use Rattle.lowered_pieces.specs.Chains.{by_case, many}
-use Rattle.lowered_pieces.specs.Forms.{Tail, bind_tail, constant_code, kit_at, picked_in, return_tail, throw_tail, unit_piece}
+use Rattle.lowered_pieces.specs.Forms.{constant_code, return_tail, throw_tail, unit_piece, var_tail}
 use Rattle.lowered_pieces.specs.Mapped.{some_tail}
-use Rattle.lowered_pieces.specs.Moves.{retype}
-use Rattle.lowered_pieces.specs.Nodes.{cases_at}
-use Rattle.lowered_pieces.specs.Places.{Local, Naming, Raised, Temp}
-use Rattle.lowered_pieces.specs.Writes.{part_tail, register_tail, takes_in}
-use Rattle.lowered_pieces.proofs.Emitting.{emits_next, ok_before, ok_next, ok_same, ok_then}
+use Rattle.lowered_pieces.specs.Moves.{kept_code, retype}
+use Rattle.lowered_pieces.specs.Places.{Local, Naming, Place, Raised, Temp}
+use Rattle.lowered_pieces.proofs.Emitting.{ok_before, ok_next, ok_same}
 use Rattle.lowered_steps.specs.declared.setting.Setting.{Setting}
 use Rattle.lowered_steps.specs.declared.stands.Stand.{Stand as Standing}
-use Rattle.lowered_steps.specs.declared.stores.Stored.{Stored}
 use Rattle.lowered_steps.specs.declared.tails.Tail.{Tail as Ending}
-use Rattle.lowered_steps.specs.Setting.{kit_for, nodes_in, number_for, tables_for}
-use Rattle.lowered_steps.specs.Stands.{depths_of, scope_of, stand_of}
-use Rattle.lowered_steps.specs.Tails.{part_arm_of, tail_of}
+use Rattle.lowered_steps.specs.Setting.{kit_for, number_for, reads_at}
+use Rattle.lowered_steps.specs.Stands.{scope_of, stand_of}
+use Rattle.lowered_steps.specs.Tails.{tail_of}
 
 module _ {T E : Type 0} (r : Result T E) (old : Coding) (new : Coding) (setting : Setting) where
   -- of tails that are one
@@ -38,6 +31,17 @@ module _ {T E : Type 0} (r : Result T E) (old : Coding) (new : Coding) (setting 
       → OnOk r (Emits old new (λ name l. (tail_of setting name t).code typ l) (λ name. (tail_of setting name t).labels))
   tail_is typ t u is h =
       subst (λ v. OnOk r (Emits old new (λ name l. (tail_of setting name v).code typ l) (λ name. (tail_of setting name v).labels))) (sym is) h
+
+  module _ (s : Standing) (typ : Sized) (text : List ℕ) (types : List Sized) (as_read : types ≡ reads_at setting.reads.now text) where
+    abbrev kept_at : Place → List Sized → Naming → List Instruction
+    kept_at place us name = kept_code (kit_for setting name) place s.temp us typ
+
+    pub binds : (count : ℕ) → count ≡ length (scope_of s.scope.now)
+        → OnOk r (Emits old new (λ name l. kept_at (Local count) types name) no_labels)
+        → OnOk r (Emits old new (λ name l. (var_tail (kit_for setting name) (reads_at setting.reads.now text) (stand_of s)).code typ l) no_labels)
+    binds count counted h =
+        subst (λ us. OnOk r (Emits old new (λ name l. kept_at (Local (length (scope_of s.scope.now))) us name) no_labels)) as_read
+        (subst (λ i. OnOk r (Emits old new (λ name l. kept_at (Local i) types name) no_labels)) counted h)
 
   module _ (s : Standing) (typ : Sized) (n : ℕ) (is : n ≡ number_for setting typ) where
     pub throws : (mid : Coding)
@@ -53,33 +57,6 @@ module _ {T E : Type 0} (r : Result T E) (old : Coding) (new : Coding) (setting 
     pub ends : OnOk r (Emits old new (λ name l. I.End (R.Slot (name (Temp s.temp) n)) ∷ []) no_labels)
         → OnOk r (Emits old new (λ name l. (return_tail (kit_for setting name) (stand_of s)).code typ l) no_labels)
     ends h = subst (λ k. OnOk r (Emits old new (λ name l. I.End (R.Slot (name (Temp s.temp) k)) ∷ []) no_labels)) is h
-
-    pub binds : (count : ℕ) → count ≡ length (scope_of s.scope.now)
-        → OnOk r (Emits old new (λ name l. I.Copy (G.Slot (name (Local count) n)) (R.Slot (name (Temp s.temp) n)) ∷ []) no_labels)
-        → OnOk r (Emits old new (λ name l. (bind_tail (kit_for setting name) (stand_of s)).code typ l) no_labels)
-    binds count counted h =
-        subst (λ i. OnOk r (Emits old new
-        (λ name l. I.Copy (G.Slot (name (Local i) (number_for setting typ))) (R.Slot (name (Temp s.temp) (number_for setting typ))) ∷ []) no_labels)) counted
-        (subst (λ k. OnOk r (Emits old new (λ name l. I.Copy (G.Slot (name (Local count) k)) (R.Slot (name (Temp s.temp) k)) ∷ []) no_labels)) is h)
-
-    pub writes : (i : ℕ) (b : Ending) (mid late : Coding)
-        → Emits old mid (λ name l. I.Copy (G.Register i) (R.Slot (name (Temp s.temp) n)) ∷ []) no_labels
-        → Emits mid late (λ name l. constant_code (kit_for setting name) (number_for setting setting.nothing.now) L.Unit s.temp) no_labels
-        → OnOk r (Emits late new (λ name l. (tail_of setting name b).code setting.nothing.now l) (λ name. (tail_of setting name b).labels))
-        → OnOk r (Emits old new
-        (λ name l. (register_tail (kit_for setting name) (number_for setting) (tables_for setting []) i (tail_of setting name b) (stand_of s)).code typ l)
-        (λ name. (tail_of setting name b).labels))
-    writes i b mid late x y h =
-        subst (λ k. OnOk r (Emits old new
-        (λ name l. I.Copy (G.Register i) (R.Slot (name (Temp s.temp) k))
-        ∷ (constant_code (kit_for setting name) (number_for setting setting.nothing.now) L.Unit s.temp ++ (tail_of setting name b).code setting.nothing.now l))
-        (λ name. (tail_of setting name b).labels))) is
-        (ok_before r old late new
-        (λ name. I.Copy (G.Register i) (R.Slot (name (Temp s.temp) n))
-        ∷ constant_code (kit_for setting name) (number_for setting setting.nothing.now) L.Unit s.temp)
-        (λ name l. (tail_of setting name b).code setting.nothing.now l) (λ name. (tail_of setting name b).labels)
-        (emits_next old mid late (λ name. I.Copy (G.Register i) (R.Slot (name (Temp s.temp) n)) ∷ [])
-        (λ name. constant_code (kit_for setting name) (number_for setting setting.nothing.now) L.Unit s.temp) x y) h)
 
     -- what stands in another place
     pub moves : (m : ℕ) (b : Ending) (mid : Coding) → (m ≡ s.temp → ⊥)
@@ -119,29 +96,8 @@ module _ {T E : Type 0} (r : Result T E) (old : Coding) (new : Coding) (setting 
       ok_before r old mid new (λ name. constant_code (kit_for setting name) (number_for setting setting.nothing.now) L.Unit s.temp)
       (λ name l. (tail_of setting name b).code setting.nothing.now l) (λ name. (tail_of setting name b).labels) x h
 
--- a part of a register, and then `()`; an option of what is in hand
+-- an option of what is in hand
 module _ {T E : Type 0} (r : Result T E) (old : Coding) (new : Coding) (setting : Setting) (s : Standing) (typ : Sized) (b : Ending) where
-  abbrev part_cases : Stored → List Case
-  part_cases w = cases_at w.node 0 (nodes_in setting)
-
-  abbrev part_stored : Stored → Naming → Tail
-  part_stored w name =
-      part_tail setting.types.now (kit_for setting name) w.register w.suffixes.now (part_cases w) (gives_at (nodes_in setting) (Gives.Node w.node))
-      (tail_of setting name b) (stand_of s)
-
-  pub stores : (w : Stored) (mid late : Coding)
-      → Emits old mid
-      (λ name l. by_case picked_in (kit_at (kit_for setting name) (depths_of s.levels.now)) (s.temp + takes_in w.suffixes.now + 1) 0
-      (part_arm_of setting name w s typ) l (part_cases w)) (λ name. many 0 (part_cases w))
-      → Emits mid late (λ name l. constant_code (kit_for setting name) (number_for setting setting.nothing.now) L.Unit s.temp) no_labels
-      → OnOk r (Emits late new (λ name l. (tail_of setting name b).code setting.nothing.now l) (λ name. (tail_of setting name b).labels))
-      → OnOk r (Emits old new (λ name l. (part_stored w name).code typ l) (λ name. (part_stored w name).labels))
-  stores w mid late x y h =
-      ok_then r old mid new
-      (λ name l. by_case picked_in (kit_at (kit_for setting name) (depths_of s.levels.now)) (s.temp + takes_in w.suffixes.now + 1) 0
-      (part_arm_of setting name w s typ) l (part_cases w)) (λ name l. (unit_piece (kit_for setting name)).ended (tail_of setting name b) (stand_of s) l)
-      (λ name. many 0 (part_cases w)) (λ name. (tail_of setting name b).labels) x (nothing r mid new setting s b late y h)
-
   abbrev wrapped : Sized → ℕ → ℕ → ℕ → Naming → ℕ → List Instruction
   wrapped option t u v name l =
       retype (kit_for setting name) s.temp t u

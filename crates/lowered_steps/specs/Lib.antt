@@ -5,4 +5,5 @@ pub mod Found
 pub mod Noting
 pub mod Tails
 pub mod Stores
+pub mod Cells
 pub mod Makers

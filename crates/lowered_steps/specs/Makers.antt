@@ -5,7 +5,7 @@ use Rattle.jib.specs.declared.code.Source.TheVariants as R
 use Rattle.lowered_pieces.specs.Places.{Naming, Raised, from}
 use Rattle.lowered_pieces.specs.Forms.{Maker, Order, again_make, answer_make, cast_make, construct_make, in_fields, in_order, local_make, source_make}
 use Rattle.lowered_pieces.specs.Forms.{unit_source}
-use Rattle.lowered_pieces.specs.Forms.{work_make}
+use Rattle.lowered_pieces.specs.Forms.{variable_make, work_make}
 use Rattle.lowered_pieces.specs.Fields.{with_make}
 use Rattle.lowered_steps.specs.declared.setting.Setting.{Setting}
 use Rattle.lowered_steps.specs.declared.making.Order.{Order as Ordering}
@@ -31,6 +31,7 @@ module _ (setting : Setting) (name : Naming) where
 
   abbrev pub maker_of : Making → Maker (kit_for setting name) (number_for setting)
   maker_of (M.Local text) = local_make (kit_for setting name) (number_for setting) text.now
+  maker_of (M.Variable text) = variable_make (kit_for setting name) (number_for setting) text.now
   maker_of (M.Register r) = source_make (kit_for setting name) (number_for setting) (R.Register r)
   maker_of (M.Opening i) = source_make (kit_for setting name) (number_for setting) (R.Let i)
   maker_of M.Caught = source_make (kit_for setting name) (number_for setting) (from (kit_for setting name) Raised (kit_for setting name).exception)

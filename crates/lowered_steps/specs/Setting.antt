@@ -1,5 +1,6 @@
 -- What the code of a function is made with, as the code that makes it holds it.
-use Rattle.std.specs.Prelude.{ℕ, ℤ, List, Option}
+use Rattle.std.specs.Prelude.{ℕ, ℤ, List, [], ◌∷◌, Option, if◌then◌else◌}
+use Rattle.std.specs.Str.{bytes_eq}
 use Rattle.sail_types.specs.declared.numbers.Num.{Num}
 use Rattle.size_values.specs.Numbers.{known_at, known_of, value_of}
 use Rattle.size_values.specs.declared.sized.Sized.{Sized}
@@ -11,6 +12,7 @@ use Rattle.lowered_pieces.specs.Nodes.{tables_of}
 use Rattle.lowered_pieces.specs.Places.{Kit, Naming}
 use Rattle.lowered_pieces.specs.Tables.{Tables}
 use Rattle.lowered_steps.specs.declared.setting.Setting.{Setting}
+use Rattle.lowered_steps.specs.declared.setting.Reads.{Reads}
 
 -- what is constant at the nodes of all its trees
 abbrev pub nodes_in : Setting → List NodeSizes
@@ -38,5 +40,13 @@ kit_for setting name = record {
   size = size_for setting;
 }
 
+-- the types at which variables of a name are read
+abbrev pub reads_at : List Reads → List ℕ → List Sized
+reads_at [] name = []
+reads_at (r ∷ rs) name = if bytes_eq r.name name then r.types else reads_at rs name
+
+abbrev pub with_reads : (List ℕ → List Sized) → Tables → Tables
+with_reads reads tables = record tables { reads = reads }
+
 abbrev pub tables_for : Setting → List SizedInstance → Tables
-tables_for setting instances = tables_of (is_known setting.numbered.now) instances (nodes_in setting)
+tables_for setting instances = with_reads (reads_at setting.reads.now) (tables_of (is_known setting.numbered.now) instances (nodes_in setting))

@@ -4,6 +4,7 @@
 //! `specs/Tails`, `specs/Makers` and `specs/Hands` read what the code holds as the definition has it.
 #![tactic(auto)]
 
+mod cells;
 mod chains;
 mod hands;
 mod heads;
@@ -18,6 +19,7 @@ mod stores;
 mod tails;
 mod words;
 
+pub use cells::{Cell, Holder, cell_of, count_all};
 pub use chains::{begin_arm, begin_arms, end_arm, end_arms};
 pub use hands::{Ends, Hand, Held, Matched, put_looks, put_thrown};
 pub use literals::copy_literal;
@@ -27,8 +29,8 @@ pub use notes::{list_given, list_notes, put_notes};
 pub use parts::{
     component_type, field_types, is_dead, is_never, item_type, payload_type, way_type,
 };
-pub use setting::{Setting, as_number, find, further};
+pub use setting::{Reads, Setting, as_number, find, further};
 pub use stands::{Levels, Named, Scope, Stand, count_names, depth_here, depth_of, place_in};
-pub use stores::{Stored, count_indexes};
+pub use stores::count_indexes;
 pub use tails::{Tail, put_nothing, put_tail};
 pub use words::{as_integer, part_width, sum_widths, word_width};

@@ -10,10 +10,10 @@ ghost use Rattle.sized_meanings.specs.Present.{gives_at};
 ghost use Rattle.lowered_pieces.specs.Chains.{many};
 ghost use Rattle.lowered_pieces.specs.Emitted.{Emits, Grows, Sourced, no_labels};
 ghost use Rattle.lowered_pieces.specs.Frames.{ArmsPut};
-ghost use Rattle.lowered_pieces.specs.Forms.{construct_code, first_type, in_fields, kit_at, live_code, made_arm, made_code, numbers_of, picked_in};
+ghost use Rattle.lowered_pieces.specs.Forms.{construct_code, in_fields, kit_at, live_code, made_arm, made_code, numbers_of, picked_in};
 ghost use Rattle.lowered_pieces.specs.Forms.{set_fields};
 ghost use Rattle.lowered_pieces.specs.Fields.{fields_out, with_code};
-ghost use Rattle.lowered_pieces.specs.Moves.{retype, sources as sources_of};
+ghost use Rattle.lowered_pieces.specs.Moves.{sources as sources_of};
 ghost use Rattle.lowered_pieces.specs.Nodes.{cases_at};
 ghost use Rattle.lowered_pieces.specs.Places.{Naming};
 ghost use Rattle.lowered_slots.specs.declared.slots.Place.TheVariants as place;
@@ -23,7 +23,7 @@ ghost use Rattle.lowered_steps.specs.Stands.{depths_of, stand_of};
 ghost use Rattle.lowered_steps.specs.Tails.{tail_of};
 
 use crate::chains::{begin_arm, begin_arms, end_arm, end_arms};
-use crate::moves::{put_move, put_retype};
+use crate::moves::{first_number, put_cast, put_move, put_retype};
 use crate::notes::put_notes;
 use crate::parts::{field_types, is_dead, payload_type};
 use crate::setting::{Setting, as_number, further};
@@ -53,6 +53,8 @@ pub enum Order<'a> {
 pub enum Making<'a> {
     /// From the place of a name.
     Local(&'a Text),
+    /// From the place of a variable, at the type that the case gives.
+    Variable(&'a Text),
     /// From a register.
     Register(u32),
     /// From an opening.
@@ -71,16 +73,6 @@ pub enum Making<'a> {
     Answers(u32),
     /// It is there.
     Again,
-}
-
-/// The number of the first of these types; that of `()` where there is none. It fails where there are 2^32 types or more.
-fn first_number(setting: &Setting<'_>, types: &[Sized]) -> Result<u32, AllocError>
-    ensures { IfOk result (λ number. (name : Naming) → number ≡ first_type (kit_for setting.now name) (number_for setting.now) types.now) }
-{
-    match types {
-        [] => Ok(setting.unit),
-        [first, ..] => setting.number(first),
-    }
 }
 
 /// Operands in hand from a place on, of these types, behind others. They fail where memory is wanting.
@@ -266,28 +258,6 @@ fn put_work(
         Ok(())
     } else {
         put_operation(alloc, coding, setting, temp, op, order, case)
-    }
-}
-
-/// A value in hand comes to the type of a case; nothing is put where it doesn't exist. It fails where memory is wanting.
-fn put_cast(
-    alloc: Global,
-    coding: &mut Coding,
-    setting: &Setting<'_>,
-    temp: u32,
-    case: &Case,
-) -> Result<(), AllocError>
-    ensures { OnOk result (Emits coding.old coding.new (λ name first. live_code case.now.takes
-        (retype (kit_for setting.now name) temp (first_type (kit_for setting.now name) (number_for setting.now) case.now.takes)
-        (number_for setting.now case.now.gives))) no_labels) }
-{
-    let operands = case.takes.as_slice();
-    if is_dead(operands) {
-        Ok(())
-    } else {
-        let gives = setting.number(&case.gives)?;
-        let takes = first_number(setting, operands)?;
-        put_retype(alloc, coding, setting, temp, takes, gives)
     }
 }
 
@@ -511,6 +481,11 @@ fn put_making(
             put_retype(alloc, coding, setting, stand.temp, *typ, gives)
         }
         Making::Again => Ok(()),
+        Making::Variable(name) => {
+            let gives = setting.number(&case.gives)?;
+            let from = place_in(name, stand.scope);
+            coding.put_copy(place, gives, from, gives)
+        }
     }
 }
 

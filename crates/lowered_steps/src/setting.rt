@@ -1,21 +1,31 @@
 //! What the code of one function is made by.
-ghost use Rattle.std.specs.Prelude.{◌≡◌, ◌+◌, ◌++◌, map, IfOk, OnOk};
+ghost use Rattle.std.specs.Prelude.{◌≡◌, ◌+◌, ◌++◌, map, IfOk, OnOk, if◌then◌else◌};
 ghost use Rattle.std.specs.Option.{option_copied};
+ghost use Rattle.std.specs.Str.{bytes_eq};
 ghost use Rattle.sail_core.specs.Nodes.{giver_eq};
 ghost use Rattle.sized_meanings.specs.Present.{gives_at, gives_in};
 ghost use Rattle.sized_meanings.specs.Sized.{joined_nodes};
 ghost use Rattle.lowered_types.specs.Table.{type_in};
 ghost use Rattle.lowered_pieces.specs.Nodes.{cases_at, leads_at, takes_many};
-ghost use Rattle.lowered_steps.specs.Setting.{nodes_in};
+ghost use Rattle.lowered_steps.specs.Setting.{nodes_in, reads_at};
 ghost use Rattle.lowered_steps.specs.Found as spec;
 
-use sail_base::Items;
+use sail_base::{Items, Text};
 use sail_core::Giver;
 use sail_types::Types;
 use size_values::{Sized, same_sized};
 use sized_nodes::{Case, Lead, NodeSizes};
 use std::alloc::{AllocError, Global};
 use value_indices::Indices;
+
+/// The types at which variables of a name are read.
+#[derive(Drop)]
+pub struct Reads {
+    /// The name.
+    pub name: Text,
+    /// The types.
+    pub types: Items<Sized>,
+}
 
 /// What the code of one function is made by.
 #[derive(Clone, Copy)]
@@ -40,6 +50,8 @@ pub struct Setting<'a> {
     pub bodies: &'a [Items<NodeSizes>],
     /// The numbers of the function's own variables, where they are known.
     pub numbers: &'a [Option<i128>],
+    /// The types at which the function's variables are read, once for each name.
+    pub reads: &'a [Reads],
 }
 
 /// The number of the first type that is this one; where there is none, how many there are.
@@ -238,7 +250,42 @@ fn list_all_gives<'a>(
     }
 }
 
+/// Whether reads are of a name.
+fn is_of(reads: &Reads, name: &Text) -> bool
+    ensures { result ≡ bytes_eq reads.now.name name.now }
+{
+    reads.name == *name
+}
+
+/// The types of reads of a name; of others these.
+fn types_or<'a>(reads: &'a Reads, name: &Text, others: &'a [Sized]) -> &'a [Sized]
+    ensures { result.now ≡ (if bytes_eq reads.now.name name.now then reads.now.types else others.now) }
+{
+    let same = is_of(reads, name);
+    if same { reads.types.as_slice() } else { others }
+}
+
+/// The types at which variables of a name are read; none where none is said.
+fn reads_of<'a>(name: &Text, reads: &'a [Reads]) -> &'a [Sized]
+    ensures { result.now ≡ reads_at reads.now name.now }
+{
+    match reads {
+        [] => &[],
+        [first, rest @ ..] => {
+            let others = reads_of(name, rest);
+            types_or(first, name, others)
+        }
+    }
+}
+
 impl<'a> Setting<'a> {
+    /// The types at which variables of a name are read.
+    pub fn reads_as(&self, name: &Text) -> &'a [Sized]
+        ensures { result.now ≡ reads_at self.now.reads.now name.now }
+    {
+        reads_of(name, self.reads)
+    }
+
     /// The number of a type. It fails where there are 2^32 types or more.
     pub fn number(&self, typ: &Sized) -> Result<u32, AllocError>
         ensures { IfOk result (λ number. number ≡ type_in self.now.numbered.now typ.now) }

@@ -1,4 +1,4 @@
-//! New parts of registers: what stands on the way to the part is taken out, gets it, and is put back.
+//! New parts of values: what stands on the way to the part is taken out, gets it, and is put back.
 ghost use Rattle.std.specs.Prelude.{◌≡◌, ◌+◌, List, [], ◌∷◌, ◌++◌, IfOk, OnOk};
 ghost use Rattle.jib.specs.declared.code.Source.{Source};
 ghost use Rattle.lowered_pieces.specs.Emitted.{Emits, Grows, Sourced, no_labels};
@@ -8,29 +8,15 @@ ghost use Rattle.lowered_pieces.specs.Writes.{takes_in, takes_of};
 ghost use Rattle.lowered_steps.specs.Setting.{kit_for};
 ghost use Rattle.lowered_steps.specs.Stores as spec;
 
-use crate::notes::put_notes;
 use crate::parts::way_type;
 use crate::setting::{Setting, further};
-use crate::stands::Stand;
 use jib::{Operation, Source};
 use lowered_pieces::Coding;
 use lowered_slots::Place;
 use sail_base::Items;
 use sail_core::{Suffix, Way};
 use size_values::Sized;
-use sized_nodes::Case;
 use std::alloc::{AllocError, Global};
-
-/// A part of a register: the indexes of its suffixes are in hand where its assignment stands, and behind them the new part.
-#[derive(Clone, Copy)]
-pub struct Stored<'a> {
-    /// The register.
-    pub register: u32,
-    /// The number of the node where it is read and written.
-    pub node: u32,
-    /// The suffixes.
-    pub suffixes: &'a [Suffix],
-}
 
 /// How many indexes a way takes.
 fn takes(way: &Way) -> u32
@@ -193,7 +179,7 @@ fn put_part(
 }
 
 /// The value in hand gets a new part at the end of suffixes. It fails where memory is wanting.
-fn put_replaced(
+pub fn put_replaced(
     alloc: Global,
     coding: &mut Coding,
     setting: &Setting<'_>,
@@ -227,41 +213,4 @@ fn put_replaced(
             )
         }
     }
-}
-
-/// A register is read in one of its cases, its part replaced by the value in hand behind the indexes, and it gets what comes of it. It fails where
-/// memory is wanting.
-pub fn put_stored(
-    alloc: Global,
-    coding: &mut Coding,
-    setting: &Setting<'_>,
-    stored: &Stored<'_>,
-    stand: &Stand<'_>,
-    typ: &Sized,
-    case: &Case,
-) -> Result<(), AllocError>
-    ensures { OnOk result (Emits coding.old coding.new (λ name first. spec.stored_of setting.now name stored.now stand.now typ.now case.now) no_labels) }
-{
-    let given = further(stand.temp, count_indexes(stored.suffixes)?)?;
-    let temp = further(given, 1)?;
-    let place = Place::Temp(temp);
-    let gives = &case.gives;
-    let whole = setting.number(gives)?;
-    let part = setting.number(typ)?;
-    let levels = stand.levels;
-    coding.put_register(place, whole, stored.register)?;
-    put_notes(alloc, coding, setting, levels, temp, stored.node, gives)?;
-    put_replaced(
-        alloc,
-        coding,
-        setting,
-        stored.suffixes,
-        stand.temp,
-        temp,
-        gives,
-        given,
-        part,
-    )?;
-    put_notes(alloc, coding, setting, levels, temp, stored.node, gives)?;
-    coding.put_write(stored.register, place, whole)
 }

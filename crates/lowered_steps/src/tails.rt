@@ -6,22 +6,22 @@ ghost use Rattle.lowered_pieces.specs.Emitted.{Emits, no_labels};
 ghost use Rattle.lowered_pieces.specs.Frames.{ArmsPut};
 ghost use Rattle.lowered_pieces.specs.Forms.{constant_code, kit_at, live_code, met_arm, picked_in, unit_piece};
 ghost use Rattle.lowered_pieces.specs.Moves.{retype};
-ghost use Rattle.lowered_steps.specs.Setting.{kit_for, nodes_in, number_for};
+ghost use Rattle.lowered_steps.specs.Setting.{kit_for, number_for};
 ghost use Rattle.lowered_steps.specs.Stands.{depths_of, stand_of};
 ghost use Rattle.lowered_steps.specs.Tails.{tail_of};
-ghost use Rattle.lowered_pieces.specs.Nodes.{cases_at};
-ghost use Rattle.lowered_pieces.specs.Writes.{takes_in};
-ghost use Rattle.lowered_steps.specs.Tails as spec;
 
+use crate::cells::{Cell, count_all, put_cell, put_several};
 use crate::chains::{begin_arm, begin_arms, end_arm, end_arms};
-use crate::moves::put_retype;
+use crate::moves::{put_kept, put_retype};
 use crate::parts::is_never;
 use crate::setting::{Setting, further};
 use crate::stands::{Stand, count_names};
-use crate::stores::{Stored, count_indexes, put_stored};
+use crate::stores::count_indexes;
 use jib::{Literal, Operation};
 use lowered_pieces::Coding;
 use lowered_slots::Place;
+use sail_base::Text;
+use sail_core::Target;
 use size_values::Sized;
 use sized_nodes::Case;
 use std::alloc::{AllocError, Global};
@@ -35,14 +35,14 @@ pub enum Tail<'a> {
     Throws(&'a Stand<'a>),
     /// It is what the function gives.
     Returns(&'a Stand<'a>),
-    /// It goes to the place of the next name.
-    Binds(&'a Stand<'a>),
+    /// It goes to the place of the next variable, which has this name.
+    Binds(&'a Text, &'a Stand<'a>),
     /// It comes to the type that a node with these cases gives, where ways meet.
     Meets(&'a [Case], &'a Stand<'a>),
-    /// It goes to a register, and then `()` is in hand, for what comes behind.
-    Writes(u32, &'a Stand<'a>, &'a Tail<'a>),
-    /// It goes to a part of a register, and then `()` is in hand, for what comes behind.
-    Stores(&'a Stored<'a>, &'a Stand<'a>, &'a Tail<'a>),
+    /// It goes to a cell, whose indexes stand before it from where its assignment does, and then `()` is in hand, for what comes behind.
+    Gives(&'a Cell<'a>, &'a Stand<'a>, &'a Tail<'a>),
+    /// Its parts go to the cells of these targets, and then `()` is in hand, for what comes behind.
+    Shares(&'a [Target], &'a Stand<'a>, &'a Tail<'a>),
     /// It is the payload of an option: the type of the option, and that of its payload.
     Wraps(&'a Sized, &'a Sized, &'a Stand<'a>, &'a Tail<'a>),
     /// It stands in this place, and comes to the one where it is wanted, for what comes behind.
@@ -143,20 +143,31 @@ pub fn put_tail(
             let number = setting.number(typ)?;
             coding.put_end(Place::Temp(stand.temp), number)
         }
-        Tail::Binds(stand) => {
-            let number = setting.number(typ)?;
+        Tail::Binds(text, stand) => {
             let local = Place::Local(count_names(stand.scope)?);
-            coding.put_copy(local, number, Place::Temp(stand.temp), number)
+            let types = setting.reads_as(text);
+            put_kept(alloc, coding, setting, local, stand.temp, types, typ)
         }
         Tail::Meets(cases, stand) => put_met(alloc, coding, setting, cases, stand, typ),
-        Tail::Writes(register, stand, behind) => {
-            let number = setting.number(typ)?;
-            coding.put_write(*register, Place::Temp(stand.temp), number)?;
+        Tail::Gives(cell, stand, behind) => {
+            let takes = count_indexes(cell.suffixes)?;
+            let given = further(stand.temp, takes)?;
+            let higher = Stand {
+                temp: given,
+                ..**stand
+            };
+            put_cell(alloc, coding, setting, cell, stand.temp, &higher)?;
             put_unit(coding, setting, stand.temp)?;
             put_tail(alloc, coding, setting, behind, setting.nothing)
         }
-        Tail::Stores(stored, stand, behind) => {
-            put_stores(alloc, coding, setting, stored, stand, typ)?;
+        Tail::Shares(targets, stand, behind) => {
+            let takes = count_all(targets)?;
+            let given = further(stand.temp, takes)?;
+            let higher = Stand {
+                temp: given,
+                ..**stand
+            };
+            put_several(alloc, coding, setting, targets, 0, stand.temp, &higher, typ)?;
             put_unit(coding, setting, stand.temp)?;
             put_tail(alloc, coding, setting, behind, setting.nothing)
         }
@@ -180,57 +191,6 @@ pub fn put_tail(
             }
         }
     }
-}
-
-/// A register gets a new part, of this type, in each of these cases, with tests before all but the last. It fails where memory is wanting.
-fn put_stores_rest(
-    alloc: Global,
-    coding: &mut Coding,
-    setting: &Setting<'_>,
-    stored: &Stored<'_>,
-    stand: &Stand<'_>,
-    typ: &Sized,
-    free: u32,
-    end: u32,
-    cases: &[Case],
-) -> Result<(), AllocError>
-    ensures { OnOk result (ArmsPut picked_in (λ name. kit_at (kit_for setting.now name) (depths_of stand.now.levels.now)) free no_labels
-        (λ name. spec.part_arm_of setting.now name stored.now stand.now typ.now) end cases.now coding.old coding.new) }
-{
-    match cases {
-        [] => Ok(()),
-        [only] => put_stored(alloc, coding, setting, stored, stand, typ, only),
-        [first, rest @ ..] => {
-            let picked = first.picked.as_slice();
-            let next = begin_arm(alloc, coding, setting, stand.levels, free, picked)?;
-            put_stored(alloc, coding, setting, stored, stand, typ, first)?;
-            end_arm(coding, end, next)?;
-            put_stores_rest(alloc, coding, setting, stored, stand, typ, free, end, rest)
-        }
-    }
-}
-
-/// A register gets a new part, of this type. It fails where memory is wanting.
-fn put_stores(
-    alloc: Global,
-    coding: &mut Coding,
-    setting: &Setting<'_>,
-    stored: &Stored<'_>,
-    stand: &Stand<'_>,
-    typ: &Sized,
-) -> Result<(), AllocError>
-    ensures { OnOk result (Emits coding.old coding.new (λ name first.
-        by_case picked_in (kit_at (kit_for setting.now name) (depths_of stand.now.levels.now)) (stand.now.temp + takes_in stored.now.suffixes.now + 1) 0
-        (spec.part_arm_of setting.now name stored.now stand.now typ.now) first (cases_at stored.now.node 0 (nodes_in setting.now)))
-        (λ name. many 0 (cases_at stored.now.node 0 (nodes_in setting.now)))) }
-{
-    let cases = setting.cases(stored.node, 0);
-    let given = further(stand.temp, count_indexes(stored.suffixes)?)?;
-    let free = further(given, 1)?;
-    let count = cases.len();
-    let end = begin_arms(coding, count)?;
-    put_stores_rest(alloc, coding, setting, stored, stand, typ, free, end, cases)?;
-    end_arms(coding, count, end)
 }
 
 /// `()` comes to a place in hand. It fails where memory is wanting.

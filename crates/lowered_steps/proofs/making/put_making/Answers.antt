@@ -86,3 +86,17 @@ pub returns-in-Again : goal.returns-in-Again
 returns-in-Again c =
     subst (λ v. Emits c.args.coding.now c.args.coding.now (λ name l. maker_of c.args.setting.now name v (stand_of c.args.stand.now) c.args.case.now)
     no_labels) (sym c.in-Again.is) (emits_none c.args.coding.now)
+
+pub returns-in_ok-gives-in-Variable : goal.returns-in_ok-gives-in-Variable
+returns-in_ok-gives-in-Variable c =
+    making_is c.put_copy-in-Variable.result c.args.setting.now c.args.coding.now c.put_copy-in-Variable.new.self c.args.stand.now c.args.case.now
+    c.args.making.now _ c.in-Variable.is
+    (ok_same c.put_copy-in-Variable.result c.args.coding.now c.put_copy-in-Variable.new.self
+    (λ name l. I.Copy (G.Slot (name (Temp c.args.stand.now.temp) c.in_ok-gives-in-Variable.gives))
+    (R.Slot (name c.place_in-from-in-Variable.result c.in_ok-gives-in-Variable.gives)) ∷ [])
+    (λ name l. maker_of c.args.setting.now name (M.Variable c.in-Variable.name) (stand_of c.args.stand.now) c.args.case.now) no_labels
+    (λ name. ap (λ k. I.Copy (G.Slot (name (Temp c.args.stand.now.temp) k)) (R.Slot (name c.place_in-from-in-Variable.result k)) ∷ [])
+    c.in_ok-gives-in-Variable.ensures
+    ∙ ap (λ q. I.Copy (G.Slot (name (Temp c.args.stand.now.temp) (number_for c.args.setting.now c.args.case.now.gives)))
+    (R.Slot (name q (number_for c.args.setting.now c.args.case.now.gives))) ∷ []) c.place_in-from-in-Variable.ensures)
+    c.put_copy-in-Variable.ensures)

@@ -5,7 +5,7 @@ use Rattle.lowered_steps.specs.Setting.{kit_for, number_for}
 use Rattle.std.proofs.lemmas.Result.{IfOk-weaker}
 use Rattle.lowered_pieces.specs.Forms.{first_type}
 use Rattle.lowered_types.specs.Table.{type_in}
-use Rattle.lowered_steps.proofs.making.first_number.Goals as goal
+use Rattle.lowered_steps.proofs.moves.first_number.Goals as goal
 
 pub returns-in-empty : goal.returns-in-empty
 returns-in-empty c =

@@ -7,7 +7,7 @@ use Rattle.lowered_pieces.specs.Places.{Naming}
 use Rattle.lowered_pieces.proofs.Emitting.{ok_same}
 use Rattle.lowered_steps.specs.Setting.{kit_for, number_for}
 use Rattle.lowered_steps.proofs.Living.{dead_put, live_put}
-use Rattle.lowered_steps.proofs.making.put_cast.Goals as goal
+use Rattle.lowered_steps.proofs.moves.put_cast.Goals as goal
 
 pub returns-then-is_dead : goal.returns-then-is_dead
 returns-then-is_dead c =
