@@ -12,7 +12,7 @@ use Rattle.sail_core.specs.declared.targets.Suffix.{Suffix}
 use Rattle.sail_core.specs.declared.targets.Way.{Way}
 use Rattle.sail_core.specs.declared.targets.Way.TheVariants as Y
 use Rattle.sail_core.specs.declared.tree.Callee.TheVariants as F
-use Rattle.sail_core.specs.declared.tree.Core.{Core}
+use Rattle.sail_core.specs.declared.tree.Core.{Core, out-Core}
 use Rattle.sail_core.specs.declared.tree.Counting.{Counting}
 use Rattle.sail_core.specs.declared.tree.Kind.TheVariants as K
 use Rattle.sail_core.specs.declared.tree.Statement.{Statement}
@@ -20,16 +20,24 @@ use Rattle.sail_core.specs.declared.tree.Statement.TheVariants as X
 use Rattle.sail_core.specs.declared.written.Written.{Written}
 use Rattle.sail_core.specs.declared.written.WrittenNumber.{WrittenNumber}
 use Rattle.size_values.specs.Numbers.{known_at, known_of, truth_of}
-use Rattle.lowered_pieces.specs.Arms.{arm_lowered}
+use Rattle.lowered_pieces.specs.Arms.{arm_fits}
 use Rattle.lowered_pieces.specs.Lowering.{number_lowered, path_lowered, way_lowered}
 use Rattle.lowered_pieces.specs.Places.{Naming}
 use Rattle.lowered_steps.specs.declared.setting.Setting.{Setting}
-use Rattle.lowered_steps.specs.Setting.{size_for}
-use Rattle.lowered_ends.specs.Able.{all_for, block_ok, matched_for, number_fits, statement_ok, suffixes_fit, way_fits}
+use Rattle.lowered_pieces.specs.Tables.{cases_among}
+use Rattle.lowered_pieces.specs.Nodes.{cases_at, is_empty}
+use Rattle.lowered_pieces.specs.Writes.{is_read}
+use Rattle.size_values.specs.declared.sized.Sized.{Sized}
+use Rattle.lowered_steps.specs.Setting.{nodes_in, reads_at, size_for}
+use Rattle.lowered_ends.specs.Able.{all_for, block_ok, foreach_ok, matched_for, number_fits, statement_ok, suffixes_fit, variable_ok, way_fits}
 use Rattle.lowered_ends.specs.Around.{node_for}
 use Rattle.lowered_ends.specs.declared.around.Around.{Around}
 use Rattle.lowered_ends.proofs.Opened.{ok_with}
 use Rattle.lowered_ends.proofs.Sizes.{integer_has}
+
+no_second : (b : Bool) → (b && false) ≡ false
+no_second true = refl
+no_second false = refl
 
 and_true : (b : Bool) → (b && true) ≡ b
 and_true true = refl
@@ -52,7 +60,7 @@ module _ (setting : Setting) (around : Around) (name : Naming) where
       → (statement_ok setting around name x c && block_ok setting around name ss cs) ≡ block_ok setting around name (x ∷ ss) (c ∷ cs)
   block_decided X.Evaluate ss c cs = refl
   block_decided (X.Define place arm) ss c cs =
-      joined (arm_lowered (size_for setting) arm) (matched_for setting around name c) (block_ok setting around name ss cs)
+      joined (arm_fits (size_for setting) (reads_at setting.reads.now) arm) (matched_for setting around name c) (block_ok setting around name ss cs)
   block_decided (X.Declare text written) ss c cs = refl
 
   short_block : (x : Statement) (ss : List Statement) → false ≡ block_ok setting around name (x ∷ ss) []
@@ -167,15 +175,21 @@ module _ (setting : Setting) (around : Around) (name : Naming) where
     repeat_decided (a ∷ b ∷ c ∷ d ∷ cs) = unlike (suc (suc (suc (suc (length cs))))) 3 (all_for setting around name (a ∷ b ∷ c ∷ d ∷ cs))
         (λ e. omega (arith, e))
 
-    pub foreach_decided : (text : List ℕ) (way : Counting) (cs : List Core) → (nat_eq (length cs) 4 && all_for setting around name cs)
+    abbrev free_of : List ℕ → Bool
+    free_of text = is_empty (reads_at setting.reads.now text)
+
+    pub foreach_decided : (text : List ℕ) (way : Counting) (cs : List Core) → foreach_ok setting around name text cs
         ≡ ok_with setting around name (K.Foreach text way) node cs
-    foreach_decided text way [] = refl
-    foreach_decided text way (a ∷ []) = refl
-    foreach_decided text way (a ∷ b ∷ []) = refl
-    foreach_decided text way (a ∷ b ∷ c ∷ []) = refl
-    foreach_decided text way (a ∷ b ∷ c ∷ d ∷ []) = ap (λ x. is_ok a && x) (ap (λ x. is_ok b && x) (ap (λ x. is_ok c && x) (and_true (is_ok d))))
-    foreach_decided text way (a ∷ b ∷ c ∷ d ∷ e ∷ cs) = unlike (suc (suc (suc (suc (suc (length cs)))))) 4 (all_for setting around name (a ∷ b ∷ c ∷ d
-        ∷ e ∷ cs)) (λ x. omega (arith, x))
+    foreach_decided text way [] = no_second (free_of text)
+    foreach_decided text way (a ∷ []) = no_second (free_of text)
+    foreach_decided text way (a ∷ b ∷ []) = no_second (free_of text)
+    foreach_decided text way (a ∷ b ∷ c ∷ []) = no_second (free_of text)
+    foreach_decided text way (a ∷ b ∷ c ∷ d ∷ []) =
+        ap (λ x. free_of text && x) (ap (λ x. is_ok a && x) (ap (λ x. is_ok b && x) (ap (λ x. is_ok c && x) (and_true (is_ok d)))))
+    foreach_decided text way (a ∷ b ∷ c ∷ d ∷ e ∷ cs) =
+        ap (λ x. free_of text && x)
+        (unlike (suc (suc (suc (suc (suc (length cs)))))) 4 (all_for setting around name (a ∷ b ∷ c ∷ d ∷ e ∷ cs)) (λ x. omega (arith, x)))
+        ∙ no_second (free_of text)
 
     pub return_decided : (cs : List Core) → (nat_eq (length cs) 1 && all_for setting around name cs)
         ≡ ok_with setting around name K.Return node cs
@@ -213,8 +227,13 @@ module _ (setting : Setting) (around : Around) (name : Naming) where
     register_decided r [] = refl
     register_decided r (a ∷ cs) = ne_eqb (suc (length cs)) 0 (λ e. omega (arith, e))
 
-    pub variable_decided : (text : List ℕ) (cs : List Core) → false ≡ ok_with setting around name (K.Variable text) node cs
-    variable_decided text cs = refl
+    pub variable_decided : (text : List ℕ) (cs : List Core) → variable_ok setting text (out-Core node).number (length cs)
+        ≡ ok_with setting around name (K.Variable text) node cs
+    variable_decided text [] = refl
+    variable_decided text (a ∷ cs) =
+        let us : List Sized = reads_at setting.reads.now text in
+        ap (λ b. is_read us && (b && cases_among us (cases_at (out-Core node).number 0 (nodes_in setting))))
+        (ne_eqb (suc (length cs)) 0 (λ e. omega (arith, e)))
 
     pub optional_decided : (t : Typ) (cs : List Core) → false ≡ ok_with setting around name (K.Optional t) node cs
     optional_decided t cs = refl

@@ -1,11 +1,9 @@
 -- Which types have numbers, what is said by cases, and what is assigned to.
-use Rattle.std.proofs.Common.{◌≡◌, ◌∙◌, ℕ, zero, suc, ◌+◌, ◌≤◌, ◌<◌, nat_eq, nat_lt, Bool, true, false, ◌&&◌, List, [], ◌∷◌, length, map, refl, sym, ap, arith}
+use Rattle.std.proofs.Common.{◌≡◌, ◌∙◌, ℕ, zero, suc, ◌≤◌, ◌<◌, nat_eq, nat_lt, Bool, true, false, ◌&&◌, List, [], ◌∷◌, length, map, refl, sym, ap, arith}
 use Rattle.std.proofs.lemmas.Bool.{eq-eqb, ne_eqb}
-use Rattle.std.specs.Prelude.{◌||◌, if◌then◌else◌, None, Some, slice_index_or}
+use Rattle.std.specs.Prelude.{◌||◌, if◌then◌else◌, None, Some}
 use Rattle.sail_types.specs.declared.rows.Row.{Row}
-use Rattle.sail_types.specs.declared.table.Types.{Types}
 use Rattle.row_types.specs.Calls.{has_state}
-use Rattle.sail_core.specs.declared.targets.Suffix.{Suffix}
 use Rattle.size_values.specs.declared.sized.Sized.{Sized, Sized-F, out-Sized, roll-Sized}
 use Rattle.size_values.specs.declared.sized.Sized.TheOpen as Z
 use Rattle.size_values.specs.declared.sized.Sized.TheVariants as S
@@ -18,14 +16,13 @@ use Rattle.sail_core.specs.declared.tree.Kind.TheVariants as K
 use Rattle.size_values.specs.declared.constants.Picked.{Picked}
 use Rattle.sized_nodes.specs.declared.trees.Case.{Case}
 use Rattle.lowered_types.specs.Table.{form_never, is_known, type_in}
-use Rattle.lowered_pieces.specs.Forms.{Piece, cases_ends, ends_of, has_ends, one_end}
+use Rattle.lowered_pieces.specs.Forms.{Piece, cases_ends, has_ends, one_end}
 use Rattle.lowered_pieces.specs.Gathered.{is_one}
 use Rattle.lowered_pieces.specs.Places.{Naming}
-use Rattle.lowered_pieces.specs.Tables.{Tables}
 use Rattle.lowered_pieces.specs.Lowering.{row_lowered}
 use Rattle.lowered_pieces.specs.Mapped.{all_end, ends_if, fixed_end, if_fixed}
 use Rattle.lowered_pieces.specs.Nodes.{cases_at}
-use Rattle.lowered_pieces.specs.Writes.{is_field, part, spot_lowered, takes_in, target_spot, ways_known}
+use Rattle.lowered_pieces.specs.Writes.{spot_lowered, target_spot}
 use Rattle.lowered_steps.specs.declared.setting.Setting.{Setting}
 use Rattle.lowered_ends.specs.declared.around.Around.{Around}
 use Rattle.lowered_steps.specs.Setting.{nodes_in, tables_for}
@@ -142,35 +139,3 @@ module _ (setting : Setting) (around : Around) (name : Naming) (node : Core) whe
       ap (λ n. spot_lowered setting.types.now (tables_for setting around.instances.now) (target_spot t) n && all_for setting around name cs)
       (sym (many_nodes (node_for setting around name) cs))
       ∙ ap (λ (us : List Target). ok_with setting around name (K.Assign us) node cs) (sym one)
-
--- ---- what is assigned to, with so many parts
-
-module _ (types : Types) (tables : Tables) (k j r n : ℕ) where
-  abbrev said_at : Bool
-  said_at = has_ends (ends_of (tables.gives j) (tables.cases j 0))
-
-  abbrev spot_of_part : List Suffix → Bool
-  spot_of_part ss = spot_lowered types tables (Some (part k j r ss)) n
-
-  pub no_stored : (ss : List Suffix) → ss ≡ [] → false ≡ spot_of_part ss
-  no_stored ss none = ap (λ (us : List Suffix). spot_of_part us) (sym none)
-
-  pub one_stored : (ss : List Suffix) → 1 ≤ length ss → length ss < 2 → (nat_eq n (takes_in ss + 1) && said_at) ≡ spot_of_part ss
-  one_stored [] some few = absurd (omega (arith, some))
-  one_stored (s ∷ []) some few = refl
-  one_stored (s ∷ t ∷ ss) some few = absurd (omega (arith, few))
-
-  pub two_stored : (ss : List Suffix) (d : Suffix) (cs : List Case) (field known stored : Bool) → 2 ≤ length ss → length ss < 3
-      → field ≡ is_field (slice_index_or ss 0 d).way → known ≡ ways_known types tables.known (slice_index_or ss 0 d).way cs → cs ≡ tables.cases j 0
-      → stored ≡ (nat_eq n (takes_in ss + 1) && said_at) → ((field && known) && stored) ≡ spot_of_part ss
-  two_stored [] d cs field known stored some few a b same e = absurd (omega (arith, some))
-  two_stored (s ∷ []) d cs field known stored some few a b same e = absurd (omega (arith, some))
-  two_stored (s ∷ t ∷ []) d cs field known stored some few a b same e =
-      λ i. (a i && (b ∙ ap (λ (ds : List Case). ways_known types tables.known s.way ds) same) i) && e i
-  two_stored (s ∷ t ∷ u ∷ ss) d cs field known stored some few a b same e = absurd (omega (arith, few))
-
-  pub many_stored : (ss : List Suffix) → 3 ≤ length ss → false ≡ spot_of_part ss
-  many_stored [] some = absurd (omega (arith, some))
-  many_stored (s ∷ []) some = absurd (omega (arith, some))
-  many_stored (s ∷ t ∷ []) some = absurd (omega (arith, some))
-  many_stored (s ∷ t ∷ u ∷ ss) some = refl

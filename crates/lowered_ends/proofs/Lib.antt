@@ -7,5 +7,9 @@ pub mod Said
 mod Decided
 pub mod Sizes
 mod Parts
+mod Paths
+mod Aiming
 pub mod Known
 mod Assigning
+mod Reading
+mod Endings

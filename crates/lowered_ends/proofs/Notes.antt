@@ -28,18 +28,19 @@ use Rattle.lowered_ends.specs.declared.around.Around.{Around}
 use Rattle.lowered_ends.proofs.Lists.{first_at, others}
 use Rattle.lowered_ends.proofs.Opened.{many_nodes, piece_with}
 use Rattle.value_indices.specs.declared.indices.Indices.{Indices}
+use Rattle.size_values.specs.declared.sized.Sized.{Sized}
 use Rattle.sized_meanings.specs.Present.{gives_at}
 use Rattle.sail_core.specs.declared.tree.Giver.TheVariants as G
 use Rattle.lowered_pieces.specs.Arms.{Matched, arguments, fall_piece, first_piece, in_hand, stop_here, throw_here}
-use Rattle.lowered_pieces.specs.Forms.{End, Piece, all_notes, cases_ends, ends_of, notes_in}
+use Rattle.lowered_pieces.specs.Forms.{End, Piece, all_notes, cases_ends, ends_of, notes_in, variable_piece}
 use Rattle.row_types.specs.Calls.{has_state}
 use Rattle.sized_nodes.specs.declared.trees.Case.{Case}
 use Rattle.lowered_pieces.specs.Gathered.{is_one, state_piece}
 use Rattle.lowered_pieces.specs.Nodes.{cases_at}
 use Rattle.lowered_pieces.specs.Lowering.{Node, number_piece, pieces_of, row_piece, truth_piece}
-use Rattle.lowered_steps.specs.Setting.{kit_for, nodes_in, number_for, tables_for}
+use Rattle.lowered_steps.specs.Setting.{kit_for, nodes_in, number_for, reads_at, tables_for}
 use Rattle.lowered_ends.specs.Around.{callees_of, node_for, piece_as}
-use Rattle.lowered_ends.specs.Noted.{all_noted, block_for, both_noted, bounds_noted, caught_notes, counted_notes, first_noted, leaf_notes, let_noted, made_notes, match_noted, named_notes, node_notes, one_noted, only_notes, row_listed, row_noted, slice_notes, suffix_notes, way_notes}
+use Rattle.lowered_ends.specs.Noted.{all_noted, block_for, both_noted, bounds_noted, caught_notes, counted_notes, first_noted, leaf_notes, let_noted, made_notes, match_noted, named_notes, node_notes, one_noted, only_notes, read_notes, row_listed, row_noted, slice_notes, suffix_notes, variable_notes, way_notes}
 
 module _ (setting : Setting) (around : Around) (name : Naming) where
   pub notes_same : (cs : List Core) → all_noted setting around name cs
@@ -162,9 +163,17 @@ module _ (setting : Setting) (around : Around) (name : Naming) (node : Core) whe
   constant_notes literal [] = refl
   constant_notes literal (a ∷ cs) = refl
 
-  pub variable_notes : (text : List ℕ) (cs : List Core) → [] ≡ (piece_with setting around name (K.Variable text) node cs).notes
-  variable_notes text [] = refl
-  variable_notes text (a ∷ cs) = refl
+  abbrev read_piece : List Sized → ℕ → List ℕ → Piece
+  read_piece us k text =
+      variable_piece (kit_for setting name) (number_for setting) us text (cases_at k 0 (nodes_in setting)) (gives_at (nodes_in setting) (G.Node k))
+
+  read_said : (us : List Sized) (k : ℕ) (text : List ℕ) → read_notes setting us k ≡ (read_piece us k text).notes
+  read_said [] k text = refl
+  read_said (u ∷ us) k text = refl
+
+  pub variable_noted : (text : List ℕ) (cs : List Core) → variable_notes setting text (out-Core node).number
+      ≡ (piece_with setting around name (K.Variable text) node cs).notes
+  variable_noted text cs = read_said (reads_at setting.reads.now text) (out-Core node).number text
 
   pub while_notes : (cs : List Core) → [] ≡ (piece_with setting around name K.While node cs).notes
   while_notes [] = refl

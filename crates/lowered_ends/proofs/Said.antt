@@ -16,6 +16,7 @@ use Rattle.sail_core.specs.declared.tree.Core.{Core, out-Core}
 use Rattle.sail_core.specs.declared.tree.Counting.{Counting}
 use Rattle.sail_core.specs.declared.tree.Kind.TheVariants as K
 use Rattle.sail_core.specs.declared.tree.Statement.{Statement}
+use Rattle.sail_core.specs.declared.tree.Statement.TheVariants as X
 use Rattle.sail_core.specs.declared.written.Written.{Written}
 use Rattle.sail_core.specs.declared.written.WrittenNumber.{WrittenNumber}
 use Rattle.lowered_pieces.specs.Places.{Naming}
@@ -25,24 +26,36 @@ use Rattle.sail_types.specs.declared.rows.Row.{Row}
 use Rattle.row_types.specs.Calls.{has_state}
 use Rattle.value_indices.specs.declared.indices.Indices.{Indices}
 use Rattle.sized_nodes.specs.declared.trees.Case.{Case}
-use Rattle.lowered_pieces.specs.Forms.{Piece, ends_of, one_end}
+use Rattle.lowered_pieces.specs.Forms.{Piece, ends_of, one_end, variable_piece}
 use Rattle.lowered_pieces.specs.Gathered.{state_piece}
 use Rattle.lowered_pieces.specs.Lowering.{Node, number_piece, pieces_of, row_piece, truth_piece}
 use Rattle.lowered_pieces.specs.Nodes.{cases_at}
+use Rattle.lowered_pieces.specs.Paths.{path_ends}
+use Rattle.lowered_pieces.specs.Tables.{Tables}
+use Rattle.lowered_pieces.proofs.Pathing.{path_said}
 use Rattle.sail_core.specs.declared.tree.Giver.TheVariants as G
 use Rattle.sized_meanings.specs.Present.{gives_at}
-use Rattle.lowered_steps.specs.Setting.{kit_for, nodes_in, number_for, size_for, tables_for}
+use Rattle.lowered_steps.specs.Setting.{kit_for, nodes_in, number_for, reads_at, size_for, tables_for}
 use Rattle.size_values.specs.declared.sized.Sized.{Sized}
 use Rattle.size_values.specs.declared.sized.Sized.TheVariants as S
 use Rattle.lowered_ends.specs.Around.{callees_of, node_for, piece_as}
-use Rattle.lowered_ends.specs.Ends.{counted_ends, if_known, literal_ends, only_gives, row_ends, size_ends, truth_ends}
+use Rattle.lowered_ends.specs.Ends.{block_ends, counted_ends, if_known, literal_ends, met_ends, only_gives, part_ends, read_ends, row_ends, second_ends}
+use Rattle.lowered_ends.specs.Ends.{size_ends, truth_ends, variable_ends}
 use Rattle.lowered_ends.proofs.Opened.{many_nodes, piece_with}
 use Rattle.lowered_ends.proofs.Sizes.{bool_typ, integer_typ}
 
 module _ (setting : Setting) (around : Around) (name : Naming) (node : Core) where
-  pub variable_ends : (text : List ℕ) (cs : List Core) → [] ≡ (piece_with setting around name (K.Variable text) node cs).ends
-  variable_ends text [] = refl
-  variable_ends text (a ∷ cs) = refl
+  abbrev read_piece : List Sized → ℕ → List ℕ → Piece
+  read_piece us k text =
+      variable_piece (kit_for setting name) (number_for setting) us text (cases_at k 0 (nodes_in setting)) (gives_at (nodes_in setting) (G.Node k))
+
+  read_said : (us : List Sized) (k : ℕ) (text : List ℕ) → read_ends setting us k ≡ (read_piece us k text).ends
+  read_said [] k text = refl
+  read_said (u ∷ us) k text = refl
+
+  pub variable_said : (text : List ℕ) (cs : List Core) → variable_ends setting text (out-Core node).number
+      ≡ (piece_with setting around name (K.Variable text) node cs).ends
+  variable_said text cs = read_said (reads_at setting.reads.now text) (out-Core node).number text
 
   pub and_ends : (cs : List Core) → [] ≡ (piece_with setting around name K.And node cs).ends
   and_ends [] = refl
@@ -56,53 +69,7 @@ module _ (setting : Setting) (around : Around) (name : Naming) (node : Core) whe
   or_ends (a ∷ b ∷ []) = refl
   or_ends (a ∷ b ∷ c ∷ cs) = refl
 
-  pub part_ends : (ss : List Suffix) (cs : List Core) → [] ≡ (piece_with setting around name (K.Part ss) node cs).ends
-  part_ends ss [] = refl
-  part_ends ss (a ∷ cs) = refl
-
-  pub withitem_ends : (cs : List Core) → [] ≡ (piece_with setting around name K.WithItem node cs).ends
-  withitem_ends [] = refl
-  withitem_ends (a ∷ []) = refl
-  withitem_ends (a ∷ b ∷ []) = refl
-  withitem_ends (a ∷ b ∷ c ∷ []) = refl
-  withitem_ends (a ∷ b ∷ c ∷ d ∷ cs) = refl
-
-  pub withslice_ends : (cs : List Core) → [] ≡ (piece_with setting around name K.WithSlice node cs).ends
-  withslice_ends [] = refl
-  withslice_ends (a ∷ []) = refl
-  withslice_ends (a ∷ b ∷ []) = refl
-  withslice_ends (a ∷ b ∷ c ∷ []) = refl
-  withslice_ends (a ∷ b ∷ c ∷ d ∷ []) = refl
-  withslice_ends (a ∷ b ∷ c ∷ d ∷ e ∷ cs) = refl
-
-  pub let_ends : (arm : Arm) (cs : List Core) → [] ≡ (piece_with setting around name (K.Let arm) node cs).ends
-  let_ends arm [] = refl
-  let_ends arm (a ∷ []) = refl
-  let_ends arm (a ∷ b ∷ []) = refl
-  let_ends arm (a ∷ b ∷ c ∷ cs) = refl
-
-  pub var_ends : (text : List ℕ) (w : Option Written) (cs : List Core) → [] ≡ (piece_with setting around name (K.Var text w) node cs).ends
-  var_ends text w [] = refl
-  var_ends text w (a ∷ []) = refl
-  var_ends text w (a ∷ b ∷ []) = refl
-  var_ends text w (a ∷ b ∷ c ∷ cs) = refl
-
-  pub if_ends : (shape : Shape) (cs : List Core) → [] ≡ (piece_with setting around name (K.If shape) node cs).ends
-  if_ends shape [] = refl
-  if_ends shape (a ∷ []) = refl
-  if_ends shape (a ∷ b ∷ []) = refl
-  if_ends shape (a ∷ b ∷ c ∷ []) = refl
-  if_ends shape (a ∷ b ∷ c ∷ d ∷ cs) = refl
-
-  pub match_ends : (arms : List Arm) (shape : Shape) (cs : List Core) → [] ≡ (piece_with setting around name (K.Match arms shape) node cs).ends
-  match_ends arms shape [] = refl
-  match_ends arms shape (a ∷ cs) = refl
-
-  pub try_ends : (arms : List Arm) (shape : Shape) (cs : List Core) → [] ≡ (piece_with setting around name (K.Try arms shape) node cs).ends
-  try_ends arms shape [] = refl
-  try_ends arms shape (a ∷ cs) = refl
-
-  pub when_ends : (cs : List Core) → [] ≡ (piece_with setting around name K.When node cs).ends
+  pub when_ends : (cs : List Core) → second_ends setting around name cs ≡ (piece_with setting around name K.When node cs).ends
   when_ends [] = refl
   when_ends (a ∷ []) = refl
   when_ends (a ∷ b ∷ []) = refl
@@ -160,12 +127,79 @@ module _ (setting : Setting) (around : Around) (name : Naming) (node : Core) whe
   assign_ends (t ∷ []) cs = refl
   assign_ends (t ∷ u ∷ ts) cs = refl
 
-  pub block_ends : (ss : List Statement) (cs : List Core) → [] ≡ (piece_with setting around name (K.Block ss) node cs).ends
-  block_ends ss cs = refl
-
   -- with another count of parts
   uncounted : (o n m : ℕ) → (n ≡ m → ⊥) → counted_ends setting (out-Core node).number o (nat_eq n m) ≡ []
   uncounted o n m other = ap (λ b. counted_ends setting (out-Core node).number o b) (ne_eqb n m other)
+
+  pub withitem_ends : (cs : List Core) → counted_ends setting (out-Core node).number 3 (nat_eq (length cs) 3)
+      ≡ (piece_with setting around name K.WithItem node cs).ends
+  withitem_ends [] = refl
+  withitem_ends (a ∷ []) = refl
+  withitem_ends (a ∷ b ∷ []) = refl
+  withitem_ends (a ∷ b ∷ c ∷ []) = refl
+  withitem_ends (a ∷ b ∷ c ∷ d ∷ cs) = uncounted 3 (suc (suc (suc (suc (length cs))))) 3 (λ e. omega (arith, e))
+
+  pub withslice_ends : (cs : List Core) → counted_ends setting (out-Core node).number 4 (nat_eq (length cs) 4)
+      ≡ (piece_with setting around name K.WithSlice node cs).ends
+  withslice_ends [] = refl
+  withslice_ends (a ∷ []) = refl
+  withslice_ends (a ∷ b ∷ []) = refl
+  withslice_ends (a ∷ b ∷ c ∷ []) = refl
+  withslice_ends (a ∷ b ∷ c ∷ d ∷ []) = refl
+  withslice_ends (a ∷ b ∷ c ∷ d ∷ e ∷ cs) = uncounted 4 (suc (suc (suc (suc (suc (length cs)))))) 4 (λ x. omega (arith, x))
+
+  pub if_ends : (shape : Shape) (cs : List Core) → counted_ends setting (out-Core node).number 1 (nat_eq (length cs) 3)
+      ≡ (piece_with setting around name (K.If shape) node cs).ends
+  if_ends shape [] = refl
+  if_ends shape (a ∷ []) = refl
+  if_ends shape (a ∷ b ∷ []) = refl
+  if_ends shape (a ∷ b ∷ c ∷ []) = refl
+  if_ends shape (a ∷ b ∷ c ∷ d ∷ cs) = uncounted 1 (suc (suc (suc (suc (length cs))))) 3 (λ e. omega (arith, e))
+
+  pub match_ends : (arms : List Arm) (shape : Shape) (cs : List Core) → met_ends setting (out-Core node).number (length cs)
+      ≡ (piece_with setting around name (K.Match arms shape) node cs).ends
+  match_ends arms shape [] = refl
+  match_ends arms shape (a ∷ cs) = refl
+
+  pub try_ends : (arms : List Arm) (shape : Shape) (cs : List Core) → met_ends setting (out-Core node).number (length cs)
+      ≡ (piece_with setting around name (K.Try arms shape) node cs).ends
+  try_ends arms shape [] = refl
+  try_ends arms shape (a ∷ cs) = refl
+
+  pub let_ends : (arm : Arm) (cs : List Core) → second_ends setting around name cs ≡ (piece_with setting around name (K.Let arm) node cs).ends
+  let_ends arm [] = refl
+  let_ends arm (a ∷ []) = refl
+  let_ends arm (a ∷ b ∷ []) = refl
+  let_ends arm (a ∷ b ∷ c ∷ cs) = refl
+
+  pub var_ends : (text : List ℕ) (w : Option Written) (cs : List Core) → second_ends setting around name cs
+      ≡ (piece_with setting around name (K.Var text w) node cs).ends
+  var_ends text w [] = refl
+  var_ends text w (a ∷ []) = refl
+  var_ends text w (a ∷ b ∷ []) = refl
+  var_ends text w (a ∷ b ∷ c ∷ cs) = refl
+
+  pub block_same : (ss : List Statement) (cs : List Core) → block_ends setting around name ss cs
+      ≡ (piece_with setting around name (K.Block ss) node cs).ends
+  block_same [] [] = refl
+  block_same [] (c ∷ []) = refl
+  block_same [] (c ∷ d ∷ cs) = refl
+  block_same (X.Evaluate ∷ ss) [] = refl
+  block_same (X.Define place arm ∷ ss) [] = refl
+  block_same (X.Declare text w ∷ ss) [] = refl
+  block_same (X.Evaluate ∷ ss) (c ∷ cs) = block_same ss cs
+  block_same (X.Define place arm ∷ ss) (c ∷ cs) = block_same ss cs
+  block_same (X.Declare text w ∷ ss) (c ∷ cs) = block_same ss cs
+
+  pub part_same : (ss : List Suffix) (cs : List Core) → part_ends setting around name ss cs ≡ (piece_with setting around name (K.Part ss) node cs).ends
+  part_same ss [] = refl
+  part_same ss (c ∷ cs) =
+      let tables : Tables = tables_for setting around.instances.now in
+      let ps : List Piece = pieces_of (map (node_for setting around name) cs) in
+      ap (λ n. path_ends tables ss n (node_for setting around name c).piece.ends)
+      (sym (many_nodes (node_for setting around name) cs)
+      ∙ sym (many_nodes (λ (n : Node). n.piece) (map (node_for setting around name) cs)))
+      ∙ sym (path_said (kit_for setting name) (number_for setting) tables ss ps (node_for setting around name c).piece)
 
   pub local_ends : (text : List ℕ) (cs : List Core) → counted_ends setting (out-Core node).number 1 (nat_eq (length cs) 0)
       ≡ (piece_with setting around name (K.Local text) node cs).ends

@@ -3,3 +3,4 @@ pub mod Around
 pub mod Ends
 pub mod Noted
 pub mod Targets
+pub mod Cells

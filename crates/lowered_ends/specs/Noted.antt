@@ -8,6 +8,7 @@ use Rattle.sail_core.specs.declared.tree.Giver.TheVariants as G
 use Rattle.sail_core.specs.declared.tree.Statement.{Statement}
 use Rattle.sail_core.specs.declared.tree.Statement.TheVariants as X
 use Rattle.sail_core.specs.declared.tree.Core.{Core}
+use Rattle.size_values.specs.declared.sized.Sized.{Sized}
 use Rattle.sized_meanings.specs.Present.{gives_at}
 use Rattle.sized_nodes.specs.declared.trees.Case.{Case}
 use Rattle.lowered_pieces.specs.Places.{Naming}
@@ -15,12 +16,26 @@ use Rattle.lowered_pieces.specs.Forms.{Piece, all_notes, cases_ends, joined}
 use Rattle.lowered_pieces.specs.Gathered.{is_one}
 use Rattle.lowered_pieces.specs.Lowering.{block_piece, pieces_of}
 use Rattle.lowered_pieces.specs.Nodes.{cases_at}
+use Rattle.lowered_pieces.specs.Writes.{Cell}
+use Rattle.lowered_steps.specs.Cells.{aim_of, cells_of}
 use Rattle.lowered_steps.specs.declared.setting.Setting.{Setting}
-use Rattle.lowered_steps.specs.Setting.{kit_for, number_for, tables_for, nodes_in}
+use Rattle.lowered_steps.specs.Setting.{kit_for, number_for, reads_at, tables_for, nodes_in}
 use Rattle.lowered_ends.specs.declared.around.Around.{Around}
 use Rattle.lowered_ends.specs.declared.targets.Spot.{Spot}
 use Rattle.lowered_ends.specs.declared.targets.Spot.TheVariants as S
 use Rattle.lowered_ends.specs.Around.{callees_of, node_for, piece_for}
+
+-- at the node of a cell, and where the whole is read
+abbrev pub typed_listed : Setting → List Suffix → Cell → List ℕ
+typed_listed setting [] c = []
+typed_listed setting (s ∷ ss) c = all_notes (gives_at (nodes_in setting) (G.Node c.read))
+
+abbrev pub cell_listed : Setting → Cell → List ℕ
+cell_listed setting c = all_notes (gives_at (nodes_in setting) (G.Node c.number)) ++ typed_listed setting c.suffixes c
+
+abbrev pub cells_listed : Setting → List Cell → List ℕ
+cells_listed setting [] = []
+cells_listed setting (c ∷ cs) = cell_listed setting c ++ cells_listed setting cs
 
 module _ (setting : Setting) (around : Around) (name : Naming) where
   abbrev pub node_notes : Core → List ℕ
@@ -76,15 +91,11 @@ module _ (setting : Setting) (around : Around) (name : Naming) where
   row_noted true k cs = only_notes (cases_at k (length cs) (nodes_in setting)) k cs
   row_noted false k cs = made_notes k cs
 
-  abbrev whole_notes : ℕ → List Core → List ℕ
-  whole_notes k (c ∷ []) = node_notes c ++ own_notes k
-  whole_notes k cs = []
-
   -- those of an assignment
   abbrev pub assigned_notes : Spot → List Core → List ℕ
   assigned_notes S.Other cs = []
-  assigned_notes (S.Whole k r) cs = whole_notes k cs
-  assigned_notes (S.Part k j r suffixes) cs = all_noted cs ++ (own_notes k ++ own_notes j)
+  assigned_notes (S.One c) cs = all_noted cs ++ cell_listed setting (aim_of c)
+  assigned_notes (S.Several targets) cs = all_noted cs ++ cells_listed setting (cells_of targets.now)
   assigned_notes (S.Called k place n j f) cs = all_noted cs ++ (own_notes k ++ own_notes j)
 
   -- those of a suffix with its indexes, and of what stands behind it
@@ -134,6 +145,14 @@ module _ (setting : Setting) (k : ℕ) where
   abbrev pub caught_notes : ℕ → List ℕ
   caught_notes zero = []
   caught_notes (suc n) = given_notes ++ given_notes
+
+-- of a variable, where variables of its name are known to be read
+abbrev pub read_notes : Setting → List Sized → ℕ → List ℕ
+read_notes setting [] k = []
+read_notes setting (t ∷ ts) k = all_notes (gives_at (nodes_in setting) (G.Node k))
+
+abbrev pub variable_notes : Setting → List ℕ → ℕ → List ℕ
+variable_notes setting text k = read_notes setting (reads_at setting.reads.now text) k
 
 -- what a statement's names note
 abbrev pub named_notes : Setting → Giver → Statement → List ℕ

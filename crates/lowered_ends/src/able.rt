@@ -3,36 +3,32 @@ ghost use Rattle.std.specs.Prelude.{◌≡◌, ◌+◌, ◌&&◌, [], nat_eq, na
 ghost use Rattle.sail_types.specs.Named.{members as members_of};
 ghost use Rattle.sail_types.specs.declared.shapes.Shape.TheVariants as shape;
 ghost use Rattle.sail_core.specs.declared.tree.Callee.TheVariants as callee;
-ghost use Rattle.sail_core.specs.declared.tree.Giver.TheVariants as giver;
 ghost use Rattle.sail_core.specs.declared.tree.Kind.TheVariants as kind;
 ghost use Rattle.sail_core.specs.Values.{literal_typ, literal_value};
 ghost use Rattle.checked_meaning.specs.Fits.{has_sizes};
 ghost use Rattle.checked_meaning.specs.Items.{fixed_typ};
 ghost use Rattle.size_values.specs.Numbers.{known_at, known_of, truth_of as truth_in};
-ghost use Rattle.sized_meanings.specs.Present.{gives_at};
-ghost use Rattle.lowered_types.specs.Table.{is_known};
-ghost use Rattle.lowered_pieces.specs.Arms.{arm_lowered, arms_lowered, step_lowered, steps_in, steps_lowered, width_lowered, widths_lowered};
-ghost use Rattle.lowered_pieces.specs.Forms.{cases_ends, ends_of, has_ends};
+ghost use Rattle.lowered_pieces.specs.Arms.{arm_fits, arms_fit, step_fits, steps_fit, steps_in, width_lowered, widths_lowered};
+ghost use Rattle.lowered_pieces.specs.Forms.{cases_ends, has_ends};
 ghost use Rattle.lowered_pieces.specs.Gathered.{is_one as is_one_of};
 ghost use Rattle.lowered_pieces.specs.Mapped.{ends_with as ends_with_of, fixed_end as fixed_end_of};
-ghost use Rattle.lowered_pieces.specs.Nodes.{cases_at};
 ghost use Rattle.lowered_pieces.specs.Places.{Naming};
-ghost use Rattle.lowered_pieces.specs.Writes.{is_field as is_field_of, spot_lowered, takes_in, ways_known};
 ghost use Rattle.lowered_steps.specs.Hands.{types_of};
-ghost use Rattle.lowered_steps.specs.Setting.{nodes_in, size_for, tables_for};
+ghost use Rattle.lowered_steps.specs.Setting.{reads_at, size_for};
 ghost use Rattle.lowered_ends.specs.Able as spec;
 ghost use Rattle.lowered_ends.specs.Around.{direction_in, node_for, ok_as};
-ghost use Rattle.lowered_ends.specs.Targets.{spot_in};
 
 use crate::around::{Around, lead_to};
+use crate::cells::{is_numbered, is_spot};
 use crate::ends::{ends_with, literal_type, made_ends, node_ends};
-use crate::targets::{Spot, spot_of};
+use crate::targets::spot_of;
+use crate::told::{is_unread, is_variable};
 use jib::has_state;
-use lowered_steps::{Ends, Setting, count_indexes, way_type};
-use sail_base::Items;
+use lowered_steps::{Ends, Setting};
+use sail_base::{Items, Text};
 use sail_core::{Arm, Callee, Core, Head, Kind, Literal, Statement, Step, Suffix, Target, Way};
 use sail_types::{Con, Form, Num, Row, Types, is_small};
-use size_values::{Sized, Variables, truth_of, value_of};
+use size_values::{Variables, truth_of, value_of};
 use sized_nodes::Case;
 use std::alloc::{AllocError, Global};
 
@@ -68,14 +64,14 @@ fn is_width(setting: &Setting<'_>, width: &Option<Num>) -> bool
 
 /// Whether a step is lowered.
 fn is_step(setting: &Setting<'_>, step: &Step) -> bool
-    ensures { result ≡ step_lowered (size_for setting.now) step.now }
+    ensures { result ≡ step_fits (size_for setting.now) (reads_at setting.now.reads.now) step.now }
 {
     match step {
         Step::Opens(_, head, _) => match head {
             Head::Cut(widths) => are_widths(setting, widths.as_slice()),
             _ => true,
         },
-        Step::Names(_, _) => true,
+        Step::Names(_, name) => is_unread(setting, name),
         Step::Sees(_, _) => false,
     }
 }
@@ -92,7 +88,7 @@ pub fn arm_steps(arm: &Arm) -> &[Step]
 
 /// Whether all steps are lowered.
 fn are_steps(setting: &Setting<'_>, steps: &[Step]) -> bool
-    ensures { result ≡ steps_lowered (size_for setting.now) steps.now }
+    ensures { result ≡ steps_fit (size_for setting.now) (reads_at setting.now.reads.now) steps.now }
 {
     match steps {
         [] => true,
@@ -102,7 +98,7 @@ fn are_steps(setting: &Setting<'_>, steps: &[Step]) -> bool
 
 /// Whether an arm is lowered.
 pub fn is_arm(setting: &Setting<'_>, arm: &Arm) -> bool
-    ensures { result ≡ arm_lowered (size_for setting.now) arm.now }
+    ensures { result ≡ arm_fits (size_for setting.now) (reads_at setting.now.reads.now) arm.now }
 {
     match arm {
         Arm::Flat(_, steps) => are_steps(setting, steps.as_slice()),
@@ -112,105 +108,11 @@ pub fn is_arm(setting: &Setting<'_>, arm: &Arm) -> bool
 
 /// Whether all arms are lowered.
 fn are_arms(setting: &Setting<'_>, arms: &[Arm]) -> bool
-    ensures { result ≡ arms_lowered (size_for setting.now) arms.now }
+    ensures { result ≡ arms_fit (size_for setting.now) (reads_at setting.now.reads.now) arms.now }
 {
     match arms {
         [] => true,
         [first, rest @ ..] => is_arm(setting, first) && are_arms(setting, rest),
-    }
-}
-
-/// Whether a type has a number, or is that of what doesn't exist. It fails where there are 2^32 types or more.
-fn is_numbered(setting: &Setting<'_>, typ: &Sized) -> Result<bool, AllocError>
-    ensures { IfOk result (λ answer. answer ≡ is_known setting.now.numbered.now typ.now) }
-{
-    match typ {
-        Sized::Never => Ok(true),
-        _ => {
-            let number = setting.number(typ)?;
-            Ok((number as usize) < setting.numbered.len())
-        }
-    }
-}
-
-/// Whether what stands at a way into the values of all these cases has a type with a number. It fails where memory is wanting.
-fn are_ways(
-    alloc: Global,
-    setting: &Setting<'_>,
-    way: &Way,
-    cases: &[Case],
-) -> Result<bool, AllocError>
-    ensures { IfOk result (λ answer. answer ≡ ways_known setting.now.types.now (is_known setting.now.numbered.now) way.now cases.now) }
-{
-    match cases {
-        [] => Ok(true),
-        [first, rest @ ..] => {
-            let typ = way_type(alloc, setting.types, way, &first.gives)?;
-            let known = is_numbered(setting, &typ)?;
-            let are_others = are_ways(alloc, setting, way, rest)?;
-            Ok(both(known, are_others))
-        }
-    }
-}
-
-/// Whether a way is a field.
-fn is_field(way: &Way) -> bool
-    ensures { result ≡ is_field_of way.now }
-{
-    match way {
-        Way::Field(_, _) => true,
-        Way::Item => false,
-        Way::Slice => false,
-    }
-}
-
-/// Whether so many parts are the indexes of suffixes and a new part, and the types of what is read at a node are said. It fails where memory is wanting.
-fn is_stored(
-    alloc: Global,
-    setting: &Setting<'_>,
-    read: u32,
-    suffixes: &[Suffix],
-    parts: usize,
-) -> Result<bool, AllocError>
-    ensures { IfOk result (λ answer. answer ≡ (nat_eq parts (takes_in suffixes.now + 1)
-        && has_ends (ends_of (gives_at (nodes_in setting.now) (giver.Node read)) (cases_at read 0 (nodes_in setting.now))))) }
-{
-    let takes = count_indexes(suffixes)?;
-    let ends = made_ends(alloc, setting, read, 0)?;
-    let said = is_said(&ends);
-    Ok(both(parts as u64 == takes as u64 + 1, said))
-}
-
-/// Whether what is assigned to is lowered, with so many parts: of a part one suffix, or a field and one in it. It fails where memory is wanting.
-fn is_spot(
-    alloc: Global,
-    setting: &Setting<'_>,
-    around: &Around<'_>,
-    spot: Spot<'_>,
-    parts: usize,
-) -> Result<bool, AllocError>
-    ensures { IfOk result (λ answer. answer ≡
-        spot_lowered setting.now.types.now (tables_for setting.now around.now.instances.now) (spot_in spot.entry) parts) }
-{
-    match spot {
-        Spot::Other => Ok(false),
-        Spot::Whole(_, _) => Ok(parts == 1),
-        Spot::Part(_, read, _, suffixes) => match suffixes {
-            [] => Ok(false),
-            [_] => is_stored(alloc, setting, read, suffixes, parts),
-            [first, _] => {
-                let field = is_field(&first.way);
-                let known = are_ways(alloc, setting, &first.way, setting.cases(read, 0))?;
-                let stored = is_stored(alloc, setting, read, suffixes, parts)?;
-                let way = both(field, known);
-                Ok(both(way, stored))
-            }
-            [_, _, _, ..] => Ok(false),
-        },
-        Spot::Called(_, _, arguments, call, function) => {
-            let leads = lead_to(around, function, setting.leads(call));
-            Ok(both(parts as u64 == arguments as u64 + 1, leads))
-        }
     }
 }
 
@@ -236,7 +138,7 @@ pub fn has_one(cases: &[Case]) -> bool
 }
 
 /// Whether types are said.
-fn is_said(ends: &Ends<'_>) -> bool
+pub fn is_said(ends: &Ends<'_>) -> bool
     ensures { result ≡ has_ends (types_of ends.now) }
 {
     match ends {
@@ -723,6 +625,22 @@ fn are_clauses(
     Ok(both(flat, are_bodies))
 }
 
+/// Whether a loop over numbers is lowered, the number of which has this name. It fails where memory is wanting.
+#[cycle(is_lowered)]
+fn is_foreach(
+    alloc: Global,
+    setting: &Setting<'_>,
+    around: &Around<'_>,
+    name: &Text,
+    parts: &[Core],
+) -> Result<bool, AllocError>
+    ensures { IfOk result (λ answer. (naming : Naming) → answer ≡ spec.foreach_ok setting.now around.now naming name.now parts.now) }
+{
+    let free = is_unread(setting, name);
+    let are_parts = are_so_many(alloc, setting, around, 4, parts)?;
+    Ok(both(free, are_parts))
+}
+
 /// Whether a node is lowered. It fails where memory is wanting.
 #[cycle(is_lowered)]
 pub fn is_lowered(
@@ -737,7 +655,7 @@ pub fn is_lowered(
     match &node.kind {
         Kind::Constant(literal) => is_constant(alloc, setting, around, literal, node),
         Kind::Local(_) => Ok(parts.len() == 0),
-        Kind::Variable(_) => Ok(false),
+        Kind::Variable(name) => Ok(is_variable(setting, name, node.number, parts.len())),
         Kind::TopLevel(_) => Ok(parts.len() == 0),
         Kind::Register(_) => Ok(parts.len() == 0),
         Kind::Call(callee) => is_callee(alloc, setting, around, *callee, node),
@@ -769,7 +687,7 @@ pub fn is_lowered(
         Kind::Try(arms, _) => is_try(alloc, setting, around, arms, node),
         Kind::Clauses(arms) => are_clauses(alloc, setting, around, arms, node),
         Kind::When => are_so_many(alloc, setting, around, 2, parts),
-        Kind::Foreach(_, _) => are_so_many(alloc, setting, around, 4, parts),
+        Kind::Foreach(name, _) => is_foreach(alloc, setting, around, name, parts),
         Kind::While => are_so_many(alloc, setting, around, 3, parts),
         Kind::Repeat => are_so_many(alloc, setting, around, 3, parts),
         Kind::Return => are_so_many(alloc, setting, around, 1, parts),

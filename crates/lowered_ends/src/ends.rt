@@ -1,4 +1,4 @@
-//! The types that the value of a node may have, where they are said: of a node that makes its value, by the numbers that are noted behind it.
+//! The types that the value of a node may have, where they are said: of a node that ends with one that makes a value, by the numbers that are noted behind it.
 ghost use Rattle.std.specs.Prelude.{◌≡◌, nat_eq, length, not, IfOk};
 ghost use Rattle.sail_types.specs.declared.table.Types.{Types};
 ghost use Rattle.sail_core.specs.declared.tree.Giver.TheVariants as giver;
@@ -17,12 +17,12 @@ ghost use Rattle.lowered_ends.specs.Around.{piece_as, piece_for};
 ghost use Rattle.lowered_pieces.specs.Places.{Naming};
 ghost use Rattle.lowered_steps.specs.Setting.{nodes_in};
 
-use crate::able::both;
+use crate::able::{are_suffixes, both};
 use crate::around::Around;
 use jib::has_state;
 use lowered_steps::{Ends, Setting, list_given};
-use sail_base::Items;
-use sail_core::{Callee, Core, Giver, Kind, Literal};
+use sail_base::{Items, Text};
+use sail_core::{Callee, Core, Giver, Kind, Literal, Statement, Suffix, Way};
 use sail_types::{Con, Num, Row};
 use size_values::{Picked, Sized, Variables, copy_sized, same_sized, truth_of, value_of};
 use sized_nodes::Case;
@@ -222,6 +222,162 @@ fn counted_ends<'a>(
     }
 }
 
+/// What is said of a variable that a node reads: by the node's cases, where variables of its name are known to be read. It fails where memory is wanting.
+fn variable_ends<'a>(
+    alloc: Global,
+    setting: &Setting<'a>,
+    name: &Text,
+    node: u32,
+) -> Result<Ends<'a>, AllocError>
+    ensures { IfOk result (λ ends. types_of ends ≡ spec.variable_ends setting.now name.now node) }
+{
+    match setting.reads_as(name) {
+        [] => Ok(Ends::Unsaid),
+        [_, ..] => made_ends(alloc, setting, node, 0),
+    }
+}
+
+/// What is said of a value where ways meet, at a node with these parts. It fails where memory is wanting.
+fn met_ends<'a>(
+    alloc: Global,
+    setting: &Setting<'a>,
+    node: u32,
+    parts: &[Core],
+) -> Result<Ends<'a>, AllocError>
+    ensures { IfOk result (λ ends. types_of ends ≡ spec.met_ends setting.now node (length parts.now)) }
+{
+    match parts {
+        [] => Ok(Ends::Unsaid),
+        [_, ..] => made_ends(alloc, setting, node, 1),
+    }
+}
+
+/// What is said of what a suffix takes out. It fails where memory is wanting.
+fn suffix_ends<'a>(
+    alloc: Global,
+    setting: &Setting<'a>,
+    suffix: &Suffix,
+) -> Result<Ends<'a>, AllocError>
+    ensures { IfOk result (λ ends. types_of ends ≡ spec.suffix_ends setting.now suffix.now.way suffix.now.number) }
+{
+    match suffix.way {
+        Way::Field(_, _) => made_ends(alloc, setting, suffix.number, 1),
+        Way::Item => made_ends(alloc, setting, suffix.number, 2),
+        Way::Slice => made_ends(alloc, setting, suffix.number, 3),
+    }
+}
+
+/// What is said of what the last of a suffix and of others takes out. It fails where memory is wanting.
+fn last_ends<'a>(
+    alloc: Global,
+    setting: &Setting<'a>,
+    suffix: &Suffix,
+    others: &[Suffix],
+) -> Result<Ends<'a>, AllocError>
+    ensures { IfOk result (λ ends. types_of ends ≡ spec.last_ends setting.now suffix.now others.now) }
+{
+    match others {
+        [] => suffix_ends(alloc, setting, suffix),
+        [next, rest @ ..] => last_ends(alloc, setting, next, rest),
+    }
+}
+
+/// What is said of a part of this value, which has just its indexes. It fails where memory is wanting.
+#[cycle(node_ends)]
+fn taken_ends<'a>(
+    alloc: Global,
+    setting: &Setting<'a>,
+    around: &Around<'_>,
+    suffixes: &[Suffix],
+    whole: &Core,
+) -> Result<Ends<'a>, AllocError>
+    ensures { IfOk result (λ ends. (name : Naming) → types_of ends
+        ≡ spec.rest_ends setting.now suffixes.now (piece_for setting.now around.now name whole.now).ends) }
+{
+    match suffixes {
+        [] => node_ends(alloc, setting, around, whole),
+        [first, others @ ..] => last_ends(alloc, setting, first, others),
+    }
+}
+
+/// What is said of a part of the first of these nodes, the others of which are indexes. It fails where memory is wanting.
+#[cycle(node_ends)]
+fn part_ends<'a>(
+    alloc: Global,
+    setting: &Setting<'a>,
+    around: &Around<'_>,
+    suffixes: &[Suffix],
+    parts: &[Core],
+) -> Result<Ends<'a>, AllocError>
+    ensures { IfOk result (λ ends. (name : Naming) → types_of ends ≡ spec.part_ends setting.now around.now name suffixes.now parts.now) }
+{
+    match parts {
+        [] => Ok(Ends::Unsaid),
+        [whole, indexes @ ..] => {
+            if are_suffixes(suffixes, indexes.len()) {
+                taken_ends(alloc, setting, around, suffixes, whole)
+            } else {
+                Ok(Ends::Unsaid)
+            }
+        }
+    }
+}
+
+/// What is said of the second of two nodes. It fails where memory is wanting.
+#[cycle(node_ends)]
+fn second_ends<'a>(
+    alloc: Global,
+    setting: &Setting<'a>,
+    around: &Around<'_>,
+    parts: &[Core],
+) -> Result<Ends<'a>, AllocError>
+    ensures { IfOk result (λ ends. (name : Naming) → types_of ends ≡ spec.second_ends setting.now around.now name parts.now) }
+{
+    match parts {
+        [] => Ok(Ends::Unsaid),
+        [_] => Ok(Ends::Unsaid),
+        [_, value] => node_ends(alloc, setting, around, value),
+        [_, _, _, ..] => Ok(Ends::Unsaid),
+    }
+}
+
+/// What is said of the value behind all statements of a block: of the only node. It fails where memory is wanting.
+#[cycle(node_ends)]
+fn final_ends<'a>(
+    alloc: Global,
+    setting: &Setting<'a>,
+    around: &Around<'_>,
+    parts: &[Core],
+) -> Result<Ends<'a>, AllocError>
+    ensures { IfOk result (λ ends. (name : Naming) → types_of ends ≡ spec.final_ends setting.now around.now name parts.now) }
+{
+    match parts {
+        [] => Ok(Ends::Unsaid),
+        [value] => node_ends(alloc, setting, around, value),
+        [_, _, ..] => Ok(Ends::Unsaid),
+    }
+}
+
+/// What is said of the value of a block, each statement of which has a part. It fails where memory is wanting.
+#[cycle(node_ends)]
+fn block_ends<'a>(
+    alloc: Global,
+    setting: &Setting<'a>,
+    around: &Around<'_>,
+    statements: &[Statement],
+    parts: &[Core],
+) -> Result<Ends<'a>, AllocError>
+    ensures { IfOk result (λ ends. (name : Naming) → types_of ends ≡ spec.block_ends setting.now around.now name statements.now parts.now) }
+{
+    match statements {
+        [] => final_ends(alloc, setting, around, parts),
+        [_, rest @ ..] => match parts {
+            [] => Ok(Ends::Unsaid),
+            [_, others @ ..] => block_ends(alloc, setting, around, rest, others),
+        },
+    }
+}
+
 /// What is said of the number of a size. It is one type, where the number is known.
 fn size_ends<'a>(setting: &Setting<'a>, size: &Num, parts: &[Core]) -> Ends<'a>
     ensures { types_of result ≡ spec.size_ends setting.now size.now (length parts.now) }
@@ -305,6 +461,7 @@ pub fn node_ends<'a>(
     match &node.kind {
         Kind::Constant(literal) => literal_ends(alloc, literal, parts),
         Kind::Local(_) => counted_ends(alloc, setting, number, 1, 0, parts),
+        Kind::Variable(name) => variable_ends(alloc, setting, name, number),
         Kind::TopLevel(_) => counted_ends(alloc, setting, number, 0, 0, parts),
         Kind::Register(_) => counted_ends(alloc, setting, number, 0, 0, parts),
         Kind::Call(callee) => callee_ends(alloc, setting, around, *callee, node),
@@ -321,20 +478,21 @@ pub fn node_ends<'a>(
         Kind::SizeOf(size, _) => Ok(size_ends(setting, size, parts)),
         Kind::Constraint(condition, _) => Ok(truth_ends(setting, condition, parts)),
         Kind::Clauses(_) => common_ends(alloc, setting, around, parts),
-        Kind::Variable(_) => Ok(Ends::Unsaid),
         Kind::And => Ok(Ends::Unsaid),
         Kind::Or => Ok(Ends::Unsaid),
-        Kind::Part(_) => Ok(Ends::Unsaid),
-        Kind::WithItem => Ok(Ends::Unsaid),
-        Kind::WithSlice => Ok(Ends::Unsaid),
+        Kind::Part(suffixes) => part_ends(alloc, setting, around, suffixes.as_slice(), parts),
+        Kind::WithItem => counted_ends(alloc, setting, number, 3, 3, parts),
+        Kind::WithSlice => counted_ends(alloc, setting, number, 4, 4, parts),
         Kind::Assign(_) => Ok(Ends::Unsaid),
-        Kind::Block(_) => Ok(Ends::Unsaid),
-        Kind::Let(_) => Ok(Ends::Unsaid),
-        Kind::Var(_, _) => Ok(Ends::Unsaid),
-        Kind::If(_) => Ok(Ends::Unsaid),
-        Kind::Match(_, _) => Ok(Ends::Unsaid),
-        Kind::Try(_, _) => Ok(Ends::Unsaid),
-        Kind::When => Ok(Ends::Unsaid),
+        Kind::Block(statements) => {
+            block_ends(alloc, setting, around, statements.as_slice(), parts)
+        }
+        Kind::Let(_) => second_ends(alloc, setting, around, parts),
+        Kind::Var(_, _) => second_ends(alloc, setting, around, parts),
+        Kind::If(_) => counted_ends(alloc, setting, number, 1, 3, parts),
+        Kind::Match(_, _) => met_ends(alloc, setting, number, parts),
+        Kind::Try(_, _) => met_ends(alloc, setting, number, parts),
+        Kind::When => second_ends(alloc, setting, around, parts),
         Kind::Foreach(_, _) => Ok(Ends::Unsaid),
         Kind::While => Ok(Ends::Unsaid),
         Kind::Repeat => Ok(Ends::Unsaid),

@@ -6,10 +6,12 @@
 
 mod able;
 mod around;
+mod cells;
 mod ends;
 mod mapped;
 mod noted;
 mod targets;
+mod told;
 
 pub use able::{are_suffixes, arm_steps, is_arm, is_lowered, is_one};
 pub use around::{Around, Mapped, called_function};

@@ -10,14 +10,15 @@ ghost use Rattle.lowered_pieces.specs.Forms.{all_notes};
 ghost use Rattle.lowered_ends.specs.Around.{piece_as, piece_for};
 ghost use Rattle.lowered_pieces.specs.Places.{Naming};
 ghost use Rattle.lowered_ends.specs.Noted as spec;
+ghost use Rattle.lowered_steps.specs.Cells.{aim_of, cells_of};
 ghost use Rattle.lowered_steps.specs.Setting.{nodes_in};
 
 use crate::able::{are_suffixes, has_one};
 use crate::around::Around;
 use crate::targets::{Spot, spot_of};
 use jib::has_state;
-use lowered_steps::{Setting, list_given};
-use sail_base::Items;
+use lowered_steps::{Cell, Setting, cell_of, list_given};
+use sail_base::{Items, Text};
 use sail_core::{Callee, Core, Giver, Kind, Statement, Suffix, Target, Way};
 use sail_types::Row;
 use std::alloc::{AllocError, Global};
@@ -125,6 +126,43 @@ fn list_slice(
     }
 }
 
+/// Those that a new value gives at the node of a cell, and the whole where a part of it is new. It fails where memory is wanting.
+fn list_cell(
+    alloc: Global,
+    noted: &mut Items<u32>,
+    setting: &Setting<'_>,
+    cell: &Cell<'_>,
+) -> Result<(), AllocError>
+    ensures { OnOk result (noted.new ≡ noted.old ++ spec.cell_listed setting.now (aim_of cell.now)) }
+{
+    list_own(alloc, noted, setting, cell.number)?;
+    match cell.suffixes {
+        [] => Ok(()),
+        [_, ..] => list_own(alloc, noted, setting, cell.read),
+    }
+}
+
+/// So those of the cells of targets. It fails where memory is wanting.
+fn list_cells(
+    alloc: Global,
+    noted: &mut Items<u32>,
+    setting: &Setting<'_>,
+    targets: &[Target],
+) -> Result<(), AllocError>
+    ensures { OnOk result (noted.new ≡ noted.old ++ spec.cells_listed setting.now (cells_of targets.now)) }
+{
+    match targets {
+        [] => Ok(()),
+        [first, rest @ ..] => match cell_of(first) {
+            Some(cell) => {
+                list_cell(alloc, noted, setting, &cell)?;
+                list_cells(alloc, noted, setting, rest)
+            }
+            None => list_cells(alloc, noted, setting, rest),
+        },
+    }
+}
+
 /// Those of an assignment, with its indexes and arguments. It fails where memory is wanting.
 #[cycle(list_noted)]
 fn list_assigned(
@@ -139,18 +177,13 @@ fn list_assigned(
 {
     match spot {
         Spot::Other => Ok(()),
-        Spot::Whole(node, _) => match parts {
-            [] => Ok(()),
-            [value] => {
-                list_noted(alloc, noted, setting, around, value)?;
-                list_own(alloc, noted, setting, node)
-            }
-            [_, _, ..] => Ok(()),
-        },
-        Spot::Part(node, register, _, _) => {
+        Spot::One(cell) => {
             list_all(alloc, noted, setting, around, parts)?;
-            list_own(alloc, noted, setting, node)?;
-            list_own(alloc, noted, setting, register)
+            list_cell(alloc, noted, setting, &cell)
+        }
+        Spot::Several(targets) => {
+            list_all(alloc, noted, setting, around, parts)?;
+            list_cells(alloc, noted, setting, targets)
         }
         Spot::Called(node, _, _, call, _) => {
             list_all(alloc, noted, setting, around, parts)?;
@@ -254,6 +287,22 @@ fn list_leaf(
     match parts {
         [] => list_own(alloc, noted, setting, node),
         _ => Ok(()),
+    }
+}
+
+/// Those of a variable that a node reads. It fails where memory is wanting.
+fn list_variable(
+    alloc: Global,
+    noted: &mut Items<u32>,
+    setting: &Setting<'_>,
+    name: &Text,
+    node: u32,
+) -> Result<(), AllocError>
+    ensures { OnOk result (noted.new ≡ noted.old ++ spec.variable_notes setting.now name.now node) }
+{
+    match setting.reads_as(name) {
+        [] => Ok(()),
+        [_, ..] => list_own(alloc, noted, setting, node),
     }
 }
 
@@ -580,6 +629,7 @@ pub fn list_noted(
     let parts = node.parts.as_slice();
     match &node.kind {
         Kind::Local(_) => list_leaf(alloc, noted, setting, number, parts),
+        Kind::Variable(name) => list_variable(alloc, noted, setting, name, number),
         Kind::TopLevel(_) => list_leaf(alloc, noted, setting, number, parts),
         Kind::Register(_) => list_leaf(alloc, noted, setting, number, parts),
         Kind::Call(callee) => list_callee(alloc, noted, setting, around, *callee, node),
@@ -616,7 +666,6 @@ pub fn list_noted(
         Kind::Assert(_) => list_one(alloc, noted, setting, around, parts),
         Kind::Optional(_) => list_one(alloc, noted, setting, around, parts),
         Kind::Constant(_) => Ok(()),
-        Kind::Variable(_) => Ok(()),
         Kind::SizeOf(_, _) => Ok(()),
         Kind::Constraint(_, _) => Ok(()),
         Kind::Clauses(_) => Ok(()),

@@ -5,9 +5,9 @@ use Rattle.lowered_ends.proofs.Known.{assign_many, assign_none, assign_one, row_
 use Rattle.lowered_ends.proofs.Lists.{first_of, none_of, one_of, others, two_of}
 use Rattle.lowered_ends.proofs.Masses.{mass_opens, mass_some, masses, one_mass, rest_mass, two_masses}
 use Rattle.lowered_ends.proofs.Opened.{ok_is, ok_with}
-use Rattle.lowered_ends.specs.Able.{all_for, all_one_for, block_ok, number_fits, statement_ok, suffixes_fit}
+use Rattle.lowered_ends.specs.Able.{all_for, all_one_for, block_ok, foreach_ok, variable_ok, number_fits, statement_ok, suffixes_fit}
 use Rattle.lowered_ends.specs.Around.{callees_of, node_for, ok_as}
-use Rattle.lowered_pieces.specs.Arms.{arms_lowered}
+use Rattle.lowered_pieces.specs.Arms.{arms_fit}
 use Rattle.lowered_pieces.specs.Forms.{End, cases_ends, has_ends}
 use Rattle.lowered_pieces.specs.Gathered.{is_one}
 use Rattle.lowered_pieces.specs.Lowering.{applied_lowered}
@@ -15,7 +15,7 @@ use Rattle.lowered_pieces.specs.Nodes.{function_in}
 use Rattle.lowered_pieces.specs.Places.{Naming}
 use Rattle.lowered_pieces.specs.Tables.{leads_to}
 use Rattle.lowered_pieces.specs.Writes.{Spot as SpotOf, spot_lowered}
-use Rattle.lowered_steps.specs.Setting.{size_for, tables_for}
+use Rattle.lowered_steps.specs.Setting.{reads_at, size_for, tables_for}
 use Rattle.sail_core.specs.declared.patterns.Arm.{Arm}
 use Rattle.sail_core.specs.declared.targets.Suffix.{Suffix}
 use Rattle.sail_core.specs.declared.targets.Target.{Target}
@@ -46,8 +46,9 @@ is_lowered-returns-in-Local t c =
 
 pub is_lowered-returns-in-Variable : goal.is_lowered-returns-in-Variable
 is_lowered-returns-in-Variable t c =
-    let setting = c.args.setting.now in let around = c.args.around.now in let node = c.args.node.now in λ name. variable_decided setting around name node
-    c.in-Variable.field-0 (out-Core node).parts ∙ ok_is setting around name node _ c.in-Variable.is
+    let setting = c.args.setting.now in let around = c.args.around.now in let node = c.args.node.now in λ name. c.is_variable.ensures
+    ∙ ap (λ (cs : List Core). variable_ok setting c.in-Variable.name (out-Core node).number (length cs)) c.as_slice-parts.ensures
+    ∙ variable_decided setting around name node c.in-Variable.name (out-Core node).parts ∙ ok_is setting around name node _ c.in-Variable.is
 
 pub is_lowered-returns-in-TopLevel : goal.is_lowered-returns-in-TopLevel
 is_lowered-returns-in-TopLevel t c =
@@ -296,14 +297,21 @@ is_lowered-are_so_many-requires-in-When t c =
 
 pub is_lowered-returns-in-Foreach : goal.is_lowered-returns-in-Foreach
 is_lowered-returns-in-Foreach t c =
-    let setting = c.args.setting.now in let around = c.args.around.now in let node = c.args.node.now in IfOk-weaker c.are_so_many-in-Foreach.result _ (λ
-    (answer : Bool). (name : Naming) → answer ≡ (node_for setting around name node).ok) (λ answer is name. is name ∙ ap (λ (cs : List Core). nat_eq (length
-    cs) 4 && all_for setting around name cs) c.as_slice-parts.ensures ∙ foreach_decided setting around name node c.in-Foreach.field-0 c.in-Foreach.field-1
-    (out-Core node).parts ∙ ok_is setting around name node _ c.in-Foreach.is) c.are_so_many-in-Foreach.ensures
+    let setting = c.args.setting.now in let around = c.args.around.now in let node = c.args.node.now in IfOk-weaker c.is_foreach.result _ (λ
+    (answer : Bool). (name : Naming) → answer ≡ (node_for setting around name node).ok) (λ answer is name. is name ∙ ap (λ (cs : List Core). foreach_ok
+    setting around name c.in-Foreach.name cs) c.as_slice-parts.ensures ∙ foreach_decided setting around name node c.in-Foreach.name
+    c.in-Foreach.field-1
+    (out-Core node).parts ∙ ok_is setting around name node _ c.in-Foreach.is) c.is_foreach.ensures
 
-pub is_lowered-are_so_many-requires-in-Foreach : goal.is_lowered-are_so_many-requires-in-Foreach
-is_lowered-are_so_many-requires-in-Foreach t c =
+pub is_lowered-is_foreach-requires : goal.is_lowered-is_foreach-requires
+is_lowered-is_foreach-requires t c =
     (omega (arith, mass_opens c.args.node.now _ c.as_slice-parts.ensures, c.decreases), tt)
+
+pub is_foreach-returns : goal.is_foreach-returns
+is_foreach-returns t c = λ name. c.both.ensures ∙ (λ i. c.is_unread-free.ensures i && c.in_ok-are_parts.ensures name i)
+
+pub is_foreach-are_so_many-requires : goal.is_foreach-are_so_many-requires
+is_foreach-are_so_many-requires t c = (omega (arith, c.decreases), tt)
 
 pub is_lowered-returns-in-While : goal.is_lowered-returns-in-While
 is_lowered-returns-in-While t c =
@@ -649,16 +657,18 @@ is_let-is_lowered-requires t c =
 pub is_match-returns-in_ok-are_bodies-in-len1-up : goal.is_match-returns-in_ok-are_bodies-in-len1-up
 is_match-returns-in_ok-are_bodies-in-len1-up t c =
     let setting = c.args.setting.now in let around = c.args.around.now in let node = c.args.node.now in λ name. c.both.ensures ∙ (λ i.
-    c.in_ok-is_value-in-len1-up.ensures name i && (c.both-arms_stand.ensures ∙ (λ j. (c.are_arms-flat.ensures ∙ ap (λ (arms : List Arm). arms_lowered
-    (size_for setting) arms) c.as_slice-in-len1-up.ensures) j && c.in_ok-are_bodies-in-len1-up.ensures name j)) i) ∙ ap (λ (cs : List Core). ok_with setting
+    c.in_ok-is_value-in-len1-up.ensures name i && (c.both-arms_stand.ensures ∙ (λ j. (c.are_arms-flat.ensures ∙ ap (λ (arms : List Arm). arms_fit (size_for
+    setting) (reads_at setting.reads.now) arms) c.as_slice-in-len1-up.ensures) j && c.in_ok-are_bodies-in-len1-up.ensures name j)) i) ∙ ap (λ (cs : List
+    Core). ok_with setting
     around name (K.Match c.args.arms.now S.Unit) node cs) (sym (sym c.as_slice.ensures ∙ first_of _ _ c.in-len1-up.len_at_least c.value-item.is))
 
 pub is_try-returns-in_ok-are_bodies-in-len1-up : goal.is_try-returns-in_ok-are_bodies-in-len1-up
 is_try-returns-in_ok-are_bodies-in-len1-up t c =
     let setting = c.args.setting.now in let around = c.args.around.now in let node = c.args.node.now in λ name. c.both.ensures ∙ (λ i.
     c.in_ok-is_value-in-len1-up.ensures name i && (c.both-caught.ensures ∙ (λ j. (c.is_said-said.ensures ∙ ap (λ (es : List End). has_ends es)
-    c.in_ok-ends-in-len1-up.ensures) j && (c.both-arms_stand.ensures ∙ (λ k. (c.are_arms-flat.ensures ∙ ap (λ (arms : List Arm). arms_lowered (size_for
-    setting) arms) c.as_slice-in-len1-up.ensures) k && c.in_ok-are_bodies-in-len1-up.ensures name k)) j)) i) ∙ ap (λ (cs : List Core). ok_with setting
+    c.in_ok-ends-in-len1-up.ensures) j && (c.both-arms_stand.ensures ∙ (λ k. (c.are_arms-flat.ensures ∙ ap (λ (arms : List Arm). arms_fit (size_for setting)
+    (reads_at setting.reads.now) arms) c.as_slice-in-len1-up.ensures) k && c.in_ok-are_bodies-in-len1-up.ensures name k)) j)) i) ∙ ap (λ (cs : List Core).
+    ok_with setting
     around name (K.Try c.args.arms.now S.Unit) node cs) (sym (sym c.as_slice.ensures ∙ first_of _ _ c.in-len1-up.len_at_least c.value-item.is))
 
 pub is_match-is_matched-requires : goal.is_match-is_matched-requires
@@ -680,7 +690,8 @@ is_try-are_lowered-requires t c =
 pub are_clauses-returns : goal.are_clauses-returns
 are_clauses-returns t c =
     let setting = c.args.setting.now in let around = c.args.around.now in let node = c.args.node.now in λ name. c.both.ensures ∙ (λ i.
-    (c.are_arms-flat.ensures ∙ ap (λ (arms : List Arm). arms_lowered (size_for setting) arms) c.as_slice.ensures) i && (c.in_ok-are_bodies.ensures name ∙ ap
+    (c.are_arms-flat.ensures ∙ ap (λ (arms : List Arm). arms_fit (size_for setting) (reads_at setting.reads.now) arms) c.as_slice.ensures) i &&
+    (c.in_ok-are_bodies.ensures name ∙ ap
     (λ (cs : List Core). all_for setting around name cs) c.as_slice-2.ensures) i)
 
 pub are_clauses-are_lowered-requires : goal.are_clauses-are_lowered-requires

@@ -24,6 +24,9 @@ decreases-is_statement l = mass l.first.now + 2
 abbrev pub decreases-are_so_many : goal.decreases-are_so_many
 decreases-are_so_many l = masses l.nodes.now + 2
 
+abbrev pub decreases-is_foreach : goal.decreases-is_foreach
+decreases-is_foreach l = masses l.parts.now + 3
+
 abbrev pub decreases-is_callee : goal.decreases-is_callee
 decreases-is_callee l = masses (out-Core l.node.now).parts + 60
 

@@ -1,8 +1,10 @@
--- What is noted by a node of each kind stands in a file of its own.
+-- What is noted by a node of each kind, and by what is written, stands in files of their own.
 mod Kinds
+mod Written
 use Rattle.lowered_ends.proofs.noted.+list_noted.Answers.Kinds
+use Rattle.lowered_ends.proofs.noted.+list_noted.Answers.Written
 use Rattle.std.proofs.Common.{◌∙◌, ◌-◌, List, ◌∷◌, length, sym, ap, arith}
-use Rattle.lowered_ends.proofs.Assigning.{none_assigned, one_assigned, several_assigned, whole_short}
+use Rattle.lowered_ends.proofs.Assigning.{none_assigned, one_assigned, several_assigned}
 use Rattle.lowered_ends.proofs.Lists.{first_of, none_of, one_of, others, others_many, two_and, two_of}
 use Rattle.lowered_ends.proofs.Masses.{mass_at, mass_some, masses, one_mass, rest_mass, two_masses, two_rest_mass}
 use Rattle.lowered_ends.proofs.Notes.{applies_notes, block_notes, both_short, bounds_four, bounds_short, first_short, first_two, if_few, if_many, if_three, if_two, last_notes, let_short, listed_row, made_noted, noted_as, noted_four, noted_none, noted_then, noted_three, one_short, row_notes, slice_short, suffix_step}
@@ -10,7 +12,6 @@ use Rattle.lowered_ends.proofs.Opened.{piece_with}
 use Rattle.lowered_ends.proofs.Parts.{part_none, part_notes}
 use Rattle.lowered_ends.specs.Around.{piece_as}
 use Rattle.lowered_ends.specs.Noted.{all_noted, assigned_notes, block_for, both_noted, counted_notes, item_notes, let_noted, made_notes, match_noted, one_noted, row_noted, slice_notes, suffix_notes}
-use Rattle.lowered_ends.specs.declared.targets.Spot.{Spot}
 use Rattle.row_types.specs.Calls.{has_state}
 use Rattle.sail_core.specs.declared.targets.Suffix.{Suffix}
 use Rattle.sail_core.specs.declared.targets.Target.{Target}
@@ -19,7 +20,6 @@ use Rattle.sail_core.specs.declared.tree.Core.{Core, out-Core}
 use Rattle.sail_core.specs.declared.tree.Statement.{Statement}
 use Rattle.std.specs.Prelude.{Bool, nat_eq}
 use Rattle.sail_core.specs.declared.tree.Kind.TheVariants as K
-use Rattle.lowered_ends.specs.declared.targets.Spot.TheVariants as P
 use Rattle.sail_types.specs.declared.shapes.Shape.TheVariants as S
 use Rattle.lowered_ends.proofs.noted.+list_noted.Goals as goal
 
@@ -471,48 +471,25 @@ list_branches-returns-in-len4-up t c =
     cs).notes) c.as_slice.ensures)
 
 pub list_assigned-returns-in-Other : goal.list_assigned-returns-in-Other
-list_assigned-returns-in-Other t c =
-    let setting = c.args.setting.now in let around = c.args.around.now in λ name. noted_none _ _ (ap (λ (sp : Spot). assigned_notes setting around name sp
-    c.args.parts.now) (sym c.in-Other.is))
+list_assigned-returns-in-Other = Written.list_assigned-returns-in-Other
 
-pub list_assigned-returns-in_ok-list_own-in-Part : goal.list_assigned-returns-in_ok-list_own-in-Part
-list_assigned-returns-in_ok-list_own-in-Part t c =
-    let setting = c.args.setting.now in let around = c.args.around.now in λ name. noted_as c.list_own-in-Part-2.result _ _ _ _ (ap (λ (sp : Spot).
-    assigned_notes setting around name sp c.args.parts.now) (sym c.in-Part.is)) (noted_three c.list_own-in-Part-2.result _ _ _ _ _ _ _
-    (c.in_ok-list_all-in-Part.ensures name) c.in_ok-list_own-in-Part.ensures c.list_own-in-Part-2.ensures)
+pub list_assigned-returns-in_ok-list_all-in-One : goal.list_assigned-returns-in_ok-list_all-in-One
+list_assigned-returns-in_ok-list_all-in-One = Written.list_assigned-returns-in_ok-list_all-in-One
 
 pub list_assigned-list_all-requires : goal.list_assigned-list_all-requires
-list_assigned-list_all-requires t c =
-    (omega (arith, c.decreases), tt)
+list_assigned-list_all-requires = Written.list_assigned-list_all-requires
+
+pub list_assigned-returns-in_ok-list_all-in-Several : goal.list_assigned-returns-in_ok-list_all-in-Several
+list_assigned-returns-in_ok-list_all-in-Several = Written.list_assigned-returns-in_ok-list_all-in-Several
+
+pub list_assigned-list_all-requires-in-Several : goal.list_assigned-list_all-requires-in-Several
+list_assigned-list_all-requires-in-Several = Written.list_assigned-list_all-requires-in-Several
 
 pub list_assigned-returns-in_ok-list_own-in-Called : goal.list_assigned-returns-in_ok-list_own-in-Called
-list_assigned-returns-in_ok-list_own-in-Called t c =
-    let setting = c.args.setting.now in let around = c.args.around.now in λ name. noted_as c.list_own-in-Called-2.result _ _ _ _ (ap (λ (sp : Spot).
-    assigned_notes setting around name sp c.args.parts.now) (sym c.in-Called.is)) (noted_three c.list_own-in-Called-2.result _ _ _ _ _ _ _
-    (c.in_ok-list_all-in-Called.ensures name) c.in_ok-list_own-in-Called.ensures c.list_own-in-Called-2.ensures)
+list_assigned-returns-in_ok-list_own-in-Called = Written.list_assigned-returns-in_ok-list_own-in-Called
 
 pub list_assigned-list_all-requires-in-Called : goal.list_assigned-list_all-requires-in-Called
-list_assigned-list_all-requires-in-Called t c =
-    (omega (arith, c.decreases), tt)
-
-pub list_assigned-returns-in_ok-list_noted-in-len1 : goal.list_assigned-returns-in_ok-list_noted-in-len1
-list_assigned-returns-in_ok-list_noted-in-len1 t c =
-    let setting = c.args.setting.now in let around = c.args.around.now in λ name. noted_as c.list_own.result _ _ _ _ (ap (λ (cs : List Core). assigned_notes
-    setting around name (P.Whole c.in-Whole.node c.in-Whole.field-1) cs) (sym (one_of c.args.parts.now _ c.in-len1.len_at_least c.in-len1.len_below
-    c.value-item.is)) ∙ ap (λ (sp : Spot). assigned_notes setting around name sp c.args.parts.now) (sym c.in-Whole.is)) (noted_then c.list_own.result _ _ _
-    _ _ (c.in_ok-list_noted-in-len1.ensures name) c.list_own.ensures)
-
-pub list_assigned-returns-in-empty : goal.list_assigned-returns-in-empty
-list_assigned-returns-in-empty t c =
-    let setting = c.args.setting.now in let around = c.args.around.now in λ name. noted_none _ _ (whole_short setting around name c.in-Whole.node
-    c.in-Whole.field-1 c.args.parts.now (λ e. omega (arith, e, c.in-empty.len_below)) ∙ ap (λ (sp : Spot). assigned_notes setting around name sp
-    c.args.parts.now) (sym c.in-Whole.is))
-
-pub list_assigned-returns-in-len2-up : goal.list_assigned-returns-in-len2-up
-list_assigned-returns-in-len2-up t c =
-    let setting = c.args.setting.now in let around = c.args.around.now in λ name. noted_none _ _ (whole_short setting around name c.in-Whole.node
-    c.in-Whole.field-1 c.args.parts.now (λ e. omega (arith, e, c.in-len2-up.len_at_least)) ∙ ap (λ (sp : Spot). assigned_notes setting around name sp
-    c.args.parts.now) (sym c.in-Whole.is))
+list_assigned-list_all-requires-in-Called = Written.list_assigned-list_all-requires-in-Called
 
 pub list_assign-returns-in-len1 : goal.list_assign-returns-in-len1
 list_assign-returns-in-len1 t c =
@@ -533,10 +510,6 @@ list_assign-returns-in-len2-up t c =
     let setting = c.args.setting.now in let around = c.args.around.now in let node = c.args.node.now in λ name. noted_none _ _ (several_assigned setting
     around name node c.as_slice.result.now (out-Core node).parts c.in-len2-up.len_at_least ∙ ap (λ (ts : List Target). (piece_with setting around name
     (K.Assign ts) node (out-Core node).parts).notes) c.as_slice.ensures)
-
-pub list_assigned-list_noted-requires : goal.list_assigned-list_noted-requires
-list_assigned-list_noted-requires t c =
-    (omega (arith, one_mass _ _ c.in-len1.len_at_least c.value-item.is, c.decreases), tt)
 
 pub list_part-returns-in-empty : goal.list_part-returns-in-empty
 list_part-returns-in-empty t c =

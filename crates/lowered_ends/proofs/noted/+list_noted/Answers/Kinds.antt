@@ -3,7 +3,7 @@ use Rattle.std.proofs.Common.{◌≡◌, ◌∙◌, ℕ, ◌≤◌, List, length
 use Rattle.lowered_ends.proofs.Counts.{if_same, with_same}
 use Rattle.lowered_ends.proofs.Lists.{none_of}
 use Rattle.lowered_ends.proofs.Masses.{kind_mass, mass_opens}
-use Rattle.lowered_ends.proofs.Notes.{and_notes, assert_notes, cast_notes, clauses_notes, constant_notes, constraint_notes, exit_notes, foreach_notes, let_notes, local_notes, made_noted, match_notes, noted_as, noted_none, optional_notes, or_notes, register_notes, repeat_notes, return_notes, sizeof_notes, throw_notes, toplevel_notes, try_notes, var_notes, variable_notes, when_notes, while_notes, with_noted, withitem_notes, withslice_notes}
+use Rattle.lowered_ends.proofs.Notes.{and_notes, assert_notes, cast_notes, clauses_notes, constant_notes, constraint_notes, exit_notes, foreach_notes, let_notes, local_notes, made_noted, match_notes, noted_as, noted_none, optional_notes, or_notes, register_notes, repeat_notes, return_notes, sizeof_notes, throw_notes, toplevel_notes, try_notes, var_notes, variable_noted, when_notes, while_notes, with_noted, withitem_notes, withslice_notes}
 use Rattle.lowered_ends.proofs.Opened.{piece_is}
 use Rattle.lowered_ends.specs.Around.{callees_of, node_for, piece_as}
 use Rattle.lowered_ends.specs.Noted.{block_for, both_noted, bounds_noted, caught_notes, counted_notes, first_noted, leaf_notes, made_notes, one_noted}
@@ -312,8 +312,10 @@ list_noted-returns-in-Constant t c =
 
 pub list_noted-returns-in-Variable : goal.list_noted-returns-in-Variable
 list_noted-returns-in-Variable t c =
-    let setting = c.args.setting.now in let around = c.args.around.now in let node = c.args.node.now in λ name. noted_none _ _ (variable_notes setting
-    around name node c.in-Variable.field-0 (out-Core node).parts ∙ ap (λ (p : Piece). p.notes) (piece_is setting around name node _ c.in-Variable.is))
+    let setting = c.args.setting.now in let around = c.args.around.now in let node = c.args.node.now in λ name. noted_as c.list_variable.result _ _ _ _
+    (variable_noted setting around name node c.in-Variable.name (out-Core node).parts ∙ ap (λ (p : Piece). p.notes) (piece_is setting around name node _
+    c.in-Variable.is))
+    c.list_variable.ensures
 
 pub list_noted-returns-in-SizeOf : goal.list_noted-returns-in-SizeOf
 list_noted-returns-in-SizeOf t c =

@@ -1,5 +1,5 @@
 use Rattle.lowered_ends.proofs.Known.{else_known, never_known}
-use Rattle.lowered_ends.proofs.able.is_numbered.Goals as goal
+use Rattle.lowered_ends.proofs.cells.is_numbered.Goals as goal
 
 pub returns-in-Never : goal.returns-in-Never
 returns-in-Never c =
