@@ -16,7 +16,7 @@ use Rattle.lowered_pieces.specs.declared.coding.Coding.{Coding}
 use Rattle.lowered_pieces.specs.Arms.{first_piece, in_hand, raised_piece, stop_here, throw_here}
 use Rattle.lowered_pieces.specs.Chains.{many}
 use Rattle.lowered_pieces.specs.Emitted.{Emits}
-use Rattle.lowered_pieces.specs.Forms.{End, Piece, caught_at, ends_of, meet_piece, met_tail, seq_piece, unsaid}
+use Rattle.lowered_pieces.specs.Forms.{End, Piece, caught_at, ends_of, meet_piece, met_tail, seq_piece}
 use Rattle.lowered_pieces.specs.Nodes.{cases_at}
 use Rattle.lowered_pieces.specs.Places.{Naming}
 use Rattle.lowered_pieces.proofs.Emitting.{emits_then}
@@ -49,9 +49,9 @@ module _ {T E : Type 0} (r : Result T E) (walk : Walk) (stand : Standing) (tail 
 
     abbrev whole_match : Naming → Core → List Core → List End → List Arm → List Case → Piece
     whole_match name x ys es arms cases =
-        unsaid (meet_piece (kit_for walk.setting.now name) (number_for walk.setting.now) cases (gives_at (nodes_in walk.setting.now) (G.Node
+        meet_piece (kit_for walk.setting.now name) (number_for walk.setting.now) cases (gives_at (nodes_in walk.setting.now) (G.Node
         (out-Core node).number))
-        (seq_piece (piece_at walk name x) (first_with name (out-Core node).number (stops name) es arms ys)))
+        (seq_piece (piece_at walk name x) (first_with name (out-Core node).number (stops name) es arms ys))
 
     pub match_put : (arms : List Arm) (x : Core) (ys : List Core) (es : List End) (bs : List Arm) (cs : List Case) → bs ≡ arms
         → cs ≡ cases_at (out-Core node).number 1 (nodes_in walk.setting.now) → ((name : Naming) → es ≡ (piece_at walk name x).ends)

@@ -6,12 +6,13 @@ use Rattle.sail_core.specs.declared.tree.Core.{Core}
 use Rattle.lowered_pieces.specs.Forms.{Piece, nothing_piece}
 use Rattle.lowered_pieces.specs.Lowering.{Node}
 use Rattle.lowered_pieces.specs.Places.{Naming}
-use Rattle.lowered_pieces.specs.Writes.{Spot, before, called, final, part, spot_piece, whole, write_piece}
+use Rattle.lowered_pieces.specs.Writes.{Cell, Spot, Writing, before, called, cell_writing, final, given_piece, one, several, several_writing, spot_piece}
 use Rattle.lowered_steps.specs.Setting.{kit_for, number_for, tables_for}
-use Rattle.lowered_steps.specs.declared.stores.Stored.{Stored}
+use Rattle.lowered_steps.specs.declared.cells.Cell.{Cell as Found}
+use Rattle.lowered_steps.specs.Cells.{aim_of}
 use Rattle.lowered_ends.specs.Around.{callees_of, node_for}
 use Rattle.lowered_nodes.specs.declared.walk.Walk.{Walk}
-use Rattle.lowered_nodes.specs.Walk.{all_lowered_for, assigned_ok, called_with, cast_for, node_ok, part_for, piece_at, pieces_for, stored_with, written_for}
+use Rattle.lowered_nodes.specs.Walk.{all_lowered_for, assigned_ok, called_with, node_ok, one_for, piece_at, pieces_for, several_for, written_for}
 use Rattle.lowered_nodes.proofs.Counting.{many_pieces}
 use Rattle.lowered_nodes.proofs.Lasts.{before_last, final_last, map_last}
 
@@ -35,12 +36,6 @@ module _ (walk : Walk) (name : Naming) where
   final_is cs v =
       ap (λ (ps : List Piece). final nothing_piece ps) (pieces_last cs v) ∙ final_last nothing_piece (pieces_for walk name cs) (piece_at walk name v)
 
-  pub whole_is : (k r : ℕ) (cs : List Core) (v : Core) → cs ≡ v ∷ []
-      → write_piece (kit_for walk.setting.now name) (number_for walk.setting.now) (tables_for walk.setting.now walk.around.now.instances.now) r
-      (cast_for walk name k v)
-      ≡ spot_at (whole k r) (pieces_for walk name cs)
-  whole_is k r cs v one = ap (λ (ds : List Core). spot_at (whole k r) (pieces_for walk name ds)) (sym one)
-
   pub written_is : (k : ℕ) (place : TextPlace) (n j f m : ℕ) (ps cs : List Core) (v : Core) → ps ≡ cs ++ v ∷ [] → m ≡ length ps
       → written_for walk name k (record { place = place; node = j; count = m }) cs v ≡ spot_at (called k place n j f) (pieces_for walk name ps)
   written_is k place n j f m ps cs v is count =
@@ -54,11 +49,23 @@ module _ (walk : Walk) (name : Naming) where
       called_by : ℕ → List Piece → Piece → Piece
       called_by i qs p = called_with walk name k (record { place = place; node = j; count = i }) qs p
 
-  pub part_is : (k : ℕ) (w : Stored) (ps cs : List Core) (v : Core) → ps ≡ cs ++ v ∷ []
-      → part_for walk name k w cs v ≡ spot_at (part k w.node w.register w.suffixes.now) (pieces_for walk name ps)
-  part_is k w ps cs v is =
-      (λ i. stored_with walk name k w (sym (before_is cs v) i) (sym (final_is cs v) i))
-      ∙ ap (λ (ds : List Core). spot_at (part k w.node w.register w.suffixes.now) (pieces_for walk name ds)) (sym is)
+  -- registers and variables, and parts of them
+  abbrev given_with : Writing → List Piece → Piece → Piece
+  given_with w ps p = given_piece (kit_for walk.setting.now name) w ps p
+
+  pub one_is : (cell : Found) (ps cs : List Core) (v : Core) → ps ≡ cs ++ v ∷ []
+      → one_for walk name cell cs v ≡ spot_at (one (aim_of cell)) (pieces_for walk name ps)
+  one_is cell ps cs v is =
+      (λ i. given_with (cell_writing walk.setting.now.types.now (kit_for walk.setting.now name)
+      (tables_for walk.setting.now walk.around.now.instances.now) (aim_of cell)) (sym (before_is cs v) i) (sym (final_is cs v) i))
+      ∙ ap (λ (ds : List Core). spot_at (one (aim_of cell)) (pieces_for walk name ds)) (sym is)
+
+  pub several_is : (cells : List Cell) (ps cs : List Core) (v : Core) → ps ≡ cs ++ v ∷ []
+      → several_for walk name cells cs v ≡ spot_at (several cells) (pieces_for walk name ps)
+  several_is cells ps cs v is =
+      (λ i. given_with (several_writing walk.setting.now.types.now (kit_for walk.setting.now name)
+      (tables_for walk.setting.now walk.around.now.instances.now) cells) (sym (before_is cs v) i) (sym (final_is cs v) i))
+      ∙ ap (λ (ds : List Core). spot_at (several cells) (pieces_for walk name ds)) (sym is)
 
   -- all of them are lowered
   pub last_lowered : (cs : List Core) (v : Core) → all_lowered_for walk name (cs ++ v ∷ []) ≡ true → assigned_ok walk name cs v ≡ true

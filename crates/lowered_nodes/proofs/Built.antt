@@ -14,14 +14,12 @@ use Rattle.lowered_pieces.specs.declared.coding.Coding.{Coding}
 use Rattle.lowered_pieces.specs.Chains.{many}
 use Rattle.lowered_pieces.specs.Counted.{bounds_code, bounds_labels}
 use Rattle.lowered_pieces.specs.Emitted.{Emits, Grows, no_labels}
-use Rattle.lowered_pieces.specs.Forms.{Piece, Stand, Tail as Ending, all_code, all_labels, made_code}
-use Rattle.lowered_pieces.specs.Writes.{part_tail, takes_in}
+use Rattle.lowered_pieces.specs.Forms.{Piece, Stand, all_code, all_labels, made_code}
 use Rattle.lowered_pieces.specs.Nodes.{cases_at, leads_at}
 use Rattle.lowered_pieces.specs.Places.{Kit, Naming, Temp}
 use Rattle.lowered_pieces.proofs.Emitting.{emits_from}
 use Rattle.lowered_steps.specs.declared.making.Making.{Making}
 use Rattle.lowered_steps.specs.declared.stands.Stand.{Stand as Standing}
-use Rattle.lowered_steps.specs.declared.stores.Stored.{Stored}
 use Rattle.lowered_steps.specs.declared.tails.Tail.{Tail}
 use Rattle.lowered_steps.specs.Makers.{maker_of}
 use Rattle.lowered_steps.specs.Setting.{kit_for, nodes_in, number_for}
@@ -30,7 +28,7 @@ use Rattle.lowered_steps.specs.Tails.{tail_of}
 use Rattle.lowered_ends.specs.Around.{callees_of}
 use Rattle.lowered_nodes.specs.declared.calls.Calling.{Calling}
 use Rattle.lowered_nodes.specs.declared.walk.Walk.{Walk}
-use Rattle.lowered_nodes.specs.Walk.{Puts, call_for, cast_for, leads_for, leads_labels, made_for, noted_code, operands_for, part_for, pieces_for, state_for}
+use Rattle.lowered_nodes.specs.Walk.{Puts, call_for, cast_for, leads_for, leads_labels, made_for, noted_code, operands_for, pieces_for, state_for}
 use Rattle.lowered_nodes.specs.Walk.{state_of, written_for}
 use Rattle.lowered_nodes.proofs.Counting.{many_pieces}
 use Rattle.lowered_nodes.proofs.Joining.{ok_as, ok_first, ok_more}
@@ -117,7 +115,7 @@ module _ {T E : Type 0} (r : Result T E) (s : Stand) (p q u : Naming → Piece) 
       (subst (λ k. OnOk r (Stays c d (record s { temp = k }) u)) (next ∙ ap (λ k. k + 1) is) h)))
       (λ name. refl) (λ name. omega arith)
 
--- arguments or indexes, and the new value behind them, of a call or of a part of a register
+-- arguments, and the new value behind them, of a call
 module _ {T E : Type 0} (r : Result T E) (walk : Walk) (stand : Standing) (tail : Tail) where
   pub behind_put : (cs : List Core) (p : Naming → Piece) (m : ℕ) → m ≡ stand.temp + length cs → (a b c : Coding)
       → Emits a b (λ name x. all_code (kit_for walk.setting.now name) (number_for walk.setting.now) (pieces_for walk name cs) (stand_of stand) x)
@@ -143,21 +141,3 @@ module _ {T E : Type 0} (r : Result T E) (walk : Walk) (stand : Standing) (tail 
       (λ name. pieces_for walk name cs ++ cast_for walk name k v ∷ [])
       (λ name. count ∙ ap (λ n. n + 1) (many_pieces walk name cs) ∙ sym (length_last (pieces_for walk name cs) (cast_for walk name k v)))
       a c d (behind_put cs (λ name. cast_for walk name k v) m is a b c x y) h
-
-  abbrev stored_tail : Naming → Stored → Ending
-  stored_tail name w =
-      part_tail walk.setting.now.types.now (kit_for walk.setting.now name) w.register w.suffixes.now (cases_at w.node 0 (nodes_in walk.setting.now))
-      (gives_at (nodes_in walk.setting.now) (G.Node w.node)) (tail_of walk.setting.now name tail) (stand_of stand)
-
-  -- the indexes of a part of a register, and its new value
-  pub part_put : (k : ℕ) (w : Stored) (cs : List Core) (v : Core) (m : ℕ) → m ≡ stand.temp + takes_in w.suffixes.now → (a b c : Coding)
-      → Emits a b (λ name x. all_code (kit_for walk.setting.now name) (number_for walk.setting.now) (pieces_for walk name cs) (stand_of stand) x)
-      (λ name. all_labels (kit_for walk.setting.now name) (number_for walk.setting.now) (pieces_for walk name cs))
-      → OnOk r (Emits b c (λ name x. (cast_for walk name k v).ended (stored_tail name w) (record (stand_of stand) { temp = m }) x)
-      (λ name. (cast_for walk name k v).labels (stored_tail name w).labels))
-      → OnOk r (Puts a c walk stand tail (λ name. part_for walk name k w cs v))
-  part_put k w cs v m is a b c x h =
-      ok_as r a c _ _ _ _
-      (ok_more r a b c _ _ _ _ x (subst (λ n. OnOk r (Emits b c (λ name l. (cast_for walk name k v).ended (stored_tail name w) (record
-      (stand_of stand) { temp = n }) l)
-      (λ name. (cast_for walk name k v).labels (stored_tail name w).labels))) is h)) (λ name. refl) (λ name. refl)

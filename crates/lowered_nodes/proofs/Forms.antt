@@ -16,8 +16,8 @@ use Rattle.jib.specs.declared.code.Operation.TheVariants as O
 use Rattle.size_values.specs.declared.sized.Sized.{Sized}
 use Rattle.sized_meanings.specs.Present.{gives_at}
 use Rattle.sized_nodes.specs.declared.trees.Case.{Case}
-use Rattle.lowered_pieces.specs.Arms.{arguments, arm_lowered, arms_lowered, fall_piece, first_piece}
-use Rattle.lowered_pieces.specs.Forms.{End, Piece, ends_of, has_ends, in_fields, made_of_piece, meet_piece, nothing_piece, unit_source, unsaid, work_make}
+use Rattle.lowered_pieces.specs.Arms.{arguments, arm_fits, arms_fit, fall_piece, first_piece}
+use Rattle.lowered_pieces.specs.Forms.{End, Piece, ends_of, has_ends, in_fields, made_of_piece, meet_piece, nothing_piece, unit_source, work_make}
 use Rattle.lowered_pieces.specs.Gathered.{is_one, only_end}
 use Rattle.lowered_pieces.specs.Lowering.{applied_lowered, is_matched}
 use Rattle.lowered_pieces.specs.Mapped.{operand_moved}
@@ -25,7 +25,7 @@ use Rattle.lowered_pieces.specs.Moves.{retype}
 use Rattle.lowered_pieces.specs.Nodes.{cases_at}
 use Rattle.lowered_pieces.specs.Places.{Naming}
 use Rattle.lowered_steps.specs.declared.hands.Matched.{Matched}
-use Rattle.lowered_steps.specs.Setting.{kit_for, nodes_in, number_for, size_for}
+use Rattle.lowered_steps.specs.Setting.{kit_for, nodes_in, number_for, reads_at, size_for}
 use Rattle.lowered_ends.specs.Around.{callees_of, node_for}
 use Rattle.lowered_nodes.specs.declared.arms.Otherwise.{Otherwise}
 use Rattle.lowered_nodes.specs.declared.walk.Walk.{Walk}
@@ -52,7 +52,7 @@ module _ (walk : Walk) (name : Naming) where
   pub define_lowered : (place : TextPlace) (arm : Arm) (rest : List Statement) (first : Core) (others : List Core)
       → block_ok walk name (X.Define place arm ∷ rest) (first ∷ others) ≡ true → bound_ok walk name first rest others ≡ true
   define_lowered place arm rest first others h =
-      let both = (and_parts (arm_lowered (size_for walk.setting.now) arm)
+      let both = (and_parts (arm_fits (size_for walk.setting.now) (reads_at walk.setting.now.reads.now) arm)
       (is_matched (node_for walk.setting.now walk.around.now name first) && block_ok walk name rest others) h).1 in
       let two = and_parts (is_matched (node_for walk.setting.now walk.around.now name first)) (block_ok walk name rest others) both in
       and_from (node_ok walk name first) (block_ok walk name rest others)
@@ -83,9 +83,9 @@ module _ (walk : Walk) (name : Naming) where
     -- two branches meet
     abbrev pub met_if : Core → Core → List Core → Piece
     met_if a b us =
-        unsaid (meet_piece (kit_for walk.setting.now name) (number_for walk.setting.now)
+        meet_piece (kit_for walk.setting.now name) (number_for walk.setting.now)
         (cases_at (out-Core node).number 1 (nodes_in walk.setting.now)) (gives_at (nodes_in walk.setting.now) (G.Node (out-Core node).number))
-        (if_for walk name a b us))
+        (if_for walk name a b us)
 
     pub if_both : (a b : Core) (us : List Core) → length us ≡ 1
         → met_if a b us ≡ piece_with walk.setting.now walk.around.now name (K.If S.Unit) node (a ∷ b ∷ us)
@@ -130,7 +130,7 @@ module _ (walk : Walk) (name : Naming) where
     -- arms
     module _ (arms : List Arm) (x : Core) (ys : List Core) where
       abbrev lowered_arms : Bool
-      lowered_arms = arms_lowered (size_for walk.setting.now) arms
+      lowered_arms = arms_fit (size_for walk.setting.now) (reads_at walk.setting.now.reads.now) arms
 
       module _ (h : ok_with walk.setting.now walk.around.now name (K.Match arms S.Unit) node (x ∷ ys) ≡ true) where
         pub match_value : node_ok walk name x ≡ true

@@ -11,6 +11,7 @@ mod Forms
 mod Arming
 mod Lasts
 mod Assigned
+mod Written
 mod Ways
 mod Crossed
 mod Spots

@@ -12,7 +12,8 @@ use Rattle.lowered_pieces.specs.Emitted.{Emits, no_labels}
 use Rattle.lowered_pieces.specs.Places.{Kit, Local, Naming, Temp, from, to}
 use Rattle.lowered_pieces.specs.Arms.{catch_piece, else_piece, failing}
 use Rattle.lowered_pieces.specs.Counted.{bounds_code, bounds_labels, foreach_piece, next_code, turn_code, turn_stand}
-use Rattle.lowered_pieces.specs.Forms.{Piece, Stand, Tail, and_piece, assert_piece, bind_piece, bind_tail, bound, caught_at, code_of, count_of, fallen_code}
+use Rattle.lowered_pieces.specs.Forms.{var_piece, var_tail}
+use Rattle.lowered_pieces.specs.Forms.{Piece, Stand, Tail, and_piece, assert_piece, bound, caught_at, code_of, count_of, fallen_code}
 use Rattle.lowered_pieces.specs.Forms.{higher, if_piece, jump_where, no_measure_yet, or_piece, repeat_piece, seq_piece, unit_piece, when_piece, while_piece}
 use Rattle.lowered_pieces.specs.Mapped.{none_piece, optional_piece, some_tail}
 use Rattle.sail_types.specs.declared.table.Types.{Types}
@@ -37,11 +38,11 @@ module _ {T E : Type 0} (r : Result T E) (kit : Naming → Kit) (s : Stand) (t :
   pub seq_put : (p q : Naming → Piece) (a b c : Coding) → Stays a b s p → OnOk r (Ended b c q) → OnOk r (Ended a c (λ name. seq_piece (p name) (q name)))
   seq_put p q a b c x h = ok_more r a b c _ _ _ _ x h
 
-  pub bind_put : (p q : Naming → Piece) (nm : List ℕ) (a b c : Coding)
-      → Emits a b (λ name x. (p name).ended (bind_tail (kit name) s) s x) (λ name. count_of (p name))
+  pub bind_put : (us : List Sized) (p q : Naming → Piece) (nm : List ℕ) (a b c : Coding)
+      → Emits a b (λ name x. (p name).ended (var_tail (kit name) us s) s x) (λ name. count_of (p name))
       → OnOk r (Emits b c (λ name x. (q name).ended (t name) (bound nm s) x) (λ name. (q name).labels (t name).labels))
-      → OnOk r (Ended a c (λ name. bind_piece (kit name) nm (p name) (q name)))
-  bind_put p q nm a b c x h = ok_more r a b c _ _ _ _ x h
+      → OnOk r (Ended a c (λ name. var_piece (kit name) us nm (p name) (q name)))
+  bind_put us p q nm a b c x h = ok_more r a b c _ _ _ _ x h
 
   pub and_put : (p q : Naming → Piece) (a b c d e f g z : Coding) (l m : ℕ) → l ≡ a.labels → m ≡ l + 1 → Takes a b 2 → Stays b c s p
       → Plain c d (λ name. jump_where (kit name) s l ∷ []) → Plain d e (λ name. I.Goto m ∷ I.Label l ∷ []) → Stays e f s q

@@ -11,7 +11,7 @@ use Rattle.sail_core.specs.declared.tree.Kind.TheVariants as K
 use Rattle.size_values.specs.declared.sized.Sized.{Sized}
 use Rattle.jib.specs.declared.code.Operation.TheVariants as O
 use Rattle.lowered_pieces.specs.Fields.{with_make}
-use Rattle.lowered_pieces.specs.Forms.{Callees, Piece, in_order, made_of_piece, unsaid, work_piece}
+use Rattle.lowered_pieces.specs.Forms.{Callees, Piece, in_order, made_of_piece, work_piece}
 use Rattle.lowered_pieces.specs.Gathered.{all_one, is_one}
 use Rattle.lowered_pieces.specs.Lowering.{Node, all_lowered, kind_lowered, kind_piece, pieces_of, row_lowered, row_piece}
 use Rattle.lowered_pieces.specs.Places.{Kit, Naming}
@@ -62,7 +62,7 @@ module _ (walk : Walk) (name : Naming) (c : Core) where
 
 module _ (types : Types) (kit : Kit) (number : Sized → ℕ) (callees : Callees) (tables : Tables) (place : TextPlace) (k : ℕ) where
   pub item_form : (ps : List Piece) → length ps ≡ 3
-      → unsaid (work_piece kit number O.WithItem in_order (tables.cases k (length ps)) (tables.gives k) ps)
+      → work_piece kit number O.WithItem in_order (tables.cases k (length ps)) (tables.gives k) ps
       ≡ kind_piece types kit number callees tables place k K.WithItem ps
   item_form [] three = absurd (omega (arith, three))
   item_form (a ∷ []) three = absurd (omega (arith, three))
@@ -71,7 +71,7 @@ module _ (types : Types) (kit : Kit) (number : Sized → ℕ) (callees : Callees
   item_form (a ∷ b ∷ c ∷ d ∷ ps) three = absurd (omega (arith, three))
 
   pub slice_form : (ps : List Piece) → length ps ≡ 4
-      → unsaid (work_piece kit number O.WithSlice in_order (tables.cases k (length ps)) (tables.gives k) ps)
+      → work_piece kit number O.WithSlice in_order (tables.cases k (length ps)) (tables.gives k) ps
       ≡ kind_piece types kit number callees tables place k K.WithSlice ps
   slice_form [] four = absurd (omega (arith, four))
   slice_form (a ∷ []) four = absurd (omega (arith, four))

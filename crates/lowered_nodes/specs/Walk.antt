@@ -26,10 +26,10 @@ use Rattle.lowered_pieces.specs.Chains.{by_case, many}
 use Rattle.lowered_pieces.specs.Moves.{retype}
 use Rattle.lowered_pieces.specs.Nodes.{cases_at, leads_at}
 use Rattle.lowered_pieces.specs.Counted.{bounds_code, bounds_labels, foreach_piece, turn_stand}
-use Rattle.lowered_pieces.specs.Writes.{assign_piece, part_piece, spot_lowered, take_op, takes_of}
+use Rattle.lowered_pieces.specs.Writes.{Cell as Aim, Writing, assign_piece, cell_writing, given_piece, several_writing, spot_lowered, take_op, takes_of}
 use Rattle.lowered_pieces.specs.Paths.{path_piece}
-use Rattle.lowered_pieces.specs.Arms.{arm_piece, arms_lowered, failing, fall_piece, first_piece, let_piece, stop_here, throw_here, try_piece}
-use Rattle.lowered_pieces.specs.Forms.{End, Piece, again_code, bind_piece, call_piece, if_piece, inside_piece, kit_at, made_of_piece}
+use Rattle.lowered_pieces.specs.Arms.{arm_piece, arms_fit, failing, fall_piece, first_piece, let_piece, stop_here, throw_here, try_piece}
+use Rattle.lowered_pieces.specs.Forms.{End, Piece, again_code, all_code, all_labels, call_piece, if_piece, inside_piece, kit_at, made_of_piece, var_piece}
 use Rattle.lowered_pieces.specs.Forms.{cast_piece, code_of, count_of, in_order, picked_by, work_piece}
 use Rattle.lowered_pieces.specs.Forms.{lead_arm, note_code, unit_piece}
 use Rattle.lowered_pieces.specs.Lowering.{Node, all_lowered, block_lowered, block_piece, path_lowered, pieces_of}
@@ -37,11 +37,12 @@ use Rattle.lowered_steps.specs.declared.hands.Matched.{Matched as MatchedValue}
 use Rattle.lowered_steps.specs.declared.making.Making.{Making}
 use Rattle.lowered_steps.specs.declared.setting.Setting.{Setting}
 use Rattle.lowered_steps.specs.declared.stands.Stand.{Stand}
-use Rattle.lowered_steps.specs.declared.stores.Stored.{Stored}
+use Rattle.lowered_steps.specs.Cells.{aim_of}
+use Rattle.lowered_steps.specs.declared.cells.Cell.{Cell}
 use Rattle.lowered_steps.specs.declared.tails.Tail.{Tail}
 use Rattle.lowered_steps.specs.Hands.{matched_of}
 use Rattle.lowered_steps.specs.Makers.{maker_of}
-use Rattle.lowered_steps.specs.Setting.{kit_for, number_for, size_for, tables_for, nodes_in}
+use Rattle.lowered_steps.specs.Setting.{kit_for, number_for, reads_at, size_for, tables_for, nodes_in}
 use Rattle.lowered_steps.specs.Stands.{depths_of, stand_of}
 use Rattle.lowered_steps.specs.Tails.{tail_of}
 use Rattle.lowered_ends.specs.Around.{callees_of, node_for, ok_as, piece_as}
@@ -173,12 +174,16 @@ module _ (walk : Walk) where
     abbrev pub written_for : ℕ → Calling → List Core → Core → Piece
     written_for k calling cs c = called_with k calling (pieces_for name cs) (piece_at c)
 
-    abbrev pub stored_with : ℕ → Stored → List Piece → Piece → Piece
-    stored_with k w ps p =
-        part_piece setting.types.now kit w.register w.suffixes.now (cases_at w.node 0 (nodes_in setting)) (given (G.Node w.node)) ps (new_for k p)
+    abbrev pub given_for : Writing → List Core → Core → Piece
+    given_for w cs c = given_piece kit w (pieces_for name cs) (piece_at c)
 
-    abbrev pub part_for : ℕ → Stored → List Core → Core → Piece
-    part_for k w cs c = stored_with k w (pieces_for name cs) (piece_at c)
+    abbrev pub one_for : Cell → List Core → Core → Piece
+    one_for cell cs c =
+        given_for (cell_writing setting.types.now kit (tables_for setting walk.around.now.instances.now) (aim_of cell)) cs c
+
+    abbrev pub several_for : List Aim → List Core → Core → Piece
+    several_for cells cs c =
+        given_for (several_writing setting.types.now kit (tables_for setting walk.around.now.instances.now) cells) cs c
 
     abbrev pub assign_for : Spot → List Core → Piece
     assign_for spot cs =
@@ -231,7 +236,7 @@ module _ (walk : Walk) where
         let_piece setting.types.now kit (given giver) (piece_at value) arm (block_for k ss cs) (MatchFailure place)
 
     abbrev pub bind_for : List ℕ → Core → ℕ → List Statement → List Core → Piece
-    bind_for text value k ss cs = bind_piece kit text (piece_at value) (block_for k ss cs)
+    bind_for text value k ss cs = var_piece kit (reads_at setting.reads.now text) text (piece_at value) (block_for k ss cs)
 
     -- there may be no second branch
     abbrev pub second_for : List Core → Piece
@@ -317,7 +322,7 @@ module _ (walk : Walk) where
     all_lowered_for cs = all_lowered (nodes_for name cs)
 
     abbrev pub block_ok : List Statement → List Core → Bool
-    block_ok ss cs = block_lowered (callees_of setting walk.around.now) ss (nodes_for name cs)
+    block_ok ss cs = block_lowered (callees_of setting walk.around.now) (tables_for setting walk.around.now.instances.now) ss (nodes_for name cs)
 
     abbrev pub statement_ok : Statement → List Statement → Core → List Core → Bool
     statement_ok statement rest first others = block_ok (statement ∷ rest) (first ∷ others)
@@ -350,4 +355,16 @@ module _ (walk : Walk) where
     path_ok whole suffixes indexes = node_ok whole && ways_ok suffixes indexes
 
     abbrev pub try_ok : List Arm → Core → List Core → Bool
-    try_ok arms value bodies = node_ok value && (arms_lowered (size_for setting) arms && all_lowered_for bodies)
+    try_ok arms value bodies = node_ok value && (arms_fit (size_for setting) (reads_at setting.reads.now) arms && all_lowered_for bodies)
+
+-- indexes are in hand, and then a value behind so many places, with what is done with it
+abbrev pub Given : Coding → Coding → Walk → Stand → Tail → ℕ → List Core → Core → Type 0
+Given old new walk stand gives takes cs c =
+    Emits old new
+    (λ name first.
+    all_code (kit_for walk.setting.now name) (number_for walk.setting.now) (pieces_for walk name cs) (stand_of stand) first
+    ++ (piece_at walk name c).ended (tail_of walk.setting.now name gives) (record (stand_of stand) { temp = stand.temp + takes })
+    (first + all_labels (kit_for walk.setting.now name) (number_for walk.setting.now) (pieces_for walk name cs)))
+    (λ name.
+    all_labels (kit_for walk.setting.now name) (number_for walk.setting.now) (pieces_for walk name cs)
+    + (piece_at walk name c).labels (tail_of walk.setting.now name gives).labels)

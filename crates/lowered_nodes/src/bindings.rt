@@ -80,7 +80,8 @@ pub fn put_bind<'x>(
     ensures { OnOk result (spec.Puts coding.old coding.new walk.now stand.now tail.now
         (λ naming. spec.bind_for walk.now naming name.now value.now number statements.now parts.now)) }
 {
-    put_node(&*walk, coding, &*stand, &Tail::Binds(&*stand), &*value)?;
+    let binds = Tail::Binds(&*name, &*stand);
+    put_node(&*walk, coding, &*stand, &binds, &*value)?;
     let mut names = Items::new(walk.alloc);
     names.push(Named {
         name: &*name,

@@ -87,6 +87,35 @@ pub fn put_local<'x>(
     }
 }
 
+/// A variable. It fails where memory is wanting.
+pub fn put_variable<'x>(
+    walk: &'x Walk<'x>,
+    coding: &mut Coding,
+    stand: &'x Stand<'x>,
+    tail: &'x Tail<'x>,
+    name: &'x Text,
+    node: &'x Core,
+) -> Result<(), AllocError>
+    requires { (naming : Naming) → spec.as_ok walk.now naming (kind.Variable name.now) node.now ≡ true }
+    ensures { OnOk result (spec.Puts coding.old coding.new walk.now stand.now tail.now
+        (λ naming. spec.as_for walk.now naming (kind.Variable name.now) node.now)) }
+{
+    match node.parts.as_slice() {
+        [] => put_made(
+            walk.alloc,
+            coding,
+            walk.setting,
+            &*stand,
+            &*tail,
+            node.number,
+            0,
+            0,
+            &Making::Variable(&*name),
+        ),
+        _ => Ok(()),
+    }
+}
+
 /// A name of a top-level `let`. It fails where memory is wanting.
 pub fn put_opening<'x>(
     walk: &'x Walk<'x>,

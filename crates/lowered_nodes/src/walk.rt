@@ -8,7 +8,9 @@ use crate::arms::{put_caught, put_clauses, put_match};
 use crate::bindings::{put_let_in, put_statements, put_var_in};
 use crate::branches::{put_and, put_branches, put_or, put_when};
 use crate::calls::put_callee;
-use crate::leaves::{put_constant, put_local, put_opening, put_read, put_size, put_truth};
+use crate::leaves::{
+    put_constant, put_local, put_opening, put_read, put_size, put_truth, put_variable,
+};
 use crate::loops::{put_counted, put_repeat, put_while};
 use crate::operands::{put_made_of, put_own_cast, put_with, put_with_item, put_with_slice};
 use crate::paths::put_part_of;
@@ -48,7 +50,7 @@ pub fn put_node<'x>(
     match &node.kind {
         Kind::Constant(literal) => put_constant(&*walk, coding, &*stand, &*tail, literal, &*node),
         Kind::Local(name) => put_local(&*walk, coding, &*stand, &*tail, name, &*node),
-        Kind::Variable(_) => Ok(()),
+        Kind::Variable(name) => { put_variable(&*walk, coding, &*stand, &*tail, name, &*node) }
         Kind::TopLevel(name) => put_opening(&*walk, coding, &*stand, &*tail, *name, &*node),
         Kind::Register(register) => put_read(&*walk, coding, &*stand, &*tail, *register, &*node),
         Kind::Call(callee) => put_callee(&*walk, coding, &*stand, &*tail, *callee, &*node),

@@ -2,14 +2,15 @@
 ghost use Rattle.std.specs.Prelude.{◌≡◌, ◌+◌, true, length, OnOk};
 ghost use Rattle.sail_core.specs.declared.tree.Kind.TheVariants as kind;
 ghost use Rattle.lowered_pieces.specs.Places.{Naming};
+ghost use Rattle.lowered_steps.specs.Cells.{cells_of};
 ghost use Rattle.lowered_nodes.specs.Walk as spec;
 
 use crate::calls::{Calling, put_calling};
 use crate::operands::{put_all, put_cast};
-use crate::walk::Walk;
+use crate::walk::{Walk, put_node};
 use lowered_ends::{Spot, spot_of};
 use lowered_pieces::Coding;
-use lowered_steps::{Stand, Stored, Tail, as_number, count_indexes, further};
+use lowered_steps::{Cell, Stand, Tail, as_number, count_all, count_indexes, further};
 use sail_base::Items;
 use sail_core::{Core, Target};
 use std::alloc::AllocError;
@@ -40,30 +41,66 @@ fn put_written<'x>(
     put_calling(&*walk, coding, &*stand, &*tail, calling)
 }
 
-/// A new part of a register: the indexes of its suffixes, and behind them the new part, which comes to its type at the target's node. It fails where
-/// memory is wanting.
+/// The indexes of what is assigned to, so many, and behind them the new value, with what is done with it. It fails where memory is wanting.
 #[cycle(lowering)]
-fn put_part<'x>(
+fn put_given<'x>(
+    walk: &'x Walk<'x>,
+    coding: &mut Coding,
+    stand: &'x Stand<'x>,
+    gives: &'x Tail<'x>,
+    takes: u32,
+    indexes: &'x [Core],
+    value: &'x Core,
+) -> Result<(), AllocError>
+    requires { (name : Naming) → spec.assigned_ok walk.now name indexes.now value.now ≡ true }
+    ensures { OnOk result (spec.Given coding.old coding.new walk.now stand.now gives.now takes indexes.now value.now) }
+{
+    put_all(&*walk, coding, &*stand, &*indexes)?;
+    let behind = Stand {
+        temp: further(stand.temp, takes)?,
+        ..*stand
+    };
+    put_node(&*walk, coding, &behind, &*gives, &*value)
+}
+
+/// A new value of a register or of a variable, or of a part of one. It fails where memory is wanting.
+#[cycle(lowering)]
+fn put_one<'x>(
     walk: &'x Walk<'x>,
     coding: &mut Coding,
     stand: &'x Stand<'x>,
     tail: &'x Tail<'x>,
-    number: u32,
-    stored: &'x Stored<'x>,
+    cell: Cell<'x>,
     indexes: &'x [Core],
     value: &'x Core,
 ) -> Result<(), AllocError>
     requires { (name : Naming) → spec.assigned_ok walk.now name indexes.now value.now ≡ true }
     ensures { OnOk result (spec.Puts coding.old coding.new walk.now stand.now tail.now
-        (λ name. spec.part_for walk.now name number stored.now indexes.now value.now)) }
+        (λ name. spec.one_for walk.now name cell.entry indexes.now value.now)) }
 {
-    put_all(&*walk, coding, &*stand, &*indexes)?;
-    let behind = Stand {
-        temp: further(stand.temp, count_indexes(stored.suffixes)?)?,
-        ..*stand
-    };
-    let stores = Tail::Stores(&*stored, &*stand, &*tail);
-    put_cast(&*walk, coding, &behind, &stores, number, &*value)
+    let takes = count_indexes(cell.suffixes)?;
+    let gives = Tail::Gives(&cell, &*stand, &*tail);
+    put_given(&*walk, coding, &*stand, &gives, takes, indexes, value)
+}
+
+/// New values of several, of a tuple. It fails where memory is wanting.
+#[cycle(lowering)]
+fn put_shares<'x>(
+    walk: &'x Walk<'x>,
+    coding: &mut Coding,
+    stand: &'x Stand<'x>,
+    tail: &'x Tail<'x>,
+    targets: &'x [Target],
+    indexes: &'x [Core],
+    value: &'x Core,
+) -> Result<(), AllocError>
+    requires { (name : Naming) → spec.assigned_ok walk.now name indexes.now value.now ≡ true }
+    ensures { OnOk result (spec.Puts coding.old coding.new walk.now stand.now tail.now
+        (λ name. spec.several_for walk.now name (cells_of targets.now) indexes.now value.now)) }
+{
+    let takes = count_all(targets)?;
+    let gives = Tail::Shares(targets, &*stand, &*tail);
+    put_given(&*walk, coding, &*stand, &gives, takes, indexes, value)
 }
 
 /// An assignment. It fails where memory is wanting.
@@ -83,20 +120,10 @@ pub fn put_assigned<'x>(
         [] => Ok(()),
         [indexes @ .., value] => match spot {
             Spot::Other => Ok(()),
-            Spot::Whole(number, register) => {
-                let writes = Tail::Writes(register, &*stand, &*tail);
-                put_cast(&*walk, coding, &*stand, &writes, number, value)
-            }
-            Spot::Part(number, node, register, suffixes) => {
-                let stored = Stored {
-                    register,
-                    node,
-                    suffixes,
-                };
-                put_part(
-                    &*walk, coding, &*stand, &*tail, number, &stored, indexes, value,
-                )
-            }
+            Spot::One(cell) => put_one(&*walk, coding, &*stand, &*tail, cell, indexes, value),
+            Spot::Several(targets) => put_shares(
+                &*walk, coding, &*stand, &*tail, targets, indexes, value,
+            ),
             Spot::Called(number, place, _, node, _) => {
                 let calling = Calling {
                     place,

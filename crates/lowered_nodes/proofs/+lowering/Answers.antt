@@ -32,6 +32,9 @@ walk::put_node-put_local-requires = EachKind.put_node-put_local-requires
 pub walk::put_node-returns-in-Variable : goal.walk::put_node-returns-in-Variable
 walk::put_node-returns-in-Variable = EachKind.put_node-returns-in-Variable
 
+pub walk::put_node-put_variable-requires : goal.walk::put_node-put_variable-requires
+walk::put_node-put_variable-requires = EachKind.put_node-put_variable-requires
+
 pub walk::put_node-returns-in-TopLevel : goal.walk::put_node-returns-in-TopLevel
 walk::put_node-returns-in-TopLevel = EachKind.put_node-returns-in-TopLevel
 
@@ -767,29 +770,47 @@ arms::put_try-returns = Matching.put_try-returns
 pub paths::put_way-put_all-requires : goal.paths::put_way-put_all-requires
 paths::put_way-put_all-requires = Taking.put_way-put_all-requires
 
-pub writes::put_assigned-returns-in-Part : goal.writes::put_assigned-returns-in-Part
-writes::put_assigned-returns-in-Part = Writing.put_assigned-returns-in-Part
+pub writes::put_assigned-returns-in-One : goal.writes::put_assigned-returns-in-One
+writes::put_assigned-returns-in-One = Writing.put_assigned-returns-in-One
+
+pub writes::put_assigned-put_one-requires : goal.writes::put_assigned-put_one-requires
+writes::put_assigned-put_one-requires = Writing.put_assigned-put_one-requires
+
+pub writes::put_assigned-returns-in-Several : goal.writes::put_assigned-returns-in-Several
+writes::put_assigned-returns-in-Several = Writing.put_assigned-returns-in-Several
+
+pub writes::put_assigned-put_shares-requires : goal.writes::put_assigned-put_shares-requires
+writes::put_assigned-put_shares-requires = Writing.put_assigned-put_shares-requires
+
+pub writes::put_given-returns : goal.writes::put_given-returns
+writes::put_given-returns = Writing.put_given-returns
+
+pub writes::put_given-put_all-requires : goal.writes::put_given-put_all-requires
+writes::put_given-put_all-requires = Writing.put_given-put_all-requires
+
+pub writes::put_given-put_node-requires : goal.writes::put_given-put_node-requires
+writes::put_given-put_node-requires = Writing.put_given-put_node-requires
+
+pub writes::put_one-returns : goal.writes::put_one-returns
+writes::put_one-returns = Writing.put_one-returns
+
+pub writes::put_one-put_given-requires : goal.writes::put_one-put_given-requires
+writes::put_one-put_given-requires = Writing.put_one-put_given-requires
+
+pub writes::put_shares-returns : goal.writes::put_shares-returns
+writes::put_shares-returns = Writing.put_shares-returns
+
+pub writes::put_shares-put_given-requires : goal.writes::put_shares-put_given-requires
+writes::put_shares-put_given-requires = Writing.put_shares-put_given-requires
 
 pub writes::put_assigned-returns-in-Called : goal.writes::put_assigned-returns-in-Called
 writes::put_assigned-returns-in-Called = Writing.put_assigned-returns-in-Called
-
-pub writes::put_assigned-put_part-requires : goal.writes::put_assigned-put_part-requires
-writes::put_assigned-put_part-requires = Writing.put_assigned-put_part-requires
-
-pub writes::put_assigned-put_cast-requires : goal.writes::put_assigned-put_cast-requires
-writes::put_assigned-put_cast-requires = Writing.put_assigned-put_cast-requires
 
 pub writes::put_written-put_all-requires : goal.writes::put_written-put_all-requires
 writes::put_written-put_all-requires = Writing.put_written-put_all-requires
 
 pub writes::put_written-put_cast-requires : goal.writes::put_written-put_cast-requires
 writes::put_written-put_cast-requires = Writing.put_written-put_cast-requires
-
-pub writes::put_part-put_all-requires : goal.writes::put_part-put_all-requires
-writes::put_part-put_all-requires = Writing.put_part-put_all-requires
-
-pub writes::put_part-put_cast-requires : goal.writes::put_part-put_cast-requires
-writes::put_part-put_cast-requires = Writing.put_part-put_cast-requires
 
 pub mappings::put_applied-put_held-requires : goal.mappings::put_applied-put_held-requires
 mappings::put_applied-put_held-requires = Writing.put_applied-put_held-requires
@@ -814,9 +835,6 @@ writes::put_assigned-returns-in-empty = Writing.put_assigned-returns-in-empty
 
 pub writes::put_assigned-returns-in-Other : goal.writes::put_assigned-returns-in-Other
 writes::put_assigned-returns-in-Other = Writing.put_assigned-returns-in-Other
-
-pub writes::put_assigned-returns-in-Whole : goal.writes::put_assigned-returns-in-Whole
-writes::put_assigned-returns-in-Whole = Writing.put_assigned-returns-in-Whole
 
 pub writes::put_assign-returns-in-len1 : goal.writes::put_assign-returns-in-len1
 writes::put_assign-returns-in-len1 = Writing.put_assign-returns-in-len1
@@ -853,9 +871,6 @@ operands::put_with-put_made_of-requires-in-None = Making.put_with-put_made_of-re
 
 pub writes::put_written-returns : goal.writes::put_written-returns
 writes::put_written-returns = Writing.put_written-returns
-
-pub writes::put_part-returns : goal.writes::put_part-returns
-writes::put_part-returns = Writing.put_part-returns
 
 pub paths::put_ways-returns-in-empty : goal.paths::put_ways-returns-in-empty
 paths::put_ways-returns-in-empty = Taking.put_ways-returns-in-empty

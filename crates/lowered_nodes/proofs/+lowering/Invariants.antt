@@ -73,8 +73,14 @@ decreases-writes::put_assigned l = masses l.parts.now + 8
 abbrev pub decreases-writes::put_written : goal.decreases-writes::put_written
 decreases-writes::put_written l = masses l.arguments.now + mass l.value.now + 5
 
-abbrev pub decreases-writes::put_part : goal.decreases-writes::put_part
-decreases-writes::put_part l = masses l.indexes.now + mass l.value.now + 5
+abbrev pub decreases-writes::put_given : goal.decreases-writes::put_given
+decreases-writes::put_given l = masses l.indexes.now + mass l.value.now + 5
+
+abbrev pub decreases-writes::put_one : goal.decreases-writes::put_one
+decreases-writes::put_one l = masses l.indexes.now + mass l.value.now + 6
+
+abbrev pub decreases-writes::put_shares : goal.decreases-writes::put_shares
+decreases-writes::put_shares l = masses l.indexes.now + mass l.value.now + 6
 
 abbrev pub decreases-arms::put_match : goal.decreases-arms::put_match
 decreases-arms::put_match l = masses (out-Core l.node.now).parts + 60

@@ -14,7 +14,7 @@ use Rattle.lowered_pieces.specs.Emitted.{Emits}
 use Rattle.lowered_pieces.specs.Forms.{Piece, unit_piece, unsaid}
 use Rattle.lowered_pieces.specs.Places.{Local, Naming}
 use Rattle.lowered_steps.specs.Hands.{types_of}
-use Rattle.lowered_steps.specs.Setting.{kit_for, nodes_in, tables_for}
+use Rattle.lowered_steps.specs.Setting.{kit_for, nodes_in, reads_at, tables_for}
 use Rattle.lowered_steps.specs.Stands.{named_of, stand_of}
 use Rattle.lowered_steps.specs.Tails.{tail_of}
 use Rattle.lowered_steps.specs.declared.stands.Named.{Named}
@@ -30,8 +30,8 @@ use Rattle.lowered_nodes.proofs.+lowering.Goals as goal
 pub put_last-returns-in-empty : goal.bindings::put_last-returns-in-empty
 put_last-returns-in-empty t c =
     let walk = c.args.walk.now in let setting = walk.setting.now in let s = stand_of c.args.stand.now in put_as c.put_nothing.result _ _ walk
-    c.args.stand.now c.args.tail.now (λ name. unit_piece (kit_for setting name)) _ (λ name. ap (λ (cs : List Core). block_for walk name c.args.number [] cs)
-    (sym (none_of c.args.parts.now c.in-empty.len_below))) c.put_nothing.ensures
+    c.args.stand.now c.args.tail.now (λ name. unsaid (unit_piece (kit_for setting name))) _
+    (λ name. ap (λ (cs : List Core). block_for walk name c.args.number [] cs) (sym (none_of c.args.parts.now c.in-empty.len_below))) c.put_nothing.ensures
 
 pub put_last-returns-in-len1 : goal.bindings::put_last-returns-in-len1
 put_last-returns-in-len1 t c =
@@ -138,8 +138,8 @@ put_block-put_statement-requires t c =
 pub put_statements-returns : goal.bindings::put_statements-returns
 put_statements-returns t c =
     let walk = c.args.walk.now in let setting = walk.setting.now in let around = walk.around.now in let node = c.args.node.now in put_as c.put_block.result
-    _ _ walk c.args.stand.now c.args.tail.now (λ name. unsaid (block_for walk name (out-Core node).number c.as_slice.result.now c.as_slice-2.result.now)) _
-    (λ name. λ i. unsaid (block_for walk name (out-Core node).number (c.as_slice.ensures i) (c.as_slice-2.ensures i))) c.put_block.ensures
+    _ _ walk c.args.stand.now c.args.tail.now (λ name. block_for walk name (out-Core node).number c.as_slice.result.now c.as_slice-2.result.now) _
+    (λ name. λ i. block_for walk name (out-Core node).number (c.as_slice.ensures i) (c.as_slice-2.ensures i)) c.put_block.ensures
 
 pub put_statements-put_block-requires : goal.bindings::put_statements-put_block-requires
 put_statements-put_block-requires t c =
@@ -317,7 +317,9 @@ put_bind-returns t c =
     let walk = c.args.walk.now in let setting = walk.setting.now in let s = stand_of c.args.stand.now in let nm = c.args.name.now in let rest : Naming →
     Piece = λ name. block_for walk name c.args.number c.args.statements.now c.args.parts.now in let scope_is = ap (λ (ns : List Named). map named_of ns ++
     s.scope) (only_pushed _ _ _ _ c.as_slice.ensures c.in_ok-push.ensures.pushed c.new-names.ensures) ∙ ap (λ k. record { name = nm; place = Local k } ∷
-    s.scope) c.in_ok-count_names.ensures in bind_put c.put_block.result (λ name. kit_for setting name) s (λ name. tail_of setting name c.args.tail.now) (λ
-    name. piece_at walk name c.args.value.now) rest nm _ _ _ c.in_ok-put_node.ensures (subst (λ sc. OnOk c.put_block.result (Emits c.put_node.new.coding
+    s.scope) c.in_ok-count_names.ensures in bind_put c.put_block.result (λ name. kit_for setting name) s (λ name. tail_of setting name c.args.tail.now)
+    (reads_at
+    setting.reads.now nm) (λ name. piece_at walk name c.args.value.now) rest nm _ _ _ c.in_ok-put_node.ensures (subst (λ sc. OnOk c.put_block.result (Emits
+    c.put_node.new.coding
     c.put_block.new.coding (λ name l. (rest name).ended (tail_of setting name c.args.tail.now) (record s { scope = sc }) l) (λ name. (rest name).labels
     (tail_of setting name c.args.tail.now).labels))) scope_is c.put_block.ensures)

@@ -29,7 +29,11 @@ put_node-put_local-requires t c =
 
 pub put_node-returns-in-Variable : goal.walk::put_node-returns-in-Variable
 put_node-returns-in-Variable t c =
-    absurd (false≢true (kind_ok c.args.walk.now c.args.node.now _ c.in-Variable.is c.requires (λ place typ. 0)))
+    kind_put c.args.walk.now c.args.node.now _ c.in-Variable.is c.put_variable.result _ _ c.args.stand.now c.args.tail.now c.put_variable.ensures
+
+pub put_node-put_variable-requires : goal.walk::put_node-put_variable-requires
+put_node-put_variable-requires t c =
+    kind_ok c.args.walk.now c.args.node.now _ c.in-Variable.is c.requires
 
 pub put_node-returns-in-TopLevel : goal.walk::put_node-returns-in-TopLevel
 put_node-returns-in-TopLevel t c =

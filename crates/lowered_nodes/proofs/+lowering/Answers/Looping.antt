@@ -13,7 +13,8 @@ use Rattle.lowered_nodes.specs.Walk.{inside_for, node_ok, nodes_for, piece_at}
 use Rattle.lowered_pieces.specs.Emitted.{Emits, no_labels}
 use Rattle.lowered_pieces.specs.Forms.{Piece, code_of, count_of}
 use Rattle.lowered_pieces.specs.Places.{Local, Naming, Temp}
-use Rattle.lowered_steps.specs.Setting.{kit_for, tables_for}
+use Rattle.lowered_pieces.specs.Nodes.{is_empty}
+use Rattle.lowered_steps.specs.Setting.{kit_for, reads_at, tables_for}
 use Rattle.lowered_steps.specs.Stands.{named_of, stand_of}
 use Rattle.lowered_steps.specs.Tails.{tail_of}
 use Rattle.lowered_steps.specs.declared.stands.Named.{Named}
@@ -218,8 +219,8 @@ put_counted-put_foreach-requires t c =
         ap masses c.as_slice.ensures,
         c.decreases,
       ),
-      λ name. lowered_with
-          setting around name (K.Foreach c.args.name.now c.args.counting) node _ _ c.as_slice.ensures four (c.requires name),
+      λ name. (and_parts (is_empty (reads_at setting.reads.now c.args.name.now)) _ (lowered_with setting around name (K.Foreach c.args.name.now
+          c.args.counting) node _ _ c.as_slice.ensures four (c.requires name))).1,
     )
 
 pub put_counted-returns-in_default : goal.loops::put_counted-returns-in_default

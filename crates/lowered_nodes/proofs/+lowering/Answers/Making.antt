@@ -17,7 +17,7 @@ use Rattle.lowered_nodes.proofs.Shapes.{with_all, with_form, with_some, work_is}
 use Rattle.lowered_nodes.specs.Walk.{all_lowered_for, as_for, as_ok, made_for, nodes_for, only_of, operands_for, piece_at, pieces_for, state_of}
 use Rattle.lowered_pieces.proofs.Emitting.{emits_none}
 use Rattle.lowered_pieces.specs.Emitted.{Emits, Sourced}
-use Rattle.lowered_pieces.specs.Forms.{Piece, all_code, all_labels, no_tail, unsaid}
+use Rattle.lowered_pieces.specs.Forms.{Piece, all_code, all_labels, no_tail}
 use Rattle.lowered_pieces.specs.Lowering.{Node}
 use Rattle.lowered_pieces.specs.Nodes.{cases_at}
 use Rattle.lowered_pieces.specs.Places.{Naming}
@@ -145,8 +145,8 @@ put_with-put_made_of-requires t c =
 pub put_with_item-returns-in-len3 : goal.operands::put_with_item-returns-in-len3
 put_with_item-returns-in-len3 t c =
     let walk = c.args.walk.now in let setting = walk.setting.now in let around = walk.around.now in let node = c.args.node.now in let making = M.Works
-    O.WithItem W.Forwards in put_as c.put_made_of.result _ _ walk c.args.stand.now c.args.tail.now (λ name. unsaid (made_for walk name making node)) _ (λ
-    name. ap (λ (p : Piece). unsaid p) (made_is walk name node making) ∙ item_form setting.types.now (kit_for setting name) (number_for setting) (callees_of
+    O.WithItem W.Forwards in put_as c.put_made_of.result _ _ walk c.args.stand.now c.args.tail.now (λ name. made_for walk name making node) _ (λ
+    name. made_is walk name node making ∙ item_form setting.types.now (kit_for setting name) (number_for setting) (callees_of
     setting around) (tables_for setting around.instances.now) (out-Core node).place (out-Core node).number (pieces_for walk name (out-Core node).parts)
     (many_nodes (λ (n : Node). n.piece) (nodes_for walk name (out-Core node).parts) ∙ item_parts setting.types.now (callees_of setting around) (tables_for
     setting around.instances.now) (out-Core node).number (nodes_for walk name (out-Core node).parts) (c.requires name))) c.put_made_of.ensures
@@ -183,8 +183,8 @@ put_with_item-returns-in_default-2 t c =
 pub put_with_slice-returns-in-len4 : goal.operands::put_with_slice-returns-in-len4
 put_with_slice-returns-in-len4 t c =
     let walk = c.args.walk.now in let setting = walk.setting.now in let around = walk.around.now in let node = c.args.node.now in let making = M.Works
-    O.WithSlice W.Forwards in put_as c.put_made_of.result _ _ walk c.args.stand.now c.args.tail.now (λ name. unsaid (made_for walk name making node)) _ (λ
-    name. ap (λ (p : Piece). unsaid p) (made_is walk name node making) ∙ slice_form setting.types.now (kit_for setting name) (number_for setting)
+    O.WithSlice W.Forwards in put_as c.put_made_of.result _ _ walk c.args.stand.now c.args.tail.now (λ name. made_for walk name making node) _ (λ
+    name. made_is walk name node making ∙ slice_form setting.types.now (kit_for setting name) (number_for setting)
     (callees_of setting around) (tables_for setting around.instances.now) (out-Core node).place (out-Core node).number (pieces_for walk name (out-Core
     node).parts) (many_nodes (λ (n : Node). n.piece) (nodes_for walk name (out-Core node).parts) ∙ slice_parts setting.types.now (callees_of setting around)
     (tables_for setting around.instances.now) (out-Core node).number (nodes_for walk name (out-Core node).parts) (c.requires name))) c.put_made_of.ensures

@@ -13,13 +13,13 @@ use Rattle.lowered_nodes.proofs.Made.{inside_put}
 use Rattle.lowered_nodes.proofs.Pieces.{Plain, else_put}
 use Rattle.lowered_nodes.proofs.Putting.{put_as, put_nothing_here}
 use Rattle.lowered_nodes.specs.Walk.{all_lowered_for, armed_for, block_for, first_for, node_ok, nodes_for, piece_at, pieces_for}
-use Rattle.lowered_pieces.specs.Arms.{arms_lowered, moved}
+use Rattle.lowered_pieces.specs.Arms.{arms_fit, moved}
 use Rattle.lowered_pieces.specs.Emitted.{Emits}
 use Rattle.lowered_pieces.specs.Forms.{Piece, enter_code, inner, inside_piece}
 use Rattle.lowered_pieces.specs.Mapped.{with_ends}
 use Rattle.lowered_pieces.specs.Places.{Naming}
 use Rattle.lowered_steps.specs.Hands.{hand_of as hand_so_far, matched_of, types_of}
-use Rattle.lowered_steps.specs.Setting.{kit_for, nodes_in, number_for, size_for, tables_for}
+use Rattle.lowered_steps.specs.Setting.{kit_for, nodes_in, number_for, reads_at, size_for, tables_for}
 use Rattle.lowered_steps.specs.Stands.{named_of, stand_of}
 use Rattle.lowered_steps.specs.Tails.{tail_of}
 use Rattle.lowered_steps.specs.declared.stands.Named.{Named}
@@ -165,7 +165,7 @@ put_try-put_inside-requires t c =
     let walk = c.args.walk.now in let setting = walk.setting.now in (
       omega (arith, c.decreases),
       λ name. (and_parts (node_ok walk name c.args.value.now)
-          (arms_lowered (size_for setting) c.args.arms.now && all_lowered_for walk name c.args.bodies.now) (c.requires name)).0,
+          (arms_fit (size_for setting) (reads_at setting.reads.now) c.args.arms.now && all_lowered_for walk name c.args.bodies.now) (c.requires name)).0,
     )
 
 pub put_try-put_first-requires : goal.arms::put_try-put_first-requires
@@ -173,8 +173,9 @@ put_try-put_first-requires t c =
     let walk = c.args.walk.now in let setting = walk.setting.now in (
       omega (arith, c.decreases, mass_some c.args.value.now),
       λ name. (and_parts
-          (arms_lowered (size_for setting) c.args.arms.now) (all_lowered_for walk name c.args.bodies.now) (and_parts (node_ok walk name c.args.value.now)
-          (arms_lowered (size_for setting) c.args.arms.now && all_lowered_for walk name c.args.bodies.now) (c.requires name)).1).1,
+          (arms_fit (size_for setting) (reads_at setting.reads.now) c.args.arms.now) (all_lowered_for walk name c.args.bodies.now) (and_parts (node_ok walk
+          name c.args.value.now)
+          (arms_fit (size_for setting) (reads_at setting.reads.now) c.args.arms.now && all_lowered_for walk name c.args.bodies.now) (c.requires name)).1).1,
     )
 
 pub put_clauses-put_first-requires : goal.arms::put_clauses-put_first-requires
@@ -186,8 +187,8 @@ put_clauses-put_first-requires t c =
             c.as_slice-2.ensures,
         c.decreases,
       ),
-      λ name. ap (λ (cs : List Core). all_lowered_for walk name cs) c.as_slice-2.ensures ∙ (and_parts (arms_lowered
-          (size_for setting) c.args.arms.now) (all_lowered_for walk name (out-Core node).parts) (c.requires name)).1,
+      λ name. ap (λ (cs : List Core). all_lowered_for walk name cs) c.as_slice-2.ensures ∙ (and_parts (arms_fit (size_for setting) (reads_at
+          setting.reads.now) c.args.arms.now) (all_lowered_for walk name (out-Core node).parts) (c.requires name)).1,
     )
 
 pub put_arm-returns : goal.arms::put_arm-returns

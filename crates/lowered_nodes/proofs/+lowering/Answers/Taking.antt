@@ -9,7 +9,6 @@ use Rattle.lowered_ends.proofs.Lists.{first_at, first_of, none_of, others, other
 use Rattle.lowered_nodes.proofs.Putting.{put_as}
 use Rattle.lowered_nodes.proofs.Ways.{before_ok, own_many, own_ok, way_alone, way_before, way_put}
 use Rattle.lowered_nodes.specs.Walk.{node_ok, nodes_for, path_for, path_ok, piece_at, way_for, ways_ok}
-use Rattle.lowered_pieces.specs.Forms.{unsaid}
 use Rattle.lowered_pieces.specs.Places.{Naming}
 use Rattle.lowered_steps.specs.Setting.{tables_for}
 use Rattle.lowered_steps.specs.Stands.{stand_of}
@@ -32,8 +31,8 @@ put_part_of-returns-in-empty t c =
 pub put_part_of-returns-in-len1-up : goal.paths::put_part_of-returns-in-len1-up
 put_part_of-returns-in-len1-up t c =
     let walk = c.args.walk.now in let setting = walk.setting.now in let around = walk.around.now in let node = c.args.node.now in put_as c.put_path.result _
-    _ walk c.args.stand.now c.args.tail.now (λ name. unsaid (path_for walk name c.whole-item.result c.as_slice-suffixes.result.now (others
-    c.as_slice.result.now))) _ (λ name. ap (λ (ss : List Suffix). unsaid (path_for walk name c.whole-item.result ss (others c.as_slice.result.now)))
+    _ walk c.args.stand.now c.args.tail.now (λ name. path_for walk name c.whole-item.result c.as_slice-suffixes.result.now (others
+    c.as_slice.result.now)) _ (λ name. ap (λ (ss : List Suffix). path_for walk name c.whole-item.result ss (others c.as_slice.result.now))
     c.as_slice-suffixes.ensures ∙ with_is setting around name (K.Part c.args.suffixes.now) node _ _ c.as_slice.ensures (first_of _ _
     c.in-len1-up.len_at_least c.whole-item.is)) c.put_path.ensures
 

@@ -6,17 +6,19 @@ use Rattle.lowered_ends.proofs.Masses.{last_mass, mass_some, masses, one_mass}
 use Rattle.lowered_ends.proofs.Opened.{lowered_with, many_nodes, so_many, with_is}
 use Rattle.lowered_ends.specs.Around.{callees_of, node_for}
 use Rattle.lowered_ends.specs.Targets.{spot_in}
-use Rattle.lowered_nodes.proofs.Assigned.{last_lowered, part_is, whole_is, written_is}
-use Rattle.lowered_nodes.proofs.Built.{part_put, written_put}
+use Rattle.lowered_nodes.proofs.Assigned.{last_lowered, one_is, several_is, written_is}
+use Rattle.lowered_nodes.proofs.Built.{written_put}
 use Rattle.lowered_nodes.proofs.Crossed.{applied_put}
 use Rattle.lowered_nodes.proofs.Forms.{crossing_lowered}
 use Rattle.lowered_nodes.proofs.Putting.{put_as}
-use Rattle.lowered_nodes.proofs.Spots.{sole_is, spot_only, spot_some}
-use Rattle.lowered_nodes.specs.Walk.{all_lowered_for, as_for, as_ok, assign_for, cast_for, node_ok, nodes_for, pieces_for}
+use Rattle.lowered_nodes.proofs.Spots.{spot_some}
+use Rattle.lowered_nodes.specs.Walk.{all_lowered_for, as_for, as_ok, assign_for, node_ok, nodes_for, pieces_for}
 use Rattle.lowered_ends.specs.declared.targets.Spot.{Spot as SpotFound}
 use Rattle.lowered_pieces.specs.Forms.{unsaid}
 use Rattle.lowered_pieces.specs.Places.{Naming}
-use Rattle.lowered_pieces.specs.Writes.{assign_piece, spot_lowered, write_piece}
+use Rattle.lowered_pieces.specs.Writes.{assign_piece, spot_lowered}
+use Rattle.lowered_nodes.proofs.Written.{given_put, one_put, several_put}
+use Rattle.lowered_steps.specs.Cells.{cells_of}
 use Rattle.lowered_steps.specs.Hands.{types_of}
 use Rattle.lowered_steps.specs.Setting.{kit_for, number_for, tables_for}
 use Rattle.lowered_steps.specs.Stands.{stand_of}
@@ -54,12 +56,77 @@ put_crossing-returns-in_default-2 t c =
           (c.requires here)),
     ))
 
-pub put_assigned-returns-in-Part : goal.writes::put_assigned-returns-in-Part
-put_assigned-returns-in-Part t c =
+pub put_assigned-returns-in-One : goal.writes::put_assigned-returns-in-One
+put_assigned-returns-in-One t c =
+    let walk = c.args.walk.now in let v = c.value-item.result in let xs = c.args.parts.now in
+    let last = last_of xs v c.in-len1-up.len_at_least c.value-item.is in
+    put_as c.put_one.result _ _ walk c.args.stand.now c.args.tail.now _ _
+    (λ name. one_is walk name c.in-One.cell xs (but_last xs) v last ∙ ap (λ (sp : SpotFound). assign_for walk name sp xs) (sym c.in-One.is)) c.put_one.ensures
+
+pub put_assigned-put_one-requires : goal.writes::put_assigned-put_one-requires
+put_assigned-put_one-requires t c =
     let walk = c.args.walk.now in let setting = walk.setting.now in let around = walk.around.now in let v = c.value-item.result in let xs = c.args.parts.now
-    in let last = last_of xs v c.in-len1-up.len_at_least c.value-item.is in put_as c.put_part.result _ _ walk c.args.stand.now c.args.tail.now _ _ (λ name.
-    part_is walk name c.in-Part.number (record { register = c.in-Part.register; node = c.in-Part.node; suffixes = c.in-Part.suffixes }) xs (but_last xs) v
-    last ∙ ap (λ (sp : SpotFound). assign_for walk name sp xs) (sym c.in-Part.is)) c.put_part.ensures
+    in let last = last_of xs v c.in-len1-up.len_at_least c.value-item.is in (
+      omega (arith, last_mass xs v c.in-len1-up.len_at_least c.value-item.is, c.decreases),
+      λ name. last_lowered walk name (but_last xs) v (ap (λ (cs : List Core). all_lowered_for walk name cs) (sym last) ∙ (and_parts
+          (spot_lowered setting.types.now (tables_for setting around.instances.now) (spot_in c.args.spot) (length xs)) (all_lowered_for walk name xs)
+          (c.requires
+          name)).1),
+    )
+
+pub put_assigned-returns-in-Several : goal.writes::put_assigned-returns-in-Several
+put_assigned-returns-in-Several t c =
+    let walk = c.args.walk.now in let v = c.value-item.result in let xs = c.args.parts.now in
+    let last = last_of xs v c.in-len1-up.len_at_least c.value-item.is in
+    put_as c.put_shares.result _ _ walk c.args.stand.now c.args.tail.now _ _
+    (λ name. several_is walk name (cells_of c.in-Several.targets.now) xs (but_last xs) v last
+    ∙ ap (λ (sp : SpotFound). assign_for walk name sp xs) (sym c.in-Several.is)) c.put_shares.ensures
+
+pub put_assigned-put_shares-requires : goal.writes::put_assigned-put_shares-requires
+put_assigned-put_shares-requires t c =
+    let walk = c.args.walk.now in let setting = walk.setting.now in let around = walk.around.now in let v = c.value-item.result in let xs = c.args.parts.now
+    in let last = last_of xs v c.in-len1-up.len_at_least c.value-item.is in (
+      omega (arith, last_mass xs v c.in-len1-up.len_at_least c.value-item.is, c.decreases),
+      λ name. last_lowered walk name (but_last xs) v (ap (λ (cs : List Core). all_lowered_for walk name cs) (sym last) ∙ (and_parts
+          (spot_lowered setting.types.now (tables_for setting around.instances.now) (spot_in c.args.spot) (length xs)) (all_lowered_for walk name xs)
+          (c.requires
+          name)).1),
+    )
+
+pub put_given-returns : goal.writes::put_given-returns
+put_given-returns t c =
+    given_put c.put_node.result c.args.walk.now c.args.stand.now c.args.gives.now c.args.takes c.args.indexes.now c.args.value.now _
+    c.in_ok-further.ensures _ _ _ c.in_ok-put_all.ensures c.put_node.ensures
+
+pub put_given-put_all-requires : goal.writes::put_given-put_all-requires
+put_given-put_all-requires t c =
+    let walk = c.args.walk.now in (
+      omega (arith, c.decreases, mass_some c.args.value.now),
+      λ name. (and_parts (all_lowered_for walk name c.args.indexes.now) (node_ok walk name c.args.value.now) (c.requires name)).0,
+    )
+
+pub put_given-put_node-requires : goal.writes::put_given-put_node-requires
+put_given-put_node-requires t c =
+    let walk = c.args.walk.now in (
+      omega (arith, c.decreases),
+      λ name. (and_parts (all_lowered_for walk name c.args.indexes.now) (node_ok walk name c.args.value.now) (c.requires name)).1,
+    )
+
+pub put_one-returns : goal.writes::put_one-returns
+put_one-returns t c =
+    one_put c.put_given.result c.args.walk.now c.args.stand.now c.args.tail.now c.args.cell _ c.args.indexes.now c.args.value.now c.in_ok-takes.ensures _ _
+    c.put_given.ensures
+
+pub put_one-put_given-requires : goal.writes::put_one-put_given-requires
+put_one-put_given-requires t c = (omega (arith, c.decreases), c.requires)
+
+pub put_shares-returns : goal.writes::put_shares-returns
+put_shares-returns t c =
+    several_put c.put_given.result c.args.walk.now c.args.stand.now c.args.tail.now (cells_of c.args.targets.now) _ c.args.indexes.now c.args.value.now
+    c.in_ok-takes.ensures _ _ c.put_given.ensures
+
+pub put_shares-put_given-requires : goal.writes::put_shares-put_given-requires
+put_shares-put_given-requires t c = (omega (arith, c.decreases), c.requires)
 
 pub put_assigned-returns-in-Called : goal.writes::put_assigned-returns-in-Called
 put_assigned-returns-in-Called t c =
@@ -67,35 +134,6 @@ put_assigned-returns-in-Called t c =
     in let last = last_of xs v c.in-len1-up.len_at_least c.value-item.is in put_as c.put_written.result _ _ walk c.args.stand.now c.args.tail.now _ _ (λ
     name. written_is walk name c.in-Called.number _ c.in-Called.field-2 _ c.in-Called.field-4 _ xs (but_last xs) v last refl ∙ ap (λ (sp : SpotFound).
     assign_for walk name sp xs) (sym c.in-Called.is)) c.put_written.ensures
-
-pub put_assigned-put_part-requires : goal.writes::put_assigned-put_part-requires
-put_assigned-put_part-requires t c =
-    let walk = c.args.walk.now in let setting = walk.setting.now in let around = walk.around.now in let v = c.value-item.result in let xs = c.args.parts.now
-    in let last = last_of xs v c.in-len1-up.len_at_least c.value-item.is in (
-      omega (
-        arith,
-        last_mass xs v c.in-len1-up.len_at_least c.value-item.is,
-        c.decreases,
-      ),
-      λ name. last_lowered walk name (but_last xs) v (ap (λ (cs : List Core). all_lowered_for walk name cs) (sym last) ∙ (and_parts
-          (spot_lowered setting.types.now (tables_for setting around.instances.now) (spot_in c.args.spot) (length xs)) (all_lowered_for walk name xs)
-          (c.requires
-          name)).1),
-    )
-
-pub put_assigned-put_cast-requires : goal.writes::put_assigned-put_cast-requires
-put_assigned-put_cast-requires t c =
-    let walk = c.args.walk.now in let setting = walk.setting.now in let around = walk.around.now in let v = c.value-item.result in let xs = c.args.parts.now
-    in let last = last_of xs v c.in-len1-up.len_at_least c.value-item.is in (
-      omega (
-        arith,
-        last_mass xs v c.in-len1-up.len_at_least c.value-item.is,
-        c.decreases,
-      ),
-      λ name. (and_parts (all_lowered_for walk name (but_last xs)) (node_ok walk name v) (last_lowered walk name (but_last xs) v (ap (λ (cs :
-          List Core). all_lowered_for walk name cs) (sym last) ∙ (and_parts (spot_lowered setting.types.now (tables_for setting around.instances.now) (spot_in
-          c.args.spot) (length xs)) (all_lowered_for walk name xs) (c.requires name)).1))).1,
-    )
 
 pub put_written-put_all-requires : goal.writes::put_written-put_all-requires
 put_written-put_all-requires t c =
@@ -111,22 +149,6 @@ put_written-put_cast-requires t c =
       omega (arith, c.decreases),
       λ name. (and_parts (all_lowered_for walk name c.args.arguments.now) (node_ok walk name
           c.args.value.now) (c.requires.0 name)).1,
-    )
-
-pub put_part-put_all-requires : goal.writes::put_part-put_all-requires
-put_part-put_all-requires t c =
-    let walk = c.args.walk.now in (
-      omega (arith, c.decreases, mass_some c.args.value.now),
-      λ name. (and_parts (all_lowered_for walk name c.args.indexes.now)
-          (node_ok walk name c.args.value.now) (c.requires name)).0,
-    )
-
-pub put_part-put_cast-requires : goal.writes::put_part-put_cast-requires
-put_part-put_cast-requires t c =
-    let walk = c.args.walk.now in (
-      omega (arith, c.decreases),
-      λ name. (and_parts (all_lowered_for walk name c.args.indexes.now) (node_ok walk name
-          c.args.value.now) (c.requires name)).1,
     )
 
 pub put_applied-put_held-requires : goal.mappings::put_applied-put_held-requires
@@ -171,17 +193,6 @@ put_assigned-returns-in-Other t c =
     SpotFound). spot_lowered setting.types.now (tables_for setting around.instances.now) (spot_in sp) (length xs)) (sym c.in-Other.is) ∙ (and_parts
     (spot_lowered setting.types.now (tables_for setting around.instances.now) (spot_in c.args.spot) (length xs)) (all_lowered_for walk here xs) (c.requires
     here)).0))
-
-pub put_assigned-returns-in-Whole : goal.writes::put_assigned-returns-in-Whole
-put_assigned-returns-in-Whole t c =
-    let walk = c.args.walk.now in let setting = walk.setting.now in let around = walk.around.now in let v = c.value-item.result in let xs = c.args.parts.now
-    in let last = last_of xs v c.in-len1-up.len_at_least c.value-item.is in let here : Naming = λ place typ. 0 in let only = sole_is xs v (spot_only
-    setting.types.now (tables_for setting around.instances.now) c.in-Whole.number c.in-Whole.register (length xs) (ap (λ (sp : SpotFound). spot_lowered
-    setting.types.now (tables_for setting around.instances.now) (spot_in sp) (length xs)) (sym c.in-Whole.is) ∙ (and_parts (spot_lowered setting.types.now
-    (tables_for setting around.instances.now) (spot_in c.args.spot) (length xs)) (all_lowered_for walk here xs) (c.requires here)).0)) c.value-item.is in
-    put_as c.put_cast.result _ _ walk c.args.stand.now c.args.tail.now (λ name. write_piece (kit_for setting name) (number_for setting) (tables_for setting
-    around.instances.now) c.in-Whole.register (cast_for walk name c.in-Whole.number v)) _ (λ name. whole_is walk name c.in-Whole.number c.in-Whole.register
-    xs v only ∙ ap (λ (sp : SpotFound). assign_for walk name sp xs) (sym c.in-Whole.is)) c.put_cast.ensures
 
 pub put_assign-returns-in-len1 : goal.writes::put_assign-returns-in-len1
 put_assign-returns-in-len1 t c =
@@ -234,12 +245,6 @@ put_written-returns t c =
     let walk = c.args.walk.now in let setting = walk.setting.now in let s = stand_of c.args.stand.now in written_put c.put_calling.result walk
     c.args.stand.now c.args.tail.now c.args.number c.args.calling c.args.arguments.now c.args.value.now c.requires.1 _ (c.in_ok-further.ensures ∙ ap (λ n.
     c.args.stand.now.temp + n) c.in_ok-as_number.ensures) _ _ _ _ c.in_ok-put_all.ensures c.in_ok-put_cast.ensures c.put_calling.ensures
-
-pub put_part-returns : goal.writes::put_part-returns
-put_part-returns t c =
-    let walk = c.args.walk.now in let setting = walk.setting.now in let s = stand_of c.args.stand.now in part_put c.put_cast.result walk c.args.stand.now
-    c.args.tail.now c.args.number c.args.stored.now c.args.indexes.now c.args.value.now _ (c.in_ok-further.ensures ∙ ap (λ n. c.args.stand.now.temp + n)
-    c.in_ok-count_indexes.ensures) _ _ _ c.in_ok-put_all.ensures c.put_cast.ensures
 
 pub put_assigned-put_written-requires : goal.writes::put_assigned-put_written-requires
 put_assigned-put_written-requires t c =
