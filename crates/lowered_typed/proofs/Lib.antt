@@ -6,3 +6,4 @@ pub mod Parts
 pub mod Shells
 pub mod Said
 pub mod More
+pub mod Written

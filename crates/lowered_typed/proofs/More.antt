@@ -183,10 +183,10 @@ module _ (j : Judge) where
   comes_same None t = refl
   comes_same (Some u) t = refl
 
-  pub assign_many : (ts : List Target) (n : ℕ) → 2 ≤ length ts → false ≡ assign_asked j ts n
-  assign_many [] n some = absurd (omega (arith, some))
-  assign_many (t ∷ []) n some = absurd (omega (arith, some))
-  assign_many (t ∷ u ∷ ts) n some = refl
+  pub assign_many : (ts : List Target) (ps : List Typing) → 2 ≤ length ts → false ≡ assign_asked j ts ps
+  assign_many [] ps some = absurd (omega (arith, some))
+  assign_many (t ∷ []) ps some = absurd (omega (arith, some))
+  assign_many (t ∷ u ∷ ts) ps some = refl
 
   pub replaced_last : (s : Suffix) (ss : List Suffix) (t u : Sized) (a : Bool) → ss ≡ s ∷ [] → a ≡ here.is_put j s.way t u → a ≡ here.replaces j ss t u
   replaced_last s ss t u a one e = e ∙ ap (λ qs. here.replaces j qs t u) (sym one)

@@ -17,7 +17,7 @@ use Rattle.size_values.specs.declared.sized.Sized.{Sized}
 use Rattle.sized_nodes.specs.declared.trees.Case.{Case}
 use Rattle.lowered_pieces.specs.Arms.{arguments, in_hand}
 use Rattle.lowered_pieces.specs.Forms.{End, in_order}
-use Rattle.lowered_pieces.specs.Writes.{Spot, called, part, target_spot, whole}
+use Rattle.lowered_pieces.specs.Writes.{Spot, called, one, several, target_spot}
 use Rattle.lowered_ends.specs.Able.{suffixes_fit, way_fits}
 use Rattle.lowered_validity.specs.Typing as typing
 use Rattle.lowered_validity.specs.Typing.{Typing, all_right}
@@ -27,10 +27,10 @@ use Rattle.lowered_typed.specs.Counts.{count_fits}
 use Rattle.lowered_typed.specs.Here as here
 use Rattle.lowered_typed.specs.Judging.{callees_here, cases_typed, number_here, signs_here, tables_here, typed}
 use Rattle.lowered_typed.specs.Judged.{all_end_right, all_given_right, all_here, behind, cases_at, caught_ends}
-use Rattle.lowered_typed.specs.Judged.{kind_asked, kind_judged, kind_parts, literal_asked, may_turn, others, row_asked, spot_asked, spot_types}
-use Rattle.lowered_typed.specs.Judged.{turned_asked, types_by, way_asked, ways_asked}
+use Rattle.lowered_typed.specs.Judged.{kind_asked, kind_judged, kind_parts, literal_asked, may_turn, others, row_asked, several_asked, spot_asked}
+use Rattle.lowered_typed.specs.Judged.{spot_types, turned_asked, types_by, way_asked, ways_asked, written_asked}
 use Rattle.lowered_typed.proofs.Bools.{applied, arm_more, both_branches, bound, caught, fielded, freed, grouped, itemed, leaf, matched, one_part, only_part}
-use Rattle.lowered_typed.proofs.Bools.{sliced, swapped, three_free, two_parts, whole_part}
+use Rattle.lowered_typed.proofs.Bools.{sliced, swapped, three_free, two_parts}
 use Rattle.lowered_typed.proofs.Counting.{behind_none, less_one, more_0, more_1, more_2, more_3, more_4, right, same_suc, some, wrong, zero_suc}
 
 module _ (j : Judge) where
@@ -93,29 +93,21 @@ module _ (j : Judge) where
 
   -- ---- assignments
 
+  given : (b : Bool) (a : Typing) (ps : List Typing) → (all_right (a ∷ ps) && b) ≡ ((nat_le 1 (length (a ∷ ps)) && b) && all_right (a ∷ ps))
+  given b a ps =
+      swapped (all_right (a ∷ ps)) b ∙ ap (λ c. c && all_right (a ∷ ps)) (right (nat_le 1 (suc (length ps))) b (some (length ps)))
+
   write_is : (o : Option Spot) (ps : List Typing)
       → typing.write_right j.setting.now.types.now (number_here j) (callees_here j) (tables_here j) (signs_here j) o ps
-      ≡ (spot_asked j o (length ps) && all_right ps)
-  write_is None ps = refl
-  write_is (Some (whole k r)) [] = refl
-  write_is (Some (whole k r)) (a ∷ []) = whole_part a.right (spot_right_of k r)
-    where
-      spot_right_of : ℕ → ℕ → Bool
-      spot_right_of k r = spot_asked j (Some (whole k r)) 1
-  write_is (Some (whole k r)) (a ∷ b ∷ ps) =
-      wrong (spot_asked j (Some (whole k r)) (length (a ∷ b ∷ ps))) (all_right (a ∷ b ∷ ps))
-      (sym (wrong (nat_eq (suc (suc (length ps))) 1) (spot_asked j (Some (whole k r)) 1) (more_1 (length ps))))
-  write_is (Some (part k i r ss)) [] = refl
-  write_is (Some (part k i r ss)) (a ∷ ps) =
-      swapped (all_right (a ∷ ps)) (spot_asked j (Some (part k i r ss)) 1)
-      ∙ ap (λ b. b && all_right (a ∷ ps)) (right (nat_le 1 (suc (length ps))) (spot_asked j (Some (part k i r ss)) 1) (some (length ps)))
+      ≡ (spot_asked j o ps && all_right ps)
+  write_is None [] = refl
+  write_is None (a ∷ ps) = sym (ap (λ c. (c && false) && all_right (a ∷ ps)) (some (length ps)))
+  write_is (Some (one c)) [] = refl
+  write_is (Some (one c)) (a ∷ ps) = given (here.cell_right j c) a ps
+  write_is (Some (several cs)) [] = refl
+  write_is (Some (several cs)) (a ∷ ps) = given (several_asked j cs (a ∷ ps)) a ps
   write_is (Some (called k place m i f)) [] = refl
-  write_is (Some (called k place m i f)) (a ∷ ps) =
-      swapped (all_right (a ∷ ps)) (written (length (a ∷ ps)))
-      ∙ ap (λ b. b && all_right (a ∷ ps)) (right (nat_le 1 (suc (length ps))) (written (length (a ∷ ps))) (some (length ps)))
-    where
-      written : ℕ → Bool
-      written n = cases_typed j (here.is_recast j) (cases_at j k 1) && here.leads_right j (cases_at j i n) ((tables_here j).leads i)
+  write_is (Some (called k place m i f)) (a ∷ ps) = given (written_asked j k i (length (a ∷ ps))) a ps
 
   -- ---- arms
 
@@ -215,7 +207,8 @@ module _ (j : Judge) where
   right_is (K.SizeOf t numbers) k (a ∷ ps) = none_is (K.SizeOf t numbers) k a ps refl
   right_is (K.Constraint c numbers) k [] = leaf (kind_asked j (K.Constraint c numbers) k [])
   right_is (K.Constraint c numbers) k (a ∷ ps) = none_is (K.Constraint c numbers) k a ps refl
-  right_is (K.Variable name) k ps = refl
+  right_is (K.Variable name) k [] = leaf (kind_asked j (K.Variable name) k [])
+  right_is (K.Variable name) k (a ∷ ps) = none_is (K.Variable name) k a ps refl
   right_is (K.Call callee) k ps = call_is callee k ps
   right_is K.And k [] = refl
   right_is K.And k (a ∷ []) = refl
@@ -255,7 +248,7 @@ module _ (j : Judge) where
   right_is (K.Assign []) k ps = refl
   right_is (K.Assign (t ∷ [])) k ps =
       ap (λ b. not g-pure && b) (write_is (target_spot t) ps)
-      ∙ grouped (not g-pure) (spot_asked j (target_spot t) (length ps)) (all_right ps)
+      ∙ grouped (not g-pure) (spot_asked j (target_spot t) ps) (all_right ps)
   right_is (K.Assign (t ∷ u ∷ ts)) k ps = refl
   right_is (K.Block statements) k ps = refl
   right_is (K.Let arm) k [] = refl
@@ -265,7 +258,7 @@ module _ (j : Judge) where
       wrong (nat_eq (suc (suc (suc (length ps)))) 2) (rest_of (K.Let arm) k (a ∷ b ∷ c ∷ ps)) (more_2 (length ps))
   right_is (K.Var name written) k [] = refl
   right_is (K.Var name written) k (a ∷ []) = refl
-  right_is (K.Var name written) k (a ∷ b ∷ []) = two_parts a.right b.right
+  right_is (K.Var name written) k (a ∷ b ∷ []) = bound a.right (here.kept_right j ((tables_here j).reads name) a.types) b.right
   right_is (K.Var name written) k (a ∷ b ∷ c ∷ ps) =
       wrong (nat_eq (suc (suc (suc (length ps)))) 2) (rest_of (K.Var name written) k (a ∷ b ∷ c ∷ ps)) (more_2 (length ps))
   right_is (K.If shape) k [] = refl
@@ -349,8 +342,8 @@ module _ (j : Judge) where
   spots_are : (o : Option Spot) (ps : List Typing)
       → typing.spot_types j.setting.now.types.now (number_here j) (callees_here j) (tables_here j) (signs_here j) o ps ≡ spot_types j o (length ps)
   spots_are None ps = refl
-  spots_are (Some (whole k r)) ps = refl
-  spots_are (Some (part k i r ss)) ps = refl
+  spots_are (Some (one c)) ps = refl
+  spots_are (Some (several cs)) ps = refl
   spots_are (Some (called k place m i f)) ps = refl
 
   pub types_is : (kind : Kind) (k : ℕ) (ps : List Typing) → Typed kind k ps
@@ -444,7 +437,9 @@ module _ (j : Judge) where
   types_is K.Return k ps = never (count_fits K.Return (length ps))
   types_is K.Throw k ps = never (count_fits K.Throw (length ps))
   types_is K.Exit k ps = never (count_fits K.Exit (length ps))
-  types_is (K.Variable name) k ps = refl
+  types_is (K.Variable name) k [] = refl
+  types_is (K.Variable name) k (a ∷ ps) =
+      uncounted (nat_eq (suc (length ps)) 0) (types_by j (K.Variable name) k (a ∷ ps)) (more_0 (length ps))
   types_is K.Tuple k ps = refl
   types_is (K.Vector shape) k ps = refl
   types_is (K.List shape) k ps = refl

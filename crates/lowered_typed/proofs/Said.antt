@@ -7,14 +7,18 @@ use Rattle.sail_core.specs.declared.tree.Callee.TheVariants as F
 use Rattle.sail_core.specs.declared.tree.Core.{Core, Core-F, fold-roll-Core, ind-Core, map-Core, roll-Core}
 use Rattle.sail_core.specs.declared.tree.Kind.{Kind}
 use Rattle.sail_core.specs.declared.tree.Kind.TheVariants as K
+use Rattle.sail_core.specs.declared.tree.Statement.{Statement}
+use Rattle.sail_core.specs.declared.tree.Statement.TheVariants as X
 use Rattle.row_types.specs.Calls.{has_state}
 use Rattle.size_values.specs.declared.sized.Sized.{Sized}
 use Rattle.sized_nodes.specs.declared.trees.Case.{Case}
-use Rattle.lowered_pieces.specs.Forms.{End, Piece, ends_of, one_end}
+use Rattle.lowered_pieces.specs.Forms.{End, Piece, ends_of, one_end, variable_piece}
 use Rattle.lowered_pieces.specs.Gathered.{state_piece}
-use Rattle.lowered_pieces.specs.Lowering.{Node, kind_lowered, kind_piece, number_piece, pieces_of, row_piece, truth_piece}
+use Rattle.lowered_pieces.specs.Lowering.{Node, block_piece, kind_lowered, kind_piece, number_piece, pieces_of, row_piece, truth_piece}
 use Rattle.lowered_pieces.specs.Mapped.{all_end, common_ends, ends_if, ends_with, fixed_end}
+use Rattle.lowered_pieces.specs.Paths.{path_ends}
 use Rattle.lowered_pieces.specs.Places.{Kit, Naming}
+use Rattle.lowered_pieces.proofs.Pathing.{path_said}
 use Rattle.lowered_steps.specs.Setting.{kit_for}
 use Rattle.lowered_ends.specs.Around.{node_for, piece_for}
 use Rattle.lowered_validity.specs.Typing as typing
@@ -101,6 +105,33 @@ module _ (j : Judge) (name : Naming) where
   common_same [] = refl
   common_same (y ∷ ys) = if_same (fixed_end (typed j y.0).ends) ys ∙ ap (λ es. ends_if (fixed_end es) (pieces ys)) y.1
 
+  abbrev read_here : List Sized → List ℕ → ℕ → Piece
+  read_here us text k = variable_piece kit (number_here j) us text ((tables_here j).cases k 0) ((tables_here j).gives k)
+
+  read_same : (us : List Sized) (text : List ℕ) (k : ℕ)
+      → typing.variable_ends j.setting.now.types.now (number_here j) (callees_here j) (tables_here j) (signs_here j) us ((tables_here j).gives k)
+      ((tables_here j).cases k 0)
+      ≡ (read_here us text k).ends
+  read_same [] text k = refl
+  read_same (u ∷ us) text k = refl
+
+  said_of : (y : Known) → (typed j y.0).ends ≡ (code y.0).piece.ends
+  unfolding Mine
+  said_of y = y.1
+
+  block_same : (k : ℕ) (ss : List Statement) (ys : List Known)
+      → typing.block_ends j.setting.now.types.now (number_here j) (callees_here j) (tables_here j) (signs_here j) ss (typings ys)
+      ≡ (block_piece j.setting.now.types.now kit (number_here j) (callees_here j) (tables_here j) k ss (pieces ys)).ends
+  block_same k [] [] = refl
+  block_same k [] (y ∷ []) = said_of y
+  block_same k [] (y ∷ x ∷ ys) = refl
+  block_same k (X.Evaluate ∷ ss) [] = refl
+  block_same k (X.Define place arm ∷ ss) [] = refl
+  block_same k (X.Declare text written ∷ ss) [] = refl
+  block_same k (X.Evaluate ∷ ss) (y ∷ ys) = block_same k ss ys
+  block_same k (X.Define place arm ∷ ss) (y ∷ ys) = block_same k ss ys
+  block_same k (X.Declare text written ∷ ss) (y ∷ ys) = block_same k ss ys
+
   kind_same : (place : TextPlace) (k : ℕ) (kind : Kind) (ys : List Known) → said k kind (typings ys) ≡ (made place k kind (pieces ys)).ends
   kind_same place k (K.Constant literal) [] = refl
   kind_same place k (K.Constant literal) (x1 ∷ ys) = refl
@@ -114,7 +145,7 @@ module _ (j : Judge) (name : Naming) where
   kind_same place k (K.SizeOf t numbers) (x1 ∷ ys) = refl
   kind_same place k (K.Constraint con numbers) [] = truth_same ((callees_here j).truth con)
   kind_same place k (K.Constraint con numbers) (x1 ∷ ys) = refl
-  kind_same place k (K.Variable text) ys = refl
+  kind_same place k (K.Variable text) ys = read_same ((tables_here j).reads text) text k
   kind_same place k (K.Call (F.Function f)) ys = counted k ys (λ cases. ends_of ((tables_here j).gives k) cases)
   kind_same place k (K.Call (F.Row row)) ys = row_same (has_state row) k row ys
   kind_same place k (K.Call (F.Constructor u con)) ys = counted k ys (λ cases. ends_of ((tables_here j).gives k) cases)
@@ -154,15 +185,15 @@ module _ (j : Judge) (name : Naming) where
   kind_same place k K.WithSlice (x1 ∷ x2 ∷ x3 ∷ x4 ∷ x5 ∷ ys) = refl
   kind_same place k (K.Let arm) [] = refl
   kind_same place k (K.Let arm) (x1 ∷ []) = refl
-  kind_same place k (K.Let arm) (x1 ∷ x2 ∷ []) = refl
+  kind_same place k (K.Let arm) (x1 ∷ x2 ∷ []) = said_of x2
   kind_same place k (K.Let arm) (x1 ∷ x2 ∷ x3 ∷ ys) = refl
   kind_same place k (K.Var text written) [] = refl
   kind_same place k (K.Var text written) (x1 ∷ []) = refl
-  kind_same place k (K.Var text written) (x1 ∷ x2 ∷ []) = refl
+  kind_same place k (K.Var text written) (x1 ∷ x2 ∷ []) = said_of x2
   kind_same place k (K.Var text written) (x1 ∷ x2 ∷ x3 ∷ ys) = refl
   kind_same place k K.When [] = refl
   kind_same place k K.When (x1 ∷ []) = refl
-  kind_same place k K.When (x1 ∷ x2 ∷ []) = refl
+  kind_same place k K.When (x1 ∷ x2 ∷ []) = said_of x2
   kind_same place k K.When (x1 ∷ x2 ∷ x3 ∷ ys) = refl
   kind_same place k (K.Foreach text way) [] = refl
   kind_same place k (K.Foreach text way) (x1 ∷ []) = refl
@@ -201,7 +232,9 @@ module _ (j : Judge) (name : Naming) where
   kind_same place k (K.If shape) (x1 ∷ x2 ∷ x3 ∷ []) = refl
   kind_same place k (K.If shape) (x1 ∷ x2 ∷ x3 ∷ x4 ∷ ys) = refl
   kind_same place k (K.Part ss) [] = refl
-  kind_same place k (K.Part ss) (y ∷ ys) = refl
+  kind_same place k (K.Part ss) (y ∷ ys) =
+      (λ i. path_ends (tables_here j) ss (many_same ys i) (said_of y i))
+      ∙ sym (path_said kit (number_here j) (tables_here j) ss (pieces ys) (code y.0).piece)
   kind_same place k (K.Match arms shape) [] = refl
   kind_same place k (K.Match arms shape) (y ∷ ys) = refl
   kind_same place k (K.Try arms shape) [] = refl
@@ -209,7 +242,7 @@ module _ (j : Judge) (name : Naming) where
   kind_same place k (K.Assign []) ys = refl
   kind_same place k (K.Assign (t ∷ [])) ys = refl
   kind_same place k (K.Assign (t ∷ u ∷ ts)) ys = refl
-  kind_same place k (K.Block statements) ys = refl
+  kind_same place k (K.Block statements) ys = block_same k statements ys
   kind_same place k (K.Clauses arms) ys = common_same ys
 
   node_same : (y : Core-F Known) → Mine (roll-Core (map-Core Known Core (λ q. q.0) y))

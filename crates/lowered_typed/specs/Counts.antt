@@ -6,6 +6,7 @@ use Rattle.sail_core.specs.declared.tree.Kind.TheVariants as K
 abbrev pub count_fits : Kind → ℕ → Bool
 count_fits (K.Constant literal) n = nat_eq n 0
 count_fits (K.Local name) n = nat_eq n 0
+count_fits (K.Variable name) n = nat_eq n 0
 count_fits (K.TopLevel i) n = nat_eq n 0
 count_fits (K.Register r) n = nat_eq n 0
 count_fits (K.Call callee) n = true

@@ -17,7 +17,7 @@ use Rattle.sail_core.specs.declared.tree.Kind.{Kind}
 use Rattle.sail_types.specs.declared.numbers.Num.{Num}
 use Rattle.size_values.specs.declared.sized.Sized.{Sized}
 use Rattle.lowered_pieces.specs.Forms.{Order, End}
-use Rattle.lowered_pieces.specs.Writes.{Spot}
+use Rattle.lowered_pieces.specs.Writes.{Cell, Holder, Spot}
 use Rattle.lowered_validity.specs.Typing.{Typing}
 use Rattle.lowered_validity.specs.Typing as typing
 use Rattle.lowered_typed.specs.declared.signs.Judge.{Judge}
@@ -114,6 +114,24 @@ module _ (j : Judge) where
   abbrev pub replaces_all : List Suffix → List Case → List Sized → Bool
   replaces_all = typing.replaces_all j.setting.now.types.now (number_here j) (callees_here j) (tables_here j) (signs_here j)
 
+  abbrev pub last_types : List Typing → List Sized
+  last_types = typing.last_types j.setting.now.types.now (number_here j) (callees_here j) (tables_here j) (signs_here j)
+
+  abbrev pub holder_right : Holder → List Case → Bool
+  holder_right = typing.holder_right j.setting.now.types.now (number_here j) (callees_here j) (tables_here j) (signs_here j)
+
+  abbrev pub typed_right : List Suffix → Cell → Bool
+  typed_right = typing.typed_right j.setting.now.types.now (number_here j) (callees_here j) (tables_here j) (signs_here j)
+
+  abbrev pub cell_right : Cell → Bool
+  cell_right = typing.cell_right j.setting.now.types.now (number_here j) (callees_here j) (tables_here j) (signs_here j)
+
+  abbrev pub cells_right : List Cell → Bool
+  cells_right = typing.cells_right j.setting.now.types.now (number_here j) (callees_here j) (tables_here j) (signs_here j)
+
+  abbrev pub all_fields_right : List Sized → ℕ → Bool
+  all_fields_right = typing.all_fields_right j.setting.now.types.now (number_here j) (callees_here j) (tables_here j) (signs_here j)
+
   abbrev pub spot_types : Option Spot → List Typing → List Sized
   spot_types = typing.spot_types j.setting.now.types.now (number_here j) (callees_here j) (tables_here j) (signs_here j)
 
@@ -194,6 +212,15 @@ module _ (j : Judge) where
 
   abbrev pub all_come : List Sized → Sized → Bool
   all_come = typing.all_come j.setting.now.types.now (number_here j) (callees_here j) (tables_here j) (signs_here j)
+
+  abbrev pub variable_right : List Sized → List Case → Bool
+  variable_right = typing.variable_right j.setting.now.types.now (number_here j) (callees_here j) (tables_here j) (signs_here j)
+
+  abbrev pub variable_types : List Sized → List Case → List Sized
+  variable_types = typing.variable_types j.setting.now.types.now (number_here j) (callees_here j) (tables_here j) (signs_here j)
+
+  abbrev pub kept_right : List Sized → List Sized → Bool
+  kept_right = typing.kept_right j.setting.now.types.now (number_here j) (callees_here j) (tables_here j) (signs_here j)
 
   abbrev pub all_thrown : List End → Bool
   all_thrown = typing.all_thrown j.setting.now.types.now (number_here j) (callees_here j) (tables_here j) (signs_here j)

@@ -38,7 +38,9 @@ use Rattle.sail_core.specs.Patterns.{known_sum, solved}
 use Rattle.lowered_pieces.specs.Arms.{constant_of, is_union, part_width, word_width}
 use Rattle.lowered_pieces.specs.Forms.{End, Mapped, ends_of, in_fields, in_order, is_never, set_fields}
 use Rattle.lowered_pieces.specs.Gathered.{only_end}
-use Rattle.lowered_pieces.specs.Writes.{Spot, called, part, target_spot, whole}
+use Rattle.lowered_pieces.specs.Writes.{Cell as Aim, Spot, called, one, several, target_spot}
+use Rattle.lowered_steps.specs.Cells.{holder_in}
+use Rattle.lowered_steps.specs.declared.cells.Cell.{Cell}
 use Rattle.lowered_ends.specs.Able.{suffixes_fit}
 use Rattle.lowered_validity.specs.Typing.{Typing, all_right, comes, gives_in, one_operand, operands, picks_small, shell}
 use Rattle.lowered_typed.specs.declared.cases.Asked.TheVariants as A
@@ -262,24 +264,31 @@ module _ (j : Judge) where
   abbrev pub cast_asked : ℕ → Bool
   cast_asked k = cases_typed j (here.is_recast j) (cases_at k 1)
 
-  abbrev pub whole_asked : ℕ → ℕ → Bool
-  whole_asked k r = cast_asked k && read_asked r (cases_at k 1)
-
-  abbrev pub replaced_asked : ℕ → ℕ → ℕ → List Suffix → Bool
-  replaced_asked k i r ss = cast_asked k && (read_asked r (cases_at i 0) && here.replaces_all j ss (cases_at i 0) (gives_in (cases_at k 1)))
+  -- a part of what a holder holds
+  abbrev pub part_right : Cell → Bool
+  part_right c =
+      cases_typed j (λ k. true) (cases_at c.read 0)
+      && (here.holder_right j (holder_in c.holder) (cases_at c.read 0)
+      && here.replaces_all j c.suffixes.now (cases_at c.read 0) (gives_in (cases_at c.number 1)))
 
   abbrev pub written_asked : ℕ → ℕ → ℕ → Bool
   written_asked k i n = cast_asked k && here.leads_right j (cases_at i n) ((tables_here j).leads i)
 
-  abbrev pub spot_asked : Option Spot → ℕ → Bool
-  spot_asked (Some (whole k r)) n = nat_eq n 1 && whole_asked k r
-  spot_asked (Some (part k i r ss)) n = nat_le 1 n && replaced_asked k i r ss
-  spot_asked (Some (called k place m i f)) n = nat_le 1 n && written_asked k i n
-  spot_asked None n = false
+  abbrev pub several_asked : List Aim → List Typing → Bool
+  several_asked cs ps = here.cells_right j cs && here.all_fields_right j (here.last_types j ps) (length cs)
 
-  abbrev pub assign_asked : List Target → ℕ → Bool
-  assign_asked (t ∷ []) n = not is_pure && spot_asked (target_spot t) n
-  assign_asked ts n = false
+  abbrev pub spot_fits : Option Spot → List Typing → Bool
+  spot_fits None ps = false
+  spot_fits (Some (one c)) ps = here.cell_right j c
+  spot_fits (Some (several cs)) ps = several_asked cs ps
+  spot_fits (Some (called k place m i f)) ps = written_asked k i (length ps)
+
+  abbrev pub spot_asked : Option Spot → List Typing → Bool
+  spot_asked spot ps = nat_le 1 (length ps) && spot_fits spot ps
+
+  abbrev pub assign_asked : List Target → List Typing → Bool
+  assign_asked (t ∷ []) ps = not is_pure && spot_asked (target_spot t) ps
+  assign_asked ts ps = false
 
   -- where there is a second branch, both come to the type of the case behind
   abbrev pub if_asked : ℕ → List Typing → Bool
@@ -314,6 +323,17 @@ module _ (j : Judge) where
       here.all_come j (first_types ps) (fixed_typ j.setting.now.types.now t)
       && option_right (fixed_typ j.setting.now.types.now t) (fixed_typ j.setting.now.types.now (option_typ t))
 
+  -- ---- variables, where they are read at types that are known
+
+  abbrev pub var_asked : List ℕ → List Typing → Bool
+  var_asked text ps = here.kept_right j ((tables_here j).reads text) (first_types ps)
+
+  abbrev pub variable_asked : List ℕ → ℕ → Bool
+  variable_asked text k = here.variable_right j ((tables_here j).reads text) (cases_at k 0)
+
+  abbrev pub variable_types : List ℕ → ℕ → List Sized
+  variable_types text k = here.variable_types j ((tables_here j).reads text) (cases_at k 0)
+
   -- of a kind that has as many parts as it takes
   abbrev pub kind_asked : Kind → ℕ → List Typing → Bool
   kind_asked (K.Constant literal) k ps = literal_asked literal
@@ -333,7 +353,7 @@ module _ (j : Judge) where
   kind_asked (K.Cast written) k ps = cases_typed j (here.is_recast j) (cases_at k 1)
   kind_asked (K.SizeOf t numbers) k ps = size_asked t
   kind_asked (K.Constraint c numbers) k ps = condition_asked c
-  kind_asked (K.Assign targets) k ps = assign_asked targets (length ps)
+  kind_asked (K.Assign targets) k ps = assign_asked targets ps
   kind_asked (K.If shape) k ps = if_asked k ps
   kind_asked K.While k ps = not is_pure
   kind_asked K.Repeat k ps = not is_pure
@@ -345,12 +365,15 @@ module _ (j : Judge) where
   kind_asked (K.Try arms shape) k ps = try_asked arms k ps
   kind_asked (K.Clauses arms) k ps = clauses_asked arms (length ps)
   kind_asked (K.Optional t) k ps = option_asked t ps
+  kind_asked (K.Var text written) k ps = var_asked text ps
+  kind_asked (K.Variable text) k ps = variable_asked text k
   kind_asked kind k ps = true
 
   -- ---- and of its parts
 
   abbrev pub statement_asked : Statement → Typing → Bool
   statement_asked (S.Define place arm) a = here.ends_right j arm a.ends
+  statement_asked (S.Declare text written) a = here.kept_right j ((tables_here j).reads text) a.types
   statement_asked s a = true
 
   abbrev pub last_asked : ℕ → Bool
@@ -429,4 +452,5 @@ module _ (j : Judge) where
   types_by (K.Try arms shape) k ps = gives_in (cases_at k 1)
   types_by (K.Clauses arms) k ps = here.arms_types j ps
   types_by (K.Optional t) k ps = option_types t
+  types_by (K.Variable text) k ps = variable_types text k
   types_by kind k ps = []

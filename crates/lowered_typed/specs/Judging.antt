@@ -19,10 +19,11 @@ abbrev pub parameters_in : ℕ → Option Called → Option (List ℕ)
 parameters_in cycle None = None
 parameters_in cycle (Some c) = if nat_le c.cycle cycle then Some c.parameters else None
 
--- of a direction of a mapping, which may be called where it is of the same cycle or a lower one
-abbrev pub turned_in : ℕ → Option ℕ → Bool
+-- of a direction of a mapping, which may be called where it is made, and is of the same cycle or a lower one
+abbrev pub turned_in : ℕ → Option (Option ℕ) → Bool
 turned_in cycle None = false
-turned_in cycle (Some n) = nat_le n cycle
+turned_in cycle (Some None) = false
+turned_in cycle (Some (Some n)) = nat_le n cycle
 
 abbrev pub signs_of : SignsHeld → Signs
 signs_of s = record {

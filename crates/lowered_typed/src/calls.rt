@@ -137,7 +137,10 @@ fn may_turn(judge: &Judge<'_>, direction: u32) -> bool
     ensures { result ≡ judged.may_turn judge.now direction }
 {
     match judge.signs.turned.get(direction as usize) {
-        Some(cycle) => *cycle <= judge.signs.cycle,
+        Some(turned) => match turned {
+            Some(cycle) => *cycle <= judge.signs.cycle,
+            None => false,
+        },
         None => false,
     }
 }

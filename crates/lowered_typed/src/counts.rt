@@ -11,7 +11,7 @@ pub fn has_count(kind: &Kind, count: usize) -> bool
     match kind {
         Kind::Constant(_) => count == 0,
         Kind::Local(_) => count == 0,
-        Kind::Variable(_) => false,
+        Kind::Variable(_) => count == 0,
         Kind::TopLevel(_) => count == 0,
         Kind::Register(_) => count == 0,
         Kind::Call(_) => true,

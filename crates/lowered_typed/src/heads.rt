@@ -28,7 +28,12 @@ use std::alloc::AllocError;
 // ---- parts of tuples, and items
 
 /// Whether so many parts of a tuple can be taken out, from one on. It fails where memory is wanting.
-fn are_parts(judge: &Judge<'_>, whole: &Sized, first: u32, count: u32) -> Result<bool, AllocError>
+pub fn are_parts(
+    judge: &Judge<'_>,
+    whole: &Sized,
+    first: u32,
+    count: u32,
+) -> Result<bool, AllocError>
     ensures { IfOk result (λ answer. answer ≡ here.fields_right judge.now whole.now first count) }
 {
     if count == 0 {

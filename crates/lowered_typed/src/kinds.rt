@@ -14,7 +14,7 @@ use crate::works::{both, comes, is_constant, unit_number, works_alone, works_on}
 use jib::{Literal, Operation, Source};
 use lowered_ends::{are_suffixes, fixed_type, literal_type, made_ends, option_of};
 use lowered_steps::copy_literal;
-use sail_base::Items;
+use sail_base::{Items, Text};
 use sail_core::{Arm, Core, Kind, Literal as CoreLiteral, Suffix, Way};
 use sail_types::{Con, Num, Typ};
 use size_values::{Sized, Variables, truth_of, value_of};
@@ -332,6 +332,40 @@ fn is_option_asked(judge: &Judge<'_>, typ: &Typ, parts: &[Core]) -> Result<bool,
     Ok(all)
 }
 
+/// Whether values of all these types come to all types at which a variable is read. It fails where there are 2^32 types or more.
+pub fn are_kept(judge: &Judge<'_>, reads: &[Sized], types: &[Sized]) -> Result<bool, AllocError>
+    ensures { IfOk result (λ answer. answer ≡ here.kept_right judge.now reads.now types.now) }
+{
+    match reads {
+        [] => Ok(true),
+        [first, rest @ ..] => {
+            let one = all_come(judge, types, first)?;
+            let other = are_kept(judge, rest, types)?;
+            let all = both(one, other);
+            Ok(all)
+        }
+    }
+}
+
+/// Whether the value of the first node comes to all types at which variables of a name are read. It fails where memory is wanting.
+fn is_var_asked(judge: &Judge<'_>, name: &Text, parts: &[Core]) -> Result<bool, AllocError>
+    ensures { IfOk result (λ answer. answer ≡ judged.var_asked judge.now name.now (judged.all_here judge.now parts.now)) }
+{
+    let mut types = Items::new(judge.alloc);
+    put_first_types(judge, parts, &mut types)?;
+    are_kept(judge, judge.setting.reads_as(name), types.as_slice())
+}
+
+/// Whether a variable is read at types that have numbers. It fails where memory is wanting.
+fn is_variable_asked(judge: &Judge<'_>, name: &Text, number: u32) -> Result<bool, AllocError>
+    ensures { IfOk result (λ answer. answer ≡ judged.variable_asked judge.now name.now number) }
+{
+    match judge.setting.reads_as(name) {
+        [] => Ok(false),
+        [_, ..] => are_as_asked(judge, Asked::Nothing, judge.setting.cases(number, 0)),
+    }
+}
+
 /// Whether an arm fits the value of the first node. It fails where memory is wanting.
 fn is_bound(judge: &Judge<'_>, arm: &Arm, parts: &[Core]) -> Result<bool, AllocError>
     ensures { IfOk result (λ answer. answer ≡ here.ends_right judge.now arm.now (judged.first_ends (judged.all_here judge.now parts.now))) }
@@ -355,6 +389,7 @@ pub fn is_kind_asked(
     match kind {
         Kind::Constant(literal) => is_literal_asked(judge, literal),
         Kind::Local(_) => are_as_asked(judge, Asked::Casts, judge.setting.cases(number, 1)),
+        Kind::Variable(name) => is_variable_asked(judge, name, number),
         Kind::TopLevel(name) => is_let_asked(judge, *name, number),
         Kind::Register(register) => is_register_asked(judge, *register, number),
         Kind::Call(callee) => is_call_asked(judge, *callee, number, parts),
@@ -373,7 +408,7 @@ pub fn is_kind_asked(
         Kind::Cast(_) => are_as_asked(judge, Asked::Recasts, judge.setting.cases(number, 1)),
         Kind::SizeOf(size, _) => is_size_asked(judge, size),
         Kind::Constraint(condition, _) => is_condition_asked(judge, condition),
-        Kind::Assign(targets) => is_assign_asked(judge, targets.as_slice(), count),
+        Kind::Assign(targets) => is_assign_asked(judge, targets.as_slice(), parts),
         Kind::If(_) => is_if_asked(judge, number, parts),
         Kind::While => Ok(!judge.signs.is_pure),
         Kind::Repeat => Ok(!judge.signs.is_pure),
@@ -385,11 +420,10 @@ pub fn is_kind_asked(
         Kind::Try(arms, _) => is_try_asked(judge, arms.as_slice(), number, parts),
         Kind::Clauses(arms) => is_clauses_asked(judge, arms.as_slice(), count),
         Kind::Optional(typ) => is_option_asked(judge, typ, parts),
-        Kind::Variable(_) => Ok(true),
         Kind::And => Ok(true),
         Kind::Or => Ok(true),
         Kind::Block(_) => Ok(true),
-        Kind::Var(_, _) => Ok(true),
+        Kind::Var(name, _) => is_var_asked(judge, name, parts),
         Kind::When => Ok(true),
         Kind::Exit => Ok(true),
         Kind::Assert(_) => Ok(true),

@@ -1,5 +1,6 @@
 //! Whether the code of a node has its types.
 ghost use Rattle.std.specs.Prelude.{◌≡◌, [], IfOk};
+ghost use Rattle.lowered_steps.specs.Setting.{reads_at};
 ghost use Rattle.lowered_validity.specs.Typing as typing;
 ghost use Rattle.lowered_typed.specs.Here as here;
 ghost use Rattle.lowered_typed.specs.Judged as judged;
@@ -9,9 +10,11 @@ use crate::arms::is_end_typed;
 use crate::cases::{Asked, are_as_asked};
 use crate::counts::has_count;
 use crate::ends::ends_of;
-use crate::kinds::is_kind_asked;
+use crate::kinds::{are_kept, is_kind_asked};
 use crate::signs::Judge;
+use crate::types::put_types;
 use crate::works::both;
+use sail_base::{Items, Text};
 use sail_core::{Arm, Core, Kind, Statement};
 use std::alloc::AllocError;
 
@@ -39,13 +42,22 @@ fn is_defined(judge: &Judge<'_>, arm: &Arm, value: &Core) -> Result<bool, AllocE
     is_end_typed(judge, arm, &ends)
 }
 
+/// Whether a value comes to all types at which variables of a name are read. It fails where memory is wanting.
+fn is_declared(judge: &Judge<'_>, name: &Text, value: &Core) -> Result<bool, AllocError>
+    ensures { IfOk result (λ answer. answer ≡ here.kept_right judge.now (reads_at judge.now.setting.now.reads.now name.now) (typed judge.now value.now).types) }
+{
+    let mut types = Items::new(judge.alloc);
+    put_types(judge, value, &mut types)?;
+    are_kept(judge, judge.setting.reads_as(name), types.as_slice())
+}
+
 /// Whether a statement fits its value. It fails where memory is wanting.
 fn is_statement(judge: &Judge<'_>, statement: &Statement, value: &Core) -> Result<bool, AllocError>
     ensures { IfOk result (λ answer. answer ≡ judged.statement_asked judge.now statement.now (typed judge.now value.now)) }
 {
     match statement {
         Statement::Evaluate => Ok(true),
-        Statement::Declare(_, _) => Ok(true),
+        Statement::Declare(name, _) => is_declared(judge, name, value),
         Statement::Define(_, arm) => is_defined(judge, arm, value),
     }
 }

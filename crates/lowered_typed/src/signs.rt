@@ -29,8 +29,8 @@ pub struct Signs<'a> {
     pub cycle: u32,
     /// What calls enter, by the places of instances.
     pub called: &'a [Called],
-    /// The numbers of the cycles of directions of mappings.
-    pub turned: &'a [u32],
+    /// The numbers of the cycles of directions of mappings, where they are made.
+    pub turned: &'a [Option<u32>],
 }
 
 /// What it is decided by whether code has its types.

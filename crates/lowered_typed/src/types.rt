@@ -9,7 +9,7 @@ use crate::cases::put_gives;
 use crate::counts::has_count;
 use crate::signs::Judge;
 use lowered_ends::{Spot, fixed_type, literal_type, option_of, spot_of};
-use sail_base::Items;
+use sail_base::{Items, Text};
 use sail_core::{Core, Kind, Literal, Statement, Suffix, Target, Way};
 use sail_types::{Con, Num, Typ};
 use size_values::{Sized, Variables, copy_sized, truth_of, value_of};
@@ -96,6 +96,20 @@ fn put_second_types(
     match parts {
         [] => Ok(()),
         [_, rest @ ..] => put_first_types(judge, rest, types),
+    }
+}
+
+/// Those of the value of the last node do, if there is one. They fail where memory is wanting.
+pub fn put_last_of(
+    judge: &Judge<'_>,
+    parts: &[Core],
+    types: &mut Items<Sized>,
+) -> Result<(), AllocError>
+    ensures { OnOk result (types.new ≡ types.old ++ here.last_types judge.now (judged.all_here judge.now parts.now)) }
+{
+    match parts {
+        [] => Ok(()),
+        [.., last] => put_types(judge, last, types),
     }
 }
 
@@ -187,8 +201,8 @@ fn put_spot_types(
 {
     match spot {
         Spot::Other => types.push(Sized::Unit),
-        Spot::Whole(_, _) => types.push(Sized::Unit),
-        Spot::Part(_, _, _, _) => types.push(Sized::Unit),
+        Spot::One(_) => types.push(Sized::Unit),
+        Spot::Several(_) => types.push(Sized::Unit),
         Spot::Called(_, _, _, writer, _) => {
             put_gives(judge, judge.setting.cases(writer, parts), types)
         }
@@ -224,6 +238,21 @@ fn put_option_types(
     let copy = copy_sized(judge.alloc, &option)?;
     types.push(copy)?;
     types.push(option)
+}
+
+/// Those of a variable do, where variables of its name are known to be read. They fail where memory is wanting.
+fn put_variable_types(
+    judge: &Judge<'_>,
+    name: &Text,
+    number: u32,
+    types: &mut Items<Sized>,
+) -> Result<(), AllocError>
+    ensures { OnOk result (types.new ≡ types.old ++ judged.variable_types judge.now name.now number) }
+{
+    match judge.setting.reads_as(name) {
+        [] => Ok(()),
+        [_, ..] => put_gives(judge, judge.setting.cases(number, 0), types),
+    }
 }
 
 /// Those of the value of a choice of one branch do. They fail where memory is wanting.
@@ -274,6 +303,7 @@ fn put_kind_types(
     match kind {
         Kind::Constant(literal) => put_literal_type(judge, literal, types),
         Kind::Local(_) => put_gives(judge, setting.cases(number, 1), types),
+        Kind::Variable(name) => put_variable_types(judge, name, number, types),
         Kind::TopLevel(_) => put_gives(judge, setting.cases(number, 0), types),
         Kind::Register(_) => put_gives(judge, setting.cases(number, 0), types),
         Kind::Call(_) => put_gives(judge, setting.cases(number, count), types),
@@ -305,7 +335,6 @@ fn put_kind_types(
         Kind::Try(_, _) => put_gives(judge, setting.cases(number, 1), types),
         Kind::Clauses(_) => put_all_types(judge, parts, types),
         Kind::Optional(typ) => put_option_types(judge, typ, types),
-        Kind::Variable(_) => Ok(()),
         Kind::Return => Ok(()),
         Kind::Throw => Ok(()),
         Kind::Exit => Ok(()),

@@ -153,7 +153,7 @@ pub returns-in-Assign : goal.returns-in-Assign
 returns-in-Assign c =
     IfOk-weaker c.is_assign_asked.result _
     (λ (a : Bool). a ≡ judged.kind_asked c.args.judge.now c.args.kind.now c.args.number (judged.all_here c.args.judge.now c.args.parts.now))
-    (λ a e. e ∙ (λ i. judged.assign_asked c.args.judge.now (c.as_slice-in-Assign.ensures i) (sym (many_here c.args.judge.now c.args.parts.now) i))
+    (λ a e. e ∙ ap (λ ts. judged.assign_asked c.args.judge.now ts (judged.all_here c.args.judge.now c.args.parts.now)) c.as_slice-in-Assign.ensures
     ∙ ap (λ (k : Kind). judged.kind_asked c.args.judge.now k c.args.number (judged.all_here c.args.judge.now c.args.parts.now))
     (sym c.in-Assign.is)) c.is_assign_asked.ensures
 
@@ -233,7 +233,10 @@ returns-in-Optional c =
 
 pub returns-in-Variable : goal.returns-in-Variable
 returns-in-Variable c =
-    ap (λ (k : Kind). judged.kind_asked c.args.judge.now k c.args.number (judged.all_here c.args.judge.now c.args.parts.now)) (sym c.in-Variable.is)
+    IfOk-weaker c.is_variable_asked.result _
+    (λ (a : Bool). a ≡ judged.kind_asked c.args.judge.now c.args.kind.now c.args.number (judged.all_here c.args.judge.now c.args.parts.now))
+    (λ a e. e ∙ ap (λ (k : Kind). judged.kind_asked c.args.judge.now k c.args.number (judged.all_here c.args.judge.now c.args.parts.now))
+    (sym c.in-Variable.is)) c.is_variable_asked.ensures
 
 pub returns-in-And : goal.returns-in-And
 returns-in-And c =
@@ -249,7 +252,10 @@ returns-in-Block c =
 
 pub returns-in-Var : goal.returns-in-Var
 returns-in-Var c =
-    ap (λ (k : Kind). judged.kind_asked c.args.judge.now k c.args.number (judged.all_here c.args.judge.now c.args.parts.now)) (sym c.in-Var.is)
+    IfOk-weaker c.is_var_asked.result _
+    (λ (a : Bool). a ≡ judged.kind_asked c.args.judge.now c.args.kind.now c.args.number (judged.all_here c.args.judge.now c.args.parts.now))
+    (λ a e. e ∙ ap (λ (k : Kind). judged.kind_asked c.args.judge.now k c.args.number (judged.all_here c.args.judge.now c.args.parts.now))
+    (sym c.in-Var.is)) c.is_var_asked.ensures
 
 pub returns-in-When : goal.returns-in-When
 returns-in-When c =

@@ -11,7 +11,10 @@ returns-in-Evaluate c =
 
 pub returns-in-Declare : goal.returns-in-Declare
 returns-in-Declare c =
-    ap (λ (s : Statement). judged.statement_asked c.args.judge.now s (typed c.args.judge.now c.args.value.now)) (sym c.in-Declare.is)
+    IfOk-weaker c.is_declared.result _
+    (λ (a : Bool). a ≡ judged.statement_asked c.args.judge.now c.args.statement.now (typed c.args.judge.now c.args.value.now)) (λ a e. e
+    ∙ ap (λ (s : Statement). judged.statement_asked c.args.judge.now s (typed c.args.judge.now c.args.value.now))
+    (sym c.in-Declare.is)) c.is_declared.ensures
 
 pub returns-in-Define : goal.returns-in-Define
 returns-in-Define c =

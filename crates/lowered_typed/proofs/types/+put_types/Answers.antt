@@ -432,8 +432,10 @@ put_kind_types-returns-in-Optional t c =
 
 pub put_kind_types-returns-in-Variable : goal.put_kind_types-returns-in-Variable
 put_kind_types-returns-in-Variable t c =
-    none c.args.types.now (judged.types_by c.args.judge.now c.args.kind.now c.args.number (judged.all_here c.args.judge.now c.args.parts.now)) (ap
-    (λ (k : Kind). judged.types_by c.args.judge.now k c.args.number (judged.all_here c.args.judge.now c.args.parts.now)) c.in-Variable.is)
+    on_ok_weaker c.put_variable_types.result
+    (λ (e : c.put_variable_types.new.types ≡ c.args.types.now ++ judged.variable_types c.args.judge.now c.in-Variable.name c.args.number). e
+    ∙ ap (λ (k : Kind). c.args.types.now ++ judged.types_by c.args.judge.now k c.args.number (judged.all_here c.args.judge.now c.args.parts.now))
+    (sym c.in-Variable.is)) c.put_variable_types.ensures
 
 pub put_kind_types-returns-in-Return : goal.put_kind_types-returns-in-Return
 put_kind_types-returns-in-Return t c =

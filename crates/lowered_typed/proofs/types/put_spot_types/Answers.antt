@@ -14,19 +14,19 @@ returns-in-Other c =
     ∙ ap (λ t. c.args.types.now ++ t ∷ []) (sym (nothing_typ c.args.judge.now.setting.now.types.now))
     ∙ ap (λ (s : SpotHeld). c.args.types.now ++ judged.spot_types c.args.judge.now (spot_in s) c.args.parts) (sym c.in-Other.is)) c.push.ensures.pushed
 
-pub returns-in-Whole : goal.returns-in-Whole
-returns-in-Whole c =
-    on_ok_weaker c.push-in-Whole.result (λ (e : c.push-in-Whole.new.self ≡ c.args.types.now ++ Z.Unit ∷ []). e
+pub returns-in-One : goal.returns-in-One
+returns-in-One c =
+    on_ok_weaker c.push-in-One.result (λ (e : c.push-in-One.new.self ≡ c.args.types.now ++ Z.Unit ∷ []). e
     ∙ ap (λ t. c.args.types.now ++ t ∷ []) (sym (nothing_typ c.args.judge.now.setting.now.types.now))
     ∙ ap (λ (s : SpotHeld). c.args.types.now ++ judged.spot_types c.args.judge.now (spot_in s) c.args.parts)
-    (sym c.in-Whole.is)) c.push-in-Whole.ensures.pushed
+    (sym c.in-One.is)) c.push-in-One.ensures.pushed
 
-pub returns-in-Part : goal.returns-in-Part
-returns-in-Part c =
-    on_ok_weaker c.push-in-Part.result (λ (e : c.push-in-Part.new.self ≡ c.args.types.now ++ Z.Unit ∷ []). e
+pub returns-in-Several : goal.returns-in-Several
+returns-in-Several c =
+    on_ok_weaker c.push-in-Several.result (λ (e : c.push-in-Several.new.self ≡ c.args.types.now ++ Z.Unit ∷ []). e
     ∙ ap (λ t. c.args.types.now ++ t ∷ []) (sym (nothing_typ c.args.judge.now.setting.now.types.now))
     ∙ ap (λ (s : SpotHeld). c.args.types.now ++ judged.spot_types c.args.judge.now (spot_in s) c.args.parts)
-    (sym c.in-Part.is)) c.push-in-Part.ensures.pushed
+    (sym c.in-Several.is)) c.push-in-Several.ensures.pushed
 
 pub returns-in-Called : goal.returns-in-Called
 returns-in-Called c =
